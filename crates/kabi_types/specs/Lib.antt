@@ -1,0 +1,7 @@
+pub mod Call
+pub mod Class
+pub mod Errno
+pub mod OpenFlags
+pub mod Packed
+pub mod Reply
+pub mod Words

@@ -1,0 +1,22 @@
+use crate::Name27;
+
+/// A node of the disk as its table has it.
+#[derive(Clone, Copy, Debug, PartialEq, Eq)]
+pub struct Inode {
+    /// 0 free, 1 file, 2 directory, 3 socket name.
+    pub kind: u8,
+    pub nlink: u16,
+    /// In bytes.
+    pub size: u32,
+    /// The numbers of the first ten blocks; 0 where the size doesn't need one.
+    pub direct: [u32; 10],
+    /// The number of the block that has the further pointers; 0 where the size doesn't need one.
+    pub indirect: u32,
+}
+
+/// An entry of a directory: a name, and the number of its node.
+#[derive(Debug, Drop, PartialEq, Eq)]
+pub struct DirEntry {
+    pub node: u32,
+    pub name: Name27,
+}

@@ -1,0 +1,34 @@
+//! The words that the kernel, its scripts and its reports share: calls, replies, entries, events, scripts, sizes.
+//!
+//! Nothing here does anything yet. Each list type is seen by contracts as its list.
+#![tactic(auto)]
+
+mod calls;
+mod classes;
+mod entries;
+mod errnos;
+mod inodes;
+mod long_lists;
+mod memory;
+mod open_flags;
+mod replies;
+mod scripts;
+mod short_lists;
+mod words;
+
+pub use calls::{Call, CallKind, PollEntry};
+pub use classes::{Class, Need, Weight};
+pub use entries::{Cached, End, Entry, Event, Noted};
+pub use errnos::Errno;
+pub use inodes::{DirEntry, Inode};
+pub use long_lists::{Entries, Numbers, Operands, Programs, Statements, Text, Texts};
+pub use memory::Memory;
+pub use open_flags::OpenFlags;
+pub use replies::{NodeKind, PollHits, Reply, StatInfo};
+pub use scripts::{
+    Chooser, Control, FaultKind, Operand, Policy, Program, Script, ScriptFault, Statement, Test,
+};
+pub use short_lists::{Bytes64, Name27, Path, PollList, Revents};
+
+#[cfg(test)]
+mod tests;

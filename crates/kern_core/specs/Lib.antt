@@ -1,0 +1,11 @@
+pub use Rattle.posix_defs.specs.Sizes
+pub use Rattle.posix_defs.specs.Process
+pub use Rattle.posix_defs.specs.Plain
+pub use Rattle.posix_defs.specs.World
+pub use Rattle.posix_defs.specs.CoreState
+pub use Rattle.posix_defs.specs.CoreEvent
+pub use Rattle.posix_defs.specs.Ends
+pub use Rattle.posix_defs.specs.Choice
+pub use Rattle.posix_defs.specs.CoreRun
+pub mod View
+pub mod Sample

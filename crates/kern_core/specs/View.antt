@@ -1,0 +1,85 @@
+-- What contracts see of a core, and the state that it is in.
+use Rattle.std.specs.Prelude.{ℕ, ◌≡◌, ◌+◌, ◌<◌, ◌≤◌, List, [], ◌∷◌, ◌++◌, length, None, IsSome}
+use Rattle.kabi_types.specs.declared.entries.Event.{Event}
+use Rattle.kabi_types.specs.declared.entries.Noted.{Noted}
+use Rattle.kabi_types.specs.declared.scripts.Script.{Script}
+use Rattle.posix_defs.specs.declared.phases.Phase.{Phase}
+use Rattle.posix_defs.specs.Sizes.{fixed}
+use Rattle.posix_defs.specs.World.{World}
+use Rattle.posix_defs.specs.CoreState.{CoreState, charged_in, boot_state}
+use Rattle.posix_defs.specs.CoreEvent.{Steps}
+use Rattle.posix_defs.specs.Ends.{end_of}
+use Rattle.posix_defs.specs.Choice.{IsEnabled, default_of}
+use Rattle.posix_defs.specs.CoreRun.{IsCoreRun, peak_of}
+
+-- a core: its store, the number of events that it may take, the events taken, the phases of all processes ever made,
+-- what is reserved, charged and was charged at most, in bytes
+pub record CoreView (T : Type 0) : Type 0 where
+  pub store : T
+  pub steps : ℕ
+  pub run : List Noted
+  pub phases : List Phase
+  pub reserved : ℕ
+  pub charged : ℕ
+  pub peak : ℕ
+
+-- The core is in this state: its store stands for the state's world, and its numbers are the state's.
+pub record IsAt {T : Type 0} (stands_for : T → World → Type 0) (core : CoreView T) (s : CoreState) : Type 0 where
+  pub stands : stands_for core.store s.world
+  pub phases : s.phases ≡ core.phases
+  pub reserved : s.reserved ≡ core.reserved
+  pub charged : charged_in s ≡ core.charged
+
+-- A run of the script, from boot, has led to the state that the core is in, and the greatest charge of it is kept.
+pub record HasRun {T : Type 0} (stands_for : T → World → Type 0) (script : Script) (core : CoreView T) : Type 0 where
+  pub state : CoreState
+  pub is_at : IsAt stands_for core state
+  pub runs : IsCoreRun script core.steps core.run state
+  pub peak : core.peak ≡ peak_of core.run
+  pub within : length core.run ≤ core.steps
+
+-- A run has led to a state in which some event may be taken, and the run has room for it.
+pub record GoesOn {T : Type 0} (stands_for : T → World → Type 0) (script : Script) (core : CoreView T) : Type 0 where
+  pub state : CoreState
+  pub is_at : IsAt stands_for core state
+  pub runs : IsCoreRun script core.steps core.run state
+  pub some : IsSome (default_of script state)
+  pub room : length core.run < core.steps
+
+-- The event is enabled in a state that a run has led to.
+pub record CanTake {T : Type 0} (stands_for : T → World → Type 0) (script : Script) (core : CoreView T) (event : Event) : Type 0 where
+  pub state : CoreState
+  pub is_at : IsAt stands_for core state
+  pub runs : IsCoreRun script core.steps core.run state
+  pub enabled : IsEnabled script state event
+
+-- The event may be taken: it is enabled in a state that a run has led to, and no end holds there.
+pub record MayTake {T : Type 0} (stands_for : T → World → Type 0) (script : Script) (core : CoreView T) (event : Event) : Type 0 where
+  pub state : CoreState
+  pub is_at : IsAt stands_for core state
+  pub runs : IsCoreRun script core.steps core.run state
+  pub enabled : IsEnabled script state event
+  pub no_end : end_of core.steps (length core.run) state ≡ None
+
+-- The event was taken: from each state in which it was enabled and no end held, to a state that it leads to.
+pub record Took {T : Type 0} (stands_for : T → World → Type 0) (script : Script) (old : CoreView T) (event : Event) (noted : Noted) (new : CoreView T) : Type 0 where
+  pub steps : new.steps ≡ old.steps
+  pub taken : noted.event ≡ event
+  pub run : new.run ≡ old.run ++ noted ∷ []
+  pub leads : (s : CoreState) → IsAt stands_for old s → IsEnabled script s event
+      → (t : CoreState) × IsAt stands_for new t × Steps script s noted t
+
+-- nothing has happened yet
+pub record HasBooted {T : Type 0} (stands_for : T → World → Type 0) (script : Script) (core : CoreView T) : Type 0 where
+  pub is_at : IsAt stands_for core (boot_state script)
+  pub run : core.run ≡ []
+
+-- What a core keeps beside what contracts see: its room for events, and the limits of its numbers.
+pub record IsKept {T : Type 0} (stands_for : T → World → Type 0) (script : Script) (core : CoreView T) (heap run_room : ℕ) : Type 0 where
+  pub has_run : HasRun stands_for script core
+  pub same_heap : heap ≡ script.heap
+  pub least_heap : fixed ≤ heap
+  pub most_heap : heap ≤ 8388608
+  pub room : core.steps ≤ run_room
+  pub most_steps : core.steps ≤ 100000
+  pub phases : length core.phases ≤ core.steps + 1

@@ -1,0 +1,226 @@
+ghost use Rattle.std.specs.Prelude.{◌≡◌, ◌≢◌, ◌<◌, ◌≤◌, length, vec_len, IfOk, IfErr, OnOk, OnErr, IsErrOf, take};
+ghost use Rattle.std.specs.Io.KnownBytes.{Appends, Consumes, IsAtEnd};
+ghost use Rattle.kio_ports.specs.Faults.{HasRisen};
+
+use crate::{CleanSink, CleanSource, Failed, MemSink, MemSource, Sink, Source, StdSink, StdSource};
+use std::alloc::Global;
+use std::process::Abort;
+use std::test::Fail;
+
+/// Why a source wasn't read to its end.
+#[derive(Debug, Drop, PartialEq, Eq)]
+enum ReadError {
+    Fault,
+    Memory,
+}
+
+/// What a source gives up to its end, or its first `limit` bytes.
+fn read_to_end<S: Source>(alloc: Global, source: &mut S, limit: usize) -> Result<Vec<u8>, ReadError>
+    ensures bytes { IfOk result (λ text. Consumes (S.left source.old) (S.left source.new) text.items) }
+    ensures within { IfOk result (λ text. vec_len text ≤ limit) }
+    ensures end { IfOk result (λ text. vec_len text < limit → IsAtEnd (S.left source.new)) }
+    ensures no_fault { OnOk result (S.faults source.new ≡ S.faults source.old) }
+    ensures fault { IsErrOf result ReadError.Fault → HasRisen (S.faults source.old) (S.faults source.new) }
+    ensures never_falls { S.faults source.old ≤ S.faults source.new }
+{
+    let mut text = Vec::new(alloc);
+    let mut buf = [0u8; 512];
+    while text.len() < limit {
+        let room = (limit - text.len()).min(512);
+        let count = match source.take(&mut buf[..room]) {
+            Ok(count) => count,
+            Err(Failed) => return Err(ReadError::Fault),
+        };
+        if count == 0 {
+            return Ok(text);
+        }
+        match text.extend_from_slice(&buf[..count]) {
+            Ok(()) => {}
+            Err(_) => return Err(ReadError::Memory),
+        }
+    }
+    Ok(text)
+}
+
+/// Puts a whole text, and answers how many of its bytes went out where a put failed.
+fn write_whole<K: Sink>(sink: &mut K, text: &[u8]) -> Result<(), usize>
+    ensures whole { OnOk result (Appends (K.held sink.old) (K.held sink.new) text.now) }
+    ensures part { IfErr result (λ at. (at < length text.now) × Appends (K.held sink.old) (K.held sink.new) (take at text.now)) }
+    ensures no_fault { OnOk result (K.faults sink.new ≡ K.faults sink.old) }
+    ensures fault { OnErr result (HasRisen (K.faults sink.old) (K.faults sink.new)) }
+    ensures never_falls { K.faults sink.old ≤ K.faults sink.new }
+{
+    let mut done = 0;
+    while done < text.len() {
+        match sink.put(&text[done..]) {
+            Ok(count) => done += count,
+            Err(Failed) => return Err(done),
+        }
+    }
+    Ok(())
+}
+
+/// Takes from `abcde` into a buffer of `room` bytes, and compares what comes; nothing is a fault.
+fn expect_takes(
+    rt: &(impl Abort + AllocGlobal),
+    fails: &[u64],
+    most: usize,
+    room: usize,
+    wanted: &[Option<&[u8]>],
+) -> Result<(), Fail>
+    requires most { most ≢ 0 }
+    requires room { room < 8 }
+{
+    let bytes = b"abcde".to_vec(rt.alloc())?;
+    let mut source = MemSource::new(bytes, fails.to_vec(rt.alloc())?, most);
+    for want in wanted {
+        let mut buf = [b'.'; 8];
+        let given = match source.take(&mut buf[..room]) {
+            Ok(count) => Some(&buf[..count]),
+            Err(Failed) => None,
+        };
+        assert_eq!(rt; given, *want, "at most {most} into {room}");
+        assert_eq!(rt; buf[7], b'.');
+    }
+    assert_eq!(rt; source.calls(), wanted.len() as u64);
+    Ok(())
+}
+
+#[test]
+fn source_gives_and_fails(rt: HostRuntime) -> Result<(), Fail> {
+    expect_takes(
+        &rt,
+        &[],
+        9,
+        2,
+        &[Some(b"ab"), Some(b"cd"), Some(b"e"), Some(b"")],
+    )?;
+    expect_takes(
+        &rt,
+        &[1, 2],
+        9,
+        4,
+        &[None, None, Some(b"abcd"), Some(b"e"), Some(b"")],
+    )?;
+    expect_takes(
+        &rt,
+        &[2, 7],
+        1,
+        4,
+        &[Some(b"a"), None, Some(b"b"), Some(b"c")],
+    )?;
+    expect_takes(&rt, &[], 3, 0, &[Some(b""), Some(b"")])
+}
+
+#[test]
+fn source_without_bytes_is_at_its_end(rt: HostRuntime) -> Result<(), Fail> {
+    let mut source = MemSource::new(Vec::new(rt.alloc()), Vec::new(rt.alloc()), 1);
+    let mut buf = [b'.'; 4];
+    assert_eq!(rt; source.take(&mut buf), Ok(0));
+    assert_eq!(rt; buf, [b'.'; 4]);
+    assert_eq!(rt; source.faults(), 0);
+    Ok(())
+}
+
+/// Puts each piece, and compares how many of its bytes are taken and what the sink holds in the end.
+fn expect_puts(
+    rt: &impl Abort,
+    sink: &mut MemSink,
+    puts: &[(&[u8], Result<usize, Failed>)],
+    held: &[u8],
+) {
+    let mut faults = sink.faults();
+    for put in puts {
+        let (piece, want) = *put;
+        assert_eq!(rt; sink.put(piece), want);
+        faults = faults.saturating_add(u64::from(want.is_err()));
+        assert_eq!(rt; sink.faults(), faults);
+    }
+    assert_eq!(rt; sink.bytes(), held);
+    assert_eq!(rt; sink.calls(), puts.len() as u64);
+}
+
+#[test]
+fn sink_takes_and_fails(rt: HostRuntime) -> Result<(), Fail> {
+    let alloc = rt.alloc();
+    let mut slow = MemSink::new(alloc, 10, Vec::new(alloc), 4)?;
+    expect_puts(
+        &rt,
+        &mut slow,
+        &[(b"abcdef", Ok(4)), (b"ef", Ok(2)), (b"", Ok(0))],
+        b"abcdef",
+    );
+    let mut small = MemSink::new(alloc, 3, Vec::new(alloc), 9)?;
+    expect_puts(
+        &rt,
+        &mut small,
+        &[(b"abcd", Ok(3)), (b"d", Err(Failed)), (b"", Ok(0))],
+        b"abc",
+    );
+    let mut faulty = MemSink::new(alloc, 9, vec![in alloc; 1, 3]?, 9)?;
+    expect_puts(
+        &rt,
+        &mut faulty,
+        &[
+            (b"a", Err(Failed)),
+            (b"b", Ok(1)),
+            (b"c", Err(Failed)),
+            (b"d", Ok(1)),
+        ],
+        b"bd",
+    );
+    let mut shut = MemSink::new(alloc, 9, Vec::new(alloc), 0)?;
+    expect_puts(&rt, &mut shut, &[(b"a", Err(Failed)), (b"", Ok(0))], b"");
+    Ok(())
+}
+
+#[test]
+fn clean_streams_never_fail(rt: HostRuntime) -> Result<(), Fail> {
+    let mut source = CleanSource::new(b"abc".to_vec(rt.alloc())?);
+    let mut buf = [b'.'; 2];
+    assert_eq!(rt; source.take(&mut buf), Ok(2));
+    assert_eq!(rt; buf, *b"ab");
+    assert_eq!(rt; source.take(&mut buf), Ok(1));
+    assert_eq!(rt; buf, *b"cb");
+    assert_eq!(rt; source.take(&mut buf), Ok(0));
+    let mut sink = CleanSink::new();
+    assert_eq!(rt; sink.put(b"hello"), Ok(5));
+    assert_eq!(rt; sink.put(b""), Ok(0));
+    Ok(())
+}
+
+#[test]
+fn loops_over_streams(rt: HostRuntime) -> Result<(), Fail> {
+    let text = b"1 p1 ask getpid bound 0 charged 2816\n";
+    for (fail, want) in [(1, None), (4, None), (5, Some(text.as_slice()))] {
+        let fails = vec![in rt.alloc(); fail]?;
+        let mut source = MemSource::new(text.to_vec(rt.alloc())?, fails, 16);
+        let read = read_to_end(rt.alloc(), &mut source, 100);
+        match want {
+            Some(bytes) => assert_eq!(rt; read?.as_slice(), bytes),
+            None => assert_eq!(rt; read, Err(ReadError::Fault), "failed at {fail}"),
+        }
+    }
+    let mut sink = MemSink::new(rt.alloc(), 100, vec![in rt.alloc(); 2]?, 10)?;
+    assert_eq!(rt; write_whole(&mut sink, text), Err(10));
+    assert_eq!(rt; sink.bytes(), b"1 p1 ask g".as_slice());
+    assert_eq!(rt; write_whole(&mut sink, &text[10..]), Ok(()));
+    assert_eq!(rt; sink.bytes(), text.as_slice());
+    Ok(())
+}
+
+#[test]
+fn standard_input_is_read(rt: HostRuntime) {
+    let mut source = StdSource::new(rt.stdin());
+    let answer = source.take(&mut []);
+    assert_eq!(rt; answer, Ok(0));
+    assert_eq!(rt; source.faults(), 0);
+}
+
+#[test]
+fn standard_output_is_written(rt: HostRuntime) {
+    let mut sink = StdSink::new(rt.stdout());
+    assert_eq!(rt; sink.put(b""), Ok(0));
+    assert_eq!(rt; sink.put(b"\n"), Ok(1));
+    assert_eq!(rt; sink.faults(), 0);
+}

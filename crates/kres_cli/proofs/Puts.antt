@@ -1,0 +1,23 @@
+-- Bytes that are put one piece after another.
+use Rattle.std.proofs.Common.{◌≡◌, ℕ, ◌+◌, ◌-◌, ◌≤◌, List, ◌++◌, length, take, drop, Option, None, Some, refl, ap, sym, ◌∙◌, subst, arith, append_assoc, length-drop}
+use Rattle.std.proofs.Math.Seq.{take-add}
+use Rattle.std.proofs.lemmas.List.{take_rest, drop-drop}
+use Rattle.std.specs.Io.KnownBytes.{Appends}
+
+-- what grew twice grew by both
+pub Appends-join : (old mid new : Option (List ℕ)) (xs ys : List ℕ) → Appends old mid xs → Appends mid new ys → Appends old new (xs ++ ys)
+Appends-join None mid new xs ys first second = tt
+Appends-join (Some held) None new xs ys first second = absurd first
+Appends-join (Some held) (Some mid) None xs ys first second = absurd second
+Appends-join (Some held) (Some mid) (Some new) xs ys first second = second ∙ ap (λ bytes. bytes ++ ys) first ∙ append_assoc held xs ys
+
+-- one more piece of a text was put
+pub put_more : (old mid new : Option (List ℕ)) (text left : List ℕ) (put count : ℕ) → left ≡ drop put text
+    → Appends old mid (take put text) → Appends mid new (take count left) → Appends old new (take (put + count) text)
+put_more old mid new text left put count rest first second =
+    subst (Appends old new) (ap (λ l. take put text ++ take count l) rest ∙ sym (take-add put count text))
+    (Appends-join old mid new (take put text) (take count left) first second)
+
+-- what is left then
+pub left_more : (text left : List ℕ) (put count : ℕ) → left ≡ drop put text → take (length left - count) (drop count left) ≡ drop (put + count) text
+left_more text left put count rest = take_rest left count ∙ ap (drop count) rest ∙ drop-drop count put text

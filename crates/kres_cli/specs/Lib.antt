@@ -1,0 +1,4 @@
+pub mod Read
+pub mod Run
+pub mod Small
+pub mod Status

@@ -1,0 +1,32 @@
+ghost use Rattle.std.specs.Prelude.{◌≡◌, ◌≤◌, IfOk};
+ghost use Rattle.kres_cli.specs.Read.{HasRead};
+
+use kabi_types::Memory;
+use kio_ports::Source;
+use std::alloc::Global;
+
+use crate::text::Text;
+
+/// The most bytes that a script may have.
+pub const MOST_BYTES: usize = 1048576;
+
+/// How many bytes are taken at a time at most.
+const PIECE: usize = 4096;
+
+/// Reads a source to its end, or to the byte that is too many for a script.
+pub fn read_text<S: Source>(alloc: Global, source: &mut S) -> Result<Text, Memory>
+    ensures read { IfOk result (λ text. HasRead text (S.left source.old) (S.left source.new) (S.faults source.old) (S.faults source.new)) }
+    ensures never_falls { S.faults source.old ≤ S.faults source.new }
+{
+    let mut text = Vec::new(alloc);
+    let mut piece = [0; PIECE];
+    while text.len() <= MOST_BYTES {
+        let wanted = PIECE.min(MOST_BYTES + 1 - text.len());
+        match source.take(&mut piece[..wanted]) {
+            Ok(0) => return Ok(Text::Read(text)),
+            Ok(count) => text.extend_from_slice(&piece[..count])?,
+            Err(_) => return Ok(Text::Fault),
+        }
+    }
+    Ok(Text::Read(text))
+}

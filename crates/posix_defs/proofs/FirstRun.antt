@@ -1,0 +1,143 @@
+-- The worked example's run, and two that are none.
+use Rattle.std.proofs.Common.{◌≡◌, ℕ, ◌+◌, pos, [], ◌∷◌, ◌++◌, Option, None, Some, codes, refl, ap, ◌∙◌, subst, arith}
+use Rattle.kabi_types.specs.declared.entries.End.TheVariants.{Finished}
+use Rattle.kabi_types.specs.declared.calls.CallKind.TheVariants as kind
+use Rattle.kabi_types.specs.declared.entries.Entry.{Entry}
+use Rattle.kabi_types.specs.declared.entries.Entry.TheVariants as entry
+use Rattle.kabi_types.specs.declared.entries.Event.TheVariants.{Ask, Admit, Turn}
+use Rattle.kabi_types.specs.declared.replies.Reply.TheVariants.{Val}
+use Rattle.posix_defs.specs.declared.phases.Phase.TheVariants.{User, Waiting, Admitted, Dead}
+use Rattle.posix_defs.specs.declared.turner.Turned.TheVariants as turned
+use Rattle.posix_defs.specs.Plain.{answered, boot_plain, call_of}
+use Rattle.posix_defs.specs.Ending.{die}
+use Rattle.posix_defs.specs.CoreState.{CoreState, boot_state, charged_in, next_kind, with_phase}
+use Rattle.posix_defs.specs.CoreEvent.{Steps, entry_of}
+use Rattle.posix_defs.specs.CoreRun.{IsCoreRun, boots, goes_on}
+use Rattle.posix_defs.specs.FirstScript.{first_text, first_script, first_run, first_report, pid_run, noted}
+use Rattle.std.specs.Fmt.{digits}
+use Rattle.posix_defs.specs.Lines.{report}
+use Rattle.posix_defs.specs.Posix.{posix}
+use Rattle.posix_defs.specs.Turn.{Tells}
+use Rattle.posix_defs.specs.SmallScript.{ReadsAs, ended, digit, getpid_into, exit_with, said, says, ends_line, getpid_to, exit, of_one, ones}
+use Rattle.posix_defs.proofs.LastStep.{at_boot, last_step}
+
+-- the states of the run, one event after another
+abbrev asked : CoreState → CoreState
+asked s = with_phase s 1 Waiting
+
+abbrev admitted : CoreState → CoreState
+admitted s = record (with_phase s 1 Admitted) { reserved = s.reserved + 0 }
+
+abbrev told_pid : CoreState → CoreState
+told_pid s = record { world = record s.world { plain = answered first_script s.world.plain 1 (Val (pos 1)) }; phases = User ∷ []; reserved = 0 }
+
+abbrev has_exited : CoreState → CoreState
+has_exited s = record { world = record s.world { plain = die s.world.plain 1 0 }; phases = Dead ∷ []; reserved = 0 }
+
+abbrev after_one : CoreState
+after_one = asked (boot_state first_script)
+
+abbrev after_two : CoreState
+after_two = admitted after_one
+
+abbrev after_three : CoreState
+after_three = told_pid after_two
+
+abbrev after_four : CoreState
+after_four = asked after_three
+
+abbrev after_five : CoreState
+after_five = admitted after_four
+
+abbrev pub after_six : CoreState
+after_six = has_exited after_five
+
+asks_pid : Steps first_script (boot_state first_script) (noted (Ask 1) kind.Getpid None 2816) after_one
+asks_pid = record { lives = refl; user = refl; fits_ever = omega arith; after = refl; noted_so = refl }
+
+admits_pid : Steps first_script after_one (noted (Admit 1) kind.Getpid None 2816) after_two
+admits_pid = record { lives = refl; waiting = refl; fits = omega arith; after = refl; noted_so = refl }
+
+tells_pid : Steps first_script after_two (noted (Turn 1) kind.Getpid (Some (entry.Done 1 kind.Getpid (Val (pos 1)))) 2816) after_three
+tells_pid = record {
+  lives = refl;
+  admitted = refl;
+  told = turned.Done (Val (pos 1));
+  answers = record { answer = (refl, refl); account = refl; may_keep = record { names = refl; blocks = refl; vnodes = refl }; live = omega arith; names = omega arith; blocks = omega arith; vnodes = omega arith; reads = omega arith };
+  phases = refl;
+  reserved = refl;
+  noted_so = refl;
+}
+
+asks_exit : Steps first_script after_three (noted (Ask 1) kind.Exit None 2816) after_four
+asks_exit = record { lives = refl; user = refl; fits_ever = omega arith; after = refl; noted_so = refl }
+
+admits_exit : Steps first_script after_four (noted (Admit 1) kind.Exit None 2816) after_five
+admits_exit = record { lives = refl; waiting = refl; fits = omega arith; after = refl; noted_so = refl }
+
+exits : Steps first_script after_five (noted (Turn 1) kind.Exit (Some (entry.Ended 1 kind.Exit 0)) 2304) after_six
+exits = record {
+  lives = refl;
+  admitted = refl;
+  told = turned.Ended 0;
+  answers = record { answer = (refl, refl); account = refl; may_keep = record { names = refl; blocks = refl; vnodes = refl }; live = omega arith; names = omega arith; blocks = omega arith; vnodes = omega arith; reads = omega arith };
+  phases = refl;
+  reserved = refl;
+  noted_so = refl;
+}
+
+pub first_is_run : IsCoreRun first_script 1000 first_run after_six
+first_is_run = goes_on _ _ _ _ (goes_on _ _ _ _ (goes_on _ _ _ _ (goes_on _ _ _ _ (goes_on _ _ _ _ (goes_on [] _ _ _ boots refl asks_pid) refl admits_pid) refl tells_pid) refl asks_exit) refl admits_exit) refl exits
+
+-- the text says the script
+pub first_reads : ReadsAs first_text first_script
+first_reads = record {
+  within = omega arith;
+  front = ended (codes "heap 8192");
+  heap = 8192;
+  rest = ended (codes "r1 = getpid") ++ ended (codes "exit 0") ++ ended (codes "end");
+  body = getpid_into (Some 1) ∷ exit_with 0 ∷ [];
+  text_is = refl;
+  says_heap = said;
+  says_body =
+      says (codes "r1 = getpid") _ _ _ (getpid_to (digit 1 ∷ []) 1 (of_one 1 (omega arith)))
+      (says (codes "exit 0") _ _ _ (exit (digit 0 ∷ []) 0 (ones 0 (omega arith))) ends_line);
+  script_is = refl;
+}
+
+two_is_not_one : ◌≡◌ {A = ℕ} 2 1 → ⊥
+two_is_not_one e = omega arith
+
+one_more_is_not : ◌≡◌ {A = ℕ} 2817 2816 → ⊥
+one_more_is_not e = omega arith
+
+-- the number that an entry tells
+value_in : Option Entry → ℕ
+value_in (Some (entry.Done _ _ (Val (pos n)))) = n
+value_in _ = 0
+
+pub no_other_pid : (s : CoreState) → IsCoreRun first_script 1000 (pid_run 2816 (pos 2)) s → ⊥
+unfolding value_in
+no_other_pid s run =
+    let third = last_step run (noted (Ask 1) kind.Getpid None 2816 ∷ noted (Admit 1) kind.Getpid None 2816 ∷ []) _ refl in
+    let second = last_step third.1 (noted (Ask 1) kind.Getpid None 2816 ∷ []) _ refl in
+    let first = last_step second.1 [] _ refl in
+    let plain : third.0.world.plain ≡ boot_plain first_script =
+    ap (λ t. t.world.plain) second.2.after ∙ ap (λ t. t.world.plain) first.2.after ∙ ap (λ t. t.world.plain) (at_boot first.1 refl) in
+    let tells = subst (λ p. Tells (posix first_script p 1 (call_of first_script p 1)) p third.2.told s.world.plain) plain third.2.answers.answer in
+    two_is_not_one
+    (ap (λ n. value_in n.entry) third.2.noted_so
+    ∙ ap (λ told. value_in (Some (entry_of 1 (next_kind first_script third.0 1) told))) tells.0)
+
+pub no_other_charge : (s : CoreState) → IsCoreRun first_script 1000 (pid_run 2817 (pos 1)) s → ⊥
+no_other_charge s run =
+    let third = last_step run (noted (Ask 1) kind.Getpid None 2817 ∷ noted (Admit 1) kind.Getpid None 2816 ∷ []) _ refl in
+    let second = last_step third.1 (noted (Ask 1) kind.Getpid None 2817 ∷ []) _ refl in
+    let first = last_step second.1 [] _ refl in
+    one_more_is_not
+    (ap (λ n. n.charged) first.2.noted_so ∙ ap charged_in first.2.after ∙ ap (λ t. charged_in (with_phase t 1 Waiting)) (at_boot first.1 refl))
+
+-- the run's report
+pub first_reported : report first_run Finished 2304 0 ≡ first_report
+unfolding digits
+first_reported = refl

@@ -1,0 +1,48 @@
+-- Which events may be taken in a state, and which one is.
+use Rattle.std.specs.Prelude.{ℕ, ◌+◌, ◌≡◌, ◌≤◌, true, if◌then◌else◌, List, [], ◌∷◌, ◌++◌, Option, None, is_some, slice_get}
+use Rattle.kabi_types.specs.declared.entries.Event.{Event}
+use Rattle.kabi_types.specs.declared.entries.Event.TheVariants.{Ask, Admit, Turn, Wake, Abandon, Evict, Kill}
+use Rattle.kabi_types.specs.declared.scripts.Script.{Script}
+use Rattle.posix_defs.specs.declared.phases.Phase.{Phase}
+use Rattle.posix_defs.specs.declared.phases.Phase.TheVariants.{User, Waiting, Admitted, Asleep, Dead}
+use Rattle.posix_defs.specs.Ends.{end_of}
+use Rattle.posix_defs.specs.CoreState.{CoreState, charged_in, fits, lives, next_bound, phase_of}
+
+-- the one event of a live process in this phase, if it may be taken; no call sleeps yet
+abbrev pub live_events : Script → CoreState → ℕ → Phase → List Event
+live_events script s pid User = Ask pid ∷ []
+live_events script s pid Waiting = if fits script s pid then Admit pid ∷ [] else []
+live_events script s pid Admitted = Turn pid ∷ []
+live_events script s pid Asleep = []
+live_events script s pid Dead = []
+
+-- the same of any process: no process ends another yet, so nothing is admitted of one that has ended
+abbrev pub events_of : Script → CoreState → ℕ → Phase → List Event
+events_of script s pid phase = if lives s pid then live_events script s pid phase else []
+
+-- the events of the processes from this pid on
+abbrev pub events_from : Script → CoreState → ℕ → List Phase → List Event
+events_from script s pid [] = []
+events_from script s pid (phase ∷ phases) = events_of script s pid phase ++ events_from script s (pid + 1) phases
+
+-- the enabled events, by rising pid; nothing can be evicted yet, and nobody killed
+abbrev pub enabled_in : Script → CoreState → List Event
+enabled_in script s = events_from script s 1 s.phases
+
+-- the event may be taken
+abbrev pub IsEnabled : Script → CoreState → Event → Type 0
+IsEnabled script s (Ask pid) = (lives s pid ≡ true) × (phase_of s pid ≡ User)
+IsEnabled script s (Admit pid) = (lives s pid ≡ true) × (phase_of s pid ≡ Waiting) × (charged_in s + next_bound script s pid ≤ script.heap)
+IsEnabled script s (Turn pid) = (lives s pid ≡ true) × (phase_of s pid ≡ Admitted)
+IsEnabled script s (Wake pid) = ⊥
+IsEnabled script s (Abandon pid) = ⊥
+IsEnabled script s (Evict what) = ⊥
+IsEnabled script s (Kill pid) = ⊥
+
+-- the default: the first enabled event
+abbrev pub default_of : Script → CoreState → Option Event
+default_of script s = slice_get (enabled_in script s) 0
+
+-- the event that is taken where so many of so many events were taken: none where an end stands
+abbrev pub default_in : Script → ℕ → ℕ → CoreState → Option Event
+default_in script steps taken s = if is_some (end_of steps taken s) then None else default_of script s

@@ -1,0 +1,36 @@
+-- How a process ends, in its own call or in another's.
+use Rattle.std.specs.Prelude.{ℕ, zero, suc, ◌==◌, ◌*◌, ◌%◌, ℤ, if◌then◌else◌, map, Option, None, Some}
+use Rattle.std.specs.Int.{w64, cast_unsigned}
+use Rattle.posix_defs.specs.ByPid.{with_pid}
+use Rattle.posix_defs.specs.Process.{Table, Process, Status, Alive, Ended, process_at}
+use Rattle.posix_defs.specs.Plain.{Plain, with_table}
+
+-- what becomes of a child whose parent ends: one that ended is reaped, one that runs gets the first process as parent
+abbrev pub left_child : Status → Process → Option Process
+left_child Alive child = Some (record child { parent = 1 })
+left_child (Ended _) child = None
+
+abbrev pub left_behind : ℕ → Option Process → Option Process
+left_behind pid None = None
+left_behind pid (Some process) = if process.parent == pid then left_child process.status process else Some process
+
+abbrev pub ended_as : ℕ → Option Process → Option Process
+ended_as status None = None
+ended_as status (Some process) = Some (record process { status = Ended status })
+
+-- a process that ends leaves its children, and stays until its parent waits for it
+abbrev pub leaves : Table → ℕ → ℕ → Table
+leaves table pid status = with_pid (map (left_behind pid) table) pid (ended_as status (process_at table pid))
+
+-- with the first process all others end, and none is left to wait for
+abbrev pub die_in : Table → ℕ → ℕ → Table
+die_in table (suc zero) status = map (λ _. None) table
+die_in table pid status = leaves table pid status
+
+-- the plain machine after a process has ended
+abbrev pub die : Plain → ℕ → ℕ → Plain
+die plain pid status = with_table plain (die_in plain.table pid status)
+
+-- the wait status of a process that ends by `exit`: only the lowest eight bits of its operand are told
+abbrev pub exit_status : ℤ → ℕ
+exit_status status = 256 * (cast_unsigned w64 status % 256)

@@ -1,0 +1,53 @@
+-- The processes of the plain machine: who is there, and whose child is whose.
+use Rattle.std.specs.Prelude.{ℕ, Bool, true, false, List, count_by, Option, None, Some}
+use Rattle.posix_defs.specs.ByPid.{at_pid}
+
+-- whether a process runs, or has ended with a wait status and waits for its parent
+pub data Status : Type 0 where
+  Alive : Status
+  Ended : ℕ → Status
+
+-- a process of the table; its parent is 0 for the first one
+pub record Process : Type 0 where
+  pub parent : ℕ
+  pub directory : ℕ
+  pub status : Status
+
+-- the table: what is there of each process ever made, None once it was waited for
+abbrev pub Table : Type 0
+Table = List (Option Process)
+
+abbrev pub process_at : Table → ℕ → Option Process
+process_at table pid = known (at_pid table pid)
+  where
+    known : Option (Option Process) → Option Process
+    known None = None
+    known (Some there) = there
+
+abbrev pub runs : Status → Bool
+runs Alive = true
+runs (Ended _) = false
+
+abbrev pub is_alive_in : Option Process → Bool
+is_alive_in None = false
+is_alive_in (Some process) = runs process.status
+
+-- the process is there and has not ended
+abbrev pub is_alive : Table → ℕ → Bool
+is_alive table pid = is_alive_in (process_at table pid)
+
+abbrev pub parent_in : Option Process → ℕ
+parent_in None = 0
+parent_in (Some process) = process.parent
+
+-- the pid of a process's parent
+abbrev pub parent_of : Table → ℕ → ℕ
+parent_of table pid = parent_in (process_at table pid)
+
+abbrev pub is_there : Option Process → Bool
+is_there None = false
+is_there (Some _) = true
+
+-- how many processes are there, alive or ended and not waited for
+abbrev pub how_many : Table → ℕ
+how_many table = count_by is_there table

@@ -1,0 +1,36 @@
+-- What the kernel heap holds from the start, what is kept back, and what a call may use.
+use Rattle.std.specs.Prelude.{ℕ, ◌+◌, ◌-◌, ◌*◌}
+use Rattle.kabi_types.specs.Class.{size}
+use Rattle.kabi_types.specs.declared.classes.Class.TheVariants as class
+use Rattle.kabi_types.specs.declared.classes.Need.{Need}
+use Rattle.kabi_types.specs.declared.calls.Call.{Call}
+
+-- two blocks, which closing and ending may always use
+abbrev pub reserve : ℕ
+reserve = 2176
+
+-- what is charged at boot: the first process, the root's vnode, and the reserve
+abbrev pub fixed : ℕ
+fixed = 2816
+
+-- the greatest bound of a call that can ever be admitted
+abbrev pub room : ℕ → ℕ
+room heap = heap - fixed
+
+-- how many bytes these objects take
+abbrev pub bytes_of : Need → ℕ
+bytes_of n = n.proc * size class.Proc + n.node * size class.Node + n.page * size class.Page + n.desc * size class.Desc
+    + n.vnode * size class.Vnode + n.name * size class.Name + n.block * size class.Block + n.pipe * size class.Pipe
+    + n.chunk * size class.Chunk + n.sock * size class.Sock
+
+-- no objects
+abbrev pub no_need : Need
+no_need = record { proc = 0; node = 0; page = 0; desc = 0; vnode = 0; name = 0; block = 0; pipe = 0; chunk = 0; sock = 0 }
+
+-- the objects that a call may make: none, for each call that is built so far
+abbrev pub need_of : Call → Need
+need_of _ = no_need
+
+-- the heap that a call may use, in bytes
+abbrev pub bound : Call → ℕ
+bound call = bytes_of (need_of call)

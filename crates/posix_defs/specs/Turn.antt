@@ -1,0 +1,42 @@
+-- What a turn of a call may do to a world.
+use Rattle.std.specs.Prelude.{ℕ, ◌+◌, ◌≡◌, ◌≤◌, Bool, true, false, length}
+use Rattle.kabi_types.specs.declared.calls.Call.{Call}
+use Rattle.kabi_types.specs.declared.scripts.Script.{Script}
+use Rattle.posix_defs.specs.declared.turner.Turned.{Turned}
+use Rattle.posix_defs.specs.declared.turner.Turned.TheVariants as turned
+use Rattle.posix_defs.specs.Sizes.{bound, need_of}
+use Rattle.posix_defs.specs.Process.{is_alive}
+use Rattle.posix_defs.specs.Plain.{Plain}
+use Rattle.posix_defs.specs.Answer.{Answer, Blocked, Done, Part, Ended}
+use Rattle.posix_defs.specs.Posix.{posix}
+use Rattle.posix_defs.specs.World.{World, Account, MayKeep, live_of}
+
+-- what is told, and the plain machine after it, where POSIX gives this answer
+abbrev pub Tells : Answer → Plain → Turned → Plain → Type 0
+Tells Blocked old told new = (told ≡ turned.Sleep) × (new ≡ old)
+Tells (Done reply next) old told new = (told ≡ turned.Done reply) × (new ≡ next)
+Tells (Part moved next) old told new = (told ≡ turned.Part moved) × (new ≡ next)
+Tells (Ended status next) old told new = (told ≡ turned.Ended status) × (new ≡ next)
+
+-- the account after a call: no call that is built touches memory or a queue
+abbrev pub account_after : Account → Call → Account
+account_after account _ = account
+
+-- A call of a live process is answered as POSIX answers it. It may change what is kept, by no more than its need has.
+pub record Answers (script : Script) (old : World) (pid : ℕ) (call : Call) (told : Turned) (new : World) : Type 0 where
+  pub answer : Tells (posix script old.plain pid call) old.plain told new.plain
+  pub account : new.account ≡ account_after old.account call
+  pub may_keep : MayKeep new.plain new.kept
+  pub live : live_of new ≤ live_of old + bound call
+  pub names : length new.kept.names ≤ length old.kept.names + (need_of call).name
+  pub blocks : length new.kept.blocks ≤ length old.kept.blocks + (need_of call).block
+  pub vnodes : length new.kept.vnodes ≤ length old.kept.vnodes + (need_of call).vnode
+  pub reads : old.reads ≤ new.reads
+
+abbrev pub TurnsWhere : Bool → Script → World → ℕ → Call → Turned → World → Type 0
+TurnsWhere true script old pid call told new = Answers script old pid call told new
+TurnsWhere false script old pid call told new = (told ≡ turned.Gone) × (new ≡ old)
+
+-- a call of a process that has ended is gone, and changes nothing
+abbrev pub TurnsTo : Script → World → ℕ → Call → Turned → World → Type 0
+TurnsTo script old pid call told new = TurnsWhere (is_alive old.plain.table pid) script old pid call told new

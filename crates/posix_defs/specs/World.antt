@@ -1,0 +1,72 @@
+-- What the core knows of a store: the plain machine, its account, what the caches keep, and the count of reads.
+use Rattle.std.specs.Prelude.{ℕ, ◌+◌, ◌*◌, ◌==◌, ◌≡◌, if◌then◌else◌, List, [], ◌∷◌, length, None, Some}
+use Rattle.std.specs.List.{list_any}
+use Rattle.kabi_types.specs.Class.{size}
+use Rattle.kabi_types.specs.declared.classes.Class.TheVariants as class
+use Rattle.kabi_types.specs.declared.scripts.Script.{Script}
+use Rattle.posix_defs.specs.Process.{Table, runs, how_many}
+use Rattle.posix_defs.specs.Plain.{Plain, root, boot_plain}
+
+-- What memory and queues take, which the plain machine doesn't tell: how many frames are named.
+pub record Account : Type 0 where
+  pub frames : ℕ
+
+-- what the three caches keep: directory entries, numbers of blocks, numbers of nodes
+pub record Kept : Type 0 where
+  pub names : List (ℕ × List ℕ)
+  pub blocks : List ℕ
+  pub vnodes : List ℕ
+
+pub record World : Type 0 where
+  pub plain : Plain
+  pub account : Account
+  pub kept : Kept
+  pub reads : ℕ
+
+-- nothing is named yet
+abbrev pub no_account : Account
+no_account = record { frames = 0 }
+
+abbrev pub frames_named : Account → ℕ
+frames_named account = account.frames
+
+-- the heap that processes, memory, descriptions, pipes, sockets and queues take: of these there are processes so far
+abbrev pub base : Plain → Account → ℕ
+base plain account = how_many plain.table * size class.Proc + frames_named account * size class.Page
+
+-- the working directories of live processes, and before them the root
+abbrev pub directories_of : Table → List ℕ
+directories_of [] = []
+directories_of (None ∷ table) = directories_of table
+directories_of (Some process ∷ table) = if runs process.status then process.directory ∷ directories_of table else directories_of table
+
+-- each number once
+abbrev pub distinct : List ℕ → List ℕ
+distinct [] = []
+distinct (n ∷ ns) = if list_any (λ m. m == n) ns then distinct ns else n ∷ distinct ns
+
+-- how many nodes have to stay cached
+abbrev pub pins : Plain → ℕ
+pins plain = length (distinct (root ∷ directories_of plain.table))
+
+-- the heap that the caches take
+abbrev pub cached : Kept → ℕ
+cached kept = length kept.names * size class.Name + length kept.blocks * size class.Block + length kept.vnodes * size class.Vnode
+
+-- all heap in use
+abbrev pub live_of : World → ℕ
+live_of world = base world.plain world.account + cached world.kept
+
+-- what may be kept: until there are files, the root's node alone
+pub record MayKeep (plain : Plain) (kept : Kept) : Type 0 where
+  pub names : kept.names ≡ []
+  pub blocks : kept.blocks ≡ []
+  pub vnodes : kept.vnodes ≡ root ∷ []
+
+-- only the root's node is kept
+abbrev pub boot_kept : Kept
+boot_kept = record { names = []; blocks = []; vnodes = root ∷ [] }
+
+-- one process, which has made no call
+abbrev pub boot_world : Script → World
+boot_world script = record { plain = boot_plain script; account = no_account; kept = boot_kept; reads = 0 }

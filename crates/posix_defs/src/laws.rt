@@ -1,0 +1,75 @@
+//! Laws above the definitions. Each is the contract of a function that does nothing.
+
+ghost use Rattle.std.specs.Prelude.{◌≡◌, ℕ, ◌<◌, ◌≤◌, List, None, Some, IsSome, length, pos};
+ghost use Rattle.std.specs.List.{AllByRecursion};
+ghost use Rattle.kabi_types.specs.declared.calls.CallKind.{CallKind};
+ghost use Rattle.kabi_types.specs.declared.entries.End.TheVariants.{Finished};
+ghost use Rattle.kabi_types.specs.declared.entries.Entry.{Entry};
+ghost use Rattle.kabi_types.specs.declared.entries.Entry.TheVariants.{Done, Part, Refused, Slept, Ended};
+ghost use Rattle.kabi_types.specs.declared.entries.Noted.{Noted};
+ghost use Rattle.kabi_types.specs.declared.scripts.Script.{Script};
+ghost use Rattle.kabi_types.specs.declared.replies.Reply.{Reply};
+ghost use Rattle.posix_defs.specs.Sizes.{bound, fixed, room};
+ghost use Rattle.posix_defs.specs.Plain.{call_of};
+ghost use Rattle.posix_defs.specs.CoreState.{CoreState, charged_in};
+ghost use Rattle.posix_defs.specs.Ends.{end_of};
+ghost use Rattle.posix_defs.specs.Choice.{default_of};
+ghost use Rattle.posix_defs.specs.CoreRun.{IsCoreRun, entries_of};
+ghost use Rattle.posix_defs.specs.FirstScript.{first_text, first_script, first_run, first_report, pid_run};
+ghost use Rattle.posix_defs.specs.Lines.{report};
+ghost use Rattle.posix_defs.specs.SmallScript.{ReadsAs};
+ghost use Rattle.posix_defs.specs.History.{Past, IsRun, MayFollow, WantsNothing};
+
+/// In every state that a run of the core leads to, what is charged is at most the heap.
+pub fn charged_stays_within_the_heap()
+    ensures { (script : Script) (steps : ℕ) (run : List Noted) (s : CoreState)
+        → IsCoreRun script steps run s → fixed ≤ script.heap → charged_in s ≤ script.heap }
+{}
+
+/// In every state that a run of the core leads to and in which no end stands, some event may be taken.
+pub fn something_can_be_taken()
+    ensures { (script : Script) (steps : ℕ) (run : List Noted) (s : CoreState)
+        → IsCoreRun script steps run s → fixed ≤ script.heap → end_of steps (length run) s ≡ None → IsSome (default_of script s) }
+{}
+
+/// The entries of every run of the core are a legal history, which ends in the same plain machine with the same account.
+pub fn entries_are_a_legal_history()
+    ensures { (script : Script) (steps : ℕ) (run : List Noted) (s : CoreState) → IsCoreRun script steps run s
+        → (past : Past) × IsRun script (entries_of run) past × (past.plain ≡ s.world.plain) × (past.account ≡ s.world.account) }
+{}
+
+/// In a legal history no reply is ENOMEM: that is answered as a refusal alone.
+pub fn no_reply_wants_memory()
+    ensures { (script : Script) (history : List Entry) (past : Past)
+        → IsRun script history past → AllByRecursion WantsNothing history }
+{}
+
+/// A call is refused exactly where its bound is above the room: only there may a refusal come next, and no answer of the
+/// machine may.
+pub fn refusals_stand_above_the_room()
+    ensures refused { (script : Script) (past next : Past) (pid : ℕ) (kind : CallKind) (asked : ℕ)
+        → MayFollow script past (Refused pid kind asked) next
+        → (asked ≡ bound (call_of script past.plain pid)) × (room script.heap < bound (call_of script past.plain pid)) }
+    ensures answered { (script : Script) (past next : Past) (pid : ℕ) (kind : CallKind) (reply : Reply)
+        → MayFollow script past (Done pid kind reply) next → bound (call_of script past.plain pid) ≤ room script.heap }
+    ensures moved { (script : Script) (past next : Past) (pid : ℕ) (kind : CallKind) (moved : ℕ)
+        → MayFollow script past (Part pid kind moved) next → bound (call_of script past.plain pid) ≤ room script.heap }
+    ensures slept { (script : Script) (past next : Past) (pid : ℕ) (kind : CallKind)
+        → MayFollow script past (Slept pid kind) next → bound (call_of script past.plain pid) ≤ room script.heap }
+    ensures ended { (script : Script) (past next : Past) (pid : ℕ) (kind : CallKind) (status : ℕ)
+        → MayFollow script past (Ended pid kind status) next → bound (call_of script past.plain pid) ≤ room script.heap }
+{}
+
+/// The worked example: its text says the script; its six events are a run of the core, which ends with the first
+/// process; and the report of that run is this text.
+pub fn the_first_script_runs()
+    ensures reads { ReadsAs first_text first_script }
+    ensures runs { (s : CoreState) × IsCoreRun first_script 1000 first_run s × (end_of 1000 (length first_run) s ≡ Some Finished) × (charged_in s ≡ 2304) × (s.world.reads ≡ 0) }
+    ensures reported { report first_run Finished 2304 0 ≡ first_report }
+{}
+
+/// No run of the worked example tells another pid, and none charges a byte more.
+pub fn nothing_else_is_its_run()
+    ensures pid { (s : CoreState) → IsCoreRun first_script 1000 (pid_run 2816 (pos 2)) s → ⊥ }
+    ensures charged { (s : CoreState) → IsCoreRun first_script 1000 (pid_run 2817 (pos 1)) s → ⊥ }
+{}

@@ -1,0 +1,23 @@
+//! The plain machine: what each call means, with no heap and no cache, and what the kernel's parts ask of each other.
+//!
+//! The definitions stand in `specs/`. This is what code there is beside them: the phases of a process, what a turn
+//! answers, the traits by which the layers meet, and the laws that the definitions obey.
+#![tactic(auto)]
+
+mod blocks;
+mod dirs;
+mod laws;
+mod phases;
+#[cfg(test)]
+mod tests;
+mod turner;
+
+pub use blocks::{BlockList, Blocks};
+pub use dirs::{Dirs, RootAlone};
+pub use laws::{
+    charged_stays_within_the_heap, entries_are_a_legal_history, no_reply_wants_memory,
+    nothing_else_is_its_run, refusals_stand_above_the_room, something_can_be_taken,
+    the_first_script_runs,
+};
+pub use phases::Phase;
+pub use turner::{Turned, Turner};

@@ -1,0 +1,69 @@
+ghost use Rattle.std.specs.Prelude.{◌≡◌, ◌≢◌, ℕ, ◌+◌, ◌≤◌, true, false};
+ghost use Rattle.kabi_types.specs.declared.scripts.Script.{Script};
+ghost use Rattle.posix_defs.specs.Sizes.{bound, need_of, reserve};
+ghost use Rattle.posix_defs.specs.Process.{is_alive};
+ghost use Rattle.posix_defs.specs.Plain.{call_of, last_pid};
+ghost use Rattle.posix_defs.specs.World.{World, live_of};
+ghost use Rattle.posix_defs.specs.Turn.{TurnsTo};
+
+use kabi_types::{Call, Need, Reply};
+
+/// What a turn of a call came to.
+#[derive(Debug, Drop, PartialEq, Eq)]
+pub enum Turned {
+    /// The call is over.
+    Done(Reply),
+    /// A write moved so many bytes, and goes on when there is room for more.
+    Part(u32),
+    /// The call would block.
+    Sleep,
+    /// The process has ended with this wait status.
+    Ended(u16),
+    /// The process had ended before.
+    Gone,
+}
+
+/// A store of processes, files and queues: what the core asks of it.
+///
+/// Contracts see a store by the worlds that it stands for: the plain machine, its account, what the caches keep and how
+/// many blocks were read. Each call says what follows for each world that the store stood for.
+pub trait Turner {
+    /// The script that it runs. It never changes.
+    ghost script: { Self → Script };
+
+    /// The store stands for this world.
+    ghost stands: { Self → World → Type 0 };
+
+    /// The call that a live process makes next.
+    fn next(&self, pid: u32) -> Call
+        requires { (world : World) × stands self.now world × (is_alive world.plain.table pid ≡ true) }
+        ensures { (world : World) → stands self.now world → is_alive world.plain.table pid ≡ true
+            → result ≡ call_of (script self.now) world.plain pid };
+
+    /// Runs a process's call: `Sleep` exactly where it would block, `Gone` exactly where the process has ended, else
+    /// what POSIX answers.
+    fn turn(&mut self, pid: u32, call: &Call, need: Need) -> Turned
+        requires needed { need ≡ need_of call.now }
+        requires may { (world : World) × stands self.old world
+            × (is_alive world.plain.table pid ≡ true → call.now ≡ call_of (script self.old) world.plain pid)
+            × (live_of world + bound call.now + reserve ≤ (script self.old).heap) }
+        ensures script { script self.new ≡ script self.old }
+        ensures turned { (world : World) → stands self.old world
+            → (after : World) × stands self.new after × TurnsTo (script self.old) world pid call.now result after };
+
+    /// Whether a process is there and has not ended.
+    fn alive(&self, pid: u32) -> bool
+        ensures { (world : World) → stands self.now world → result ≡ is_alive world.plain.table pid };
+
+    /// The pid of the youngest process ever made.
+    fn last_pid(&self) -> u32
+        ensures { (world : World) → stands self.now world → result ≡ last_pid world.plain };
+
+    /// How many bytes of kernel heap are in use.
+    fn live(&self) -> u64
+        ensures { (world : World) → stands self.now world → result ≡ live_of world };
+
+    /// How many blocks were read from the disk since boot; it stands still at its type's end.
+    fn reads(&self) -> u64
+        ensures { (world : World) → stands self.now world → result ≡ world.reads };
+}
