@@ -1,5 +1,5 @@
 -- A run that goes by the rule of choice.
-use Rattle.std.proofs.Common.{◌≡◌, ℕ, Bool, true, false, cond, List, [], ◌∷◌, ◌++◌, length, Option, None, Some, is_some, refl, ap, sym, ◌∙◌, subst}
+use Rattle.std.proofs.Common.{◌≡◌, ℕ, cond, [], ◌∷◌, ◌++◌, length, Option, None, Some, is_some, refl, ap, sym, ◌∙◌, subst}
 use Rattle.kabi_types.specs.declared.entries.End.{End}
 use Rattle.kabi_types.specs.declared.entries.Event.{Event}
 use Rattle.kabi_types.specs.declared.entries.Noted.{Noted}
@@ -19,16 +19,16 @@ pub picked : (script : Script) (steps taken : ℕ) (s : CoreState) (event : Even
 picked script steps taken s event e = go (end_of steps taken s) refl e
   where
     go : (end : Option End) → end_of steps taken s ≡ end → cond (is_some end) None (default_of script s) ≡ Some event
-      → (end_of steps taken s ≡ None) × (default_of script s ≡ Some event)
+        → (end_of steps taken s ≡ None) × (default_of script s ≡ Some event)
     go None p q = (p, q)
     go (Some end) p q = cc
 
 pub picked_boot : {T : Type 0} (stands_for : T → World → Type 0) (script : Script) (core : CoreView T) → HasBooted stands_for script core → HasPicked stands_for script core
 picked_boot stands_for script core booted = record {
-    state = boot_state script;
-    is_at = booted.is_at;
-    runs = subst (λ run. IsPickedRun script core.steps run (boot_state script)) (sym booted.run) boots;
-  }
+  state = boot_state script;
+  is_at = booted.is_at;
+  runs = subst (λ run. IsPickedRun script core.steps run (boot_state script)) (sym booted.run) boots;
+}
 
 -- one event further
 pub picked_more : {T : Type 0} (stands_for : T → World → Type 0) (script : Script) (old new : CoreView T) (event : Event) (noted : Noted)
@@ -42,6 +42,6 @@ picked_more stands_for script old new event noted before chosen took =
       state = led.0;
       is_at = led.1;
       runs = subst (λ run. IsPickedRun script new.steps run led.0) (sym took.run)
-        (subst (λ steps. IsPickedRun script steps (old.run ++ noted ∷ []) led.0) (sym took.steps)
+          (subst (λ steps. IsPickedRun script steps (old.run ++ noted ∷ []) led.0) (sym took.steps)
           (goes_on old.run before.state led.0 noted before.runs pick.0 (pick.1 ∙ ap Some (sym took.taken)) led.2));
     }

@@ -1,10 +1,9 @@
 -- A small script's calls, and what a turn of one does to a store of one process.
-use Rattle.std.proofs.Common.{◌≡◌, ℕ, zero, suc, ◌+◌, ◌≤◌, pos, Bool, true, false, List, [], ◌∷◌, map, length, Option, None, Some, option_map, slice_get, refl, ap, sym, ◌∙◌, subst, arith}
+use Rattle.std.proofs.Common.{◌≡◌, ℕ, zero, suc, pos, Bool, true, false, List, [], ◌∷◌, map, length, Option, None, Some, option_map, slice_get, refl, ap, sym, ◌∙◌, subst, arith}
 use Rattle.kabi_types.specs.declared.calls.Call.{Call}
 use Rattle.kabi_types.specs.declared.calls.Call.TheVariants as call
 use Rattle.kabi_types.specs.declared.replies.Reply.TheVariants.{Val}
 use Rattle.kabi_types.specs.declared.scripts.Control.{Control}
-use Rattle.kabi_types.specs.declared.scripts.Statement.{Statement}
 use Rattle.posix_defs.specs.declared.turner.Turned.{Turned}
 use Rattle.posix_defs.specs.declared.turner.Turned.TheVariants as turned
 use Rattle.posix_defs.specs.Control as program
@@ -82,29 +81,29 @@ pub turn_getpid : (small : SmallScript) (control : Control) (register : Option R
     → slice_get small.body.items control.place ≡ Some (Getpid register)
     → Answers (script_of small) (world_of control true) 1 call.Getpid (turned.Done (Val (pos 1))) (world_of (behind control register) true)
 turn_getpid small control register e here = record {
-    answer = (refl, ap (λ c. record { table = table_of true; controls = c ∷ [] }) (sym (after-small small control register e here)));
-    account = refl;
-    may_keep = record { names = refl; blocks = refl; vnodes = refl };
-    live = omega arith;
-    names = omega arith;
-    blocks = omega arith;
-    vnodes = omega arith;
-    reads = omega arith;
-  }
+  answer = (refl, ap (λ c. record { table = table_of true; controls = c ∷ [] }) (sym (after-small small control register e here)));
+  account = refl;
+  may_keep = record { names = refl; blocks = refl; vnodes = refl };
+  live = omega arith;
+  names = omega arith;
+  blocks = omega arith;
+  vnodes = omega arith;
+  reads = omega arith;
+}
 
 -- a turn of `exit`
 pub turn_exit : (small : SmallScript) (control : Control) (status : ℕ)
     → Answers (script_of small) (world_of control true) 1 (call.Exit (pos status)) (turned.Ended (exit_status (pos status))) (world_of control false)
 turn_exit small control status = record {
-    answer = (refl, refl);
-    account = refl;
-    may_keep = record { names = refl; blocks = refl; vnodes = refl };
-    live = omega arith;
-    names = omega arith;
-    blocks = omega arith;
-    vnodes = omega arith;
-    reads = omega arith;
-  }
+  answer = (refl, refl);
+  account = refl;
+  may_keep = record { names = refl; blocks = refl; vnodes = refl };
+  live = omega arith;
+  names = omega arith;
+  blocks = omega arith;
+  vnodes = omega arith;
+  reads = omega arith;
+}
 
 -- the call that the process of such a store makes next
 pub next-small : (small : SmallScript) (control : Control) (lives : Bool) (world : World) (pid : ℕ) → control.program ≡ 0

@@ -1,18 +1,17 @@
 -- Small scripts as scripts, and the store that runs one.
-use Rattle.std.specs.Prelude.{ℕ, ◌≤◌, ◌⊎◌, ◌≡◌, pos, Bool, if◌then◌else◌, List, [], ◌∷◌, map, Option, None, Some, option_map, codes, vec_len}
+use Rattle.std.specs.Prelude.{ℕ, ◌≤◌, ◌⊎◌, ◌≡◌, pos, Bool, if◌then◌else◌, List, [], ◌∷◌, ◌++◌, map, Option, None, Some, option_map, codes, vec_len}
 use Rattle.kabi_types.specs.declared.calls.Call.{Call}
 use Rattle.kabi_types.specs.declared.calls.Call.TheVariants as call
 use Rattle.kabi_types.specs.declared.calls.CallKind.TheVariants as kind
 use Rattle.kabi_types.specs.declared.scripts.Control.{Control}
 use Rattle.kabi_types.specs.declared.scripts.Operand.TheVariants.{Number}
-use Rattle.kabi_types.specs.declared.scripts.Policy.TheVariants.{Heaviest}
-use Rattle.kabi_types.specs.declared.scripts.Chooser.TheVariants.{Plain}
 use Rattle.kabi_types.specs.declared.scripts.Statement.{Statement}
 use Rattle.kabi_types.specs.declared.scripts.Statement.TheVariants.{Invoke}
 use Rattle.kabi_types.specs.declared.scripts.Script.{Script}
 use Rattle.posix_defs.specs.Control.{into, forward, afresh}
 use Rattle.posix_defs.specs.Process.{Table}
 use Rattle.posix_defs.specs.Plain.{first_process}
+use Rattle.posix_defs.specs.SmallScript.{SaysHeap, ended, script_with}
 use Rattle.posix_defs.specs.World.{World, no_account, boot_kept}
 use Rattle.kres_cli.specs.declared.small.Register.{Register}
 use Rattle.kres_cli.specs.declared.small.Small.{Small}
@@ -25,14 +24,17 @@ statement_of (Exit status) = Invoke kind.Exit (Number (pos status) ∷ []) [] No
 
 -- the whole script, with what a small one can't say as it is where nothing is said
 abbrev pub script_of : SmallScript → Script
-script_of small = record {
-  heap = small.heap;
-  disk = 64;
-  steps = 1000;
-  policy = Heaviest;
-  chooser = Plain;
-  programs = record { name = codes "init"; body = map statement_of small.body.items } ∷ [];
-}
+script_of small = script_with small.heap (map statement_of small.body.items)
+
+-- a text behind the line `program init`
+abbrev pub headed : List ℕ → List ℕ
+headed rest = ended (codes "program init") ++ rest
+
+-- a text that begins by giving this heap, and goes on so
+pub record GivesHeap (text : List ℕ) (heap : ℕ) (rest : List ℕ) : Type 0 where
+  pub front : List ℕ
+  pub text_is : text ≡ front ++ rest
+  pub says : SaysHeap front heap
 
 -- the call that a statement makes; at the end of a program it is `exit 0`
 abbrev pub small_call : Option Small → Call

@@ -1,6 +1,7 @@
 //! `kres`: runs scripts of processes on a kernel that reserves its heap before it runs a call.
 #![tactic(auto)]
 
+mod laws;
 mod lines;
 mod plain_store;
 mod reading;

@@ -4,10 +4,9 @@ ghost use Rattle.posix_defs.specs.Ending.{exit_status};
 ghost use Rattle.posix_defs.specs.Turn.{Answers};
 ghost use Rattle.kres_cli.specs.Small.{IsRunnable, behind, script_of, small_call, world_of};
 
+use crate::small::{Register, Small, SmallScript};
 use kabi_types::{Call, Control, Need, Reply};
 use posix_defs::{Turned, Turner};
-
-use crate::small::{Register, Small, SmallScript};
 
 /// What one process takes of the kernel heap, with the root's vnode, in bytes.
 const LIVE: u64 = 640;

@@ -1,11 +1,10 @@
 ghost use Rattle.std.specs.Prelude.{◌≡◌, ◌≤◌, IfOk};
 ghost use Rattle.kres_cli.specs.Read.{HasRead};
 
+use crate::text::Text;
 use kabi_types::Memory;
 use kio_ports::Source;
 use std::alloc::Global;
-
-use crate::text::Text;
 
 /// The most bytes that a script may have.
 pub const MOST_BYTES: usize = 1048576;

@@ -80,11 +80,26 @@ fn refuses_a_text_that_is_too_long(rt: HostRuntime) -> Result<(), Fail> {
 fn reads_every_small_statement(rt: HostRuntime) -> Result<(), Fail> {
     let cases = [
         ("program init\nend", "3 p1 ended exit 0 charged 2304\n"),
-        ("program init\nexit 7\nend", "3 p1 ended exit 7 charged 2304\n"),
-        ("program init\nexit 999\nend\n", "3 p1 ended exit 231 charged 2304\n"),
-        ("program init\nexit 007\nend\n", "3 p1 ended exit 7 charged 2304\n"),
-        ("program init\nr15 = getpid\nend\n", "6 p1 ended exit 0 charged 2304\n"),
-        ("heap 8192\nprogram init\ngetpid\nexit 12\nend\n", "6 p1 ended exit 12 charged 2304\n"),
+        (
+            "program init\nexit 7\nend",
+            "3 p1 ended exit 7 charged 2304\n",
+        ),
+        (
+            "program init\nexit 999\nend\n",
+            "3 p1 ended exit 231 charged 2304\n",
+        ),
+        (
+            "program init\nexit 007\nend\n",
+            "3 p1 ended exit 7 charged 2304\n",
+        ),
+        (
+            "program init\nr15 = getpid\nend\n",
+            "6 p1 ended exit 0 charged 2304\n",
+        ),
+        (
+            "heap 8192\nprogram init\ngetpid\nexit 12\nend\n",
+            "6 p1 ended exit 12 charged 2304\n",
+        ),
     ];
     for (text, line) in cases {
         let (status, sink) = sim_on(&rt, text.as_bytes().to_vec(rt.alloc())?)?;
@@ -103,7 +118,8 @@ fn stops_when_the_events_are_used_up(rt: HostRuntime) -> Result<(), Fail> {
     }
     text.extend_from_slice(b"end\n")?;
     let (status, sink) = sim_on(&rt, text)?;
-    let last = b"\n1000 p1 ask getpid bound 0 charged 2816\nend spent events 1000 charged 2816 peak 2816 reads 0\n";
+    let last =
+        b"\n1000 p1 ask getpid bound 0 charged 2816\nend spent events 1000 charged 2816 peak 2816 reads 0\n";
     assert_eq!(rt; status, Status::Spent);
     assert!(rt; sink.bytes().ends_with(last));
     Ok(())
@@ -129,7 +145,11 @@ fn tells_the_words_that_it_knows(rt: HostRuntime) -> Result<(), Fail> {
 #[test]
 fn tells_which_stream_failed(rt: HostRuntime) -> Result<(), Fail> {
     let words = vec![in rt.alloc(); "sim".to_string(rt.alloc())?]?;
-    let mut source = MemSource::new(PID_SCRIPT.to_vec(rt.alloc())?, vec![in rt.alloc(); 1]?, 4096);
+    let mut source = MemSource::new(
+        PID_SCRIPT.to_vec(rt.alloc())?,
+        vec![in rt.alloc(); 1]?,
+        4096,
+    );
     let mut sink = MemSink::new(rt.alloc(), ROOM, Vec::new(rt.alloc()), 4096)?;
     let status = run_tool(&rt, rt.alloc(), words.as_slice(), &mut source, &mut sink);
     assert_eq!(rt; status, Status::ReadFault);

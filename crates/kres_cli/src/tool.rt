@@ -1,11 +1,7 @@
-ghost use Rattle.std.specs.Prelude.{IfOk, string_bytes};
+ghost use Rattle.std.specs.Prelude.{◌≡◌, ◌↔◌, ℕ, List, Option, IsTrue, IfOk, string_bytes};
 ghost use Rattle.kres_cli.specs.Run.{IsReport};
 ghost use Rattle.kres_cli.specs.Small.{IsRunnable, script_of};
-
-use kabi_types::Memory;
-use kern_core::Core;
-use kio_ports::{Sink, Source};
-use std::alloc::Global;
+ghost use Rattle.kres_cli.specs.Tool.{AnswersText, AreSim, HasPut, OthersEnd, SimEnds};
 
 use crate::lines::report;
 use crate::plain_store::PlainStore;
@@ -16,6 +12,10 @@ use crate::small::SmallScript;
 use crate::statuses::Status;
 use crate::text::Text;
 use crate::writing::write_text;
+use kabi_types::Memory;
+use kern_core::Core;
+use kio_ports::{Sink, Source};
+use std::alloc::Global;
 
 /// What is written where the words aren't the program's.
 const USAGE: &str = "usage: kres sim | threads W | print | table | gen N | load N\n";
@@ -28,7 +28,7 @@ const STEPS: u32 = 1000;
 
 /// A text to be written, and the status that it comes with.
 #[derive(Debug, Drop)]
-struct Report {
+struct Answer {
     text: String,
     status: Status,
 }
@@ -41,15 +41,58 @@ pub fn run_tool<R, S: Source, K: Sink>(
     words: &[String],
     source: &mut S,
     sink: &mut K,
-) -> Status {
+) -> Status
+    ensures sim { AreSim words.now → SimEnds (record {
+      left = S.left source.old;
+      left' = S.left source.new;
+      held = K.held sink.old;
+      held' = K.held sink.new;
+      takes = S.faults source.old;
+      takes' = S.faults source.new;
+      puts = K.faults sink.old;
+      puts' = K.faults sink.new;
+    }) result }
+    ensures others { (AreSim words.now → ⊥) → OthersEnd (record {
+      left = S.left source.old;
+      left' = S.left source.new;
+      held = K.held sink.old;
+      held' = K.held sink.new;
+      takes = S.faults source.old;
+      takes' = S.faults source.new;
+      puts = K.faults sink.old;
+      puts' = K.faults sink.new;
+    }) result }
+    ensures untouched { (AreSim words.now → ⊥) → source.new ≡ source.old }
+{
+    if are_sim(words) {
+        sim(alloc, source, sink)
+    } else {
+        put(sink, USAGE, Status::Usage)
+    }
+}
+
+fn are_sim(words: &[String]) -> bool
+    ensures { IsTrue result ↔ AreSim words.now }
+{
     match words {
-        [word] if word.as_str() == "sim" => sim(alloc, source, sink),
-        _ => put(sink, USAGE, Status::Usage),
+        [word] => word.as_str() == "sim",
+        _ => false,
     }
 }
 
 /// Writes a text, and answers its status, or that the sink failed.
-fn put<K: Sink>(sink: &mut K, text: &str, status: Status) -> Status {
+fn put<K: Sink>(sink: &mut K, text: &str, status: Status) -> Status
+    ensures { (left left' : Option (List ℕ)) (takes takes' : ℕ) → HasPut (record {
+      left = left;
+      left' = left';
+      held = K.held sink.old;
+      held' = K.held sink.new;
+      takes = takes;
+      takes' = takes';
+      puts = K.faults sink.old;
+      puts' = K.faults sink.new;
+    }) text.now status result }
+{
     match write_text(sink, text.as_bytes()) {
         Ok(()) => status,
         Err(_) => Status::WriteFault,
@@ -57,31 +100,46 @@ fn put<K: Sink>(sink: &mut K, text: &str, status: Status) -> Status {
 }
 
 /// Reads a script from the source, runs it, and writes its report.
-fn sim<S: Source, K: Sink>(alloc: Global, source: &mut S, sink: &mut K) -> Status {
+fn sim<S: Source, K: Sink>(alloc: Global, source: &mut S, sink: &mut K) -> Status
+    ensures { SimEnds (record {
+      left = S.left source.old;
+      left' = S.left source.new;
+      held = K.held sink.old;
+      held' = K.held sink.new;
+      takes = S.faults source.old;
+      takes' = S.faults source.new;
+      puts = K.faults sink.old;
+      puts' = K.faults sink.new;
+    }) result }
+{
     let text = match read_text(alloc, source) {
         Ok(Text::Read(text)) => text,
         Ok(Text::Fault) => return Status::ReadFault,
         Err(Memory) => return Status::Memory,
     };
-    match report_on(alloc, text.as_slice()) {
-        Ok(Some(report)) => put(sink, report.text.as_str(), report.status),
-        Ok(None) => put(sink, NOT_BUILT, Status::BadScript),
+    match answer_to(alloc, text.as_slice()) {
+        Ok(answer) => put(sink, answer.text.as_str(), answer.status),
         Err(Memory) => Status::Memory,
     }
 }
 
-/// The report of the script that a text says; None where it says none.
-fn report_on(alloc: Global, text: &[u8]) -> Result<Option<Report>, Memory> {
+/// What is written in answer to a text, and with which status.
+fn answer_to(alloc: Global, text: &[u8]) -> Result<Answer, Memory>
+    ensures { IfOk result (λ answer. AnswersText text.now (string_bytes answer.text) answer.status) }
+{
     match read(alloc, text)? {
-        Some(script) => Ok(Some(run_script(alloc, script)?)),
-        None => Ok(None),
+        Some(script) => run_script(alloc, script),
+        None => Ok(Answer {
+            text: String::from_str(alloc, NOT_BUILT)?,
+            status: Status::BadScript,
+        }),
     }
 }
 
 /// Runs a script to its end, and reports every event.
-fn run_script(alloc: Global, script: SmallScript) -> Result<Report, Memory>
+fn run_script(alloc: Global, script: SmallScript) -> Result<Answer, Memory>
     requires { IsRunnable script }
-    ensures { IfOk result (λ report. IsReport (script_of script) (string_bytes report.text) report.status) }
+    ensures { IfOk result (λ answer. IsReport (script_of script) (string_bytes answer.text) answer.status) }
 {
     let heap = script.heap;
     let mut core = Core::boot(alloc, PlainStore::boot(script), STEPS, heap)?;
@@ -94,7 +152,7 @@ fn run_script(alloc: Global, script: SmallScript) -> Result<Report, Memory>
         core.peak(),
         core.reads(),
     )?;
-    Ok(Report {
+    Ok(Answer {
         text,
         status: Status::of(end),
     })

@@ -1,8 +1,6 @@
-use Rattle.std.proofs.Common.{◌≡◌, ◌∙◌, sym, subst, refl, length, Some}
-use Rattle.posix_defs.specs.CoreState.{CoreState}
+use Rattle.std.proofs.Common.{◌≡◌, ◌∙◌, subst, refl, length, Some}
 use Rattle.posix_defs.specs.Choice.{default_in}
-use Rattle.kern_core.specs.View.{IsAt, Took}
-use Rattle.kres_cli.specs.Run.{HasPicked}
+use Rattle.kern_core.specs.View.{Took}
 use Rattle.kres_cli.proofs.Picks.{picked_boot, picked_more}
 use Rattle.kres_cli.proofs.runs.run_to_end.Goals as goal
 
@@ -18,7 +16,7 @@ loop-event-preserved g c =
       script = c.step.ensures.script ∙ same;
       steps = c.step.ensures.took.steps ∙ c.loop-event.invariant.steps;
       picked = picked_more g.T.Turner.stands (script c.args.core.now.store) old c.step.new.self c.in-Some.event c.step.result
-        c.loop-event.invariant.picked
-        (λ s at. subst (λ sc. Some c.in-Some.event ≡ default_in sc old.steps (length old.run) s) same (c.in-Some.ensures.picked s at))
-        (subst (λ sc. Took g.T.Turner.stands sc old c.in-Some.event c.step.result c.step.new.self) same c.step.ensures.took);
+          c.loop-event.invariant.picked
+          (λ s at. subst (λ sc. Some c.in-Some.event ≡ default_in sc old.steps (length old.run) s) same (c.in-Some.ensures.picked s at))
+          (subst (λ sc. Took g.T.Turner.stands sc old c.in-Some.event c.step.result c.step.new.self) same c.step.ensures.took);
     }

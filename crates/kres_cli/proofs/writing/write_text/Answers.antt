@@ -11,11 +11,11 @@ loop-left-preserved g c =
     record {
       put = before.put + count;
       within =
-        let fits : count ≤ length left = c.in_ok-count.ensures.fits in
-        let size : length left ≡ length (drop before.put c.args.text.now) = ap length before.rest in
-        omega (arith, size, length-drop before.put c.args.text.now);
+          let fits : count ≤ length left = c.in_ok-count.ensures.fits in
+          let size : length left ≡ length (drop before.put c.args.text.now) = ap length before.rest in
+          omega (arith, size, length-drop before.put c.args.text.now);
       rest = left_more c.args.text.now left before.put count before.rest;
       held = put_more (held c.args.sink.now) (held c.loop-left.sink) (held c.put.new.self) c.args.text.now left before.put count
-        before.rest before.held c.in_ok-count.ensures.appended;
+          before.rest before.held c.in_ok-count.ensures.appended;
       faults = c.in_ok-count.ensures.no_fault ∙ before.faults;
     }

@@ -1,5 +1,5 @@
-use Rattle.std.proofs.Common.{◌≡◌, ◌∙◌, ap, sym, refl, None, Some}
-use Rattle.kres_cli.specs.declared.small.Small.TheVariants.{Getpid, Exit}
+use Rattle.std.proofs.Common.{◌∙◌, ap, sym, refl, None, Some}
+use Rattle.kres_cli.specs.declared.small.Small.TheVariants.{Exit}
 use Rattle.kres_cli.proofs.SmallScripts.{ran_getpid, ran_exit}
 use Rattle.kres_cli.proofs.plain_store.PlainStore.run_statement.Goals as goal
 

@@ -1,4 +1,4 @@
-use Rattle.std.proofs.Common.{◌≡◌, ◌∙◌, ap, sym}
+use Rattle.std.proofs.Common.{◌∙◌, ap, sym}
 use Rattle.kres_cli.specs.Small.{small_call}
 use Rattle.kres_cli.proofs.SmallScripts.{next-small}
 use Rattle.kres_cli.proofs.plain_store.PlainStoreTurner.next.Goals as goal
