@@ -212,8 +212,12 @@ fn long_lists_keep_their_items(rt: HostRuntime) -> Result<(), Fail> {
     assert!(rt;
         matches!(programs.items(), [program] if program.name.items() == b"init".as_slice() && program.body.items().len() == 2)
     );
+    Ok(())
+}
 
-    let mut happened = Vec::new(alloc);
+#[test]
+fn histories_keep_their_entries(rt: HostRuntime) -> Result<(), Fail> {
+    let mut happened = Vec::new(rt.alloc());
     happened.push(Entry::Slept {
         pid: 2,
         kind: CallKind::Poll,

@@ -67,9 +67,9 @@ fn noted(event: Event, kind: CallKind, entry: Option<Entry>, charged: u64) -> No
     }
 }
 
-#[test]
-fn runs_to_its_end(rt: HostRuntime) -> Result<(), Fail> {
-    let wanted = [
+/// What is noted where a process asks for its pid and ends.
+fn whole_run() -> [Noted; 6] {
+    [
         noted(Event::Ask(1), CallKind::Getpid, None, 2816),
         noted(Event::Admit(1), CallKind::Getpid, None, 2816),
         noted(
@@ -94,7 +94,12 @@ fn runs_to_its_end(rt: HostRuntime) -> Result<(), Fail> {
             }),
             2304,
         ),
-    ];
+    ]
+}
+
+#[test]
+fn runs_to_its_end(rt: HostRuntime) -> Result<(), Fail> {
+    let wanted = whole_run();
     let rows = [
         (0, 0, End::Spent, 2816),
         (2, 2, End::Spent, 2816),
