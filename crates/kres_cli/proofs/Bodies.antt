@@ -13,10 +13,6 @@ pub record ReadUpTo (text rest : List ℕ) (read : List Small) : Type 0 where
   pub whole : (more : List Statement) → SaysBody rest more → SaysBody text (map statement_of read ++ more)
   pub only : ((more : List Statement) → SaysBody rest more → ⊥) → (body : List Statement) → SaysBody text body → ⊥
 
--- at first nothing is read
-pub read_none : (text : List ℕ) → ReadUpTo text text []
-read_none text = record { whole = λ more said. said; only = λ none. none }
-
 -- a line that says a statement is read
 pub read_more : (text rest line next : List ℕ) (read : List Small) (small : Small) → ReadUpTo text rest read
     → All (λ byte. byte ≢ 10) line → rest ≡ ended line ++ next → SaysStatement line (statement_of small) → ReadUpTo text next (read ++ small ∷ [])

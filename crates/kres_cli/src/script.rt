@@ -110,11 +110,11 @@ fn body_of(alloc: Global, text: &[u8]) -> Result<Option<Vec<Small>>, Memory>
         body.push(statement)?;
         rest = next;
     }
-    Ok(if rest == b"end".as_slice() {
-        Some(body)
+    if rest == b"end".as_slice() {
+        Ok(Some(body))
     } else {
-        None
-    })
+        Ok(None)
+    }
 }
 
 /// The heap that a text gives first, in bytes, and what follows.

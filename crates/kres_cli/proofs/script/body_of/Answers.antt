@@ -5,7 +5,7 @@ use Rattle.std.proofs.lemmas.Slice.Eq.{bytes_eq-Decides}
 use Rattle.kres_cli.proofs.FirstLine.{rest_shorter}
 use Rattle.kres_cli.proofs.Bodies.{read_more, read_end, end_line, end_alone, read_past_end, read_nothing, read_no_end}
 use Rattle.kres_cli.proofs.script.body_of.Goals as goal
-use Rattle.kres_cli.proofs.script.body_of.Goals.{then-is_empty, else-is_empty, then-eq-2, else-eq-2}
+use Rattle.kres_cli.proofs.script.body_of.Goals.{then-is_empty, else-is_empty}
 
 -- what the tests tell
 same : (line text word : List ℕ) → text ≡ word → true ≡ bytes_eq line text → line ≡ word
@@ -58,22 +58,12 @@ loop-line-preserved c = record {
   short = omega (arith, c.in_ok-push.ensures.len, rest_shorter c.loop-line.rest.now c.in-Some.line.now c.in-Some.next.now c.in-Some.ensures.parts);
 }
 
-pub returns-clause-found : goal.returns-clause-found
-returns-clause-found c =
-    elim c.if-eq-2.branch [
-      | then-eq-2 w ↦
-          rw w.result-is
-          (read_end c.args.text.now c.loop-line.rest.now c.loop-line.body.items c.loop-line.invariant.read
-          (end_alone c.loop-line.rest.now (same c.loop-line.rest.now c.as_slice-2.result.now _ c.as_slice-2.ensures w.if-eq-2.ensures)))
-      | else-eq-2 w ↦ rw w.result-is tt
-    ]
+pub returns-then-eq-2-clause-found : goal.returns-then-eq-2-clause-found
+returns-then-eq-2-clause-found c =
+    read_end c.args.text.now c.loop-line.rest.now c.loop-line.body.items c.loop-line.invariant.read
+    (end_alone c.loop-line.rest.now (same c.loop-line.rest.now c.as_slice-2.result.now _ c.as_slice-2.ensures c.if-eq-2.ensures))
 
-pub returns-clause-none : goal.returns-clause-none
-returns-clause-none c =
-    elim c.if-eq-2.branch [
-      | then-eq-2 w ↦ rw w.result-is tt
-      | else-eq-2 w ↦
-          rw w.result-is
-          (read_no_end c.args.text.now c.loop-line.rest.now c.loop-line.body.items c.loop-line.invariant.read c.in_default.ensures.one_line
-          (differs c.loop-line.rest.now c.as_slice-2.result.now _ c.as_slice-2.ensures w.if-eq-2.ensures))
-    ]
+pub returns-else-eq-2-clause-none : goal.returns-else-eq-2-clause-none
+returns-else-eq-2-clause-none c =
+    read_no_end c.args.text.now c.loop-line.rest.now c.loop-line.body.items c.loop-line.invariant.read c.in_default.ensures.one_line
+    (differs c.loop-line.rest.now c.as_slice-2.result.now _ c.as_slice-2.ensures c.if-eq-2.ensures)
