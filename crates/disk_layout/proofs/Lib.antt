@@ -1,0 +1,4 @@
+pub mod WordBytes
+pub mod InodeBytes
+pub mod EntryBytes
+pub mod NewDisk

@@ -1,0 +1,164 @@
+//! A disk in memory that counts its reads.
+
+ghost use Rattle.std.specs.Prelude.{◌≡◌, ℕ, ◌+◌, ◌-◌, ◌<◌, ◌≤◌, ◌++◌, ◌∷◌, [], min, length, slice_get, slice_set, slice_index, Some, IfOk};
+ghost use Rattle.disk_layout.specs.DiskFormat.{entry_bytes};
+ghost use Rattle.disk_layout.specs.SoundDisk.{zeros, first_marked, new_root, root_entry, IsFormatted};
+
+use crate::entries::bytes_of_entry;
+use crate::inodes::bytes_of;
+use crate::words::put;
+use kabi_types::{DirEntry, Inode, Memory, Name27};
+use posix_defs::Blocks;
+use std::alloc::Global;
+
+/// A disk in memory, of 16 to 4096 blocks.
+#[derive(Drop)]
+pub struct RamDisk {
+    blocks: Vec<[u8; 1024]>,
+    reads: u64,
+}
+
+impl RamDisk {
+    /// A disk of so many blocks whose root directory has `.` and `..` alone, and of which nothing was read.
+    pub fn boot(alloc: Global, blocks: u32) -> Result<RamDisk, Memory>
+        requires { (16 ≤ blocks) × (blocks ≤ 4096) }
+        ensures { IfOk result (λ disk. IsFormatted blocks disk.blocks.items × (disk.reads ≡ 0)) }
+    {
+        let first = blocks / 16 + 1;
+        let mut disk = vec![in alloc; zero_block(); blocks as usize]?;
+        disk[0] = map_of(first + 1);
+        disk[1] = block_of(&bytes_of(&root_of(blocks)));
+        disk[first as usize] = root_entries();
+        Ok(RamDisk {
+            blocks: disk,
+            reads: 0,
+        })
+    }
+
+    /// A block's bytes. The count of reads grows by one, up to its last value.
+    pub fn read(&mut self, number: u32) -> [u8; 1024]
+        requires { number < length self.old.blocks.items }
+        ensures value { slice_get self.old.blocks.items number ≡ Some result }
+        ensures kept { self.new.blocks.items ≡ self.old.blocks.items }
+        ensures counted { self.new.reads ≡ min (self.old.reads + 1) 18446744073709551615 }
+    {
+        self.reads = self.reads.saturating_add(1);
+        self.blocks[number as usize]
+    }
+
+    /// How often a block was read, at most 18446744073709551615.
+    pub fn reads(&self) -> u64
+        ensures { result ≡ self.now.reads }
+    {
+        self.reads
+    }
+
+    /// Writes a block, and no other.
+    pub fn write(&mut self, number: u32, bytes: &[u8; 1024])
+        requires { number < length self.old.blocks.items }
+        ensures after { self.new.blocks.items ≡ slice_set self.old.blocks.items number bytes.now }
+        ensures reads { self.new.reads ≡ self.old.reads }
+    {
+        let place = number as usize;
+        self.blocks[place] = *bytes;
+    }
+}
+
+impl Blocks for RamDisk {
+    ghost blocks = { λ disk. disk.blocks.items };
+
+    // It holds no lent part.
+    ghost same_parts = { λ _ _. Unit {0} };
+
+    ghost same_parts_on = { λ _ _ _ _ _. tt };
+
+    fn get(&mut self, number: u32) -> [u8; 1024]
+        requires { number < length self.old.blocks.items }
+        ensures value { slice_get self.old.blocks.items number ≡ Some result }
+        ensures kept { self.new.blocks.items ≡ self.old.blocks.items }
+        ensures parts { Unit {0} }
+        ensures counted { self.new.reads ≡ min (self.old.reads + 1) 18446744073709551615 }
+    {
+        self.read(number)
+    }
+
+    fn set(&mut self, number: u32, bytes: &[u8; 1024])
+        requires { number < length self.old.blocks.items }
+        ensures after { self.new.blocks.items ≡ slice_set self.old.blocks.items number bytes.now }
+        ensures parts { Unit {0} }
+        ensures reads { self.new.reads ≡ self.old.reads }
+    {
+        self.write(number, bytes);
+    }
+}
+
+#[tactic(auto, unfolding(crate::specs::SoundDisk::zeros))]
+fn zero_block() -> [u8; 1024]
+    ensures { result ≡ zeros 1024 }
+{
+    [0; 1024]
+}
+
+/// The bytes, and zeros behind them.
+fn block_of(front: &[u8]) -> [u8; 1024]
+    requires { length front.now ≤ 1024 }
+    ensures { result ≡ front.now ++ zeros (1024 - length front.now) }
+{
+    let mut block = zero_block();
+    put(&mut block, 0, front);
+    block
+}
+
+/// The byte of a map in which the first `used` blocks are in use.
+fn marked_byte(used: u32, place: usize) -> u8
+    requires { place < 1024 }
+    ensures { result ≡ first_marked used place }
+{
+    let bits = (used as usize).saturating_sub(8 * place).min(8);
+    ((1_u16 << bits) - 1) as u8
+}
+
+/// Block 0 of a disk of which the first blocks are in use.
+fn map_of(used: u32) -> [u8; 1024]
+    ensures len { length result ≡ 1024 }
+    ensures bytes { (place : ℕ) → place < 1024 → slice_index result place ≡ first_marked used place }
+{
+    let mut map = zero_block();
+    for place in 0..map.len() {
+        map[place] = marked_byte(used, place);
+    }
+    map
+}
+
+/// The root of a new disk.
+fn root_of(blocks: u32) -> Inode
+    ensures { result ≡ new_root blocks }
+{
+    let mut direct = [0; 10];
+    direct[0] = blocks / 16 + 1;
+    Inode {
+        kind: 2,
+        nlink: 1,
+        size: 64,
+        direct,
+        indirect: 0,
+    }
+}
+
+/// An entry of the root that names the root.
+fn root_entry(name: &[u8]) -> DirEntry
+    requires { length name.now ≤ 27 }
+    ensures { result ≡ root_entry name.now }
+{
+    let name = Name27::of(name).unwrap();
+    DirEntry { node: 1, name }
+}
+
+/// The one block of a new root.
+fn root_entries() -> [u8; 1024]
+    ensures { result ≡ entry_bytes (root_entry (46 ∷ [])) ++ (entry_bytes (root_entry (46 ∷ 46 ∷ [])) ++ zeros (1024 - 64)) }
+{
+    let mut block = block_of(&bytes_of_entry(&root_entry(b".")));
+    put(&mut block, 32, &bytes_of_entry(&root_entry(b"..")));
+    block
+}

@@ -1,0 +1,15 @@
+//! The disk: its inodes and directory entries as bytes, and a disk in memory.
+#![tactic(auto)]
+
+mod disks;
+mod entries;
+mod faults;
+mod inodes;
+#[cfg(test)]
+mod tests;
+mod words;
+
+pub use disks::RamDisk;
+pub use entries::{bytes_of_entry, entry_of};
+pub use faults::{BadEntry, BadInode};
+pub use inodes::{bytes_of, inode_of};

@@ -1,0 +1,7 @@
+pub mod Heap
+pub mod Metered
+pub mod Objects
+pub mod Outside
+pub mod Owned
+pub mod Places
+pub mod Purse

@@ -1,0 +1,30 @@
+ghost use Rattle.std.specs.Prelude.{◌≡◌, ◌+◌, ◌≤◌, max};
+
+/// How many bytes the heap has, how many are taken, and the most that were taken since the last mark.
+#[derive(Drop)]
+pub(crate) struct Meter {
+    pub heap: u64,
+    pub live: u64,
+    pub high: u64,
+}
+
+impl Meter {
+    pub(crate) fn grow(&mut self, bytes: u64)
+        requires { self.old.live + bytes ≤ self.old.heap }
+        ensures heap { self.new.heap ≡ self.old.heap }
+        ensures live { self.new.live ≡ self.old.live + bytes }
+        ensures high { self.new.high ≡ max self.old.high self.new.live }
+    {
+        self.live += bytes;
+        self.high = self.high.max(self.live);
+    }
+
+    pub(crate) fn shrink(&mut self, bytes: u64)
+        requires { bytes ≤ self.old.live }
+        ensures heap { self.new.heap ≡ self.old.heap }
+        ensures live { self.new.live + bytes ≡ self.old.live }
+        ensures high { self.new.high ≡ self.old.high }
+    {
+        self.live -= bytes;
+    }
+}

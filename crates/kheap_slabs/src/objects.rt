@@ -1,0 +1,177 @@
+use kabi_types::{Control, Inode, Name27};
+
+/// A process. It stays after its end until its parent has waited for it.
+#[derive(Clone, Copy, Debug, PartialEq, Eq)]
+pub struct Proc {
+    pub pid: u32,
+    /// The parent's pid.
+    pub parent: u32,
+    /// The wait status once it has ended: 256 times the exit status, or a signal's number. None while it is alive.
+    pub status: Option<u16>,
+    /// The number of the node that is its working directory.
+    pub cwd: u32,
+    pub control: Control,
+    /// The open descriptors, by number.
+    pub descriptors: [Option<Descriptor>; 32],
+    /// The keys of its Nodes; None where none of those 64 pages is mapped.
+    pub nodes: [Option<u32>; 4],
+}
+
+/// An open descriptor of a process.
+#[derive(Clone, Copy, Debug, PartialEq, Eq)]
+pub struct Descriptor {
+    /// The key of its Desc.
+    pub desc: u32,
+    /// FD_CLOEXEC: whether `exec` closes it.
+    pub close_on_exec: bool,
+}
+
+/// 64 neighbouring page entries of an address space.
+#[derive(Clone, Copy, Debug, PartialEq, Eq)]
+pub struct Node {
+    pub entries: [PageEntry; 64],
+}
+
+/// What an address space has at a page.
+#[derive(Clone, Copy, Debug, PartialEq, Eq)]
+pub enum PageEntry {
+    Unmapped,
+    /// Mapped, all zero, with no frame yet.
+    Zero,
+    /// The key of the Page that has its bytes.
+    Frame(u32),
+}
+
+/// A frame of memory.
+#[derive(Clone, Copy, Debug, PartialEq, Eq)]
+pub struct Page {
+    pub bytes: [u8; 4096],
+    /// How many page entries name it.
+    pub count: u32,
+}
+
+/// An open file description.
+#[derive(Clone, Copy, Debug, PartialEq, Eq)]
+pub struct Desc {
+    pub target: Target,
+    /// The offset in a file or a directory, in bytes.
+    pub offset: u64,
+    pub access: Access,
+    pub flags: DescFlags,
+    /// How many descriptors name it.
+    pub count: u32,
+}
+
+/// What a description is open on.
+#[derive(Clone, Copy, Debug, PartialEq, Eq)]
+pub enum Target {
+    /// The number of a file or a directory.
+    Inode(u32),
+    /// The key of a pipe. The access tells its end.
+    Pipe(u32),
+    /// The key of a socket.
+    Sock(u32),
+}
+
+/// What a description is open for.
+#[derive(Clone, Copy, Debug, PartialEq, Eq)]
+pub enum Access {
+    Read,
+    Write,
+    Both,
+}
+
+/// The status flags of a description.
+#[derive(Clone, Copy, Debug, PartialEq, Eq)]
+pub struct DescFlags {
+    /// O_APPEND.
+    pub append: bool,
+    /// O_NONBLOCK.
+    pub nonblock: bool,
+}
+
+/// A cached inode.
+#[derive(Clone, Copy, Debug, PartialEq, Eq)]
+pub struct Vnode {
+    /// The number of its node.
+    pub number: u32,
+    pub inode: Inode,
+    /// How many descriptions, working directories and turns hold it.
+    pub pins: u32,
+}
+
+/// A cached directory entry.
+#[derive(Debug, Drop, PartialEq, Eq)]
+pub struct Name {
+    /// The number of the directory.
+    pub dir: u32,
+    pub name: Name27,
+    /// The number of the node that it names.
+    pub node: u32,
+}
+
+/// A cached disk block.
+#[derive(Clone, Copy, Debug, PartialEq, Eq)]
+pub struct Block {
+    /// Its number on the disk.
+    pub number: u32,
+    pub bytes: [u8; 1024],
+}
+
+/// A pipe.
+#[derive(Clone, Copy, Debug, PartialEq, Eq)]
+pub struct Pipe {
+    pub queue: QueueParts,
+    /// How many descriptions have its read end.
+    pub readers: u32,
+    /// How many descriptions have its write end.
+    pub writers: u32,
+}
+
+/// A queue of bytes, as its owner in the heap keeps it. The empty queue is None, None, 0, 0.
+#[derive(Clone, Copy, Debug, Default, PartialEq, Eq)]
+pub struct QueueParts {
+    /// The key of its first Chunk.
+    pub first: Option<u32>,
+    /// The key of its last Chunk.
+    pub last: Option<u32>,
+    /// Where in the first Chunk the first unread byte is.
+    pub place: u32,
+    /// How many bytes are unread.
+    pub len: u32,
+}
+
+/// 512 bytes of a queue.
+#[derive(Clone, Copy, Debug, PartialEq, Eq)]
+pub struct Chunk {
+    pub bytes: [u8; 512],
+    /// The key of the next Chunk of the queue.
+    pub next: Option<u32>,
+}
+
+/// A socket. The bytes in its queue are those that it is to read.
+#[derive(Clone, Copy, Debug, PartialEq, Eq)]
+pub struct Sock {
+    pub state: SockState,
+    pub queue: QueueParts,
+    /// The key of the socket that it is connected to, while that one is there.
+    pub peer: Option<u32>,
+    /// The number of the node that it is bound to.
+    pub node: Option<u32>,
+    /// The keys of those that wait to be accepted, the first one first, with None behind them.
+    pub waiting: [Option<u32>; 8],
+}
+
+/// How far a socket has come.
+#[derive(Clone, Copy, Debug, PartialEq, Eq)]
+pub enum SockState {
+    /// Neither listening nor connected.
+    Idle,
+    Listening,
+    Connected {
+        /// It reads no more.
+        shut_read: bool,
+        /// It writes no more.
+        shut_write: bool,
+    },
+}

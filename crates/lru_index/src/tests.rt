@@ -1,0 +1,144 @@
+use crate::{Index, Key, NameKey};
+use kabi_types::Memory;
+use std::alloc::Global;
+use std::test::Fail;
+
+/// The same in the plainest way: the pairs in a list, the coldest first, and each call a walk over it.
+#[derive(Drop)]
+struct Plain<K: Key> {
+    pairs: Vec<(K, u32)>,
+}
+
+impl<K: Key> Plain<K> {
+    fn place(&self, key: K) -> Option<usize> {
+        self.pairs.iter().position(|pair| pair.0 == key)
+    }
+
+    fn find(&self, key: K) -> Option<u32> {
+        let place = self.place(key)?;
+        Some(self.pairs.get(place)?.1)
+    }
+
+    fn take(&mut self, key: K) -> Option<u32> {
+        let place = self.place(key)?;
+        if place < self.pairs.len() {
+            return Some(self.pairs.remove(place).1);
+        }
+        None
+    }
+
+    fn put(&mut self, key: K, slot: u32) -> Result<(), Memory> {
+        self.pairs.push((key, slot))?;
+        Ok(())
+    }
+
+    fn after(&self, place: usize) -> Option<K> {
+        Some(self.pairs.get(place)?.0)
+    }
+}
+
+/// Whether both have the same pairs in the same order.
+fn same_order<K: Key>(index: &Index<K>, plain: &Plain<K>) -> bool {
+    if index.coldest(None) != plain.after(0) {
+        return false;
+    }
+    for (place, (key, slot)) in plain.pairs.iter().enumerate() {
+        if index.find(*key) != Some(*slot) {
+            return false;
+        }
+        if index.coldest(Some(*key)) != plain.after(place + 1) {
+            return false;
+        }
+    }
+    true
+}
+
+/// Whether both answer the same to a call that a number picks.
+fn call_both<K: Key>(
+    index: &mut Index<K>,
+    plain: &mut Plain<K>,
+    key: K,
+    pick: u32,
+) -> Result<bool, Memory> {
+    if index.find(key).is_none() {
+        if plain.find(key).is_some() {
+            return Ok(false);
+        }
+        if !index.is_full() {
+            index.put(key, pick);
+            plain.put(key, pick)?;
+        }
+        return Ok(true);
+    }
+    let slot = plain.take(key);
+    if pick % 3 == 0 {
+        return Ok(Some(index.drop_key(key)) == slot);
+    }
+    index.touch(key);
+    match slot {
+        Some(slot) => plain.put(key, slot)?,
+        None => return Ok(false),
+    }
+    Ok(true)
+}
+
+/// Whether both answer the same in a long run of calls on nine keys, of which six fit.
+fn agrees<K: Key>(alloc: Global, keys: [K; 9]) -> Result<bool, Memory> {
+    let mut index = Index::boot(alloc, 6)?;
+    let mut plain = Plain {
+        pairs: Vec::new(alloc),
+    };
+    let mut seed = 7u64;
+    for _ in 0..3000 {
+        seed = seed.wrapping_mul(6364136223846793005).wrapping_add(1);
+        let pick = (seed >> 40) as u32;
+        let key = keys[(seed >> 33) as usize % 9];
+        if !call_both(&mut index, &mut plain, key, pick)? || !same_order(&index, &plain) {
+            return Ok(false);
+        }
+    }
+    Ok(true)
+}
+
+/// A name of three bytes, told from others by its directory, its length or its last byte.
+fn named(dir: u32, len: u8, last: u8) -> NameKey {
+    let mut name = [0; 27];
+    name[0] = b'a';
+    name[26] = last;
+    NameKey { dir, len, name }
+}
+
+#[test]
+fn touched_key_is_the_warmest(rt: HostRuntime) -> Result<(), Fail> {
+    let mut index = Index::boot(rt.alloc(), 2)?;
+    index.put(5u64, 0);
+    index.put(7, 1);
+    index.touch(5);
+    assert_eq!(rt; index.coldest(None), Some(7));
+    assert_eq!(rt; index.coldest(Some(7)), Some(5));
+    assert_eq!(rt; index.coldest(Some(5)), None);
+    assert_eq!(rt; index.find(7), Some(1));
+    assert_eq!(rt; index.drop_key(7), 1);
+    assert_eq!(rt; index.find(7), None);
+    assert_eq!(rt; index.coldest(None), Some(5));
+    Ok(())
+}
+
+#[test]
+fn agrees_with_a_plain_index(rt: HostRuntime) -> Result<(), Fail> {
+    let numbers = [0u64, 1, 2, 3, 255, 256, 65536, 1 << 40, u64::MAX];
+    assert!(rt; agrees(rt.alloc(), numbers)?);
+    let names = [
+        named(1, 1, 0),
+        named(1, 1, 1),
+        named(1, 2, 0),
+        named(1, 2, 1),
+        named(2, 1, 0),
+        named(2, 1, 1),
+        named(2, 2, 255),
+        named(256, 1, 0),
+        named(u32::MAX, 27, 255),
+    ];
+    assert!(rt; agrees(rt.alloc(), names)?);
+    Ok(())
+}
