@@ -1,3 +1,4 @@
+//! The kernel heap by class: ten kinds of objects under keys of its own, their live bytes, and the purse of a call.
 #![tactic(auto)]
 
 mod kheap;
@@ -13,3 +14,6 @@ pub use objects::{
     QueueParts, Sock, SockState, Target, Vnode,
 };
 pub use purse::Purse;
+
+#[cfg(test)]
+mod tests;
