@@ -1,0 +1,3 @@
+pub mod ScriptWords
+pub mod ScriptValues
+pub mod Reading

@@ -1,0 +1,24 @@
+-- What the reader's functions give, in the reader's own shapes.
+use Rattle.std.specs.Prelude.{ℕ, ⊤, None, ◌<◌, ◌≡◌, true, List, length, ◌++◌, Option, option_map, IfSome, MatchOption, Result, Ok, Err}
+use Rattle.std.specs.Borrow.{Bor}
+use Rattle.kabi_types.specs.declared.scripts.FaultKind.{FaultKind}
+use Rattle.script_parse.specs.declared.said.Word.{Word}
+use Rattle.script_parse.specs.declared.refused.Refused.{Refused}
+use Rattle.script_parse.specs.declared.refused.Refused.TheVariants as refused
+use Rattle.script_parse.specs.ScriptWords.{Words, with_word}
+
+-- what follows is shorter than what was given
+abbrev pub IsShorter : List ℕ → Option (Option ℕ × Bor (List ℕ)) → Type 0
+IsShorter bytes said = IfSome said (λ p. length p.1.now < length bytes)
+
+-- Of a line that begins so, no words are had; or this word, and what stands before the rest of the line's words.
+abbrev pub BeginsWith : List ℕ → Option (Word × Bor (List ℕ)) → Type 0
+BeginsWith line found =
+    MatchOption found (Words line None)
+    (λ p. (length p.1.now < length line) × ((said : Option (List Word)) → Words p.1.now said → Words line (with_word p.0 said)))
+
+-- What was answered, seen by view, is so; unless memory ran out.
+abbrev pub Tells : {X Y : Type 0} → (X → Y) → Result X Refused → (Result Y FaultKind → Type 0) → Type 0
+Tells view (Ok x) is = is (Ok (view x))
+Tells view (Err (refused.Fault kind)) is = is (Err kind)
+Tells view (Err refused.Memory) is = ⊤

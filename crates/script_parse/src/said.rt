@@ -1,0 +1,71 @@
+//! What a line of a script says.
+
+use kabi_types::{Chooser, Name27, Operand, Policy, Statement, Test, Text};
+
+/// A word of a line.
+#[derive(Debug, Drop)]
+pub enum Word {
+    /// As it stands there.
+    Bare(Text),
+    /// A text that stood in quotes, with its escapes read.
+    Quoted(Text),
+}
+
+/// A statement as its line says it: a place is named by its label.
+#[derive(Debug, Drop)]
+pub enum Spoken {
+    /// A statement without a place: `set`, `add`, or a call.
+    Whole(Statement),
+    If {
+        left: Operand,
+        test: Test,
+        right: Operand,
+        label: Name27,
+    },
+    Jump(Name27),
+    Label(Name27),
+    Loop(u8, Name27),
+}
+
+/// What a line of a program says.
+#[derive(Debug, Drop)]
+pub enum InProgram {
+    Silent,
+    Says(Spoken),
+    /// The program ends.
+    Ends,
+}
+
+/// A setting of a script.
+#[derive(Debug, Drop)]
+pub enum Setting {
+    Heap(u64),
+    Disk(u32),
+    Steps(u32),
+    Victims(Policy),
+    Choosing(Chooser),
+}
+
+/// What a line outside programs says.
+#[derive(Debug, Drop)]
+pub enum AtTop {
+    Silent,
+    Sets(Setting),
+    /// A program of this name begins.
+    Begins(Name27),
+}
+
+/// The shape of a call's operands.
+#[derive(Clone, Copy, Debug, PartialEq, Eq)]
+pub enum Shape {
+    /// So many values.
+    Values(u32),
+    OnePath,
+    TwoPaths,
+    PathValue,
+    ValuePath,
+    /// A value, and the bytes of a `store`.
+    ValueBytes,
+    /// A value, and up to eight pairs of values.
+    Pairs,
+}
