@@ -1,3 +1,4 @@
 pub mod ScriptWords
 pub mod ScriptValues
+pub mod ScriptLines
 pub mod Reading

@@ -1,7 +1,8 @@
 -- What the reader's functions give, in the reader's own shapes.
-use Rattle.std.specs.Prelude.{ℕ, ⊤, None, ◌<◌, ◌≡◌, true, List, length, ◌++◌, Option, option_map, IfSome, MatchOption, Result, Ok, Err}
+use Rattle.std.specs.Prelude.{ℕ, ⊤, None, Some, ◌<◌, ◌≡◌, true, List, length, ◌++◌, Option, option_map, IfSome, MatchOption, Result, Ok, Err}
 use Rattle.std.specs.Borrow.{Bor}
 use Rattle.kabi_types.specs.declared.scripts.FaultKind.{FaultKind}
+use Rattle.script_parse.specs.ScriptValues.{least, both}
 use Rattle.script_parse.specs.declared.said.Word.{Word}
 use Rattle.script_parse.specs.declared.refused.Refused.{Refused}
 use Rattle.script_parse.specs.declared.refused.Refused.TheVariants as refused
@@ -22,3 +23,13 @@ abbrev pub Tells : {X Y : Type 0} → (X → Y) → Result X Refused → (Result
 Tells view (Ok x) is = is (Ok (view x))
 Tells view (Err (refused.Fault kind)) is = is (Err kind)
 Tells view (Err refused.Memory) is = ⊤
+
+abbrev pub least_with : Option FaultKind → FaultKind → FaultKind
+least_with None kind = kind
+least_with (Some before) kind = least before kind
+
+-- two answers, joined: whatever each of the two tells, both tell it together
+abbrev pub BothTell : {A B : Type 0} → Result A Refused → Result B Refused → Result (A × B) Refused → Type 0
+BothTell {A} {B} first second joined =
+    (a : Result A FaultKind) (b : Result B FaultKind) → Tells (λ said. said) first (λ said. said ≡ a) → Tells (λ said. said) second (λ said. said ≡ b)
+    → Tells (λ said. said) joined (λ said. said ≡ both a b)

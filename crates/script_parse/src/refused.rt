@@ -40,3 +40,14 @@ impl<T: Drop> From<std::alloc::AllocFailed<T>> for Refused {
         Refused::Memory
     }
 }
+
+impl From<FaultKind> for Refused {
+    ghost use Rattle.std.specs.Prelude.{◌≡◌};
+    ghost use Rattle.script_parse.specs.declared.refused.Refused.TheVariants as refused;
+
+    ghost from_gives = { λ kind answer. answer ≡ refused.Fault kind };
+
+    fn from(kind: FaultKind) -> Self {
+        Refused::Fault(kind)
+    }
+}
