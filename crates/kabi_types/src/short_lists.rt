@@ -143,7 +143,7 @@ impl Revents {
 }
 
 /// A name of a directory entry, a program or a label: at most 27 bytes.
-#[derive(Debug, Drop, PartialEq, Eq)]
+#[derive(Debug, Drop, PartialEq, Eq, Hash)]
 pub struct Name27 {
     bytes: ArrayVec<u8, 27>,
 }

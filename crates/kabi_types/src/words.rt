@@ -1,5 +1,5 @@
 ghost use Rattle.std.specs.Prelude.{◌≡◌};
-ghost use Rattle.kabi_types.specs.Words.{word_of, name_of};
+ghost use Rattle.kabi_types.specs.Words.{word_of, name_of, is_built};
 
 use crate::{CallKind, Errno};
 
@@ -50,6 +50,16 @@ impl CallKind {
             CallKind::Accept => "accept",
             CallKind::Shutdown => "shutdown",
             CallKind::Poll => "poll",
+        }
+    }
+
+    /// Whether the call can be run.
+    pub fn built(self) -> bool
+        ensures { result ≡ is_built self }
+    {
+        match self {
+            CallKind::Getpid | CallKind::Getppid | CallKind::SchedYield | CallKind::Exit => true,
+            _ => false,
         }
     }
 }

@@ -1,4 +1,6 @@
 pub mod Faults
 pub mod Fronts
 pub mod Joined
+pub mod Lines
 pub mod Numbers
+pub mod Placing

@@ -1,4 +1,6 @@
 pub mod ScriptWords
 pub mod ScriptValues
 pub mod ScriptLines
+pub mod ScriptPlaces
+pub mod ScriptText
 pub mod Reading

@@ -1,12 +1,19 @@
 -- What the reader's functions give, in the reader's own shapes.
 use Rattle.std.specs.Prelude.{ℕ, ⊤, None, Some, ◌<◌, ◌≡◌, true, List, length, ◌++◌, Option, option_map, IfSome, MatchOption, Result, Ok, Err}
 use Rattle.std.specs.Borrow.{Bor}
+use Rattle.std.specs.Global.{Global}
+use Rattle.std.specs.Prelude.{Vec}
 use Rattle.kabi_types.specs.declared.scripts.FaultKind.{FaultKind}
 use Rattle.script_parse.specs.ScriptValues.{least, both}
+use Rattle.kabi_types.specs.declared.scripts.ScriptFault.{ScriptFault}
+use Rattle.kabi_types.specs.declared.scripts.Statement.{Statement}
+use Rattle.script_parse.specs.declared.parse_error.ParseError.{ParseError}
+use Rattle.script_parse.specs.declared.parse_error.ParseError.TheVariants as error
 use Rattle.script_parse.specs.declared.said.Word.{Word}
 use Rattle.script_parse.specs.declared.refused.Refused.{Refused}
 use Rattle.script_parse.specs.declared.refused.Refused.TheVariants as refused
-use Rattle.script_parse.specs.ScriptWords.{Words, with_word}
+use Rattle.script_parse.specs.ScriptText.{Opened, State, step}
+use Rattle.script_parse.specs.ScriptWords.{Words, LineWords, with_word}
 
 -- what follows is shorter than what was given
 abbrev pub IsShorter : List ℕ → Option (Option ℕ × Bor (List ℕ)) → Type 0
@@ -33,3 +40,35 @@ abbrev pub BothTell : {A B : Type 0} → Result A Refused → Result B Refused �
 BothTell {A} {B} first second joined =
     (a : Result A FaultKind) (b : Result B FaultKind) → Tells (λ said. said) first (λ said. said ≡ a) → Tells (λ said. said) second (λ said. said ≡ b)
     → Tells (λ said. said) joined (λ said. said ≡ both a b)
+
+-- A reader of lines answered this, unless memory ran out.
+abbrev pub Outcome : {X Y : Type 0} → (X → Y) → Result X ParseError → (Result Y ScriptFault → Type 0) → Type 0
+Outcome view (Ok x) is = is (Ok (view x))
+Outcome view (Err (error.Bad fault)) is = is (Err fault)
+Outcome view (Err error.Memory) is = ⊤
+
+abbrev pub TellsBody : Result (Vec Statement Global) ParseError → Result (List Statement) ScriptFault → Type 0
+TellsBody result body = Outcome (λ body. body.items) result (λ said. said ≡ body)
+
+-- What was to be changed is as it says; where it is at fault, that is told.
+abbrev pub Sets : {A : Type 0} → Result (Unit {0}) FaultKind → A → Result A FaultKind → Type 0
+Sets (Ok _) new said = said ≡ Ok new
+Sets (Err kind) new said = said ≡ Err kind
+
+-- the same of a line of a text, unless memory ran out
+abbrev pub Steps : {A : Type 0} → Result (Unit {0}) ParseError → A → Result A ScriptFault → Type 0
+Steps (Ok _) new said = said ≡ Ok new
+Steps (Err (error.Bad fault)) new said = said ≡ Err fault
+Steps (Err error.Memory) new said = ⊤
+
+-- how many lines of the open program say something
+abbrev pub lines_of_opened : Option Opened → ℕ
+lines_of_opened None = 0
+lines_of_opened (Some opened) = length opened.said
+
+abbrev pub lines_in : State → ℕ
+lines_in state = lines_of_opened state.opened
+
+-- a line adds this to a state, or has this fault
+abbrev pub TakesLine : State → ℕ → List ℕ → Result State ScriptFault → Type 0
+TakesLine state line text next = (words : Result (List Word) FaultKind) × LineWords text words × (next ≡ step state line words)

@@ -1,6 +1,6 @@
 -- What a line of a script says, by its words.
 use Rattle.std.specs.Prelude.{ℕ, ◌+◌, ◌%◌, ℤ, pos, unsigned_abs, Bool, true, false, ◌==◌, nat_le, if◌then◌else◌, List, [], ◌∷◌, length, Option, None, Some, Result, Ok, Err, codes}
-use Rattle.kabi_types.specs.Words.{word_of}
+use Rattle.kabi_types.specs.Words.{word_of, is_built}
 use Rattle.kabi_types.specs.declared.calls.CallKind.{CallKind}
 use Rattle.kabi_types.specs.declared.calls.CallKind.TheVariants as kind
 use Rattle.kabi_types.specs.declared.scripts.Chooser.TheVariants.{Choices, Seed}
@@ -85,14 +85,6 @@ shape_of kind.Connect = shape.ValuePath
 shape_of kind.Accept = shape.Values 1
 shape_of kind.Shutdown = shape.Values 2
 shape_of kind.Poll = shape.Pairs
-
--- the calls that can be run
-abbrev pub is_built : CallKind → Bool
-is_built kind.Getpid = true
-is_built kind.Getppid = true
-is_built kind.SchedYield = true
-is_built kind.Exit = true
-is_built _ = false
 
 -- what a call gets: its values, and its texts
 abbrev pub CallOperands : Type 0

@@ -120,13 +120,3 @@ pub fn shape_of(kind: CallKind) -> Shape
         CallKind::Poll => Shape::Pairs,
     }
 }
-
-/// Whether the call can be run.
-pub fn is_built(kind: CallKind) -> bool
-    ensures { result ≡ spec.is_built kind }
-{
-    match kind {
-        CallKind::Getpid | CallKind::Getppid | CallKind::SchedYield | CallKind::Exit => true,
-        _ => false,
-    }
-}

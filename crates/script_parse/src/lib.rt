@@ -2,14 +2,20 @@
 #![tactic(auto)]
 
 mod calls;
+mod drafts;
 mod operands;
+mod parse_error;
+mod places;
+mod reader;
 mod refused;
 mod said;
 mod settings;
+mod state;
 mod statements;
 mod values;
 mod words;
 
+pub use reader::parse;
+pub use parse_error::ParseError;
 use refused::Refused;
-pub use said::{AtTop, InProgram, Setting, Shape, Spoken, Word};
-
+pub use said::{AtTop, InProgram, Setting, Shape, Spoken, Stated, Word};

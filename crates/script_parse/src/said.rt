@@ -1,6 +1,6 @@
 //! What a line of a script says.
 
-use kabi_types::{Chooser, Name27, Operand, Policy, Statement, Test, Text};
+use kabi_types::{Chooser, FaultKind, Name27, Operand, Policy, Statement, Test, Text};
 
 /// A word of a line.
 #[derive(Debug, Drop)]
@@ -25,6 +25,14 @@ pub enum Spoken {
     Jump(Name27),
     Label(Name27),
     Loop(u8, Name27),
+}
+
+/// A line of a program that says something, or is at fault.
+#[derive(Debug, Drop)]
+pub struct Stated {
+    /// Its number in the text, from 1.
+    pub line: u32,
+    pub said: Result<Spoken, FaultKind>,
 }
 
 /// What a line of a program says.

@@ -4,7 +4,7 @@ ghost use Rattle.std.specs.Prelude.{◌≡◌, ◌∷◌};
 ghost use Rattle.script_parse.specs.Reading.{Tells};
 ghost use Rattle.script_parse.specs.ScriptLines as spec;
 
-use crate::calls::{is_built, kind_said, shape_of};
+use crate::calls::{kind_said, shape_of};
 use crate::operands::{operand, operands_said, two_operands};
 use crate::values::{is_word, name, register};
 use crate::{InProgram, Refused, Spoken, Word};
@@ -27,7 +27,7 @@ fn call_said(
         return Err(Refused::Fault(FaultKind::UnknownWord));
     };
     let (operands, texts) = operands_said(alloc, shape_of(kind), rest)?;
-    if !is_built(kind) {
+    if !kind.built() {
         return Err(Refused::Fault(FaultKind::NotBuilt));
     }
     Ok(Spoken::Whole(Statement::Invoke {

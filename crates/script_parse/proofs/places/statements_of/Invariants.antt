@@ -1,0 +1,18 @@
+use Rattle.std.proofs.Common.{◌≡◌, ℕ, ◌+◌, ◌≤◌, List, ◌++◌, length}
+use Rattle.std.specs.Prelude.{reverse}
+use Rattle.indexmap.specs.IndexMap.{get}
+use Rattle.kabi_types.specs.contracts.short_lists.Name27PartialEq.TheImpl.{eq-value}
+use Rattle.script_parse.specs.declared.said.Stated.{Stated}
+use Rattle.script_parse.specs.ScriptPlaces.{body_from}
+use Rattle.script_parse.proofs.Placing.{told}
+use Rattle.script_parse.proofs.places.statements_of.Given as goal
+
+-- the lines behind the rest are read: they say the body, turned round, or have this fault
+abbrev pub invariant-loop-stated : goal.invariant-loop-stated
+invariant-loop-stated l =
+    (done : List Stated) × (l.fn.lines.items ≡ l.rest.items ++ done)
+    × (body_from (λ name. get eq-value.it l.places name) (length l.rest.items) done ≡ told l.fault (reverse l.body.items))
+    × (length l.rest.items ≤ 4294967295)
+
+abbrev pub decreases-loop-stated : goal.decreases-loop-stated
+decreases-loop-stated l = length l.rest.items
