@@ -1,0 +1,59 @@
+//! The charge word and its calls. None of them waits.
+ghost use Rattle.std.specs.Prelude.{◌≡◌, ◌≤◌, IfOk};
+ghost use Rattle.charge_words.specs.Names.{seat_of};
+ghost use Rattle.charge_words.specs.Rule.{Tells, opened, loaded};
+
+use crate::rule::{ChargeRule, Load};
+use crate::{ChargeSeat, ChargeView};
+use atomic_table::Table;
+use kabi_types::Memory;
+use std::alloc::Global;
+use std::marker::Model;
+
+/// What the seat of `boot` holds: a new kernel's live bytes, with the part of the heap that stays reserved.
+const BOOT_CHARGE: u64 = 2816;
+
+/// The place of the one word in the table.
+const WORD: usize = 0;
+
+/// A charge word. A clause sees which word it is, and its heap.
+#[derive(Drop)]
+pub struct Charge {
+    heap: u64,
+    table: Table<(), ChargeView, u64, ChargeRule, Global>,
+}
+
+impl Model for Charge {
+    ghost use Rattle.std.specs.Prelude.{◌≡◌};
+    ghost use Rattle.charge_words.specs.Names.{ChargeWord, word_of};
+
+    ghost Value = { ChargeWord };
+
+    ghost view = { λ c. word_of c.table.shared.table_id c.heap };
+
+    ghost invariant = { λ c. (c.table.shared.table_id.words ≡ 1) × (c.table.shared.key ≡ c.heap) };
+}
+
+impl Charge {
+    /// A charge word for a heap of so many bytes, with the seat that holds 2816 of them. No later call takes memory.
+    pub fn boot(alloc: Global, heap: u64) -> Result<(Charge, ChargeSeat), Memory>
+        requires { 2816 ≤ heap }
+        ensures { IfOk result (λ r. (r.0.heap ≡ heap) × (r.1 ≡ seat_of r.0 (opened heap))) }
+    {
+        let (table, seat) = Table::of_words(alloc, &[BOOT_CHARGE], &heap)?;
+        let seat = ChargeSeat {
+            holds: BOOT_CHARGE,
+            seat,
+        };
+        Ok((Charge { heap, table }, seat))
+    }
+
+    /// The word, in bytes. The seat's view names it.
+    pub fn charged(&self, seat: &mut ChargeSeat) -> u64
+        requires { seat.old.charge ≡ self.now }
+        ensures seat { seat.new ≡ seat_of seat.old.charge (loaded seat.old.known result) }
+        ensures word { Tells seat.old.known result }
+    {
+        self.table.shared.load::<Load>(&mut seat.seat, WORD)
+    }
+}
