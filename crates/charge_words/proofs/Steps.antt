@@ -9,7 +9,7 @@ use prog.Atomic.{either}
 use Rattle.atomic_table.specs.Table.{State, Me, step, keeps, stepped, Allows, Splits, Joins}
 use Rattle.atomic_table.proofs.Lists.{at_set, at_snoc}
 use Rattle.charge_words.specs.declared.rule.ChargeView.{ChargeView}
-use Rattle.charge_words.specs.Rule.{total, counted, in_use, as_boot, Fits, IsCharged, holding, loaded, Tells, Loads}
+use Rattle.charge_words.specs.Rule.{total, counted, in_use, as_boot, Fits, IsCharged, holding, loaded, Tells, Loads, Reserves, GivesBack}
 use Rattle.charge_words.proofs.Totals.{total_set, total_snoc, total_at_least, one_counts}
 
 abbrev Cells : Type 0
@@ -73,3 +73,45 @@ loads heap slots id me live s r _ at _ =
     let word : ℕ = slice_index s.words 0 in
     let w = loaded me.0 word in
     (w, keeps, tt, placed heap s id word me.1 me.0 w r at live refl refl live refl refl r.room, (refl, tells heap s id me.0 r at live))
+
+-- the word is the expected one, and both it and the seat get the difference more; or it is another, and is loaded
+pub reserves : (heap slots id : ℕ) (me : Mine) (old new : ℕ) → me.0.is_spent ≡ false → old ≤ new → new ≤ heap
+    → Allows (IsCharged heap) slots id me 0 (λ n. either (eqb n old) new n) (Reserves (step slots 0 old new none) me)
+reserves heap slots id me old new live more room s r _ at _ =
+    let word : ℕ = slice_index s.words 0 in
+    let told = tells heap s id me.0 r at live in
+    dite (ℕ_discrete word old)
+        (λ hit. let w = holding me.0 (me.0.holds + (new - old)) in (
+          w,
+          keeps,
+          tt,
+          subst (λ b. IsCharged heap (stepped s 0 (either b new word) id me.1 w keeps)) (sym (eq-eqb word old hit))
+              (placed heap s id new me.1 me.0 w r at live refl refl live refl (omega arith) room),
+          ((λ _. (refl, told.1)), λ not. absurd (not hit)),
+        ))
+        (λ miss. let w = loaded me.0 word in (
+          w,
+          keeps,
+          tt,
+          subst (λ b. IsCharged heap (stepped s 0 (either b new word) id me.1 w keeps)) (sym (ne_eqb word old miss))
+              (placed heap s id word me.1 me.0 w r at live refl refl live refl refl r.room),
+          ((λ hit. absurd (miss hit)), λ _. (refl, told)),
+        ))
+
+-- the word and the seat lose as much, of what the seat holds
+pub gives_back : (heap slots id : ℕ) (me : Mine) (k : ℕ) → me.0.is_spent ≡ false → k ≤ me.0.holds
+    → Allows (IsCharged heap) slots id me 0 (λ n. (n + (2 ^ 64 - k)) % 2 ^ 64) (GivesBack (step slots 0 k 0 none) me)
+gives_back heap slots id me k live held s r _ at small =
+    let word : ℕ = slice_index s.words 0 in
+    let told = tells heap s id me.0 r at live in
+    let part = told.1 in
+    let room = r.room in
+    let fits : word < 18446744073709551616 = small in
+    let w = holding me.0 (me.0.holds - k) in
+    let less : word - k ≡ (word + (2 ^ 64 - k)) % 2 ^ 64 = omega arith in (
+      w,
+      keeps,
+      tt,
+      subst (λ (n : ℕ). IsCharged heap (stepped s 0 n id me.1 w keeps)) less (placed heap s id (word - k) me.1 me.0 w r at live refl refl live refl (omega arith) (omega arith)),
+      (refl, told.1),
+    )

@@ -77,7 +77,7 @@ Loads step before found after = (after ≡ (loaded before.0 found, before.1)) ×
 abbrev pub Reserves : Step (Unit {0}) → Mine → ℕ → Mine → Type 0
 Reserves step before found after =
     (found ≡ step.first → (after ≡ (holding before.0 (before.0.holds + (step.second - step.first)), before.1)) × (before.0.holds ≤ found))
-    × (found ≢ step.first → after ≡ (loaded before.0 found, before.1))
+    × (found ≢ step.first → (after ≡ (loaded before.0 found, before.1)) × Tells before.0 found)
 
 abbrev pub GivesBack : Step (Unit {0}) → Mine → ℕ → Mine → Type 0
 GivesBack step before found after = (after ≡ (holding before.0 (before.0.holds - step.first), before.1)) × (before.0.holds ≤ found)

@@ -1,10 +1,11 @@
 //! The charge word and its calls. None of them waits.
-ghost use Rattle.std.specs.Prelude.{◌≡◌, ◌≤◌, IfOk};
+ghost use Rattle.std.specs.Prelude.{◌≡◌, ◌≤◌, ◌-◌, IfOk};
 ghost use Rattle.charge_words.specs.Names.{seat_of};
-ghost use Rattle.charge_words.specs.Rule.{Tells, opened, loaded};
+ghost use Rattle.charge_words.specs.Rule.{Tells, opened, fresh, holding, loaded, taken_in, with_one_more};
+ghost use Rattle.charge_words.specs.Answers.{Answers};
 
-use crate::rule::{ChargeRule, Load};
-use crate::{ChargeSeat, ChargeView};
+use crate::rule::{ChargeRule, GiveBack, Load, NewSeat, Reserve, TakeIn};
+use crate::{ChargeSeat, ChargeView, Reserved};
 use atomic_table::Table;
 use kabi_types::Memory;
 use std::alloc::Global;
@@ -46,6 +47,45 @@ impl Charge {
             seat,
         };
         Ok((Charge { heap, table }, seat))
+    }
+
+    /// Loads the word, and adds `n` bytes to it and to what the seat holds where there is room: Short where there is none,
+    /// and Raced where another seat changed the word in between. Each word that it found is named in the seat's view.
+    pub fn try_reserve(&self, seat: &mut ChargeSeat, n: u64) -> Reserved
+        requires { seat.old.charge ≡ self.now }
+        ensures charge { seat.new.charge ≡ seat.old.charge }
+        ensures answer { Answers self.now.heap n seat.old.known result seat.new.known }
+    {
+        let charged = self.table.shared.load::<Load>(&mut seat.seat, WORD);
+        if n > self.heap - charged {
+            return Reserved::Short { charged };
+        }
+        let found = self.table.shared.compare_exchange::<Reserve>(
+            &mut seat.seat,
+            WORD,
+            charged,
+            charged + n,
+        );
+        if found != charged {
+            return Reserved::Raced {
+                loaded: charged,
+                found,
+            };
+        }
+        seat.holds += n;
+        Reserved::Granted
+    }
+
+    /// Takes `n` bytes from the word and from what the seat holds, which is at least that.
+    pub fn give_back(&self, seat: &mut ChargeSeat, n: u64)
+        requires charge { seat.old.charge ≡ self.now }
+        requires held { n ≤ seat.old.known.holds }
+        ensures { seat.new ≡ seat_of seat.old.charge (holding seat.old.known (seat.old.known.holds - n)) }
+    {
+        self.table
+            .shared
+            .fetch_sub::<GiveBack>(&mut seat.seat, WORD, n);
+        seat.holds -= n;
     }
 
     /// The word, in bytes. The seat's view names it.
