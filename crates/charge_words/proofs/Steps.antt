@@ -1,15 +1,15 @@
 -- Each kind of step keeps the charge rule.
-use Rattle.std.proofs.Common.{◌≡◌, ◌≢◌, ◌⊎◌, ℕ, zero, suc, ◌+◌, ◌-◌, ◌%◌, ◌^◌, ◌<◌, ◌≤◌, Bool, true, false, cond, eqb, List, [], ◌∷◌, ◌++◌, length, set, get_or, refl, sym, ap, ◌∙◌, subst, ⊎_elim, arith, length-set, get_or-set_same, eq-eqb, ne_eqb}
+use Rattle.std.proofs.Common.{◌≡◌, ◌≢◌, ◌⊎◌, ℕ, zero, suc, ◌+◌, ◌-◌, ◌%◌, ◌^◌, ◌<◌, ◌≤◌, Bool, true, false, true≢false, cond, eqb, List, [], ◌∷◌, ◌++◌, length, set, get_or, refl, sym, ap, ◌∙◌, subst, ⊎_elim, arith, length-set, get_or-set_same, eq-eqb, ne_eqb}
 use Rattle.std.specs.Prelude.{slice_index}
 use mathlib.Core.Logic.{dite}
-use mathlib.Core.Option.{none, some}
+use mathlib.Core.Option.{none, some, some-ne-none}
 use native.Mathlib.Decide.{ℕ_discrete}
 use lib.ListN.{get_elem?}
 use prog.Atomic.{either}
 use Rattle.atomic_table.specs.Table.{State, Me, step, keeps, stepped, Allows, Splits, Joins}
-use Rattle.atomic_table.proofs.Lists.{at_set, at_snoc}
+use Rattle.atomic_table.proofs.Lists.{at_set, at_snoc, set_else, set_here}
 use Rattle.charge_words.specs.declared.rule.ChargeView.{ChargeView}
-use Rattle.charge_words.specs.Rule.{total, counted, in_use, as_boot, Fits, IsCharged, holding, loaded, Tells, Loads, Reserves, GivesBack}
+use Rattle.charge_words.specs.Rule.{total, counted, in_use, as_boot, Fits, IsCharged, holding, loaded, Tells, Loads, Reserves, GivesBack, with_one_more, newcomer, taken_in, spent}
 use Rattle.charge_words.proofs.Totals.{total_set, total_snoc, total_at_least, one_counts}
 
 abbrev Cells : Type 0
@@ -42,7 +42,7 @@ placed heap s id n c v w r at live same_heap same_boot live' same_others moved r
     let counted_after = after.0 in
     let same : total in_use (set s.views id w) ≡ total in_use s.views = omega arith in
     let mine : Fits heap (total in_use (set s.views id w)) w = (
-      same_heap ∙ here.0,
+      λ _. same_heap ∙ here.0 live,
       λ is. let known = here.1 (sym same_boot ∙ is) in (live', (ap (λ (k : ℕ). k + 1) same_others ∙ known.1 ∙ sym same)),
     ) in
     record {
@@ -63,7 +63,7 @@ tells heap s id v r at live =
     let part = total_at_least counted s.views id v at in
     let sum = r.sum in
     let counts = mine.0 in (
-      subst (λ (k : ℕ). slice_index s.words 0 ≤ k) (sym here.0) r.room,
+      subst (λ (k : ℕ). slice_index s.words 0 ≤ k) (sym (here.0 live)) r.room,
       omega arith,
       λ is alone. let known = (here.1 is).1 in r.sum ∙ one_counts s.views id v at mine.1 (omega arith) ∙ mine.0,
     )
@@ -87,7 +87,7 @@ reserves heap slots id me old new live more room s r _ at _ =
           tt,
           subst (λ b. IsCharged heap (stepped s 0 (either b new word) id me.1 w keeps)) (sym (eq-eqb word old hit))
               (placed heap s id new me.1 me.0 w r at live refl refl live refl (omega arith) room),
-          ((λ _. (refl, told.1)), λ not. absurd (not hit)),
+          ((λ _. (refl, told)), λ not. absurd (not hit)),
         ))
         (λ miss. let w = loaded me.0 word in (
           w,
@@ -113,5 +113,96 @@ gives_back heap slots id me k live held s r _ at small =
       keeps,
       tt,
       subst (λ (n : ℕ). IsCharged heap (stepped s 0 n id me.1 w keeps)) less (placed heap s id (word - k) me.1 me.0 w r at live refl refl live refl (omega arith) (omega arith)),
-      (refl, told.1),
+      (refl, told),
     )
+
+there_is : (views : List ChargeView) (i : ℕ) (v : ChargeView) → get_elem? views i ≡ some v → i < length views
+there_is [] i v e = absurd (some-ne-none v (sym e))
+there_is (x ∷ xs) zero v e = omega arith
+there_is (x ∷ xs) (suc i) v e = let r = there_is xs i v e in omega arith
+
+not_true : (b : Bool) → (b ≡ true → ⊥) → b ≡ false
+not_true true n = absurd (n refl)
+not_true false n = refl
+
+-- no other view than that of `boot` is one
+only_boot : (views : List ChargeView) (id by : ℕ) (v u : ChargeView) → total as_boot views ≡ 1 → get_elem? views id ≡ some v → v.is_boot ≡ true → by ≢ id → get_elem? views by ≡ some u → u.is_boot ≡ false
+only_boot views id by v u one at boot apart there = not_true u.is_boot
+    (λ also. let without = total_set as_boot views id v spent at in
+    let mine : as_boot v ≡ 1 = ap (λ (b : Bool). cond b 1 0) boot in
+    let theirs : as_boot u ≡ 1 = ap (λ (b : Bool). cond b 1 0) also in
+    let part = total_at_least as_boot (set views id spent) by u (set_else views id by spent apart ∙ there) in
+    omega arith)
+
+-- a view that isn't of `boot` says nothing of the number of seats
+any_seats : (heap seats others : ℕ) (u : ChargeView) → u.is_boot ≡ false → Fits heap seats u → Fits heap others u
+any_seats heap seats others u not fits = (fits.0, λ is. absurd (true≢false (sym is ∙ not)))
+
+pub splits : (heap id : ℕ) (v : ChargeView) → v.is_spent ≡ false → v.is_boot ≡ true → Splits (IsCharged heap) id v (with_one_more v) (newcomer v)
+splits heap id v live boot s r at =
+    let left = with_one_more v in
+    let right = newcomer v in
+    let views = set s.views id left in
+    let grown : (f : ChargeView → ℕ) → f left ≡ f v → total f (views ++ right ∷ []) ≡ total f s.views + f right =
+        λ f same. let a = total_snoc f views right in let b = total_set f s.views id v left at in omega arith in
+    let here = r.each id v at in
+    let seats : total in_use (views ++ right ∷ []) ≡ total in_use s.views + 1 = grown in_use refl in
+    let mine : Fits heap (total in_use (views ++ right ∷ [])) left = (here.0, λ is. (live, let known = (here.1 is).1 in omega arith)) in
+    record {
+      one_word = r.one_word;
+      sum = let a = grown counted refl in let b = r.sum in omega arith;
+      room = r.room;
+      one_boot = let a = grown as_boot refl in let b = r.one_boot in omega arith;
+      each = λ by u e. ⊎_elim
+          (λ (was : get_elem? views by ≡ some u). ⊎_elim
+              (λ (x : (by ≡ id) × (left ≡ u)). subst (Fits heap (total in_use (views ++ right ∷ []))) x.1 mine)
+              (λ (x : (by ≢ id) × (get_elem? s.views by ≡ some u)). any_seats heap (total in_use s.views) (total in_use (views ++ right ∷ [])) u (only_boot s.views id by v u r.one_boot at boot x.0 x.1) (r.each by u x.1))
+              (at_set s.views id by left u was))
+          (λ (new : right ≡ u). subst (Fits heap (total in_use (views ++ right ∷ []))) new ((λ _. here.0 live), (λ is. absurd (true≢false (sym is)))))
+          (at_snoc views right u by e);
+    }
+
+pub joins : (heap id : ℕ) (v : ChargeView) (other : ℕ) (u : ChargeView) → v.is_spent ≡ false → v.is_boot ≡ true → u.is_spent ≡ false → Joins (IsCharged heap) id v other u (taken_in v u) spent
+joins heap id v other u live boot live' s r at apart there =
+    let both = taken_in v u in
+    let views = set s.views id both in
+    let final = set views other spent in
+    let was : get_elem? s.views other ≡ some u = sym (set_else s.views id other both apart) ∙ there in
+    let here = r.each id v at in
+    let mine = unspent v live in
+    let theirs = unspent u live' in
+    let ours = unspent both live in
+    let mine_in_use = mine.1 in
+    let theirs_in_use = theirs.1 in
+    let ours_in_use = ours.1 in
+    let mine_counts = mine.0 in
+    let theirs_count = theirs.0 in
+    let ours_count = ours.0 in
+    let a = total_set in_use s.views id v both at in
+    let b = total_set in_use views other u spent there in
+    let seats : total in_use final + 1 ≡ total in_use s.views = omega arith in
+    let stays : get_elem? final id ≡ some both = set_else views other id spent (λ e. apart (sym e)) ∙ set_here s.views id both (there_is s.views id v at) in
+    let some_left = total_at_least in_use final id both stays in
+    let fits : Fits heap (total in_use final) both = (here.0, λ is. (live, let known = (here.1 is).1 in omega arith)) in
+    record {
+      one_word = r.one_word;
+      sum =
+        let c = total_set counted s.views id v both at in
+        let d = total_set counted views other u spent there in
+        let e = r.sum in
+        omega arith;
+      room = r.room;
+      one_boot =
+        let c = total_set as_boot s.views id v both at in
+        let d = total_set as_boot views other u spent there in
+        let e = r.one_boot in
+        let not : as_boot u ≡ 0 = ap (λ (b : Bool). cond b 1 0) (only_boot s.views id other v u r.one_boot at boot apart was) in
+        omega arith;
+      each = λ by w e. ⊎_elim
+          (λ (x : (by ≡ other) × (spent ≡ w)). subst (Fits heap (total in_use final)) x.1 ((λ no. absurd (true≢false no)), (λ is. absurd (true≢false (sym is)))))
+          (λ (x : (by ≢ other) × (get_elem? views by ≡ some w)). ⊎_elim
+              (λ (y : (by ≡ id) × (both ≡ w)). subst (Fits heap (total in_use final)) y.1 fits)
+              (λ (y : (by ≢ id) × (get_elem? s.views by ≡ some w)). any_seats heap (total in_use s.views) (total in_use final) w (only_boot s.views id by v w r.one_boot at boot y.0 y.1) (r.each by w y.1))
+              (at_set s.views id by both w x.1))
+          (at_set views other by spent w e);
+    }

@@ -20,9 +20,9 @@ in_use v = cond v.is_spent 0 1
 abbrev pub as_boot : ChargeView → ℕ
 as_boot v = cond v.is_boot 1 0
 
--- a view names the heap, and that of `boot` the number of the other views that aren't spent
+-- a view that isn't spent names the heap, and that of `boot` has the number of the other views that aren't spent
 abbrev pub Fits : ℕ → ℕ → ChargeView → Type 0
-Fits heap seats v = (v.heap ≡ heap) × (v.is_boot ≡ true → (v.is_spent ≡ false) × (v.others + 1 ≡ seats))
+Fits heap seats v = (v.is_spent ≡ false → v.heap ≡ heap) × (v.is_boot ≡ true → (v.is_spent ≡ false) × (v.others + 1 ≡ seats))
 
 -- The rule: the word is the sum of what all views hold, and it is at most the heap.
 pub record IsCharged (heap : ℕ) (s : State (Unit {0}) ChargeView) : Type 0 where
@@ -76,8 +76,8 @@ Loads step before found after = (after ≡ (loaded before.0 found, before.1)) ×
 -- the word was the expected one, and the seat holds what was added; or it was another, and is loaded
 abbrev pub Reserves : Step (Unit {0}) → Mine → ℕ → Mine → Type 0
 Reserves step before found after =
-    (found ≡ step.first → (after ≡ (holding before.0 (before.0.holds + (step.second - step.first)), before.1)) × (before.0.holds ≤ found))
+    (found ≡ step.first → (after ≡ (holding before.0 (before.0.holds + (step.second - step.first)), before.1)) × Tells before.0 found)
     × (found ≢ step.first → (after ≡ (loaded before.0 found, before.1)) × Tells before.0 found)
 
 abbrev pub GivesBack : Step (Unit {0}) → Mine → ℕ → Mine → Type 0
-GivesBack step before found after = (after ≡ (holding before.0 (before.0.holds - step.first), before.1)) × (before.0.holds ≤ found)
+GivesBack step before found after = (after ≡ (holding before.0 (before.0.holds - step.first), before.1)) × Tells before.0 found

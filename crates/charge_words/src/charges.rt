@@ -1,5 +1,5 @@
 //! The charge word and its calls. None of them waits.
-ghost use Rattle.std.specs.Prelude.{◌≡◌, ◌≤◌, ◌-◌, IfOk};
+ghost use Rattle.std.specs.Prelude.{◌≡◌, ◌<◌, ◌≤◌, ◌+◌, ◌-◌, ◌^◌, true, IfOk};
 ghost use Rattle.charge_words.specs.Names.{seat_of};
 ghost use Rattle.charge_words.specs.Rule.{Tells, opened, fresh, holding, loaded, taken_in, with_one_more};
 ghost use Rattle.charge_words.specs.Answers.{Answers};
@@ -80,12 +80,57 @@ impl Charge {
     pub fn give_back(&self, seat: &mut ChargeSeat, n: u64)
         requires charge { seat.old.charge ≡ self.now }
         requires held { n ≤ seat.old.known.holds }
-        ensures { seat.new ≡ seat_of seat.old.charge (holding seat.old.known (seat.old.known.holds - n)) }
+        ensures seat { seat.new ≡ seat_of seat.old.charge (holding seat.old.known (seat.old.known.holds - n)) }
+        ensures room { (seat.old.known.holds ≤ self.now.heap) × (seat.old.known.holds < 2 ^ 64) }
     {
         self.table
             .shared
             .fetch_sub::<GiveBack>(&mut seat.seat, WORD, n);
         seat.holds -= n;
+    }
+
+    /// A new seat, which holds 0. Only the seat of `boot` makes one.
+    pub fn split(&self, seat: &mut ChargeSeat) -> ChargeSeat
+        requires charge { seat.old.charge ≡ self.now }
+        requires boot { seat.old.known.is_boot ≡ true }
+        ensures seat { seat.new ≡ seat_of seat.old.charge (with_one_more seat.old.known) }
+        ensures new { result ≡ seat_of self.now (fresh self.now.heap) }
+    {
+        let new = self.table.shared.split_seat::<NewSeat>(&mut seat.seat);
+        ChargeSeat {
+            holds: 0,
+            seat: new,
+        }
+    }
+
+    /// The seat of `boot` takes in what another seat holds, which is gone then. The word stays.
+    pub fn join(&self, from: ChargeSeat, into: &mut ChargeSeat)
+        requires charge { (from.charge ≡ self.now) × (into.old.charge ≡ self.now) }
+        requires boot { into.old.known.is_boot ≡ true }
+        ensures { into.new ≡ seat_of into.old.charge (taken_in into.old.known from.known) }
+    {
+        let ChargeSeat { holds, seat } = from;
+        self.table
+            .shared
+            .join_seat::<TakeIn>(&mut into.seat, seat);
+        into.holds = into.holds.wrapping_add(holds);
+    }
+
+    /// The seat of `boot` takes in what another seat holds and keeps `kept` bytes, at most what both hold. The word gets
+    /// the rest back. The answer is a seat that holds 0, in place of the one that was handed in.
+    pub fn settle(&self, from: ChargeSeat, into: &mut ChargeSeat, kept: u64) -> ChargeSeat
+        requires charge { (from.charge ≡ self.now) × (into.old.charge ≡ self.now) }
+        requires boot { into.old.known.is_boot ≡ true }
+        requires kept { kept ≤ into.old.known.holds + from.known.holds }
+        ensures into { into.new ≡ seat_of into.old.charge (holding into.old.known kept) }
+        ensures new { result ≡ seat_of self.now (fresh self.now.heap) }
+        ensures room { into.old.known.holds + from.known.holds ≤ self.now.heap }
+    {
+        let new = self.split(into);
+        self.join(from, into);
+        let rest = into.holds.wrapping_sub(kept);
+        self.give_back(into, rest);
+        new
     }
 
     /// The word, in bytes. The seat's view names it.
