@@ -5,6 +5,7 @@
 #![tactic(auto)]
 
 mod charges;
+mod crossing;
 mod reserved;
 mod rule;
 mod seats;
@@ -12,6 +13,7 @@ mod seats;
 mod tests;
 
 pub use charges::Charge;
+pub use crossing::crosses_threads;
 pub use reserved::Reserved;
 pub use rule::ChargeView;
 pub use seats::ChargeSeat;
