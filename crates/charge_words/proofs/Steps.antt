@@ -1,5 +1,5 @@
 -- Each kind of step keeps the charge rule.
-use Rattle.std.proofs.Common.{◌≡◌, ◌≢◌, ◌⊎◌, ℕ, zero, suc, ◌+◌, ◌-◌, ◌%◌, ◌^◌, ◌<◌, ◌≤◌, Bool, true, false, true≢false, cond, eqb, List, [], ◌∷◌, ◌++◌, length, set, get_or, refl, sym, ap, ◌∙◌, subst, ⊎_elim, arith, length-set, get_or-set_same, eq-eqb, ne_eqb}
+use Rattle.std.proofs.Common.{◌≡◌, ◌≢◌, ℕ, zero, suc, ◌+◌, ◌-◌, ◌%◌, ◌^◌, ◌<◌, ◌≤◌, Bool, true, false, true≢false, cond, eqb, List, [], ◌∷◌, ◌++◌, length, set, get_or, refl, sym, ap, ◌∙◌, subst, ⊎_elim, arith, length-set, get_or-set_same, eq-eqb, ne_eqb}
 use Rattle.std.specs.Prelude.{slice_index}
 use mathlib.Core.Logic.{dite}
 use mathlib.Core.Option.{none, some, some-ne-none}
@@ -81,22 +81,22 @@ reserves heap slots id me old new live more room s r _ at _ =
     let word : ℕ = slice_index s.words 0 in
     let told = tells heap s id me.0 r at live in
     dite (ℕ_discrete word old)
-        (λ hit. let w = holding me.0 (me.0.holds + (new - old)) in (
-          w,
-          keeps,
-          tt,
-          subst (λ b. IsCharged heap (stepped s 0 (either b new word) id me.1 w keeps)) (sym (eq-eqb word old hit))
-              (placed heap s id new me.1 me.0 w r at live refl refl live refl (omega arith) room),
-          ((λ _. (refl, told)), λ not. absurd (not hit)),
-        ))
-        (λ miss. let w = loaded me.0 word in (
-          w,
-          keeps,
-          tt,
-          subst (λ b. IsCharged heap (stepped s 0 (either b new word) id me.1 w keeps)) (sym (ne_eqb word old miss))
-              (placed heap s id word me.1 me.0 w r at live refl refl live refl refl r.room),
-          ((λ hit. absurd (miss hit)), λ _. (refl, told)),
-        ))
+    (λ hit. let w = holding me.0 (me.0.holds + (new - old)) in (
+      w,
+      keeps,
+      tt,
+      subst (λ b. IsCharged heap (stepped s 0 (either b new word) id me.1 w keeps)) (sym (eq-eqb word old hit))
+          (placed heap s id new me.1 me.0 w r at live refl refl live refl (omega arith) room),
+      ((λ _. (refl, told)), λ not. absurd (not hit)),
+    ))
+    (λ miss. let w = loaded me.0 word in (
+      w,
+      keeps,
+      tt,
+      subst (λ b. IsCharged heap (stepped s 0 (either b new word) id me.1 w keeps)) (sym (ne_eqb word old miss))
+          (placed heap s id word me.1 me.0 w r at live refl refl live refl refl r.room),
+      ((λ hit. absurd (miss hit)), λ _. (refl, told)),
+    ))
 
 -- the word and the seat lose as much, of what the seat holds
 pub gives_back : (heap slots id : ℕ) (me : Mine) (k : ℕ) → me.0.is_spent ≡ false → k ≤ me.0.holds
@@ -144,7 +144,7 @@ splits heap id v live boot s r at =
     let right = newcomer v in
     let views = set s.views id left in
     let grown : (f : ChargeView → ℕ) → f left ≡ f v → total f (views ++ right ∷ []) ≡ total f s.views + f right =
-        λ f same. let a = total_snoc f views right in let b = total_set f s.views id v left at in omega arith in
+    λ f same. let a = total_snoc f views right in let b = total_set f s.views id v left at in omega arith in
     let here = r.each id v at in
     let seats : total in_use (views ++ right ∷ []) ≡ total in_use s.views + 1 = grown in_use refl in
     let mine : Fits heap (total in_use (views ++ right ∷ [])) left = (here.0, λ is. (live, let known = (here.1 is).1 in omega arith)) in
@@ -155,9 +155,9 @@ splits heap id v live boot s r at =
       one_boot = let a = grown as_boot refl in let b = r.one_boot in omega arith;
       each = λ by u e. ⊎_elim
           (λ (was : get_elem? views by ≡ some u). ⊎_elim
-              (λ (x : (by ≡ id) × (left ≡ u)). subst (Fits heap (total in_use (views ++ right ∷ []))) x.1 mine)
-              (λ (x : (by ≢ id) × (get_elem? s.views by ≡ some u)). any_seats heap (total in_use s.views) (total in_use (views ++ right ∷ [])) u (only_boot s.views id by v u r.one_boot at boot x.0 x.1) (r.each by u x.1))
-              (at_set s.views id by left u was))
+          (λ (x : (by ≡ id) × (left ≡ u)). subst (Fits heap (total in_use (views ++ right ∷ []))) x.1 mine)
+          (λ (x : (by ≢ id) × (get_elem? s.views by ≡ some u)). any_seats heap (total in_use s.views) (total in_use (views ++ right ∷ [])) u (only_boot s.views id by v u r.one_boot at boot x.0 x.1) (r.each by u x.1))
+          (at_set s.views id by left u was))
           (λ (new : right ≡ u). subst (Fits heap (total in_use (views ++ right ∷ []))) new ((λ _. here.0 live), (λ is. absurd (true≢false (sym is)))))
           (at_snoc views right u by e);
     }
@@ -187,22 +187,22 @@ joins heap id v other u live boot live' s r at apart there =
     record {
       one_word = r.one_word;
       sum =
-        let c = total_set counted s.views id v both at in
-        let d = total_set counted views other u spent there in
-        let e = r.sum in
-        omega arith;
+          let c = total_set counted s.views id v both at in
+          let d = total_set counted views other u spent there in
+          let e = r.sum in
+          omega arith;
       room = r.room;
       one_boot =
-        let c = total_set as_boot s.views id v both at in
-        let d = total_set as_boot views other u spent there in
-        let e = r.one_boot in
-        let not : as_boot u ≡ 0 = ap (λ (b : Bool). cond b 1 0) (only_boot s.views id other v u r.one_boot at boot apart was) in
-        omega arith;
+          let c = total_set as_boot s.views id v both at in
+          let d = total_set as_boot views other u spent there in
+          let e = r.one_boot in
+          let not : as_boot u ≡ 0 = ap (λ (b : Bool). cond b 1 0) (only_boot s.views id other v u r.one_boot at boot apart was) in
+          omega arith;
       each = λ by w e. ⊎_elim
           (λ (x : (by ≡ other) × (spent ≡ w)). subst (Fits heap (total in_use final)) x.1 ((λ no. absurd (true≢false no)), (λ is. absurd (true≢false (sym is)))))
           (λ (x : (by ≢ other) × (get_elem? views by ≡ some w)). ⊎_elim
-              (λ (y : (by ≡ id) × (both ≡ w)). subst (Fits heap (total in_use final)) y.1 fits)
-              (λ (y : (by ≢ id) × (get_elem? s.views by ≡ some w)). any_seats heap (total in_use s.views) (total in_use final) w (only_boot s.views id by v w r.one_boot at boot y.0 y.1) (r.each by w y.1))
-              (at_set s.views id by both w x.1))
+          (λ (y : (by ≡ id) × (both ≡ w)). subst (Fits heap (total in_use final)) y.1 fits)
+          (λ (y : (by ≢ id) × (get_elem? s.views by ≡ some w)). any_seats heap (total in_use s.views) (total in_use final) w (only_boot s.views id by v w r.one_boot at boot y.0 y.1) (r.each by w y.1))
+          (at_set s.views id by both w x.1))
           (at_set views other by spent w e);
     }

@@ -60,12 +60,10 @@ impl Charge {
         if n > self.heap - charged {
             return Reserved::Short { charged };
         }
-        let found = self.table.shared.compare_exchange::<Reserve>(
-            &mut seat.seat,
-            WORD,
-            charged,
-            charged + n,
-        );
+        let found = self
+            .table
+            .shared
+            .compare_exchange::<Reserve>(&mut seat.seat, WORD, charged, charged + n);
         if found != charged {
             return Reserved::Raced {
                 loaded: charged,
@@ -110,9 +108,7 @@ impl Charge {
         ensures { into.new ≡ seat_of into.old.charge (taken_in into.old.known from.known) }
     {
         let ChargeSeat { holds, seat } = from;
-        self.table
-            .shared
-            .join_seat::<TakeIn>(&mut into.seat, seat);
+        self.table.shared.join_seat::<TakeIn>(&mut into.seat, seat);
         into.holds = into.holds.wrapping_add(holds);
     }
 

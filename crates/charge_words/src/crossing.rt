@@ -7,5 +7,4 @@ ghost use Rattle.charge_words.specs.contracts.seats.ChargeSeat.{the_row as seat_
 pub fn crosses_threads()
     ensures charge { IsSend charge_row × IsSync charge_row }
     ensures seat { IsSend seat_row }
-{
-}
+{}

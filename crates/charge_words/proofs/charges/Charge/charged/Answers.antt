@@ -1,4 +1,4 @@
-use Rattle.std.proofs.Common.{rules, ◌≡◌, ap, sym, ◌∙◌}
+use Rattle.std.proofs.Common.{rules}
 use Rattle.charge_words.proofs.Steps.{loads}
 use Rattle.charge_words.proofs.charges.Charge.charged.Goals as goal
 

@@ -1,5 +1,4 @@
-use Rattle.std.proofs.Common.{rules, ◌≡◌, ℕ, ◌+◌, ◌≤◌, Bool, false, ap, sym, ◌∙◌, subst, arith}
-use Rattle.charge_words.specs.declared.rule.ChargeView.{ChargeView}
+use Rattle.std.proofs.Common.{rules}
 use Rattle.charge_words.proofs.Steps.{loads, reserves}
 use Rattle.charge_words.proofs.charges.Charge.try_reserve.Goals as goal
 
