@@ -3,7 +3,7 @@ use Rattle.charge_words.proofs.Steps.{loads, reserves}
 use Rattle.charge_words.proofs.charges.Charge.try_reserve.Goals as goal
 
 pub load-charged-requires : goal.load-charged-requires
-load-charged-requires c = (search rules, search rules, loads _ _ _ _ c.seat.invariant.1)
+load-charged-requires c = (search rules, search rules, loads _ _ _ _ (search rules))
 
 pub compare_exchange-found-requires : goal.compare_exchange-found-requires
 compare_exchange-found-requires c = (
