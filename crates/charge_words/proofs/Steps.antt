@@ -6,17 +6,11 @@ use mathlib.Core.Option.{none, some, some-ne-none}
 use native.Mathlib.Decide.{ℕ_discrete}
 use lib.ListN.{get_elem?}
 use prog.Atomic.{either}
-use Rattle.atomic_table.specs.Table.{State, Me, step, keeps, stepped, Allows, Splits, Joins}
+use Rattle.atomic_table.specs.Table.{step, keeps, stepped, Allows, Splits, Joins}
 use Rattle.atomic_table.proofs.Lists.{at_set, at_snoc, set_else, set_here}
 use Rattle.charge_words.specs.declared.rule.ChargeView.{ChargeView}
-use Rattle.charge_words.specs.Rule.{total, counted, in_use, as_boot, Fits, IsCharged, holding, loaded, Tells, Loads, Reserves, GivesBack, with_one_more, newcomer, taken_in, spent}
+use Rattle.charge_words.specs.Rule.{Cells, Mine, total, counted, in_use, as_boot, IsViewOf, IsCharged, holding, loaded, Tells, Loads, Reserves, GivesBack, with_one_more, newcomer, taken_in, spent}
 use Rattle.charge_words.proofs.Totals.{total_set, total_snoc, total_at_least, one_counts}
-
-abbrev Cells : Type 0
-Cells = State (Unit {0}) ChargeView
-
-abbrev Mine : Type 0
-Mine = Me (Unit {0}) ChargeView
 
 unspent : (v : ChargeView) → v.is_spent ≡ false → (counted v ≡ v.holds) × (in_use v ≡ 1)
 unspent v e = (ap (λ (b : Bool). cond b 0 v.holds) e, ap (λ (b : Bool). cond b 0 1) e)
@@ -41,7 +35,7 @@ placed heap s id n c v w r at live same_heap same_boot live' same_others moved r
     let counted_before = before.0 in
     let counted_after = after.0 in
     let same : total in_use (set s.views id w) ≡ total in_use s.views = omega arith in
-    let mine : Fits heap (total in_use (set s.views id w)) w = (
+    let mine : IsViewOf heap (total in_use (set s.views id w)) w = (
       λ _. same_heap ∙ here.0 live,
       λ is. let known = here.1 (sym same_boot ∙ is) in (live', (ap (λ (k : ℕ). k + 1) same_others ∙ known.1 ∙ sym same)),
     ) in
@@ -51,8 +45,8 @@ placed heap s id n c v w r at live same_heap same_boot live' same_others moved r
       room = subst (λ (k : ℕ). k ≤ heap) (sym word) room;
       one_boot = omega arith;
       each = λ by u e. ⊎_elim
-          (λ (x : (by ≡ id) × (w ≡ u)). subst (Fits heap (total in_use (set s.views id w))) x.1 mine)
-          (λ (x : (by ≢ id) × (get_elem? s.views by ≡ some u)). subst (λ (k : ℕ). Fits heap k u) (sym same) (r.each by u x.1))
+          (λ (x : (by ≡ id) × (w ≡ u)). subst (IsViewOf heap (total in_use (set s.views id w))) x.1 mine)
+          (λ (x : (by ≢ id) × (get_elem? s.views by ≡ some u)). subst (λ (k : ℕ). IsViewOf heap k u) (sym same) (r.each by u x.1))
           (at_set s.views id by w u e);
     }
 
@@ -135,7 +129,7 @@ only_boot views id by v u one at boot apart there = not_true u.is_boot
     omega arith)
 
 -- a view that isn't of `boot` says nothing of the number of seats
-any_seats : (heap seats others : ℕ) (u : ChargeView) → u.is_boot ≡ false → Fits heap seats u → Fits heap others u
+any_seats : (heap seats others : ℕ) (u : ChargeView) → u.is_boot ≡ false → IsViewOf heap seats u → IsViewOf heap others u
 any_seats heap seats others u not fits = (fits.0, λ is. absurd (true≢false (sym is ∙ not)))
 
 pub splits : (heap id : ℕ) (v : ChargeView) → v.is_spent ≡ false → v.is_boot ≡ true → Splits (IsCharged heap) id v (with_one_more v) (newcomer v)
@@ -147,7 +141,7 @@ splits heap id v live boot s r at =
     λ f same. let a = total_snoc f views right in let b = total_set f s.views id v left at in omega arith in
     let here = r.each id v at in
     let seats : total in_use (views ++ right ∷ []) ≡ total in_use s.views + 1 = grown in_use refl in
-    let mine : Fits heap (total in_use (views ++ right ∷ [])) left = (here.0, λ is. (live, let known = (here.1 is).1 in omega arith)) in
+    let mine : IsViewOf heap (total in_use (views ++ right ∷ [])) left = (here.0, λ is. (live, let known = (here.1 is).1 in omega arith)) in
     record {
       one_word = r.one_word;
       sum = let a = grown counted refl in let b = r.sum in omega arith;
@@ -155,10 +149,10 @@ splits heap id v live boot s r at =
       one_boot = let a = grown as_boot refl in let b = r.one_boot in omega arith;
       each = λ by u e. ⊎_elim
           (λ (was : get_elem? views by ≡ some u). ⊎_elim
-          (λ (x : (by ≡ id) × (left ≡ u)). subst (Fits heap (total in_use (views ++ right ∷ []))) x.1 mine)
+          (λ (x : (by ≡ id) × (left ≡ u)). subst (IsViewOf heap (total in_use (views ++ right ∷ []))) x.1 mine)
           (λ (x : (by ≢ id) × (get_elem? s.views by ≡ some u)). any_seats heap (total in_use s.views) (total in_use (views ++ right ∷ [])) u (only_boot s.views id by v u r.one_boot at boot x.0 x.1) (r.each by u x.1))
           (at_set s.views id by left u was))
-          (λ (new : right ≡ u). subst (Fits heap (total in_use (views ++ right ∷ []))) new ((λ _. here.0 live), (λ is. absurd (true≢false (sym is)))))
+          (λ (new : right ≡ u). subst (IsViewOf heap (total in_use (views ++ right ∷ []))) new ((λ _. here.0 live), (λ is. absurd (true≢false (sym is)))))
           (at_snoc views right u by e);
     }
 
@@ -183,7 +177,7 @@ joins heap id v other u live boot live' s r at apart there =
     let seats : total in_use final + 1 ≡ total in_use s.views = omega arith in
     let stays : get_elem? final id ≡ some both = set_else views other id spent (λ e. apart (sym e)) ∙ set_here s.views id both (there_is s.views id v at) in
     let some_left = total_at_least in_use final id both stays in
-    let fits : Fits heap (total in_use final) both = (here.0, λ is. (live, let known = (here.1 is).1 in omega arith)) in
+    let fits : IsViewOf heap (total in_use final) both = (here.0, λ is. (live, let known = (here.1 is).1 in omega arith)) in
     record {
       one_word = r.one_word;
       sum =
@@ -199,9 +193,9 @@ joins heap id v other u live boot live' s r at apart there =
           let not : as_boot u ≡ 0 = ap (λ (b : Bool). cond b 1 0) (only_boot s.views id other v u r.one_boot at boot apart was) in
           omega arith;
       each = λ by w e. ⊎_elim
-          (λ (x : (by ≡ other) × (spent ≡ w)). subst (Fits heap (total in_use final)) x.1 ((λ no. absurd (true≢false no)), (λ is. absurd (true≢false (sym is)))))
+          (λ (x : (by ≡ other) × (spent ≡ w)). subst (IsViewOf heap (total in_use final)) x.1 ((λ no. absurd (true≢false no)), (λ is. absurd (true≢false (sym is)))))
           (λ (x : (by ≢ other) × (get_elem? views by ≡ some w)). ⊎_elim
-          (λ (y : (by ≡ id) × (both ≡ w)). subst (Fits heap (total in_use final)) y.1 fits)
+          (λ (y : (by ≡ id) × (both ≡ w)). subst (IsViewOf heap (total in_use final)) y.1 fits)
           (λ (y : (by ≢ id) × (get_elem? s.views by ≡ some w)). any_seats heap (total in_use s.views) (total in_use final) w (only_boot s.views id by v w r.one_boot at boot y.0 y.1) (r.each by w y.1))
           (at_set s.views id by both w x.1))
           (at_set views other by spent w e);
