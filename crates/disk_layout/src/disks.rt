@@ -1,8 +1,7 @@
 //! A disk in memory that counts its reads.
 
 ghost use Rattle.std.specs.Prelude.{◌≡◌, ℕ, ◌+◌, ◌-◌, ◌<◌, ◌≤◌, ◌++◌, ◌∷◌, [], min, length, slice_get, slice_set, slice_index, Some, IfOk};
-ghost use Rattle.disk_layout.specs.DiskFormat.{entry_bytes};
-ghost use Rattle.disk_layout.specs.SoundDisk.{zeros, first_marked, new_root, root_entry, IsFormatted};
+ghost use Rattle.posix_defs.specs.DiskContents.{zeros, first_marked, new_root, entry_for, new_entries, IsFormatted};
 
 use crate::entries::bytes_of_entry;
 use crate::inodes::bytes_of;
@@ -92,7 +91,7 @@ impl Blocks for RamDisk {
     }
 }
 
-#[tactic(auto, unfolding(crate::specs::SoundDisk::zeros))]
+#[tactic(auto, unfolding(posix_defs::specs::DiskContents::zeros))]
 fn zero_block() -> [u8; 1024]
     ensures { result ≡ zeros 1024 }
 {
@@ -146,9 +145,9 @@ fn root_of(blocks: u32) -> Inode
 }
 
 /// An entry of the root that names the root.
-fn root_entry(name: &[u8]) -> DirEntry
+fn entry_for_root(name: &[u8]) -> DirEntry
     requires { length name.now ≤ 27 }
-    ensures { result ≡ root_entry name.now }
+    ensures { result ≡ entry_for 1 name.now }
 {
     let name = Name27::of(name).unwrap();
     DirEntry { node: 1, name }
@@ -156,9 +155,9 @@ fn root_entry(name: &[u8]) -> DirEntry
 
 /// The one block of a new root.
 fn root_entries() -> [u8; 1024]
-    ensures { result ≡ entry_bytes (root_entry (46 ∷ [])) ++ (entry_bytes (root_entry (46 ∷ 46 ∷ [])) ++ zeros (1024 - 64)) }
+    ensures { result ≡ new_entries ++ zeros (1024 - 64) }
 {
-    let mut block = block_of(&bytes_of_entry(&root_entry(b".")));
-    put(&mut block, 32, &bytes_of_entry(&root_entry(b"..")));
+    let mut block = block_of(&bytes_of_entry(&entry_for_root(b".")));
+    put(&mut block, 32, &bytes_of_entry(&entry_for_root(b"..")));
     block
 }

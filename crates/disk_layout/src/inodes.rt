@@ -4,7 +4,7 @@ ghost use Rattle.std.specs.Prelude.{◌≡◌, ℕ, ◌*◌, ◌<◌, ◌↔◌,
 ghost use Rattle.std.specs.Int.{w16, w32, to_be_bytes};
 ghost use Rattle.std.specs.List.{flat_map};
 ghost use Rattle.kabi_types.specs.declared.inodes.Inode.{Inode};
-ghost use Rattle.disk_layout.specs.DiskFormat.{direct_pointers, block_size, IsPointer, Fits, IsOfKind, HasPointers, IsInode, inode_bytes};
+ghost use Rattle.posix_defs.specs.DiskFormat.{direct_pointers, block_size, IsPointer, Fits, IsOfKind, HasPointers, IsInode, inode_bytes};
 ghost use Rattle.disk_layout.specs.Faults.{IsFault};
 
 use crate::faults::BadInode;

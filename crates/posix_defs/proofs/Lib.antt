@@ -6,3 +6,4 @@ pub mod Legal
 pub mod Refusals
 pub mod LastStep
 pub mod FirstRun
+pub mod DiskSpelling

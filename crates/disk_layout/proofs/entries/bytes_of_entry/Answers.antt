@@ -1,7 +1,7 @@
 use Rattle.std.proofs.Common.{◌≡◌, ℕ, List, [], ◌∷◌, ◌++◌, ◌+◌, ◌-◌, length, drop, set, replicate, refl, ap, subst, ◌∙◌, append_assoc, arith}
 use Rattle.std.specs.Int.{w32, to_be_bytes}
 use Rattle.std.proofs.lemmas.List.{drop-replicate}
-use Rattle.disk_layout.specs.DiskFormat.{entry_bytes}
+use Rattle.posix_defs.specs.DiskFormat.{entry_bytes}
 use Rattle.disk_layout.proofs.WordBytes.{put_on}
 use Rattle.disk_layout.proofs.entries.bytes_of_entry.Goals as goal
 

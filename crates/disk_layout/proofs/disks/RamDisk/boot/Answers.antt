@@ -1,7 +1,7 @@
 use Rattle.std.proofs.Common.{◌≡◌, ap, refl, ◌∙◌, sym, arith, ◌+◌, ◌-◌, ◌/◌, ◌++◌, List, ℕ, replicate, length}
 use Rattle.std.proofs.lemmas.List.{ext_get_or}
-use Rattle.disk_layout.specs.DiskFormat.{inode_bytes}
-use Rattle.disk_layout.specs.SoundDisk.{zeros, new_root}
+use Rattle.posix_defs.specs.DiskFormat.{inode_bytes}
+use Rattle.posix_defs.specs.DiskContents.{zeros, new_root}
 use Rattle.disk_layout.proofs.NewDisk.{is_formatted, length-new_root, length-zeros}
 use Rattle.disk_layout.proofs.disks.RamDisk.boot.Goals as goal
 
