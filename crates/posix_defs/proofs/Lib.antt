@@ -7,3 +7,5 @@ pub mod Refusals
 pub mod LastStep
 pub mod FirstRun
 pub mod DiskSpelling
+pub mod FormattedDisk
+pub mod FreeBlocks

@@ -1,0 +1,9 @@
+use Rattle.posix_defs.proofs.DiskSpelling.{same_entry_bytes}
+use Rattle.posix_defs.proofs.FormattedDisk.{one_inode}
+use Rattle.posix_defs.proofs.disk_laws.bytes_of_a_disk_say_one_thing.Goals as goal
+
+pub returns-clause-inodes : goal.returns-clause-inodes
+returns-clause-inodes c = one_inode
+
+pub returns-clause-entries : goal.returns-clause-entries
+returns-clause-entries c = same_entry_bytes
