@@ -1,15 +1,15 @@
 -- A formatted disk is sound, and its root is an empty directory.
-use Rattle.std.proofs.Common.{◌≡◌, ◌≢◌, ℕ, zero, suc, ◌+◌, ◌-◌, ◌*◌, ◌/◌, ◌%◌, ◌^◌, ◌<◌, ◌≤◌, min, Bool, true, false, ltb, ◌⊎◌, ◌↔◌, inl, inr, List, [], ◌∷◌, ◌++◌, length, get_or, take, drop, replicate, refl, sym, ap, subst, ◌∙◌, arith}
+use Rattle.std.proofs.Common.{◌≡◌, ◌≢◌, ℕ, zero, suc, ◌+◌, ◌-◌, ◌*◌, ◌/◌, ◌%◌, ◌^◌, ◌<◌, ◌≤◌, min, Bool, ltb, ◌⊎◌, inl, inr, List, [], ◌∷◌, ◌++◌, length, get_or, take, drop, replicate, refl, sym, ap, subst, ◌∙◌, arith}
 use Rattle.std.specs.Int.{bit_at}
 use Rattle.std.specs.List.{flat_map}
 use Rattle.std.proofs.lemmas.Bool.{cases_lt, cases_eq, le-ltb}
-use Rattle.std.proofs.lemmas.List.{take_at, drop_at, drop-drop, take-replicate, drop-replicate, get_or-replicate, get_or_past, get_or_append_left, append-nil, length-replicate, length-append}
+use Rattle.std.proofs.lemmas.List.{take_at, drop_at, drop-drop, take-replicate, drop-replicate, get_or-replicate, get_or_past, get_or_append_left, append-nil, length-replicate}
 use Rattle.std.proofs.lemmas.List.FromFn.{fill_by_all}
 use Rattle.std.proofs.lemmas.Nat.Bits.{bit_at_ones, bit_at_ones_above}
 use Rattle.kabi_types.specs.declared.inodes.Inode.{Inode}
-use Rattle.posix_defs.specs.DiskFormat.{block_size, direct_pointers, block_pointers, table_end, table_nodes, blocks_of, IsPointer, Fits, IsOfKind, HasPointers, IsInode, IsEntry, IsName, inode_bytes, entry_bytes}
-use Rattle.posix_defs.specs.SoundDisk.{block_at, table_bytes, HasInode, pointer_at, named_at, IsNamed, map_bit, IsMarked, Sound}
-use Rattle.posix_defs.specs.DiskContents.{data_at, byte_at, node_bytes, HasEntries, IsDirectoryOf, entry_for, own_name, parent_name, zeros, first_marked, new_root, new_entries, IsFormatted}
+use Rattle.posix_defs.specs.DiskFormat.{block_size, table_end, table_nodes, blocks_of, IsPointer, IsInode, IsEntry, inode_bytes, entry_bytes}
+use Rattle.posix_defs.specs.SoundDisk.{block_at, table_bytes, HasInode, named_at, IsNamed, map_bit, IsMarked, Sound}
+use Rattle.posix_defs.specs.DiskContents.{data_at, byte_at, node_bytes, IsDirectoryOf, entry_for, own_name, parent_name, zeros, first_marked, new_root, new_entries, IsFormatted}
 use Rattle.posix_defs.proofs.DiskSpelling.{same_inode, length-inode_bytes}
 
 -- ---- the map
@@ -201,19 +201,19 @@ formatted_is_sound disk formatted enough most =
           let b = names_one disk formatted enough most second other j also at_j in
           (a.0 ∙ sym b.0, a.1 ∙ sym b.1);
       map = λ number lt. (
-          λ (is : IsMarked disk number).
+        λ (is : IsMarked disk number).
             elim (cases_lt number (table_end (length disk) + 2)) [
               | inl used ↦ in_use disk formatted enough most number used
               | inr past ↦ absurd (is_unmarked disk formatted number (omega (arith, lt, most)) past is)
             ],
-          λ (used : (number ≤ table_end (length disk)) ⊎ IsNamed disk number).
+        λ (used : (number ≤ table_end (length disk)) ⊎ IsNamed disk number).
             elim used [
               | inl first ↦ is_marked disk formatted number (omega (arith, lt, most)) (omega (arith, first))
               | inr named ↦
                   let at = names_one disk formatted enough most named.node named.inode named.place named.has named.within in
                   is_marked disk formatted number (omega (arith, lt, most)) (omega (arith, named.same ∙ at.2))
             ],
-        );
+      );
       rest = λ number past lt. is_unmarked disk formatted number lt (omega (arith, past, enough));
     }
 
@@ -248,7 +248,7 @@ root_byte disk formatted place lt =
     let first : data_at disk root (place / 1024) ≡ table_end (length disk) + 1 = ap (data_at disk root) block in
     let front : get_or (new_entries ++ zeros (1024 - 64)) place 0 ≡ get_or new_entries place 0 = get_or_append_left new_entries (zeros (1024 - 64)) 0 place (omega (arith, length-new_entries)) in
     let byte : byte_at disk root place ≡ get_or new_entries place 0 =
-      ap (λ (n : ℕ). get_or (block_at disk n) (place % 1024) 0) first ∙ ap (λ (bytes : List ℕ). get_or bytes (place % 1024) 0) formatted.entries ∙ ap (λ (n : ℕ). get_or (new_entries ++ zeros (1024 - 64)) n 0) at ∙ front in
+    ap (λ (n : ℕ). get_or (block_at disk n) (place % 1024) 0) first ∙ ap (λ (bytes : List ℕ). get_or bytes (place % 1024) 0) formatted.entries ∙ ap (λ (n : ℕ). get_or (new_entries ++ zeros (1024 - 64)) n 0) at ∙ front in
     sym byte
 
 root_holds : (disk : List (List ℕ)) → IsFormatted (length disk) disk → node_bytes disk (new_root (length disk)) ≡ flat_map entry_bytes (entry_for 1 own_name ∷ entry_for 1 parent_name ∷ [])

@@ -1,14 +1,14 @@
 -- The free blocks of a sound disk are those that no node names, and as many as the sizes of its nodes leave.
-use Rattle.std.proofs.Common.{◌≡◌, ◌≢◌, ℕ, zero, suc, ◌+◌, ◌-◌, ◌*◌, ◌/◌, ◌<◌, ◌≤◌, Bool, true, false, not, ◌&&◌, cond, eqb, ltb, ◌⊎◌, ◌↔◌, inl, inr, List, [], ◌∷◌, ◌++◌, map, length, get_or, sum_by, count_by, refl, sym, ap, subst, ◌∙◌, arith}
+use Rattle.std.proofs.Common.{◌≡◌, ◌≢◌, ℕ, zero, suc, ◌+◌, ◌-◌, ◌*◌, ◌<◌, ◌≤◌, Bool, true, false, not, ◌&&◌, cond, eqb, ltb, ◌⊎◌, inl, inr, List, [], ◌∷◌, ◌++◌, map, length, get_or, sum_by, count_by, refl, sym, ap, subst, ◌∙◌, arith}
 use Rattle.std.specs.List.{range_with_len, flat_map}
-use Rattle.std.proofs.lemmas.Bool.{cases_lt, cases_eq, lt-ltb, le-ltb, cond-true, cond-false, eqb-true, eqb-false, eq-eqb, ne_eqb, not_from_true, not_from_false, true_from_ne_false, false_from_ne_true, false≢true, true≢false, and_parts, and_from, and_right}
+use Rattle.std.proofs.lemmas.Bool.{cases_lt, cases_eq, lt-ltb, le-ltb, cond-true, cond-false, eqb-true, eq-eqb, ne_eqb, false_from_ne_true, false≢true}
 use Rattle.std.proofs.lemmas.List.{length-append, get_or_append_left, get_or_at}
 use Rattle.std.proofs.lemmas.List.Concat.{flat_map-cons}
 use Rattle.std.proofs.lemmas.List.FromFn.{length-map-range_with_len}
 use Rattle.std.proofs.lemmas.List.Sums.{sum_by-cons}
 use Rattle.kabi_types.specs.declared.inodes.Inode.{Inode}
-use Rattle.posix_defs.specs.DiskFormat.{block_size, direct_pointers, table_end, table_nodes, data_blocks, blocks_of, IsForFiles, IsPointer}
-use Rattle.posix_defs.specs.SoundDisk.{block_at, HasInode, pointer_at, named_at, IsNamed, map_bit, IsMarked, Sound, IsTable, free_in_map, free_blocks}
+use Rattle.posix_defs.specs.DiskFormat.{block_size, table_end, table_nodes, data_blocks, blocks_of, IsForFiles, IsPointer}
+use Rattle.posix_defs.specs.SoundDisk.{block_at, HasInode, pointer_at, named_at, IsNamed, map_bit, Sound, IsTable, free_in_map, free_blocks}
 use Rattle.posix_defs.proofs.FormattedDisk.{one_inode}
 
 -- ---- how many numbers of a range pass a test
@@ -127,9 +127,9 @@ distinct_append : (xs ys : List ℕ) → Distinct xs → Distinct ys → ((x : �
 unfolding Distinct In
 distinct_append [] ys left right apart = right
 distinct_append (x ∷ xs) ys left right apart = (
-      λ is. elim (in_append x xs ys is) [ inl again ↦ left.0 again | inr there ↦ apart x (inl refl) there ],
-      distinct_append xs ys left.1 right (λ k is. apart k (inr is)),
-    )
+  λ is. elim (in_append x xs ys is) [ inl again ↦ left.0 again | inr there ↦ apart x (inl refl) there ],
+  distinct_append xs ys left.1 right (λ k is. apart k (inr is)),
+)
 
 -- the values of a function at the numbers of a range
 abbrev values : (ℕ → ℕ) → ℕ → ℕ → List ℕ
@@ -153,9 +153,9 @@ distinct_values : (f : ℕ → ℕ) (from n : ℕ) → ((i j : ℕ) → i < from
 unfolding Distinct
 distinct_values f from zero apart = tt
 distinct_values f from (suc n) apart = (
-      λ is. let at = in_values f (from + 1) n (f from) is in let same : from ≡ at.0 = apart from at.0 (omega arith) (omega (arith, at.2)) at.3 in omega (arith, same, at.1),
-      distinct_values f (from + 1) n (λ i j lt_i lt_j e. apart i j (omega (arith, lt_i)) (omega (arith, lt_j)) e),
-    )
+  λ is. let at = in_values f (from + 1) n (f from) is in let same : from ≡ at.0 = apart from at.0 (omega arith) (omega (arith, at.2)) at.3 in omega (arith, same, at.1),
+  distinct_values f (from + 1) n (λ i j lt_i lt_j e. apart i j (omega (arith, lt_i)) (omega (arith, lt_j)) e),
+)
 
 -- ---- the blocks that nodes name
 
@@ -214,8 +214,14 @@ all_named disk inodes = flat_map (named_by disk) inodes
 length-all_named : (disk : List (List ℕ)) (inodes : List Inode) → length (all_named disk inodes) ≡ sum_by (λ (inode : Inode). blocks_of inode.size) inodes
 length-all_named disk [] = refl
 length-all_named disk (inode ∷ inodes) =
-    omega (arith, ap length (flat_map-cons (named_by disk) inode inodes), length-append (named_by disk inode) (all_named disk inodes), length-map-range_with_len (named_at disk inode) 0 (blocks_of inode.size), length-all_named disk inodes,
-      sum_by-cons (λ (i : Inode). blocks_of i.size) inode inodes)
+    omega (
+      arith,
+      ap length (flat_map-cons (named_by disk) inode inodes),
+      length-append (named_by disk inode) (all_named disk inodes),
+      length-map-range_with_len (named_at disk inode) 0 (blocks_of inode.size),
+      length-all_named disk inodes,
+      sum_by-cons (λ (i : Inode). blocks_of i.size) inode inodes,
+    )
 
 -- the nodes from one on have these inodes
 abbrev Have : List (List ℕ) → ℕ → List Inode → Type 0
@@ -254,12 +260,12 @@ distinct_named disk sound from (inode ∷ inodes) have =
     let own : Distinct (named_by disk inode) = distinct_values (named_at disk inode) 0 (blocks_of inode.size) (λ i j at_i at_j same. (sound.once (from + 0) (from + 0) inode inode i j this this (omega (arith, at_i)) (omega (arith, at_j)) same).1) in
     let others : Distinct (all_named disk inodes) = distinct_named disk sound (from + 1) inodes (rest_have disk from inode inodes have) in
     distinct_append (named_by disk inode) (all_named disk inodes) own others (
-        λ x here later.
-          let a = in_values (named_at disk inode) 0 (blocks_of inode.size) x here in
-          let b = named_somewhere disk (from + 1) inodes x (rest_have disk from inode inodes have) later in
-          let same = (sound.once (from + 0) b.0 inode b.1 a.0 b.2 this b.4 (omega (arith, a.2)) b.5 (sym a.3 ∙ b.6)).0 in
-          omega (arith, same, b.3)
-      )
+    λ x here later.
+    let a = in_values (named_at disk inode) 0 (blocks_of inode.size) x here in
+    let b = named_somewhere disk (from + 1) inodes x (rest_have disk from inode inodes have) later in
+    let same = (sound.once (from + 0) b.0 inode b.1 a.0 b.2 this b.4 (omega (arith, a.2)) b.5 (sym a.3 ∙ b.6)).0 in
+    omega (arith, same, b.3)
+    )
 
 -- ---- the free blocks
 
@@ -286,12 +292,12 @@ distinct_used : (disk : List (List ℕ)) (inodes : List Inode) → Sound disk �
 distinct_used disk inodes sound table =
     let first : ℕ = table_end (length disk) + 1 in
     distinct_append (values (λ k. k) 0 first) (all_named disk inodes) (distinct_values (λ k. k) 0 first (λ i j at_i at_j same. same)) (distinct_named disk sound 1 inodes (table_have disk inodes table)) (
-        λ x here there.
-          let a = in_values (λ k. k) 0 first x here in
-          let b = named_somewhere disk 1 inodes x (table_have disk inodes table) there in
-          let for_files = named_is_for_files disk sound b.0 b.1 b.2 b.4 b.5 in
-          omega (arith, a.2, a.3, b.6, for_files.0)
-      )
+    λ x here there.
+    let a = in_values (λ k. k) 0 first x here in
+    let b = named_somewhere disk 1 inodes x (table_have disk inodes table) there in
+    let for_files = named_is_for_files disk sound b.0 b.1 b.2 b.4 b.5 in
+    omega (arith, a.2, a.3, b.6, for_files.0)
+    )
 
 used_are_marked : (disk : List (List ℕ)) (inodes : List Inode) → Sound disk → IsTable disk inodes → 0 < length disk → (number : ℕ) → In number (used disk inodes) → (number < length disk) × (is_used disk number ≡ true)
 used_are_marked disk inodes sound table some number is =
@@ -343,9 +349,11 @@ tables : (disk : List (List ℕ)) → Sound disk → (n : ℕ) → n ≤ table_n
 tables disk sound zero le = ([], refl, λ place none lt. absurd (omega (arith, lt)))
 tables disk sound (suc n) le =
     let before = tables disk sound n (omega (arith, le)) in
-    let next = sound.table (1 + n) (omega arith) (omega (arith, le)) in
-    (before.0 ++ next.0 ∷ [], omega (arith, length-append before.0 (next.0 ∷ []), before.1), (
-        λ place none lt.
+    let next = sound.table (1 + n) (omega arith) (omega (arith, le)) in (
+      before.0 ++ next.0 ∷ [],
+      omega (arith, length-append before.0 (next.0 ∷ []), before.1),
+      (
+          λ place none lt.
           elim (cases_lt place n) [
             | inl front ↦ subst (λ (i : Inode). HasInode disk (1 + place) i) (sym (get_or_append_left before.0 (next.0 ∷ []) none place (omega (arith, front, before.1)))) (before.2 place none (omega (arith, front, before.1)))
             | inr end ↦
@@ -353,7 +361,8 @@ tables disk sound (suc n) le =
                 let this : get_or (before.0 ++ next.0 ∷ []) place none ≡ next.0 = get_or_at before.0 next.0 [] none place (omega (arith, before.1, last)) in
                 subst (λ (i : Inode). HasInode disk (1 + place) i) (sym this) (subst (λ (k : ℕ). HasInode disk (1 + k) next.0) (sym last) next.1)
           ]
-      ))
+          ),
+    )
 
 pub has_table : (disk : List (List ℕ)) → Sound disk → (inodes : List Inode) × IsTable disk inodes
 has_table disk sound =

@@ -9,3 +9,5 @@ pub mod FirstRun
 pub mod DiskSpelling
 pub mod FormattedDisk
 pub mod FreeBlocks
+pub mod DirectoryEntries
+pub mod FreeNodes

@@ -1,4 +1,4 @@
-use Rattle.std.proofs.Common.{ℕ, ◌≤◌, List, length, sym, subst, arith}
+use Rattle.std.proofs.Common.{ℕ, ◌≤◌, sym, subst}
 use Rattle.posix_defs.specs.DiskContents.{IsFormatted}
 use Rattle.posix_defs.proofs.FormattedDisk.{formatted_is_sound, formatted_root_is_empty}
 use Rattle.posix_defs.proofs.disk_laws.a_formatted_disk_is_sound.Goals as goal
