@@ -1,7 +1,8 @@
 //! A disk in memory that counts its reads.
 
 ghost use Rattle.std.specs.Prelude.{◌≡◌, ℕ, ◌+◌, ◌-◌, ◌<◌, ◌≤◌, ◌++◌, ◌∷◌, [], min, length, slice_get, slice_set, slice_index, Some, IfOk};
-ghost use Rattle.posix_defs.specs.DiskContents.{zeros, first_marked, new_root, entry_for, new_entries, IsFormatted};
+ghost use Rattle.posix_defs.specs.SoundDisk.{Sound};
+ghost use Rattle.posix_defs.specs.DiskContents.{zeros, first_marked, new_root, entry_for, new_entries, IsDirectoryOf, IsFormatted};
 
 use crate::entries::bytes_of_entry;
 use crate::inodes::bytes_of;
@@ -18,10 +19,14 @@ pub struct RamDisk {
 }
 
 impl RamDisk {
-    /// A disk of so many blocks whose root directory has `.` and `..` alone, and of which nothing was read.
+    /// A disk of so many blocks, 16 to 4096, whose root directory has `.` and `..` alone, and of which nothing was read.
+    /// Memory where the host has none for its blocks.
     pub fn boot(alloc: Global, blocks: u32) -> Result<RamDisk, Memory>
         requires { (16 ≤ blocks) × (blocks ≤ 4096) }
-        ensures { IfOk result (λ disk. IsFormatted blocks disk.blocks.items × (disk.reads ≡ 0)) }
+        ensures formatted { IfOk result (λ disk. IsFormatted blocks disk.blocks.items) }
+        ensures sound { IfOk result (λ disk. Sound disk.blocks.items) }
+        ensures root { IfOk result (λ disk. IsDirectoryOf disk.blocks.items 1 1 []) }
+        ensures unread { IfOk result (λ disk. disk.reads ≡ 0) }
     {
         let first = blocks / 16 + 1;
         let mut disk = vec![in alloc; zero_block(); blocks as usize]?;

@@ -25,10 +25,10 @@ bit_of : (disk : List (List ℕ)) → IsFormatted (length disk) disk → (number
     → map_bit disk number ≡ bit_at (first_marked (table_end (length disk) + 2) (number / 8)) (number % 8)
 bit_of disk formatted number lt = ap (λ (byte : ℕ). bit_at byte (number % 8)) (formatted.map (number / 8) (omega arith))
 
-pub is_marked : (disk : List (List ℕ)) → IsFormatted (length disk) disk → (number : ℕ) → number < 8 * block_size → number < table_end (length disk) + 2 → IsMarked disk number
+is_marked : (disk : List (List ℕ)) → IsFormatted (length disk) disk → (number : ℕ) → number < 8 * block_size → number < table_end (length disk) + 2 → IsMarked disk number
 is_marked disk formatted number lt used = bit_of disk formatted number lt ∙ marked (table_end (length disk) + 2) (number / 8) (number % 8) number (omega arith) (omega arith) used
 
-pub is_unmarked : (disk : List (List ℕ)) → IsFormatted (length disk) disk → (number : ℕ) → number < 8 * block_size → table_end (length disk) + 2 ≤ number → ¬ (IsMarked disk number)
+is_unmarked : (disk : List (List ℕ)) → IsFormatted (length disk) disk → (number : ℕ) → number < 8 * block_size → table_end (length disk) + 2 ≤ number → ¬ (IsMarked disk number)
 is_unmarked disk formatted number lt past = λ (is : IsMarked disk number).
     let none : map_bit disk number ≡ 0 = bit_of disk formatted number lt ∙ unmarked (table_end (length disk) + 2) (number / 8) (number % 8) number (omega arith) (omega arith) past in
     omega (arith, is, none)
@@ -187,7 +187,7 @@ in_use disk formatted enough most number lt =
       | inr other ↦ inl (omega (arith, other))
     ]
 
-pub formatted_is_sound : (disk : List (List ℕ)) → IsFormatted (length disk) disk → 16 ≤ length disk → length disk ≤ 4096 → Sound disk
+formatted_is_sound : (disk : List (List ℕ)) → IsFormatted (length disk) disk → 16 ≤ length disk → length disk ≤ 4096 → Sound disk
 formatted_is_sound disk formatted enough most =
     record {
       table = λ node pos within.
@@ -257,10 +257,21 @@ root_holds disk formatted =
     let all = fill_by_all (λ (place : ℕ). byte_at disk (new_root (length disk)) place) new_entries 64 0 length-new_entries (λ place lt. root_byte disk formatted place lt) in
     sym all ∙ ap (λ (bytes : List ℕ). entry_bytes (entry_for 1 own_name) ++ bytes) (sym (append-nil (entry_bytes (entry_for 1 parent_name))))
 
-pub formatted_root_is_empty : (disk : List (List ℕ)) → IsFormatted (length disk) disk → 16 ≤ length disk → length disk ≤ 4096 → IsDirectoryOf disk 1 1 []
+formatted_root_is_empty : (disk : List (List ℕ)) → IsFormatted (length disk) disk → 16 ≤ length disk → length disk ≤ 4096 → IsDirectoryOf disk 1 1 []
 formatted_root_is_empty disk formatted enough most =
     record {
       inode = new_root (length disk);
       has = root_has disk formatted enough most;
       list = record { kind = refl; each = (own_is, (parent_is, tt)); bytes = root_holds disk formatted };
     }
+
+-- the same of a disk of so many blocks
+pub new_is_sound : (blocks : ℕ) (disk : List (List ℕ)) → 16 ≤ blocks → blocks ≤ 4096 → IsFormatted blocks disk → Sound disk
+new_is_sound blocks disk enough most formatted =
+    let same : blocks ≡ length disk = sym formatted.count in
+    formatted_is_sound disk (subst (λ (n : ℕ). IsFormatted n disk) same formatted) (subst (λ (n : ℕ). 16 ≤ n) same enough) (subst (λ (n : ℕ). n ≤ 4096) same most)
+
+pub new_root_is_empty : (blocks : ℕ) (disk : List (List ℕ)) → 16 ≤ blocks → blocks ≤ 4096 → IsFormatted blocks disk → IsDirectoryOf disk 1 1 []
+new_root_is_empty blocks disk enough most formatted =
+    let same : blocks ≡ length disk = sym formatted.count in
+    formatted_root_is_empty disk (subst (λ (n : ℕ). IsFormatted n disk) same formatted) (subst (λ (n : ℕ). 16 ≤ n) same enough) (subst (λ (n : ℕ). n ≤ 4096) same most)

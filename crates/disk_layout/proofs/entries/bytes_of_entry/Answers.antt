@@ -16,6 +16,7 @@ returns c =
     let a : c.put.new.out ≡ node ++ drop 4 zeros = put_on [] zeros node zeros c.put.new.out 0 4 refl refl refl (rw c.to_be_bytes.ensures at c.put.ensures) in
     let b : set c.put.new.out 4 (length name) ≡ len ++ drop 5 zeros = ap (λ (x : List ℕ). set x 4 (length name)) a in
     let d : c.put-2.new.out ≡ (len ++ name) ++ drop (5 + length name) zeros = put_on len zeros name (set c.put.new.out 4 (length name)) c.put-2.new.out 5 (length name) refl refl b c.put-2.ensures in
-    let behind : drop (5 + length name) zeros ≡ replicate (27 - length name) 0 = drop-replicate (5 + length name) 32 0 ∙ ap (λ (n : ℕ). replicate n 0) (omega arith) in
+    let left : 32 - (5 + length name) ≡ 27 - length name = omega arith in
+    let behind : drop (5 + length name) zeros ≡ replicate (27 - length name) 0 = drop-replicate (5 + length name) 32 0 ∙ ap (λ (n : ℕ). replicate n 0) left in
     let whole : c.put-2.new.out ≡ node ++ (length name ∷ (name ++ replicate (27 - length name) 0)) = d ∙ append_assoc len name (drop (5 + length name) zeros) ∙ ap (λ (x : List ℕ). len ++ (name ++ x)) behind in
     subst (λ (n : List ℕ). c.put-2.new.out ≡ node ++ (length n ∷ (n ++ replicate (27 - length n) 0))) c.items-name.ensures.same whole
