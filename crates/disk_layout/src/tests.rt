@@ -11,6 +11,13 @@ const FILE: [u8; 64] = [
     0, 0, 0, 0, 0, 0, 0, 0, 0, 0, 0, 0, 0, 0, 0, 0, 0, 0, 0, 0, 0, 0, 0, 0, 0, 0, 0, 0, 0, 0, 0, 0,
 ];
 
+/// The root of a new disk of 16 blocks.
+const ROOT: [u8; 64] = [
+    2, 0, 0, 1, 0, 0, 0, 0x40, 0, 0, 0, 2, 0, 0, 0, 0, 0, 0, 0, 0, 0, 0, 0, 0, 0, 0, 0, 0, 0, 0, 0,
+    0, 0, 0, 0, 0, 0, 0, 0, 0, 0, 0, 0, 0, 0, 0, 0, 0, 0, 0, 0, 0, 0, 0, 0, 0, 0, 0, 0, 0, 0, 0, 0,
+    0,
+];
+
 /// A file of 272384 bytes, the greatest size, with blocks 2 to 11 and its block of pointers 12.
 const FULL: [u8; 64] = [
     1, 0, 0, 127, 0, 4, 0x28, 0, 0, 0, 0, 2, 0, 0, 0, 3, 0, 0, 0, 4, 0, 0, 0, 5, 0, 0, 0, 6, 0, 0,
@@ -35,6 +42,10 @@ const FIRST_258: [u8; 33] = [
     255, 255, 255, 255, 255, 255, 255, 255, 255, 255, 255, 255, 255, 255, 255, 255, 255, 255, 255,
     255, 255, 255, 255, 255, 255, 255, 255, 255, 255, 255, 255, 255, 3,
 ];
+
+const KIND: Option<BadInode> = Some(BadInode::BadKind);
+
+const POINTER: Option<BadInode> = Some(BadInode::BadPointer);
 
 /// What is wrong with an inode of a disk of 16 blocks, once one of its bytes is another.
 fn fault_with(bytes: &[u8; 64], place: usize, byte: u8) -> Option<BadInode>
@@ -123,56 +134,41 @@ fn inodes_are_read_and_written(rt: HostRuntime) {
 }
 
 #[test]
-fn kinds_links_and_sizes_that_do_not_go_together(rt: HostRuntime) {
-    assert_eq!(rt; fault_with(&FILE, 0, 4), Some(BadInode::BadKind), "kind 4");
-    assert_eq!(rt;
-        fault_with(&FILE, 1, 1),
-        Some(BadInode::BadKind),
-        "a byte kept zero"
-    );
-    assert_eq!(rt;
-        fault_with(&FILE, 52, 1),
-        Some(BadInode::BadKind),
-        "the first zero at the end"
-    );
-    assert_eq!(rt;
-        fault_with(&FILE, 63, 1),
-        Some(BadInode::BadKind),
-        "the last byte"
-    );
+fn bytes_that_are_kept_zero(rt: HostRuntime) {
+    assert_eq!(rt; fault_with(&FILE, 1, 1), KIND, "behind the kind");
+    assert_eq!(rt; fault_with(&FILE, 52, 1), KIND, "the first at the end");
+    assert_eq!(rt; fault_with(&FILE, 63, 255), KIND, "the last");
+}
+
+#[test]
+fn kinds_and_links(rt: HostRuntime) {
+    assert_eq!(rt; fault_with(&FILE, 0, 2), None, "a directory");
+    assert_eq!(rt; fault_with(&[0; 64], 0, 3), None, "a socket's name");
+    assert_eq!(rt; fault_with(&FILE, 0, 4), KIND, "kind 4");
+    assert_eq!(rt; fault_with(&FILE, 0, 255), KIND, "kind 255");
     assert_eq!(rt; fault_with(&FILE, 3, 127), None, "127 links");
-    assert_eq!(rt;
-        fault_with(&FILE, 3, 128),
-        Some(BadInode::BadKind),
-        "128 links"
-    );
-    assert_eq!(rt;
-        fault_with(&FILE, 2, 1),
-        Some(BadInode::BadKind),
-        "257 links"
-    );
-    assert_eq!(rt;
-        fault_with(&FULL, 7, 1),
-        Some(BadInode::BadKind),
-        "272385 bytes"
-    );
-    assert_eq!(rt;
-        fault_with(&FILE, 0, 0),
-        Some(BadInode::BadKind),
-        "free, with a link and a size"
-    );
-    assert_eq!(rt;
-        fault_with(&[0; 64], 3, 1),
-        Some(BadInode::BadKind),
-        "free, with a link"
-    );
+    assert_eq!(rt; fault_with(&FILE, 3, 128), KIND, "128 links");
+    assert_eq!(rt; fault_with(&FILE, 2, 1), KIND, "257 links");
+    assert_eq!(rt; fault_with(&[0; 64], 3, 1), KIND, "a free one with a link");
+}
+
+#[test]
+fn sizes_of_each_kind(rt: HostRuntime) {
+    assert_eq!(rt; fault_with(&FULL, 7, 1), KIND, "272385 bytes");
+    assert_eq!(rt; fault_with(&[0; 64], 7, 1), KIND, "a free one of a byte");
     assert_eq!(rt;
         fault_with(&FILE, 0, 3),
-        Some(BadInode::BadKind),
-        "a socket name with a size"
+        KIND,
+        "a socket's name of 1024 bytes"
     );
-    assert_eq!(rt; fault_with(&[0; 64], 0, 3), None, "a socket name");
-    assert_eq!(rt; fault_with(&FILE, 0, 2), None, "a directory of 32 entries");
+    assert_eq!(rt; fault_with(&ROOT, 7, 0x41), KIND, "a directory of 65 bytes");
+    assert_eq!(rt; fault_with(&ROOT, 7, 0x50), KIND, "a directory of 80 bytes");
+    assert_eq!(rt;
+        fault_with(&ROOT, 7, 0x20),
+        None,
+        "a directory of one entry"
+    );
+    assert_eq!(rt; fault_with(&ROOT, 0, 1), None, "a file of 64 bytes");
 }
 
 #[test]
@@ -187,48 +183,39 @@ fn a_bad_kind_comes_before_a_bad_pointer(rt: HostRuntime) {
 
 #[test]
 fn pointers_outside_the_blocks_for_files(rt: HostRuntime) {
-    assert_eq!(rt;
-        fault_with(&FILE, 11, 0),
-        Some(BadInode::BadPointer),
-        "none"
-    );
-    assert_eq!(rt;
-        fault_with(&FILE, 11, 1),
-        Some(BadInode::BadPointer),
-        "the table"
-    );
+    assert_eq!(rt; fault_with(&FILE, 11, 0), POINTER, "none");
+    assert_eq!(rt; fault_with(&FILE, 11, 1), POINTER, "the table");
     assert_eq!(rt; fault_with(&FILE, 11, 2), None, "the first for files");
     assert_eq!(rt; fault_with(&FILE, 11, 15), None, "the last");
-    assert_eq!(rt;
-        fault_with(&FILE, 11, 16),
-        Some(BadInode::BadPointer),
-        "behind the last"
-    );
-    assert_eq!(rt;
-        fault_with(&FILE, 7, 1),
-        Some(BadInode::BadPointer),
-        "1025 bytes in one block"
-    );
+    assert_eq!(rt; fault_with(&FILE, 11, 16), POINTER, "behind the last");
+    assert_eq!(rt; fault_with(&FULL, 47, 16), POINTER, "the tenth");
+    assert_eq!(rt; fault_with(&FULL, 51, 1), POINTER, "the block of pointers");
+    assert!(rt; inode_of(&FILE, 32) == Err(BadInode::BadPointer));
+}
+
+#[test]
+fn pointers_are_those_that_the_size_needs(rt: HostRuntime) {
     assert_eq!(rt;
         fault_with(&FILE, 15, 3),
-        Some(BadInode::BadPointer),
-        "a second block"
+        POINTER,
+        "a second for 1024 bytes"
     );
+    assert_eq!(rt; fault_with(&FILE, 7, 1), POINTER, "one for 1025 bytes");
     assert_eq!(rt;
         fault_with(&FILE, 51, 3),
-        Some(BadInode::BadPointer),
-        "a block of pointers"
+        POINTER,
+        "a block of pointers for 1024 bytes"
     );
+    assert_eq!(rt; fault_with(&FULL, 51, 0), POINTER, "no block of pointers");
+    let mut ten = FULL;
+    ten[5] = 0;
+    assert_eq!(rt; fault_with(&ten, 51, 0), None, "10240 bytes");
     assert_eq!(rt;
-        fault_with(&FULL, 51, 0),
-        Some(BadInode::BadPointer),
-        "no block of pointers"
+        fault_with(&ten, 51, 12),
+        POINTER,
+        "a block of pointers for 10240 bytes"
     );
-    assert_eq!(rt;
-        fault_with(&FULL, 47, 16),
-        Some(BadInode::BadPointer),
-        "the tenth"
-    );
+    assert_eq!(rt; fault_with(&ten, 7, 1), None, "10241 bytes");
 }
 
 #[test]
