@@ -1,4 +1,4 @@
-ghost use Rattle.std.specs.Prelude.{◌<◌, ◌≤◌, length};
+ghost use Rattle.std.specs.Prelude.{◌≡◌, ◌<◌, ◌≤◌, length};
 
 use crate::{BadEntry, BadInode, RamDisk, bytes_of, bytes_of_entry, entry_of, inode_of};
 use kabi_types::{DirEntry, Inode, Name27};
@@ -98,15 +98,26 @@ fn a_new_disk_of_4096_blocks(rt: HostRuntime) -> Result<(), Fail> {
     Ok(())
 }
 
+/// Writes a block of nines, and reads the block before, this one and the next, through the trait alone.
+fn write_and_read<B: Blocks>(disk: &mut B) -> ([u8; 1024], [u8; 1024], [u8; 1024])
+    requires { 6 < length (B.blocks disk.old) }
+    ensures { length (B.blocks disk.new) ≡ length (B.blocks disk.old) }
+{
+    disk.set(5, &[9; 1024]);
+    (disk.get(4), disk.get(5), disk.get(6))
+}
+
 #[test]
 fn a_write_changes_one_block_and_counts_nothing(rt: HostRuntime) -> Result<(), Fail> {
     let mut disk = RamDisk::boot(rt.alloc(), 16)?;
-    disk.write(5, &[9; 1024]);
+    disk.write(7, &[8; 1024]);
     assert_eq!(rt; disk.reads(), 0);
-    assert!(rt; disk.get(5).iter().all(|byte| *byte == 9));
-    assert!(rt; is_front(&disk.get(4), &[]));
-    assert!(rt; is_front(&disk.get(6), &[]));
+    let (before, written, next) = write_and_read(&mut disk);
+    assert!(rt; written.iter().all(|byte| *byte == 9));
+    assert!(rt; is_front(&before, &[]));
+    assert!(rt; is_front(&next, &[]));
     assert_eq!(rt; disk.reads(), 3);
+    assert!(rt; disk.read(7).iter().all(|byte| *byte == 8));
     Ok(())
 }
 
