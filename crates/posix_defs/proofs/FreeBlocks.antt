@@ -204,6 +204,9 @@ named_is_for_files disk sound node inode place has lt =
           ]
     ]
 
+pub is_for_files : (disk : List (List ℕ)) (number : ℕ) → Sound disk → IsNamed disk number → IsForFiles (length disk) number
+is_for_files disk number sound named = subst (IsForFiles (length disk)) (sym named.same) (named_is_for_files disk sound named.node named.inode named.place named.has named.within)
+
 abbrev named_by : List (List ℕ) → Inode → List ℕ
 named_by disk inode = values (named_at disk inode) 0 (blocks_of inode.size)
 
@@ -270,7 +273,7 @@ distinct_named disk sound from (inode ∷ inodes) have =
 -- ---- the free blocks
 
 -- the inode of a node stands at its place in the table
-in_table : (disk : List (List ℕ)) (inodes : List Inode) → IsTable disk inodes → (node : ℕ) (inode : Inode) (none : Inode) → HasInode disk node inode
+pub in_table : (disk : List (List ℕ)) (inodes : List Inode) → IsTable disk inodes → (node : ℕ) (inode : Inode) (none : Inode) → HasInode disk node inode
     → (node - 1 < length inodes) × (inode ≡ get_or inodes (node - 1) none)
 in_table disk inodes table node inode none has =
     let within : node - 1 < length inodes = omega (arith, has.number.0, has.number.1, table.count) in

@@ -30,9 +30,10 @@ pub fn a_sound_disk_has_a_table()
     ensures { (disk : List (List ℕ)) → Sound disk → (inodes : List Inode) × IsTable disk inodes }
 {}
 
-/// A block for files is free exactly where no node names it, and the free blocks are as many as are left when each node
-/// has taken those of its size.
+/// What a node names is a block for files. Such a block is free exactly where no node names it, and the free blocks are
+/// as many as are left when each node has taken those of its size.
 pub fn free_blocks_are_those_that_no_node_names()
+    ensures named { (disk : List (List ℕ)) (number : ℕ) → Sound disk → IsNamed disk number → IsForFiles (length disk) number }
     ensures each { (disk : List (List ℕ)) (number : ℕ) → Sound disk → IsForFiles (length disk) number → IsFreeBlock disk number ↔ ¬ (IsNamed disk number) }
     ensures only { (disk : List (List ℕ)) (number : ℕ) → Sound disk → IsFreeBlock disk number → IsForFiles (length disk) number }
     ensures many { (disk : List (List ℕ)) (inodes : List Inode) → Sound disk → IsTable disk inodes → free_in_map disk ≡ free_blocks (length disk) inodes }
