@@ -1,5 +1,9 @@
+pub mod CountLemmas
 pub mod ObjectLemmas
+pub mod OnceLemmas
 pub mod OutsideLemmas
 pub mod OwnedLemmas
+pub mod OwnerLemmas
 pub mod PaidLemmas
+pub mod PurseLemmas
 pub mod ShelfLemmas
