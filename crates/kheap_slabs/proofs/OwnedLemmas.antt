@@ -57,9 +57,12 @@ IsChain-push old new first (only ∷ []) last key linked added chain once ends s
     (chain.0, linked, rw is stored, (link, added, stored_added, no_next))
 IsChain-push old new first (head ∷ other ∷ rest) last key linked added chain once ends stored link stored_added no_next same =
     let behind = last_there last (other ∷ rest) ends in
-    let differs : head ≢ last = λ e. IsOnce-head head (other ∷ rest) once (rw e behind) in
-    (chain.0, chain.1, same head (0, omega arith, refl) differs ∙ chain.2,
-    IsChain-push old new chain.1.next (other ∷ rest) last key linked added chain.3 (IsOnce-tail head (other ∷ rest) once) ends stored link stored_added no_next (λ k there d. same k (Contains-cons head k (other ∷ rest) there) d))
+    let differs : head ≢ last = λ e. IsOnce-head head (other ∷ rest) once (rw e behind) in (
+      chain.0,
+      chain.1,
+      same head (0, omega arith, refl) differs ∙ chain.2,
+      IsChain-push old new chain.1.next (other ∷ rest) last key linked added chain.3 (IsOnce-tail head (other ∷ rest) once) ends stored link stored_added no_next (λ k there d. same k (Contains-cons head k (other ∷ rest) there) d),
+    )
 
 -- a chain without its first chunk
 pub IsChain-drop : (old new : List (Option Chunk)) (first : Option ℕ) (key : ℕ) (rest : List ℕ) (chunk : Chunk) → IsChain old first (key ∷ rest) → object old key ≡ Some chunk → ((other : ℕ) → Contains rest other → object new other ≡ object old other) → IsChain new chunk.next rest
