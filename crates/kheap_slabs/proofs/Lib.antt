@@ -1,4 +1,5 @@
 pub mod CountLemmas
+pub mod MarkLemmas
 pub mod ObjectLemmas
 pub mod OnceLemmas
 pub mod OutsideLemmas
@@ -6,4 +7,5 @@ pub mod OwnedLemmas
 pub mod OwnerLemmas
 pub mod PaidLemmas
 pub mod PurseLemmas
+pub mod ReplaceLemmas
 pub mod ShelfLemmas

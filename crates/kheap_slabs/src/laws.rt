@@ -1,6 +1,6 @@
 //! Laws that hold of calls on one heap. Each is the contract of a function that does nothing.
 
-ghost use Rattle.std.specs.Prelude.{◌≡◌, ◌≢◌, ℕ, ◌+◌, ◌*◌, ◌/◌, ◌<◌, ◌≤◌, List, Option, None, Some, [], ◌∷◌, ◌++◌, length, slice_index_or, slice_set};
+ghost use Rattle.std.specs.Prelude.{◌≡◌, ◌≢◌, ℕ, ◌+◌, ◌*◌, ◌/◌, ◌<◌, ◌≤◌, ◌⊎◌, List, Option, None, Some, [], ◌∷◌, ◌++◌, length, slice_index_or, slice_set};
 ghost use Rattle.std.specs.List.{Contains};
 ghost use Rattle.kheap_slabs.specs.declared.objects.Chunk.{Chunk};
 ghost use Rattle.kheap_slabs.specs.declared.objects.Node.{Node};
@@ -8,7 +8,8 @@ ghost use Rattle.kheap_slabs.specs.declared.objects.Page.{Page};
 ghost use Rattle.kheap_slabs.specs.declared.objects.PageEntry.{PageEntry};
 ghost use Rattle.kheap_slabs.specs.declared.objects.PageEntry.TheVariants as entry;
 ghost use Rattle.kheap_slabs.specs.declared.objects.QueueParts.{QueueParts};
-ghost use Rattle.kheap_slabs.specs.Heap.{Heap, empty_heap};
+ghost use Rattle.kheap_slabs.specs.Heap.{Heap, empty_heap, live_bytes};
+ghost use Rattle.kheap_slabs.specs.Marks.{AreSteps, last_heap, greatest_live};
 ghost use Rattle.kheap_slabs.specs.Objects.{object, InUse, put};
 ghost use Rattle.kheap_slabs.specs.Outside.{Keys, KeepsOutside, both_keys, SameOutside};
 ghost use Rattle.kheap_slabs.specs.Owned.{Apart, last_of, OwnsChunks, keys_in, OwnsNodes, names_page, count_at, IsCounted, IsOwned, OwnsItsObjects};
@@ -144,4 +145,37 @@ pub fn owners_stand_alone()
 /// In a heap without objects everything has its owner.
 pub fn an_empty_heap_is_owned()
     ensures { (heap : ℕ) → OwnsItsObjects (empty_heap heap) }
+{}
+
+/// Where one address space changes its nodes, and the pages are counted again, all others own what they owned.
+pub fn a_space_changes_alone()
+    ensures { (old : Heap) (new : Heap) (before : List (List (Option ℕ))) (after : List (List (Option ℕ)))
+        (space : List (Option ℕ)) (now : List (Option ℕ)) (queues : List QueueParts) (chains : List (List ℕ))
+        → IsOwned old (before ++ space ∷ after) queues chains → new.chunks ≡ old.chunks
+        → KeepsOutside (keys_in space ++ keys_in now) old.nodes new.nodes → OwnsNodes new.nodes now
+        → ((key : ℕ) → Contains (keys_in now) key → Contains (keys_in space) key ⊎ (object old.nodes key ≡ None))
+        → ((key : ℕ) → Contains (keys_in space) key → InUse new.nodes key → Contains (keys_in now) key)
+        → IsCounted new.nodes new.pages
+        → IsOwned new (before ++ now ∷ after) queues chains }
+{}
+
+/// Where one queue changes its chunks, all others own what they owned.
+pub fn a_queue_changes_alone()
+    ensures { (old : Heap) (new : Heap) (spaces : List (List (Option ℕ))) (before : List QueueParts) (after : List QueueParts)
+        (queue : QueueParts) (changed : QueueParts) (chains_before : List (List ℕ)) (chains_after : List (List ℕ))
+        (keys : List ℕ) (now : List ℕ)
+        → length chains_before ≡ length before
+        → IsOwned old spaces (before ++ queue ∷ after) (chains_before ++ keys ∷ chains_after)
+        → new.nodes ≡ old.nodes → new.pages ≡ old.pages
+        → KeepsOutside (keys ++ now) old.chunks new.chunks → OwnsChunks new.chunks changed now
+        → ((key : ℕ) → Contains now key → Contains keys key ⊎ (object old.chunks key ≡ None))
+        → ((key : ℕ) → Contains keys key → InUse new.chunks key → Contains now key)
+        → IsOwned new spaces (before ++ changed ∷ after) (chains_before ++ now ∷ chains_after) }
+{}
+
+/// After a mark, `high` is the greatest live of all moments between calls since then.
+pub fn high_is_the_greatest_live()
+    ensures { (marked : Heap) (later : List Heap)
+        → marked.high ≡ live_bytes marked → AreSteps marked later
+        → (last_heap marked later).high ≡ greatest_live marked later }
 {}

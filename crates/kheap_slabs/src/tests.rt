@@ -1,6 +1,5 @@
 ghost use Rattle.std.specs.Prelude.{◌≡◌, ◌+◌, ◌≤◌};
 ghost use Rattle.kheap_slabs.specs.Heap.{live_bytes};
-ghost use Rattle.kheap_slabs.specs.Objects.{InUse};
 
 use crate::{
     Access, Block, Chunk, Desc, DescFlags, KHeap, Name, Node, Page, PageEntry, Pipe, Proc,
@@ -106,131 +105,142 @@ fn sock_of(node: u32) -> Sock {
     }
 }
 
-/// The key of one object of each class.
-#[derive(Clone, Copy)]
-struct OneOfEach {
-    proc: u32,
-    node: u32,
-    page: u32,
-    desc: u32,
-    vnode: u32,
-    name: u32,
-    block: u32,
-    pipe: u32,
-    chunk: u32,
-    sock: u32,
-}
+// For each class: makes an object, frees it and makes another, and gives what told the two apart when it was read.
 
-// Makes one object of each class: 512 + 512 + 4096 + 64 + 128 + 64 + 1088 + 128 + 576 + 128 bytes.
-fn insert_each(heap: &mut KHeap, first: u8) -> OneOfEach
-    requires { live_bytes heap.old + 7296 ≤ heap.old.heap }
+fn renew_proc(heap: &mut KHeap) -> (u32, u32)
+    requires { live_bytes heap.old + 512 ≤ heap.old.heap }
     ensures heap { heap.new.heap ≡ heap.old.heap }
-    ensures live { live_bytes heap.new ≡ live_bytes heap.old + 7296 }
-    ensures proc { InUse heap.new.procs result.proc }
-    ensures node { InUse heap.new.nodes result.node }
-    ensures page { InUse heap.new.pages result.page }
-    ensures desc { InUse heap.new.descs result.desc }
-    ensures vnode { InUse heap.new.vnodes result.vnode }
-    ensures name { InUse heap.new.names result.name }
-    ensures block { InUse heap.new.blocks result.block }
-    ensures pipe { InUse heap.new.pipes result.pipe }
-    ensures chunk { InUse heap.new.chunks result.chunk }
-    ensures sock { InUse heap.new.socks result.sock }
+    ensures live { live_bytes heap.new ≡ live_bytes heap.old + 512 }
 {
-    OneOfEach {
-        proc: heap.insert_proc(proc_of(first as u32)),
-        node: heap.insert_node(node_of(first as u32)),
-        page: heap.insert_page(page_of(first)),
-        desc: heap.insert_desc(desc_of(first as u64)),
-        vnode: heap.insert_vnode(vnode_of(first as u32)),
-        name: heap.insert_name(name_of(first as u32)),
-        block: heap.insert_block(block_of(first as u32)),
-        pipe: heap.insert_pipe(pipe_of(first as u32)),
-        chunk: heap.insert_chunk(chunk_of(first)),
-        sock: heap.insert_sock(sock_of(first as u32)),
-    }
+    let first = heap.insert_proc(proc_of(3));
+    let freed = heap.free_proc(first);
+    let second = heap.insert_proc(proc_of(5));
+    (freed.pid, heap.get_proc(second).pid)
 }
 
-// The number that tells each object from others of its class.
-fn numbers_of(heap: &KHeap, keys: OneOfEach) -> [u64; 10]
-    requires proc { InUse heap.now.procs keys.proc }
-    requires node { InUse heap.now.nodes keys.node }
-    requires page { InUse heap.now.pages keys.page }
-    requires desc { InUse heap.now.descs keys.desc }
-    requires vnode { InUse heap.now.vnodes keys.vnode }
-    requires name { InUse heap.now.names keys.name }
-    requires block { InUse heap.now.blocks keys.block }
-    requires pipe { InUse heap.now.pipes keys.pipe }
-    requires chunk { InUse heap.now.chunks keys.chunk }
-    requires sock { InUse heap.now.socks keys.sock }
-{
-    [
-        heap.get_proc(keys.proc).pid as u64,
-        match heap.get_node(keys.node).entries[63] {
-            PageEntry::Frame(page) => page as u64,
-            _ => 0,
-        },
-        heap.get_page(keys.page).bytes[4095] as u64,
-        heap.get_desc(keys.desc).offset,
-        heap.get_vnode(keys.vnode).number as u64,
-        heap.get_name(keys.name).node as u64,
-        heap.get_block(keys.block).number as u64,
-        heap.get_pipe(keys.pipe).readers as u64,
-        heap.get_chunk(keys.chunk).bytes[511] as u64,
-        heap.get_sock(keys.sock).node.unwrap_or(0) as u64,
-    ]
-}
-
-// Frees them all.
-fn free_each(heap: &mut KHeap, keys: OneOfEach)
-    requires proc { InUse heap.old.procs keys.proc }
-    requires node { InUse heap.old.nodes keys.node }
-    requires page { InUse heap.old.pages keys.page }
-    requires desc { InUse heap.old.descs keys.desc }
-    requires vnode { InUse heap.old.vnodes keys.vnode }
-    requires name { InUse heap.old.names keys.name }
-    requires block { InUse heap.old.blocks keys.block }
-    requires pipe { InUse heap.old.pipes keys.pipe }
-    requires chunk { InUse heap.old.chunks keys.chunk }
-    requires sock { InUse heap.old.socks keys.sock }
+fn renew_node(heap: &mut KHeap) -> (PageEntry, PageEntry)
+    requires { live_bytes heap.old + 512 ≤ heap.old.heap }
     ensures heap { heap.new.heap ≡ heap.old.heap }
-    ensures live { live_bytes heap.new + 7296 ≡ live_bytes heap.old }
+    ensures live { live_bytes heap.new ≡ live_bytes heap.old + 512 }
 {
-    let _ = heap.free_proc(keys.proc);
-    let _ = heap.free_node(keys.node);
-    let _ = heap.free_page(keys.page);
-    let _ = heap.free_desc(keys.desc);
-    let _ = heap.free_vnode(keys.vnode);
-    let _ = heap.free_name(keys.name);
-    let _ = heap.free_block(keys.block);
-    let _ = heap.free_pipe(keys.pipe);
-    let _ = heap.free_chunk(keys.chunk);
-    let _ = heap.free_sock(keys.sock);
+    let first = heap.insert_node(node_of(3));
+    let freed = heap.free_node(first);
+    let second = heap.insert_node(node_of(5));
+    (freed.entries[63], heap.get_node(second).entries[63])
 }
 
-/// All ten classes fill a heap of 8192 bytes to its last byte, leave it, and fill it again.
+fn renew_page(heap: &mut KHeap) -> (u8, u8)
+    requires { live_bytes heap.old + 4096 ≤ heap.old.heap }
+    ensures heap { heap.new.heap ≡ heap.old.heap }
+    ensures live { live_bytes heap.new ≡ live_bytes heap.old + 4096 }
+{
+    let first = heap.insert_page(page_of(3));
+    let freed = heap.free_page(first);
+    let second = heap.insert_page(page_of(5));
+    (freed.bytes[4095], heap.get_page(second).bytes[4095])
+}
+
+fn renew_desc(heap: &mut KHeap) -> (u64, u64)
+    requires { live_bytes heap.old + 64 ≤ heap.old.heap }
+    ensures heap { heap.new.heap ≡ heap.old.heap }
+    ensures live { live_bytes heap.new ≡ live_bytes heap.old + 64 }
+{
+    let first = heap.insert_desc(desc_of(3));
+    let freed = heap.free_desc(first);
+    let second = heap.insert_desc(desc_of(5));
+    (freed.offset, heap.get_desc(second).offset)
+}
+
+fn renew_vnode(heap: &mut KHeap) -> (u32, u32)
+    requires { live_bytes heap.old + 128 ≤ heap.old.heap }
+    ensures heap { heap.new.heap ≡ heap.old.heap }
+    ensures live { live_bytes heap.new ≡ live_bytes heap.old + 128 }
+{
+    let first = heap.insert_vnode(vnode_of(3));
+    let freed = heap.free_vnode(first);
+    let second = heap.insert_vnode(vnode_of(5));
+    (freed.number, heap.get_vnode(second).number)
+}
+
+fn renew_name(heap: &mut KHeap) -> (u32, u32)
+    requires { live_bytes heap.old + 64 ≤ heap.old.heap }
+    ensures heap { heap.new.heap ≡ heap.old.heap }
+    ensures live { live_bytes heap.new ≡ live_bytes heap.old + 64 }
+{
+    let first = heap.insert_name(name_of(3));
+    let freed = heap.free_name(first);
+    let second = heap.insert_name(name_of(5));
+    (freed.node, heap.get_name(second).node)
+}
+
+fn renew_block(heap: &mut KHeap) -> (u32, u32)
+    requires { live_bytes heap.old + 1088 ≤ heap.old.heap }
+    ensures heap { heap.new.heap ≡ heap.old.heap }
+    ensures live { live_bytes heap.new ≡ live_bytes heap.old + 1088 }
+{
+    let first = heap.insert_block(block_of(3));
+    let freed = heap.free_block(first);
+    let second = heap.insert_block(block_of(5));
+    (freed.number, heap.get_block(second).number)
+}
+
+fn renew_pipe(heap: &mut KHeap) -> (u32, u32)
+    requires { live_bytes heap.old + 128 ≤ heap.old.heap }
+    ensures heap { heap.new.heap ≡ heap.old.heap }
+    ensures live { live_bytes heap.new ≡ live_bytes heap.old + 128 }
+{
+    let first = heap.insert_pipe(pipe_of(3));
+    let freed = heap.free_pipe(first);
+    let second = heap.insert_pipe(pipe_of(5));
+    (freed.readers, heap.get_pipe(second).readers)
+}
+
+fn renew_chunk(heap: &mut KHeap) -> (u8, u8)
+    requires { live_bytes heap.old + 576 ≤ heap.old.heap }
+    ensures heap { heap.new.heap ≡ heap.old.heap }
+    ensures live { live_bytes heap.new ≡ live_bytes heap.old + 576 }
+{
+    let first = heap.insert_chunk(chunk_of(3));
+    let freed = heap.free_chunk(first);
+    let second = heap.insert_chunk(chunk_of(5));
+    (freed.bytes[511], heap.get_chunk(second).bytes[511])
+}
+
+fn renew_sock(heap: &mut KHeap) -> (Option<u32>, Option<u32>)
+    requires { live_bytes heap.old + 128 ≤ heap.old.heap }
+    ensures heap { heap.new.heap ≡ heap.old.heap }
+    ensures live { live_bytes heap.new ≡ live_bytes heap.old + 128 }
+{
+    let first = heap.insert_sock(sock_of(3));
+    let freed = heap.free_sock(first);
+    let second = heap.insert_sock(sock_of(5));
+    (freed.node, heap.get_sock(second).node)
+}
+
+/// Objects of all ten classes, each made, freed and made again, fill a heap of 8192 bytes to its last byte.
 #[test]
 fn ten_classes_fill_the_least_heap(rt: HostRuntime) -> Result<(), Fail> {
     let mut heap = KHeap::boot(rt.alloc(), 8192)?;
     assert_eq!(rt; (heap.live(), heap.heap(), heap.high()), (0, 8192, 0));
-    let keys = insert_each(&mut heap, 3);
-    assert_eq!(rt; (heap.live(), heap.high()), (7296, 7296));
-    let chunk = heap.insert_chunk(chunk_of(8));
-    let pipe = heap.insert_pipe(pipe_of(8));
-    let vnode = heap.insert_vnode(vnode_of(8));
-    let desc = heap.insert_desc(desc_of(8));
-    assert_eq!(rt; (heap.live(), heap.high()), (8192, 8192));
-    assert_eq!(rt; numbers_of(&heap, keys), [3; 10]);
-    assert!(rt;
-        chunk != keys.chunk && pipe != keys.pipe && vnode != keys.vnode && desc != keys.desc
+    assert_eq!(rt; renew_proc(&mut heap), (3, 5));
+    assert_eq!(rt;
+        renew_node(&mut heap),
+        (PageEntry::Frame(3), PageEntry::Frame(5))
     );
-    free_each(&mut heap, keys);
-    assert_eq!(rt; (heap.live(), heap.high()), (896, 8192));
-    heap.mark();
-    assert_eq!(rt; heap.high(), 896);
-    let again = insert_each(&mut heap, 5);
+    assert_eq!(rt; renew_page(&mut heap), (3, 5));
+    assert_eq!(rt; renew_desc(&mut heap), (3, 5));
+    assert_eq!(rt; renew_vnode(&mut heap), (3, 5));
+    assert_eq!(rt; renew_name(&mut heap), (3, 5));
+    assert_eq!(rt; renew_block(&mut heap), (3, 5));
+    assert_eq!(rt; renew_pipe(&mut heap), (3, 5));
+    assert_eq!(rt; renew_chunk(&mut heap), (3, 5));
+    assert_eq!(rt; renew_sock(&mut heap), (Some(3), Some(5)));
+    assert_eq!(rt; (heap.live(), heap.high()), (7296, 7296));
+    assert_eq!(rt; renew_chunk(&mut heap), (3, 5));
+    assert_eq!(rt; renew_vnode(&mut heap), (3, 5));
+    assert_eq!(rt; renew_pipe(&mut heap), (3, 5));
+    assert_eq!(rt; renew_desc(&mut heap), (3, 5));
     assert_eq!(rt; (heap.live(), heap.high()), (8192, 8192));
-    assert_eq!(rt; numbers_of(&heap, again), [5; 10]);
     Ok(())
 }
 
@@ -246,15 +256,23 @@ fn a_class_fills_the_greatest_heap(rt: HostRuntime) -> Result<(), Fail> {
     Ok(())
 }
 
-/// A process is put in place of another, and a page beside it stays.
+/// Two pages fill the heap; one goes, a process comes and is set, and the other page stays as it was.
 #[test]
-fn sets_one_object(rt: HostRuntime) -> Result<(), Fail> {
+fn fills_to_the_last_byte(rt: HostRuntime) -> Result<(), Fail> {
     let mut heap = KHeap::boot(rt.alloc(), 8192)?;
+    let one = heap.insert_page(page_of(1));
+    let other = heap.insert_page(page_of(2));
+    assert!(rt; one != other);
+    assert_eq!(rt; (heap.live(), heap.high()), (8192, 8192));
+    let freed = heap.free_page(one);
+    assert_eq!(rt; freed.bytes[4095], 1);
+    assert_eq!(rt; (heap.live(), heap.high()), (4096, 8192));
+    heap.mark();
+    assert_eq!(rt; heap.high(), 4096);
     let child = heap.insert_proc(proc_of(2));
-    let page = heap.insert_page(page_of(2));
     heap.set_proc(child, proc_of(3));
     assert_eq!(rt; heap.get_proc(child).pid, 3);
-    assert_eq!(rt; heap.get_page(page).bytes[0], 2);
+    assert_eq!(rt; heap.get_page(other).bytes[0], 2);
     assert_eq!(rt; (heap.live(), heap.high()), (4608, 4608));
     Ok(())
 }
