@@ -151,9 +151,10 @@ OwnsAllChunks-changed old new mine [] after queue changed [] chains_after keys n
     (mine_owned, OwnsAllChunks-apart mine old new after chains_after kept apart_after owns.1)
 OwnsAllChunks-changed old new mine [] after queue changed (chain ∷ chains) chains_after keys now long owns kept apart_before apart_after mine_owned = absurd (omega arith)
 OwnsAllChunks-changed old new mine (first ∷ rest) after queue changed [] chains_after keys now long owns kept apart_before apart_after mine_owned = absurd (omega arith)
-OwnsAllChunks-changed old new mine (first ∷ rest) after queue changed (chain ∷ chains) chains_after keys now long owns kept apart_before apart_after mine_owned =
-    (OwnsChunks-apart mine old new first chain kept (λ key here there. apart_before key here (Contains-append_left chain (concat chains) key there)) owns.0,
-    OwnsAllChunks-changed old new mine rest after queue changed chains chains_after keys now (omega arith) owns.1 kept (λ key here there. apart_before key here (Contains-append_right chain (concat chains) key there)) apart_after mine_owned)
+OwnsAllChunks-changed old new mine (first ∷ rest) after queue changed (chain ∷ chains) chains_after keys now long owns kept apart_before apart_after mine_owned = (
+  OwnsChunks-apart mine old new first chain kept (λ key here there. apart_before key here (Contains-append_left chain (concat chains) key there)) owns.0,
+  OwnsAllChunks-changed old new mine rest after queue changed chains chains_after keys now (omega arith) owns.1 kept (λ key here there. apart_before key here (Contains-append_right chain (concat chains) key there)) apart_after mine_owned,
+)
 
 -- one queue changes its chunks
 pub IsOwned-queue_changed : (old new : Heap) (spaces : List (List (Option ℕ))) (before after : List QueueParts) (queue changed : QueueParts) (chains_before chains_after : List (List ℕ)) (keys now : List ℕ) → length chains_before ≡ length before → IsOwned old spaces (before ++ queue ∷ after) (chains_before ++ keys ∷ chains_after) → new.nodes ≡ old.nodes → new.pages ≡ old.pages → KeepsOutside (keys ++ now) old.chunks new.chunks → OwnsChunks new.chunks changed now → ((key : ℕ) → Contains now key → Contains keys key ⊎ (object old.chunks key ≡ None)) → ((key : ℕ) → Contains keys key → InUse new.chunks key → Contains now key) → IsOwned new spaces (before ++ changed ∷ after) (chains_before ++ now ∷ chains_after)
@@ -171,9 +172,9 @@ IsOwned-queue_changed old new spaces before after queue changed chains_before ch
       nodes_once = owned.nodes_once;
       pages = rw (nodes, pages) owned.pages;
       chunks_used = OwnsAllChunks-changed old.chunks new.chunks (keys ++ now) before after queue changed chains_before chains_after keys now long owned.chunks_used kept
-        (either (concat chains_before) (λ k here there. IsOnce-apart (concat chains_before) (keys ++ concat chains_after) once k there (Contains-append_left keys (concat chains_after) k here)) apart.before)
-        (either (concat chains_after) (IsOnce-apart keys (concat chains_after) (IsOnce-right (concat chains_before) (keys ++ concat chains_after) once)) apart.after)
-        owns;
+          (either (concat chains_before) (λ k here there. IsOnce-apart (concat chains_before) (keys ++ concat chains_after) once k there (Contains-append_left keys (concat chains_after) k here)) apart.before)
+          (either (concat chains_after) (IsOnce-apart keys (concat chains_after) (IsOnce-right (concat chains_before) (keys ++ concat chains_after) once)) apart.after)
+          owns;
       chunks_owned = λ key used. rw is (owned_still old.chunks new.chunks (concat chains_before) keys now (concat chains_after) kept (λ k there. rw was at (owned.chunks_owned k there)) left key used);
       chunks_once = rw is (once_replaced (concat chains_before) keys now (concat chains_after) once owns.once apart);
     }

@@ -105,9 +105,9 @@ fn sock_of(node: u32) -> Sock {
     }
 }
 
-// For each class: makes an object, frees it and makes another, and gives what told the two apart when it was read.
+// For each class: makes an object, frees it and makes another. True where both are read as they were made.
 
-fn renew_proc(heap: &mut KHeap) -> (u32, u32)
+fn renew_proc(heap: &mut KHeap) -> bool
     requires { live_bytes heap.old + 512 ≤ heap.old.heap }
     ensures heap { heap.new.heap ≡ heap.old.heap }
     ensures live { live_bytes heap.new ≡ live_bytes heap.old + 512 }
@@ -115,10 +115,11 @@ fn renew_proc(heap: &mut KHeap) -> (u32, u32)
     let first = heap.insert_proc(proc_of(3));
     let freed = heap.free_proc(first);
     let second = heap.insert_proc(proc_of(5));
-    (freed.pid, heap.get_proc(second).pid)
+    let found = heap.get_proc(second);
+    freed.pid == 3 && found.pid == 5
 }
 
-fn renew_node(heap: &mut KHeap) -> (PageEntry, PageEntry)
+fn renew_node(heap: &mut KHeap) -> bool
     requires { live_bytes heap.old + 512 ≤ heap.old.heap }
     ensures heap { heap.new.heap ≡ heap.old.heap }
     ensures live { live_bytes heap.new ≡ live_bytes heap.old + 512 }
@@ -126,10 +127,11 @@ fn renew_node(heap: &mut KHeap) -> (PageEntry, PageEntry)
     let first = heap.insert_node(node_of(3));
     let freed = heap.free_node(first);
     let second = heap.insert_node(node_of(5));
-    (freed.entries[63], heap.get_node(second).entries[63])
+    let found = heap.get_node(second);
+    freed.entries[63] == PageEntry::Frame(3) && found.entries[63] == PageEntry::Frame(5)
 }
 
-fn renew_page(heap: &mut KHeap) -> (u8, u8)
+fn renew_page(heap: &mut KHeap) -> bool
     requires { live_bytes heap.old + 4096 ≤ heap.old.heap }
     ensures heap { heap.new.heap ≡ heap.old.heap }
     ensures live { live_bytes heap.new ≡ live_bytes heap.old + 4096 }
@@ -137,10 +139,11 @@ fn renew_page(heap: &mut KHeap) -> (u8, u8)
     let first = heap.insert_page(page_of(3));
     let freed = heap.free_page(first);
     let second = heap.insert_page(page_of(5));
-    (freed.bytes[4095], heap.get_page(second).bytes[4095])
+    let found = heap.get_page(second);
+    freed.bytes[4095] == 3 && found.bytes[4095] == 5
 }
 
-fn renew_desc(heap: &mut KHeap) -> (u64, u64)
+fn renew_desc(heap: &mut KHeap) -> bool
     requires { live_bytes heap.old + 64 ≤ heap.old.heap }
     ensures heap { heap.new.heap ≡ heap.old.heap }
     ensures live { live_bytes heap.new ≡ live_bytes heap.old + 64 }
@@ -148,10 +151,11 @@ fn renew_desc(heap: &mut KHeap) -> (u64, u64)
     let first = heap.insert_desc(desc_of(3));
     let freed = heap.free_desc(first);
     let second = heap.insert_desc(desc_of(5));
-    (freed.offset, heap.get_desc(second).offset)
+    let found = heap.get_desc(second);
+    freed.offset == 3 && found.offset == 5
 }
 
-fn renew_vnode(heap: &mut KHeap) -> (u32, u32)
+fn renew_vnode(heap: &mut KHeap) -> bool
     requires { live_bytes heap.old + 128 ≤ heap.old.heap }
     ensures heap { heap.new.heap ≡ heap.old.heap }
     ensures live { live_bytes heap.new ≡ live_bytes heap.old + 128 }
@@ -159,10 +163,11 @@ fn renew_vnode(heap: &mut KHeap) -> (u32, u32)
     let first = heap.insert_vnode(vnode_of(3));
     let freed = heap.free_vnode(first);
     let second = heap.insert_vnode(vnode_of(5));
-    (freed.number, heap.get_vnode(second).number)
+    let found = heap.get_vnode(second);
+    freed.number == 3 && found.number == 5
 }
 
-fn renew_name(heap: &mut KHeap) -> (u32, u32)
+fn renew_name(heap: &mut KHeap) -> bool
     requires { live_bytes heap.old + 64 ≤ heap.old.heap }
     ensures heap { heap.new.heap ≡ heap.old.heap }
     ensures live { live_bytes heap.new ≡ live_bytes heap.old + 64 }
@@ -170,10 +175,11 @@ fn renew_name(heap: &mut KHeap) -> (u32, u32)
     let first = heap.insert_name(name_of(3));
     let freed = heap.free_name(first);
     let second = heap.insert_name(name_of(5));
-    (freed.node, heap.get_name(second).node)
+    let found = heap.get_name(second);
+    freed.node == 3 && found.node == 5
 }
 
-fn renew_block(heap: &mut KHeap) -> (u32, u32)
+fn renew_block(heap: &mut KHeap) -> bool
     requires { live_bytes heap.old + 1088 ≤ heap.old.heap }
     ensures heap { heap.new.heap ≡ heap.old.heap }
     ensures live { live_bytes heap.new ≡ live_bytes heap.old + 1088 }
@@ -181,10 +187,11 @@ fn renew_block(heap: &mut KHeap) -> (u32, u32)
     let first = heap.insert_block(block_of(3));
     let freed = heap.free_block(first);
     let second = heap.insert_block(block_of(5));
-    (freed.number, heap.get_block(second).number)
+    let found = heap.get_block(second);
+    freed.number == 3 && found.number == 5
 }
 
-fn renew_pipe(heap: &mut KHeap) -> (u32, u32)
+fn renew_pipe(heap: &mut KHeap) -> bool
     requires { live_bytes heap.old + 128 ≤ heap.old.heap }
     ensures heap { heap.new.heap ≡ heap.old.heap }
     ensures live { live_bytes heap.new ≡ live_bytes heap.old + 128 }
@@ -192,10 +199,11 @@ fn renew_pipe(heap: &mut KHeap) -> (u32, u32)
     let first = heap.insert_pipe(pipe_of(3));
     let freed = heap.free_pipe(first);
     let second = heap.insert_pipe(pipe_of(5));
-    (freed.readers, heap.get_pipe(second).readers)
+    let found = heap.get_pipe(second);
+    freed.readers == 3 && found.readers == 5
 }
 
-fn renew_chunk(heap: &mut KHeap) -> (u8, u8)
+fn renew_chunk(heap: &mut KHeap) -> bool
     requires { live_bytes heap.old + 576 ≤ heap.old.heap }
     ensures heap { heap.new.heap ≡ heap.old.heap }
     ensures live { live_bytes heap.new ≡ live_bytes heap.old + 576 }
@@ -203,10 +211,11 @@ fn renew_chunk(heap: &mut KHeap) -> (u8, u8)
     let first = heap.insert_chunk(chunk_of(3));
     let freed = heap.free_chunk(first);
     let second = heap.insert_chunk(chunk_of(5));
-    (freed.bytes[511], heap.get_chunk(second).bytes[511])
+    let found = heap.get_chunk(second);
+    freed.bytes[511] == 3 && found.bytes[511] == 5
 }
 
-fn renew_sock(heap: &mut KHeap) -> (Option<u32>, Option<u32>)
+fn renew_sock(heap: &mut KHeap) -> bool
     requires { live_bytes heap.old + 128 ≤ heap.old.heap }
     ensures heap { heap.new.heap ≡ heap.old.heap }
     ensures live { live_bytes heap.new ≡ live_bytes heap.old + 128 }
@@ -214,65 +223,115 @@ fn renew_sock(heap: &mut KHeap) -> (Option<u32>, Option<u32>)
     let first = heap.insert_sock(sock_of(3));
     let freed = heap.free_sock(first);
     let second = heap.insert_sock(sock_of(5));
-    (freed.node, heap.get_sock(second).node)
+    let found = heap.get_sock(second);
+    freed.node == Some(3) && found.node == Some(5)
+}
+
+// 512 + 512 + 4096 + 64 + 128 + 64 + 1088 + 128 + 576 + 128 bytes.
+fn renew_each(heap: &mut KHeap) -> [bool; 10]
+    requires { live_bytes heap.old + 7296 ≤ heap.old.heap }
+    ensures heap { heap.new.heap ≡ heap.old.heap }
+    ensures live { live_bytes heap.new ≡ live_bytes heap.old + 7296 }
+{
+    let procs = renew_proc(heap);
+    let nodes = renew_node(heap);
+    let pages = renew_page(heap);
+    let descs = renew_desc(heap);
+    let vnodes = renew_vnode(heap);
+    let names = renew_name(heap);
+    let blocks = renew_block(heap);
+    let pipes = renew_pipe(heap);
+    let chunks = renew_chunk(heap);
+    let socks = renew_sock(heap);
+    [
+        procs, nodes, pages, descs, vnodes, names, blocks, pipes, chunks, socks,
+    ]
+}
+
+// 576 + 128 + 128 + 64 bytes.
+fn renew_four(heap: &mut KHeap) -> [bool; 4]
+    requires { live_bytes heap.old + 896 ≤ heap.old.heap }
+    ensures heap { heap.new.heap ≡ heap.old.heap }
+    ensures live { live_bytes heap.new ≡ live_bytes heap.old + 896 }
+{
+    let chunks = renew_chunk(heap);
+    let vnodes = renew_vnode(heap);
+    let pipes = renew_pipe(heap);
+    let descs = renew_desc(heap);
+    [chunks, vnodes, pipes, descs]
 }
 
 /// Objects of all ten classes, each made, freed and made again, fill a heap of 8192 bytes to its last byte.
 #[test]
 fn ten_classes_fill_the_least_heap(rt: HostRuntime) -> Result<(), Fail> {
     let mut heap = KHeap::boot(rt.alloc(), 8192)?;
-    assert_eq!(rt; (heap.live(), heap.heap(), heap.high()), (0, 8192, 0));
-    assert_eq!(rt; renew_proc(&mut heap), (3, 5));
+    let empty = heap.live();
+    let ten = renew_each(&mut heap);
+    let between = heap.live();
+    let four = renew_four(&mut heap);
     assert_eq!(rt;
-        renew_node(&mut heap),
-        (PageEntry::Frame(3), PageEntry::Frame(5))
+        (empty, between, heap.live(), heap.high(), heap.heap()),
+        (0, 7296, 8192, 8192, 8192)
     );
-    assert_eq!(rt; renew_page(&mut heap), (3, 5));
-    assert_eq!(rt; renew_desc(&mut heap), (3, 5));
-    assert_eq!(rt; renew_vnode(&mut heap), (3, 5));
-    assert_eq!(rt; renew_name(&mut heap), (3, 5));
-    assert_eq!(rt; renew_block(&mut heap), (3, 5));
-    assert_eq!(rt; renew_pipe(&mut heap), (3, 5));
-    assert_eq!(rt; renew_chunk(&mut heap), (3, 5));
-    assert_eq!(rt; renew_sock(&mut heap), (Some(3), Some(5)));
-    assert_eq!(rt; (heap.live(), heap.high()), (7296, 7296));
-    assert_eq!(rt; renew_chunk(&mut heap), (3, 5));
-    assert_eq!(rt; renew_vnode(&mut heap), (3, 5));
-    assert_eq!(rt; renew_pipe(&mut heap), (3, 5));
-    assert_eq!(rt; renew_desc(&mut heap), (3, 5));
-    assert_eq!(rt; (heap.live(), heap.high()), (8192, 8192));
+    assert_eq!(rt; ten, [true; 10]);
+    assert_eq!(rt; four, [true; 4]);
     Ok(())
 }
 
-/// The greatest heap takes as many objects of a class as its bytes allow, each under a key of its own.
+// As many descriptions as the greatest heap has room for: 8388608 / 64.
+fn fill_with_descs(heap: &mut KHeap)
+    requires empty { live_bytes heap.old ≡ 0 }
+    requires size { heap.old.heap ≡ 8388608 }
+    ensures { live_bytes heap.new ≡ 8388608 }
+{
+    for offset in 0..131072 {
+        let key = heap.insert_desc(desc_of(offset));
+        prove!(key < 131072);
+    }
+}
+
+/// The greatest heap takes as many objects of a class as its bytes allow.
 #[test]
 fn a_class_fills_the_greatest_heap(rt: HostRuntime) -> Result<(), Fail> {
     let mut heap = KHeap::boot(rt.alloc(), 8388608)?;
-    for offset in 0..131072 {
-        let key = heap.insert_desc(desc_of(offset));
-        assert!(rt; key < 131072);
-    }
-    assert_eq!(rt; (heap.live(), heap.high()), (8388608, 8388608));
+    fill_with_descs(&mut heap);
+    assert_eq!(rt;
+        (heap.live(), heap.high(), heap.heap()),
+        (8388608, 8388608, 8388608)
+    );
     Ok(())
 }
 
-/// Two pages fill the heap; one goes, a process comes and is set, and the other page stays as it was.
-#[test]
-fn fills_to_the_last_byte(rt: HostRuntime) -> Result<(), Fail> {
-    let mut heap = KHeap::boot(rt.alloc(), 8192)?;
+// Two pages; one goes, a process comes and another is put in its place. What was read on the way.
+fn change_some(heap: &mut KHeap) -> [u64; 6]
+    requires empty { live_bytes heap.old ≡ 0 }
+    requires size { heap.old.heap ≡ 8192 }
+    ensures { live_bytes heap.new ≡ 4608 }
+{
     let one = heap.insert_page(page_of(1));
     let other = heap.insert_page(page_of(2));
-    assert!(rt; one != other);
-    assert_eq!(rt; (heap.live(), heap.high()), (8192, 8192));
+    prove!(one != other);
+    let high = heap.high();
     let freed = heap.free_page(one);
-    assert_eq!(rt; freed.bytes[4095], 1);
-    assert_eq!(rt; (heap.live(), heap.high()), (4096, 8192));
     heap.mark();
-    assert_eq!(rt; heap.high(), 4096);
+    let marked = heap.high();
     let child = heap.insert_proc(proc_of(2));
     heap.set_proc(child, proc_of(3));
-    assert_eq!(rt; heap.get_proc(child).pid, 3);
-    assert_eq!(rt; heap.get_page(other).bytes[0], 2);
-    assert_eq!(rt; (heap.live(), heap.high()), (4608, 4608));
+    [
+        high,
+        freed.bytes[4095] as u64,
+        marked,
+        heap.get_proc(child).pid as u64,
+        heap.get_page(other).bytes[0] as u64,
+        heap.high(),
+    ]
+}
+
+/// A page that goes, a mark and a process that is set leave the other page as it was.
+#[test]
+fn each_call_changes_one_object(rt: HostRuntime) -> Result<(), Fail> {
+    let mut heap = KHeap::boot(rt.alloc(), 8192)?;
+    let seen = change_some(&mut heap);
+    assert_eq!(rt; seen, [8192, 1, 4096, 3, 2, 4608]);
     Ok(())
 }

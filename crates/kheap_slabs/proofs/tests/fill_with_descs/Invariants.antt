@@ -1,9 +1,9 @@
-use Rattle.std.proofs.Common.{◌≡◌, ◌+◌, ◌*◌}
+use Rattle.std.proofs.Common.{◌≡◌, ◌*◌}
 use Rattle.kheap_slabs.specs.Heap.{live_bytes}
-use Rattle.kheap_slabs.proofs.tests.a_class_fills_the_greatest_heap.Given as goal
+use Rattle.kheap_slabs.proofs.tests.fill_with_descs.Given as goal
 
 abbrev pub invariant-loop-offset : goal.invariant-loop-offset
-invariant-loop-offset g l = record {
+invariant-loop-offset l = record {
   heap : l.heap.heap ≡ 8388608;
   live : live_bytes l.heap ≡ 64 * l.offset;
 }
