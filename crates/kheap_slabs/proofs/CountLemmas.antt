@@ -1,5 +1,5 @@
 -- How many entries name a page, after a change of the nodes, and what the pages' counts must then be.
-use Rattle.std.proofs.Common.{◌≡◌, ◌≢◌, ℕ, ◌+◌, ◌<◌, ◌≤◌, List, [], ◌∷◌, Option, Some, None, IsSome, length, get_or, set, eqb, refl, sym, ap, ◌∙◌, inl, inr, arith, Contains}
+use Rattle.std.proofs.Common.{◌≡◌, ◌≢◌, ℕ, ◌+◌, ◌<◌, List, Option, Some, None, length, get_or, set, refl, sym, ap, inl, inr, arith}
 use Rattle.std.proofs.lemmas.Bool.{cases_eq}
 use Rattle.std.specs.List.{sum_by}
 use Rattle.std.proofs.lemmas.List.Sums.{sum_by-set}
@@ -10,7 +10,7 @@ use Rattle.kheap_slabs.specs.declared.objects.Node.{Node}
 use Rattle.kheap_slabs.specs.declared.objects.Page.{Page}
 use Rattle.kheap_slabs.specs.declared.objects.PageEntry.{PageEntry}
 use Rattle.kheap_slabs.specs.declared.objects.PageEntry.TheVariants as entry
-use Rattle.kheap_slabs.proofs.ObjectLemmas.{InUse-within, object-put, object-put_other, object-without, object-without_other}
+use Rattle.kheap_slabs.proofs.ObjectLemmas.{InUse-within}
 
 -- a change of the nodes of one space leaves those of another
 pub OwnsNodes-apart : (changed : List ℕ) (old new : List (Option Node)) (space : List (Option ℕ)) → KeepsOutside changed old new → Apart changed (keys_in space) → OwnsNodes old space → OwnsNodes new space

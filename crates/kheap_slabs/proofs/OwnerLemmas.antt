@@ -1,5 +1,5 @@
 -- The owners of a heap's objects one by one.
-use Rattle.std.proofs.Common.{◌≡◌, ℕ, zero, suc, ◌+◌, ◌<◌, List, [], ◌∷◌, ◌++◌, Option, Some, None, length, get_or, map, replicate, mul-zero, refl, sym, ap, inl, inr, ◌∙◌, arith, Contains}
+use Rattle.std.proofs.Common.{◌≡◌, ℕ, zero, suc, ◌<◌, List, [], ◌∷◌, Option, None, length, get_or, map, replicate, mul-zero, refl, sym, ap, inl, inr, ◌∙◌, arith, Contains}
 use Rattle.std.proofs.lemmas.Bool.{cases_lt}
 use Rattle.std.proofs.lemmas.List.{get_or-map, length-map, get_or-replicate, get_or_past, length-replicate}
 use Rattle.std.proofs.lemmas.List.Folds.{sum_by-replicate}
@@ -8,7 +8,7 @@ use Rattle.std.specs.List.{concat}
 use Rattle.kheap_slabs.specs.Heap.{Heap, empty_heap}
 use Rattle.kheap_slabs.specs.Objects.{object, InUse}
 use Rattle.kheap_slabs.specs.Outside.{KeepsOutside}
-use Rattle.kheap_slabs.specs.Owned.{IsOnce, Apart, OwnsChunks, OwnsAllChunks, keys_in, space_keys, OwnsNodes, names_in, page_count, IsCounted, spaces_of, pipe_queues, sock_queues, IsOwned, OwnsItsObjects}
+use Rattle.kheap_slabs.specs.Owned.{IsOnce, Apart, OwnsChunks, OwnsAllChunks, keys_in, OwnsNodes, names_in, page_count, IsCounted, spaces_of, pipe_queues, sock_queues, IsOwned, OwnsItsObjects}
 use Rattle.kheap_slabs.specs.declared.objects.Chunk.{Chunk}
 use Rattle.kheap_slabs.specs.declared.objects.QueueParts.{QueueParts}
 use Rattle.kheap_slabs.proofs.OnceLemmas.{IsOnce-left, IsOnce-right, IsOnce-apart}

@@ -1,5 +1,5 @@
 -- One owner of a heap's objects changes what it owns, and all others own what they did.
-use Rattle.std.proofs.Common.{◌≡◌, ◌⊎◌, ℕ, zero, suc, ◌+◌, ◌<◌, List, [], ◌∷◌, ◌++◌, Option, Some, None, length, map, refl, sym, ap, ◌∙◌, inl, inr, arith, Contains}
+use Rattle.std.proofs.Common.{◌≡◌, ◌⊎◌, ℕ, List, [], ◌∷◌, ◌++◌, Option, None, length, map, ap, ◌∙◌, inl, inr, arith, Contains}
 use Rattle.std.proofs.lemmas.Bool.{cases_eq}
 use Rattle.std.proofs.lemmas.List.{map-append}
 use Rattle.std.proofs.lemmas.List.Folds.{concat-append}
@@ -12,7 +12,7 @@ use Rattle.kheap_slabs.specs.Outside.{KeepsOutside}
 use Rattle.kheap_slabs.specs.Owned.{IsOnce, Apart, OwnsChunks, OwnsAllChunks, keys_in, space_keys, OwnsNodes, IsCounted, IsOwned}
 use Rattle.kheap_slabs.specs.declared.objects.Chunk.{Chunk}
 use Rattle.kheap_slabs.specs.declared.objects.QueueParts.{QueueParts}
-use Rattle.kheap_slabs.proofs.OnceLemmas.{IsOnce-append, IsOnce-left, IsOnce-right, IsOnce-apart, Apart-sym}
+use Rattle.kheap_slabs.proofs.OnceLemmas.{IsOnce-append, IsOnce-left, IsOnce-right, IsOnce-apart}
 use Rattle.kheap_slabs.proofs.OwnedLemmas.{IsChain-used, OwnsChunks-apart}
 use Rattle.kheap_slabs.proofs.OwnerLemmas.{OwnsAllChunks-apart}
 
