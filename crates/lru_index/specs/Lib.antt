@@ -1,2 +1,4 @@
 pub mod Keys
 pub mod Order
+pub mod Sorted
+pub mod Tree

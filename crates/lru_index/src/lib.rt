@@ -6,6 +6,7 @@
 
 mod index;
 mod keys;
+mod tree;
 #[cfg(test)]
 mod tests;
 
