@@ -2,7 +2,7 @@
 use Rattle.std.proofs.Common.{◌≡◌, ◌<◌, Bool, true, false, cond, List, [], ◌∷◌, ◌++◌, Option, Some, None, refl, sym, ap, ◌∙◌, subst, append_assoc, length, length-append, arith}
 use Rattle.std.specs.List.{AllByRecursion}
 use Rattle.std.specs.Map.{keys_of, lookup}
-use Rattle.std.specs.Cmp.{IsTotalOrder}
+use Rattle.std.specs.Cmp.{IsTotalOrder, IsEquivalence}
 use Rattle.std.specs.Ordering.{is_eq, ordering_reverse}
 use Rattle.std.specs.declared.cmp.Ordering.{Ordering}
 use Rattle.std.specs.declared.cmp.Ordering.TheVariants.{Less, Equal, Greater}
@@ -81,6 +81,22 @@ module _ {K V : Type 0} where
     is = ap (λ l. rest ++ l) s.is ∙ sym (append_assoc rest s.front ((key, value) ∷ s.back));
   }
 
+  -- keys that rise still do without one of them
+  sorted_without : (cmp : K → K → Ordering) (l : List (K × V)) (p : K × V) (r : List (K × V)) → IsSorted cmp (keys_of (l ++ p ∷ r)) → IsSorted cmp (keys_of (l ++ r))
+  sorted_without cmp [] p r s = s.1
+  sorted_without cmp (x ∷ l) p r s = (all_joined _ l r (all_front _ l (p ∷ r) s.0) (all_back _ l (p ∷ r) s.0).1, sorted_without cmp l p r s.1)
+
+  pub sorted_less : (cmp : K → K → Ordering) {pair : K × V} {less more : List (K × V)} → IsWith pair less more → IsSorted cmp (keys_of more) → IsSorted cmp (keys_of less)
+  sorted_less cmp {pair} {less} {more} w s = subst (λ l. IsSorted cmp (keys_of l)) (sym w.without) (sorted_without cmp w.front pair w.back (subst (λ l. IsSorted cmp (keys_of l)) w.is s))
+
+  keys_set : (l : List (K × V)) (k : K) (v w : V) (r : List (K × V)) → keys_of (l ++ (k, v) ∷ r) ≡ keys_of (l ++ (k, w) ∷ r)
+  keys_set [] k v w r = refl
+  keys_set (x ∷ l) k v w r = ap (λ ks. x.0 ∷ ks) (keys_set l k v w r)
+
+  -- another value changes no key
+  pub sorted_set : (cmp : K → K → Ordering) {key : K} {value : V} {old new : List (K × V)} → IsSet key value old new → IsSorted cmp (keys_of old) → IsSorted cmp (keys_of new)
+  sorted_set cmp {key} {value} {old} {new} c s = subst (λ l. IsSorted cmp (keys_of l)) (sym c.is) (subst (IsSorted cmp) (keys_set c.front key c.before value c.back) (subst (λ l. IsSorted cmp (keys_of l)) c.was s))
+
   -- What is known of the sides of a pair in a list whose keys rise.
   pub record AtFork (cmp : K → K → Ordering) (left : List (K × V)) (key : K) (right : List (K × V)) : Type 0 where
     pub left_sorted : IsSorted cmp (keys_of left)
@@ -106,6 +122,22 @@ module _ {K V : Type 0} where
   -- each side has fewer pairs than the whole
   pub sides_shorter : {d : List (K × V)} (l : List (K × V)) (p : K × V) (r : List (K × V)) → d ≡ l ++ p ∷ r → (length l < length d) × (length r < length d)
   sides_shorter {d} l p r e = rw e (omega (arith, length-append l (p ∷ r)), omega (arith, length-append l (p ∷ r)))
+
+-- a key equal to a third is apart from one that is not
+pub other_than : {K : Type 0} {eq : K → K → Bool} → IsEquivalence eq → (k q x : K) → eq k x ≡ false → eq q x ≡ true → eq k q ≡ false
+other_than {K} {eq} laws k q x t u = (elim (eq k q) as (λ y. eq k q ≡ y → y ≡ false) [
+  | true ↦ λ e. sym u ∙ sym (laws.congr k q x e) ∙ t
+  | false ↦ λ e. refl
+]) refl
+
+module _ {K V : Type 0} {eq : K → K → Bool} (laws : IsEquivalence eq) where
+  -- what is found with one pair more, where its key isn't among those before it
+  found_with : (front : List (K × V)) (k : K) (v : V) (back : List (K × V)) → AllByRecursion (λ x. eq k x ≡ false) (keys_of front) → (q : K) → lookup (eq q) (front ++ (k, v) ∷ back) ≡ cond (eq k q) (Some v) (lookup (eq q) (front ++ back))
+  found_with [] k v back a q = ap (λ b. cond b (Some v) (lookup (eq q) back)) (laws.symm q k)
+  found_with (x ∷ front) k v back a q = (elim (eq q x.0) as (λ y. eq q x.0 ≡ y → cond y (Some x.1) (lookup (eq q) (front ++ (k, v) ∷ back)) ≡ cond (eq k q) (Some v) (cond y (Some x.1) (lookup (eq q) (front ++ back)))) [
+    | true ↦ λ u. let apart : eq k q ≡ false = other_than laws k q x.0 a.0 u in rw apart refl
+    | false ↦ λ u. found_with front k v back a.1 q
+  ]) refl
 
 turned : {K : Type 0} {cmp : K → K → Ordering} → IsTotalOrder cmp → (a b : K) (o : Ordering) → cmp a b ≡ o → cmp b a ≡ ordering_reverse o
 turned total a b o e = total.antisymm b a ∙ ap ordering_reverse e
@@ -147,3 +179,36 @@ module _ {K V : Type 0} {cmp : K → K → Ordering} {eq : K → K → Bool} (to
 
   pub sorted_put_right : {q : K} {w : V} (l : List (K × V)) (k : K) (v : V) {r r' : List (K × V)} → AtFork cmp l k r → cmp q k ≡ Greater → IsWith (q, w) r r' → IsSorted cmp (keys_of r') → IsSorted cmp (keys_of (l ++ (k, v) ∷ r'))
   sorted_put_right {q} {w} l k v {r} {r'} h e more s = sorted_joined l k v r' (record { left_sorted = h.left_sorted; right_sorted = s; below = h.below; above = all_with _ more (turned total q k Greater e) h.above })
+
+  apart_front : (k : K) (l : List (K × V)) → AllByRecursion (λ x. cmp x k ≡ Less) (keys_of l) → AllByRecursion (λ x. eq k x ≡ false) (keys_of l)
+  apart_front k l a = all_mapped _ (λ x. eq k x ≡ false) (λ x g. ties k x ∙ ap is_eq (turned total x k Less g)) l a
+
+  apart_back : (k : K) (r : List (K × V)) → AllByRecursion (λ x. cmp k x ≡ Less) (keys_of r) → AllByRecursion (λ x. eq k x ≡ false) (keys_of r)
+  apart_back k r a = all_mapped _ (λ x. eq k x ≡ false) (λ x g. ties k x ∙ ap is_eq g) r a
+
+  module _ (laws : IsEquivalence eq) where
+    -- what is found where a pair was put, where one was taken, and where a key has another value
+    pub finds_put : {k : K} {v : V} {less more : List (K × V)} → IsWith (k, v) less more → IsSorted cmp (keys_of more) → (q : K) → lookup (eq q) more ≡ cond (eq k q) (Some v) (lookup (eq q) less)
+    finds_put {k} {v} {less} {more} w s q =
+        let f = fork_of cmp w.front k v w.back w.is s in
+        ap (lookup (eq q)) w.is ∙ found_with laws w.front k v w.back (apart_front k w.front f.below) q ∙ ap (λ l. cond (eq k q) (Some v) (lookup (eq q) l)) (sym w.without)
+
+    pub value_taken : {k : K} {v : V} {less more : List (K × V)} → IsWith (k, v) less more → IsSorted cmp (keys_of more) → lookup (eq k) more ≡ Some v
+    value_taken {k} {v} {less} {more} w s = finds_put w s k ∙ ap (λ b. cond b (Some v) (lookup (eq k) less)) (laws.refl k)
+
+    pub finds_taken : {k : K} {v : V} {less more : List (K × V)} → IsWith (k, v) less more → IsSorted cmp (keys_of more) → (q : K) → lookup (eq q) less ≡ cond (eq k q) None (lookup (eq q) more)
+    finds_taken {k} {v} {less} {more} w s q =
+        let f = fork_of cmp w.front k v w.back w.is s in
+        let apart = all_joined _ w.front w.back (apart_front k w.front f.below) (apart_back k w.back f.above) in
+        (elim (eq k q) as (λ y. eq k q ≡ y → lookup (eq q) less ≡ cond y None (lookup (eq q) more)) [
+          | true ↦ λ e. ap (lookup (eq q)) w.without ∙ none_found (eq q) (w.front ++ w.back) (all_mapped _ (λ x. eq q x ≡ false) (λ x g. sym (laws.congr k q x e) ∙ g) (w.front ++ w.back) apart)
+          | false ↦ λ e. sym (finds_put w s q ∙ ap (λ b. cond b (Some v) (lookup (eq q) less)) e)
+        ]) refl
+
+    pub finds_set : {k : K} {v : V} {old new : List (K × V)} → IsSet k v old new → IsSorted cmp (keys_of old) → (q : K) → lookup (eq q) new ≡ cond (eq k q) (Some v) (lookup (eq q) old)
+    finds_set {k} {v} {old} {new} c s q =
+        let f = fork_of cmp c.front k c.before c.back c.was s in
+        let a = apart_front k c.front f.below in
+        let was : lookup (eq q) old ≡ cond (eq k q) (Some c.before) (lookup (eq q) (c.front ++ c.back)) = ap (lookup (eq q)) c.was ∙ found_with laws c.front k c.before c.back a q in
+        let is : lookup (eq q) new ≡ cond (eq k q) (Some v) (lookup (eq q) (c.front ++ c.back)) = ap (lookup (eq q)) c.is ∙ found_with laws c.front k v c.back a q in
+        rw (is, was) ((elim (eq k q) as (λ y. cond y (Some v) (lookup (eq q) (c.front ++ c.back)) ≡ cond y (Some v) (cond y (Some c.before) (lookup (eq q) (c.front ++ c.back)))) [ true ↦ refl | false ↦ refl ]))

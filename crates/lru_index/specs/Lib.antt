@@ -1,3 +1,4 @@
+pub mod Chain
 pub mod Keys
 pub mod Order
 pub mod Sorted

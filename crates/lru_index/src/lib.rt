@@ -4,6 +4,7 @@
 //! the same time whatever is kept; each other call walks over the pairs, and so takes time in their number.
 #![tactic(auto)]
 
+mod chain;
 mod index;
 mod keys;
 mod tree;

@@ -2,7 +2,7 @@
 //!
 //! A node's two sides differ in height by at most one, so a call goes down as many nodes as the logarithm of their number.
 //! Leaves are boxes too: `put` takes two that its caller kept, and `take` gives two back, so neither asks for memory.
-ghost use Rattle.std.specs.Prelude.{◌≡◌, [], ◌∷◌, ◌++◌, MatchOption, IsSome};
+ghost use Rattle.std.specs.Prelude.{◌≡◌, [], ◌∷◌, ◌++◌, Some, None, MatchOption, IsSome, cond};
 ghost use Rattle.std.specs.Map.{keys_of, lookup};
 ghost use Rattle.lru_index.specs.Sorted.{IsSorted, IsWith, IsSet};
 ghost use Rattle.lru_index.specs.Tree.{in_order, in_order_fork};
@@ -95,6 +95,8 @@ impl<K: Key, V: Copy> Tree<K, V> {
         requires sorted { IsSorted K.cmp (keys_of self.old) }
         requires there { IsSome (lookup (K.eq key) self.old) }
         ensures set { IsSet key value self.old self.new }
+        ensures sorted { IsSorted K.cmp (keys_of self.new) }
+        ensures finds { (other : K) → lookup (K.eq other) self.new ≡ cond (K.eq key other) (Some value) (lookup (K.eq other) self.old) }
     {
         match &mut self.node {
             Node::Leaf => unreachable!(),
@@ -114,6 +116,7 @@ impl<K: Key, V: Copy> Tree<K, V> {
         requires right { leaves.right.value ≡ [] }
         ensures more { IsWith (key, value) self.old self.new }
         ensures sorted { IsSorted K.cmp (keys_of self.new) }
+        ensures finds { (other : K) → lookup (K.eq other) self.new ≡ cond (K.eq key other) (Some value) (lookup (K.eq other) self.old) }
     {
         let fork = match self.take_node() {
             Node::Leaf => Fork {
@@ -139,8 +142,10 @@ impl<K: Key, V: Copy> Tree<K, V> {
     pub fn take(&mut self, key: K) -> Taken<K, V>
         requires sorted { IsSorted K.cmp (keys_of self.old) }
         requires there { IsSome (lookup (K.eq key) self.old) }
-        ensures key { result.key ≡ key }
-        ensures less { IsWith (result.key, result.value) self.new self.old }
+        ensures less { IsWith (key, result.value) self.new self.old }
+        ensures sorted { IsSorted K.cmp (keys_of self.new) }
+        ensures finds { (other : K) → lookup (K.eq other) self.new ≡ cond (K.eq key other) None (lookup (K.eq other) self.old) }
+        ensures value { lookup (K.eq key) self.old ≡ Some result.value }
         ensures left { result.leaves.left.value ≡ [] }
         ensures right { result.leaves.right.value ≡ [] }
     {

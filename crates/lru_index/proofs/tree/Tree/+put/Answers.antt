@@ -3,7 +3,7 @@ use Rattle.std.specs.Map.{keys_of, lookup}
 use Rattle.std.specs.Ordering.{is_eq}
 use Rattle.lru_index.specs.Sorted.{IsSorted, IsWith, IsSet}
 use Rattle.lru_index.specs.Tree.{in_order, in_order_fork}
-use Rattle.lru_index.proofs.Sides.{fork_of, sides_shorter, get_left, get_right, get_here, with_left, with_right, sorted_put_left, sorted_put_right}
+use Rattle.lru_index.proofs.Sides.{fork_of, sides_shorter, get_left, get_right, get_here, with_left, with_right, sorted_put_left, sorted_put_right, finds_put}
 use Rattle.lru_index.proofs.tree.Tree.+put.Goals as goal
 use Rattle.lru_index.proofs.tree.Tree.+put.Goals.{in-Leaf, in-Inner, in-Less, in-Greater}
 
@@ -55,3 +55,15 @@ returns-clause-sorted g t c =
             | in-Greater w' ↦ rw (w.fork-is, w.balanced-fork.ensures, w'.fork-is) (sorted_put_right g.met.K.Ord.total g.met.K.Ord.matches_eq f.left.value f.key f.value at_fork (sym w.cmp.ensures ∙ w'.in-Greater.is) (rw w'.deref_mut-in-Greater.ensures.value at w'.put-in-Greater.ensures.more) w'.put-in-Greater.ensures.sorted)
           ]
     ]
+
+pub returns-clause-finds : goal.returns-clause-finds
+returns-clause-finds g t c = finds_put g.met.K.Ord.total g.met.K.Ord.matches_eq g.met.K.Eq.laws (returns-clause-more g t c) (returns-clause-sorted g t c)
+
+pub unreachable-requires : goal.unreachable-requires
+unreachable-requires g t c =
+    let f = c.in-Inner.fork in
+    let is : c.args.self.now ≡ in_order_fork f = sym c.in-Inner.ensures.node in
+    let at_fork = fork_of g.K.Ord.cmp f.left.value f.key f.value f.right.value is c.requires.sorted in
+    let there = get_here g.met.K.Ord.total g.met.K.Ord.matches_eq c.args.key f.left.value f.key f.value f.right.value at_fork (sym c.cmp.ensures ∙ c.in-Equal.is) in
+    let no : Some f.value ≡ None = sym there ∙ ap (lookup (g.K.PartialEq.eq c.args.key)) (sym is) ∙ c.requires.absent in
+    cc

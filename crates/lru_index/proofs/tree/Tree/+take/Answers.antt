@@ -1,7 +1,8 @@
-use Rattle.std.proofs.Common.{◌≡◌, ◌<◌, length, [], ◌∷◌, IsSome, sym, ap, ◌∙◌, subst, arith}
+use Rattle.std.proofs.Common.{◌≡◌, ◌<◌, length, [], ◌∷◌, IsSome, ◌++◌, refl, sym, ap, ◌∙◌, subst, arith}
 use Rattle.std.specs.Map.{lookup}
+use Rattle.std.specs.Ordering.{is_eq}
 use Rattle.lru_index.specs.Tree.{in_order, in_order_fork}
-use Rattle.lru_index.proofs.Sides.{fork_of, sides_shorter, get_left, get_right, with_left, with_right}
+use Rattle.lru_index.proofs.Sides.{fork_of, sides_shorter, get_left, get_right, with_left, with_right, sorted_less, finds_taken, value_taken}
 use Rattle.lru_index.proofs.tree.Tree.+take.Goals as goal
 use Rattle.lru_index.proofs.tree.Tree.+take.Goals.{in-Less, in-Greater}
 
@@ -35,3 +36,29 @@ returns-clause-less g t c =
       | in-Less w ↦ rw (c.balanced.ensures, w.fork-is, w.taken-is, is) (with_left ((f.key, f.value) ∷ f.right.value) (rw w.deref_mut.ensures.value at w.take-taken.ensures.less))
       | in-Greater w ↦ rw (c.balanced.ensures, w.fork-is, w.taken-is, is) (with_right f.left.value (with_right ((f.key, f.value) ∷ []) (rw w.deref_mut-in-Greater.ensures.value at w.take-taken-in-Greater.ensures.less)))
     ]
+
+pub returns-clause-sorted : goal.returns-clause-sorted
+returns-clause-sorted g t c = sorted_less g.K.Ord.cmp (returns-clause-less g t c) c.requires.sorted
+
+pub returns-clause-finds : goal.returns-clause-finds
+returns-clause-finds g t c = finds_taken g.met.K.Ord.total g.met.K.Ord.matches_eq g.met.K.Eq.laws (returns-clause-less g t c) c.requires.sorted
+
+pub returns-clause-value : goal.returns-clause-value
+returns-clause-value g t c = value_taken g.met.K.Ord.total g.met.K.Ord.matches_eq g.met.K.Eq.laws (returns-clause-less g t c) c.requires.sorted
+
+pub returns-in-Equal-clause-less : goal.returns-in-Equal-clause-less
+returns-in-Equal-clause-less g t c =
+    let f = c.in-Inner.fork in
+    let is : c.args.self.now ≡ in_order_fork f = sym c.in-Inner.ensures.node in
+    let key : c.args.key ≡ f.key = g.met.K.Key.same c.args.key f.key (g.met.K.Ord.matches_eq c.args.key f.key ∙ ap is_eq (sym c.cmp.ensures ∙ c.in-Equal.is)) in
+    let pair : f.left.value ++ (f.key, f.value) ∷ f.right.value ≡ f.left.value ++ (c.args.key, c.take_top.result.value) ∷ f.right.value = rw (key, c.take_top.ensures.value) refl in
+    record { front = f.left.value; back = f.right.value; without = c.take_top.ensures.less; is = is ∙ pair }
+
+pub returns-in-Equal-clause-sorted : goal.returns-in-Equal-clause-sorted
+returns-in-Equal-clause-sorted g t c = sorted_less g.K.Ord.cmp (returns-in-Equal-clause-less g t c) c.requires.sorted
+
+pub returns-in-Equal-clause-finds : goal.returns-in-Equal-clause-finds
+returns-in-Equal-clause-finds g t c = finds_taken g.met.K.Ord.total g.met.K.Ord.matches_eq g.met.K.Eq.laws (returns-in-Equal-clause-less g t c) c.requires.sorted
+
+pub returns-in-Equal-clause-value : goal.returns-in-Equal-clause-value
+returns-in-Equal-clause-value g t c = value_taken g.met.K.Ord.total g.met.K.Ord.matches_eq g.met.K.Eq.laws (returns-in-Equal-clause-less g t c) c.requires.sorted
