@@ -1,2 +1,4 @@
 mod Places
 mod Sides
+mod Links
+mod Chained

@@ -78,7 +78,7 @@ module _ {K : Type 0} (test : K → Bool) where
     | false ↦ λ t. rw t (λ h. (h.0, all_removed P ps h.1))
   ]) refl
 
-  distinct_removed : (eq : K → K → Bool) (ps : List (K × ℕ)) → IsDistinct eq (keys_of ps) → IsDistinct eq (keys_of (remove_entry test ps))
+  pub distinct_removed : (eq : K → K → Bool) (ps : List (K × ℕ)) → IsDistinct eq (keys_of ps) → IsDistinct eq (keys_of (remove_entry test ps))
   distinct_removed eq [] = λ h. h
   distinct_removed eq (p ∷ ps) = (elim (test p.0) as (λ y. test p.0 ≡ y → IsDistinct eq (keys_of (p ∷ ps)) → IsDistinct eq (keys_of (remove_entry test (p ∷ ps)))) [
     | true ↦ λ t. rw t (λ h. IsDistinct-tail eq p.0 (keys_of ps) h)
@@ -96,6 +96,10 @@ module _ {K : Type 0} {eq : K → K → Bool} (laws : IsEquivalence eq) where
   keys_push : (ps : List (K × ℕ)) (k : K) (s : ℕ) → keys_of ps ++ k ∷ [] ≡ keys_of (ps ++ (k, s) ∷ [])
   keys_push [] k s = refl
   keys_push (p ∷ ps) k s = ap (λ l. p.0 ∷ l) (keys_push ps k s)
+
+  -- keys with one more, that was absent
+  pub distinct_put : (ps : List (K × ℕ)) (k : K) (s : ℕ) → lookup (eq k) ps ≡ None → IsDistinct eq (keys_of ps) → IsDistinct eq (keys_of (ps ++ (k, s) ∷ []))
+  distinct_put ps k s none d = subst (IsDistinct eq) (keys_push ps k s) (IsDistinct-push laws (keys_of ps) k d (sym (is_some-lookup (eq k) ps) ∙ ap is_some none))
 
   -- with one more pair, of an absent key, it is still an order
   pub order_put : (o : Order K) (k : K) (s : ℕ) → lookup (eq k) o.pairs ≡ None → length o.pairs < o.capacity → IsOrder eq o → IsOrder eq (order (o.pairs ++ (k, s) ∷ []) o.capacity)

@@ -6,7 +6,7 @@ ghost use Rattle.std.specs.Option.{option_map};
 ghost use Rattle.std.specs.Map.{keys_of, lookup, remove_entry};
 ghost use Rattle.lru_index.specs.Sorted.{IsSorted};
 ghost use Rattle.lru_index.specs.Chain.{IsChain, hits, end_after, with_warmer, with_colder};
-ghost use Rattle.lru_index.specs.Order.{coldest_of};
+ghost use Rattle.lru_index.specs.Order.{coldest_of, first_key, warmer};
 
 use crate::Key;
 use crate::tree::{Leaves, Tree};
@@ -45,7 +45,10 @@ impl<K: Key> Chain<K> {
         requires sorted { IsSorted K.cmp (keys_of self.now.uses) }
         ensures { (pairs : List (K × ℕ)) → IsChain K.eq self.now pairs → result ≡ lookup (K.eq key) pairs }
     {
-        Some(self.uses.get(key)?.slot)
+        match self.uses.get(key) {
+            Some(entry) => Some(entry.slot),
+            None => None,
+        }
     }
 
     /// The coldest key, or the one that was used just after a key.
@@ -55,7 +58,18 @@ impl<K: Key> Chain<K> {
     {
         match after {
             None => self.coldest,
-            Some(key) => self.uses.get(key)?.warmer,
+            Some(key) => self.warmer(key),
+        }
+    }
+
+    /// The key that was used just after another, if there is one.
+    fn warmer(&self, key: K) -> Option<K>
+        requires sorted { IsSorted K.cmp (keys_of self.now.uses) }
+        ensures { (pairs : List (K × ℕ)) → IsChain K.eq self.now pairs → result ≡ first_key (warmer (K.eq key) pairs) }
+    {
+        match self.uses.get(key) {
+            Some(entry) => entry.warmer,
+            None => None,
         }
     }
 
