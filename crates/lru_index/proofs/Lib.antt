@@ -2,3 +2,4 @@ mod Places
 mod Sides
 mod Links
 mod Chained
+mod Kept

@@ -1,5 +1,6 @@
 -- When a chain stands for pairs of a key and a slot, the coldest first.
-use Rattle.std.specs.Prelude.{◌≡◌, ℕ, Bool, false, List, [], ◌∷◌, Option, Some, None}
+use Rattle.std.specs.Prelude.{◌≡◌, ℕ, zero, suc, Bool, false, List, [], ◌∷◌, Option, Some, None}
+use Rattle.std.specs.Option.{option_map_or}
 use Rattle.std.specs.List.{IsDistinct}
 use Rattle.std.specs.Map.{keys_of, lookup}
 use Rattle.lru_index.specs.declared.chain.Use.{Use}
@@ -47,3 +48,12 @@ module _ {K : Type 0} where
     pub warmest : chain.warmest ≡ last_or None pairs
     pub distinct : IsDistinct eq (keys_of pairs)
     pub others : (key : K) → lookup (eq key) pairs ≡ None → lookup (eq key) chain.uses ≡ None
+
+  -- the pairs from a key on, along the links to warmer keys, and no more than so many
+  abbrev pub walk : (K → Option (Use K)) → ℕ → Option K → List (K × ℕ)
+  walk kept zero from = []
+  walk kept (suc n) from = option_map_or (λ key. option_map_or (λ u. (key, u.slot) ∷ walk kept n u.warmer) (kept key) []) from []
+
+  -- the pairs of a chain that has no more than so many
+  abbrev pub pairs_of : (K → K → Bool) → Chain K → ℕ → List (K × ℕ)
+  pairs_of eq chain most = walk (λ key. lookup (eq key) chain.uses) most chain.coldest

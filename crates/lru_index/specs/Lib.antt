@@ -1,4 +1,5 @@
 pub mod Chain
+pub mod Index
 pub mod Keys
 pub mod Order
 pub mod Sorted
