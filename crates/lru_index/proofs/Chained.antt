@@ -10,7 +10,7 @@ use Rattle.lru_index.specs.Order.{warmer, first_key}
 use Rattle.lru_index.specs.declared.chain.Use.{Use}
 use Rattle.lru_index.specs.declared.chain.Chain.{Chain}
 use Rattle.lru_index.proofs.Links.{IsChanged, linked_put, linked_removed, link_back, still_none, cold_end, warm_end, first_or-append, last_or-append, found_with, slots, nexts}
-use Rattle.lru_index.proofs.Places.{distinct_removed, distinct_put, found_put}
+use Rattle.lru_index.proofs.Pairs.{distinct_removed, distinct_put, found_put}
 
 -- no key is kept in a leaf
 pub chain_empty : {K : Type 0} (eq : K → K → Bool) (chain : Chain K) → chain.uses ≡ [] → chain.coldest ≡ None → chain.warmest ≡ None → IsChain eq chain []

@@ -1,4 +1,4 @@
-mod Places
+mod Pairs
 mod Sides
 mod Links
 mod Chained

@@ -6,7 +6,7 @@ use Rattle.lru_index.specs.Chain.{pairs_of}
 use Rattle.lru_index.specs.Order.{order, IsOrder}
 use Rattle.lru_index.specs.Index.{AreLeaves}
 use Rattle.lru_index.proofs.Kept.{IsSeen, seen, index_order, all_push, kept_there}
-use Rattle.lru_index.proofs.Places.{found_removed, length_removed}
+use Rattle.lru_index.proofs.Pairs.{found_removed, length_removed}
 use Rattle.lru_index.proofs.index.Index.drop_key.Goals as goal
 
 pub remove-slot-requires-clause-there : goal.remove-slot-requires-clause-there

@@ -6,7 +6,7 @@ use Rattle.lru_index.specs.Chain.{pairs_of}
 use Rattle.lru_index.specs.Order.{order}
 use Rattle.lru_index.specs.Index.{AreLeaves}
 use Rattle.lru_index.proofs.Kept.{IsSeen, seen, index_order, all_before}
-use Rattle.lru_index.proofs.Places.{found_put}
+use Rattle.lru_index.proofs.Pairs.{found_put}
 use Rattle.lru_index.proofs.index.Index.put.Goals as goal
 
 -- the pair stands last, and one spare pair of leaves is gone
