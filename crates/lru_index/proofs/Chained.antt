@@ -19,10 +19,10 @@ chain_empty eq chain none cold warm = record { linked = tt; coldest = cold; warm
 
 module _ {K : Type 0} {eq : K → K → Bool} (laws : IsEquivalence eq) where
   pub chain_put : (old new : Chain K) (at1 : K → Option (Use K)) (k : K) (s : ℕ) (ps : List (K × ℕ)) → IsChain eq old ps → lookup (eq k) ps ≡ None
-    → IsChanged eq (with_warmer (Some k)) old.warmest (λ q. lookup (eq q) old.uses) at1
-    → ((q : K) → lookup (eq q) new.uses ≡ cond (eq k q) (Some (use_of s old.warmest None)) (at1 q))
-    → new.coldest ≡ end_after old.warmest (Some k) old.coldest → new.warmest ≡ Some k
-    → IsChain eq new (ps ++ (k, s) ∷ [])
+      → IsChanged eq (with_warmer (Some k)) old.warmest (λ q. lookup (eq q) old.uses) at1
+      → ((q : K) → lookup (eq q) new.uses ≡ cond (eq k q) (Some (use_of s old.warmest None)) (at1 q))
+      → new.coldest ≡ end_after old.warmest (Some k) old.coldest → new.warmest ≡ Some k
+      → IsChain eq new (ps ++ (k, s) ∷ [])
   chain_put old new at1 k s ps h n h1 h2 cold warm =
       let at = λ (q : K). lookup (eq q) old.uses in
       let now = λ (q : K). lookup (eq q) new.uses in
@@ -34,11 +34,11 @@ module _ {K : Type 0} {eq : K → K → Bool} (laws : IsEquivalence eq) where
         warmest = warm ∙ sym (last_or-append None ps ((k, s) ∷ []));
         distinct = distinct_put laws ps k s n h.distinct;
         others = λ q e.
-          let split = sym (found_put laws ps k s n q) ∙ e in
-          h2 q ∙ (elim (eq k q) as (λ y. cond y (Some s) (lookup (eq q) ps) ≡ None → cond y (Some (use_of s old.warmest None)) (at1 q) ≡ None) [
-            | true ↦ λ f. cc
-            | false ↦ λ f. still_none laws (with_warmer (Some k)) old.warmest at at1 h1 q (h.others q f)
-          ]) split;
+            let split = sym (found_put laws ps k s n q) ∙ e in
+            h2 q ∙ (elim (eq k q) as (λ y. cond y (Some s) (lookup (eq q) ps) ≡ None → cond y (Some (use_of s old.warmest None)) (at1 q) ≡ None) [
+              | true ↦ λ f. cc
+              | false ↦ λ f. still_none laws (with_warmer (Some k)) old.warmest at at1 h1 q (h.others q f)
+            ]) split;
       }
 
   -- what a chain keeps at a key: the slot of its pair, and the first key that is warmer
@@ -49,11 +49,11 @@ module _ {K : Type 0} {eq : K → K → Bool} (laws : IsEquivalence eq) where
   chain_next same chain ps h q = nexts laws same (λ k. lookup (eq k) chain.uses) None ps q h.linked (h.others q)
 
   pub chain_removed : (same : (a b : K) → eq a b ≡ true → a ≡ b) (old new : Chain K) (at1 at2 : K → Option (Use K)) (k : K) (u : Use K) (ps : List (K × ℕ)) → IsChain eq old ps → lookup (eq k) ps ≡ Some u.slot → lookup (eq k) old.uses ≡ Some u
-    → ((q : K) → at1 q ≡ cond (eq k q) None (lookup (eq q) old.uses))
-    → IsChanged eq (with_warmer u.warmer) u.colder at1 at2
-    → IsChanged eq (with_colder u.colder) u.warmer at2 (λ q. lookup (eq q) new.uses)
-    → new.coldest ≡ end_after u.colder u.warmer old.coldest → new.warmest ≡ end_after u.warmer u.colder old.warmest
-    → IsChain eq new (remove_entry (eq k) ps)
+      → ((q : K) → at1 q ≡ cond (eq k q) None (lookup (eq q) old.uses))
+      → IsChanged eq (with_warmer u.warmer) u.colder at1 at2
+      → IsChanged eq (with_colder u.colder) u.warmer at2 (λ q. lookup (eq q) new.uses)
+      → new.coldest ≡ end_after u.colder u.warmer old.coldest → new.warmest ≡ end_after u.warmer u.colder old.warmest
+      → IsChain eq new (remove_entry (eq k) ps)
   chain_removed same old new at1 at2 k u ps h found there h1 h2 h3 cold warm =
       let at = λ (q : K). lookup (eq q) old.uses in
       let now = λ (q : K). lookup (eq q) new.uses in
@@ -72,10 +72,10 @@ module _ {K : Type 0} {eq : K → K → Bool} (laws : IsEquivalence eq) where
         warmest = warm ∙ ap (λ o. end_after o u.colder old.warmest) warmer ∙ ap (λ o. end_after (first_or None w.back) o old.warmest) colder ∙ ap (end_after (first_or None w.back) (last_or None w.front)) (h.warmest ∙ ap (last_or None) w.is ∙ last_or-append None w.front ((k, u.slot) ∷ w.back)) ∙ warm_end w.back (last_or None w.front) (Some k) ∙ sym (last_or-append None w.front w.back) ∙ ap (last_or None) (sym w.without);
         distinct = distinct_removed (eq k) eq ps h.distinct;
         others = λ q e.
-          let split = sym (lookup-remove_entry laws (eq k) (λ x y t. laws.congr k x y t) q ps h.distinct) ∙ e in
-          let gone = h1 q ∙ (elim (eq k q) as (λ y. cond y None (lookup (eq q) ps) ≡ None → cond y None (at q) ≡ None) [
-            | true ↦ λ f. refl
-            | false ↦ λ f. h.others q f
-          ]) split in
-          still_none laws (with_colder u.colder) u.warmer at2 now h3 q (still_none laws (with_warmer u.warmer) u.colder at1 at2 h2 q gone);
+            let split = sym (lookup-remove_entry laws (eq k) (λ x y t. laws.congr k x y t) q ps h.distinct) ∙ e in
+            let gone = h1 q ∙ (elim (eq k q) as (λ y. cond y None (lookup (eq q) ps) ≡ None → cond y None (at q) ≡ None) [
+              | true ↦ λ f. refl
+              | false ↦ λ f. h.others q f
+            ]) split in
+            still_none laws (with_colder u.colder) u.warmer at2 now h3 q (still_none laws (with_warmer u.warmer) u.colder at1 at2 h2 q gone);
       }

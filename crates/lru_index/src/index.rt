@@ -15,7 +15,6 @@ use std::alloc::Global;
 use std::marker::Model;
 
 /// Keys with their slots, in the order of their last use.
-#[derive(Drop)]
 pub struct Index<K: Key> {
     chain: Chain<K>,
     // Leaves for each pair that there is still room for. Nothing is allocated after they are.
@@ -34,6 +33,13 @@ impl<K: Key> Model for Index<K> {
     ghost view = { λ index. order (pairs_of K.eq index.chain (vec_capacity index.spare)) (vec_capacity index.spare) };
 
     ghost invariant = { λ index. IsIndex K.eq K.cmp index.chain index.spare.items (vec_capacity index.spare) };
+}
+
+// By hand, so that a caller sees one call and not the trees.
+impl<K: Key> Drop for Index<K> {
+    fn drop(self) {
+        let Index { chain: _, spare: _ } = self;
+    }
 }
 
 impl<K: Key> Index<K> {

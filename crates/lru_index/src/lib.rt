@@ -8,9 +8,9 @@
 mod chain;
 mod index;
 mod keys;
-mod tree;
 #[cfg(test)]
 mod tests;
+mod tree;
 
 pub use index::Index;
 pub use keys::{Key, NameKey};

@@ -231,7 +231,11 @@ impl<K: Key, V: Copy> Tree<K, V> {
     {
         if let Node::Inner(fork) = self.take_node() {
             let is_right_higher = fork.right.height() > fork.left.height();
-            let fork = if is_right_higher { raise_right(fork) } else { fork };
+            let fork = if is_right_higher {
+                raise_right(fork)
+            } else {
+                fork
+            };
             self.node = Node::Inner(fork);
         }
     }
@@ -242,7 +246,11 @@ impl<K: Key, V: Copy> Tree<K, V> {
     {
         if let Node::Inner(fork) = self.take_node() {
             let is_left_higher = fork.left.height() > fork.right.height();
-            let fork = if is_left_higher { raise_left(fork) } else { fork };
+            let fork = if is_left_higher {
+                raise_left(fork)
+            } else {
+                fork
+            };
             self.node = Node::Inner(fork);
         }
     }
@@ -328,6 +336,10 @@ fn raise_right<K: Key, V: Copy>(fork: Fork<K, V>) -> Fork<K, V>
 fn measured<K: Key, V: Copy>(mut fork: Fork<K, V>) -> Fork<K, V>
     ensures { in_order_fork result ≡ in_order_fork fork }
 {
-    fork.height = fork.left.height().max(fork.right.height()).saturating_add(1);
+    fork.height = fork
+        .left
+        .height()
+        .max(fork.right.height())
+        .saturating_add(1);
     fork
 }
