@@ -6,7 +6,7 @@ use Rattle.std.specs.Map.{keys_of, lookup}
 use Rattle.std.specs.Cmp.{IsEquivalence}
 use Rattle.std.specs.declared.cmp.Ordering.{Ordering}
 use Rattle.lru_index.specs.Sorted.{IsSorted}
-use Rattle.lru_index.specs.Order.{Order, order, IsOrder, warmer, first_key, coldest_of}
+use Rattle.lru_index.specs.Order.{order, IsOrder, warmer, first_key, coldest_of}
 use Rattle.lru_index.specs.Chain.{IsChain, AreLinked, first_or, walk, pairs_of}
 use Rattle.lru_index.specs.Index.{IsIndex, AreLeaves}
 use Rattle.lru_index.specs.declared.chain.Use.{Use}

@@ -1,4 +1,4 @@
-use Rattle.std.proofs.Common.{◌≡◌, sym, ap, ◌∙◌, refl}
+use Rattle.std.proofs.Common.{sym, ap, ◌∙◌}
 use Rattle.lru_index.specs.Order.{coldest_of}
 use Rattle.lru_index.proofs.Links.{first_is}
 use Rattle.lru_index.proofs.chain.Chain.coldest.Goals as goal

@@ -1,4 +1,4 @@
-use Rattle.std.proofs.Common.{◌≡◌, sym, ap, ◌∙◌}
+use Rattle.std.proofs.Common.{sym, ap, ◌∙◌}
 use Rattle.std.specs.Option.{option_map}
 use Rattle.lru_index.proofs.Chained.{chain_slot}
 use Rattle.lru_index.proofs.chain.Chain.slot.Goals as goal

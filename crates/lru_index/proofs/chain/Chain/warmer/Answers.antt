@@ -1,4 +1,4 @@
-use Rattle.std.proofs.Common.{◌≡◌, sym, ap, ◌∙◌}
+use Rattle.std.proofs.Common.{sym, ap, ◌∙◌}
 use Rattle.std.specs.Option.{option_and_then}
 use Rattle.lru_index.proofs.Chained.{chain_next}
 use Rattle.lru_index.proofs.chain.Chain.warmer.Goals as goal

@@ -1,6 +1,5 @@
-use Rattle.std.proofs.Common.{◌≡◌, ◌<◌, length, sym, ap, ◌∙◌, subst, arith}
-use Rattle.std.specs.Map.{keys_of, lookup}
-use Rattle.lru_index.specs.Sorted.{IsSorted}
+use Rattle.std.proofs.Common.{◌≡◌, ◌<◌, length, sym, ap, ◌∙◌, arith}
+use Rattle.std.specs.Map.{lookup}
 use Rattle.lru_index.specs.Tree.{in_order, in_order_fork}
 use Rattle.lru_index.proofs.Sides.{fork_of, sides_shorter, get_left, get_right, get_here}
 use Rattle.lru_index.proofs.tree.Tree.+get.Goals as goal

@@ -1,8 +1,6 @@
-use Rattle.std.proofs.Common.{◌≡◌, ◌<◌, length, [], ◌∷◌, Some, None, IsSome, refl, sym, ap, ◌∙◌, subst, arith}
-use Rattle.std.specs.Map.{keys_of, lookup}
-use Rattle.std.specs.Ordering.{is_eq}
-use Rattle.lru_index.specs.Sorted.{IsSorted, IsWith, IsSet}
-use Rattle.lru_index.specs.Tree.{in_order, in_order_fork}
+use Rattle.std.proofs.Common.{◌≡◌, ◌<◌, length, [], ◌∷◌, Some, None, refl, sym, ap, ◌∙◌, arith}
+use Rattle.std.specs.Map.{lookup}
+use Rattle.lru_index.specs.Tree.{in_order_fork}
 use Rattle.lru_index.proofs.Sides.{fork_of, sides_shorter, get_left, get_right, get_here, with_left, with_right, sorted_put_left, sorted_put_right, finds_put}
 use Rattle.lru_index.proofs.tree.Tree.+put.Goals as goal
 use Rattle.lru_index.proofs.tree.Tree.+put.Goals.{in-Leaf, in-Inner, in-Less, in-Greater}

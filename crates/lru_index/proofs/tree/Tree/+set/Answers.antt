@@ -1,7 +1,6 @@
-use Rattle.std.proofs.Common.{◌≡◌, ◌<◌, length, [], ◌∷◌, ◌++◌, Some, None, IsSome, refl, sym, ap, ◌∙◌, subst, arith}
-use Rattle.std.specs.Map.{keys_of, lookup}
+use Rattle.std.proofs.Common.{◌≡◌, ◌<◌, length, [], ◌∷◌, ◌++◌, IsSome, sym, ap, ◌∙◌, subst, arith}
+use Rattle.std.specs.Map.{lookup}
 use Rattle.std.specs.Ordering.{is_eq}
-use Rattle.lru_index.specs.Sorted.{IsSorted, IsWith, IsSet}
 use Rattle.lru_index.specs.Tree.{in_order, in_order_fork}
 use Rattle.lru_index.proofs.Sides.{fork_of, sides_shorter, get_left, get_right, set_left, set_right, sorted_set, finds_set}
 use Rattle.lru_index.proofs.tree.Tree.+set.Goals as goal

@@ -1,7 +1,7 @@
 use Rattle.std.proofs.Common.{◌≡◌, ◌<◌, length, [], ◌∷◌, IsSome, ◌++◌, refl, sym, ap, ◌∙◌, subst, arith}
 use Rattle.std.specs.Map.{lookup}
 use Rattle.std.specs.Ordering.{is_eq}
-use Rattle.lru_index.specs.Tree.{in_order, in_order_fork}
+use Rattle.lru_index.specs.Tree.{in_order_fork}
 use Rattle.lru_index.proofs.Sides.{fork_of, sides_shorter, get_left, get_right, with_left, with_right, sorted_less, finds_taken, value_taken}
 use Rattle.lru_index.proofs.tree.Tree.+take.Goals as goal
 use Rattle.lru_index.proofs.tree.Tree.+take.Goals.{in-Less, in-Greater}
