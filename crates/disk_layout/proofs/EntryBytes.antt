@@ -6,7 +6,7 @@ use Rattle.std.proofs.lemmas.Bool.{cases_lt}
 use Rattle.std.proofs.lemmas.List.{length-replicate, length-drop, length-take, length-append, take_all, drop_more, get_or-take, get_or_past, take-append-drop}
 use Rattle.kabi_types.specs.declared.inodes.DirEntry.{DirEntry}
 use Rattle.disk_layout.specs.declared.faults.BadEntry.{BadEntry}
-use Rattle.disk_layout.specs.DiskFormat.{IsName, IsEntry, entry_bytes}
+use Rattle.posix_defs.specs.DiskFormat.{IsName, IsEntry, entry_bytes}
 use Rattle.disk_layout.proofs.WordBytes.{cut, all_zeros}
 
 pub made_entry : ℕ → List ℕ → DirEntry

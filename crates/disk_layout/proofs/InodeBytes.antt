@@ -4,34 +4,12 @@ use Rattle.std.specs.Prelude.{IfOk, IfErr}
 use Rattle.std.specs.Int.{w16, w32, to_be_bytes}
 use Rattle.std.proofs.lemmas.List.{drop_at, drop-drop, get_or-replicate, length-drop, take_all}
 use Rattle.kabi_types.specs.declared.inodes.Inode.{Inode}
-use Rattle.disk_layout.specs.DiskFormat.{Fits, HasPointers, IsInode, inode_bytes}
+use Rattle.posix_defs.specs.DiskFormat.{Fits, HasPointers, IsInode, inode_bytes}
 use Rattle.disk_layout.specs.declared.faults.BadInode.{BadInode}
 use Rattle.disk_layout.specs.declared.faults.BadInode.TheVariants.{BadKind, BadPointer}
 use Rattle.disk_layout.specs.Faults.{IsFault}
-use Rattle.disk_layout.proofs.WordBytes.{words, split_same, cut, same_2, same_4, same_words, length-words, all_zeros}
-
-made : ℕ → ℕ → ℕ → List ℕ → ℕ → Inode
-made kind nlink size direct indirect = record { kind = kind; nlink = nlink; size = size; direct = direct; indirect = indirect }
-
-pub same_inode : (i j : Inode) → Fits i → Fits j → inode_bytes i ≡ inode_bytes j → i ≡ j
-unfolding inode_bytes made
-same_inode i j fi fj e =
-    let zeros : List ℕ = replicate 12 0 in
-    let tail : Inode → List ℕ = λ n. to_be_bytes w32 n.indirect ++ zeros in
-    let p1 = split_same (i.kind ∷ 0 ∷ []) (j.kind ∷ 0 ∷ []) (to_be_bytes w16 i.nlink ++ (to_be_bytes w32 i.size ++ (words i.direct ++ tail i))) (to_be_bytes w16 j.nlink ++ (to_be_bytes w32 j.size ++ (words j.direct ++ tail j))) refl e in
-    let p2 = split_same (to_be_bytes w16 i.nlink) (to_be_bytes w16 j.nlink) (to_be_bytes w32 i.size ++ (words i.direct ++ tail i)) (to_be_bytes w32 j.size ++ (words j.direct ++ tail j)) refl p1.1 in
-    let p3 = split_same (to_be_bytes w32 i.size) (to_be_bytes w32 j.size) (words i.direct ++ tail i) (words j.direct ++ tail j) refl p2.1 in
-    let len : length i.direct ≡ length j.direct = fi.count ∙ sym fj.count in
-    let p4 = split_same (words i.direct) (words j.direct) (tail i) (tail j) (length-words i.direct ∙ ap (λ (n : ℕ). 4 * n) len ∙ sym (length-words j.direct)) p3.1 in
-    let p5 = split_same (to_be_bytes w32 i.indirect) (to_be_bytes w32 j.indirect) zeros zeros refl p4.1 in
-    let kind : i.kind ≡ j.kind = ap (λ (xs : List ℕ). get_or xs 0 0) p1.0 in
-    let nlink : i.nlink ≡ j.nlink = same_2 i.nlink j.nlink fi.nlink fj.nlink p2.0 in
-    let size : i.size ≡ j.size = same_4 i.size j.size fi.size fj.size p3.0 in
-    let direct : i.direct ≡ j.direct = same_words i.direct j.direct len fi.direct fj.direct p4.0 in
-    let indirect : i.indirect ≡ j.indirect = same_4 i.indirect j.indirect fi.indirect fj.indirect p5.0 in
-    ap (λ (x : ℕ). made x i.nlink i.size i.direct i.indirect) kind ∙ ap (λ (x : ℕ). made j.kind x i.size i.direct i.indirect) nlink
-    ∙ ap (λ (x : ℕ). made j.kind j.nlink x i.direct i.indirect) size ∙ ap (λ (x : List ℕ). made j.kind j.nlink j.size x i.indirect) direct
-    ∙ ap (λ (x : ℕ). made j.kind j.nlink j.size j.direct x) indirect
+use Rattle.posix_defs.proofs.DiskSpelling.{words, length-words, same_inode}
+use Rattle.disk_layout.proofs.WordBytes.{cut, all_zeros}
 
 two : (xs : List ℕ) → 2 ≤ length xs → take 2 xs ≡ get_or xs 0 0 ∷ get_or xs 1 0 ∷ []
 two [] h = absurd (omega (arith, h))

@@ -1,8 +1,8 @@
 -- The blocks of a new disk.
-use Rattle.std.proofs.Common.{◌≡◌, ℕ, ◌+◌, ◌-◌, ◌<◌, ◌≤◌, List, [], ◌∷◌, ◌++◌, length, get_or, drop, set, replicate, refl, sym, ap, ◌∙◌, arith}
+use Rattle.std.proofs.Common.{◌≡◌, ℕ, ◌+◌, ◌-◌, ◌<◌, ◌≤◌, List, [], ◌++◌, length, get_or, drop, set, replicate, refl, sym, ap, ◌∙◌, arith}
 use Rattle.std.proofs.lemmas.List.{length-replicate, get_or-replicate, drop-replicate, length-set, get_or-set_same, get_or-set_other}
-use Rattle.disk_layout.specs.DiskFormat.{table_end, inode_bytes, entry_bytes}
-use Rattle.disk_layout.specs.SoundDisk.{zeros, first_marked, new_root, root_entry, IsFormatted}
+use Rattle.posix_defs.specs.DiskFormat.{table_end, inode_bytes, entry_bytes}
+use Rattle.posix_defs.specs.DiskContents.{zeros, first_marked, new_root, entry_for, own_name, parent_name, new_entries, IsFormatted}
 
 pub length-zeros : (n : ℕ) → length (zeros n) ≡ n
 unfolding zeros
@@ -12,11 +12,11 @@ pub drop-zeros : (m n : ℕ) → drop m (zeros n) ≡ zeros (n - m)
 unfolding zeros
 drop-zeros m n = drop-replicate m n 0
 
-pub length-root_entry : length (entry_bytes (root_entry (46 ∷ []))) ≡ 32
+pub length-own_entry : length (entry_bytes (entry_for 1 own_name)) ≡ 32
 unfolding entry_bytes
-length-root_entry = refl
+length-own_entry = refl
 
-pub length-parent_entry : length (entry_bytes (root_entry (46 ∷ 46 ∷ []))) ≡ 32
+pub length-parent_entry : length (entry_bytes (entry_for 1 parent_name)) ≡ 32
 unfolding entry_bytes
 length-parent_entry = refl
 
@@ -26,7 +26,7 @@ length-new_root blocks = refl
 
 pub is_formatted : (blocks first size : ℕ) (start disk : List (List ℕ)) (zero map table entries : List ℕ) → 16 ≤ blocks → size ≡ 1024 → first ≡ table_end blocks + 1 → start ≡ replicate blocks zero → zero ≡ zeros size
     → disk ≡ set (set (set start 0 map) 1 table) first entries → length map ≡ size → ((place : ℕ) → place < size → get_or map place 0 ≡ first_marked (first + 1) place)
-    → table ≡ inode_bytes (new_root blocks) ++ zeros (size - 64) → entries ≡ entry_bytes (root_entry (46 ∷ [])) ++ (entry_bytes (root_entry (46 ∷ 46 ∷ [])) ++ zeros (size - 64)) → IsFormatted blocks disk
+    → table ≡ inode_bytes (new_root blocks) ++ zeros (size - 64) → entries ≡ new_entries ++ zeros (size - 64) → IsFormatted blocks disk
 is_formatted blocks first size start disk zero map table entries enough kilo is_first is_start is_zero is_disk map_len map_bytes is_table is_entries =
     let after_map : List (List ℕ) = set start 0 map in
     let after_table : List (List ℕ) = set after_map 1 table in
@@ -42,7 +42,7 @@ is_formatted blocks first size start disk zero map table entries enough kilo is_
       map_len = ap length at0 ∙ map_len ∙ kilo;
       map = λ place lt. ap (λ (x : List ℕ). get_or x place 0) at0 ∙ map_bytes place (omega (arith, lt, kilo)) ∙ ap (λ (n : ℕ). first_marked n place) (omega (arith, is_first));
       table = at1 ∙ is_table ∙ ap (λ (n : ℕ). inode_bytes (new_root blocks) ++ zeros (n - 64)) kilo;
-      entries = ap (λ (n : ℕ). get_or disk n []) (sym is_first) ∙ atf ∙ is_entries ∙ ap (λ (n : ℕ). entry_bytes (root_entry (46 ∷ [])) ++ (entry_bytes (root_entry (46 ∷ 46 ∷ [])) ++ zeros (n - 64))) kilo;
+      entries = ap (λ (n : ℕ). get_or disk n []) (sym is_first) ∙ atf ∙ is_entries ∙ ap (λ (n : ℕ). new_entries ++ zeros (n - 64)) kilo;
       others = λ number above other below.
           ap (λ (x : List (List ℕ)). get_or x number []) is_disk ∙ get_or-set_other after_table first number entries [] (λ e. other (e ∙ is_first)) ∙ get_or-set_other after_map 1 number table [] (omega (arith, above))
           ∙ get_or-set_other start 0 number map [] (omega (arith, above)) ∙ ap (λ (x : List (List ℕ)). get_or x number []) is_start ∙ get_or-replicate blocks number zero [] below ∙ is_zero ∙ ap zeros kilo;

@@ -1,19 +1,8 @@
 -- Numbers of four bytes one after the other, and bytes put into a row of bytes.
-use Rattle.std.proofs.Common.{◌≡◌, ℕ, suc, ◌+◌, ◌*◌, ◌^◌, ◌<◌, ◌≤◌, List, [], ◌∷◌, ◌++◌, length, get_or, take, drop, set, replicate, refl, sym, ap, ◌∙◌, append_assoc, arith}
-use Rattle.std.specs.Int.{w16, w32, to_be_bytes, from_be_bytes}
-use Rattle.std.specs.List.{flat_map}
+use Rattle.std.proofs.Common.{◌≡◌, ℕ, ◌+◌, ◌*◌, ◌<◌, ◌≤◌, List, [], ◌++◌, length, get_or, take, drop, set, replicate, refl, sym, ap, ◌∙◌, append_assoc, arith}
+use Rattle.std.specs.Int.{w32, to_be_bytes}
 use Rattle.std.proofs.lemmas.List.{take_at, drop_at, take-append-drop, take-take, drop-take, drop-drop, length-append, length-take, take_more_set, flat_map_more, take_more, ext_get_or, length-replicate, get_or-replicate}
-use Rattle.std.proofs.lemmas.List.Concat.{flat_map-cons}
-use Rattle.std.proofs.lemmas.Nat.{from_be_bytes-to_be_bytes_2, from_be_bytes-to_be_bytes_4}
-
--- the bytes of numbers
-abbrev pub words : List ℕ → List ℕ
-words numbers = flat_map (to_be_bytes w32) numbers
-
--- equal rows with fronts of one length are equal piece by piece
-pub split_same : (a b c d : List ℕ) → length a ≡ length b → a ++ c ≡ b ++ d → (a ≡ b) × (c ≡ d)
-split_same a b c d len e =
-    (sym (take_at a c (length a) refl) ∙ ap (take (length a)) e ∙ take_at b d (length a) (sym len), sym (drop_at a c (length a) refl) ∙ ap (drop (length a)) e ∙ drop_at b d (length a) (sym len))
+use Rattle.posix_defs.proofs.DiskSpelling.{words, length-words}
 
 -- what lies from n on is m cells and what lies behind them
 pub cut : (n m : ℕ) (xs : List ℕ) → drop n xs ≡ take m (drop n xs) ++ drop (n + m) xs
@@ -24,27 +13,6 @@ take_on n m xs =
     let front : take n (take (n + m) xs) ≡ take n xs = take-take n (n + m) xs (omega arith) in
     let back : drop n (take (n + m) xs) ≡ take m (drop n xs) = drop-take n m xs in
     ap (λ (ys : List ℕ). ys ++ take m (drop n xs)) (sym front) ∙ ap (λ (ys : List ℕ). take n (take (n + m) xs) ++ ys) (sym back) ∙ take-append-drop n (take (n + m) xs)
-
-pub same_2 : (m n : ℕ) → m < 2 ^ 16 → n < 2 ^ 16 → to_be_bytes w16 m ≡ to_be_bytes w16 n → m ≡ n
-same_2 m n hm hn e = sym (from_be_bytes-to_be_bytes_2 m hm) ∙ ap (from_be_bytes w16) e ∙ from_be_bytes-to_be_bytes_2 n hn
-
-pub same_4 : (m n : ℕ) → m < 2 ^ 32 → n < 2 ^ 32 → to_be_bytes w32 m ≡ to_be_bytes w32 n → m ≡ n
-same_4 m n hm hn e = sym (from_be_bytes-to_be_bytes_4 m hm) ∙ ap (from_be_bytes w32) e ∙ from_be_bytes-to_be_bytes_4 n hn
-
-pub length-words : (ns : List ℕ) → length (words ns) ≡ 4 * length ns
-length-words [] = refl
-length-words (n ∷ ns) = ap length (flat_map-cons (to_be_bytes w32) n ns) ∙ omega (arith, length-words ns, length-append (to_be_bytes w32 n) (words ns))
-
-pub same_words : (ms ns : List ℕ) → length ms ≡ length ns → ((k : ℕ) → get_or ms k 0 < 2 ^ 32) → ((k : ℕ) → get_or ns k 0 < 2 ^ 32) → words ms ≡ words ns → ms ≡ ns
-same_words [] [] len hm hn e = refl
-same_words [] (n ∷ ns) len hm hn e = absurd (omega (arith, len))
-same_words (m ∷ ms) [] len hm hn e = absurd (omega (arith, len))
-same_words (m ∷ ms) (n ∷ ns) len hm hn e =
-    let joined : to_be_bytes w32 m ++ words ms ≡ to_be_bytes w32 n ++ words ns = sym (flat_map-cons (to_be_bytes w32) m ms) ∙ e ∙ flat_map-cons (to_be_bytes w32) n ns in
-    let parts = split_same (to_be_bytes w32 m) (to_be_bytes w32 n) (words ms) (words ns) refl joined in
-    let first : m ≡ n = same_4 m n (hm 0) (hn 0) parts.0 in
-    let others : ms ≡ ns = same_words ms ns (omega (arith, len)) (λ k. hm (suc k)) (λ k. hn (suc k)) parts.1 in
-    ap (λ (k : ℕ). k ∷ ms) first ∙ ap (λ (ks : List ℕ). n ∷ ks) others
 
 -- one more number is read
 pub more_read : (ps bytes : List ℕ) (k v : ℕ) → k < length ps → words (take k ps) ≡ take (4 * k) bytes → to_be_bytes w32 v ≡ take 4 (drop (4 * k) bytes) → words (take (k + 1) (set ps k v)) ≡ take (4 * (k + 1)) bytes

@@ -1,8 +1,8 @@
 //! A disk in memory that counts its reads.
 
 ghost use Rattle.std.specs.Prelude.{◌≡◌, ℕ, ◌+◌, ◌-◌, ◌<◌, ◌≤◌, ◌++◌, ◌∷◌, [], min, length, slice_get, slice_set, slice_index, Some, IfOk};
-ghost use Rattle.disk_layout.specs.DiskFormat.{entry_bytes};
-ghost use Rattle.disk_layout.specs.SoundDisk.{zeros, first_marked, new_root, root_entry, IsFormatted};
+ghost use Rattle.posix_defs.specs.SoundDisk.{Sound};
+ghost use Rattle.posix_defs.specs.DiskContents.{zeros, first_marked, new_root, entry_for, new_entries, IsDirectoryOf, IsFormatted};
 
 use crate::entries::bytes_of_entry;
 use crate::inodes::bytes_of;
@@ -19,10 +19,14 @@ pub struct RamDisk {
 }
 
 impl RamDisk {
-    /// A disk of so many blocks whose root directory has `.` and `..` alone, and of which nothing was read.
+    /// A disk of so many blocks, 16 to 4096, whose root directory has `.` and `..` alone, and of which nothing was read.
+    /// Memory where the host has none for its blocks.
     pub fn boot(alloc: Global, blocks: u32) -> Result<RamDisk, Memory>
         requires { (16 ≤ blocks) × (blocks ≤ 4096) }
-        ensures { IfOk result (λ disk. IsFormatted blocks disk.blocks.items × (disk.reads ≡ 0)) }
+        ensures formatted { IfOk result (λ disk. IsFormatted blocks disk.blocks.items) }
+        ensures sound { IfOk result (λ disk. Sound disk.blocks.items) }
+        ensures root { IfOk result (λ disk. IsDirectoryOf disk.blocks.items 1 1 []) }
+        ensures unread { IfOk result (λ disk. disk.reads ≡ 0) }
     {
         let first = blocks / 16 + 1;
         let mut disk = vec![in alloc; zero_block(); blocks as usize]?;
@@ -92,7 +96,7 @@ impl Blocks for RamDisk {
     }
 }
 
-#[tactic(auto, unfolding(crate::specs::SoundDisk::zeros))]
+#[tactic(auto, unfolding(posix_defs::specs::DiskContents::zeros))]
 fn zero_block() -> [u8; 1024]
     ensures { result ≡ zeros 1024 }
 {
@@ -146,9 +150,9 @@ fn root_of(blocks: u32) -> Inode
 }
 
 /// An entry of the root that names the root.
-fn root_entry(name: &[u8]) -> DirEntry
+fn entry_for_root(name: &[u8]) -> DirEntry
     requires { length name.now ≤ 27 }
-    ensures { result ≡ root_entry name.now }
+    ensures { result ≡ entry_for 1 name.now }
 {
     let name = Name27::of(name).unwrap();
     DirEntry { node: 1, name }
@@ -156,9 +160,9 @@ fn root_entry(name: &[u8]) -> DirEntry
 
 /// The one block of a new root.
 fn root_entries() -> [u8; 1024]
-    ensures { result ≡ entry_bytes (root_entry (46 ∷ [])) ++ (entry_bytes (root_entry (46 ∷ 46 ∷ [])) ++ zeros (1024 - 64)) }
+    ensures { result ≡ new_entries ++ zeros (1024 - 64) }
 {
-    let mut block = block_of(&bytes_of_entry(&root_entry(b".")));
-    put(&mut block, 32, &bytes_of_entry(&root_entry(b"..")));
+    let mut block = block_of(&bytes_of_entry(&entry_for_root(b".")));
+    put(&mut block, 32, &bytes_of_entry(&entry_for_root(b"..")));
     block
 }

@@ -2,7 +2,7 @@
 
 ghost use Rattle.std.specs.Prelude.{◌≡◌, ℕ, ◌-◌, ◌<◌, ◌≢◌, ◌++◌, ◌↔◌, List, length, take, replicate, slice_index, EachIndex, IsTrue, IfOk, Ok, Some, IfSome};
 ghost use Rattle.kabi_types.specs.declared.inodes.DirEntry.{DirEntry};
-ghost use Rattle.disk_layout.specs.DiskFormat.{IsName, IsEntry, entry_bytes};
+ghost use Rattle.posix_defs.specs.DiskFormat.{IsName, IsEntry, entry_bytes};
 
 use crate::faults::BadEntry;
 use crate::words::{all_zero, put, word_at};

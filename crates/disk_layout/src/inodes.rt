@@ -4,12 +4,24 @@ ghost use Rattle.std.specs.Prelude.{◌≡◌, ℕ, ◌*◌, ◌<◌, ◌↔◌,
 ghost use Rattle.std.specs.Int.{w16, w32, to_be_bytes};
 ghost use Rattle.std.specs.List.{flat_map};
 ghost use Rattle.kabi_types.specs.declared.inodes.Inode.{Inode};
-ghost use Rattle.disk_layout.specs.DiskFormat.{direct_pointers, block_size, IsPointer, Fits, IsOfKind, HasPointers, IsInode, inode_bytes};
+ghost use Rattle.posix_defs.specs.DiskFormat.{direct_pointers, block_size, IsPointer, Fits, IsOfKind, HasPointers, IsInode, inode_bytes};
 ghost use Rattle.disk_layout.specs.Faults.{IsFault};
 
 use crate::faults::BadInode;
 use crate::words::{all_zero, put, put_words, word_at};
 use kabi_types::Inode;
+
+/// The bytes of a block.
+const BLOCK_SIZE: u32 = 1024;
+
+/// How many blocks an inode names itself.
+const DIRECT_POINTERS: u32 = 10;
+
+/// How many blocks a block of pointers names.
+const BLOCK_POINTERS: u32 = 256;
+
+/// The greatest size of a node.
+const GREATEST_SIZE: u32 = BLOCK_SIZE * (DIRECT_POINTERS + BLOCK_POINTERS);
 
 /// The big-endian numbers of an inode's direct pointers.
 fn pointers_of(bytes: &[u8]) -> [u32; 10]
@@ -55,7 +67,7 @@ fn spelled_in(bytes: &[u8; 64]) -> Option<Inode>
 fn is_of_kind(inode: &Inode) -> bool
     ensures { IsTrue result ↔ IsOfKind inode.now }
 {
-    if inode.nlink > 127 || inode.size > 272_384 {
+    if inode.nlink > 127 || inode.size > GREATEST_SIZE {
         return false;
     }
     match inode.kind {
@@ -81,7 +93,7 @@ fn are_direct_pointers(inode: &Inode, blocks: u32) -> bool
     ensures { IsTrue result ↔ ((k : ℕ) → k < direct_pointers → IsPointer blocks (nat_lt (k * block_size) inode.now.size) (slice_index inode.now.direct k)) }
 {
     for (k, pointer) in inode.direct.iter().enumerate() {
-        if !is_pointer(*pointer, (k as u32) * 1024 < inode.size, blocks) {
+        if !is_pointer(*pointer, (k as u32) * BLOCK_SIZE < inode.size, blocks) {
             return false;
         }
     }
@@ -91,7 +103,8 @@ fn are_direct_pointers(inode: &Inode, blocks: u32) -> bool
 fn has_pointers(inode: &Inode, blocks: u32) -> bool
     ensures { IsTrue result ↔ HasPointers blocks inode.now }
 {
-    are_direct_pointers(inode, blocks) && is_pointer(inode.indirect, 10240 < inode.size, blocks)
+    let is_large = DIRECT_POINTERS * BLOCK_SIZE < inode.size;
+    are_direct_pointers(inode, blocks) && is_pointer(inode.indirect, is_large, blocks)
 }
 
 /// The inode that the bytes spell on a disk of so many blocks.

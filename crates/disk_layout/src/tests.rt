@@ -1,4 +1,4 @@
-ghost use Rattle.std.specs.Prelude.{◌<◌, ◌≤◌, length};
+ghost use Rattle.std.specs.Prelude.{◌≡◌, ◌<◌, ◌≤◌, length};
 
 use crate::{BadEntry, BadInode, RamDisk, bytes_of, bytes_of_entry, entry_of, inode_of};
 use kabi_types::{DirEntry, Inode, Name27};
@@ -9,6 +9,13 @@ use std::test::Fail;
 const FILE: [u8; 64] = [
     1, 0, 0, 1, 0, 0, 4, 0, 0, 0, 0, 2, 0, 0, 0, 0, 0, 0, 0, 0, 0, 0, 0, 0, 0, 0, 0, 0, 0, 0, 0, 0,
     0, 0, 0, 0, 0, 0, 0, 0, 0, 0, 0, 0, 0, 0, 0, 0, 0, 0, 0, 0, 0, 0, 0, 0, 0, 0, 0, 0, 0, 0, 0, 0,
+];
+
+/// The root of a new disk of 16 blocks.
+const ROOT: [u8; 64] = [
+    2, 0, 0, 1, 0, 0, 0, 0x40, 0, 0, 0, 2, 0, 0, 0, 0, 0, 0, 0, 0, 0, 0, 0, 0, 0, 0, 0, 0, 0, 0, 0,
+    0, 0, 0, 0, 0, 0, 0, 0, 0, 0, 0, 0, 0, 0, 0, 0, 0, 0, 0, 0, 0, 0, 0, 0, 0, 0, 0, 0, 0, 0, 0, 0,
+    0,
 ];
 
 /// A file of 272384 bytes, the greatest size, with blocks 2 to 11 and its block of pointers 12.
@@ -35,6 +42,10 @@ const FIRST_258: [u8; 33] = [
     255, 255, 255, 255, 255, 255, 255, 255, 255, 255, 255, 255, 255, 255, 255, 255, 255, 255, 255,
     255, 255, 255, 255, 255, 255, 255, 255, 255, 255, 255, 255, 255, 3,
 ];
+
+const KIND: Option<BadInode> = Some(BadInode::BadKind);
+
+const POINTER: Option<BadInode> = Some(BadInode::BadPointer);
 
 /// What is wrong with an inode of a disk of 16 blocks, once one of its bytes is another.
 fn fault_with(bytes: &[u8; 64], place: usize, byte: u8) -> Option<BadInode>
@@ -87,15 +98,26 @@ fn a_new_disk_of_4096_blocks(rt: HostRuntime) -> Result<(), Fail> {
     Ok(())
 }
 
+/// Writes a block of nines, and reads the block before, this one and the next, through the trait alone.
+fn write_and_read<B: Blocks>(disk: &mut B) -> ([u8; 1024], [u8; 1024], [u8; 1024])
+    requires { 6 < length (B.blocks disk.old) }
+    ensures { length (B.blocks disk.new) ≡ length (B.blocks disk.old) }
+{
+    disk.set(5, &[9; 1024]);
+    (disk.get(4), disk.get(5), disk.get(6))
+}
+
 #[test]
 fn a_write_changes_one_block_and_counts_nothing(rt: HostRuntime) -> Result<(), Fail> {
     let mut disk = RamDisk::boot(rt.alloc(), 16)?;
-    disk.write(5, &[9; 1024]);
+    disk.write(7, &[8; 1024]);
     assert_eq!(rt; disk.reads(), 0);
-    assert!(rt; disk.get(5).iter().all(|byte| *byte == 9));
-    assert!(rt; is_front(&disk.get(4), &[]));
-    assert!(rt; is_front(&disk.get(6), &[]));
+    let (before, written, next) = write_and_read(&mut disk);
+    assert!(rt; written.iter().all(|byte| *byte == 9));
+    assert!(rt; is_front(&before, &[]));
+    assert!(rt; is_front(&next, &[]));
     assert_eq!(rt; disk.reads(), 3);
+    assert!(rt; disk.read(7).iter().all(|byte| *byte == 8));
     Ok(())
 }
 
@@ -123,56 +145,41 @@ fn inodes_are_read_and_written(rt: HostRuntime) {
 }
 
 #[test]
-fn kinds_links_and_sizes_that_do_not_go_together(rt: HostRuntime) {
-    assert_eq!(rt; fault_with(&FILE, 0, 4), Some(BadInode::BadKind), "kind 4");
-    assert_eq!(rt;
-        fault_with(&FILE, 1, 1),
-        Some(BadInode::BadKind),
-        "a byte kept zero"
-    );
-    assert_eq!(rt;
-        fault_with(&FILE, 52, 1),
-        Some(BadInode::BadKind),
-        "the first zero at the end"
-    );
-    assert_eq!(rt;
-        fault_with(&FILE, 63, 1),
-        Some(BadInode::BadKind),
-        "the last byte"
-    );
+fn bytes_that_are_kept_zero(rt: HostRuntime) {
+    assert_eq!(rt; fault_with(&FILE, 1, 1), KIND, "behind the kind");
+    assert_eq!(rt; fault_with(&FILE, 52, 1), KIND, "the first at the end");
+    assert_eq!(rt; fault_with(&FILE, 63, 255), KIND, "the last");
+}
+
+#[test]
+fn kinds_and_links(rt: HostRuntime) {
+    assert_eq!(rt; fault_with(&FILE, 0, 2), None, "a directory");
+    assert_eq!(rt; fault_with(&[0; 64], 0, 3), None, "a socket's name");
+    assert_eq!(rt; fault_with(&FILE, 0, 4), KIND, "kind 4");
+    assert_eq!(rt; fault_with(&FILE, 0, 255), KIND, "kind 255");
     assert_eq!(rt; fault_with(&FILE, 3, 127), None, "127 links");
-    assert_eq!(rt;
-        fault_with(&FILE, 3, 128),
-        Some(BadInode::BadKind),
-        "128 links"
-    );
-    assert_eq!(rt;
-        fault_with(&FILE, 2, 1),
-        Some(BadInode::BadKind),
-        "257 links"
-    );
-    assert_eq!(rt;
-        fault_with(&FULL, 7, 1),
-        Some(BadInode::BadKind),
-        "272385 bytes"
-    );
-    assert_eq!(rt;
-        fault_with(&FILE, 0, 0),
-        Some(BadInode::BadKind),
-        "free, with a link and a size"
-    );
-    assert_eq!(rt;
-        fault_with(&[0; 64], 3, 1),
-        Some(BadInode::BadKind),
-        "free, with a link"
-    );
+    assert_eq!(rt; fault_with(&FILE, 3, 128), KIND, "128 links");
+    assert_eq!(rt; fault_with(&FILE, 2, 1), KIND, "257 links");
+    assert_eq!(rt; fault_with(&[0; 64], 3, 1), KIND, "a free one with a link");
+}
+
+#[test]
+fn sizes_of_each_kind(rt: HostRuntime) {
+    assert_eq!(rt; fault_with(&FULL, 7, 1), KIND, "272385 bytes");
+    assert_eq!(rt; fault_with(&[0; 64], 7, 1), KIND, "a free one of a byte");
     assert_eq!(rt;
         fault_with(&FILE, 0, 3),
-        Some(BadInode::BadKind),
-        "a socket name with a size"
+        KIND,
+        "a socket's name of 1024 bytes"
     );
-    assert_eq!(rt; fault_with(&[0; 64], 0, 3), None, "a socket name");
-    assert_eq!(rt; fault_with(&FILE, 0, 2), None, "a directory of 32 entries");
+    assert_eq!(rt; fault_with(&ROOT, 7, 0x41), KIND, "a directory of 65 bytes");
+    assert_eq!(rt; fault_with(&ROOT, 7, 0x50), KIND, "a directory of 80 bytes");
+    assert_eq!(rt;
+        fault_with(&ROOT, 7, 0x20),
+        None,
+        "a directory of one entry"
+    );
+    assert_eq!(rt; fault_with(&ROOT, 0, 1), None, "a file of 64 bytes");
 }
 
 #[test]
@@ -187,48 +194,39 @@ fn a_bad_kind_comes_before_a_bad_pointer(rt: HostRuntime) {
 
 #[test]
 fn pointers_outside_the_blocks_for_files(rt: HostRuntime) {
-    assert_eq!(rt;
-        fault_with(&FILE, 11, 0),
-        Some(BadInode::BadPointer),
-        "none"
-    );
-    assert_eq!(rt;
-        fault_with(&FILE, 11, 1),
-        Some(BadInode::BadPointer),
-        "the table"
-    );
+    assert_eq!(rt; fault_with(&FILE, 11, 0), POINTER, "none");
+    assert_eq!(rt; fault_with(&FILE, 11, 1), POINTER, "the table");
     assert_eq!(rt; fault_with(&FILE, 11, 2), None, "the first for files");
     assert_eq!(rt; fault_with(&FILE, 11, 15), None, "the last");
-    assert_eq!(rt;
-        fault_with(&FILE, 11, 16),
-        Some(BadInode::BadPointer),
-        "behind the last"
-    );
-    assert_eq!(rt;
-        fault_with(&FILE, 7, 1),
-        Some(BadInode::BadPointer),
-        "1025 bytes in one block"
-    );
+    assert_eq!(rt; fault_with(&FILE, 11, 16), POINTER, "behind the last");
+    assert_eq!(rt; fault_with(&FULL, 47, 16), POINTER, "the tenth");
+    assert_eq!(rt; fault_with(&FULL, 51, 1), POINTER, "the block of pointers");
+    assert!(rt; inode_of(&FILE, 32) == Err(BadInode::BadPointer));
+}
+
+#[test]
+fn pointers_are_those_that_the_size_needs(rt: HostRuntime) {
     assert_eq!(rt;
         fault_with(&FILE, 15, 3),
-        Some(BadInode::BadPointer),
-        "a second block"
+        POINTER,
+        "a second for 1024 bytes"
     );
+    assert_eq!(rt; fault_with(&FILE, 7, 1), POINTER, "one for 1025 bytes");
     assert_eq!(rt;
         fault_with(&FILE, 51, 3),
-        Some(BadInode::BadPointer),
-        "a block of pointers"
+        POINTER,
+        "a block of pointers for 1024 bytes"
     );
+    assert_eq!(rt; fault_with(&FULL, 51, 0), POINTER, "no block of pointers");
+    let mut ten = FULL;
+    ten[5] = 0;
+    assert_eq!(rt; fault_with(&ten, 51, 0), None, "10240 bytes");
     assert_eq!(rt;
-        fault_with(&FULL, 51, 0),
-        Some(BadInode::BadPointer),
-        "no block of pointers"
+        fault_with(&ten, 51, 12),
+        POINTER,
+        "a block of pointers for 10240 bytes"
     );
-    assert_eq!(rt;
-        fault_with(&FULL, 47, 16),
-        Some(BadInode::BadPointer),
-        "the tenth"
-    );
+    assert_eq!(rt; fault_with(&ten, 7, 1), None, "10241 bytes");
 }
 
 #[test]

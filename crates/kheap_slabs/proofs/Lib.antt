@@ -1,5 +1,11 @@
+pub mod CountLemmas
+pub mod MarkLemmas
 pub mod ObjectLemmas
+pub mod OnceLemmas
 pub mod OutsideLemmas
 pub mod OwnedLemmas
+pub mod OwnerLemmas
 pub mod PaidLemmas
+pub mod PurseLemmas
+pub mod ReplaceLemmas
 pub mod ShelfLemmas

@@ -1,9 +1,9 @@
 -- Changes of a heap outside which it is the same, one after the other.
-use Rattle.std.proofs.Common.{◌≡◌, ◌≢◌, ℕ, ◌+◌, ◌<◌, List, [], ◌∷◌, ◌++◌, Option, Some, None, refl, ◌∙◌, arith, Contains}
+use Rattle.std.proofs.Common.{◌≡◌, ℕ, List, [], ◌∷◌, ◌++◌, Option, refl, ◌∙◌, arith, Contains}
 use Rattle.std.proofs.lemmas.List.Elements.{Contains-append_left, Contains-append_right}
-use Rattle.kheap_slabs.specs.Objects.{object, put, without}
+use Rattle.kheap_slabs.specs.Objects.{put, without}
 use Rattle.kheap_slabs.specs.Heap.{Heap}
-use Rattle.kheap_slabs.specs.Outside.{KeepsOutside, Keys, both_keys, no_keys, SameOutside}
+use Rattle.kheap_slabs.specs.Outside.{KeepsOutside, Keys, both_keys, SameOutside}
 use Rattle.kheap_slabs.proofs.ObjectLemmas.{object-put_other, object-without_other}
 
 module _ {X : Type 0} where

@@ -19,3 +19,15 @@ IsPaid-trans a p b q c r first second = record {
   high = below_max a.high (live_bytes a + left_bytes p) b.high (live_bytes b + left_bytes q) c.high first.sum first.high second.high;
   heap = second.heap ∙ first.heap;
 }
+
+-- an object is made and the purse spends it
+pub IsPaid-spend : (old new : Heap) (before after : Purse) (bytes : ℕ) → live_bytes new ≡ live_bytes old + bytes → left_bytes after + bytes ≡ left_bytes before → new.high ≡ max old.high (live_bytes new) → new.heap ≡ old.heap → IsPaid old before new after
+IsPaid-spend old new before after bytes live left high heap = record { sum = omega arith; high = omega arith; heap = heap }
+
+-- an object that was spent is freed and the purse takes it back
+pub IsPaid-give : (old new : Heap) (before after : Purse) (bytes : ℕ) → live_bytes new + bytes ≡ live_bytes old → left_bytes after ≡ left_bytes before + bytes → new.high ≡ old.high → new.heap ≡ old.heap → IsPaid old before new after
+IsPaid-give old new before after bytes live left high heap = record { sum = omega arith; high = omega arith; heap = heap }
+
+-- an object is freed or changed, and the purse has left what it had
+pub IsPaid-free : (old new : Heap) (before after : Purse) → live_bytes new ≤ live_bytes old → left_bytes after ≡ left_bytes before → new.high ≡ old.high → new.heap ≡ old.heap → IsPaid old before new after
+IsPaid-free old new before after live left high heap = record { sum = omega arith; high = omega arith; heap = heap }

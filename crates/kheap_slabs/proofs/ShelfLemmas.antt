@@ -1,5 +1,5 @@
 -- What an insert, a removal and a write leave of a shelf's places and objects.
-use Rattle.std.proofs.Common.{◌≡◌, ◌≢◌, ◌⊎◌, ℕ, suc, ◌+◌, ◌<◌, ◌≤◌, Bool, List, [], ◌∷◌, ◌++◌, length, get_or, set, Option, Some, None, is_some, IsSome, count_by, map, refl, sym, ap, ◌∙◌, inl, inr, cond, replicate, mul-zero, arith, rules, length-append}
+use Rattle.std.proofs.Common.{◌≡◌, ◌≢◌, ℕ, suc, ◌+◌, ◌<◌, ◌≤◌, List, [], ◌∷◌, ◌++◌, length, get_or, set, Option, Some, None, is_some, count_by, map, refl, sym, ap, ◌∙◌, inl, inr, cond, replicate, mul-zero, arith, length-append}
 use Rattle.std.proofs.lemmas.Bool.{cases_eq}
 use Rattle.std.proofs.lemmas.Grind.{common_steps, get_or-set_at}
 use Rattle.std.proofs.lemmas.List.{get_or_read_under, length-replicate, get_or-replicate, get_or-set_same, get_or-set_other, get_or-map, map-set, length-set, length-map, same_lists, get_or_past, get_or_append_left, get_or_push, set-get_or}
@@ -7,7 +7,7 @@ use Rattle.std.proofs.lemmas.List.Sums.{sum_by-set}
 use Rattle.std.proofs.lemmas.List.Folds.{sum_by-replicate}
 use Rattle.std.proofs.lemmas.Bool.{cases_lt}
 use Rattle.slab.specs.Slab.{Slab, get, slab_len, ContainsKey, Updates}
-use Rattle.kheap_slabs.specs.Objects.{object, InUse}
+use Rattle.kheap_slabs.specs.Objects.{InUse}
 use Rattle.kheap_slabs.specs.Places.{found_at, shelved, IsSound}
 
 module _ {X Y : Type 0} where

@@ -1,5 +1,5 @@
 -- The heap: ten finite maps from key to object, and the bytes that the objects take.
-use Rattle.std.specs.Prelude.{◌≡◌, ℕ, ◌+◌, ◌*◌, ◌/◌, List, Option, None, replicate}
+use Rattle.std.specs.Prelude.{ℕ, ◌+◌, ◌*◌, ◌/◌, List, Option, None, replicate}
 use Rattle.kabi_types.specs.Class.{size}
 use Rattle.kabi_types.specs.declared.classes.Class.TheVariants as class
 use Rattle.kheap_slabs.specs.Objects.{count}

@@ -1,4 +1,5 @@
 pub mod Heap
+pub mod Marks
 pub mod Metered
 pub mod Objects
 pub mod Outside

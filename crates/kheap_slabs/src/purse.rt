@@ -1,5 +1,6 @@
 ghost use Rattle.std.specs.Prelude.{◌≡◌, ◌+◌, ◌-◌, ◌<◌, [], ◌∷◌, ◌++◌, length, slice_index_or, remove};
-ghost use Rattle.kheap_slabs.specs.Purse.{counted, with_count, fills_of, with_fills, IsCached};
+ghost use Rattle.kabi_types.specs.Class.{size};
+ghost use Rattle.kheap_slabs.specs.Purse.{counted, with_count, fills_of, with_fills, IsCached, need_bytes, left_bytes};
 
 use arrayvec::ArrayVec;
 use kabi_types::{Class, Need};
@@ -96,7 +97,8 @@ fn put_count(need: Need, class: Class, count: u32) -> Need
 impl Purse {
     /// A purse that has left what the need counts, and has filled nothing.
     pub fn of(need: Need) -> Purse
-        ensures { result ≡ record { need = need; left = need; vnodes = []; names = []; blocks = [] } }
+        ensures value { result ≡ record { need = need; left = need; vnodes = []; names = []; blocks = [] } }
+        ensures bytes { left_bytes result ≡ need_bytes need }
     {
         Purse {
             need,
@@ -117,7 +119,8 @@ impl Purse {
     /// Counts one object of the class as made.
     pub fn spend(&mut self, class: Class)
         requires { 0 < counted self.old.left class }
-        ensures { self.new ≡ record self.old { left = with_count self.old.left class (counted self.old.left class - 1) } }
+        ensures kept { self.new ≡ record self.old { left = with_count self.old.left class (counted self.old.left class - 1) } }
+        ensures bytes { left_bytes self.new + size class ≡ left_bytes self.old }
     {
         let left = count_of(&self.left, class);
         self.left = put_count(self.left, class, left - 1);
@@ -126,7 +129,8 @@ impl Purse {
     /// Takes one object of the class, that was spent, back.
     pub fn give(&mut self, class: Class)
         requires { counted self.old.left class < counted self.old.need class }
-        ensures { self.new ≡ record self.old { left = with_count self.old.left class (counted self.old.left class + 1) } }
+        ensures kept { self.new ≡ record self.old { left = with_count self.old.left class (counted self.old.left class + 1) } }
+        ensures bytes { left_bytes self.new ≡ left_bytes self.old + size class }
     {
         let left = count_of(&self.left, class);
         let most = count_of(&self.need, class);

@@ -38,6 +38,39 @@ fn runs_the_first_script(rt: HostRuntime) -> Result<(), Fail> {
     Ok(())
 }
 
+/// Whether the answer is this one with this text, or want of memory with a beginning of it; None where the test itself
+/// has no memory.
+fn is_right(rt: &HostRuntime, script: &str, wanted: Status, whole: &str) -> Option<bool> {
+    let text = script.as_bytes().to_vec(rt.alloc()).ok()?;
+    let word = "sim".to_string(rt.alloc()).ok()?;
+    let words = vec![in rt.alloc(); word].ok()?;
+    let mut source = MemSource::new(text, Vec::new(rt.alloc()), usize::MAX);
+    let mut sink = MemSink::new(rt.alloc(), ROOM, Vec::new(rt.alloc()), usize::MAX).ok()?;
+    let status = run_tool(rt, rt.alloc(), words.as_slice(), &mut source, &mut sink);
+    let written = sink.bytes();
+    Some(match status {
+        Status::Memory => whole.as_bytes().starts_with(written),
+        status => status == wanted && written == whole.as_bytes(),
+    })
+}
+
+/// To be run with each allocation refused in turn.
+#[test]
+fn ends_right_whichever_allocation_is_refused(rt: HostRuntime) {
+    let cases = [
+        (
+            "heap 8192\nprogram init\nr1 = getpid\nexit 0\nend\n",
+            Status::Finished,
+            PID_REPORT,
+        ),
+        ("program init\nfork\nend\n", Status::BadScript, NOT_BUILT),
+    ];
+    for (script, wanted, whole) in cases {
+        let right = is_right(&rt, script, wanted, whole);
+        assert!(rt; right != Some(false), "on {script:?}");
+    }
+}
+
 #[test]
 fn refuses_what_is_no_small_script(rt: HostRuntime) -> Result<(), Fail> {
     let texts = [

@@ -1,1 +1,5 @@
-mod Places
+mod Pairs
+mod Sides
+mod Links
+mod Chained
+mod Kept

@@ -1,2 +1,6 @@
+pub mod Chain
+pub mod Index
 pub mod Keys
 pub mod Order
+pub mod Sorted
+pub mod Tree

@@ -1,8 +1,8 @@
 -- What contracts see of an index: its pairs of a key and a slot, the coldest first, and how many it has room for.
-use Rattle.std.specs.Prelude.{◌≡◌, ℕ, ◌+◌, ◌<◌, ◌≤◌, drop, slice_index_or, Bool, cond, List, [], ◌∷◌, ◌++◌, length, Option, Some, None}
+use Rattle.std.specs.Prelude.{ℕ, ◌≤◌, Bool, cond, List, [], ◌∷◌, ◌++◌, length, Option, Some, None}
 use Rattle.std.specs.Option.{option_map_or, option_to_list}
-use Rattle.std.specs.List.{IsDistinct, remove}
-use Rattle.std.specs.Map.{keys_of, lookup, lookup_entry, remove_entry}
+use Rattle.std.specs.List.{IsDistinct}
+use Rattle.std.specs.Map.{keys_of, lookup_entry, remove_entry}
 
 pub record Order (K : Type 0) : Type 0 where
   pub pairs : List (K × ℕ)
@@ -34,10 +34,3 @@ module _ {K : Type 0} where
   -- the coldest key of all, or of those warmer than a given one
   abbrev pub coldest_of : (K → K → Bool) → Option K → List (K × ℕ) → Option K
   coldest_of eq after pairs = first_key (option_map_or (λ key. warmer (eq key) pairs) after pairs)
-
-  -- The first pair whose key passes stands at this place: what its slot is, which pairs are the others, and which of them are warmer.
-  pub record IsPlace (test : K → Bool) (pairs : List (K × ℕ)) (place : ℕ) : Type 0 where
-    pub bound : place < length pairs
-    pub slot : (d : K × ℕ) → lookup test pairs ≡ Some (slice_index_or pairs place d).1
-    pub others : remove pairs place ≡ remove_entry test pairs
-    pub warmer : drop (place + 1) pairs ≡ warmer test pairs

@@ -1,31 +1,45 @@
 //! `Index` and its calls. A clause sees an index as its `pairs`, the coldest first, and its `capacity`.
-ghost use Rattle.std.specs.Prelude.{◌≡◌, ◌<◌, [], ◌∷◌, ◌++◌, length, drop, Some, None, IfOk, IfSome, IsSome, cond};
+ghost use Rattle.std.specs.Prelude.{◌≡◌, ◌<◌, [], ◌∷◌, ◌++◌, length, Some, None, IfOk, IfSome, IsSome, cond, vec_capacity};
 ghost use Rattle.std.specs.Bool.{MatchBool};
-ghost use Rattle.std.specs.Option.{ForSome, MatchOption};
-ghost use Rattle.std.specs.List.{position};
+ghost use Rattle.std.specs.Option.{ForSome};
+ghost use Rattle.std.specs.List.{AllByRecursion};
 ghost use Rattle.std.specs.Map.{lookup, remove_entry};
-ghost use Rattle.lru_index.specs.Order.{order, IsOrder, IsPlace, touched, coldest_of, first_key};
+ghost use Rattle.lru_index.specs.Order.{order, IsOrder, touched, coldest_of};
+ghost use Rattle.lru_index.specs.Index.{AreLeaves};
 
 use crate::Key;
+use crate::chain::{Chain, Use};
+use crate::tree::{Leaves, Tree};
 use kabi_types::Memory;
 use std::alloc::Global;
 use std::marker::Model;
 
 /// Keys with their slots, in the order of their last use.
-#[derive(Drop)]
 pub struct Index<K: Key> {
-    pairs: Vec<(K, u32)>,
+    chain: Chain<K>,
+    // Leaves for each pair that there is still room for. Nothing is allocated after they are.
+    spare: Vec<Leaves<K, Use<K>>>,
 }
 
 impl<K: Key> Model for Index<K> {
     ghost use Rattle.std.specs.Prelude.{vec_capacity};
-    ghost use Rattle.lru_index.specs.Order.{Order, order, IsOrder};
+    ghost use Rattle.lru_index.specs.Order.{Order, order};
 
     ghost Value = { Order K };
 
-    ghost view = { λ index. order index.pairs.items (vec_capacity index.pairs) };
+    ghost use Rattle.lru_index.specs.Chain.{pairs_of};
+    ghost use Rattle.lru_index.specs.Index.{IsIndex};
 
-    ghost invariant = { λ index. IsOrder K.eq (order index.pairs.items (vec_capacity index.pairs)) };
+    ghost view = { λ index. order (pairs_of K.eq index.chain (vec_capacity index.spare)) (vec_capacity index.spare) };
+
+    ghost invariant = { λ index. IsIndex K.eq K.cmp index.chain index.spare.items (vec_capacity index.spare) };
+}
+
+// By hand, so that a caller sees one call and not the trees.
+impl<K: Key> Drop for Index<K> {
+    fn drop(self) {
+        let Index { chain: _, spare: _ } = self;
+    }
 }
 
 impl<K: Key> Index<K> {
@@ -33,15 +47,18 @@ impl<K: Key> Index<K> {
     pub fn boot(alloc: Global, capacity: u32) -> Result<Index<K>, Memory>
         ensures empty { IfOk result (λ index. index ≡ order [] capacity) }
     {
-        let pairs = Vec::with_capacity(alloc, capacity as usize)?;
-        Ok(Index { pairs })
+        let spare = spare_leaves(alloc, capacity)?;
+        Ok(Index {
+            chain: Chain::new(),
+            spare,
+        })
     }
 
     /// Whether there is no room for one more pair.
     pub fn is_full(&self) -> bool
         ensures { MatchBool result (self.now.capacity ≡ length self.now.pairs) (length self.now.pairs < self.now.capacity) }
     {
-        self.pairs.len() == self.pairs.capacity()
+        self.spare.is_empty()
     }
 
     /// The slot of a key, or None where it is absent.
@@ -49,10 +66,7 @@ impl<K: Key> Index<K> {
         ensures slot { result ≡ lookup (K.eq key) self.now.pairs }
         ensures valid { IsOrder K.eq self.now }
     {
-        match self.place(key) {
-            Some(place) => Some(self.pairs[place].1),
-            None => None,
-        }
+        self.chain.slot(key)
     }
 
     /// Makes a key that is there the warmest.
@@ -75,8 +89,9 @@ impl<K: Key> Index<K> {
         ensures room { length self.new.pairs < self.new.capacity }
         ensures valid { IsOrder K.eq self.new }
     {
-        let place = self.place_there(key);
-        self.pairs.remove(place).1
+        let (slot, leaves) = self.chain.remove(key);
+        self.spare.push_reserved(leaves);
+        slot
     }
 
     /// Adds an absent key with its slot as the warmest. There is room for it.
@@ -87,7 +102,10 @@ impl<K: Key> Index<K> {
         ensures finds { (other : K) → lookup (K.eq other) self.new.pairs ≡ cond (K.eq key other) (Some slot) (lookup (K.eq other) self.old.pairs) }
         ensures valid { IsOrder K.eq self.new }
     {
-        self.pairs.push_reserved((key, slot));
+        let Some(leaves) = self.spare.pop() else {
+            unreachable!()
+        };
+        self.chain.add(key, slot, leaves);
     }
 
     /// The coldest key, or the coldest of those warmer than a key that is there; None where there is none.
@@ -97,42 +115,21 @@ impl<K: Key> Index<K> {
         ensures is_there { IfSome result (λ key. IsSome (lookup (K.eq key) self.now.pairs)) }
         ensures valid { IsOrder K.eq self.now }
     {
-        let _ = &self.pairs;
-        match after {
-            Some(key) => self.key_from(self.place_there(key) + 1),
-            None => self.key_from(0),
-        }
-    }
-
-    /// The key at a place, counted from the coldest.
-    fn key_from(&self, place: usize) -> Option<K>
-        ensures { result ≡ first_key (drop place self.now.pairs) }
-    {
-        match self.pairs.get(place) {
-            Some((key, _)) => Some(*key),
-            None => None,
-        }
-    }
-
-    /// Where the pair of a key stands, counted from the coldest.
-    fn place(&self, key: K) -> Option<usize>
-        ensures { MatchOption result (lookup (K.eq key) self.now.pairs ≡ None) (IsPlace (K.eq key) self.now.pairs) }
-    {
-        place_of(self.pairs.as_slice(), key)
-    }
-
-    /// The same of a key that is there.
-    fn place_there(&self, key: K) -> usize
-        requires there { IsSome (lookup (K.eq key) self.now.pairs) }
-        ensures { IsPlace (K.eq key) self.now.pairs result }
-    {
-        self.place(key).unwrap()
+        self.chain.coldest(after)
     }
 }
 
-/// Where the pair of a key stands, counted from the coldest.
-fn place_of<K: Key>(pairs: &[(K, u32)], key: K) -> Option<usize>
-    ensures { result ≡ position (λ pair. K.eq key pair.0) pairs.now }
+/// Leaves for so many pairs.
+fn spare_leaves<K: Key>(alloc: Global, capacity: u32) -> Result<Vec<Leaves<K, Use<K>>>, Memory>
+    ensures length { IfOk result (λ spare. length spare.items ≡ capacity) }
+    ensures capacity { IfOk result (λ spare. vec_capacity spare ≡ capacity) }
+    ensures leaves { IfOk result (λ spare. AllByRecursion AreLeaves spare.items) }
 {
-    pairs.iter().position(|pair| key == pair.0)
+    let mut spare = Vec::with_capacity(alloc, capacity as usize)?;
+    for _ in 0..capacity {
+        let left = Box::new(alloc, Tree::leaf())?;
+        let right = Box::new(alloc, Tree::leaf())?;
+        spare.push_reserved(Leaves { left, right });
+    }
+    Ok(spare)
 }

@@ -1,13 +1,16 @@
 //! The order of use: an index from keys to slots, which knows which key was used longest ago.
 //!
-//! The pairs stand in one list, the coldest first, in memory that `Index::boot` takes. `put` and the first `coldest` take
-//! the same time whatever is kept; each other call walks over the pairs, and so takes time in their number.
+//! A search tree has each key with its slot and with the keys that were used just before and just after it. So each call
+//! goes through the tree a few times, in time logarithmic in what is kept, and none goes along the order of use. All
+//! memory is taken by `Index::boot`.
 #![tactic(auto)]
 
+mod chain;
 mod index;
 mod keys;
 #[cfg(test)]
 mod tests;
+mod tree;
 
 pub use index::Index;
 pub use keys::{Key, NameKey};

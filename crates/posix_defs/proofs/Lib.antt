@@ -6,3 +6,8 @@ pub mod Legal
 pub mod Refusals
 pub mod LastStep
 pub mod FirstRun
+pub mod DiskSpelling
+pub mod FormattedDisk
+pub mod FreeBlocks
+pub mod DirectoryEntries
+pub mod FreeNodes

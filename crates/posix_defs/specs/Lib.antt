@@ -25,3 +25,7 @@ pub use Rattle.kabi_types.specs.Words
 pub mod SmallScript
 pub mod Tree
 pub mod FirstScript
+pub mod DiskFormat
+pub mod SoundDisk
+pub mod DiskContents
+pub mod TrueCaches

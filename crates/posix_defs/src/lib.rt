@@ -6,6 +6,7 @@
 
 mod blocks;
 mod dirs;
+mod disk_laws;
 mod laws;
 mod phases;
 #[cfg(test)]
@@ -14,6 +15,11 @@ mod turner;
 
 pub use blocks::{BlockList, Blocks};
 pub use dirs::{Dirs, RootAlone};
+pub use disk_laws::{
+    a_directory_has_32_bytes_for_each_entry, a_formatted_disk_is_sound, a_sound_disk_has_a_table,
+    bytes_of_a_disk_say_one_thing, free_blocks_are_those_that_no_node_names,
+    what_is_free_is_counted,
+};
 pub use laws::{
     charged_stays_within_the_heap, entries_are_a_legal_history, no_reply_wants_memory,
     nothing_else_is_its_run, refusals_stand_above_the_room, something_can_be_taken,

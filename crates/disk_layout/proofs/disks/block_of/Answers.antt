@@ -1,5 +1,5 @@
 use Rattle.std.proofs.Common.{◌≡◌, List, ℕ, ◌++◌, ◌-◌, length, drop, ap, ◌∙◌, zero-add}
-use Rattle.disk_layout.specs.SoundDisk.{zeros}
+use Rattle.posix_defs.specs.DiskContents.{zeros}
 use Rattle.disk_layout.proofs.NewDisk.{drop-zeros}
 use Rattle.disk_layout.proofs.disks.block_of.Goals as goal
 

@@ -1,5 +1,5 @@
 use Rattle.std.proofs.Common.{◌≡◌, ℕ, ◌<◌, length, get_or}
-use Rattle.disk_layout.specs.SoundDisk.{first_marked}
+use Rattle.posix_defs.specs.DiskContents.{first_marked}
 use Rattle.disk_layout.proofs.disks.map_of.Given as goal
 
 abbrev pub invariant-loop-place : goal.invariant-loop-place

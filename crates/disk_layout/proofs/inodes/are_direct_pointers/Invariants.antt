@@ -1,6 +1,6 @@
 use Rattle.std.proofs.Common.{ℕ, ◌*◌, ◌<◌, get_or}
 use Rattle.std.specs.Prelude.{nat_lt}
-use Rattle.disk_layout.specs.DiskFormat.{block_size, IsPointer}
+use Rattle.posix_defs.specs.DiskFormat.{block_size, IsPointer}
 use Rattle.disk_layout.proofs.inodes.are_direct_pointers.Given as goal
 
 abbrev pub invariant-loop-k : goal.invariant-loop-k

@@ -1,8 +1,9 @@
 use Rattle.std.proofs.Common.{◌≡◌, ℕ, List, [], ◌∷◌, ◌++◌, length, drop, replicate, refl, ap, ◌∙◌, ◌+◌, ◌*◌, append_assoc, rules}
 use Rattle.std.proofs.lemmas.List.{length-append}
 use Rattle.std.specs.Int.{w16, w32, to_be_bytes}
-use Rattle.disk_layout.specs.DiskFormat.{inode_bytes}
-use Rattle.disk_layout.proofs.WordBytes.{words, put_on, length-words}
+use Rattle.posix_defs.specs.DiskFormat.{inode_bytes}
+use Rattle.posix_defs.proofs.DiskSpelling.{words, length-words}
+use Rattle.disk_layout.proofs.WordBytes.{put_on}
 use Rattle.disk_layout.proofs.inodes.bytes_of.Goals as goal
 
 pub returns : goal.returns

@@ -1,6 +1,7 @@
 use Rattle.std.proofs.Common.{ap, sym, ◌∙◌, arith, ◌*◌}
 use Rattle.std.proofs.lemmas.List.{take_all, length-set}
-use Rattle.disk_layout.proofs.WordBytes.{words, more_read}
+use Rattle.posix_defs.proofs.DiskSpelling.{words}
+use Rattle.disk_layout.proofs.WordBytes.{more_read}
 use Rattle.disk_layout.proofs.inodes.pointers_of.Goals as goal
 
 pub loop-k-preserved : goal.loop-k-preserved

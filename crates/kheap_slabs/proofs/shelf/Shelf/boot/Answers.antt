@@ -1,7 +1,6 @@
-use Rattle.std.proofs.Common.{arith, ◌≡◌, ◌++◌, ◌-◌, List, [], Option, None, replicate, take, length, ℕ, ap, ◌∙◌, refl}
+use Rattle.std.proofs.Common.{arith, ◌≡◌, ◌++◌, ◌-◌, List, [], Option, None, replicate, take, length, ℕ, ap, ◌∙◌}
 use Rattle.std.proofs.lemmas.Grind.{common_steps}
 use Rattle.std.proofs.lemmas.List.{length-replicate}
-use Rattle.kheap_slabs.specs.Objects.{count}
 use Rattle.kheap_slabs.proofs.ObjectLemmas.{count-none}
 use Rattle.kheap_slabs.proofs.ShelfLemmas.{shelved-boot, IsSound-boot}
 use Rattle.kheap_slabs.proofs.shelf.Shelf.boot.Goals as goal

@@ -1,5 +1,5 @@
-use Rattle.std.proofs.Common.{rules, ◌≡◌, None, Some, ℕ, List, [], ◌∷◌, ◌++◌, ◌+◌, sym, ap, ◌∙◌}
-use Rattle.kheap_slabs.specs.Objects.{object, InUse, count, without}
+use Rattle.std.proofs.Common.{◌+◌, ap, ◌∙◌}
+use Rattle.kheap_slabs.specs.Objects.{object, count}
 use Rattle.kheap_slabs.proofs.ObjectLemmas.{InUse-within, object-without, count-without}
 use Rattle.kheap_slabs.proofs.ShelfLemmas.{placed_at, shelved-free, IsSound-free}
 use Rattle.kheap_slabs.proofs.shelf.Shelf.free.Goals as goal

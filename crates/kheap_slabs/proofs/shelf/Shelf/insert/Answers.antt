@@ -1,6 +1,6 @@
-use Rattle.std.proofs.Common.{rules, arith, ◌≡◌, ◌+◌, ◌<◌, ◌≤◌, length, IfOk, None, Some, ℕ, List, [], ◌∷◌, ◌++◌, slice_set, sym, ap, ◌∙◌}
+use Rattle.std.proofs.Common.{arith, ◌≡◌, length, None, ap, ◌∙◌}
 use Rattle.std.proofs.lemmas.List.{length-map, get_or-map}
-use Rattle.kheap_slabs.specs.Objects.{object, InUse, count, put, without}
+use Rattle.kheap_slabs.specs.Objects.{object, count}
 use Rattle.kheap_slabs.specs.Places.{found_at}
 use Rattle.kheap_slabs.proofs.ObjectLemmas.{object-put, count-put_new}
 use Rattle.kheap_slabs.proofs.ShelfLemmas.{shelved-insert, count-shelved, next_key, IsSound-insert}

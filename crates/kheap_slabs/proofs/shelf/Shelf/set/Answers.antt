@@ -1,6 +1,6 @@
-use Rattle.std.proofs.Common.{rules, ◌≡◌, None, Some, ℕ, List, [], ◌∷◌, ◌++◌, sym, ap, ◌∙◌}
+use Rattle.std.proofs.Common.{ap, ◌∙◌}
 use Rattle.slab.proofs.SlabLemmas.{Updates-with_value}
-use Rattle.kheap_slabs.specs.Objects.{object, InUse, count, put}
+use Rattle.kheap_slabs.specs.Objects.{object, count}
 use Rattle.kheap_slabs.proofs.ObjectLemmas.{InUse-within, object-put, count-put_used}
 use Rattle.kheap_slabs.proofs.ShelfLemmas.{placed_at, shelved-set}
 use Rattle.kheap_slabs.proofs.shelf.Shelf.set.Goals as goal

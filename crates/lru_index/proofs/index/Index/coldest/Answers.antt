@@ -1,13 +1,11 @@
-use Rattle.std.proofs.Common.{subst}
-use Rattle.lru_index.specs.Order.{IsOrder}
-use Rattle.lru_index.proofs.Places.{first_is_there}
+use Rattle.std.proofs.Common.{◌≡◌, IsSome, IfSome, sym, ap, ◌∙◌, subst}
+use Rattle.std.specs.Map.{lookup}
+use Rattle.lru_index.specs.Order.{coldest_of}
+use Rattle.lru_index.proofs.Kept.{coldest_there}
 use Rattle.lru_index.proofs.index.Index.coldest.Goals as goal
 
-pub returns-in-Some-clause-is_there : goal.returns-in-Some-clause-is_there
-returns-in-Some-clause-is_there g c = rw c.key_from.ensures (first_is_there g.met.K.Eq.laws c.args.self.now.pairs _)
-
-pub returns-in-Some-clause-valid : goal.returns-in-Some-clause-valid
-returns-in-Some-clause-valid g c = subst (IsOrder g.K.PartialEq.eq) c.self.view_is c.self.invariant
-
-pub returns-in-None-clause-valid : goal.returns-in-None-clause-valid
-returns-in-None-clause-valid g c = subst (IsOrder g.K.PartialEq.eq) c.self.view_is c.self.invariant
+pub returns-clause-is_there : goal.returns-clause-is_there
+returns-clause-is_there g c =
+    let pairs = c.args.self.now.pairs in
+    let is : c.coldest.result ≡ coldest_of g.K.PartialEq.eq c.args.after pairs = c.coldest.ensures _ c.self.invariant.chained ∙ ap (λ o. coldest_of g.K.PartialEq.eq c.args.after o.pairs) c.self.view_is in
+    subst (λ o. IfSome o (λ key. IsSome (lookup (g.K.PartialEq.eq key) pairs))) (sym is) (coldest_there g.met.K.Eq.laws c.args.after pairs)

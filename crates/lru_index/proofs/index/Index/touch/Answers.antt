@@ -1,5 +1,5 @@
 use Rattle.std.proofs.Common.{refl}
-use Rattle.lru_index.proofs.Places.{put_back}
+use Rattle.lru_index.proofs.Pairs.{put_back}
 use Rattle.lru_index.proofs.index.Index.touch.Goals as goal
 
 pub returns-clause-pairs : goal.returns-clause-pairs

@@ -1,0 +1,96 @@
+-- What the blocks of a disk say: its map, its table of inodes, which blocks a node names, and when all of it goes together.
+use Rattle.std.specs.Prelude.{ℕ, ◌+◌, ◌-◌, ◌*◌, ◌/◌, ◌%◌, ◌<◌, ◌≤◌, ◌≡◌, ◌≢◌, ◌⊎◌, ◌↔◌, not, List, [], length, take, drop, slice_index, slice_index_or, nat_lt, nat_eq, cond}
+use Rattle.std.specs.Int.{w32, from_be_bytes, bit_at}
+use Rattle.std.specs.List.{range_with_len, sum_by, count_by}
+use Rattle.kabi_types.specs.declared.inodes.Inode.{Inode}
+use Rattle.posix_defs.specs.DiskFormat.{block_size, inode_size, inodes_in_block, direct_pointers, block_pointers, table_end, table_nodes, blocks_of, IsPointer, IsInode, inode_bytes}
+
+abbrev pub block_at : List (List ℕ) → ℕ → List ℕ
+block_at disk number = slice_index_or disk number []
+
+-- the bytes that the table has of a node; nodes are numbered from 1
+unfoldable pub table_bytes : List (List ℕ) → ℕ → List ℕ
+table_bytes disk node =
+    take inode_size (drop (inode_size * ((node - 1) % inodes_in_block)) (block_at disk (1 + (node - 1) / inodes_in_block)))
+
+-- this is the node's inode
+pub record HasInode (disk : List (List ℕ)) (node : ℕ) (inode : Inode) : Type 0 where
+  pub number : (0 < node) × (node ≤ table_nodes (length disk))
+  pub valid : IsInode (length disk) inode
+  pub bytes : table_bytes disk node ≡ inode_bytes inode
+
+-- the node is in use, and this is its inode
+abbrev pub HasNode : List (List ℕ) → ℕ → Inode → Type 0
+HasNode disk node inode = HasInode disk node inode × (inode.kind ≢ 0)
+
+-- a pointer of a block of pointers
+abbrev pub pointer_at : List ℕ → ℕ → ℕ
+pointer_at block place = from_be_bytes w32 (take 4 (drop (4 * place) block))
+
+-- the blocks that a node names, in this order: the direct ones, its block of pointers, and those that are named there
+abbrev pub named_at : List (List ℕ) → Inode → ℕ → ℕ
+named_at disk inode place =
+    cond (nat_lt place direct_pointers) (slice_index inode.direct place)
+    (cond (nat_eq place direct_pointers) inode.indirect (pointer_at (block_at disk inode.indirect) (place - (direct_pointers + 1))))
+
+-- a node names this block
+pub record IsNamed (disk : List (List ℕ)) (number : ℕ) : Type 0 where
+  pub node : ℕ
+  pub inode : Inode
+  pub place : ℕ
+  pub has : HasInode disk node inode
+  pub within : place < blocks_of inode.size
+  pub same : number ≡ named_at disk inode place
+
+-- the bit that the map has of a block
+abbrev pub map_bit : List (List ℕ) → ℕ → ℕ
+map_bit disk number = bit_at (slice_index (block_at disk 0) (number / 8)) (number % 8)
+
+-- the map has this block as in use
+abbrev pub IsMarked : List (List ℕ) → ℕ → Type 0
+IsMarked disk number = map_bit disk number ≡ 1
+
+-- each inode is one, each block of pointers has just those that the size needs, no block is named twice, and the map says which are in use
+pub record Sound (disk : List (List ℕ)) : Type 0 where
+  pub table : (node : ℕ) → 0 < node → node ≤ table_nodes (length disk) → (inode : Inode) × HasInode disk node inode
+  pub pointers : (node : ℕ) (inode : Inode) (k : ℕ) → HasInode disk node inode → direct_pointers * block_size < inode.size → k < block_pointers
+      → IsPointer (length disk) (nat_lt ((direct_pointers + k) * block_size) inode.size) (pointer_at (block_at disk inode.indirect) k)
+  pub once : (first second : ℕ) (one other : Inode) (i j : ℕ) → HasInode disk first one → HasInode disk second other → i < blocks_of one.size → j < blocks_of other.size
+      → named_at disk one i ≡ named_at disk other j → (first ≡ second) × (i ≡ j)
+  pub map : (number : ℕ) → number < length disk → IsMarked disk number ↔ ((number ≤ table_end (length disk)) ⊎ IsNamed disk number)
+  pub rest : (number : ℕ) → length disk ≤ number → number < 8 * block_size → ¬ (IsMarked disk number)
+
+-- a block that the map has as free
+abbrev pub IsFreeBlock : List (List ℕ) → ℕ → Type 0
+IsFreeBlock disk number = (number < length disk) × ¬ (IsMarked disk number)
+
+-- the free block that a node gets next
+pub record IsLowestFreeBlock (disk : List (List ℕ)) (number : ℕ) : Type 0 where
+  pub free : IsFreeBlock disk number
+  pub lowest : (other : ℕ) → other < number → IsMarked disk other
+
+-- how many blocks the map has as free
+abbrev pub free_in_map : List (List ℕ) → ℕ
+free_in_map disk = count_by (λ number. not (nat_eq (map_bit disk number) 1)) (range_with_len 0 (length disk))
+
+-- these are the inodes of the table, that of node 1 first
+pub record IsTable (disk : List (List ℕ)) (inodes : List Inode) : Type 0 where
+  pub count : length inodes ≡ table_nodes (length disk)
+  pub each : (place : ℕ) (none : Inode) → place < length inodes → HasInode disk (place + 1) (slice_index_or inodes place none)
+
+-- the free blocks of a disk that has these inodes
+abbrev pub free_blocks : ℕ → List Inode → ℕ
+free_blocks blocks inodes = blocks - 1 - table_end blocks - sum_by (λ inode. blocks_of inode.size) inodes
+
+-- how many of these inodes are free
+abbrev pub free_inodes : List Inode → ℕ
+free_inodes inodes = count_by (λ inode. nat_eq inode.kind 0) inodes
+
+-- a node that is free
+abbrev pub IsFreeNode : List (List ℕ) → ℕ → Type 0
+IsFreeNode disk node = (inode : Inode) × HasInode disk node inode × (inode.kind ≡ 0)
+
+-- the free node that is made next
+pub record IsLowestFreeNode (disk : List (List ℕ)) (node : ℕ) : Type 0 where
+  pub free : IsFreeNode disk node
+  pub lowest : (other : ℕ) → other < node → ¬ (IsFreeNode disk other)

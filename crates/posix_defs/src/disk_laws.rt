@@ -1,0 +1,46 @@
+//! Laws of a disk's format. Each is the contract of a function that does nothing.
+
+ghost use Rattle.std.specs.Prelude.{◌≡◌, ℕ, ◌*◌, ◌<◌, ◌≤◌, ◌↔◌, List, [], length};
+ghost use Rattle.kabi_types.specs.declared.inodes.DirEntry.{DirEntry};
+ghost use Rattle.kabi_types.specs.declared.inodes.Inode.{Inode};
+ghost use Rattle.posix_defs.specs.DiskFormat.{IsForFiles, IsEntry, entry_bytes};
+ghost use Rattle.posix_defs.specs.SoundDisk.{HasInode, IsNamed, Sound, IsTable, IsFreeBlock, IsFreeNode, free_in_map, free_blocks, free_inodes};
+ghost use Rattle.posix_defs.specs.DiskContents.{HasEntries, IsDirectoryOf, IsFormatted};
+
+/// A new disk is sound, and its root is a directory without entries but `.` and `..`, which both name the root.
+pub fn a_formatted_disk_is_sound()
+    ensures sound { (blocks : ℕ) (disk : List (List ℕ)) → 16 ≤ blocks → blocks ≤ 4096 → IsFormatted blocks disk → Sound disk }
+    ensures root { (blocks : ℕ) (disk : List (List ℕ)) → 16 ≤ blocks → blocks ≤ 4096 → IsFormatted blocks disk → IsDirectoryOf disk 1 1 [] }
+{}
+
+/// A node has one inode, an entry is spelled in one way, and a directory has one list of entries.
+pub fn bytes_of_a_disk_say_one_thing()
+    ensures inodes { (disk : List (List ℕ)) (node : ℕ) (one other : Inode) → HasInode disk node one → HasInode disk node other → one ≡ other }
+    ensures entries { (one other : DirEntry) → IsEntry one → IsEntry other → entry_bytes one ≡ entry_bytes other → one ≡ other }
+    ensures lists { (disk : List (List ℕ)) (inode : Inode) (one other : List DirEntry) → HasEntries disk inode one → HasEntries disk inode other → one ≡ other }
+{}
+
+/// A directory's size is 32 times its entries, `.` and `..` among them.
+pub fn a_directory_has_32_bytes_for_each_entry()
+    ensures { (disk : List (List ℕ)) (inode : Inode) (entries : List DirEntry) → HasEntries disk inode entries → inode.size ≡ 32 * length entries }
+{}
+
+/// The inodes of a sound disk are a list, which has one for each node.
+pub fn a_sound_disk_has_a_table()
+    ensures { (disk : List (List ℕ)) → Sound disk → (inodes : List Inode) × IsTable disk inodes }
+{}
+
+/// What a node names is a block for files. Such a block is free exactly where no node names it, and the free blocks are
+/// as many as are left when each node has taken those of its size.
+pub fn free_blocks_are_those_that_no_node_names()
+    ensures named { (disk : List (List ℕ)) (number : ℕ) → Sound disk → IsNamed disk number → IsForFiles (length disk) number }
+    ensures each { (disk : List (List ℕ)) (number : ℕ) → Sound disk → IsForFiles (length disk) number → IsFreeBlock disk number ↔ ¬ (IsNamed disk number) }
+    ensures only { (disk : List (List ℕ)) (number : ℕ) → Sound disk → IsFreeBlock disk number → IsForFiles (length disk) number }
+    ensures many { (disk : List (List ℕ)) (inodes : List Inode) → Sound disk → IsTable disk inodes → free_in_map disk ≡ free_blocks (length disk) inodes }
+{}
+
+/// A block is free exactly where the count of free blocks isn't 0, and the same of a node.
+pub fn what_is_free_is_counted()
+    ensures blocks { (disk : List (List ℕ)) → (0 < free_in_map disk) ↔ ((number : ℕ) × IsFreeBlock disk number) }
+    ensures nodes { (disk : List (List ℕ)) (inodes : List Inode) → IsTable disk inodes → (0 < free_inodes inodes) ↔ ((node : ℕ) × IsFreeNode disk node) }
+{}
