@@ -29,3 +29,8 @@ pub mod DiskFormat
 pub mod SoundDisk
 pub mod DiskContents
 pub mod TrueCaches
+pub mod ScriptWords
+pub mod ScriptValues
+pub mod ScriptLines
+pub mod ScriptPlaces
+pub mod ScriptText

@@ -9,6 +9,7 @@ mod dirs;
 mod disk_laws;
 mod laws;
 mod phases;
+mod said;
 #[cfg(test)]
 mod tests;
 mod turner;
@@ -26,4 +27,5 @@ pub use laws::{
     the_first_script_runs,
 };
 pub use phases::Phase;
+pub use said::{AtTop, InProgram, Setting, Shape, Spoken, Stated, Word};
 pub use turner::{Turned, Turner};

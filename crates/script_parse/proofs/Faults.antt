@@ -1,9 +1,9 @@
 -- The least of the faults so far, and of those that follow.
-use Rattle.std.proofs.Common.{◌≡◌, ℕ, ◌≤◌, Bool, true, false, List, [], ◌∷◌, ◌++◌, Option, None, Some, Result, Ok, Err, refl, sym, ap, ◌∙◌, arith}
+use Rattle.std.proofs.Common.{◌≡◌, ℕ, Bool, true, false, List, [], ◌∷◌, ◌++◌, Option, None, Some, Result, Ok, Err, refl, sym, ap, ◌∙◌, arith}
 use Rattle.std.specs.Prelude.{nat_le, if◌then◌else◌}
 use Rattle.std.proofs.lemmas.List.{append_assoc}
 use Rattle.kabi_types.specs.declared.scripts.FaultKind.{FaultKind}
-use Rattle.script_parse.specs.ScriptValues.{rank, least, both, with}
+use Rattle.posix_defs.specs.ScriptValues.{rank, least, both, with}
 use Rattle.script_parse.specs.Reading.{least_with}
 
 abbrev pub so_far : {A : Type 0} → Option FaultKind → List A → Result (List A) FaultKind

@@ -1,8 +1,8 @@
 -- What was read, before what is still to be read.
-use Rattle.std.proofs.Common.{◌≡◌, ◌≤◌, length, arith, ◌∙◌, ℕ, List, [], ◌∷◌, ◌++◌, Option, None, Some, option_map, refl, ap, sym}
+use Rattle.std.proofs.Common.{◌≡◌, ◌≤◌, length, arith, ℕ, List, [], ◌∷◌, ◌++◌, Option, None, Some, option_map, refl, ap, sym}
 use Rattle.std.proofs.lemmas.List.{append_assoc, length-append}
-use Rattle.script_parse.specs.declared.said.Word.{Word}
-use Rattle.script_parse.specs.ScriptWords.{with_byte, with_word}
+use Rattle.posix_defs.specs.declared.said.Word.{Word}
+use Rattle.posix_defs.specs.ScriptWords.{with_byte, with_word}
 
 abbrev pub before_text : List ℕ → Option (List ℕ × List ℕ) → Option (List ℕ × List ℕ)
 before_text text said = option_map (λ p. (text ++ p.0, p.1)) said

@@ -3,7 +3,7 @@ use Rattle.std.proofs.Common.{◌≡◌, ℕ, Bool, false, ◌==◌, List, [], �
 use Rattle.std.specs.Prelude.{bit_or}
 use Rattle.std.specs.List.{All, slice_split}
 use Rattle.std.proofs.lemmas.List.Splits.{slice_split_at, slice_split_none}
-use Rattle.script_parse.specs.ScriptValues.{constant_said, joined, joined_to}
+use Rattle.posix_defs.specs.ScriptValues.{constant_said, joined, joined_to}
 
 abbrev is_bar : ℕ → Bool
 is_bar byte = byte == 124

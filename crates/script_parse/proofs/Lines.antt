@@ -1,5 +1,5 @@
 -- How far a text is read.
-use Rattle.std.proofs.Common.{◌≡◌, ℕ, ◌+◌, ◌≤◌, ◌==◌, Bool, true, false, List, [], ◌∷◌, ◌++◌, length, Option, None, Some, Result, Ok, Err, refl, sym, ap, ◌∙◌, subst, arith}
+use Rattle.std.proofs.Common.{◌≡◌, ℕ, ◌+◌, ◌≤◌, ◌==◌, Bool, false, List, [], ◌∷◌, ◌++◌, length, Option, None, Some, Result, Ok, Err, refl, sym, ap, ◌∙◌, subst, arith}
 use Rattle.std.specs.List.{All, slice_split}
 use Rattle.std.proofs.lemmas.List.{length-append}
 use Rattle.std.proofs.lemmas.List.Splits.{slice_split_at, slice_split_none}
@@ -8,16 +8,16 @@ use Rattle.kabi_types.specs.declared.scripts.Script.{Script}
 use Rattle.kabi_types.specs.declared.scripts.ScriptFault.{ScriptFault}
 use Rattle.script_parse.specs.declared.parse_error.ParseError.{ParseError}
 use Rattle.script_parse.specs.declared.parse_error.ParseError.TheVariants as error
-use Rattle.script_parse.specs.declared.said.AtTop.{AtTop}
-use Rattle.script_parse.specs.declared.said.AtTop.TheVariants as top
-use Rattle.script_parse.specs.declared.said.InProgram.{InProgram}
-use Rattle.script_parse.specs.declared.said.InProgram.TheVariants as inside
-use Rattle.script_parse.specs.declared.said.Word.{Word}
+use Rattle.posix_defs.specs.declared.said.AtTop.{AtTop}
+use Rattle.posix_defs.specs.declared.said.AtTop.TheVariants as top
+use Rattle.posix_defs.specs.declared.said.InProgram.{InProgram}
+use Rattle.posix_defs.specs.declared.said.InProgram.TheVariants as inside
+use Rattle.posix_defs.specs.declared.said.Word.{Word}
 use Rattle.script_parse.specs.Reading.{Outcome, TakesLine, lines_in}
-use Rattle.script_parse.specs.ScriptLines.{said_at_top, said_in_program}
-use Rattle.script_parse.specs.ScriptPlaces.{body_of}
-use Rattle.script_parse.specs.ScriptValues.{with, ◌>>=◌}
-use Rattle.script_parse.specs.ScriptText.{Draft, Opened, State, Reads, ended, goes_on, stops, at_start, at_line, begin, closed, finish, may_begin, outside, step, step_at_top, step_in_program, with_setting, within}
+use Rattle.posix_defs.specs.ScriptLines.{said_at_top, said_in_program}
+use Rattle.posix_defs.specs.ScriptPlaces.{body_of}
+use Rattle.posix_defs.specs.ScriptValues.{with, ◌>>=◌}
+use Rattle.posix_defs.specs.ScriptText.{Draft, Opened, State, Reads, ended, goes_on, stops, at_start, at_line, closed, finish, may_begin, outside, step, step_at_top, step_in_program, with_setting, within}
 
 abbrev is_newline : ℕ → Bool
 is_newline byte = byte == 10

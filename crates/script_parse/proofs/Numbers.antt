@@ -1,12 +1,12 @@
 -- What the toolchain reads as a number is what the definition says.
-use Rattle.std.proofs.Common.{◌≡◌, ◌≢◌, ℕ, zero, suc, ◌<◌, ℤ, pos, negsuc, Bool, true, false, ◌==◌, cond, List, [], ◌∷◌, length, Ok, Err, refl, sym, subst, arith}
+use Rattle.std.proofs.Common.{◌≡◌, ℕ, zero, suc, ℤ, pos, negsuc, Bool, true, false, ◌==◌, cond, List, [], ◌∷◌, Ok, Err, refl, sym, subst, arith}
 use Rattle.std.specs.Int.{w64}
 use Rattle.std.specs.Prelude.{int_le, FitsSigned, if◌then◌else◌}
 use Rattle.std.specs.Str.{IsUtf8, IsAscii, all_ascii_digits}
 use Rattle.std.specs.Str.Parse.{IsNumeral, without_leading_plus, without_leading_sign, signed_digits_value}
 use Rattle.std.proofs.lemmas.Str.{IsUtf8-from_ascii}
 use Rattle.std.proofs.lemmas.Str.Parse.{numerals_by_value, tells_all_ascii_digits, without_leading_plus_none}
-use Rattle.script_parse.specs.ScriptValues.{in_range, least_value, greatest_value, is_digits, is_decimal, number_by, number_said, begins_number}
+use Rattle.posix_defs.specs.ScriptValues.{least_value, greatest_value, is_digits, is_decimal, number_by, number_said, begins_number}
 use Rattle.kabi_types.specs.declared.scripts.FaultKind.TheVariants.{OutOfRange}
 
 all_of : (digits : List ℕ) → is_digits digits ≡ true → all_ascii_digits digits ≡ true

@@ -1,5 +1,5 @@
 -- How far labels are noted, and statements placed.
-use Rattle.std.proofs.Common.{◌≡◌, ℕ, ◌+◌, Bool, true, false, List, [], ◌∷◌, ◌++◌, length, Option, None, Some, Result, Ok, Err, refl, sym, ap, ◌∙◌, subst}
+use Rattle.std.proofs.Common.{◌≡◌, ℕ, Bool, true, false, List, [], ◌∷◌, ◌++◌, Option, None, Some, Result, Ok, Err, refl, sym}
 use Rattle.std.specs.Prelude.{if◌then◌else◌}
 use Rattle.std.specs.Str.{bytes_eq}
 use Rattle.std.specs.Prelude.{reverse}
@@ -7,10 +7,10 @@ use Rattle.std.proofs.lemmas.List.{reverse-append}
 use Rattle.kabi_types.specs.declared.scripts.FaultKind.{FaultKind}
 use Rattle.kabi_types.specs.declared.scripts.ScriptFault.{ScriptFault}
 use Rattle.kabi_types.specs.declared.scripts.Statement.{Statement}
-use Rattle.script_parse.specs.declared.said.Spoken.{Spoken}
-use Rattle.script_parse.specs.declared.said.Spoken.TheVariants as spoken
-use Rattle.script_parse.specs.ScriptValues.{or_else}
-use Rattle.script_parse.specs.ScriptPlaces.{place_in, noted, noted_in, before}
+use Rattle.posix_defs.specs.declared.said.Spoken.{Spoken}
+use Rattle.posix_defs.specs.declared.said.Spoken.TheVariants as spoken
+use Rattle.posix_defs.specs.ScriptValues.{or_else}
+use Rattle.posix_defs.specs.ScriptPlaces.{place_in, noted_in, before}
 
 noted_first : (name label : List ℕ) (at : ℕ) (rest : Option ℕ) (same : Bool)
     → or_else (if same then Some at else None) rest ≡ (if same then Some at else rest)

@@ -1,19 +1,19 @@
 -- What the reader's functions give, in the reader's own shapes.
-use Rattle.std.specs.Prelude.{ℕ, ⊤, None, Some, ◌<◌, ◌≡◌, true, List, length, ◌++◌, Option, option_map, IfSome, MatchOption, Result, Ok, Err}
+use Rattle.std.specs.Prelude.{ℕ, ⊤, None, Some, ◌<◌, ◌≡◌, List, length, Option, IfSome, MatchOption, Result, Ok, Err}
 use Rattle.std.specs.Borrow.{Bor}
 use Rattle.std.specs.Global.{Global}
 use Rattle.std.specs.Prelude.{Vec}
 use Rattle.kabi_types.specs.declared.scripts.FaultKind.{FaultKind}
-use Rattle.script_parse.specs.ScriptValues.{least, both}
+use Rattle.posix_defs.specs.ScriptValues.{least, both}
 use Rattle.kabi_types.specs.declared.scripts.ScriptFault.{ScriptFault}
 use Rattle.kabi_types.specs.declared.scripts.Statement.{Statement}
 use Rattle.script_parse.specs.declared.parse_error.ParseError.{ParseError}
 use Rattle.script_parse.specs.declared.parse_error.ParseError.TheVariants as error
-use Rattle.script_parse.specs.declared.said.Word.{Word}
+use Rattle.posix_defs.specs.declared.said.Word.{Word}
 use Rattle.script_parse.specs.declared.refused.Refused.{Refused}
 use Rattle.script_parse.specs.declared.refused.Refused.TheVariants as refused
-use Rattle.script_parse.specs.ScriptText.{Opened, State, step}
-use Rattle.script_parse.specs.ScriptWords.{Words, LineWords, with_word}
+use Rattle.posix_defs.specs.ScriptText.{Opened, State, step}
+use Rattle.posix_defs.specs.ScriptWords.{Words, LineWords, with_word}
 
 -- what follows is shorter than what was given
 abbrev pub IsShorter : List ℕ → Option (Option ℕ × Bor (List ℕ)) → Type 0

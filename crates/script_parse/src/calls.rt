@@ -1,7 +1,7 @@
 //! The words of calls, the shapes of their operands, and which of them can be run.
 
 ghost use Rattle.std.specs.Prelude.{◌≡◌};
-ghost use Rattle.script_parse.specs.ScriptLines as spec;
+ghost use Rattle.posix_defs.specs.ScriptLines as spec;
 
 use crate::values::is_word;
 use crate::{Shape, Word};
@@ -106,17 +106,11 @@ pub fn shape_of(kind: CallKind) -> Shape
         | CallKind::Shutdown => Shape::Values(2),
         CallKind::Store => Shape::ValueBytes,
         CallKind::OpenFile => Shape::PathValue,
-        CallKind::Fcntl
-        | CallKind::Read
-        | CallKind::Write
-        | CallKind::Lseek
-        | CallKind::Readdir => Shape::Values(3),
-        CallKind::Pread
-        | CallKind::Pwrite => Shape::Values(4),
-        CallKind::Link
-        | CallKind::Rename => Shape::TwoPaths,
-        CallKind::Bind
-        | CallKind::Connect => Shape::ValuePath,
+        CallKind::Fcntl | CallKind::Read | CallKind::Write | CallKind::Lseek | CallKind::Readdir =>
+            Shape::Values(3),
+        CallKind::Pread | CallKind::Pwrite => Shape::Values(4),
+        CallKind::Link | CallKind::Rename => Shape::TwoPaths,
+        CallKind::Bind | CallKind::Connect => Shape::ValuePath,
         CallKind::Poll => Shape::Pairs,
     }
 }

@@ -2,18 +2,20 @@
 
 ghost use Rattle.std.specs.Prelude.{◌≡◌, Result, Ok, Err, IfErr, OnOk, OnErr};
 ghost use Rattle.script_parse.specs.Reading.{Sets};
-ghost use Rattle.script_parse.specs.ScriptText as spec;
+ghost use Rattle.posix_defs.specs.ScriptText as spec;
 
+use crate::Setting;
 use kabi_types::{
     Chooser, FaultKind, Memory, Name27, Policy, Program, Programs, Script, Statement, Statements,
 };
-use crate::Setting;
 use std::alloc::Global;
 use std::marker::Model;
 
 /// The heap in bytes, the disk in blocks and the events of a script that doesn't give them.
 const DEFAULT_HEAP: u64 = 65536;
+
 const DEFAULT_DISK: u32 = 64;
+
 const DEFAULT_STEPS: u32 = 1000;
 
 /// The most programs of a script.
@@ -31,7 +33,7 @@ pub struct Draft {
 }
 
 impl Model for Draft {
-    ghost use Rattle.script_parse.specs.ScriptText.{Draft};
+    ghost use Rattle.posix_defs.specs.ScriptText.{Draft};
 
     ghost Value = { Draft };
 

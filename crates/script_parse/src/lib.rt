@@ -8,14 +8,13 @@ mod parse_error;
 mod places;
 mod reader;
 mod refused;
-mod said;
 mod settings;
 mod state;
 mod statements;
 mod values;
 mod words;
 
-pub use reader::parse;
 pub use parse_error::ParseError;
+use posix_defs::{AtTop, InProgram, Setting, Shape, Spoken, Stated, Word};
+pub use reader::parse;
 use refused::Refused;
-pub use said::{AtTop, InProgram, Setting, Shape, Spoken, Stated, Word};

@@ -2,9 +2,9 @@
 
 ghost use Rattle.std.specs.Prelude.{◌≡◌, ◌∷◌, [], Ok};
 ghost use Rattle.script_parse.specs.Reading.{Tells, BothTell, least_with};
-ghost use Rattle.script_parse.specs.ScriptLines as spec;
-ghost use Rattle.script_parse.specs.ScriptValues.{each};
-ghost use Rattle.script_parse.specs.ScriptValues as values;
+ghost use Rattle.posix_defs.specs.ScriptLines as spec;
+ghost use Rattle.posix_defs.specs.ScriptValues.{each};
+ghost use Rattle.posix_defs.specs.ScriptValues as values;
 
 use crate::values::{least, path, stored, value};
 use crate::{Refused, Shape, Word};
@@ -137,11 +137,7 @@ fn pairs(alloc: Global, words: &[Word]) -> Result<(Operands, Texts), Refused>
 }
 
 /// One value and one text.
-fn one_of_each(
-    alloc: Global,
-    value: Operand,
-    text: Text,
-) -> Result<(Operands, Texts), Refused>
+fn one_of_each(alloc: Global, value: Operand, text: Text) -> Result<(Operands, Texts), Refused>
     ensures { Tells (λ said. said) result (λ said. said ≡ Ok (value ∷ [], text ∷ [])) }
 {
     let mut values = Vec::new(alloc);

@@ -3,8 +3,8 @@
 ghost use Rattle.std.specs.Prelude.{◌≡◌, ◌≤◌, ℕ, List, length, vec_len, IfOk, OnOk};
 ghost use Rattle.indexmap.specs.IndexMap.{get};
 ghost use Rattle.script_parse.specs.Reading.{Tells, TellsBody};
-ghost use Rattle.script_parse.specs.ScriptPlaces as spec;
-ghost use Rattle.script_parse.specs.ScriptPlaces.{place_from};
+ghost use Rattle.posix_defs.specs.ScriptPlaces as spec;
+ghost use Rattle.posix_defs.specs.ScriptPlaces.{place_from};
 
 use crate::{ParseError, Spoken, Stated};
 use indexmap::IndexMap;
@@ -12,11 +12,7 @@ use kabi_types::{FaultKind, Memory, Name27, ScriptFault, Statement};
 use std::alloc::Global;
 
 /// Notes the place of a label, unless one of its name stood before.
-fn note(
-    places: &mut IndexMap<Name27, u32>,
-    name: &Name27,
-    place: u32,
-) -> Result<(), Memory>
+fn note(places: &mut IndexMap<Name27, u32>, name: &Name27, place: u32) -> Result<(), Memory>
     ensures { OnOk result ((other : List ℕ) → get ⟦<Name27 as PartialEq>⟧.eq places.new other ≡ spec.noted other name.now place (get ⟦<Name27 as PartialEq>⟧.eq places.old other)) }
 {
     if !places.contains_key(name) {
@@ -26,11 +22,7 @@ fn note(
 }
 
 /// Notes the label that a line states, if it states one.
-fn note_label(
-    places: &mut IndexMap<Name27, u32>,
-    stated: &Stated,
-    place: u32,
-) -> Result<(), Memory>
+fn note_label(places: &mut IndexMap<Name27, u32>, stated: &Stated, place: u32) -> Result<(), Memory>
     ensures { OnOk result ((other : List ℕ) → get ⟦<Name27 as PartialEq>⟧.eq places.new other ≡ spec.noted_in other stated.now.said place (get ⟦<Name27 as PartialEq>⟧.eq places.old other)) }
 {
     match &stated.said {

@@ -2,9 +2,9 @@
 
 ghost use Rattle.std.specs.Prelude.{◌≡◌};
 ghost use Rattle.script_parse.specs.Reading.{Tells};
-ghost use Rattle.script_parse.specs.ScriptLines as spec;
-ghost use Rattle.script_parse.specs.ScriptValues.{each};
-ghost use Rattle.script_parse.specs.ScriptValues as values;
+ghost use Rattle.posix_defs.specs.ScriptLines as spec;
+ghost use Rattle.posix_defs.specs.ScriptValues.{each};
+ghost use Rattle.posix_defs.specs.ScriptValues as values;
 
 use crate::operands::with_least;
 use crate::values::{is_word, name, number};

@@ -1,9 +1,9 @@
 //! Where the reader of a script stands: outside programs, or in one that is open.
 
 ghost use Rattle.std.specs.Prelude.{◌≡◌, ◌≤◌, length, Ok, Err, Some, None};
-ghost use Rattle.script_parse.specs.ScriptPlaces.{body_of};
+ghost use Rattle.posix_defs.specs.ScriptPlaces.{body_of};
 ghost use Rattle.script_parse.specs.Reading.{Outcome, TakesLine, lines_in};
-ghost use Rattle.script_parse.specs.ScriptText as spec;
+ghost use Rattle.posix_defs.specs.ScriptText as spec;
 
 use crate::drafts::Draft;
 use crate::places::body_of;
@@ -24,7 +24,7 @@ struct Opened {
 }
 
 impl Model for Opened {
-    ghost use Rattle.script_parse.specs.ScriptText.{Opened};
+    ghost use Rattle.posix_defs.specs.ScriptText.{Opened};
 
     ghost Value = { Opened };
 
@@ -39,7 +39,7 @@ pub struct State {
 }
 
 impl Model for State {
-    ghost use Rattle.script_parse.specs.ScriptText.{State};
+    ghost use Rattle.posix_defs.specs.ScriptText.{State};
 
     ghost Value = { State };
 
@@ -67,12 +67,7 @@ fn within(draft: Draft, opened: Opened) -> State
 }
 
 /// A line outside programs.
-fn step_at_top(
-    alloc: Global,
-    draft: Draft,
-    line: u32,
-    said: AtTop,
-) -> Result<State, ParseError>
+fn step_at_top(alloc: Global, draft: Draft, line: u32, said: AtTop) -> Result<State, ParseError>
     ensures { Outcome (λ state. state) result (λ next. next ≡ spec.at_line line (spec.step_at_top draft line said)) }
 {
     let mut draft = draft;
@@ -137,12 +132,7 @@ fn step_in_program(
 }
 
 /// What the words of a line outside programs add.
-fn words_at_top(
-    alloc: Global,
-    draft: Draft,
-    line: u32,
-    words: &[Word],
-) -> Result<State, ParseError>
+fn words_at_top(alloc: Global, draft: Draft, line: u32, words: &[Word]) -> Result<State, ParseError>
     ensures { Outcome (λ state. state) result (λ next. next ≡ spec.step_from draft None line (Ok words.now)) }
 {
     match said_at_top(alloc, words) {

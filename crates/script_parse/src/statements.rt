@@ -2,7 +2,7 @@
 
 ghost use Rattle.std.specs.Prelude.{◌≡◌, ◌∷◌};
 ghost use Rattle.script_parse.specs.Reading.{Tells};
-ghost use Rattle.script_parse.specs.ScriptLines as spec;
+ghost use Rattle.posix_defs.specs.ScriptLines as spec;
 
 use crate::calls::{kind_said, shape_of};
 use crate::operands::{operand, operands_said, two_operands};
@@ -151,12 +151,7 @@ fn call_for_two(
 }
 
 /// A call, behind the registers that get its values, if they are named.
-fn call_for(
-    alloc: Global,
-    first: &Word,
-    rest: &[Word],
-    words: &[Word],
-) -> Result<Spoken, Refused>
+fn call_for(alloc: Global, first: &Word, rest: &[Word], words: &[Word]) -> Result<Spoken, Refused>
     requires { words.now ≡ first.now ∷ rest.now }
     ensures { Tells (λ said. said) result (λ said. said ≡ spec.call_for first.now rest.now) }
 {
@@ -171,7 +166,12 @@ fn call_for(
 }
 
 /// A statement.
-fn statement_said(alloc: Global, first: &Word, rest: &[Word], words: &[Word]) -> Result<Spoken, Refused>
+fn statement_said(
+    alloc: Global,
+    first: &Word,
+    rest: &[Word],
+    words: &[Word],
+) -> Result<Spoken, Refused>
     requires { words.now ≡ first.now ∷ rest.now }
     ensures { Tells (λ said. said) result (λ said. said ≡ spec.statement_said first.now rest.now) }
 {

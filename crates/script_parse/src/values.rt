@@ -4,8 +4,8 @@ ghost use Rattle.std.specs.Prelude.{◌≡◌, ◌==◌, false, not, ◌∷◌, 
 ghost use Rattle.std.specs.List.{list_all};
 ghost use Rattle.std.specs.Str.{bytes_eq, all_ascii_digits};
 ghost use Rattle.script_parse.specs.Reading.{Tells};
-ghost use Rattle.script_parse.specs.ScriptValues as spec;
-ghost use Rattle.script_parse.specs.ScriptValues.{among, open_constants, descriptor_constants, other_constants};
+ghost use Rattle.posix_defs.specs.ScriptValues as spec;
+ghost use Rattle.posix_defs.specs.ScriptValues.{among, open_constants, descriptor_constants, other_constants};
 
 use crate::{Refused, Word};
 use kabi_types::{FaultKind, Name27, Operand, Text};
@@ -328,9 +328,7 @@ fn is_name(word: &[u8]) -> bool
     ensures { result ≡ spec.is_name word.now }
 {
     match word {
-        [first, rest @ ..] => {
-            is_letter(*first) && all_name_bytes(rest) && rest.len() <= 26
-        }
+        [first, rest @ ..] => { is_letter(*first) && all_name_bytes(rest) && rest.len() <= 26 }
         [] => false,
     }
 }

@@ -5,8 +5,8 @@ ghost use Rattle.std.specs.Bool.{MatchBool};
 ghost use Rattle.std.specs.List.{All};
 ghost use Rattle.std.specs.Str.{IsUtf8};
 ghost use Rattle.script_parse.specs.Reading.{IsShorter, BeginsWith, Tells};
-ghost use Rattle.script_parse.specs.ScriptWords as spec;
-ghost use Rattle.script_parse.specs.ScriptWords.{SaysText, Words, LineWords};
+ghost use Rattle.posix_defs.specs.ScriptWords as spec;
+ghost use Rattle.posix_defs.specs.ScriptWords.{SaysText, Words, LineWords};
 
 use crate::{Refused, Word};
 use kabi_types::{FaultKind, Memory, Text};

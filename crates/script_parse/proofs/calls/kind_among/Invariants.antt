@@ -1,5 +1,5 @@
 use Rattle.std.proofs.Common.{◌≡◌, length}
-use Rattle.script_parse.specs.ScriptLines.{kind_among}
+use Rattle.posix_defs.specs.ScriptLines.{kind_among}
 use Rattle.script_parse.proofs.calls.kind_among.Given as goal
 
 abbrev pub invariant-loop-kind : goal.invariant-loop-kind

@@ -1,5 +1,5 @@
-use Rattle.std.proofs.Common.{◌≡◌, ◌∷◌, [], ◌++◌, List, Some, ap, sym, ◌∙◌}
-use Rattle.script_parse.specs.ScriptValues.{value, each}
+use Rattle.std.proofs.Common.{Some, ap, sym, ◌∙◌}
+use Rattle.posix_defs.specs.ScriptValues.{value, each}
 use Rattle.script_parse.proofs.Faults.{so_far, joined, followed, said_more, fault_more}
 use Rattle.script_parse.proofs.operands.operands_of.Goals as goal
 

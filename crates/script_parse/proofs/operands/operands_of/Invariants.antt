@@ -1,5 +1,5 @@
 use Rattle.std.proofs.Common.{◌≡◌, length}
-use Rattle.script_parse.specs.ScriptValues.{value, each}
+use Rattle.posix_defs.specs.ScriptValues.{value, each}
 use Rattle.script_parse.proofs.Faults.{so_far, joined}
 use Rattle.script_parse.proofs.operands.operands_of.Given as goal
 

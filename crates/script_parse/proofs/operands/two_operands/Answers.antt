@@ -1,4 +1,4 @@
-use Rattle.script_parse.specs.ScriptValues.{value}
+use Rattle.posix_defs.specs.ScriptValues.{value}
 use Rattle.script_parse.proofs.operands.two_operands.Goals as goal
 
 pub returns : goal.returns

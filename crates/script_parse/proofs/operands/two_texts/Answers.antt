@@ -1,4 +1,4 @@
-use Rattle.script_parse.specs.ScriptValues.{path}
+use Rattle.posix_defs.specs.ScriptValues.{path}
 use Rattle.script_parse.proofs.operands.two_texts.Goals as goal
 
 pub returns : goal.returns

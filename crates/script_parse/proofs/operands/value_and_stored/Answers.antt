@@ -1,4 +1,4 @@
-use Rattle.script_parse.specs.ScriptValues.{stored, value}
+use Rattle.posix_defs.specs.ScriptValues.{stored, value}
 use Rattle.script_parse.proofs.operands.value_and_stored.Goals as goal
 
 pub returns : goal.returns

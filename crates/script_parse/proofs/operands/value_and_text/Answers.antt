@@ -1,4 +1,4 @@
-use Rattle.script_parse.specs.ScriptValues.{path, value}
+use Rattle.posix_defs.specs.ScriptValues.{path, value}
 use Rattle.script_parse.proofs.operands.value_and_text.Goals as goal
 
 pub returns : goal.returns

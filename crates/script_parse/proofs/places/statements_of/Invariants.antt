@@ -1,9 +1,9 @@
-use Rattle.std.proofs.Common.{◌≡◌, ℕ, ◌+◌, ◌≤◌, List, ◌++◌, length}
+use Rattle.std.proofs.Common.{◌≡◌, ◌≤◌, List, ◌++◌, length}
 use Rattle.std.specs.Prelude.{reverse}
 use Rattle.indexmap.specs.IndexMap.{get}
 use Rattle.kabi_types.specs.contracts.short_lists.Name27PartialEq.TheImpl.{eq-value}
-use Rattle.script_parse.specs.declared.said.Stated.{Stated}
-use Rattle.script_parse.specs.ScriptPlaces.{body_from}
+use Rattle.posix_defs.specs.declared.said.Stated.{Stated}
+use Rattle.posix_defs.specs.ScriptPlaces.{body_from}
 use Rattle.script_parse.proofs.Placing.{told}
 use Rattle.script_parse.proofs.places.statements_of.Given as goal
 

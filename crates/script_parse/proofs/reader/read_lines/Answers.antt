@@ -1,17 +1,17 @@
-use Rattle.std.proofs.Common.{Ok, Err, ap, sym, arith, length, ◌∷◌}
+use Rattle.std.proofs.Common.{ap, arith, length, ◌∷◌}
 use Rattle.std.proofs.lemmas.List.{length-append}
-use Rattle.script_parse.specs.ScriptText.{Reads, at_start}
-use Rattle.script_parse.proofs.Lines.{lines, read_more, read_fault, read_last, read_last_fault, one_line, failed, finished}
+use Rattle.script_parse.proofs.Lines.{read_more, read_fault, read_last, read_last_fault, one_line, failed, finished}
 use Rattle.script_parse.proofs.reader.read_lines.Goals as goal
 
 pub loop-first-preserved : goal.loop-first-preserved
 loop-first-preserved c =
     let here = c.loop-first in
     let front = c.in-Some.first.now in
-    let next = c.in-Some.next.now in
-    ((read_more c.args.text.now here.rest.now front next here.state c.in-Ok.more here.line here.invariant.0 c.in-Some.ensures.0 c.in-Some.ensures.1 c.in-Ok.ensures),
-    (omega (arith, here.invariant.1, one_line here.state c.in-Ok.more here.line front c.in-Ok.ensures)),
-    (omega (arith, here.invariant.2, ap length c.in-Some.ensures.0, length-append front (10 ∷ next))))
+    let next = c.in-Some.next.now in (
+      (read_more c.args.text.now here.rest.now front next here.state c.in-Ok.more here.line here.invariant.0 c.in-Some.ensures.0 c.in-Some.ensures.1 c.in-Ok.ensures),
+      (omega (arith, here.invariant.1, one_line here.state c.in-Ok.more here.line front c.in-Ok.ensures)),
+      (omega (arith, here.invariant.2, ap length c.in-Some.ensures.0, length-append front (10 ∷ next))),
+    )
 
 pub returns-in-Err : goal.returns-in-Err
 returns-in-Err c =

@@ -1,4 +1,4 @@
-use Rattle.std.proofs.Common.{◌≡◌, ◌+◌, ◌≤◌, length}
+use Rattle.std.proofs.Common.{◌+◌, ◌≤◌, length}
 use Rattle.script_parse.specs.Reading.{lines_in}
 use Rattle.script_parse.proofs.Lines.{ReadTo}
 use Rattle.script_parse.proofs.reader.read_lines.Given as goal

@@ -1,6 +1,6 @@
-use Rattle.std.proofs.Common.{◌≡◌, ◌∷◌, [], ◌++◌, List, Some, ap, sym, ◌∙◌}
-use Rattle.script_parse.specs.ScriptLines.{natural}
-use Rattle.script_parse.specs.ScriptValues.{each}
+use Rattle.std.proofs.Common.{Some, ap, sym, ◌∙◌}
+use Rattle.posix_defs.specs.ScriptLines.{natural}
+use Rattle.posix_defs.specs.ScriptValues.{each}
 use Rattle.script_parse.proofs.Faults.{so_far, joined, followed, said_more, fault_more}
 use Rattle.script_parse.proofs.settings.numbers_of.Goals as goal
 

@@ -1,6 +1,6 @@
 use Rattle.std.proofs.Common.{◌≡◌, length}
-use Rattle.script_parse.specs.ScriptLines.{natural}
-use Rattle.script_parse.specs.ScriptValues.{each}
+use Rattle.posix_defs.specs.ScriptLines.{natural}
+use Rattle.posix_defs.specs.ScriptValues.{each}
 use Rattle.script_parse.proofs.Faults.{so_far, joined}
 use Rattle.script_parse.proofs.settings.numbers_of.Given as goal
 

@@ -1,6 +1,6 @@
 use Rattle.std.proofs.Common.{◌≡◌, length}
 use Rattle.std.specs.List.{list_all}
-use Rattle.script_parse.specs.ScriptValues.{is_name_byte}
+use Rattle.posix_defs.specs.ScriptValues.{is_name_byte}
 use Rattle.script_parse.proofs.values.all_name_bytes.Given as goal
 
 abbrev pub invariant-loop-byte : goal.invariant-loop-byte

@@ -1,6 +1,6 @@
 use Rattle.std.proofs.Common.{◌≡◌, ◌==◌, Some, length}
 use Rattle.std.specs.List.{slice_split}
-use Rattle.script_parse.specs.ScriptValues.{constants_said, joined}
+use Rattle.posix_defs.specs.ScriptValues.{constants_said, joined}
 use Rattle.script_parse.proofs.values.constants.Given as goal
 
 abbrev pub invariant-loop-part : goal.invariant-loop-part

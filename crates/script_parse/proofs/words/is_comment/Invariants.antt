@@ -1,5 +1,5 @@
 use Rattle.std.proofs.Common.{◌≡◌, length}
-use Rattle.script_parse.specs.ScriptWords.{is_comment}
+use Rattle.posix_defs.specs.ScriptWords.{is_comment}
 use Rattle.script_parse.proofs.words.is_comment.Given as goal
 
 abbrev pub invariant-loop-byte : goal.invariant-loop-byte

@@ -1,5 +1,5 @@
 use Rattle.std.proofs.Common.{Ok, option_map, sym, subst}
-use Rattle.script_parse.specs.ScriptWords.{Words, LineWords, not_utf8, comment, spelled, misspelled}
+use Rattle.posix_defs.specs.ScriptWords.{Words, LineWords, not_utf8, comment, spelled, misspelled}
 use Rattle.script_parse.proofs.words.line_words.Goals as goal
 
 pub returns-then-not-is_utf8 : goal.returns-then-not-is_utf8

@@ -1,6 +1,6 @@
-use Rattle.std.proofs.Common.{◌≡◌, ◌∷◌, ◌≤◌, true, false, Option, None, Some, IfSome, option_map, sym, ap, subst, ◌∙◌, arith, length}
-use Rattle.script_parse.specs.ScriptWords.{SaysText, Words, with_word, quoted, joined, unclosed, ends_word}
-use Rattle.script_parse.specs.declared.said.Word.TheVariants.{Quoted}
+use Rattle.std.proofs.Common.{◌∷◌, ◌≤◌, Some, IfSome, option_map, sym, subst, arith, length}
+use Rattle.posix_defs.specs.ScriptWords.{SaysText, Words, with_word, quoted, joined, unclosed}
+use Rattle.posix_defs.specs.declared.said.Word.TheVariants.{Quoted}
 use Rattle.script_parse.proofs.words.quoted_word.Goals as goal
 
 pub returns-then-ends_word : goal.returns-then-ends_word
@@ -10,9 +10,11 @@ returns-then-ends_word c =
     let says : SaysText c.args.bytes.now (Some (text, rest)) =
     subst (λ said. SaysText c.args.bytes.now (option_map (λ p. (p.0.items, p.1.now)) said)) c.in-Some.is c.in_ok-text.ensures.says in
     let shorter : length rest ≤ length c.args.bytes.now =
-    subst (λ said. IfSome said (λ p. length p.1.now ≤ length c.args.bytes.now)) c.in-Some.is c.in_ok-text.ensures.shorter in
-    ((omega (arith, shorter)), (λ said words. subst (λ t. Words (34 ∷ c.args.bytes.now) (with_word (Quoted t) said)) (sym c.from_vec.ensures)
-    (quoted c.args.bytes.now text rest said says (sym c.if-ends_word.ensures) words)))
+    subst (λ said. IfSome said (λ p. length p.1.now ≤ length c.args.bytes.now)) c.in-Some.is c.in_ok-text.ensures.shorter in (
+      (omega (arith, shorter)),
+      (λ said words. subst (λ t. Words (34 ∷ c.args.bytes.now) (with_word (Quoted t) said)) (sym c.from_vec.ensures)
+          (quoted c.args.bytes.now text rest said says (sym c.if-ends_word.ensures) words)),
+    )
 
 pub returns-else-ends_word : goal.returns-else-ends_word
 returns-else-ends_word c =

@@ -1,5 +1,5 @@
-use Rattle.std.proofs.Common.{◌≡◌, ◌++◌, ◌<◌, ◌≤◌, length, option_map, Option, None, Some, ℕ, List}
-use Rattle.script_parse.specs.ScriptWords.{SaysText}
+use Rattle.std.proofs.Common.{◌≤◌, length, Option, ℕ, List}
+use Rattle.posix_defs.specs.ScriptWords.{SaysText}
 use Rattle.script_parse.proofs.Fronts.{before_text}
 use Rattle.script_parse.proofs.words.text_of.Given as goal
 

@@ -1,7 +1,7 @@
-use Rattle.std.proofs.Common.{◌≡◌, ◌∷◌, [], Some, sym, subst}
+use Rattle.std.proofs.Common.{[], Some, sym, subst}
 use Rattle.std.proofs.lemmas.List.{append-nil}
-use Rattle.script_parse.specs.ScriptWords.{Words, blank, nothing}
-use Rattle.script_parse.proofs.Fronts.{before_words, no_bytes}
+use Rattle.posix_defs.specs.ScriptWords.{Words, blank, nothing}
+use Rattle.script_parse.proofs.Fronts.{no_bytes}
 use Rattle.script_parse.proofs.words.words_of.Goals as goal
 
 pub loop-first-preserved-then-is_blank : goal.loop-first-preserved-then-is_blank

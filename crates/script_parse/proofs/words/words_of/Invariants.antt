@@ -1,6 +1,6 @@
-use Rattle.std.proofs.Common.{◌≡◌, ◌++◌, ◌<◌, length, Option, ℕ, List}
-use Rattle.script_parse.specs.declared.said.Word.{Word}
-use Rattle.script_parse.specs.ScriptWords.{Words}
+use Rattle.std.proofs.Common.{length, Option, List}
+use Rattle.posix_defs.specs.declared.said.Word.{Word}
+use Rattle.posix_defs.specs.ScriptWords.{Words}
 use Rattle.script_parse.proofs.Fronts.{before_words}
 use Rattle.script_parse.proofs.words.words_of.Given as goal
 

@@ -12,18 +12,18 @@ use Rattle.kabi_types.specs.declared.scripts.Policy.TheVariants.{Heaviest, Young
 use Rattle.kabi_types.specs.declared.scripts.Statement.TheVariants as statement
 use Rattle.kabi_types.specs.declared.scripts.Test.{Test}
 use Rattle.kabi_types.specs.declared.scripts.Test.TheVariants.{Eq, Ne, Lt, Le}
-use Rattle.script_parse.specs.declared.said.AtTop.{AtTop}
-use Rattle.script_parse.specs.declared.said.AtTop.TheVariants as top
-use Rattle.script_parse.specs.declared.said.InProgram.{InProgram}
-use Rattle.script_parse.specs.declared.said.InProgram.TheVariants as inside
-use Rattle.script_parse.specs.declared.said.Setting.{Setting}
-use Rattle.script_parse.specs.declared.said.Setting.TheVariants as setting
-use Rattle.script_parse.specs.declared.said.Shape.{Shape}
-use Rattle.script_parse.specs.declared.said.Shape.TheVariants as shape
-use Rattle.script_parse.specs.declared.said.Spoken.{Spoken}
-use Rattle.script_parse.specs.declared.said.Spoken.TheVariants as spoken
-use Rattle.script_parse.specs.declared.said.Word.{Word}
-use Rattle.script_parse.specs.ScriptValues.{both, with, ◌>>=◌, each, is_word, register, number, value, name, path, stored}
+use Rattle.posix_defs.specs.declared.said.AtTop.{AtTop}
+use Rattle.posix_defs.specs.declared.said.AtTop.TheVariants as top
+use Rattle.posix_defs.specs.declared.said.InProgram.{InProgram}
+use Rattle.posix_defs.specs.declared.said.InProgram.TheVariants as inside
+use Rattle.posix_defs.specs.declared.said.Setting.{Setting}
+use Rattle.posix_defs.specs.declared.said.Setting.TheVariants as setting
+use Rattle.posix_defs.specs.declared.said.Shape.{Shape}
+use Rattle.posix_defs.specs.declared.said.Shape.TheVariants as shape
+use Rattle.posix_defs.specs.declared.said.Spoken.{Spoken}
+use Rattle.posix_defs.specs.declared.said.Spoken.TheVariants as spoken
+use Rattle.posix_defs.specs.declared.said.Word.{Word}
+use Rattle.posix_defs.specs.ScriptValues.{both, with, ◌>>=◌, each, is_word, register, number, value, name, path, stored}
 
 abbrev pub all_kinds : List CallKind
 all_kinds =

@@ -12,18 +12,18 @@ use Rattle.kabi_types.specs.declared.scripts.Program.{Program}
 use Rattle.kabi_types.specs.declared.scripts.Script.{Script}
 use Rattle.kabi_types.specs.declared.scripts.ScriptFault.{ScriptFault}
 use Rattle.kabi_types.specs.declared.scripts.Statement.{Statement}
-use Rattle.script_parse.specs.declared.said.AtTop.{AtTop}
-use Rattle.script_parse.specs.declared.said.AtTop.TheVariants as top
-use Rattle.script_parse.specs.declared.said.InProgram.{InProgram}
-use Rattle.script_parse.specs.declared.said.InProgram.TheVariants as inside
-use Rattle.script_parse.specs.declared.said.Setting.{Setting}
-use Rattle.script_parse.specs.declared.said.Setting.TheVariants as setting
-use Rattle.script_parse.specs.declared.said.Stated.{Stated}
-use Rattle.script_parse.specs.declared.said.Word.{Word}
-use Rattle.script_parse.specs.ScriptWords.{LineWords}
-use Rattle.script_parse.specs.ScriptValues.{with, ◌>>=◌}
-use Rattle.script_parse.specs.ScriptLines.{said_at_top, said_in_program}
-use Rattle.script_parse.specs.ScriptPlaces.{body_of}
+use Rattle.posix_defs.specs.declared.said.AtTop.{AtTop}
+use Rattle.posix_defs.specs.declared.said.AtTop.TheVariants as top
+use Rattle.posix_defs.specs.declared.said.InProgram.{InProgram}
+use Rattle.posix_defs.specs.declared.said.InProgram.TheVariants as inside
+use Rattle.posix_defs.specs.declared.said.Setting.{Setting}
+use Rattle.posix_defs.specs.declared.said.Setting.TheVariants as setting
+use Rattle.posix_defs.specs.declared.said.Stated.{Stated}
+use Rattle.posix_defs.specs.declared.said.Word.{Word}
+use Rattle.posix_defs.specs.ScriptWords.{LineWords}
+use Rattle.posix_defs.specs.ScriptValues.{with, ◌>>=◌}
+use Rattle.posix_defs.specs.ScriptLines.{said_at_top, said_in_program}
+use Rattle.posix_defs.specs.ScriptPlaces.{body_of}
 
 -- the most bytes that a script may have, and the most programs
 abbrev pub most_bytes : ℕ

@@ -8,9 +8,9 @@ use Rattle.kabi_types.specs.declared.scripts.FaultKind.TheVariants as fault
 use Rattle.kabi_types.specs.declared.scripts.FaultKind.TheVariants.{UnknownWord, BadNumber, OutOfRange}
 use Rattle.kabi_types.specs.declared.scripts.Operand.{Operand}
 use Rattle.kabi_types.specs.declared.scripts.Operand.TheVariants.{Reg, Number}
-use Rattle.script_parse.specs.declared.said.Word.{Word}
-use Rattle.script_parse.specs.declared.said.Word.TheVariants.{Bare, Quoted}
-use Rattle.script_parse.specs.ScriptWords.{is_within}
+use Rattle.posix_defs.specs.declared.said.Word.{Word}
+use Rattle.posix_defs.specs.declared.said.Word.TheVariants.{Bare, Quoted}
+use Rattle.posix_defs.specs.ScriptWords.{is_within}
 
 -- the number of a fault: of several on a line the least is told
 abbrev pub rank : FaultKind → ℕ

@@ -4,8 +4,8 @@ use Rattle.std.specs.List.{All}
 use Rattle.std.specs.Str.{IsUtf8}
 use Rattle.kabi_types.specs.declared.scripts.FaultKind.{FaultKind}
 use Rattle.kabi_types.specs.declared.scripts.FaultKind.TheVariants.{NotUtf8, UnknownWord}
-use Rattle.script_parse.specs.declared.said.Word.{Word}
-use Rattle.script_parse.specs.declared.said.Word.TheVariants.{Bare, Quoted}
+use Rattle.posix_defs.specs.declared.said.Word.{Word}
+use Rattle.posix_defs.specs.declared.said.Word.TheVariants.{Bare, Quoted}
 
 -- a space, a tab, a carriage return
 abbrev pub is_blank : ℕ → Bool

@@ -6,10 +6,10 @@ use Rattle.kabi_types.specs.declared.scripts.FaultKind.TheVariants.{NoSuchLabel,
 use Rattle.kabi_types.specs.declared.scripts.ScriptFault.{ScriptFault}
 use Rattle.kabi_types.specs.declared.scripts.Statement.{Statement}
 use Rattle.kabi_types.specs.declared.scripts.Statement.TheVariants as statement
-use Rattle.script_parse.specs.declared.said.Spoken.{Spoken}
-use Rattle.script_parse.specs.declared.said.Spoken.TheVariants as spoken
-use Rattle.script_parse.specs.declared.said.Stated.{Stated}
-use Rattle.script_parse.specs.ScriptValues.{with}
+use Rattle.posix_defs.specs.declared.said.Spoken.{Spoken}
+use Rattle.posix_defs.specs.declared.said.Spoken.TheVariants as spoken
+use Rattle.posix_defs.specs.declared.said.Stated.{Stated}
+use Rattle.posix_defs.specs.ScriptValues.{with}
 
 -- the line states the label of this name
 abbrev pub names : List ℕ → Spoken → Bool
