@@ -3,4 +3,5 @@ pub mod Fronts
 pub mod Joined
 pub mod Lines
 pub mod Numbers
+pub mod OneReading
 pub mod Placing

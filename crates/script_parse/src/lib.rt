@@ -3,6 +3,7 @@
 
 mod calls;
 mod drafts;
+mod laws;
 mod operands;
 mod parse_error;
 mod places;
@@ -14,6 +15,7 @@ mod statements;
 mod values;
 mod words;
 
+pub use laws::{a_text_reads_in_one_way, every_text_reads_or_has_a_fault};
 pub use parse_error::ParseError;
 use posix_defs::{AtTop, InProgram, Setting, Shape, Spoken, Stated, Word};
 pub use reader::parse;

@@ -1,0 +1,5 @@
+use Rattle.script_parse.proofs.OneReading.{reading, reading_has}
+use Rattle.script_parse.proofs.laws.every_text_reads_or_has_a_fault.Goals as goal
+
+pub returns : goal.returns
+returns c = λ text. (reading text, reading_has text)

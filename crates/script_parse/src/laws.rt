@@ -1,0 +1,16 @@
+//! Laws of the language of scripts. Each is the contract of a function that does nothing.
+
+ghost use Rattle.std.specs.Prelude.{◌≡◌, ℕ, List, Result, Ok, Err};
+ghost use Rattle.kabi_types.specs.declared.scripts.Script.{Script};
+ghost use Rattle.kabi_types.specs.declared.scripts.ScriptFault.{ScriptFault};
+ghost use Rattle.posix_defs.specs.ScriptText.{ReadsText};
+
+/// A text reads as one script at most and has one fault at most, and never both.
+pub fn a_text_reads_in_one_way()
+    ensures { (text : List ℕ) (a b : Result Script ScriptFault) → ReadsText text a → ReadsText text b → a ≡ b }
+{}
+
+/// Every text reads as a script or has a fault: with the law before, it has one exactly where it reads as none.
+pub fn every_text_reads_or_has_a_fault()
+    ensures { (text : List ℕ) → (outcome : Result Script ScriptFault) × ReadsText text outcome }
+{}
