@@ -24,9 +24,13 @@ pub fn script_of(alloc: Global, text: &str) -> Result<Option<Script>, Memory> {
     }
 }
 
-/// The second part stands between the first and the third.
-pub fn joined(alloc: Global, parts: [&[u8]; 3]) -> Result<Vec<u8>, AllocError> {
-    let [before, middle, after] = parts;
+/// A text of these three parts.
+pub fn joined(
+    alloc: Global,
+    before: &[u8],
+    middle: &[u8],
+    after: &[u8],
+) -> Result<Vec<u8>, AllocError> {
     let mut text = Vec::new(alloc);
     text.extend_from_slice(before)?;
     text.extend_from_slice(middle)?;
@@ -38,7 +42,9 @@ pub fn joined(alloc: Global, parts: [&[u8]; 3]) -> Result<Vec<u8>, AllocError> {
 pub fn fault_in_init(alloc: Global, line: &[u8]) -> Result<Option<(u32, FaultKind)>, Memory> {
     let text = joined(
         alloc,
-        [b"program init\n".as_slice(), line, b"\nend\n".as_slice()],
+        b"program init\n".as_slice(),
+        line,
+        b"\nend\n".as_slice(),
     )?;
     fault_of(alloc, text.as_slice())
 }
@@ -47,7 +53,9 @@ pub fn fault_in_init(alloc: Global, line: &[u8]) -> Result<Option<(u32, FaultKin
 pub fn fault_at_top(alloc: Global, line: &[u8]) -> Result<Option<(u32, FaultKind)>, Memory> {
     let text = joined(
         alloc,
-        [line, b"\nprogram init\n".as_slice(), b"end\n".as_slice()],
+        line,
+        b"\nprogram init\n".as_slice(),
+        b"end\n".as_slice(),
     )?;
     fault_of(alloc, text.as_slice())
 }
@@ -168,11 +176,9 @@ fn there_are_64_programs_at_most(rt: HostRuntime) -> Result<(), Fail> {
     );
     let again = joined(
         alloc,
-        [
-            most.as_slice(),
-            b"program init\n".as_slice(),
-            b"end\n".as_slice(),
-        ],
+        most.as_slice(),
+        b"program init\n".as_slice(),
+        b"end\n".as_slice(),
     )?;
     assert_eq!(rt;
         fault_of(alloc, again.as_slice())?,
@@ -180,7 +186,9 @@ fn there_are_64_programs_at_most(rt: HostRuntime) -> Result<(), Fail> {
     );
     let unended = joined(
         alloc,
-        [most.as_slice(), b"program zz\n".as_slice(), b"".as_slice()],
+        most.as_slice(),
+        b"program zz\n".as_slice(),
+        b"".as_slice(),
     )?;
     assert_eq!(rt;
         fault_of(alloc, unended.as_slice())?,

@@ -224,11 +224,9 @@ fn words_of_statements_may_be_labels(rt: HostRuntime) -> Result<(), Fail> {
 fn value_of(alloc: Global, value: &str) -> Result<Option<Operand>, Memory> {
     let text = joined(
         alloc,
-        [
-            b"program init\nset r3 ".as_slice(),
-            value.as_bytes(),
-            b"\nend\n".as_slice(),
-        ],
+        b"program init\nset r3 ".as_slice(),
+        value.as_bytes(),
+        b"\nend\n".as_slice(),
     )?;
     let Ok(text) = str::from_utf8(text.as_slice()) else {
         return Ok(None);
