@@ -12,6 +12,18 @@ mod refused;
 mod settings;
 mod state;
 mod statements;
+#[cfg(test)]
+mod tests;
+#[cfg(test)]
+mod tests_operands;
+#[cfg(test)]
+mod tests_order;
+#[cfg(test)]
+mod tests_reading;
+#[cfg(test)]
+mod tests_settings;
+#[cfg(test)]
+mod tests_statements;
 mod values;
 mod words;
 
