@@ -4,9 +4,10 @@ use kabi_types::Memory;
 use std::alloc::Global;
 use std::test::Fail;
 
-/// How many keys are put, and below which place in the order of putting all are dropped in the end.
+/// How many keys are put.
 const KEYS: u64 = 3000;
 
+/// How many of the places at which they were put are emptied in the end, the first of them first.
 const DROPPED: u64 = 2000;
 
 /// The fewest keys of a balanced tree, by its depth: one for the top, and those of the two depths before.
@@ -98,7 +99,7 @@ fn counts(alloc: Global, order: Order) -> Result<Option<(u32, u32)>, Memory> {
     Ok(Some((filled, keys_of(&index))))
 }
 
-// Of 3000 keys each fourth call drops one, which leaves 2250, and of the last 1000 none is dropped.
+// Of 3000 keys 750 are dropped while they are put, all of them among the first 2000. So 2250 are left, and then 1000.
 #[test]
 fn stays_balanced_at_rising_keys(rt: HostRuntime) -> Result<(), Fail> {
     assert_eq!(rt; counts(rt.alloc(), Order::Rising)?, Some((2250, 1000)));
