@@ -9,6 +9,8 @@ ghost use Rattle.lru_index.specs.Chain.{IsChain, hits, end_after, with_warmer, w
 ghost use Rattle.lru_index.specs.Order.{coldest_of, first_key, warmer};
 
 use crate::Key;
+#[cfg(test)]
+use crate::tree::Shape;
 use crate::tree::{Leaves, Tree};
 
 /// The slot of a key, and the keys that were used just before it and just after it.
@@ -108,6 +110,12 @@ impl<K: Key> Chain<K> {
         self.set_warmer(gone.colder, gone.warmer);
         self.set_colder(gone.warmer, gone.colder);
         (gone.slot, taken.leaves)
+    }
+
+    /// The shape of the tree.
+    #[cfg(test)]
+    pub fn shape(&self) -> Option<Shape> {
+        self.uses.shape()
     }
 
     /// Links a key to what is used just after it, or names the coldest where no key is given.

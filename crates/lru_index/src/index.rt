@@ -9,6 +9,8 @@ ghost use Rattle.lru_index.specs.Index.{AreLeaves};
 
 use crate::Key;
 use crate::chain::{Chain, Use};
+#[cfg(test)]
+use crate::tree::Shape;
 use crate::tree::{Leaves, Tree};
 use kabi_types::Memory;
 use std::alloc::Global;
@@ -106,6 +108,12 @@ impl<K: Key> Index<K> {
             unreachable!()
         };
         self.chain.add(key, slot, leaves);
+    }
+
+    /// The shape of the tree.
+    #[cfg(test)]
+    pub fn shape(&self) -> Option<Shape> {
+        self.chain.shape()
     }
 
     /// The coldest key, or the coldest of those warmer than a key that is there; None where there is none.

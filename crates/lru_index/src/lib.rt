@@ -5,6 +5,8 @@
 //! memory is taken by `Index::boot`.
 #![tactic(auto)]
 
+#[cfg(test)]
+mod balance_tests;
 mod chain;
 mod index;
 mod keys;

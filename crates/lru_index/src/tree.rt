@@ -256,6 +256,36 @@ impl<K: Key, V: Copy> Tree<K, V> {
     }
 }
 
+/// How deep a tree goes, and how many keys it has.
+#[cfg(test)]
+#[derive(Clone, Copy)]
+pub struct Shape {
+    pub depth: u32,
+    pub keys: u32,
+}
+
+#[cfg(test)]
+impl<K: Key, V: Copy> Tree<K, V> {
+    /// The shape of a tree, or None where a node's sides differ in depth by more than one or its height is not its depth.
+    pub fn shape(&self) -> Option<Shape> {
+        match &self.node {
+            Node::Leaf => Some(Shape { depth: 0, keys: 0 }),
+            Node::Inner(fork) => {
+                let left = fork.left.shape()?;
+                let right = fork.right.shape()?;
+                let depth = left.depth.max(right.depth).saturating_add(1);
+                let keys = left.keys.saturating_add(right.keys).saturating_add(1);
+                let is_balanced = left.depth.abs_diff(right.depth) <= 1;
+                if is_balanced && fork.height as u32 == depth {
+                    Some(Shape { depth, keys })
+                } else {
+                    None
+                }
+            }
+        }
+    }
+}
+
 /// The same keys with sides that differ in height by at most one, where they differed by two at most.
 fn balanced<K: Key, V: Copy>(mut fork: Fork<K, V>) -> Fork<K, V>
     ensures { in_order_fork result ≡ in_order_fork fork }
