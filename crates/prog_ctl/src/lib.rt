@@ -1,0 +1,8 @@
+//! Programs run: from a control to its next call, and on behind a reply.
+#![tactic(auto)]
+
+mod controls;
+mod made;
+mod statements;
+
+pub use controls::{answer, moved, next_call};
