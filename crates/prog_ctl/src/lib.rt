@@ -4,5 +4,7 @@
 mod controls;
 mod made;
 mod statements;
+#[cfg(test)]
+mod tests;
 
 pub use controls::{answer, moved, next_call};
