@@ -1,0 +1,2 @@
+pub mod CallFamilies
+pub mod Settling

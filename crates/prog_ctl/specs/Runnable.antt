@@ -1,0 +1,60 @@
+-- What a script that was read promises, as far as running it needs.
+use Rattle.std.specs.Prelude.{ℕ, ⊤, Bool, true, false, ◌<◌, ◌≤◌, ◌≡◌, List, length, Option, None, Some, slice_get, IfSome}
+use Rattle.std.specs.List.{AllByRecursion}
+use Rattle.kabi_types.specs.declared.calls.CallKind.{CallKind}
+use Rattle.kabi_types.specs.declared.calls.CallKind.TheVariants as kind
+use Rattle.kabi_types.specs.declared.scripts.Operand.{Operand}
+use Rattle.kabi_types.specs.declared.scripts.Operand.TheVariants.{Reg, Number}
+use Rattle.kabi_types.specs.declared.scripts.Statement.{Statement}
+use Rattle.kabi_types.specs.declared.scripts.Statement.TheVariants as statement
+use Rattle.kabi_types.specs.declared.scripts.Script.{Script}
+use Rattle.kabi_types.specs.declared.scripts.Control.{Control}
+use Rattle.posix_defs.specs.Control.{body_of, local_at, statement_of}
+
+abbrev pub IsRegister : ℕ → Type 0
+IsRegister register = register < 16
+
+abbrev pub IsOperand : Operand → Type 0
+IsOperand (Reg register) = IsRegister register
+IsOperand (Number value) = ⊤
+
+-- the most bytes of a text of a call
+abbrev pub most_text : CallKind → ℕ
+most_text kind.Store = 64
+most_text _ = 255
+
+-- a later place
+abbrev pub IsLater : ℕ → ℕ → Type 0
+IsLater at place = (at < place) × (place < 4294967296)
+
+-- a statement at a place of a program: its registers are there, it jumps forward and loops backward, its texts fit a call
+abbrev pub IsRunnableAt : ℕ → Statement → Type 0
+IsRunnableAt at (statement.Set register value) = IsRegister register × IsOperand value
+IsRunnableAt at (statement.Add register value) = IsRegister register × IsOperand value
+IsRunnableAt at (statement.If left test right place) = IsOperand left × IsOperand right × IsLater at place
+IsRunnableAt at (statement.Jump place) = IsLater at place
+IsRunnableAt at (statement.Label _) = ⊤
+IsRunnableAt at (statement.Loop register place) = IsRegister register × (place < at)
+IsRunnableAt at (statement.Invoke kind operands texts first second) =
+    AllByRecursion IsOperand operands × AllByRecursion (λ text. length text ≤ most_text kind) texts × (length operands ≤ 17)
+    × IfSome first IsRegister × IfSome second IsRegister
+
+-- each statement of a program
+abbrev pub IsRunnable : List Statement → Type 0
+IsRunnable body = (at : ℕ) → IfSome (slice_get body at) (IsRunnableAt at)
+
+-- a control stands in a program of the script, or at its end
+pub record Stands (script : Script) (control : Control) : Type 0 where
+  pub program : control.program < length script.programs
+  pub place : control.place ≤ length (body_of script control)
+  pub short : length (body_of script control) < 4294967295
+  pub body : IsRunnable (body_of script control)
+
+-- a local statement left this control, or it makes a call and left all as it was
+abbrev pub Moves : Bool → Control → Control → Option Control → Type 0
+Moves true old new next = next ≡ Some new
+Moves false old new next = (next ≡ None) × (new ≡ old)
+
+-- the next statement makes a call, or the program ends there
+abbrev pub Rests : Script → Control → Type 0
+Rests script control = local_at control (statement_of script control) ≡ None
