@@ -1,9 +1,7 @@
 ghost use Rattle.std.specs.Prelude.{◌≡◌, ◌∷◌, [], codes, IfOk};
 
 use crate::{moved, next_call};
-use kabi_types::{
-    Call, Chooser, Control, Name27, Policy, Program, Programs, Script, Statements,
-};
+use kabi_types::{Call, Chooser, Control, Name27, Policy, Program, Programs, Script, Statements};
 use std::alloc::Global;
 use std::test::Fail;
 
