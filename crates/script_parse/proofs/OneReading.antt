@@ -14,7 +14,7 @@ use Rattle.kabi_types.specs.declared.scripts.ScriptFault.{ScriptFault}
 use Rattle.posix_defs.specs.declared.said.Word.{Word}
 use Rattle.posix_defs.specs.declared.said.Word.TheVariants.{Bare, Quoted}
 use Rattle.posix_defs.specs.ScriptWords.{is_blank, ends_word, hex_number, hex_value, hex_piece, gives, escape_piece, piece, with_byte, SaysText, closed, holds, broken, with_word, Words, nothing, blank, bare, quoted, joined, unclosed, is_comment, LineWords, not_utf8, comment, spelled, misspelled}
-use Rattle.posix_defs.specs.ScriptText.{State, step, finish, at_start, fault_at, most_bytes, Reads, ended, goes_on, stops, ReadsText, too_long, reads}
+use Rattle.script_parse.specs.Drafting.{State, step, finish, at_start, fault_at, most_bytes, Reads, ended, goes_on, stops, ReadsText, too_long, reads}
 
 -- what follows is shorter
 abbrev Shortens : List ℕ → Option (Option ℕ × List ℕ) → Type 0

@@ -3,7 +3,7 @@
 ghost use Rattle.std.specs.Prelude.{◌≡◌, ℕ, List, Result, Ok, Err};
 ghost use Rattle.kabi_types.specs.declared.scripts.Script.{Script};
 ghost use Rattle.kabi_types.specs.declared.scripts.ScriptFault.{ScriptFault};
-ghost use Rattle.posix_defs.specs.ScriptText.{ReadsText};
+ghost use Rattle.script_parse.specs.Drafting.{ReadsText};
 
 /// A text reads as one script at most and has one fault at most, and never both.
 pub fn a_text_reads_in_one_way()

@@ -1,5 +1,5 @@
 use Rattle.std.proofs.Common.{arith}
-use Rattle.posix_defs.specs.ScriptText.{too_long, reads}
+use Rattle.script_parse.specs.Drafting.{too_long, reads}
 use Rattle.script_parse.proofs.Lines.{outcome_is}
 use Rattle.script_parse.proofs.reader.parse.Goals as goal
 
