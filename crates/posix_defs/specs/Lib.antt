@@ -37,3 +37,4 @@ pub mod ScriptMeaning
 pub mod ScriptFaults
 pub mod ScriptText
 pub mod ValidScript
+pub mod Canonical
