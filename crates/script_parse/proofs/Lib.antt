@@ -5,3 +5,4 @@ pub mod Lines
 pub mod Numbers
 pub mod OneReading
 pub mod Placing
+pub mod Printed
