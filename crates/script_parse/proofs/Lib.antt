@@ -1,8 +1,12 @@
 pub mod Faults
 pub mod Fronts
+pub mod Holds
 pub mod Joined
 pub mod Lines
 pub mod Numbers
 pub mod OneReading
 pub mod Placing
 pub mod Printed
+pub mod ValidLines
+pub mod ValidValues
+pub mod ValidWords
