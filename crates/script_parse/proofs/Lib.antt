@@ -8,5 +8,7 @@ pub mod OneReading
 pub mod Placing
 pub mod Printed
 pub mod ValidLines
+pub mod ValidPrograms
+pub mod ValidScripts
 pub mod ValidValues
 pub mod ValidWords

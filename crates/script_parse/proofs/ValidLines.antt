@@ -1,17 +1,14 @@
 -- What a line of a script says keeps the promises of a script.
-use Rattle.std.proofs.Common.{◌≡◌, ◌<◌, ◌≤◌, ◌+◌, ◌%◌, ℕ, Bool, true, false, ◌==◌, List, [], ◌∷◌, length, Option, None, Some, IfSome, IsSome, Result, Ok, Err, IfOk, refl, sym, ◌∙◌, arith}
-use Rattle.std.specs.Prelude.{⊤, nat_le, if◌then◌else◌, codes}
+use Rattle.std.proofs.Common.{◌≡◌, ◌≤◌, ◌%◌, ℕ, true, ◌==◌, List, [], ◌∷◌, length, Option, None, Some, Result, Ok, Err, IfOk, refl, arith}
+use Rattle.std.specs.Prelude.{⊤, nat_le, codes}
 use Rattle.std.specs.List.{AllByRecursion}
 use Rattle.kabi_types.specs.Words.{is_built}
 use Rattle.kabi_types.specs.declared.calls.CallKind.{CallKind}
 use Rattle.kabi_types.specs.declared.scripts.Chooser.TheVariants.{Choices, Seed}
 use Rattle.kabi_types.specs.declared.scripts.FaultKind.{FaultKind}
-use Rattle.kabi_types.specs.declared.scripts.FaultKind.TheVariants.{UnknownWord, OutOfRange, NotBuilt}
 use Rattle.kabi_types.specs.declared.scripts.Operand.{Operand}
-use Rattle.kabi_types.specs.declared.scripts.Policy.{Policy}
 use Rattle.kabi_types.specs.declared.scripts.Statement.{Statement}
 use Rattle.kabi_types.specs.declared.scripts.Statement.TheVariants as statement
-use Rattle.kabi_types.specs.declared.scripts.Test.{Test}
 use Rattle.posix_defs.specs.declared.said.AtTop.{AtTop}
 use Rattle.posix_defs.specs.declared.said.AtTop.TheVariants as top
 use Rattle.posix_defs.specs.declared.said.InProgram.{InProgram}
@@ -23,9 +20,9 @@ use Rattle.posix_defs.specs.declared.said.Shape.TheVariants as shape
 use Rattle.posix_defs.specs.declared.said.Spoken.{Spoken}
 use Rattle.posix_defs.specs.declared.said.Spoken.TheVariants as spoken
 use Rattle.posix_defs.specs.declared.said.Word.{Word}
-use Rattle.posix_defs.specs.ScriptValues.{both, with, ◌>>=◌, each, is_word, register, number, value, is_name, name, path, stored}
+use Rattle.posix_defs.specs.ScriptValues.{both, with, ◌>>=◌, each, is_word, register, value, is_name, name, path, stored}
 use Rattle.posix_defs.specs.ScriptLines.{kind_said, shape_of, CallOperands, values_only, counted, one_path, two_paths, path_value, value_path, value_bytes, at_most, pairs, operands_said, if_built, call_of_kind, call_said, set_said, add_said, test_said, if_said, jump_said, label_said, loop_said, call_for_one, call_for_both, call_for_two, call_for, statement_said, alone, said_in_program, natural, only, policy_said, choices_said, top_said, said_at_top}
-use Rattle.posix_defs.specs.ValidScript.{IsRegister, IsOperand, IsPath, IsStored, IsValues, HasText, HasTwoPaths, IsPairs, Fits, AreTargets, IsChooser}
+use Rattle.posix_defs.specs.ValidScript.{IsRegister, IsOperand, IsPath, IsStored, Fits, AreTargets, IsChooser}
 use Rattle.script_parse.proofs.Holds.{when, with_holds, then_holds, both_hold, AreAll, each_holds}
 use Rattle.script_parse.proofs.ValidWords.{IsTextWord}
 use Rattle.script_parse.proofs.ValidValues.{register_is, natural_is, value_is, name_is, path_is, stored_is}
@@ -48,7 +45,7 @@ counted_fit : (count : ℕ) (words : List Word) → Operands (shape.Values count
 counted_fit count words =
     when (Operands (shape.Values count)) (length words == count) _ _
     (λ is. with_holds (AreAll IsOperand words) (Operates (shape.Values count)) values_only (each value words)
-        (λ values all. (all.0, record { values_are = omega (arith, all.1, (let k : length words ≡ count = grind (arith, is) in k)); texts_are = refl })) (all_values words))
+    (λ values all. (all.0, record { values_are = omega (arith, all.1, (let k : length words ≡ count = grind (arith, is) in k)); texts_are = refl })) (all_values words))
     (λ _. tt)
 
 one_path_fits : (words : List Word) → AreTextWords words → Operands shape.OnePath (one_path words)
@@ -103,9 +100,9 @@ pairs_fit : (words : List Word) → Operands shape.Pairs (pairs words)
 pairs_fit words =
     when (Operands shape.Pairs) (length words % 2 == 1) _ _
     (λ is. with_holds (λ values. AreAll IsOperand words values × (length values ≤ 17)) (Operates shape.Pairs) values_only (each value words >>= at_most 17)
-        (λ values all. (all.0.0, record { pairs = odd values is all.0.1; most = all.1; texts_are = refl }))
-        (then_holds (AreAll IsOperand words) (λ values. AreAll IsOperand words values × (length values ≤ 17)) (each value words) (at_most 17)
-            (all_values words) (λ values all. short (AreAll IsOperand words) 17 values all)))
+    (λ values all. (all.0.0, record { pairs = odd values is all.0.1; most = all.1; texts_are = refl }))
+    (then_holds (AreAll IsOperand words) (λ values. AreAll IsOperand words values × (length values ≤ 17)) (each value words) (at_most 17)
+    (all_values words) (λ values all. short (AreAll IsOperand words) 17 values all)))
     (λ _. tt)
   where
     odd : (values : List Operand) → (length words % 2 == 1) ≡ true → length values ≡ length words → length values % 2 ≡ 1
@@ -181,8 +178,8 @@ if_fits (left ∷ test ∷ right ∷ []) = tt
 if_fits (left ∷ test ∷ right ∷ label ∷ []) =
     then_holds (λ _. ⊤) IsSpoken (test_said test) (λ t. name label >>= λ l. both (value left) (value right) >>= λ p. Ok (spoken.If p.0 t p.1 l)) (any (test_said test))
     (λ t _. then_holds (λ _. ⊤) IsSpoken (name label) (λ l. both (value left) (value right) >>= λ p. Ok (spoken.If p.0 t p.1 l)) (any (name label))
-        (λ l _. then_holds (λ p. IsOperand p.0 × IsOperand p.1) IsSpoken (both (value left) (value right)) (λ p. Ok (spoken.If p.0 t p.1 l))
-            (both_hold IsOperand IsOperand (value left) (value right) (value_is left) (value_is right)) (λ p is. is)))
+    (λ l _. then_holds (λ p. IsOperand p.0 × IsOperand p.1) IsSpoken (both (value left) (value right)) (λ p. Ok (spoken.If p.0 t p.1 l))
+    (both_hold IsOperand IsOperand (value left) (value right) (value_is left) (value_is right)) (λ p is. is)))
 if_fits (left ∷ test ∷ right ∷ label ∷ more ∷ words) = tt
 
 jump_fits : (words : List Word) → Speaks (jump_said words)
@@ -211,7 +208,7 @@ both_fit : (first second : Word) (call : List Word) → AreTextWords call → Sp
 both_fit first second call bytes =
     then_holds IsRegister IsSpoken (register first) (λ a. register second >>= λ b. call_said (Some a) (Some b) call) (register_is first)
     (λ a is. then_holds IsRegister IsSpoken (register second) (λ b. call_said (Some a) (Some b) call) (register_is second)
-        (λ b of. call_fits (Some a) (Some b) call (refl, is, of) bytes))
+    (λ b of. call_fits (Some a) (Some b) call (refl, is, of) bytes))
 
 two_fit : (first second : Word) (words : List Word) → AreTextWords (first ∷ second ∷ words) → Speaks (call_for_two first second words)
 two_fit first second [] bytes = call_fits None None (first ∷ second ∷ []) tt bytes
@@ -227,10 +224,10 @@ statement_fits : (first : Word) (words : List Word) → AreTextWords (first ∷ 
 statement_fits first words bytes =
     when Speaks (is_word (codes "set") first) _ _ (λ _. set_fits words)
     (λ _. when Speaks (is_word (codes "add") first) _ _ (λ _. add_fits words)
-        (λ _. when Speaks (is_word (codes "if") first) _ _ (λ _. if_fits words)
-            (λ _. when Speaks (is_word (codes "jump") first) _ _ (λ _. jump_fits words)
-                (λ _. when Speaks (is_word (codes "label") first) _ _ (λ _. label_fits words)
-                    (λ _. when Speaks (is_word (codes "loop") first) _ _ (λ _. loop_fits words) (λ _. for_fits first words bytes))))))
+    (λ _. when Speaks (is_word (codes "if") first) _ _ (λ _. if_fits words)
+    (λ _. when Speaks (is_word (codes "jump") first) _ _ (λ _. jump_fits words)
+    (λ _. when Speaks (is_word (codes "label") first) _ _ (λ _. label_fits words)
+    (λ _. when Speaks (is_word (codes "loop") first) _ _ (λ _. loop_fits words) (λ _. for_fits first words bytes))))))
 
 -- what a line of a program promises
 abbrev pub IsInside : InProgram → Type 0
@@ -301,18 +298,18 @@ first_fits : (first : Word) (words : List Word) → Tops (top_said first words)
 first_fits first words =
     when Tops (is_word (codes "heap") first) _ _ (λ _. sets 8192 8388608 (λ n. top.Sets (setting.Heap n)) words (λ n is. is))
     (λ _. when Tops (is_word (codes "disk") first) _ _ (λ _. sets 16 4096 (λ n. top.Sets (setting.Disk n)) words (λ n is. is))
-        (λ _. when Tops (is_word (codes "steps") first) _ _ (λ _. sets 1 100000 (λ n. top.Sets (setting.Steps n)) words (λ n is. is))
-            (λ _. when Tops (is_word (codes "policy") first) _ _
-                (λ _. with_holds (λ _. ⊤) IsTop (λ p. top.Sets (setting.Victims p)) (only policy_said words) (λ _ _. tt) (any (only policy_said words)))
-                (λ _. when Tops (is_word (codes "choices") first) _ _
-                    (λ _. with_holds (λ choices. IsChooser (Choices choices)) IsTop (λ c. top.Sets (setting.Choosing (Choices c))) (choices_said words)
-                        (λ _ is. is) (choices_fit words))
-                    (λ _. when Tops (is_word (codes "seed") first) _ _
-                        (λ _. sets 0 2147483647 (λ n. top.Sets (setting.Choosing (Seed n))) words (λ n is. is.1))
-                        (λ _. when Tops (is_word (codes "program") first) _ _
-                            (λ _. with_holds (λ said. is_name said ≡ true) IsTop top.Begins (only name words) (λ _ is. is)
-                                (only_holds (λ said. is_name said ≡ true) name name_is words))
-                            (λ _. tt)))))))
+    (λ _. when Tops (is_word (codes "steps") first) _ _ (λ _. sets 1 100000 (λ n. top.Sets (setting.Steps n)) words (λ n is. is))
+    (λ _. when Tops (is_word (codes "policy") first) _ _
+    (λ _. with_holds (λ _. ⊤) IsTop (λ p. top.Sets (setting.Victims p)) (only policy_said words) (λ _ _. tt) (any (only policy_said words)))
+    (λ _. when Tops (is_word (codes "choices") first) _ _
+    (λ _. with_holds (λ choices. IsChooser (Choices choices)) IsTop (λ c. top.Sets (setting.Choosing (Choices c))) (choices_said words)
+    (λ _ is. is) (choices_fit words))
+    (λ _. when Tops (is_word (codes "seed") first) _ _
+    (λ _. sets 0 2147483647 (λ n. top.Sets (setting.Choosing (Seed n))) words (λ n is. is.1))
+    (λ _. when Tops (is_word (codes "program") first) _ _
+    (λ _. with_holds (λ said. is_name said ≡ true) IsTop top.Begins (only name words) (λ _ is. is)
+    (only_holds (λ said. is_name said ≡ true) name name_is words))
+    (λ _. tt)))))))
 
 pub top_fits : (words : List Word) → IfOk (said_at_top words) IsTop
 top_fits [] = tt

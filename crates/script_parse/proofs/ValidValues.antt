@@ -1,20 +1,20 @@
 -- What a word says where it stands keeps the promises of a script.
-use Rattle.std.proofs.Common.{rules, ◌≡◌, ◌<◌, ◌≤◌, ◌+◌, ◌-◌, ◌^◌, ℕ, ℤ, pos, negsuc, Bool, true, false, not, ◌==◌, List, [], ◌∷◌, length, Option, None, Some, IfSome, Result, Ok, Err, IfOk, refl, arith}
-use Rattle.std.specs.Prelude.{⊤, ◌||◌, ◌&&◌, nat_le, int_le, unsigned_abs, bit_or, option_map, if◌then◌else◌}
+use Rattle.std.proofs.Common.{rules, ◌≡◌, ◌<◌, ◌≤◌, ◌^◌, ℕ, ℤ, pos, negsuc, Bool, true, false, ◌==◌, List, [], ◌∷◌, length, Option, None, Some, IfSome, Result, Ok, Err, IfOk, refl, arith}
+use Rattle.std.specs.Prelude.{◌&&◌, nat_le, int_le, unsigned_abs, option_map, if◌then◌else◌}
 use Rattle.std.specs.List.{AllByRecursion, slice_split}
 use Rattle.std.specs.Str.{bytes_eq}
 use Rattle.std.proofs.lemmas.Bool.{and_parts}
 use Rattle.std.proofs.lemmas.Nat.{or_lt}
 use Rattle.kabi_types.specs.declared.scripts.FaultKind.{FaultKind}
-use Rattle.kabi_types.specs.declared.scripts.FaultKind.TheVariants.{UnknownWord, OutOfRange}
+use Rattle.kabi_types.specs.declared.scripts.FaultKind.TheVariants.{UnknownWord}
 use Rattle.kabi_types.specs.declared.scripts.Operand.{Operand}
-use Rattle.kabi_types.specs.declared.scripts.Operand.TheVariants.{Reg, Number}
+use Rattle.kabi_types.specs.declared.scripts.Operand.TheVariants.{Number}
 use Rattle.posix_defs.specs.declared.said.Word.{Word}
 use Rattle.posix_defs.specs.declared.said.Word.TheVariants.{Bare, Quoted}
 use Rattle.posix_defs.specs.ScriptWords.{is_within}
-use Rattle.posix_defs.specs.ScriptValues.{with, ◌>>=◌, known, bare, is_digit, register_said, register, in_range, least_value, greatest_value, begins_number, is_decimal, number_by, number_said, number, among, open_constants, descriptor_constants, other_constants, or_else, constant_said, joined_to, joined, constants_said, number_or_constants, register_or, value, is_name, name, is_path, path, stored}
+use Rattle.posix_defs.specs.ScriptValues.{◌>>=◌, known, bare, is_digit, register_said, register, in_range, least_value, greatest_value, begins_number, is_decimal, number_by, number_said, number, among, open_constants, descriptor_constants, other_constants, or_else, constant_said, joined_to, joined, constants_said, number_or_constants, register_or, value, is_name, name, is_path, path, stored}
 use Rattle.posix_defs.specs.ScriptLines.{natural}
-use Rattle.posix_defs.specs.ValidScript.{IsRegister, IsOperand, IsBytes, IsPath, IsStored}
+use Rattle.posix_defs.specs.ValidScript.{IsRegister, IsOperand, IsPath, IsStored}
 use Rattle.script_parse.proofs.Holds.{when, within_le, with_holds, then_holds, known_holds}
 use Rattle.script_parse.proofs.ValidWords.{IsTextWord}
 
@@ -59,7 +59,7 @@ number_is : (low high : ℤ) (word : Word) → IfOk (number low high word) (IsBe
 number_is low high word =
     bare_holds (IsBetween low high) (λ w. number_said w >>= in_range low high)
     (λ w. then_holds (IsBetween least_value greatest_value) (IsBetween low high) (number_said w) (in_range low high)
-        (number_fits (begins_number w) (is_decimal w) _) (λ n _. ranged low high n))
+    (number_fits (begins_number w) (is_decimal w) _) (λ n _. ranged low high n))
     word
 
 natural_between : (low high : ℕ) (n : ℤ) → IsBetween (pos low) (pos high) n → (low ≤ unsigned_abs n) × (unsigned_abs n ≤ high)
@@ -91,7 +91,7 @@ constant_fits : (word : List ℕ) → AreConstants (constant_said word)
 constant_fits word =
     or_fits (among open_constants word) _ (among_fits open_constants word (search rules))
     (or_fits (among descriptor_constants word) (among other_constants word) (among_fits descriptor_constants word (search rules))
-        (among_fits other_constants word (search rules)))
+    (among_fits other_constants word (search rules)))
 
 joined_fits : (n : ℕ) (said : Option ℕ) → n < 2 ^ 20 → AreConstants said → AreConstants (joined_to n said)
 joined_fits n None small fits = tt
@@ -114,7 +114,7 @@ number_operand word =
     when P (begins_number word) _ _
     (λ _. with_holds (IsBetween least_value greatest_value) IsOperand Number (number_said word) (λ n is. is) (number_fits (begins_number word) (is_decimal word) _))
     (λ _. known_holds IsOperand (option_map (λ n. Number (pos n)) (constants_said word))
-        (constants_operand (constants_said word) (all_joined_fit (Some 0) (slice_split (λ byte. byte == 124) word) (omega arith))))
+    (constants_operand (constants_said word) (all_joined_fit (Some 0) (slice_split (λ byte. byte == 124) word) (omega arith))))
 
 register_operand : (word : List ℕ) (said : Option ℕ) → AreRegisters said → IfOk (register_or word said) IsOperand
 register_operand word None fits = number_operand word

@@ -1,6 +1,6 @@
 -- What the words of a line say is made of bytes.
-use Rattle.std.proofs.Common.{inl, inr, ◌/◌, ◌%◌, ◌≡◌, ◌<◌, ◌+◌, ◌*◌, ◌-◌, ℕ, Bool, true, false, cond, ◌==◌, List, [], ◌∷◌, ◌++◌, Option, None, Some, IfSome, Result, Ok, Err, IfOk, refl, subst, sym, arith, ltb-true}
-use Rattle.std.specs.Prelude.{⊤, ◌||◌, nat_lt, if◌then◌else◌}
+use Rattle.std.proofs.Common.{inl, inr, ◌/◌, ◌%◌, ◌≡◌, ◌<◌, ◌+◌, ℕ, Bool, true, false, cond, ◌==◌, List, [], ◌∷◌, Option, None, Some, IfSome, Result, IfOk, refl, subst, arith, ltb-true}
+use Rattle.std.specs.Prelude.{⊤, ◌||◌, nat_lt}
 use Rattle.std.specs.List.{AllByRecursion}
 use Rattle.std.specs.Str.{IsUtf8}
 use Rattle.std.proofs.lemmas.Bool.{and_parts}
@@ -18,7 +18,7 @@ IsByte byte = byte < 256
 -- the bytes of a character
 encoded : (c : ℕ) → scalar c ≡ true → (one two three : Bool) → nat_lt c 128 ≡ one → nat_lt c 2048 ≡ two → nat_lt c 65536 ≡ three
     → IsBytes (cond one (c ∷ []) (cond two ((192 + c / 64) ∷ (128 + c % 64) ∷ [])
-          (cond three ((224 + c / 4096) ∷ (128 + c / 64 % 64) ∷ (128 + c % 64) ∷ []) ((240 + c / 262144) ∷ (128 + c / 4096 % 64) ∷ (128 + c / 64 % 64) ∷ (128 + c % 64) ∷ []))))
+    (cond three ((224 + c / 4096) ∷ (128 + c / 64 % 64) ∷ (128 + c % 64) ∷ []) ((240 + c / 262144) ∷ (128 + c / 4096 % 64) ∷ (128 + c / 64 % 64) ∷ (128 + c % 64) ∷ []))))
 encoded c ok true two three is_one is_two is_three = (omega (arith, ltb-true _ _ is_one), tt)
 encoded c ok false true three is_one is_two is_three = (omega (arith, ltb-true _ _ is_two), (omega arith, tt))
 encoded c ok false false true is_one is_two is_three = (omega (arith, ltb-true _ _ is_three), (omega arith, (omega arith, tt)))
@@ -46,7 +46,7 @@ hex_small byte =
     let P : Option ℕ → Type 0 = λ o. IfSome o (λ value. value < 16) in
     when P (is_within 48 57 byte) _ _ (λ yes. omega (arith, within_le 48 57 byte yes))
     (λ _. when P (is_within 65 70 byte) _ _ (λ yes. omega (arith, within_le 65 70 byte yes))
-        (λ _. when P (is_within 97 102 byte) _ _ (λ yes. omega (arith, within_le 97 102 byte yes)) (λ _. tt)))
+    (λ _. when P (is_within 97 102 byte) _ _ (λ yes. omega (arith, within_le 97 102 byte yes)) (λ _. tt)))
 
 hex_given : (rest : List ℕ) (high low : Option ℕ) → IsBytes rest → IfSome high (λ value. value < 16) → IfSome low (λ value. value < 16)
     → ArePieces (gives rest (hex_number high low))
@@ -64,7 +64,7 @@ escape_bytes [] all = tt
 escape_bytes (code ∷ rest) all =
     when ArePieces (code == 110) _ _ (λ _. (omega arith, all.1))
     (λ _. when ArePieces (code == 92 || code == 34) _ _ (λ _. (all.0, all.1))
-        (λ _. when ArePieces (code == 120) _ _ (λ _. hex_bytes rest all.1) (λ _. tt)))
+    (λ _. when ArePieces (code == 120) _ _ (λ _. hex_bytes rest all.1) (λ _. tt)))
 
 piece_bytes : (bytes : List ℕ) → IsBytes bytes → ArePieces (piece bytes)
 piece_bytes [] all = tt

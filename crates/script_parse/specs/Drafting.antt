@@ -1,5 +1,5 @@
 -- A whole script, line by line.
-use Rattle.std.specs.Prelude.{ℕ, ◌+◌, ◌≤◌, ◌<◌, ◌≡◌, Bool, true, false, ◌==◌, ◌||◌, if◌then◌else◌, List, [], ◌∷◌, ◌++◌, length, Option, None, Some, Result, Ok, Err, codes}
+use Rattle.std.specs.Prelude.{ℕ, ◌+◌, ◌≤◌, ◌<◌, ◌≡◌, Bool, ◌==◌, if◌then◌else◌, List, [], ◌∷◌, ◌++◌, length, Option, None, Some, Result, Ok, Err, codes}
 use Rattle.std.specs.List.{list_any, slice_split}
 use Rattle.std.specs.Str.{bytes_eq}
 use Rattle.kabi_types.specs.declared.scripts.Chooser.{Chooser}

@@ -3,6 +3,7 @@
 ghost use Rattle.std.specs.Prelude.{◌≡◌, ℕ, List, Result, Ok, Err};
 ghost use Rattle.kabi_types.specs.declared.scripts.Script.{Script};
 ghost use Rattle.kabi_types.specs.declared.scripts.ScriptFault.{ScriptFault};
+ghost use Rattle.posix_defs.specs.ValidScript.{IsValid};
 ghost use Rattle.script_parse.specs.Drafting.{ReadsText};
 
 /// A text reads as one script at most and has one fault at most, and never both.
@@ -13,4 +14,9 @@ pub fn a_text_reads_in_one_way()
 /// Every text reads as a script or has a fault: with the law before, it has one exactly where it reads as none.
 pub fn every_text_reads_or_has_a_fault()
     ensures { (text : List ℕ) → (outcome : Result Script ScriptFault) × ReadsText text outcome }
+{}
+
+/// Every script that a text says keeps what scripts promise: its numbers are in their ranges, and its jumps go to labels.
+pub fn what_reads_is_valid()
+    ensures { (text : List ℕ) (script : Script) → ReadsText text (Ok script) → IsValid script }
 {}
