@@ -7,6 +7,7 @@ pub mod Numbers
 pub mod OneReading
 pub mod Placing
 pub mod Printed
+pub mod PrintedWords
 pub mod ValidLines
 pub mod ValidPrograms
 pub mod ValidScripts
