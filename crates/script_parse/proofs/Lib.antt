@@ -7,6 +7,8 @@ pub mod Numbers
 pub mod OneReading
 pub mod Placing
 pub mod Printed
+pub mod PrintedStatements
+pub mod PrintedValues
 pub mod PrintedWords
 pub mod ValidLines
 pub mod ValidPrograms
