@@ -1,7 +1,8 @@
 -- What a printed line says is what it was printed for.
 use Rattle.std.proofs.Common.{◌≡◌, ◌≢◌, ◌<◌, ◌≤◌, ◌+◌, ◌%◌, ◌^◌, ℕ, zero, suc, Bool, true, false, ◌==◌, List, [], ◌∷◌, ◌++◌, map, length, Option, None, Some, IfSome, IsSome, is_some, slice_get, Result, Ok, Err, refl, sym, ap, ◌∙◌, subst, arith}
-use Rattle.std.specs.Prelude.{⊤, nat_le, if◌then◌else◌, codes}
+use Rattle.std.specs.Prelude.{⊤, not, ◌&&◌, nat_le, if◌then◌else◌, codes}
 use Rattle.std.specs.List.{AllByRecursion}
+use Rattle.std.proofs.lemmas.Bool.{and_parts}
 use Rattle.kabi_types.specs.Words.{word_of, is_built}
 use Rattle.kabi_types.specs.declared.calls.CallKind.{CallKind}
 use Rattle.kabi_types.specs.declared.calls.CallKind.TheVariants as kind
@@ -30,6 +31,7 @@ use Rattle.posix_defs.specs.ScriptValues.{both, with, ◌>>=◌, each, is_word, 
 use Rattle.posix_defs.specs.ScriptLines.{kind_said, shape_of, CallOperands, values_only, operands_said, at_most, if_built, call_of_kind, call_said, test_said, call_for_one, call_for_both, call_for_two, call_for, statement_said, said_in_program, natural, only, policy_said, choices_said, top_said, said_at_top}
 use Rattle.posix_defs.specs.Canonical.{number_word, name_word, register_word, operand_word, test_text, policy_text, label_name, label_word, operand_words, target_words, statement_words}
 use Rattle.posix_defs.specs.ValidScript.{IsRegister, IsOperand, IsBytes, IsPath, IsStored, IsValues, HasText, HasTwoPaths, IsPairs, Fits, AreTargets, IsLabel, IsStatement, IsChooser}
+use Rattle.script_parse.proofs.Holds.{all_append}
 use Rattle.script_parse.proofs.PrintedWords.{IsPrinted, IsLine}
 use Rattle.script_parse.proofs.PrintedValues.{is_plain_word, plain_printed, number_printed, natural_read, register_read, register_printed, operand_read, operand_printed, operand_no_equals, name_read, name_printed}
 
@@ -128,6 +130,25 @@ operands_read shape.ValueBytes values texts all fits =
         ap (λ said. with (λ p. (p.0 ∷ [], p.1 ∷ [])) (both said (stored (Quoted text)))) (operand_read operand is_value)
         ∙ ap (λ said. with (λ p. (p.0 ∷ [], p.1 ∷ [])) (both (Ok operand) said)) (stored_read text is_text))
 
+-- a word that may begin a line, tested by computing
+abbrev pub is_first_word : List ℕ → Bool
+is_first_word [] = false
+is_first_word (first ∷ word) = not (first == 35) && is_plain_word (first ∷ word)
+
+first_printed : (word : List ℕ) → is_first_word word ≡ true → IsPrinted (Bare word)
+first_printed [] is = absurd (let wrong : false ≡ true = is in cc)
+first_printed (first ∷ word) is = plain_printed (first ∷ word) (and_parts (not (first == 35)) (is_plain_word (first ∷ word)) is).1
+
+first_line : (word : List ℕ) (words : List Word) → is_first_word word ≡ true → AllByRecursion IsPrinted words → IsLine (Bare word ∷ words)
+first_line [] words is all = absurd (let wrong : false ≡ true = is in cc)
+first_line (first ∷ word) words is all =
+    let parts = and_parts (not (first == 35)) (is_plain_word (first ∷ word)) is in
+    ((λ same. let yes : (first == 35) ≡ true = grind (arith, same) in
+            let wrong : false ≡ true = sym (ap not yes) ∙ parts.0 in cc), (plain_printed (first ∷ word) parts.1, all))
+
+register_line : (r : ℕ) (words : List Word) → IsRegister r → AllByRecursion IsPrinted words → IsLine (register_word r ∷ words)
+register_line r words is all = ((λ same. omega (arith, same)), (register_printed r is, all))
+
 -- calls: each has a word of its own, which begins no other statement
 
 pub kind_read : (call : CallKind) → kind_said (Bare (word_of call)) ≡ Some call
@@ -216,45 +237,265 @@ call_alone kind.Accept words = refl
 call_alone kind.Shutdown words = refl
 call_alone kind.Poll words = refl
 
-call_plain : (call : CallKind) → is_plain_word (word_of call) ≡ true
-call_plain kind.Getpid = refl
-call_plain kind.Getppid = refl
-call_plain kind.SchedYield = refl
-call_plain kind.Fork = refl
-call_plain kind.Exec = refl
-call_plain kind.Exit = refl
-call_plain kind.Waitpid = refl
-call_plain kind.Kill = refl
-call_plain kind.Mmap = refl
-call_plain kind.Munmap = refl
-call_plain kind.Store = refl
-call_plain kind.Load = refl
-call_plain kind.OpenFile = refl
-call_plain kind.Close = refl
-call_plain kind.Dup = refl
-call_plain kind.Dup2 = refl
-call_plain kind.Fcntl = refl
-call_plain kind.Read = refl
-call_plain kind.Write = refl
-call_plain kind.Pread = refl
-call_plain kind.Pwrite = refl
-call_plain kind.Lseek = refl
-call_plain kind.Readdir = refl
-call_plain kind.Ftruncate = refl
-call_plain kind.Fstat = refl
-call_plain kind.Stat = refl
-call_plain kind.Chdir = refl
-call_plain kind.Mkdir = refl
-call_plain kind.Rmdir = refl
-call_plain kind.Unlink = refl
-call_plain kind.Link = refl
-call_plain kind.Rename = refl
-call_plain kind.Pipe = refl
-call_plain kind.Socket = refl
-call_plain kind.Socketpair = refl
-call_plain kind.Bind = refl
-call_plain kind.Listen = refl
-call_plain kind.Connect = refl
-call_plain kind.Accept = refl
-call_plain kind.Shutdown = refl
-call_plain kind.Poll = refl
+call_first : (call : CallKind) → is_first_word (word_of call) ≡ true
+call_first kind.Getpid = refl
+call_first kind.Getppid = refl
+call_first kind.SchedYield = refl
+call_first kind.Fork = refl
+call_first kind.Exec = refl
+call_first kind.Exit = refl
+call_first kind.Waitpid = refl
+call_first kind.Kill = refl
+call_first kind.Mmap = refl
+call_first kind.Munmap = refl
+call_first kind.Store = refl
+call_first kind.Load = refl
+call_first kind.OpenFile = refl
+call_first kind.Close = refl
+call_first kind.Dup = refl
+call_first kind.Dup2 = refl
+call_first kind.Fcntl = refl
+call_first kind.Read = refl
+call_first kind.Write = refl
+call_first kind.Pread = refl
+call_first kind.Pwrite = refl
+call_first kind.Lseek = refl
+call_first kind.Readdir = refl
+call_first kind.Ftruncate = refl
+call_first kind.Fstat = refl
+call_first kind.Stat = refl
+call_first kind.Chdir = refl
+call_first kind.Mkdir = refl
+call_first kind.Rmdir = refl
+call_first kind.Unlink = refl
+call_first kind.Link = refl
+call_first kind.Rename = refl
+call_first kind.Pipe = refl
+call_first kind.Socket = refl
+call_first kind.Socketpair = refl
+call_first kind.Bind = refl
+call_first kind.Listen = refl
+call_first kind.Connect = refl
+call_first kind.Accept = refl
+call_first kind.Shutdown = refl
+call_first kind.Poll = refl
+
+-- no operand is a sign of equality, so that no register is taken to stand before it
+
+abbrev AreNoEquals : List Word → Type 0
+AreNoEquals words = AllByRecursion (λ word. is_word (codes "=") word ≡ false) words
+
+values_no_equals : (values : List Operand) → AllByRecursion IsOperand values → AreNoEquals (map operand_word values)
+values_no_equals [] all = tt
+values_no_equals (operand ∷ values) all = (operand_no_equals operand all.0, values_no_equals values all.1)
+
+texts_no_equals : (texts : List (List ℕ)) → AreNoEquals (map Quoted texts)
+texts_no_equals [] = tt
+texts_no_equals (text ∷ texts) = (refl, texts_no_equals texts)
+
+-- what holds of each printed value and text holds of each operand
+operands_all : (P : Word → Type 0) (of : Shape) (values : List Operand) (texts : List (List ℕ)) → AllByRecursion P (map operand_word values)
+    → AllByRecursion P (map Quoted texts) → AllByRecursion P (operand_words of values texts)
+operands_all P shape.PathValue values texts first second = all_append P (map Quoted texts) (map operand_word values) second first
+operands_all P (shape.Values count) values texts first second = all_append P (map operand_word values) (map Quoted texts) first second
+operands_all P shape.OnePath values texts first second = all_append P (map operand_word values) (map Quoted texts) first second
+operands_all P shape.TwoPaths values texts first second = all_append P (map operand_word values) (map Quoted texts) first second
+operands_all P shape.ValuePath values texts first second = all_append P (map operand_word values) (map Quoted texts) first second
+operands_all P shape.ValueBytes values texts first second = all_append P (map operand_word values) (map Quoted texts) first second
+operands_all P shape.Pairs values texts first second = all_append P (map operand_word values) (map Quoted texts) first second
+
+call_for_plain : (first : Word) (words : List Word) → AreNoEquals words → call_for first words ≡ call_said None None (first ∷ words)
+call_for_plain first [] none = refl
+call_for_plain first (second ∷ []) none = ap (λ b. if b then call_for_one first [] else call_for_two first second []) none.0
+call_for_plain first (second ∷ third ∷ words) none =
+    ap (λ b. if b then call_for_one first (third ∷ words) else call_for_two first second (third ∷ words)) none.0
+    ∙ ap (λ b. if b then call_for_both first second words else call_said None None (first ∷ second ∷ third ∷ words)) none.1.0
+
+-- the texts of a call are made of bytes
+
+abbrev AreBytes : List (List ℕ) → Type 0
+AreBytes texts = AllByRecursion IsBytes texts
+
+texts_bytes : (of : Shape) (values : List Operand) (texts : List (List ℕ)) → Fits of values texts → AreBytes texts
+texts_bytes (shape.Values count) values texts fits = subst AreBytes (sym fits.texts_are) tt
+texts_bytes shape.OnePath values texts fits = subst AreBytes (sym fits.texts_are) (fits.fits.1, tt)
+texts_bytes shape.TwoPaths values texts fits = subst AreBytes (sym fits.texts_are) (fits.is_old.1, (fits.is_new.1, tt))
+texts_bytes shape.PathValue values texts fits = subst AreBytes (sym fits.texts_are) (fits.fits.1, tt)
+texts_bytes shape.ValuePath values texts fits = subst AreBytes (sym fits.texts_are) (fits.fits.1, tt)
+texts_bytes shape.ValueBytes values texts fits = subst AreBytes (sym fits.texts_are) (fits.fits.1, tt)
+texts_bytes shape.Pairs values texts fits = subst AreBytes (sym fits.texts_are) tt
+
+texts_printed : (texts : List (List ℕ)) → AreBytes texts → AllByRecursion IsPrinted (map Quoted texts)
+texts_printed [] all = tt
+texts_printed (text ∷ texts) all = (all.0, texts_printed texts all.1)
+
+values_printed : (values : List Operand) → AllByRecursion IsOperand values → AllByRecursion IsPrinted (map operand_word values)
+values_printed [] all = tt
+values_printed (operand ∷ values) all = (operand_printed operand all.0, values_printed values all.1)
+
+-- a call behind its registers, as its words say it
+call_read : (first second : Option ℕ) (call : CallKind) (values : List Operand) (texts : List (List ℕ)) → is_built call ≡ true → AllByRecursion IsOperand values
+    → Fits (shape_of call) values texts
+    → call_said first second (Bare (word_of call) ∷ operand_words (shape_of call) values texts) ≡ Ok (spoken.Whole (statement.Invoke call values texts first second))
+call_read first second call values texts built all fits =
+    ap (λ found. call_of_kind first second found (operand_words (shape_of call) values texts)) (kind_read call)
+    ∙ ap (λ said. said >>= if_built call first second) (operands_read (shape_of call) values texts all fits)
+    ∙ ap (λ b. if b then Ok (spoken.Whole (statement.Invoke call values texts first second)) else Err NotBuilt) built
+
+-- statements
+
+-- a statement as its line says it
+abbrev pub spoken_as : List Statement → Statement → Spoken
+spoken_as body (statement.Set register value) = spoken.Whole (statement.Set register value)
+spoken_as body (statement.Add register value) = spoken.Whole (statement.Add register value)
+spoken_as body (statement.If left test right place) = spoken.If left test right (label_name (slice_get body place))
+spoken_as body (statement.Jump place) = spoken.Jump (label_name (slice_get body place))
+spoken_as body (statement.Label name) = spoken.Label name
+spoken_as body (statement.Loop register place) = spoken.Loop register (label_name (slice_get body place))
+spoken_as body (statement.Invoke call values texts first second) = spoken.Whole (statement.Invoke call values texts first second)
+
+-- the labels of a program have names
+abbrev pub AreNamed : List Statement → Type 0
+AreNamed body = (place : ℕ) → IsLabel body place → is_name (label_name (slice_get body place)) ≡ true
+
+test_read : (test : Test) → test_said (Bare (test_text test)) ≡ Ok test
+test_read Eq = refl
+test_read Ne = refl
+test_read Lt = refl
+test_read Le = refl
+
+test_plain : (test : Test) → is_plain_word (test_text test) ≡ true
+test_plain Eq = refl
+test_plain Ne = refl
+test_plain Lt = refl
+test_plain Le = refl
+
+invoke_read : (body : List Statement) (call : CallKind) (values : List Operand) (texts : List (List ℕ)) (first second : Option ℕ) → is_built call ≡ true
+    → AllByRecursion IsOperand values → Fits (shape_of call) values texts → AreTargets first second
+    → said_in_program (statement_words body (statement.Invoke call values texts first second)) ≡ Ok (inside.Says (spoken.Whole (statement.Invoke call values texts first second)))
+invoke_read body call values texts None None built all fits targets =
+    let words = operand_words (shape_of call) values texts in
+    call_alone call words
+    ∙ ap (with inside.Says) (call_for_plain (Bare (word_of call)) words
+        (operands_all (λ word. is_word (codes "=") word ≡ false) (shape_of call) values texts (values_no_equals values all) (texts_no_equals texts)))
+    ∙ ap (with inside.Says) (call_read None None call values texts built all fits)
+invoke_read body call values texts None (Some b) built all fits targets = absurd (let wrong : false ≡ true = targets.0 in cc)
+invoke_read body call values texts (Some a) None built all fits targets =
+    ap (λ said. with inside.Says (said >>= λ a. call_said (Some a) None (Bare (word_of call) ∷ operand_words (shape_of call) values texts))) (register_read a targets)
+    ∙ ap (with inside.Says) (call_read (Some a) None call values texts built all fits)
+invoke_read body call values texts (Some a) (Some b) built all fits targets =
+    ap (λ said. with inside.Says (said >>= λ a. register (register_word b) >>= λ b. call_said (Some a) (Some b) (Bare (word_of call) ∷ operand_words (shape_of call) values texts)))
+    (register_read a targets.1)
+    ∙ ap (λ said. with inside.Says (said >>= λ b. call_said (Some a) (Some b) (Bare (word_of call) ∷ operand_words (shape_of call) values texts))) (register_read b targets.2)
+    ∙ ap (with inside.Says) (call_read (Some a) (Some b) call values texts built all fits)
+
+pub statement_read : (body : List Statement) (at : ℕ) (s : Statement) → AreNamed body → IsStatement body at s
+    → said_in_program (statement_words body s) ≡ Ok (inside.Says (spoken_as body s))
+statement_read body at (statement.Set r v) named is =
+    ap (λ said. with inside.Says (said >>= λ r. value (operand_word v) >>= λ v. Ok (spoken.Whole (statement.Set r v)))) (register_read r is.0)
+    ∙ ap (λ said. with inside.Says (said >>= λ v. Ok (spoken.Whole (statement.Set r v)))) (operand_read v is.1)
+statement_read body at (statement.Add r v) named is =
+    ap (λ said. with inside.Says (said >>= λ r. value (operand_word v) >>= λ v. Ok (spoken.Whole (statement.Add r v)))) (register_read r is.0)
+    ∙ ap (λ said. with inside.Says (said >>= λ v. Ok (spoken.Whole (statement.Add r v)))) (operand_read v is.1)
+statement_read body at (statement.If left test right place) named is =
+    ap (λ said. with inside.Says (said >>= λ t. name (label_word body place) >>= λ l. both (value (operand_word left)) (value (operand_word right)) >>= λ p. Ok (spoken.If p.0 t p.1 l)))
+    (test_read test)
+    ∙ ap (λ said. with inside.Says (said >>= λ l. both (value (operand_word left)) (value (operand_word right)) >>= λ p. Ok (spoken.If p.0 test p.1 l)))
+    (name_read (label_name (slice_get body place)) (named place is.3))
+    ∙ ap (λ said. with inside.Says (both said (value (operand_word right)) >>= λ p. Ok (spoken.If p.0 test p.1 (label_name (slice_get body place))))) (operand_read left is.0)
+    ∙ ap (λ said. with inside.Says (both (Ok left) said >>= λ p. Ok (spoken.If p.0 test p.1 (label_name (slice_get body place))))) (operand_read right is.1)
+statement_read body at (statement.Jump place) named is =
+    ap (λ said. with inside.Says (with spoken.Jump said)) (name_read (label_name (slice_get body place)) (named place is.1))
+statement_read body at (statement.Label label) named is = ap (λ said. with inside.Says (with spoken.Label said)) (name_read label is.0)
+statement_read body at (statement.Loop r place) named is =
+    ap (λ said. with inside.Says (said >>= λ r. name (label_word body place) >>= λ l. Ok (spoken.Loop r l))) (register_read r is.0)
+    ∙ ap (λ said. with inside.Says (said >>= λ l. Ok (spoken.Loop r l))) (name_read (label_name (slice_get body place)) (named place is.2))
+statement_read body at (statement.Invoke call values texts first second) named is = invoke_read body call values texts first second is.0 is.1 is.2 is.3
+
+-- the words of a printed statement
+
+target_line : (first second : Option ℕ) (call : CallKind) (words : List Word) → AreTargets first second → AllByRecursion IsPrinted words
+    → IsLine (target_words first second ++ Bare (word_of call) ∷ words)
+target_line None None call words targets all = first_line (word_of call) words (call_first call) all
+target_line None (Some b) call words targets all = absurd (let wrong : false ≡ true = targets.0 in cc)
+target_line (Some a) None call words targets all =
+    register_line a (Bare (codes "=") ∷ Bare (word_of call) ∷ words) targets
+    (plain_printed (codes "=") refl, (first_printed (word_of call) (call_first call), all))
+target_line (Some a) (Some b) call words targets all =
+    register_line a (register_word b ∷ Bare (codes "=") ∷ Bare (word_of call) ∷ words) targets.1
+    (register_printed b targets.2, (plain_printed (codes "=") refl, (first_printed (word_of call) (call_first call), all)))
+
+pub statement_line : (body : List Statement) (at : ℕ) (s : Statement) → AreNamed body → IsStatement body at s → IsLine (statement_words body s)
+statement_line body at (statement.Set r v) named is = first_line (codes "set") (register_word r ∷ operand_word v ∷ []) refl (register_printed r is.0, (operand_printed v is.1, tt))
+statement_line body at (statement.Add r v) named is = first_line (codes "add") (register_word r ∷ operand_word v ∷ []) refl (register_printed r is.0, (operand_printed v is.1, tt))
+statement_line body at (statement.If left test right place) named is =
+    first_line (codes "if") (operand_word left ∷ Bare (test_text test) ∷ operand_word right ∷ label_word body place ∷ []) refl
+    (operand_printed left is.0, (plain_printed (test_text test) (test_plain test), (operand_printed right is.1, (name_printed (label_name (slice_get body place)) (named place is.3), tt))))
+statement_line body at (statement.Jump place) named is = first_line (codes "jump") (label_word body place ∷ []) refl (name_printed (label_name (slice_get body place)) (named place is.1), tt)
+statement_line body at (statement.Label label) named is = first_line (codes "label") (name_word label ∷ []) refl (name_printed label is.0, tt)
+statement_line body at (statement.Loop r place) named is =
+    first_line (codes "loop") (register_word r ∷ label_word body place ∷ []) refl (register_printed r is.0, (name_printed (label_name (slice_get body place)) (named place is.2), tt))
+statement_line body at (statement.Invoke call values texts first second) named is =
+    target_line first second call (operand_words (shape_of call) values texts) is.3
+    (operands_all IsPrinted (shape_of call) values texts (values_printed values is.1) (texts_printed texts (texts_bytes (shape_of call) values texts is.2)))
+
+-- lines outside programs
+
+abbrev IsChoice : ℕ → Type 0
+IsChoice n = n ≤ 4294967295
+
+choices_each : (choices : List ℕ) → AllByRecursion IsChoice choices → each (natural 0 4294967295) (map number_word choices) ≡ Ok choices
+choices_each [] all = refl
+choices_each (n ∷ choices) all =
+    ap (λ said. with (λ p. p.0 ∷ p.1) (both said (each (natural 0 4294967295) (map number_word choices)))) (natural_read 0 4294967295 n (omega arith) all.0 (omega arith))
+    ∙ ap (λ rest. with (λ p. p.0 ∷ p.1) (both (Ok n) rest)) (choices_each choices all.1)
+
+choices_read : (choices : List ℕ) → IsChooser (Choices choices) → choices_said (map number_word choices) ≡ Ok choices
+choices_read [] is = absurd (omega (arith, is.0))
+choices_read (n ∷ choices) is =
+    ap (λ said. said >>= at_most 1000) (choices_each (n ∷ choices) is.2)
+    ∙ ap (λ b. if b then Ok (n ∷ choices) else Err OutOfRange) (let few : nat_le (length (n ∷ choices)) 1000 ≡ true = grind (arith, is.1) in few)
+
+pub heap_read : (n : ℕ) → 8192 ≤ n → n ≤ 8388608 → said_at_top (Bare (codes "heap") ∷ number_word n ∷ []) ≡ Ok (top.Sets (setting.Heap n))
+heap_read n low high = ap (with (λ n. top.Sets (setting.Heap n))) (natural_read 8192 8388608 n low high (omega arith))
+
+pub disk_read : (n : ℕ) → 16 ≤ n → n ≤ 4096 → said_at_top (Bare (codes "disk") ∷ number_word n ∷ []) ≡ Ok (top.Sets (setting.Disk n))
+disk_read n low high = ap (with (λ n. top.Sets (setting.Disk n))) (natural_read 16 4096 n low high (omega arith))
+
+pub steps_read : (n : ℕ) → 1 ≤ n → n ≤ 100000 → said_at_top (Bare (codes "steps") ∷ number_word n ∷ []) ≡ Ok (top.Sets (setting.Steps n))
+steps_read n low high = ap (with (λ n. top.Sets (setting.Steps n))) (natural_read 1 100000 n low high (omega arith))
+
+pub policy_read : (p : Policy) → said_at_top (Bare (codes "policy") ∷ Bare (policy_text p) ∷ []) ≡ Ok (top.Sets (setting.Victims p))
+policy_read Heaviest = refl
+policy_read Youngest = refl
+
+pub choosing_read : (choices : List ℕ) → IsChooser (Choices choices)
+    → said_at_top (Bare (codes "choices") ∷ map number_word choices) ≡ Ok (top.Sets (setting.Choosing (Choices choices)))
+choosing_read choices is = ap (with (λ c. top.Sets (setting.Choosing (Choices c)))) (choices_read choices is)
+
+pub seed_read : (n : ℕ) → n ≤ 2147483647 → said_at_top (Bare (codes "seed") ∷ number_word n ∷ []) ≡ Ok (top.Sets (setting.Choosing (Seed n)))
+seed_read n high = ap (with (λ n. top.Sets (setting.Choosing (Seed n)))) (natural_read 0 2147483647 n (omega arith) high (omega arith))
+
+pub program_read : (said : List ℕ) → is_name said ≡ true → said_at_top (Bare (codes "program") ∷ name_word said ∷ []) ≡ Ok (top.Begins said)
+program_read said is = ap (with top.Begins) (name_read said is)
+
+-- a line of a word and a number
+pub number_line : (word : List ℕ) (n : ℕ) → is_first_word word ≡ true → n < 2 ^ 64 → IsLine (Bare word ∷ number_word n ∷ [])
+number_line word n is small = first_line word (number_word n ∷ []) is (number_printed n small, tt)
+
+pub policy_line : (p : Policy) → IsLine (Bare (codes "policy") ∷ Bare (policy_text p) ∷ [])
+policy_line Heaviest = first_line (codes "policy") (Bare (codes "heaviest") ∷ []) refl (plain_printed (codes "heaviest") refl, tt)
+policy_line Youngest = first_line (codes "policy") (Bare (codes "youngest") ∷ []) refl (plain_printed (codes "youngest") refl, tt)
+
+numbers_printed : (choices : List ℕ) → AllByRecursion IsChoice choices → AllByRecursion IsPrinted (map number_word choices)
+numbers_printed [] all = tt
+numbers_printed (n ∷ choices) all = (number_printed n (omega (arith, all.0)), numbers_printed choices all.1)
+
+pub choices_line : (choices : List ℕ) → IsChooser (Choices choices) → IsLine (Bare (codes "choices") ∷ map number_word choices)
+choices_line choices is = first_line (codes "choices") (map number_word choices) refl (numbers_printed choices is.2)
+
+pub program_line : (said : List ℕ) → is_name said ≡ true → IsLine (Bare (codes "program") ∷ name_word said ∷ [])
+program_line said is = first_line (codes "program") (name_word said ∷ []) refl (name_printed said is, tt)
+
+pub end_line : IsLine (Bare (codes "end") ∷ [])
+end_line = first_line (codes "end") [] refl tt
