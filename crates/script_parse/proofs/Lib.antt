@@ -7,6 +7,7 @@ pub mod Numbers
 pub mod OneReading
 pub mod Placing
 pub mod Printed
+pub mod PrintedPrograms
 pub mod PrintedStatements
 pub mod PrintedValues
 pub mod PrintedWords
