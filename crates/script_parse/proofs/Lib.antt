@@ -8,6 +8,7 @@ pub mod OneReading
 pub mod Placing
 pub mod Printed
 pub mod PrintedPrograms
+pub mod PrintedScripts
 pub mod PrintedStatements
 pub mod PrintedValues
 pub mod PrintedWords

@@ -1,12 +1,10 @@
 -- A printed program is read as it was printed.
-use Rattle.std.proofs.Common.{◌≡◌, ◌≢◌, ◌<◌, ◌≤◌, ◌+◌, ℕ, zero, suc, Bool, true, false, ◌==◌, nat_lt, List, [], ◌∷◌, ◌++◌, map, length, Option, None, Some, IfSome, slice_get, Result, Ok, Err, refl, sym, ap, ◌∙◌, subst, arith}
+use Rattle.std.proofs.Common.{◌≡◌, ◌≢◌, ◌<◌, ◌+◌, ℕ, zero, suc, true, false, ◌==◌, nat_lt, List, [], ◌∷◌, ◌++◌, map, length, Option, None, Some, IfSome, slice_get, Result, Ok, Err, refl, sym, ap, ◌∙◌, subst, arith}
 use Rattle.std.specs.Prelude.{⊤, if◌then◌else◌, codes}
-use Rattle.std.specs.List.{AllByRecursion}
 use Rattle.std.specs.Str.{bytes_eq}
 use Rattle.std.proofs.lemmas.Bool.{false_from_ne_true}
 use Rattle.std.proofs.lemmas.List.{append_assoc, length-append, map-append}
 use Rattle.std.proofs.lemmas.Slice.Eq.{bytes_eq-Decides}
-use Rattle.kabi_types.specs.declared.scripts.FaultKind.{FaultKind}
 use Rattle.kabi_types.specs.declared.scripts.FaultKind.TheVariants.{WrongWay, TwiceDefined, OutOfRange}
 use Rattle.kabi_types.specs.declared.scripts.Program.{Program}
 use Rattle.kabi_types.specs.declared.scripts.Script.{Script}
@@ -15,16 +13,15 @@ use Rattle.kabi_types.specs.declared.scripts.Statement.{Statement}
 use Rattle.kabi_types.specs.declared.scripts.Statement.TheVariants as statement
 use Rattle.posix_defs.specs.declared.said.AtTop.{AtTop}
 use Rattle.posix_defs.specs.declared.said.AtTop.TheVariants as top
-use Rattle.posix_defs.specs.declared.said.InProgram.TheVariants as inside
 use Rattle.posix_defs.specs.declared.said.Stated.{Stated}
 use Rattle.posix_defs.specs.declared.said.Word.{Word}
 use Rattle.posix_defs.specs.declared.said.Word.TheVariants.{Bare}
 use Rattle.posix_defs.specs.ScriptValues.{with, ◌>>=◌, is_name}
 use Rattle.posix_defs.specs.ScriptLines.{said_at_top}
 use Rattle.posix_defs.specs.Canonical.{words_text, name_word, label_name, statement_words, program_lines}
-use Rattle.posix_defs.specs.ValidScript.{IsLabel, IsFirstLabel, IsStatement, IsProgram}
-use Rattle.script_parse.specs.LabelPlaces.{names, place_in, place_from, later, earlier, first_label, placed, before, body_from, body_of}
-use Rattle.script_parse.specs.Drafting.{Draft, Opened, State, at_line, has_program, may_begin, outside, within, step_at_top, step_in_program, with_program, closed, step, Reads, goes_on}
+use Rattle.posix_defs.specs.ValidScript.{IsLabel, IsStatement, IsProgram}
+use Rattle.script_parse.specs.LabelPlaces.{names, place_in, place_from, later, earlier, first_label, placed, before, body_from}
+use Rattle.script_parse.specs.Drafting.{Draft, State, at_line, has_program, outside, within, step_at_top, step_in_program, with_program, closed, step, Reads, goes_on}
 use Rattle.script_parse.proofs.PrintedWords.{IsLine, line_read}
 use Rattle.script_parse.proofs.PrintedStatements.{spoken_as, AreNamed, statement_read, statement_line, program_read, program_line, end_line}
 
@@ -51,9 +48,10 @@ are_statements : (body : List Statement) (at : ℕ) (statements : List Statement
     → ((i place : ℕ) → place ≡ at + i → slice_get body place ≡ slice_get statements i) → AreStatements body at statements
 are_statements body at [] each there = tt
 are_statements body at (s ∷ statements) each there =
-    let here : slice_get body at ≡ Some s = there 0 at (omega arith) in
-    ((subst (λ found. IfSome found (IsStatement body at)) here (each at), here),
-        are_statements body (at + 1) statements each (λ i place is. there (suc i) place (omega (arith, is))))
+    let here : slice_get body at ≡ Some s = there 0 at (omega arith) in (
+      (subst (λ found. IfSome found (IsStatement body at)) here (each at), here),
+      are_statements body (at + 1) statements each (λ i place is. there (suc i) place (omega (arith, is))),
+    )
 
 -- a program that is open
 abbrev Open : Draft → ℕ → List ℕ → List Stated → State
@@ -76,10 +74,10 @@ statements_read body draft first name said line at (s ∷ statements) lines outc
     (map words_text (map (statement_words body) statements) ++ lines) outcome (statement_line body at s named are.0.0)
     (ap (step_in_program draft (record { line = first; name = name; said = said }) line) (statement_read body at s named are.0.0))
     (statements_read body draft first name (said ++ stated ∷ []) (line + 1) (at + 1) statements lines outcome named are.1
-        (subst (λ n. Reads (Open draft first name ((said ++ stated ∷ []) ++ stated_as body (line + 1) statements)) n lines outcome)
-            (let same : line + length (s ∷ statements) ≡ line + 1 + length statements = omega arith in same)
-            (subst (λ all. Reads (Open draft first name all) (line + length (s ∷ statements)) lines outcome)
-                (sym (append_assoc said (stated ∷ []) (stated_as body (line + 1) statements))) rest)))
+    (subst (λ n. Reads (Open draft first name ((said ++ stated ∷ []) ++ stated_as body (line + 1) statements)) n lines outcome)
+    (let same : line + length (s ∷ statements) ≡ line + 1 + length statements = omega arith in same)
+    (subst (λ all. Reads (Open draft first name all) (line + length (s ∷ statements)) lines outcome)
+    (sym (append_assoc said (stated ∷ []) (stated_as body (line + 1) statements))) rest)))
 
 -- the places of labels
 
@@ -153,8 +151,7 @@ body_back places body line at (s ∷ statements) labels are =
     ap (λ said. before line said (body_from places (at + 1) (stated_as body (line + 1) statements))) (placed_back places body at s labels are.0.0 are.0.1)
     ∙ ap (before line (Ok s)) (body_back places body (line + 1) (at + 1) statements labels are.1)
 
--- a printed program is read as it was printed
-labels_named : (body : List Statement) → ((place : ℕ) → IfSome (slice_get body place) (IsStatement body place)) → AreNamed body
+pub labels_named : (body : List Statement) → ((place : ℕ) → IfSome (slice_get body place) (IsStatement body place)) → AreNamed body
 labels_named body each place is =
     let here = subst (λ found. IfSome found (IsStatement body place)) is.1 (each place) in
     ap (λ found. is_name (label_name found)) is.1 ∙ here.0
@@ -163,10 +160,11 @@ begins : (draft : Draft) (line : ℕ) (name : List ℕ) → length draft.program
     → step_at_top draft line (top.Begins name) ≡ Ok (Open draft line name [])
 begins draft line name room fresh =
     ap (λ b. with (within draft) (with (λ _. record { line = line; name = name; said = [] })
-        (if b then Err OutOfRange else if has_program name draft.programs then Err TwiceDefined else Ok tt)))
+    (if b then Err OutOfRange else if has_program name draft.programs then Err TwiceDefined else Ok tt)))
     (let is : (length draft.programs == 64) ≡ false = grind (arith, room) in is)
     ∙ ap (λ b. with (within draft) (with (λ _. record { line = line; name = name; said = [] }) (if b then Err TwiceDefined else Ok tt))) fresh
 
+-- a printed program is read as it was printed
 pub program_reads : (draft : Draft) (program : Program) (line : ℕ) (lines : List (List ℕ)) (outcome : Result Script ScriptFault) → IsProgram program
     → length draft.programs < 64 → has_program program.name draft.programs ≡ false
     → Reads (outside (with_program draft program.name program.body)) (line + length (program_lines program)) lines outcome
@@ -182,7 +180,7 @@ program_reads draft program line lines outcome is room fresh rest =
     let ended : Reads (Open draft line program.name said) last (words_text end ∷ lines) outcome =
     one_line (Open draft line program.name said) (outside (with_program draft program.name body)) last end lines outcome end_line
     (ap (closed draft program.name) (body_back (λ name. place_from 0 name said) body (line + 1) 0 body (labels_at body (line + 1) is.body) all))
-    (subst (λ n. Reads (outside (with_program draft program.name body)) n lines outcome) (counts body end) rest) in
+    (subst (λ n. Reads (outside (with_program draft program.name body)) n lines outcome) counts rest) in
     let stated : Reads (Open draft line program.name []) (line + 1) (texts ++ words_text end ∷ lines) outcome =
     statements_read body draft line program.name [] (line + 1) 0 body (words_text end ∷ lines) outcome named all ended in
     let joined : texts ++ words_text end ∷ lines ≡ map words_text (map (statement_words body) body ++ end ∷ []) ++ lines =
@@ -190,11 +188,12 @@ program_reads draft program line lines outcome is room fresh rest =
     one_line (outside draft) (Open draft line program.name []) line (Bare (codes "program") ∷ name_word program.name ∷ [])
     (map words_text (map (statement_words body) body ++ end ∷ []) ++ lines) outcome (program_line program.name is.name)
     (top_steps draft (Open draft line program.name []) line (Bare (codes "program") ∷ name_word program.name ∷ []) (top.Begins program.name)
-        (program_read program.name is.name) (begins draft line program.name room fresh))
+    (program_read program.name is.name) (begins draft line program.name room fresh))
     (subst (λ l. Reads (Open draft line program.name []) (line + 1) l outcome) joined stated)
   where
     many : (statements : List Statement) → length (map (statement_words program.body) statements) ≡ length statements
     many [] = refl
     many (s ∷ statements) = omega (arith, many statements)
-    counts : (body : List Statement) (end : List Word) → line + length (program_lines program) ≡ line + 1 + length program.body + 1
-    counts body end = omega (arith, many program.body, length-append (map (statement_words program.body) program.body) ((Bare (codes "end") ∷ []) ∷ []))
+
+    counts : line + length (program_lines program) ≡ line + 1 + length program.body + 1
+    counts = omega (arith, many program.body, length-append (map (statement_words program.body) program.body) ((Bare (codes "end") ∷ []) ∷ []))

@@ -1,14 +1,12 @@
 -- What a printed line says is what it was printed for.
-use Rattle.std.proofs.Common.{◌≡◌, ◌≢◌, ◌<◌, ◌≤◌, ◌+◌, ◌%◌, ◌^◌, ℕ, zero, suc, Bool, true, false, ◌==◌, List, [], ◌∷◌, ◌++◌, map, length, Option, None, Some, IfSome, IsSome, is_some, slice_get, Result, Ok, Err, refl, sym, ap, ◌∙◌, subst, arith}
-use Rattle.std.specs.Prelude.{⊤, not, ◌&&◌, nat_le, if◌then◌else◌, codes}
+use Rattle.std.proofs.Common.{◌≡◌, ◌<◌, ◌≤◌, ◌%◌, ◌^◌, ℕ, Bool, true, false, ◌==◌, List, [], ◌∷◌, ◌++◌, map, length, Option, None, Some, slice_get, Ok, Err, refl, sym, ap, ◌∙◌, subst, arith}
+use Rattle.std.specs.Prelude.{not, ◌&&◌, nat_le, if◌then◌else◌, codes}
 use Rattle.std.specs.List.{AllByRecursion}
 use Rattle.std.proofs.lemmas.Bool.{and_parts}
 use Rattle.kabi_types.specs.Words.{word_of, is_built}
 use Rattle.kabi_types.specs.declared.calls.CallKind.{CallKind}
 use Rattle.kabi_types.specs.declared.calls.CallKind.TheVariants as kind
-use Rattle.kabi_types.specs.declared.scripts.Chooser.{Chooser}
-use Rattle.kabi_types.specs.declared.scripts.Chooser.TheVariants.{Plain, Choices, Seed}
-use Rattle.kabi_types.specs.declared.scripts.FaultKind.{FaultKind}
+use Rattle.kabi_types.specs.declared.scripts.Chooser.TheVariants.{Choices, Seed}
 use Rattle.kabi_types.specs.declared.scripts.FaultKind.TheVariants.{UnknownWord, OutOfRange, NotBuilt}
 use Rattle.kabi_types.specs.declared.scripts.Operand.{Operand}
 use Rattle.kabi_types.specs.declared.scripts.Policy.{Policy}
@@ -17,7 +15,6 @@ use Rattle.kabi_types.specs.declared.scripts.Statement.{Statement}
 use Rattle.kabi_types.specs.declared.scripts.Statement.TheVariants as statement
 use Rattle.kabi_types.specs.declared.scripts.Test.{Test}
 use Rattle.kabi_types.specs.declared.scripts.Test.TheVariants.{Eq, Ne, Lt, Le}
-use Rattle.posix_defs.specs.declared.said.AtTop.{AtTop}
 use Rattle.posix_defs.specs.declared.said.AtTop.TheVariants as top
 use Rattle.posix_defs.specs.declared.said.InProgram.TheVariants as inside
 use Rattle.posix_defs.specs.declared.said.Setting.TheVariants as setting
@@ -27,8 +24,8 @@ use Rattle.posix_defs.specs.declared.said.Spoken.{Spoken}
 use Rattle.posix_defs.specs.declared.said.Spoken.TheVariants as spoken
 use Rattle.posix_defs.specs.declared.said.Word.{Word}
 use Rattle.posix_defs.specs.declared.said.Word.TheVariants.{Bare, Quoted}
-use Rattle.posix_defs.specs.ScriptValues.{both, with, ◌>>=◌, each, is_word, register, value, is_name, name, is_path, path, stored}
-use Rattle.posix_defs.specs.ScriptLines.{kind_said, shape_of, CallOperands, values_only, operands_said, at_most, if_built, call_of_kind, call_said, test_said, call_for_one, call_for_both, call_for_two, call_for, statement_said, said_in_program, natural, only, policy_said, choices_said, top_said, said_at_top}
+use Rattle.posix_defs.specs.ScriptValues.{both, with, ◌>>=◌, each, is_word, register, value, is_name, name, path, stored}
+use Rattle.posix_defs.specs.ScriptLines.{kind_said, shape_of, values_only, operands_said, at_most, if_built, call_of_kind, call_said, test_said, call_for_one, call_for_both, call_for_two, call_for, said_in_program, natural, choices_said, said_at_top}
 use Rattle.posix_defs.specs.Canonical.{number_word, name_word, register_word, operand_word, test_text, policy_text, label_name, label_word, operand_words, target_words, statement_words}
 use Rattle.posix_defs.specs.ValidScript.{IsRegister, IsOperand, IsBytes, IsPath, IsStored, IsValues, HasText, HasTwoPaths, IsPairs, Fits, AreTargets, IsLabel, IsStatement, IsChooser}
 use Rattle.script_parse.proofs.Holds.{all_append}
@@ -78,18 +75,18 @@ values_words : (count : ℕ) (values : List Operand) (texts : List (List ℕ)) �
 values_words count values texts all fits =
     subst (λ t. ReadsOperands (shape.Values count) values t) (sym fits.texts_are)
     (ap (λ words. if length words == count then with values_only (each value words) else Err UnknownWord) (append_none (map operand_word values))
-        ∙ ap (λ b. if b then with values_only (each value (map operand_word values)) else Err UnknownWord)
-        (let is : (length (map operand_word values) == count) ≡ true = grind (arith, many_words values, fits.values_are) in is)
-        ∙ ap (with values_only) (values_read values all))
+    ∙ ap (λ b. if b then with values_only (each value (map operand_word values)) else Err UnknownWord)
+    (let is : (length (map operand_word values) == count) ≡ true = grind (arith, many_words values, fits.values_are) in is)
+    ∙ ap (with values_only) (values_read values all))
 
 pairs_words : (values : List Operand) (texts : List (List ℕ)) → AllByRecursion IsOperand values → IsPairs values texts → ReadsOperands shape.Pairs values texts
 pairs_words values texts all fits =
     subst (λ t. ReadsOperands shape.Pairs values t) (sym fits.texts_are)
     (ap (λ words. if length words % 2 == 1 then with values_only (each value words >>= at_most 17) else Err UnknownWord) (append_none (map operand_word values))
-        ∙ ap (λ n. if n % 2 == 1 then with values_only (each value (map operand_word values) >>= at_most 17) else Err UnknownWord) (many_words values)
-        ∙ ap (λ n. if n == 1 then with values_only (each value (map operand_word values) >>= at_most 17) else Err UnknownWord) fits.pairs
-        ∙ ap (λ said. with values_only (said >>= at_most 17)) (values_read values all)
-        ∙ ap (λ b. with values_only (if b then Ok values else Err OutOfRange)) (let is : nat_le (length values) 17 ≡ true = grind (arith, fits.most) in is))
+    ∙ ap (λ n. if n % 2 == 1 then with values_only (each value (map operand_word values) >>= at_most 17) else Err UnknownWord) (many_words values)
+    ∙ ap (λ n. if n == 1 then with values_only (each value (map operand_word values) >>= at_most 17) else Err UnknownWord) fits.pairs
+    ∙ ap (λ said. with values_only (said >>= at_most 17)) (values_read values all)
+    ∙ ap (λ b. with values_only (if b then Ok values else Err OutOfRange)) (let is : nat_le (length values) 17 ≡ true = grind (arith, fits.most) in is))
 
 one_path_words : (values : List Operand) (texts : List (List ℕ)) → HasText IsPath 0 values texts → ReadsOperands shape.OnePath values texts
 one_path_words values texts fits =
@@ -100,8 +97,8 @@ two_paths_words : (values : List Operand) (texts : List (List ℕ)) → HasTwoPa
 two_paths_words values texts fits =
     subst (λ v. ReadsOperands shape.TwoPaths v texts) (sym fits.values_are)
     (subst (λ t. ReadsOperands shape.TwoPaths [] t) (sym fits.texts_are)
-        (ap (λ said. with (λ p. ([], p.0 ∷ p.1 ∷ [])) (both said (path (Quoted fits.new)))) (path_read fits.old fits.is_old)
-            ∙ ap (λ said. with (λ p. ([], p.0 ∷ p.1 ∷ [])) (both (Ok fits.old) said)) (path_read fits.new fits.is_new)))
+    (ap (λ said. with (λ p. ([], p.0 ∷ p.1 ∷ [])) (both said (path (Quoted fits.new)))) (path_read fits.old fits.is_old)
+    ∙ ap (λ said. with (λ p. ([], p.0 ∷ p.1 ∷ [])) (both (Ok fits.old) said)) (path_read fits.new fits.is_new)))
 
 -- a value and a text
 value_text_words : (of : Shape) (values : List Operand) (texts : List (List ℕ)) (is_text : List ℕ → Type 0) → HasText is_text 1 values texts → AllByRecursion IsOperand values
@@ -110,7 +107,7 @@ value_text_words of values texts is_text fits all one =
     let only_value = alone values fits.values_are in
     subst (λ v. ReadsOperands of v texts) (sym only_value.1)
     (subst (λ t. ReadsOperands of (only_value.0 ∷ []) t) (sym fits.texts_are)
-        (one only_value.0 fits.text (subst (AllByRecursion IsOperand) only_value.1 all).0 fits.fits))
+    (one only_value.0 fits.text (subst (AllByRecursion IsOperand) only_value.1 all).0 fits.fits))
 
 operands_read : (of : Shape) (values : List Operand) (texts : List (List ℕ)) → AllByRecursion IsOperand values → Fits of values texts → ReadsOperands of values texts
 operands_read (shape.Values count) values texts all fits = values_words count values texts all fits
@@ -119,16 +116,16 @@ operands_read shape.TwoPaths values texts all fits = two_paths_words values text
 operands_read shape.Pairs values texts all fits = pairs_words values texts all fits
 operands_read shape.PathValue values texts all fits =
     value_text_words shape.PathValue values texts IsPath fits all (λ operand text is_value is_text.
-        ap (λ said. with (λ p. (p.1 ∷ [], p.0 ∷ [])) (both said (value (operand_word operand)))) (path_read text is_text)
-        ∙ ap (λ said. with (λ p. (p.1 ∷ [], p.0 ∷ [])) (both (Ok text) said)) (operand_read operand is_value))
+    ap (λ said. with (λ p. (p.1 ∷ [], p.0 ∷ [])) (both said (value (operand_word operand)))) (path_read text is_text)
+    ∙ ap (λ said. with (λ p. (p.1 ∷ [], p.0 ∷ [])) (both (Ok text) said)) (operand_read operand is_value))
 operands_read shape.ValuePath values texts all fits =
     value_text_words shape.ValuePath values texts IsPath fits all (λ operand text is_value is_text.
-        ap (λ said. with (λ p. (p.0 ∷ [], p.1 ∷ [])) (both said (path (Quoted text)))) (operand_read operand is_value)
-        ∙ ap (λ said. with (λ p. (p.0 ∷ [], p.1 ∷ [])) (both (Ok operand) said)) (path_read text is_text))
+    ap (λ said. with (λ p. (p.0 ∷ [], p.1 ∷ [])) (both said (path (Quoted text)))) (operand_read operand is_value)
+    ∙ ap (λ said. with (λ p. (p.0 ∷ [], p.1 ∷ [])) (both (Ok operand) said)) (path_read text is_text))
 operands_read shape.ValueBytes values texts all fits =
     value_text_words shape.ValueBytes values texts IsStored fits all (λ operand text is_value is_text.
-        ap (λ said. with (λ p. (p.0 ∷ [], p.1 ∷ [])) (both said (stored (Quoted text)))) (operand_read operand is_value)
-        ∙ ap (λ said. with (λ p. (p.0 ∷ [], p.1 ∷ [])) (both (Ok operand) said)) (stored_read text is_text))
+    ap (λ said. with (λ p. (p.0 ∷ [], p.1 ∷ [])) (both said (stored (Quoted text)))) (operand_read operand is_value)
+    ∙ ap (λ said. with (λ p. (p.0 ∷ [], p.1 ∷ [])) (both (Ok operand) said)) (stored_read text is_text))
 
 -- a word that may begin a line, tested by computing
 abbrev pub is_first_word : List ℕ → Bool
@@ -142,9 +139,11 @@ first_printed (first ∷ word) is = plain_printed (first ∷ word) (and_parts (n
 first_line : (word : List ℕ) (words : List Word) → is_first_word word ≡ true → AllByRecursion IsPrinted words → IsLine (Bare word ∷ words)
 first_line [] words is all = absurd (let wrong : false ≡ true = is in cc)
 first_line (first ∷ word) words is all =
-    let parts = and_parts (not (first == 35)) (is_plain_word (first ∷ word)) is in
-    ((λ same. let yes : (first == 35) ≡ true = grind (arith, same) in
-            let wrong : false ≡ true = sym (ap not yes) ∙ parts.0 in cc), (plain_printed (first ∷ word) parts.1, all))
+    let parts = and_parts (not (first == 35)) (is_plain_word (first ∷ word)) is in (
+      (λ same. let yes : (first == 35) ≡ true = grind (arith, same) in
+          let wrong : false ≡ true = sym (ap not yes) ∙ parts.0 in cc),
+      (plain_printed (first ∷ word) parts.1, all),
+    )
 
 register_line : (r : ℕ) (words : List Word) → IsRegister r → AllByRecursion IsPrinted words → IsLine (register_word r ∷ words)
 register_line r words is all = ((λ same. omega (arith, same)), (register_printed r is, all))
@@ -377,7 +376,7 @@ invoke_read body call values texts None None built all fits targets =
     let words = operand_words (shape_of call) values texts in
     call_alone call words
     ∙ ap (with inside.Says) (call_for_plain (Bare (word_of call)) words
-        (operands_all (λ word. is_word (codes "=") word ≡ false) (shape_of call) values texts (values_no_equals values all) (texts_no_equals texts)))
+    (operands_all (λ word. is_word (codes "=") word ≡ false) (shape_of call) values texts (values_no_equals values all) (texts_no_equals texts)))
     ∙ ap (with inside.Says) (call_read None None call values texts built all fits)
 invoke_read body call values texts None (Some b) built all fits targets = absurd (let wrong : false ≡ true = targets.0 in cc)
 invoke_read body call values texts (Some a) None built all fits targets =

@@ -1,22 +1,19 @@
 -- What a printed word says is what it was printed for.
-use Rattle.std.proofs.Common.{inl, inr, ◌⊎◌, ◌≡◌, ◌≢◌, ◌<◌, ◌≤◌, ◌+◌, ◌-◌, ◌^◌, ℕ, zero, suc, ℤ, pos, negsuc, neg_ℤ, Bool, true, false, cond, not, ◌==◌, List, [], ◌∷◌, ◌++◌, length, Option, None, Some, Result, Ok, Err, refl, sym, ap, ◌∙◌, subst, arith}
-use Rattle.std.specs.Prelude.{⊤, ◌||◌, ◌&&◌, nat_le, int_le, unsigned_abs, option_map, if◌then◌else◌, codes, decimal}
-use Rattle.std.specs.List.{AllByRecursion, list_all, flat_map}
+use Rattle.std.proofs.Common.{◌≡◌, ◌≢◌, ◌<◌, ◌≤◌, ◌-◌, ◌^◌, ℕ, zero, suc, ℤ, pos, negsuc, neg_ℤ, Bool, true, false, cond, not, ◌==◌, List, [], ◌∷◌, ◌++◌, length, Option, None, Some, Ok, Err, refl, sym, ap, ◌∙◌, subst, arith}
+use Rattle.std.specs.Prelude.{◌||◌, ◌&&◌, nat_le, int_le, unsigned_abs, option_map, if◌then◌else◌, codes, decimal}
+use Rattle.std.specs.List.{AllByRecursion, list_all}
 use Rattle.std.specs.Fmt.{signed_decimal, digits}
 use Rattle.std.specs.Str.{all_ascii_digits, bytes_eq}
 use Rattle.std.specs.Str.Parse.{IsNumeral, digits_value, signed_digits_value, without_leading_plus}
-use Rattle.std.proofs.lemmas.Bool.{and_parts, or_parts}
-use Rattle.std.proofs.lemmas.Bool.Decides.{Decides-eqb}
+use Rattle.std.proofs.lemmas.Bool.{and_parts}
 use Rattle.std.proofs.lemmas.Fmt.{decimal_is_IsNumeral}
 use Rattle.std.proofs.lemmas.Str.Parse.{numerals_by_value, tells_all_ascii_digits, without_leading_plus_none}
-use Rattle.kabi_types.specs.declared.scripts.FaultKind.{FaultKind}
 use Rattle.kabi_types.specs.declared.scripts.FaultKind.TheVariants.{UnknownWord, OutOfRange}
 use Rattle.kabi_types.specs.declared.scripts.Operand.{Operand}
 use Rattle.kabi_types.specs.declared.scripts.Operand.TheVariants.{Reg, Number}
-use Rattle.posix_defs.specs.declared.said.Word.{Word}
-use Rattle.posix_defs.specs.declared.said.Word.TheVariants.{Bare, Quoted}
+use Rattle.posix_defs.specs.declared.said.Word.TheVariants.{Bare}
 use Rattle.posix_defs.specs.ScriptWords.{is_within}
-use Rattle.posix_defs.specs.ScriptValues.{with, ◌>>=◌, known, is_word, is_digit, is_letter, register_said, register, in_range, least_value, greatest_value, begins_number, is_digits, is_decimal, number_by, number_said, number, constants_said, number_or_constants, register_or, value, is_name_byte, is_name, name}
+use Rattle.posix_defs.specs.ScriptValues.{with, ◌>>=◌, known, is_word, is_digit, is_letter, register_said, register, in_range, least_value, greatest_value, begins_number, is_digits, is_decimal, number_by, number_said, constants_said, register_or, value, is_name_byte, is_name, name}
 use Rattle.posix_defs.specs.ScriptLines.{natural}
 use Rattle.posix_defs.specs.Canonical.{shown, shown_bytes, number_word, name_word, register_word, operand_word}
 use Rattle.posix_defs.specs.ValidScript.{IsRegister, IsOperand}
@@ -81,7 +78,7 @@ plain_value : (first : ℕ) (rest : List ℕ) → 48 ≤ first → first ≤ 57 
 plain_value first rest low high =
     let unsigned : (first == 45) ≡ false = grind (arith, low) in
     ap (λ b. cond b (neg_ℤ (pos (digits_value 10 (cond b rest (without_leading_plus (first ∷ rest))))))
-        (pos (digits_value 10 (cond b rest (without_leading_plus (first ∷ rest)))))) unsigned
+    (pos (digits_value 10 (cond b rest (without_leading_plus (first ∷ rest)))))) unsigned
     ∙ ap (λ w. pos (digits_value 10 w)) (without_leading_plus_none (first ∷ rest) (λ same. omega (arith, low, same)))
 
 plain_begins : (first : ℕ) (rest : List ℕ) → 48 ≤ first → first ≤ 57 → begins_number (first ∷ rest) ≡ true
@@ -123,7 +120,7 @@ natural_read low high n above below small =
     ap (λ said. with unsigned_abs (said >>= in_range (pos low) (pos high)))
     (signed_number (pos n) refl (let is : int_le (pos n) greatest_value ≡ true = grind (arith, below, small) in is))
     ∙ ap (with unsigned_abs) (ranged (pos low) (pos high) (pos n) (let is : int_le (pos low) (pos n) ≡ true = grind (arith, above) in is)
-        (let is : int_le (pos n) (pos high) ≡ true = grind (arith, below) in is))
+    (let is : int_le (pos n) (pos high) ≡ true = grind (arith, below) in is))
 
 -- registers
 
@@ -260,8 +257,8 @@ shown_itself byte ink quote slash =
     let P : List ℕ → Type 0 = λ l. l ≡ byte ∷ [] in
     when P (byte == 10) _ _ (λ is. absurd (let same : byte ≡ 10 = grind (arith, is) in omega (arith, same, ink.0)))
     (λ _. when P (byte == 34 || byte == 92) _ _ (λ is. absurd (none (byte == 34) (byte == 92) refl refl is))
-        (λ _. when P (is_within 32 126 byte) _ _ (λ _. refl)
-            (λ out. absurd (let within : is_within 32 126 byte ≡ true = grind (arith, ink.0, ink.1) in let bad : false ≡ true = sym out ∙ within in cc))))
+    (λ _. when P (is_within 32 126 byte) _ _ (λ _. refl)
+    (λ out. absurd (let within : is_within 32 126 byte ≡ true = grind (arith, ink.0, ink.1) in let bad : false ≡ true = sym out ∙ within in cc))))
   where
     none : (a b : Bool) → (byte == 34) ≡ a → (byte == 92) ≡ b → (a || b) ≡ true → ⊥
     none true b is_a is_b some = quote (grind (arith, is_a))

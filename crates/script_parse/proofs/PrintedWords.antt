@@ -1,20 +1,20 @@
 -- The words of a printed line, and the lines of a printed text, are read as they were printed.
-use Rattle.std.proofs.Common.{inl, inr, ◌⊎◌, ◌≡◌, ◌≢◌, ◌<◌, ◌≤◌, ◌+◌, ◌*◌, ◌-◌, ◌/◌, ◌%◌, ℕ, zero, suc, Bool, true, false, ◌==◌, List, [], ◌∷◌, ◌++◌, map, Option, None, Some, Result, Ok, Err, refl, sym, ap, ◌∙◌, subst, arith}
-use Rattle.std.specs.Prelude.{⊤, ◌||◌, nat_lt, if◌then◌else◌}
-use Rattle.std.specs.List.{All, AllByRecursion, flat_map, slice_split}
+use Rattle.std.proofs.Common.{inl, inr, ◌⊎◌, ◌≡◌, ◌≢◌, ◌<◌, ◌≤◌, ◌+◌, ◌*◌, ◌-◌, ◌/◌, ◌%◌, ℕ, Bool, true, false, ◌==◌, List, [], ◌∷◌, ◌++◌, map, None, Some, Ok, refl, sym, ap, ◌∙◌, subst, arith}
+use Rattle.std.specs.Prelude.{◌||◌, nat_lt, if◌then◌else◌}
+use Rattle.std.specs.List.{AllByRecursion, flat_map, slice_split}
 use Rattle.std.specs.Fmt.{digits, digit_glyph}
 use Rattle.std.specs.Str.{IsUtf8}
 use Rattle.std.proofs.lemmas.Bool.{or_parts, ne_eqb}
 use Rattle.std.proofs.lemmas.Fmt.{hex_one_digit}
 use Rattle.std.proofs.lemmas.List.{append_assoc}
-use Rattle.std.proofs.lemmas.List.Elements.{All-cons, All-nil, All-from_recursion}
+use Rattle.std.proofs.lemmas.List.Elements.{All-from_recursion}
 use Rattle.std.proofs.lemmas.List.Splits.{slice_split_at}
 use Rattle.std.proofs.lemmas.Str.{IsUtf8-from_ascii}
 use Rattle.std.proofs.lemmas.Str.Ascii.{IsAscii-from_all}
 use Rattle.posix_defs.specs.declared.said.Word.{Word}
 use Rattle.posix_defs.specs.declared.said.Word.TheVariants.{Bare, Quoted}
-use Rattle.posix_defs.specs.Lines.{newline, blank, hex_byte}
-use Rattle.posix_defs.specs.ScriptWords.{is_blank, is_within, ends_word, hex_value, hex_number, gives, hex_piece, escape_piece, piece, SaysText, closed, holds, with_byte, Words, nothing, blank as behind_blank, bare, quoted, is_comment, LineWords, spelled}
+use Rattle.posix_defs.specs.Lines.{newline, hex_byte}
+use Rattle.posix_defs.specs.ScriptWords.{is_blank, is_within, ends_word, hex_value, hex_number, gives, hex_piece, escape_piece, piece, SaysText, closed, holds, Words, nothing, blank as behind_blank, bare, quoted, is_comment, LineWords, spelled}
 use Rattle.posix_defs.specs.Canonical.{escape, shown, shown_bytes, word_text, further_words, words_text, line_text}
 use Rattle.posix_defs.specs.ValidScript.{IsBytes}
 use Rattle.script_parse.proofs.Holds.{when, within_le, all_append}
@@ -30,16 +30,16 @@ hex_glyph : (n : ℕ) → n < 16 → hex_value (digit_glyph false n) ≡ Some n
 hex_glyph n small =
     when (λ glyph. hex_value glyph ≡ Some n) (nat_lt n 10) (48 + n) (87 + n)
     (λ low. let few : n < 10 = grind (arith, low) in
-        ap (λ b. if b then Some (48 + n - 48) else if is_within 65 70 (48 + n) then Some (48 + n - 55) else if is_within 97 102 (48 + n) then Some (48 + n - 87) else None)
-        (let is : is_within 48 57 (48 + n) ≡ true = grind (arith, few) in is)
-        ∙ ap Some (let is : 48 + n - 48 ≡ n = omega arith in is))
+    ap (λ b. if b then Some (48 + n - 48) else if is_within 65 70 (48 + n) then Some (48 + n - 55) else if is_within 97 102 (48 + n) then Some (48 + n - 87) else None)
+    (let is : is_within 48 57 (48 + n) ≡ true = grind (arith, few) in is)
+    ∙ ap Some (let is : 48 + n - 48 ≡ n = omega arith in is))
     (λ high. let many : 10 ≤ n = grind (arith, high) in
-        ap (λ b. if b then Some (87 + n - 48) else if is_within 65 70 (87 + n) then Some (87 + n - 55) else if is_within 97 102 (87 + n) then Some (87 + n - 87) else None)
-        (let is : is_within 48 57 (87 + n) ≡ false = grind (arith, many) in is)
-        ∙ ap (λ b. if b then Some (87 + n - 55) else if is_within 97 102 (87 + n) then Some (87 + n - 87) else None)
-        (let is : is_within 65 70 (87 + n) ≡ false = grind (arith, many) in is)
-        ∙ ap (λ b. if b then Some (87 + n - 87) else None) (let is : is_within 97 102 (87 + n) ≡ true = grind (arith, many, small) in is)
-        ∙ ap Some (let is : 87 + n - 87 ≡ n = omega arith in is))
+    ap (λ b. if b then Some (87 + n - 48) else if is_within 65 70 (87 + n) then Some (87 + n - 55) else if is_within 97 102 (87 + n) then Some (87 + n - 87) else None)
+    (let is : is_within 48 57 (87 + n) ≡ false = grind (arith, many) in is)
+    ∙ ap (λ b. if b then Some (87 + n - 55) else if is_within 97 102 (87 + n) then Some (87 + n - 87) else None)
+    (let is : is_within 65 70 (87 + n) ≡ false = grind (arith, many) in is)
+    ∙ ap (λ b. if b then Some (87 + n - 87) else None) (let is : is_within 97 102 (87 + n) ≡ true = grind (arith, many, small) in is)
+    ∙ ap Some (let is : 87 + n - 87 ≡ n = omega arith in is))
 
 -- an escape of two digits is read as its byte
 hex_read : (byte : ℕ) (tail : List ℕ) → byte < 256 → hex_piece (hex_byte byte ++ tail) ≡ Some (Some byte, tail)
@@ -56,15 +56,15 @@ piece_shown byte tail small =
     let P : List ℕ → Type 0 = λ l. piece (l ++ tail) ≡ Some (Some byte, tail) in
     when P (byte == 10) _ _ (λ is. ap (λ b. Some (Some b, tail)) (let same : 10 ≡ byte = grind (arith, is) in same))
     (λ _. when P (byte == 34 || byte == 92) _ _
-        (λ is. elim (one_of byte (byte == 34) (byte == 92) refl refl is) [
-            | inl quote ↦ subst (λ b. piece (escape b ++ tail) ≡ Some (Some b, tail)) (sym quote) refl
-            | inr slash ↦ subst (λ b. piece (escape b ++ tail) ≡ Some (Some b, tail)) (sym slash) refl
-          ])
-        (λ plain. let parts = or_parts (byte == 34) (byte == 92) plain in
-            when P (is_within 32 126 byte) _ _
-            (λ _. ap (λ b. if b then Some (None, tail) else if byte == 92 then escape_piece tail else Some (Some byte, tail)) parts.0
-                ∙ ap (λ b. if b then escape_piece tail else Some (Some byte, tail)) parts.1)
-            (λ _. hex_read byte tail small)))
+    (λ is. elim (one_of byte (byte == 34) (byte == 92) refl refl is) [
+      | inl quote ↦ subst (λ b. piece (escape b ++ tail) ≡ Some (Some b, tail)) (sym quote) refl
+      | inr slash ↦ subst (λ b. piece (escape b ++ tail) ≡ Some (Some b, tail)) (sym slash) refl
+    ])
+    (λ plain. let parts = or_parts (byte == 34) (byte == 92) plain in
+    when P (is_within 32 126 byte) _ _
+    (λ _. ap (λ b. if b then Some (None, tail) else if byte == 92 then escape_piece tail else Some (Some byte, tail)) parts.0
+    ∙ ap (λ b. if b then escape_piece tail else Some (Some byte, tail)) parts.1)
+    (λ _. hex_read byte tail small)))
 
 text_read : (text rest : List ℕ) → IsBytes text → SaysText (shown_bytes text ++ 34 ∷ rest) (Some (text, rest))
 text_read [] rest all = closed (34 ∷ rest) rest refl
@@ -129,15 +129,20 @@ shown_plain byte small =
     let P : List ℕ → Type 0 = λ l. AllByRecursion IsPlain l in
     when P (byte == 10) _ _ (λ _. ((omega arith, omega arith), ((omega arith, omega arith), tt)))
     (λ _. when P (byte == 34 || byte == 92) _ _
-        (λ is. elim (one_of byte (byte == 34) (byte == 92) refl refl is) [
-            | inl quote ↦ ((omega arith, omega arith), ((omega (arith, quote), omega (arith, quote)), tt))
-            | inr slash ↦ ((omega arith, omega arith), ((omega (arith, slash), omega (arith, slash)), tt))
-          ])
-        (λ _. when P (is_within 32 126 byte) _ _ (λ is. (within_le 32 126 byte is, tt))
-            (λ _. ((omega arith, omega arith), ((omega arith, omega arith),
-                    subst P (sym (ap (λ l. l ++ digits 16 false (byte % 16)) (hex_one_digit false (byte / 16) (omega (arith, small)))
-                            ∙ ap (λ l. digit_glyph false (byte / 16) ∷ l) (hex_one_digit false (byte % 16) (omega arith))))
-                    (glyph_plain (byte / 16) (omega (arith, small)), (glyph_plain (byte % 16) (omega arith), tt)))))))
+    (λ is. elim (one_of byte (byte == 34) (byte == 92) refl refl is) [
+      | inl quote ↦ ((omega arith, omega arith), ((omega (arith, quote), omega (arith, quote)), tt))
+      | inr slash ↦ ((omega arith, omega arith), ((omega (arith, slash), omega (arith, slash)), tt))
+    ])
+    (λ _. when P (is_within 32 126 byte) _ _ (λ is. (within_le 32 126 byte is, tt))
+    (λ _. (
+      (omega arith, omega arith),
+      (
+        (omega arith, omega arith),
+        subst P (sym (ap (λ l. l ++ digits 16 false (byte % 16)) (hex_one_digit false (byte / 16) (omega (arith, small)))
+            ∙ ap (λ l. digit_glyph false (byte / 16) ∷ l) (hex_one_digit false (byte % 16) (omega arith))))
+            (glyph_plain (byte / 16) (omega (arith, small)), (glyph_plain (byte % 16) (omega arith), tt)),
+      ),
+    ))))
 
 shown_all_plain : (text : List ℕ) → IsBytes text → AllByRecursion IsPlain (shown_bytes text)
 shown_all_plain [] all = tt

@@ -1,8 +1,9 @@
 //! Laws of the language of scripts. Each is the contract of a function that does nothing.
 
-ghost use Rattle.std.specs.Prelude.{◌≡◌, ℕ, List, Result, Ok, Err};
+ghost use Rattle.std.specs.Prelude.{◌≡◌, ◌≤◌, ℕ, List, length, Result, Ok, Err};
 ghost use Rattle.kabi_types.specs.declared.scripts.Script.{Script};
 ghost use Rattle.kabi_types.specs.declared.scripts.ScriptFault.{ScriptFault};
+ghost use Rattle.posix_defs.specs.Canonical.{canonical};
 ghost use Rattle.posix_defs.specs.ValidScript.{IsValid};
 ghost use Rattle.script_parse.specs.Drafting.{ReadsText};
 
@@ -19,4 +20,15 @@ pub fn every_text_reads_or_has_a_fault()
 /// Every script that a text says keeps what scripts promise: its numbers are in their ranges, and its jumps go to labels.
 pub fn what_reads_is_valid()
     ensures { (text : List ℕ) (script : Script) → ReadsText text (Ok script) → IsValid script }
+{}
+
+/// The canonical text of a script reads as that script, where it isn't too long for a script.
+pub fn canonical_text_reads_as_its_script()
+    ensures { (script : Script) → IsValid script → length (canonical script) ≤ 1048576 → ReadsText (canonical script) (Ok script) }
+{}
+
+/// A script that was read, printed and read again is the same script, so that it is printed the same.
+pub fn printing_again_is_the_same()
+    ensures { (text : List ℕ) (script again : Script) → ReadsText text (Ok script) → length (canonical script) ≤ 1048576
+        → ReadsText (canonical script) (Ok again) → (again ≡ script) × (canonical again ≡ canonical script) }
 {}
