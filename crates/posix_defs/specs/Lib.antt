@@ -23,7 +23,6 @@ pub mod Victim
 pub mod History
 pub mod Lines
 pub use Rattle.kabi_types.specs.Words
-pub mod SmallScript
 pub mod Tree
 pub mod FirstScript
 pub mod DiskFormat
@@ -35,3 +34,4 @@ pub mod ScriptValues
 pub mod ScriptLines
 pub mod ScriptPlaces
 pub mod ScriptText
+pub mod ValidScript
