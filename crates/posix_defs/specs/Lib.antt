@@ -16,6 +16,7 @@ pub mod Turn
 pub mod CoreState
 pub mod CoreEvent
 pub mod Ends
+pub mod Generator
 pub mod Choice
 pub mod CoreRun
 pub mod Victim
