@@ -1,6 +1,10 @@
+pub mod Bodies
 pub mod Faults
+pub mod FirstFaults
 pub mod Fronts
 pub mod Joined
+pub mod LineFaults
+pub mod LinePlaces
 pub mod Lines
 pub mod Numbers
 pub mod OneReading
