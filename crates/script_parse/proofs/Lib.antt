@@ -1,6 +1,7 @@
 pub mod Bodies
 pub mod Faults
 pub mod FirstFaults
+pub mod FirstParts
 pub mod Fronts
 pub mod Joined
 pub mod LineFaults
@@ -8,4 +9,7 @@ pub mod LinePlaces
 pub mod Lines
 pub mod Numbers
 pub mod OneReading
+pub mod PartFaults
 pub mod Placing
+pub mod TextMeaning
+pub mod TextParts

@@ -239,10 +239,10 @@ line_by false remark line = Err NotUtf8
 line_by true true line = Ok []
 line_by true false line = words_or_fault (words_read (length line + 1) line)
 
-abbrev line_read : List ℕ → Result (List Word) FaultKind
+abbrev pub line_read : List ℕ → Result (List Word) FaultKind
 line_read line = line_by (is_utf8 line) (is_comment line) line
 
-line_is : (line : List ℕ) (said : Result (List Word) FaultKind) → LineWords line said → line_read line ≡ said
+pub line_is : (line : List ℕ) (said : Result (List Word) FaultKind) → LineWords line said → line_read line ≡ said
 line_is _ _ (not_utf8 line none) = ap (λ b. line_by b (is_comment line) line) (false_from_ne_true (is_utf8 line) (λ yes. none (IsUtf8-from_is_utf8 line yes)))
 line_is _ _ (comment line utf8 is) = ap (λ b. line_by b (is_comment line) line) (is_utf8-from_IsUtf8 line utf8) ∙ ap (λ b. line_by true b line) is
 line_is _ _ (spelled line words utf8 is says) =
@@ -263,15 +263,15 @@ line_by_has line true true is_text is_remark = comment line (IsUtf8-from_is_utf8
 line_by_has line true false is_text is_remark =
     line_spelled line (words_read (length line + 1) line) (IsUtf8-from_is_utf8 line is_text) is_remark (words_have (length line + 1) line (omega arith))
 
-line_has : (line : List ℕ) → LineWords line (line_read line)
+pub line_has : (line : List ℕ) → LineWords line (line_read line)
 line_has line = line_by_has line (is_utf8 line) (is_comment line) refl refl
 
 -- lines, as a function reads them
-abbrev lines_step : (State → Result Script ScriptFault) → Result State ScriptFault → Result Script ScriptFault
+abbrev pub lines_step : (State → Result Script ScriptFault) → Result State ScriptFault → Result Script ScriptFault
 lines_step more (Ok next) = more next
 lines_step more (Err fault) = Err fault
 
-abbrev lines_read : State → ℕ → List (List ℕ) → Result Script ScriptFault
+abbrev pub lines_read : State → ℕ → List (List ℕ) → Result Script ScriptFault
 lines_read state line [] = finish state
 lines_read state line (first ∷ lines) = lines_step (λ next. lines_read next (line + 1) lines) (step state line (line_read first))
 

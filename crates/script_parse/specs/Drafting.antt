@@ -23,6 +23,7 @@ use Rattle.posix_defs.specs.declared.said.Word.{Word}
 use Rattle.posix_defs.specs.ScriptWords.{LineWords}
 use Rattle.posix_defs.specs.ScriptValues.{with, ◌>>=◌}
 use Rattle.posix_defs.specs.ScriptLines.{said_at_top, said_in_program}
+use Rattle.posix_defs.specs.ScriptMeaning.{or_default}
 use Rattle.script_parse.specs.LabelPlaces.{body_of}
 
 -- the most bytes that a script may have, and the most programs
@@ -127,10 +128,6 @@ step_from draft (Some opened) line words = step_in_program draft opened line (wo
 -- what a line adds
 abbrev pub step : State → ℕ → Result (List Word) FaultKind → Result State ScriptFault
 step state line words = step_from state.draft state.opened line words
-
-abbrev pub or_default : {A : Type 0} → A → Option A → A
-or_default default None = default
-or_default default (Some a) = a
 
 abbrev pub script_of : Draft → Script
 script_of draft = record {
