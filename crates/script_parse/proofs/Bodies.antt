@@ -1,9 +1,9 @@
 -- The statements of a program's lines, or the first line that is at fault, as the reader finds them.
-use Rattle.std.proofs.Common.{◌≡◌, ℕ, suc, ◌+◌, ◌<◌, ◌≤◌, Bool, true, false, List, [], ◌∷◌, ◌++◌, length, map, Option, None, Some, Result, Ok, Err, refl, sym, ap, ◌∙◌, subst, append_assoc, append-nil, arith}
-use Rattle.std.specs.Prelude.{nat_lt, ◌==◌, if◌then◌else◌, is_some, unwrap_or}
+use Rattle.std.proofs.Common.{◌≡◌, ℕ, ◌+◌, ◌<◌, Bool, true, false, List, [], ◌∷◌, ◌++◌, length, map, Option, None, Some, Result, Ok, Err, refl, sym, ap, ◌∙◌, subst, append_assoc, append-nil, arith}
+use Rattle.std.specs.Prelude.{nat_lt, ◌==◌, if◌then◌else◌}
 use Rattle.std.proofs.lemmas.List.{length-append}
 use Rattle.kabi_types.specs.declared.scripts.FaultKind.{FaultKind}
-use Rattle.kabi_types.specs.declared.scripts.FaultKind.TheVariants.{NoSuchLabel, WrongWay, TwiceDefined}
+use Rattle.kabi_types.specs.declared.scripts.FaultKind.TheVariants.{WrongWay, TwiceDefined}
 use Rattle.kabi_types.specs.declared.scripts.ScriptFault.{ScriptFault}
 use Rattle.kabi_types.specs.declared.scripts.Statement.{Statement}
 use Rattle.kabi_types.specs.declared.scripts.Statement.TheVariants as statement
@@ -14,9 +14,9 @@ use Rattle.posix_defs.specs.declared.said.Spoken.TheVariants as spoken
 use Rattle.posix_defs.specs.declared.said.Stated.{Stated}
 use Rattle.posix_defs.specs.ScriptValues.{with}
 use Rattle.posix_defs.specs.ScriptParts.{Line, inside_of}
-use Rattle.posix_defs.specs.ScriptMeaning.{before as in_front, or_next, spoken_in, spoken_of, is_named, label_of, place_of, statement_of, body_of}
-use Rattle.posix_defs.specs.ScriptFaults.{has_label, jump_of, loop_of}
-use Rattle.script_parse.specs.LabelPlaces.{names, place_from, later, earlier, first_label, placed, placed_in, before, body_from}
+use Rattle.posix_defs.specs.ScriptMeaning.{before as in_front, or_next, spoken_in, spoken_of, is_named, label_of, place_of, statement_of}
+use Rattle.posix_defs.specs.ScriptFaults.{has_label}
+use Rattle.script_parse.specs.LabelPlaces.{place_from, later, earlier, first_label, placed, before, body_from}
 use Rattle.script_parse.proofs.LineFaults.{jump_fault, loop_fault, label_fault, spoken_fault, inside_fault, line_fault}
 use Rattle.script_parse.proofs.LinePlaces.{stated_by, stated_of, stated_append, names_is, passes, found_in}
 
@@ -59,12 +59,13 @@ places_below : (above lines whole : List Line) (number : ℕ) (said : Spoken) (n
     → is_named name (label_of said) ≡ false → has_label name above ≡ false → has_label name lines ≡ true
     → (p : ℕ) × (places_in whole name ≡ Some p) × (at_place above < p)
 places_below above lines whole number said name here other none is =
-    let found = found_in name lines [] is (at_place above + 1) in
-    (found.place,
+    let found = found_in name lines [] is (at_place above + 1) in (
+      found.place,
       (past_above above lines whole number said name here none
-      ∙ ap (λ b. if b then Some (at_place above) else place_from (at_place above + 1) name (stated_of lines)) other
-      ∙ ap (place_from (at_place above + 1) name) (sym (append-nil (stated_of lines))) ∙ found.is),
-      omega (arith, found.least))
+          ∙ ap (λ b. if b then Some (at_place above) else place_from (at_place above + 1) name (stated_of lines)) other
+          ∙ ap (place_from (at_place above + 1) name) (sym (append-nil (stated_of lines))) ∙ found.is),
+      omega (arith, found.least),
+    )
 
 places_nowhere : (above lines whole : List Line) (number : ℕ) (said : Spoken) (name : List ℕ) → Here above number said lines whole
     → is_named name (label_of said) ≡ false → has_label name above ≡ false → has_label name lines ≡ false → places_in whole name ≡ None
@@ -146,10 +147,11 @@ label_read above lines whole number name false here same is_up =
     let here_it_is : places_in whole name ≡ Some at =
     past_above above lines whole number (spoken.Label name) name here is_up
     ∙ ap (λ b. if b then Some at else place_from (at + 1) name (stated_of lines)) same in
-    let is_it : (at == at) ≡ true = grind arith in
-    (statement.Label name,
+    let is_it : (at == at) ≡ true = grind arith in (
+      statement.Label name,
       ap (first_label at name) here_it_is ∙ ap (λ b. if b then Ok (statement.Label name) else Err TwiceDefined) is_it,
-      λ agrees. refl)
+      λ agrees. refl,
+    )
 
 pub said_read : (same : (name : List ℕ) → is_named name (Some name) ≡ true) (above lines whole : List Line) (number : ℕ) (said : Spoken) → Here above number said lines whole
     → IsRead (spoken_fault above lines said) whole said (placed (places_in whole) (at_place above) said)
@@ -188,10 +190,12 @@ reads_on : (whole lines : List Line) (line : Line) (said : Spoken) (rest : Optio
     → Reads whole (line ∷ lines) rest (before line.number answer more)
 reads_on whole lines line said (Some fault) answer more says read is =
     ap (λ a. before line.number a more) read.1 ∙ ap (before line.number (Ok read.0)) is
-reads_on whole lines line said None answer more says read is =
-    (read.0 ∷ is.0, ap (λ a. before line.number a more) read.1 ∙ ap (before line.number (Ok read.0)) is.1,
-      λ agrees. ap (λ s. s ∷ is.0) (read.2 agrees) ∙ ap (λ b. statement_of (spoken_of whole) said ∷ b) (is.2 agrees)
-      ∙ ap (map (statement_of (spoken_of whole))) (sym says))
+reads_on whole lines line said None answer more says read is = (
+  read.0 ∷ is.0,
+  ap (λ a. before line.number a more) read.1 ∙ ap (before line.number (Ok read.0)) is.1,
+  λ agrees. ap (λ s. s ∷ is.0) (read.2 agrees) ∙ ap (λ b. statement_of (spoken_of whole) said ∷ b) (is.2 agrees)
+      ∙ ap (map (statement_of (spoken_of whole))) (sym says),
+)
 
 -- the reader's answer to lines behind others, of a program of all these lines
 abbrev pub answer_to : List Line → List Line → List Line → Result (List Statement) ScriptFault
@@ -208,7 +212,7 @@ said_reads : (same : (name : List ℕ) → is_named name (Some name) ≡ true) (
     → inside_of line ≡ Ok (inside.Says said) → spoken_fault above lines said ≡ found → whole ≡ above ++ line ∷ lines
     → Reads whole lines (wrong_in (above ++ line ∷ []) lines) (answer_to whole (above ++ line ∷ []) lines)
     → Reads whole (line ∷ lines) (or_next (fault_on line found) (wrong_in (above ++ line ∷ []) lines))
-      (answer_by whole (at_place above) (Some (record { line = line.number; said = Ok said })) lines)
+    (answer_by whole (at_place above) (Some (record { line = line.number; said = Ok said })) lines)
 said_reads same whole above lines line said (Some kind) says is whole_is more =
     let here : stated_of whole ≡ stated_of above ++ record { line = line.number; said = Ok said } ∷ stated_of lines =
     ap stated_of whole_is ∙ stated_append above (line ∷ lines) ∙ ap (λ t. stated_of above ++ in_front (stated_by line.number t) (stated_of lines)) says in
@@ -245,7 +249,7 @@ line_reads : (same : (name : List ℕ) → is_named name (Some name) ≡ true) (
     → inside_of line ≡ told → whole ≡ above ++ line ∷ lines
     → Reads whole lines (wrong_in (above ++ line ∷ []) lines) (answer_to whole (above ++ line ∷ []) lines)
     → Reads whole (line ∷ lines) (or_next (fault_on line (inside_fault above lines told)) (wrong_in (above ++ line ∷ []) lines))
-      (answer_by whole (at_place above) (stated_by line.number told) lines)
+    (answer_by whole (at_place above) (stated_by line.number told) lines)
 line_reads same whole above lines line (Err kind) is whole_is more = refl
 line_reads same whole above lines line (Ok inside.Silent) is whole_is more =
     silent_reads whole above lines line (ap (stated_by line.number) is) (ap spoken_in is) more

@@ -1,7 +1,6 @@
 -- The first line of a program that is at fault: no line above it is, and every other fault is told after its own.
-use Rattle.std.proofs.Common.{◌≡◌, ℕ, suc, ◌+◌, ◌<◌, ◌≤◌, Bool, true, false, List, [], ◌∷◌, ◌++◌, length, Option, None, Some, Result, Ok, Err, refl, sym, ap, ◌∙◌, subst, append_assoc, append-nil, arith, inl, inr}
+use Rattle.std.proofs.Common.{◌≡◌, ℕ, ◌+◌, ◌≤◌, Bool, true, false, List, [], ◌∷◌, ◌++◌, Option, None, Some, Result, Ok, Err, refl, sym, ap, ◌∙◌, subst, append_assoc, append-nil, arith, inl, inr}
 use Rattle.std.specs.Prelude.{⊤, if◌then◌else◌, is_some, unwrap_or}
-use Rattle.std.specs.Str.{bytes_eq}
 use Rattle.std.proofs.lemmas.Slice.Eq.{bytes_eq-Decides}
 use Rattle.kabi_types.specs.declared.scripts.FaultKind.{FaultKind}
 use Rattle.kabi_types.specs.declared.scripts.ScriptFault.{ScriptFault}
@@ -14,7 +13,7 @@ use Rattle.posix_defs.specs.ScriptMeaning.{before as in_front, or_next, spoken_i
 use Rattle.posix_defs.specs.ScriptFaults.{IsToldBefore, LineFault}
 use Rattle.script_parse.specs.LabelPlaces.{place_from}
 use Rattle.script_parse.specs.LabelPlaces as reader
-use Rattle.script_parse.proofs.LineFaults.{spoken_fault, inside_fault, line_fault, fault_is, fault_has}
+use Rattle.script_parse.proofs.LineFaults.{spoken_fault, inside_fault, line_fault, fault_has}
 use Rattle.script_parse.proofs.LinePlaces.{stated_by, stated_of, names_is}
 use Rattle.script_parse.proofs.Bodies.{fault_on, wrong_in, Agrees, lines_read, Reads}
 
@@ -129,7 +128,7 @@ first_at above [] line back fault kind n is from wrong =
 first_at above (first ∷ front) line back fault kind n is from wrong =
     told_later fault first above front line back kind n (line_fault above first (front ++ line ∷ back)) is from.0 (from_least (n + 1) front line back from.1)
     (λ on. first_at (above ++ first ∷ []) front line back fault kind (n + 1) on from.1
-      (ap (λ a. line_fault a line back) (append_assoc above (first ∷ []) front) ∙ wrong))
+    (ap (λ a. line_fault a line back) (append_assoc above (first ∷ []) front) ∙ wrong))
 
 -- A line among these has the fault.
 pub record IsThere (above below : List Line) (fault : ScriptFault) : Type 0 where
@@ -160,7 +159,7 @@ there_by above line lines fault (Some kind) found is more =
       lines_are = refl;
       number = ap (λ f. f.line) fault_is_it;
       wrong = subst (λ a. LineFault a line lines fault.what) (sym (append-nil above))
-      (subst (LineFault above line lines) (ap (λ f. f.what) fault_is_it) (fault_has above line lines kind found));
+          (subst (LineFault above line lines) (ap (λ f. f.what) fault_is_it) (fault_has above line lines kind found));
     }
 
 -- the first fault is one

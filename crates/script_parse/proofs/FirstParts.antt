@@ -1,20 +1,17 @@
 -- The first part of a text that is at fault: every other fault of the text is told after its own.
-use Rattle.std.proofs.Common.{◌≡◌, ℕ, suc, ◌+◌, ◌<◌, ◌≤◌, Bool, true, false, List, [], ◌∷◌, ◌++◌, length, Option, None, Some, Result, Ok, Err, refl, sym, ap, ◌∙◌, subst, append_assoc, append-nil, arith, inl, inr}
-use Rattle.std.specs.Prelude.{⊤, nat_le, if◌then◌else◌, is_some, unwrap_or}
+use Rattle.std.proofs.Common.{◌≡◌, ℕ, ◌+◌, ◌<◌, ◌≤◌, Bool, true, false, List, [], ◌∷◌, ◌++◌, Option, None, Some, refl, sym, ap, ◌∙◌, subst, append_assoc, append-nil, arith, inl, inr}
+use Rattle.std.specs.Prelude.{nat_le, if◌then◌else◌, is_some}
 use Rattle.kabi_types.specs.declared.scripts.FaultKind.{FaultKind}
 use Rattle.kabi_types.specs.declared.scripts.FaultKind.TheVariants.{OutOfRange, TwiceDefined, Unended}
 use Rattle.kabi_types.specs.declared.scripts.ScriptFault.{ScriptFault}
-use Rattle.posix_defs.specs.declared.said.AtTop.TheVariants as top
-use Rattle.posix_defs.specs.declared.said.Setting.{Setting}
 use Rattle.posix_defs.specs.ScriptValues.{rank}
-use Rattle.posix_defs.specs.ScriptParts.{Line, top_of, Part, Alone, Program}
-use Rattle.posix_defs.specs.ScriptMeaning.{or_next, settings_of}
-use Rattle.posix_defs.specs.ScriptFaults.{most_programs, how_many, has_program, is_set_in, HasFault, IsToldBefore, LineFault, PartFault, unsaid, set_twice, one_too_many, named_twice, unended, within}
+use Rattle.posix_defs.specs.ScriptParts.{Line, Part}
+use Rattle.posix_defs.specs.ScriptMeaning.{or_next}
+use Rattle.posix_defs.specs.ScriptFaults.{most_programs, how_many, has_program, HasFault, IsToldBefore, LineFault, PartFault, unsaid, set_twice, one_too_many, named_twice, unended, within}
 use Rattle.posix_defs.specs.ScriptText.{IsClean}
 use Rattle.script_parse.proofs.LineFaults.{fault_is}
-use Rattle.script_parse.proofs.Bodies.{wrong_in}
 use Rattle.script_parse.proofs.FirstFaults.{From, from_least, of_some, none_of, first_at}
-use Rattle.script_parse.proofs.PartFaults.{fault_of, top_fault, body_fault, program_fault, part_fault, wrong_parts, past, At, Counted, within_part, least_on, part_has, part_wrong}
+use Rattle.script_parse.proofs.PartFaults.{fault_of, top_fault, program_fault, part_fault, wrong_parts, past, At, Counted, within_part, least_on, part_has, part_wrong}
 
 told_as : (fault : ScriptFault) (line : ℕ) (what kind : FaultKind) → Some (fault_of line what) ≡ Some fault → rank what ≤ rank kind → IsToldBefore fault line kind
 told_as fault line what kind is less =
@@ -96,7 +93,7 @@ part_first above (part ∷ front) here back fault line kind n is counted wrong =
     later_part n above part fault (wrong_parts (above ++ part ∷ []) (front ++ here ∷ back)) line kind (part_fault above part) refl is counted.0
     (least_on (past n part) front here back (above ++ part ∷ front) line kind counted.1 wrong)
     (λ on. part_first (above ++ part ∷ []) front here back fault line kind (past n part) on counted.1
-      (subst (λ a. PartFault a here line kind) (sym (append_assoc above (part ∷ []) front)) wrong))
+    (subst (λ a. PartFault a here line kind) (sym (append_assoc above (part ∷ []) front)) wrong))
 
 -- the first fault of a text is told before all others
 pub told_first : (parts : List Part) (fault : ScriptFault) → Counted 1 parts → wrong_parts [] parts ≡ Some fault

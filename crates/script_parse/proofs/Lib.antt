@@ -1,3 +1,4 @@
+pub mod AsciiTexts
 pub mod Bodies
 pub mod Faults
 pub mod FirstFaults
@@ -13,3 +14,4 @@ pub mod PartFaults
 pub mod Placing
 pub mod TextMeaning
 pub mod TextParts
+pub mod TextReads

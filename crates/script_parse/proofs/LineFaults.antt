@@ -1,6 +1,6 @@
 -- What is wrong with a line of a program, as a function finds it.
 use Rattle.std.proofs.Common.{◌≡◌, Bool, true, false, List, Option, None, Some, Result, Ok, Err, refl, ap, ◌∙◌, subst}
-use Rattle.std.specs.Prelude.{ℕ, ⊤, is_some, unwrap_or}
+use Rattle.std.specs.Prelude.{ℕ, is_some, unwrap_or}
 use Rattle.kabi_types.specs.declared.scripts.FaultKind.{FaultKind}
 use Rattle.kabi_types.specs.declared.scripts.FaultKind.TheVariants.{NoSuchLabel, WrongWay, TwiceDefined}
 use Rattle.posix_defs.specs.declared.said.InProgram.{InProgram}

@@ -1,6 +1,6 @@
 -- Where labels stand among the lines of a program, as the reader counts and as its statements are counted.
-use Rattle.std.proofs.Common.{◌≡◌, ℕ, suc, ◌+◌, ◌<◌, ◌≤◌, Bool, true, false, ◌||◌, List, [], ◌∷◌, ◌++◌, length, Option, None, Some, Result, Ok, Err, refl, sym, ap, ◌∙◌, append_assoc, arith}
-use Rattle.std.specs.Prelude.{if◌then◌else◌, is_some, unwrap_or}
+use Rattle.std.proofs.Common.{◌≡◌, ℕ, suc, ◌+◌, ◌<◌, ◌≤◌, Bool, true, false, ◌||◌, List, [], ◌∷◌, ◌++◌, length, Option, None, Some, Result, Ok, Err, refl, sym, ap, ◌∙◌, arith}
+use Rattle.std.specs.Prelude.{if◌then◌else◌}
 use Rattle.kabi_types.specs.declared.scripts.FaultKind.{FaultKind}
 use Rattle.posix_defs.specs.declared.said.InProgram.{InProgram}
 use Rattle.posix_defs.specs.declared.said.InProgram.TheVariants as inside
@@ -8,7 +8,7 @@ use Rattle.posix_defs.specs.declared.said.Spoken.{Spoken}
 use Rattle.posix_defs.specs.declared.said.Spoken.TheVariants as spoken
 use Rattle.posix_defs.specs.declared.said.Stated.{Stated}
 use Rattle.posix_defs.specs.ScriptParts.{Line, inside_of}
-use Rattle.posix_defs.specs.ScriptMeaning.{before, spoken_in, spoken_of, is_named, label_of, place_of}
+use Rattle.posix_defs.specs.ScriptMeaning.{before, spoken_in, spoken_of, is_named, label_of}
 use Rattle.posix_defs.specs.ScriptFaults.{has_label, label_by}
 use Rattle.script_parse.specs.LabelPlaces.{names, place_from}
 

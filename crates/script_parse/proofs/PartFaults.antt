@@ -1,20 +1,18 @@
 -- What is wrong with the parts of a text, as a function finds it.
-use Rattle.std.proofs.Common.{◌≡◌, ℕ, suc, ◌+◌, ◌<◌, ◌≤◌, Bool, true, false, List, [], ◌∷◌, ◌++◌, length, Option, None, Some, Result, Ok, Err, refl, sym, ap, ◌∙◌, subst, append_assoc, append-nil, arith, inl, inr}
-use Rattle.std.specs.Prelude.{⊤, nat_le, if◌then◌else◌, is_some, unwrap_or}
-use Rattle.std.proofs.lemmas.List.{length-append}
+use Rattle.std.proofs.Common.{◌≡◌, ℕ, ◌+◌, ◌<◌, ◌≤◌, Bool, true, false, List, [], ◌∷◌, ◌++◌, length, Option, None, Some, Result, Ok, Err, refl, sym, ap, ◌∙◌, subst, arith}
+use Rattle.std.specs.Prelude.{⊤, nat_le, if◌then◌else◌, is_some}
 use Rattle.kabi_types.specs.declared.scripts.FaultKind.{FaultKind}
 use Rattle.kabi_types.specs.declared.scripts.FaultKind.TheVariants.{OutOfRange, TwiceDefined, Unended}
 use Rattle.kabi_types.specs.declared.scripts.ScriptFault.{ScriptFault}
 use Rattle.posix_defs.specs.declared.said.AtTop.{AtTop}
 use Rattle.posix_defs.specs.declared.said.AtTop.TheVariants as top
 use Rattle.posix_defs.specs.declared.said.Setting.{Setting}
-use Rattle.posix_defs.specs.ScriptValues.{rank}
-use Rattle.posix_defs.specs.ScriptParts.{Line, top_of, inside_of, Part, Alone, Program}
+use Rattle.posix_defs.specs.ScriptParts.{Line, top_of, Part, Alone, Program}
 use Rattle.posix_defs.specs.ScriptMeaning.{or_next, settings_of}
-use Rattle.posix_defs.specs.ScriptFaults.{most_programs, how_many, has_program, is_set_in, IsToldBefore, LineFault, PartFault, unsaid, set_twice, one_too_many, named_twice, unended, within}
-use Rattle.script_parse.proofs.LineFaults.{line_fault, fault_is}
+use Rattle.posix_defs.specs.ScriptFaults.{most_programs, how_many, has_program, is_set_in, LineFault, PartFault, unsaid, set_twice, one_too_many, named_twice, unended, within}
+use Rattle.script_parse.proofs.LineFaults.{fault_is}
 use Rattle.script_parse.proofs.Bodies.{wrong_in}
-use Rattle.script_parse.proofs.FirstFaults.{From, from_least, of_some, none_of, clean_at, first_at, is_there}
+use Rattle.script_parse.proofs.FirstFaults.{From, from_least, of_some, clean_at, is_there}
 
 abbrev pub fault_of : ℕ → FaultKind → ScriptFault
 fault_of number kind = record { line = number; what = kind }
@@ -120,7 +118,7 @@ body_has above first name fault (Some body) is =
     let there = is_there [] body fault is in
     subst (λ b. PartFault above (Program first name (Some b)) fault.line fault.what) there.lines_are
     (subst (λ l. PartFault above (Program first name (Some (there.front ++ there.line ∷ there.back))) l fault.what) there.number
-      (within first there.line name there.front there.back fault.what there.wrong))
+    (within first there.line name there.front there.back fault.what there.wrong))
 
 program_has : (above : List Part) (first : Line) (name : List ℕ) (fault : ScriptFault) (body : Option (List Line)) (full again : Bool)
     → nat_le most_programs (how_many above) ≡ full → has_program name above ≡ again → program_fault full again first.number body ≡ Some fault

@@ -1,7 +1,6 @@
 -- What the reader answers to lines is what their parts mean.
-use Rattle.std.proofs.Common.{◌≡◌, ℕ, suc, ◌+◌, ◌<◌, ◌≤◌, Bool, true, false, ◌==◌, ◌||◌, List, [], ◌∷◌, ◌++◌, length, Option, None, Some, Result, Ok, Err, refl, sym, ap, ◌∙◌, subst, append_assoc, append-nil, arith}
+use Rattle.std.proofs.Common.{◌≡◌, ℕ, suc, ◌+◌, ◌<◌, ◌≤◌, Bool, true, false, ◌==◌, ◌||◌, List, [], ◌∷◌, ◌++◌, length, Option, None, Some, Result, Ok, Err, refl, sym, ap, ◌∙◌, append_assoc, append-nil, arith}
 use Rattle.std.specs.Prelude.{⊤, nat_le, if◌then◌else◌, is_some}
-use Rattle.std.specs.List.{list_any}
 use Rattle.std.specs.Str.{bytes_eq}
 use Rattle.std.proofs.lemmas.List.{length-append}
 use Rattle.std.proofs.lemmas.List.Folds.{list_any-append}
@@ -19,7 +18,7 @@ use Rattle.posix_defs.specs.declared.said.InProgram.TheVariants as inside
 use Rattle.posix_defs.specs.declared.said.Setting.{Setting}
 use Rattle.posix_defs.specs.declared.said.Setting.TheVariants as setting
 use Rattle.posix_defs.specs.ScriptValues.{◌>>=◌, with}
-use Rattle.posix_defs.specs.ScriptParts.{Line, top_of, inside_of, name_begun, begun, is_ending, ends, Part, Alone, Program as Begun}
+use Rattle.posix_defs.specs.ScriptParts.{Line, top_of, inside_of, name_begun, is_ending, ends, Part, Alone, Program as Begun}
 use Rattle.posix_defs.specs.ScriptMeaning.{before as in_front, or_next, program_in, programs_of, setting_said, setting_in, settings_of, first_of, is_named, heap_in, disk_in, steps_in, policy_in, chooser_in, body_of}
 use Rattle.posix_defs.specs.ScriptFaults.{most_programs, how_many, has_program, name_of, is_set_in}
 use Rattle.script_parse.specs.LabelPlaces as reader
@@ -29,7 +28,7 @@ use Rattle.script_parse.proofs.OneReading.{lines_step}
 use Rattle.script_parse.proofs.LinePlaces.{stated_by, stated_of, stated_append}
 use Rattle.script_parse.proofs.Bodies.{wrong_in}
 use Rattle.script_parse.proofs.FirstFaults.{body_answered, answered}
-use Rattle.script_parse.proofs.PartFaults.{fault_of, top_fault, body_fault, program_fault, part_fault, wrong_parts}
+use Rattle.script_parse.proofs.PartFaults.{fault_of, top_fault, program_fault, part_fault, wrong_parts}
 use Rattle.script_parse.proofs.TextParts.{machine, Open, with_line, closed, parts_behind, parts_from}
 
 -- the reader's draft, by settings and programs
@@ -207,7 +206,7 @@ matches_alone above line old =
     let many : how_many (above ++ Alone line ∷ []) ≡ how_many above + 0 = how_append above (Alone line ∷ []) in record {
       count = omega (arith, many, old.count, ap length same);
       named = λ name. has_append name above (Alone line ∷ []) ∙ ap (λ b. b || false) (old.named name)
-      ∙ sym (has_program_append name (programs_of above) []) ∙ ap (draft.has_program name) (append-nil (programs_of above) ∙ sym same);
+          ∙ sym (has_program_append name (programs_of above) []) ∙ ap (draft.has_program name) (append-nil (programs_of above) ∙ sym same);
       few = omega (arith, many, old.few);
     }
 
@@ -220,12 +219,12 @@ matches_program above first name body room old =
     let less : how_many above < most_programs = grind (arith, room) in record {
       count = omega (arith, many, old.count, ap length same, length-append (programs_of above) (more ∷ []));
       named = λ other. has_append other above (Begun first name (Some body) ∷ []) ∙ ap (λ b. b || (bytes_eq name other || false)) (old.named other)
-      ∙ sym (has_program_append other (programs_of above) (more ∷ [])) ∙ ap (draft.has_program other) (sym same);
+          ∙ sym (has_program_append other (programs_of above) (more ∷ [])) ∙ ap (draft.has_program other) (sym same);
       few = omega (arith, many, less);
     }
 
 -- the first fault of the parts that follow, or what all of them say
-abbrev told_of : Option ScriptFault → Result Script ScriptFault → Result Script ScriptFault
+abbrev pub told_of : Option ScriptFault → Result Script ScriptFault → Result Script ScriptFault
 told_of None rest = rest
 told_of (Some fault) rest = Err fault
 
@@ -317,7 +316,7 @@ program_wrong above current lines kind full again is_full is_again wrong =
     let first = begins_with lines current in
     result_stops above (Begun current.first current.name first.body) first.rest (fault_of current.first.number kind)
     (ap (λ b. program_fault b (has_program current.name above) current.first.number first.body) is_full
-      ∙ ap (λ b. program_fault full b current.first.number first.body) is_again ∙ wrong first.body)
+    ∙ ap (λ b. program_fault full b current.first.number first.body) is_again ∙ wrong first.body)
     ∙ ap (result above) (sym first.parts_are)
 
 -- what becomes of a program that a line begins, by whether it may
@@ -328,7 +327,7 @@ began above line name lines may =
 begin_by : (above : List Part) (line : Line) (lines : List Line) (name : List ℕ) (full again : Bool) → nat_le most_programs (how_many above) ≡ full
     → has_program name above ≡ again → Matches above → Follows lines
     → began above line name lines (if full then Err OutOfRange else if again then Err TwiceDefined else Ok tt)
-      ≡ result above (parts_from (Some (record { first = line; name = name; body = [] })) lines)
+    ≡ result above (parts_from (Some (record { first = line; name = name; body = [] })) lines)
 begin_by above line lines name true again is_full is_again old follows =
     program_wrong above (record { first = line; name = name; body = [] }) lines OutOfRange true again is_full is_again (λ body. refl)
 begin_by above line lines name false true is_full is_again old follows =
@@ -341,7 +340,7 @@ full_same count many most same few = grind (arith, same, few)
 
 begin_top : (above : List Part) (line : Line) (lines : List Line) (name : List ℕ) → Matches above → Follows lines
     → go_on lines (at_line line.number (with (within (draft_of above)) (begin (draft_of above) line.number name)))
-      ≡ result above (parts_from (Some (record { first = line; name = name; body = [] })) lines)
+    ≡ result above (parts_from (Some (record { first = line; name = name; body = [] })) lines)
 begin_top above line lines name old follows =
     ap (λ b. began above line name lines (if b then Err OutOfRange else if draft.has_program name (programs_of above) then Err TwiceDefined else Ok tt))
     (full_same (length (programs_of above)) (how_many above) most_programs old.count old.few)
@@ -351,7 +350,7 @@ begin_top above line lines name old follows =
 
 top_line : (above : List Part) (line : Line) (lines : List Line) (told : Result AtTop FaultKind) → top_of line ≡ told → Matches above → Follows lines
     → go_on lines (at_line line.number (told >>= step_at_top (draft_of above) line.number))
-      ≡ result above (parts_behind line (name_begun told) (λ current. parts_from current lines))
+    ≡ result above (parts_behind line (name_begun told) (λ current. parts_from current lines))
 top_line above line lines (Err kind) tells old follows =
     result_stops above (Alone line) (parts_from None lines) (fault_of line.number kind) (ap (top_fault above line.number) tells)
 top_line above line lines (Ok top.Silent) tells old follows =
@@ -370,7 +369,7 @@ more_stated current line told is =
 inside_on : (above : List Part) (current : Open) (line : Line) (lines : List Line) (told : Result InProgram FaultKind) → inside_of line ≡ told
     → is_ending told ≡ false → Matches above → MayOpen above (Some current) → Follows lines
     → machine (within (draft_of above) (record (opened_of current) { said = stated_of current.body ++ in_front (stated_by line.number told) [] })) lines
-      ≡ result above (if is_ending told then closed current ∷ parts_from None lines else parts_from (Some (with_line current line)) lines)
+    ≡ result above (if is_ending told then closed current ∷ parts_from None lines else parts_from (Some (with_line current line)) lines)
 inside_on above current line lines told is on old may follows =
     ap (λ s. machine (within (draft_of above) (record (opened_of current) { said = s })) lines) (sym (more_stated current line told is))
     ∙ follows above (Some (with_line current line)) old may
@@ -385,7 +384,7 @@ closed_fault above current found may is =
 close_by : (above : List Part) (current : Open) (lines : List Line) (found : Option ScriptFault) → wrong_in [] current.body ≡ found
     → answered found current.body → Matches above → MayOpen above (Some current) → Follows lines
     → go_on lines (draft.closed (draft_of above) current.name (reader.body_of (stated_of current.body)))
-      ≡ result above (closed current ∷ parts_from None lines)
+    ≡ result above (closed current ∷ parts_from None lines)
 close_by above current lines (Some fault) is answer old may follows =
     ap (λ b. go_on lines (draft.closed (draft_of above) current.name b)) answer
     ∙ result_stops above (closed current) (parts_from None lines) fault (closed_fault above current (Some fault) may is)
@@ -398,7 +397,7 @@ close_by above current lines None is answer old may follows =
 inside_line : (above : List Part) (current : Open) (line : Line) (lines : List Line) (told : Result InProgram FaultKind) → inside_of line ≡ told
     → Matches above → MayOpen above (Some current) → Follows lines
     → go_on lines (step_in_program (draft_of above) (opened_of current) line.number told)
-      ≡ result above (if is_ending told then closed current ∷ parts_from None lines else parts_from (Some (with_line current line)) lines)
+    ≡ result above (if is_ending told then closed current ∷ parts_from None lines else parts_from (Some (with_line current line)) lines)
 inside_line above current line lines (Err kind) is old may follows = inside_on above current line lines (Err kind) is refl old may follows
 inside_line above current line lines (Ok inside.Silent) is old may follows =
     ap (λ s. machine (within (draft_of above) (record (opened_of current) { said = s })) lines) (sym (append-nil (stated_of current.body)))
@@ -413,7 +412,7 @@ unended_here : (above : List Part) (current : Open) → MayOpen above (Some curr
 unended_here above current may =
     result_stops above (Begun current.first current.name None) [] (fault_of current.first.number Unended)
     (ap (λ b. program_fault b (has_program current.name above) current.first.number None) may.0
-      ∙ ap (λ b. program_fault false b current.first.number None) may.1)
+    ∙ ap (λ b. program_fault false b current.first.number None) may.1)
 
 pub follows : (lines : List Line) → Follows lines
 follows [] above None old may = ap (λ p. finish_from (draft_of p) None) (sym (append-nil above))

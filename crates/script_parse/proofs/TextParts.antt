@@ -2,18 +2,14 @@
 use Rattle.std.proofs.Common.{◌≡◌, ℕ, suc, ◌+◌, Bool, true, false, List, [], ◌∷◌, ◌++◌, length, Option, None, Some, Result, Ok, Err, refl, sym, ap, ◌∙◌, subst, append_assoc, append-nil, arith}
 use Rattle.std.specs.Prelude.{⊤, if◌then◌else◌}
 use Rattle.std.specs.List.{All}
-use Rattle.std.proofs.lemmas.List.{length-append}
 use Rattle.std.proofs.lemmas.List.Elements.{All-cons, All-head, All-nil, All-tail}
-use Rattle.kabi_types.specs.declared.scripts.FaultKind.{FaultKind}
 use Rattle.kabi_types.specs.declared.scripts.Script.{Script}
 use Rattle.kabi_types.specs.declared.scripts.ScriptFault.{ScriptFault}
-use Rattle.posix_defs.specs.declared.said.Word.{Word}
-use Rattle.posix_defs.specs.ScriptWords.{LineWords}
 use Rattle.posix_defs.specs.ScriptParts.{Line, Lines, none, more, begun, ends, Part, Alone, Program, Parts, nothing, alone, program, unended}
 use Rattle.script_parse.specs.Drafting.{State, step, finish}
 use Rattle.script_parse.proofs.OneReading.{line_read, line_is, line_has, lines_step, lines_read}
 use Rattle.script_parse.proofs.FirstFaults.{From}
-use Rattle.script_parse.proofs.PartFaults.{past, At, Counted}
+use Rattle.script_parse.proofs.PartFaults.{Counted}
 
 -- the lines of a text, numbered from here on
 abbrev pub numbered : ℕ → List (List ℕ) → List Line
