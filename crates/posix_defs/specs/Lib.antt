@@ -38,3 +38,4 @@ pub mod ScriptMeaning
 pub mod ScriptFaults
 pub mod ScriptText
 pub mod ValidScript
+pub mod Canonical

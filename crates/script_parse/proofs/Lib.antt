@@ -12,6 +12,7 @@ pub mod Numbers
 pub mod OneReading
 pub mod PartFaults
 pub mod Placing
+pub mod Printed
 pub mod TextMeaning
 pub mod TextParts
 pub mod TextReads
