@@ -1,2 +1,3 @@
 pub mod CallFamilies
 pub mod Settling
+pub mod ValidPrograms
