@@ -32,6 +32,9 @@ pub mod TrueCaches
 pub mod ScriptWords
 pub mod ScriptValues
 pub mod ScriptLines
-pub mod ScriptPlaces
+pub mod ScriptParts
+pub mod ScriptMeaning
+pub mod ScriptFaults
 pub mod ScriptText
 pub mod ValidScript
+pub mod Canonical

@@ -1,2 +1,4 @@
 pub mod CallFamilies
+pub mod Resting
 pub mod Settling
+pub mod ValidPrograms

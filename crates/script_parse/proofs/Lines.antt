@@ -15,9 +15,9 @@ use Rattle.posix_defs.specs.declared.said.InProgram.TheVariants as inside
 use Rattle.posix_defs.specs.declared.said.Word.{Word}
 use Rattle.script_parse.specs.Reading.{Outcome, TakesLine, lines_in}
 use Rattle.posix_defs.specs.ScriptLines.{said_at_top, said_in_program}
-use Rattle.posix_defs.specs.ScriptPlaces.{body_of}
+use Rattle.script_parse.specs.LabelPlaces.{body_of}
 use Rattle.posix_defs.specs.ScriptValues.{with, ◌>>=◌}
-use Rattle.posix_defs.specs.ScriptText.{Draft, Opened, State, Reads, ended, goes_on, stops, at_start, at_line, closed, finish, may_begin, outside, step, step_at_top, step_in_program, with_setting, within}
+use Rattle.script_parse.specs.Drafting.{Draft, Opened, State, Reads, ended, goes_on, stops, at_start, at_line, closed, finish, may_begin, outside, step, step_at_top, step_in_program, with_setting, within}
 
 abbrev is_newline : ℕ → Bool
 is_newline byte = byte == 10

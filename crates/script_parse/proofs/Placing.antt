@@ -10,7 +10,7 @@ use Rattle.kabi_types.specs.declared.scripts.Statement.{Statement}
 use Rattle.posix_defs.specs.declared.said.Spoken.{Spoken}
 use Rattle.posix_defs.specs.declared.said.Spoken.TheVariants as spoken
 use Rattle.posix_defs.specs.ScriptValues.{or_else}
-use Rattle.posix_defs.specs.ScriptPlaces.{place_in, noted_in, before}
+use Rattle.script_parse.specs.LabelPlaces.{place_in, noted_in, before}
 
 noted_first : (name label : List ℕ) (at : ℕ) (rest : Option ℕ) (same : Bool)
     → or_else (if same then Some at else None) rest ≡ (if same then Some at else rest)

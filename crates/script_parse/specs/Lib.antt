@@ -1,1 +1,3 @@
+pub mod LabelPlaces
+pub mod Drafting
 pub mod Reading

@@ -12,7 +12,7 @@ use Rattle.script_parse.specs.declared.parse_error.ParseError.TheVariants as err
 use Rattle.posix_defs.specs.declared.said.Word.{Word}
 use Rattle.script_parse.specs.declared.refused.Refused.{Refused}
 use Rattle.script_parse.specs.declared.refused.Refused.TheVariants as refused
-use Rattle.posix_defs.specs.ScriptText.{Opened, State, step}
+use Rattle.script_parse.specs.Drafting.{Opened, State, step}
 use Rattle.posix_defs.specs.ScriptWords.{Words, LineWords, with_word}
 
 -- what follows is shorter than what was given

@@ -2,7 +2,7 @@
 
 ghost use Rattle.std.specs.Prelude.{◌≡◌, Result, Ok, Err, IfErr, OnOk, OnErr};
 ghost use Rattle.script_parse.specs.Reading.{Sets};
-ghost use Rattle.posix_defs.specs.ScriptText as spec;
+ghost use Rattle.script_parse.specs.Drafting as spec;
 
 use crate::Setting;
 use kabi_types::{
@@ -33,7 +33,7 @@ pub struct Draft {
 }
 
 impl Model for Draft {
-    ghost use Rattle.posix_defs.specs.ScriptText.{Draft};
+    ghost use Rattle.script_parse.specs.Drafting.{Draft};
 
     ghost Value = { Draft };
 

@@ -7,6 +7,8 @@ mod laws;
 mod operands;
 mod parse_error;
 mod places;
+mod printing;
+mod printing_words;
 mod reader;
 mod refused;
 mod settings;
@@ -19,6 +21,8 @@ mod tests_operands;
 #[cfg(test)]
 mod tests_order;
 #[cfg(test)]
+mod tests_print;
+#[cfg(test)]
 mod tests_reading;
 #[cfg(test)]
 mod tests_settings;
@@ -27,8 +31,9 @@ mod tests_statements;
 mod values;
 mod words;
 
-pub use laws::{a_text_reads_in_one_way, every_text_reads_or_has_a_fault};
+pub use laws::{a_text_reads_in_one_way, every_text_reads_or_has_a_fault, worked_texts_read};
 pub use parse_error::ParseError;
 use posix_defs::{AtTop, InProgram, Setting, Shape, Spoken, Stated, Word};
+pub use printing::print;
 pub use reader::parse;
 use refused::Refused;

@@ -3,8 +3,8 @@
 ghost use Rattle.std.specs.Prelude.{◌≡◌, ◌≤◌, ℕ, List, length, vec_len, IfOk, OnOk};
 ghost use Rattle.indexmap.specs.IndexMap.{get};
 ghost use Rattle.script_parse.specs.Reading.{Tells, TellsBody};
-ghost use Rattle.posix_defs.specs.ScriptPlaces as spec;
-ghost use Rattle.posix_defs.specs.ScriptPlaces.{place_from};
+ghost use Rattle.script_parse.specs.LabelPlaces as spec;
+ghost use Rattle.script_parse.specs.LabelPlaces.{place_from};
 
 use crate::{ParseError, Spoken, Stated};
 use indexmap::IndexMap;

@@ -1,9 +1,9 @@
 //! Where the reader of a script stands: outside programs, or in one that is open.
 
 ghost use Rattle.std.specs.Prelude.{◌≡◌, ◌≤◌, length, Ok, Err, Some, None};
-ghost use Rattle.posix_defs.specs.ScriptPlaces.{body_of};
+ghost use Rattle.script_parse.specs.LabelPlaces.{body_of};
 ghost use Rattle.script_parse.specs.Reading.{Outcome, TakesLine, lines_in};
-ghost use Rattle.posix_defs.specs.ScriptText as spec;
+ghost use Rattle.script_parse.specs.Drafting as spec;
 
 use crate::drafts::Draft;
 use crate::places::body_of;
@@ -24,7 +24,7 @@ struct Opened {
 }
 
 impl Model for Opened {
-    ghost use Rattle.posix_defs.specs.ScriptText.{Opened};
+    ghost use Rattle.script_parse.specs.Drafting.{Opened};
 
     ghost Value = { Opened };
 
@@ -39,7 +39,7 @@ pub struct State {
 }
 
 impl Model for State {
-    ghost use Rattle.posix_defs.specs.ScriptText.{State};
+    ghost use Rattle.script_parse.specs.Drafting.{State};
 
     ghost Value = { State };
 

@@ -1,5 +1,5 @@
 use Rattle.std.proofs.Common.{◌≡◌, length}
-use Rattle.posix_defs.specs.ScriptText.{has_program}
+use Rattle.script_parse.specs.Drafting.{has_program}
 use Rattle.script_parse.proofs.drafts.names_any.Given as goal
 
 abbrev pub invariant-loop-program : goal.invariant-loop-program

@@ -2,7 +2,7 @@ use Rattle.std.proofs.Common.{◌≡◌, ℕ, ◌+◌, ◌≤◌, List, length}
 use Rattle.indexmap.specs.IndexMap.{get}
 use Rattle.kabi_types.specs.contracts.short_lists.Name27PartialEq.TheImpl.{eq-value}
 use Rattle.posix_defs.specs.ScriptValues.{or_else}
-use Rattle.posix_defs.specs.ScriptPlaces.{place_from}
+use Rattle.script_parse.specs.LabelPlaces.{place_from}
 use Rattle.script_parse.proofs.places.places_of.Given as goal
 
 -- a label's place is the one that is noted, or else where it stands first in the rest

@@ -3,7 +3,7 @@ use Rattle.std.specs.Prelude.{reverse}
 use Rattle.std.proofs.lemmas.List.{append_assoc, length-append}
 use Rattle.indexmap.specs.IndexMap.{get}
 use Rattle.kabi_types.specs.contracts.short_lists.Name27PartialEq.TheImpl.{eq-value}
-use Rattle.posix_defs.specs.ScriptPlaces.{before, body_from, placed_in}
+use Rattle.script_parse.specs.LabelPlaces.{before, body_from, placed_in}
 use Rattle.script_parse.proofs.Placing.{told, told_before, turned}
 use Rattle.script_parse.proofs.places.statements_of.Goals as goal
 

@@ -3,7 +3,7 @@ use Rattle.std.specs.Prelude.{reverse}
 use Rattle.indexmap.specs.IndexMap.{get}
 use Rattle.kabi_types.specs.contracts.short_lists.Name27PartialEq.TheImpl.{eq-value}
 use Rattle.posix_defs.specs.declared.said.Stated.{Stated}
-use Rattle.posix_defs.specs.ScriptPlaces.{body_from}
+use Rattle.script_parse.specs.LabelPlaces.{body_from}
 use Rattle.script_parse.proofs.Placing.{told}
 use Rattle.script_parse.proofs.places.statements_of.Given as goal
 

@@ -1,10 +1,11 @@
 use Rattle.std.proofs.Common.{arith}
-use Rattle.posix_defs.specs.ScriptText.{too_long, reads}
+use Rattle.posix_defs.specs.ScriptText.{too_long}
 use Rattle.script_parse.proofs.Lines.{outcome_is}
+use Rattle.script_parse.proofs.TextReads.{text_means}
 use Rattle.script_parse.proofs.reader.parse.Goals as goal
 
 pub returns-then-text-gt-MOST_BYTES : goal.returns-then-text-gt-MOST_BYTES
 returns-then-text-gt-MOST_BYTES c = too_long c.args.text.now (omega arith)
 
 pub returns : goal.returns
-returns c = outcome_is _ _ c.read_lines.result (λ outcome read. reads c.args.text.now outcome (omega arith) read) c.read_lines.ensures
+returns c = outcome_is _ _ c.read_lines.result (λ outcome read. text_means c.args.text.now outcome (omega arith) read) c.read_lines.ensures

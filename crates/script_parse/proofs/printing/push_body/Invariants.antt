@@ -1,0 +1,7 @@
+use Rattle.std.proofs.Common.{◌≡◌, ◌++◌, map, string_bytes, take}
+use Rattle.std.specs.List.{flat_map}
+use Rattle.posix_defs.specs.Canonical.{line_text, statement_words}
+use Rattle.script_parse.proofs.printing.push_body.Given as goal
+
+abbrev pub invariant-loop-statement : goal.invariant-loop-statement
+invariant-loop-statement l = string_bytes l.out ≡ string_bytes l.fn.out ++ flat_map (λ statement. line_text (statement_words l.body statement)) (take l.statement-index l.body)

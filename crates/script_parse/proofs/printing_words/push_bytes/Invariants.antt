@@ -1,0 +1,7 @@
+use Rattle.std.proofs.Common.{◌≡◌, ◌++◌, map, string_bytes, take}
+use Rattle.std.specs.List.{flat_map}
+use Rattle.posix_defs.specs.Canonical.{shown}
+use Rattle.script_parse.proofs.printing_words.push_bytes.Given as goal
+
+abbrev pub invariant-loop-byte : goal.invariant-loop-byte
+invariant-loop-byte l = string_bytes l.out ≡ string_bytes l.fn.out ++ flat_map shown (take l.byte-index l.bytes)
