@@ -5,23 +5,16 @@ use Rattle.std.proofs.lemmas.Slice.Eq.{bytes_eq-Decides}
 use Rattle.std.specs.List.{AllByRecursion}
 use Rattle.std.specs.Str.{bytes_eq}
 use Rattle.kabi_types.specs.Reply.{first_of, second_of}
-use Rattle.kabi_types.specs.Words.{is_built}
-use Rattle.kabi_types.specs.declared.calls.CallKind.{CallKind}
-use Rattle.kabi_types.specs.declared.calls.CallKind.TheVariants as kind
 use Rattle.kabi_types.specs.declared.replies.Reply.{Reply}
 use Rattle.kabi_types.specs.declared.scripts.Control.{Control}
-use Rattle.kabi_types.specs.declared.scripts.Operand.{Operand}
-use Rattle.kabi_types.specs.declared.scripts.Operand.TheVariants.{Reg, Number}
 use Rattle.kabi_types.specs.declared.scripts.Program.{Program}
 use Rattle.kabi_types.specs.declared.scripts.Script.{Script}
 use Rattle.kabi_types.specs.declared.scripts.Statement.{Statement}
 use Rattle.kabi_types.specs.declared.scripts.Statement.TheVariants as statement
 use Rattle.posix_defs.specs.Control.{after, after_at, afresh, at_place, body_of, carry_on, forward, into, local_at, passes, register_of, settle, settled, statement_of, statements_of, value_of}
 use Rattle.posix_defs.specs.Plain.{place_of}
-use Rattle.posix_defs.specs.ScriptLines.{shape_of}
-use Rattle.posix_defs.specs.ValidScript as valid
-use Rattle.posix_defs.specs.ValidScript.{AreTargets, Fits, IsProgram, IsStatement, IsValid, too_many_statements}
-use Rattle.prog_ctl.specs.Runnable.{IsOperand, IsRegister, IsRunnable, IsRunnableAt, Rests, Stands, most_text}
+use Rattle.posix_defs.specs.ValidScript.{IsLabel, IsProgram, IsStatement, IsValid}
+use Rattle.prog_ctl.specs.Runnable.{Rests, Stands}
 use Rattle.prog_ctl.proofs.Settling.{after_is}
 
 -- what is there has a place within
@@ -30,7 +23,7 @@ within [] i x e = cc
 within (y ∷ ys) zero x e = omega arith
 within (y ∷ ys) (suc i) x e = let rest : i < length ys = within ys i x e in omega arith
 
-label_within : (body : List Statement) (place : ℕ) → valid.IsLabel body place → place < length body
+label_within : (body : List Statement) (place : ℕ) → IsLabel body place → place < length body
 label_within body place label = within body place _ label.1
 
 all_at : {X : Type 0} (P : X → Type 0) (xs : List X) (i : ℕ) → AllByRecursion P xs → IfSome (slice_get xs i) P
@@ -38,73 +31,16 @@ all_at P [] i all = tt
 all_at P (x ∷ xs) zero all = all.0
 all_at P (x ∷ xs) (suc i) all = all_at P xs i all.1
 
-operand_runs : (operand : Operand) → valid.IsOperand operand → IsOperand operand
-operand_runs (Reg register) is = is
-operand_runs (Number value) is = tt
-
-operands_run : (operands : List Operand) → AllByRecursion valid.IsOperand operands → AllByRecursion IsOperand operands
-operands_run [] all = tt
-operands_run (operand ∷ operands) all = (operand_runs operand all.0, operands_run operands all.1)
-
-first_target : (first second : Option ℕ) → AreTargets first second → IfSome first IsRegister
-first_target first None targets = targets
-first_target first (Some register) targets = targets.1
-
-second_target : (first second : Option ℕ) → AreTargets first second → IfSome second IsRegister
-second_target first None targets = tt
-second_target first (Some register) targets = targets.2
-
--- the calls that are built have few operands and no text
-few : (which : CallKind) (values : List Operand) (texts : List (List ℕ)) → is_built which ≡ true → Fits (shape_of which) values texts
-    → AllByRecursion (λ text. length text ≤ most_text which) texts × (length values ≤ 17)
-few kind.Getpid values texts built fits = (subst (λ t. AllByRecursion (λ text. length text ≤ most_text kind.Getpid) t) (sym fits.texts_are) tt, omega (arith, fits.values_are))
-few kind.Getppid values texts built fits = (subst (λ t. AllByRecursion (λ text. length text ≤ most_text kind.Getppid) t) (sym fits.texts_are) tt, omega (arith, fits.values_are))
-few kind.SchedYield values texts built fits = (subst (λ t. AllByRecursion (λ text. length text ≤ most_text kind.SchedYield) t) (sym fits.texts_are) tt, omega (arith, fits.values_are))
-few kind.Exit values texts built fits = (subst (λ t. AllByRecursion (λ text. length text ≤ most_text kind.Exit) t) (sym fits.texts_are) tt, omega (arith, fits.values_are))
-few _ values texts built fits = cc
-
--- a program's statements are valid, and not too many
-record IsBody (body : List Statement) : Type 0 where
-  short : length body < too_many_statements
-  each : (at : ℕ) → IfSome (slice_get body at) (IsStatement body at)
-
-statement_runs : (body : List Statement) (at : ℕ) (here : Statement) → length body < too_many_statements → IsStatement body at here → IsRunnableAt at here
-statement_runs body at (statement.Set register value) short is = (is.0, operand_runs value is.1)
-statement_runs body at (statement.Add register value) short is = (is.0, operand_runs value is.1)
-statement_runs body at (statement.If left test right place) short is =
-    let there : place < length body = label_within body place is.3 in
-    (operand_runs left is.0, operand_runs right is.1, (is.2, (omega (arith, there, short))))
-statement_runs body at (statement.Jump place) short is =
-    let there : place < length body = label_within body place is.1 in
-    (is.0, (omega (arith, there, short)))
-statement_runs body at (statement.Label name) short is = tt
-statement_runs body at (statement.Loop register place) short is = (is.0, is.1)
-statement_runs body at (statement.Invoke which values texts first second) short is =
-    let rest = few which values texts is.0 is.2 in
-    (operands_run values is.1, rest.0, rest.1, first_target first second is.3, second_target first second is.3)
-
-runs_there : (body : List Statement) (at : ℕ) (here : Option Statement) → length body < too_many_statements → IfSome here (IsStatement body at) → IfSome here (IsRunnableAt at)
-runs_there body at None short is = tt
-runs_there body at (Some here) short is = statement_runs body at here short is
+-- each statement of a program is valid at its place
+abbrev IsBody : List Statement → Type 0
+IsBody body = (at : ℕ) → IfSome (slice_get body at) (IsStatement body at)
 
 body_is : (found : Option Program) → IfSome found IsProgram → IsBody (statements_of found)
-body_is None is = record { short = omega arith; each = λ at. tt }
-body_is (Some program) is = record { short = is.short; each = is.body }
+body_is None is = λ at. tt
+body_is (Some program) is = is.body
 
 valid_body : (script : Script) (control : Control) → IsValid script → IsBody (body_of script control)
 valid_body script control is = body_is (slice_get script.programs control.program) (all_at IsProgram script.programs control.program is.programs)
-
--- in a valid script a place of a program is one to stand at
-stands_at : (script : Script) (control : Control) → IsValid script → control.program < length script.programs
-    → control.place ≤ length (body_of script control) → Stands script control
-stands_at script control is program place =
-    let body = valid_body script control is in
-    record {
-      program = program;
-      place = place;
-      short = let few_statements : length (body_of script control) < too_many_statements = body.short in omega (arith, few_statements);
-      body = λ at. runs_there (body_of script control) at (slice_get (body_of script control) at) body.short (body.each at);
-    }
 
 -- the first program of a name that one has is among the programs
 place_within : (name : List ℕ) (programs : List Program) (at : ℕ) (program : Program) → slice_get programs at ≡ Some program → program.name ≡ name
@@ -134,7 +70,7 @@ first_program script is = place_within (codes "init") script.programs is.init.at
 pub boot_stands : (script : Script) (control : Control) → IsValid script → control.program ≡ place_of (codes "init") script.programs
     → control.place ≡ 0 → Stands script control
 boot_stands script control is program place =
-    stands_at script control is (subst (λ p. p < length script.programs) (sym program) (first_program script is)) (omega (arith, place))
+    record { valid = is; program = subst (λ p. p < length script.programs) (sym program) (first_program script is); place = omega (arith, place) }
 
 -- a control at a place of this program, which has this body
 abbrev StaysIn : List Statement → ℕ → Control → Type 0
@@ -176,20 +112,21 @@ settle_in : (turns : ℕ) (body : List Statement) (control : Control) → IsBody
 settle_in zero body control is place = (refl, place)
 settle_in (suc turns) body control is place =
     on_in body control (λ next. settle turns body next) (λ next at. settle_in turns body next is at)
-    (local_at control (slice_get body control.place)) (local_in body control (slice_get body control.place) refl (is.each control.place)) place
+    (local_at control (slice_get body control.place)) (local_in body control (slice_get body control.place) refl (is control.place)) place
 
 -- a control that stays in a program stands in the script
-stays : (script : Script) (old new : Control) → IsValid script → old.program < length script.programs
-    → StaysIn (body_of script old) old.program new → Stands script new
-stays script old new is program stay =
-    stands_at script new is (subst (λ p. p < length script.programs) (sym stay.0) program)
-    (subst (λ p. new.place ≤ length (statements_of (slice_get script.programs p))) (sym stay.0) stay.1)
+stays : (script : Script) (old new : Control) → Stands script old → StaysIn (body_of script old) old.program new → Stands script new
+stays script old new stands stay = record {
+  valid = stands.valid;
+  program = subst (λ p. p < length script.programs) (sym stay.0) stands.program;
+  place = subst (λ p. new.place ≤ length (statements_of (slice_get script.programs p))) (sym stay.0) stay.1;
+}
 
 -- local statements lead to a place to stand at
-pub settled_stands : (script : Script) (control : Control) → IsValid script → Stands script control → Stands script (settled script control)
-settled_stands script control is stands =
-    stays script control (settled script control) is stands.program
-    (settle_in (length (body_of script control)) (body_of script control) control (valid_body script control is) stands.place)
+pub settled_stands : (script : Script) (control : Control) → Stands script control → Stands script (settled script control)
+settled_stands script control stands =
+    stays script control (settled script control) stands
+    (settle_in (length (body_of script control)) (body_of script control) control (valid_body script control stands.valid) stands.place)
 
 into_keeps : (control : Control) (register : Option ℕ) (value : ℤ)
     → ((into control register value).program ≡ control.program) × ((into control register value).place ≡ control.place)
@@ -207,9 +144,9 @@ after_in body control reply (Some (statement.Invoke which values texts first sec
 after_in body control reply (Some (statement.Loop register to)) e is place = (refl, (omega (arith, label_within body to is.2)))
 after_in body control reply (Some _) e is place = (refl, place)
 
-pub after_stands : (script : Script) (control : Control) (reply : Reply) → IsValid script → Stands script control → Rests script control
+pub after_stands : (script : Script) (control : Control) (reply : Reply) → Stands script control → Rests script control
     → Stands script (after script control reply)
-after_stands script control reply is stands rests =
+after_stands script control reply stands rests =
     subst (Stands script) (after_is script control reply rests)
-    (stays script control (afresh (after_at control reply (statement_of script control))) is stands.program
-    (after_in (body_of script control) control reply (statement_of script control) refl ((valid_body script control is).each control.place) stands.place))
+    (stays script control (afresh (after_at control reply (statement_of script control))) stands
+    (after_in (body_of script control) control reply (statement_of script control) refl (valid_body script control stands.valid control.place) stands.place))

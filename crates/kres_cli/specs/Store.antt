@@ -5,7 +5,6 @@ use Rattle.kabi_types.specs.declared.scripts.Script.{Script}
 use Rattle.posix_defs.specs.Control.{settled}
 use Rattle.posix_defs.specs.Process.{Table}
 use Rattle.posix_defs.specs.Plain.{first_process}
-use Rattle.posix_defs.specs.ValidScript.{IsValid}
 use Rattle.posix_defs.specs.World.{World, no_account, boot_kept}
 use Rattle.prog_ctl.specs.Runnable.{Rests, Stands}
 
@@ -15,9 +14,8 @@ pub record StoreView : Type 0 where
   pub control : Control
   pub lives : Bool
 
--- The control stands at its next call, in a valid script.
+-- The control stands at its next call.
 pub record IsAtCall (script : Script) (control : Control) : Type 0 where
-  pub valid : IsValid script
   pub stands : Stands script control
   pub rests : Rests script control
 

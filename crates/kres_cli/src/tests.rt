@@ -1,5 +1,7 @@
+use crate::choosing::Choosing;
 use crate::statuses::Status;
 use crate::tool::run_tool;
+use kabi_types::{Chooser, Numbers};
 use kio_ports::{MemSink, MemSource};
 use std::test::Fail;
 
@@ -234,6 +236,48 @@ fn runs_local_statements_before_a_call(rt: HostRuntime) -> Result<(), Fail> {
         ),
     ];
     assert_eq!(rt; first_without(&rt, cases.as_slice())?, None);
+    Ok(())
+}
+
+/// The first of these numbers that the chooser doesn't give in its turn.
+fn first_not_given(chooser: &Chooser, wanted: &[Option<u32>]) -> Option<usize> {
+    let mut choosing = Choosing::of(chooser);
+    for (place, number) in wanted.iter().enumerate() {
+        let (given, rest) = choosing.next();
+        if given != *number {
+            return Some(place);
+        }
+        choosing = rest;
+    }
+    None
+}
+
+#[test]
+fn a_seed_gives_the_numbers_of_its_generator(rt: HostRuntime) {
+    // By hand: 1103515245 * 7 + 12345 is 1282168116 modulo 2147483648, and that is 19564 * 65536 + 21812.
+    assert_eq!(rt; first_not_given(&Chooser::Seed(7), &[Some(19564)]), None);
+    let of_one = [Some(16838), Some(5758), Some(10113), Some(17515)];
+    assert_eq!(rt; first_not_given(&Chooser::Seed(1), of_one.as_slice()), None);
+    let of_zero = [Some(0), Some(21468)];
+    assert_eq!(rt;
+        first_not_given(&Chooser::Seed(0), of_zero.as_slice()),
+        None
+    );
+}
+
+#[test]
+fn choices_come_in_their_order_and_then_the_default(rt: HostRuntime) -> Result<(), Fail> {
+    let chooser = Chooser::Choices(Numbers::from_vec(vec![in rt.alloc(); 4294967295]?));
+    let given = [Some(4294967295), None, None];
+    assert_eq!(rt; first_not_given(&chooser, given.as_slice()), None);
+    let mut numbers = Vec::new(rt.alloc());
+    for number in [3, 1, 4] {
+        numbers.push(number)?;
+    }
+    let chooser = Chooser::Choices(Numbers::from_vec(numbers));
+    let given = [Some(3), Some(1), Some(4), None, None];
+    assert_eq!(rt; first_not_given(&chooser, given.as_slice()), None);
+    assert_eq!(rt; first_not_given(&Chooser::Plain, &[None, None]), None);
     Ok(())
 }
 

@@ -11,9 +11,8 @@ next_call-requires c =
 
 pub invariant_of-result : goal.invariant_of-result
 invariant_of-result c = record {
-  valid = c.requires;
   stands = subst (Stands c.args.script.now) (sym c.next_call.ensures.settled)
-      (settled_stands c.args.script.now _ c.requires
+      (settled_stands c.args.script.now _
       (boot_stands c.args.script.now _ c.requires (c.place_of.ensures ∙ ap (place_of (codes "init")) c.items.ensures) refl));
   rests = c.next_call.ensures.rests;
 }

@@ -10,16 +10,15 @@ pub next_call-requires : goal.next_call-requires
 next_call-requires c =
     let kept = c.self.invariant in
     subst (Stands c.self.inside.script.now) (sym c.answer.ensures)
-    (after_stands c.self.inside.script.now c.self.inside.control c.args.reply kept.valid kept.stands kept.rests)
+    (after_stands c.self.inside.script.now c.self.inside.control c.args.reply kept.stands kept.rests)
 
 pub invariant_of-self : goal.invariant_of-self
 invariant_of-self c =
     let kept = c.self.invariant in
     let script = c.self.inside.script.now in
     record {
-      valid = kept.valid;
       stands = subst (Stands script) (sym (c.next_call.ensures.settled ∙ ap (settled script) c.answer.ensures))
-          (settled_stands script _ kept.valid (after_stands script c.self.inside.control c.args.reply kept.valid kept.stands kept.rests));
+          (settled_stands script _ (after_stands script c.self.inside.control c.args.reply kept.stands kept.rests));
       rests = c.next_call.ensures.rests;
     }
 
