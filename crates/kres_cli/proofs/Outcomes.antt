@@ -15,7 +15,7 @@ reported s whole end.AllAsleep source wrote = (whole, source, wrote)
 reported s whole end.Spent source wrote = (whole, source, wrote)
 
 written : (s : Streams) (text whole : List ℕ) (st : Status) → AnswersText text whole st → AnswersSource s st whole → Wrote s whole → SimEnds s st
-written s text whole _ (refuses none is) source wrote = (whole, source, wrote)
+written s text whole _ (refuses fault said is) source wrote = (whole, source, wrote)
 written s text whole _ (reports script st reads ran) source wrote =
     subst (SimEnds s) (sym ran.status_is) (reported s whole ran.end (subst (λ t. AnswersSource s t whole) ran.status_is source) wrote)
 

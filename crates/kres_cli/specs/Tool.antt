@@ -1,9 +1,11 @@
 -- What the tool answers to its words, and what it writes.
-use Rattle.std.specs.Prelude.{ℕ, ◌≡◌, ◌<◌, List, [], ◌∷◌, length, take, Option, String, string_bytes, codes}
+use Rattle.std.specs.Prelude.{ℕ, ◌≡◌, ◌<◌, List, [], ◌∷◌, length, take, Option, Ok, Err, String, string_bytes, codes}
 use Rattle.std.specs.Io.KnownBytes.{Appends}
 use Rattle.kabi_types.specs.declared.scripts.Script.{Script}
+use Rattle.kabi_types.specs.declared.scripts.ScriptFault.{ScriptFault}
 use Rattle.kio_ports.specs.Faults.{HasRisen}
-use Rattle.posix_defs.specs.SmallScript.{ReadsAs}
+use Rattle.posix_defs.specs.Lines.{fault_line}
+use Rattle.posix_defs.specs.ScriptText.{ReadsText}
 use Rattle.kres_cli.specs.declared.statuses.Status.{Status}
 use Rattle.kres_cli.specs.declared.statuses.Status.TheVariants.{Finished, BadScript, Usage, Starved, AllAsleep, Spent, ReadFault, WriteFault, Memory}
 use Rattle.kres_cli.specs.Read.{HasTaken}
@@ -12,10 +14,6 @@ use Rattle.kres_cli.specs.Run.{IsReport}
 -- what is written where the words aren't the program's
 abbrev pub usage_line : List ℕ
 usage_line = codes "usage: kres sim | threads W | print | table | gen N | load N\n"
-
--- what is written where a text is no script
-abbrev pub bad_line : List ℕ
-bad_line = codes "bad script: line 0: not built\n"
 
 -- The streams before and after: the bytes that the source has left and those that the sink holds, where they tell them,
 -- and how many takes and puts have failed.
@@ -29,10 +27,10 @@ pub record Streams : Type 0 where
   pub puts : ℕ
   pub puts' : ℕ
 
--- The text is answered by this one, with this status: the one line where it says no script, else the report of its run.
+-- The text is answered by this one, with this status: the line of its fault, or the report of its script's run.
 pub data AnswersText (text whole : List ℕ) : Status → Type 0 where
-  refuses : ((script : Script) → ReadsAs text script → ⊥) → whole ≡ bad_line → AnswersText text whole BadScript
-  reports : (script : Script) (status : Status) → ReadsAs text script → IsReport script whole status → AnswersText text whole status
+  refuses : (fault : ScriptFault) → ReadsText text (Err fault) → whole ≡ fault_line fault → AnswersText text whole BadScript
+  reports : (script : Script) (status : Status) → ReadsText text (Ok script) → IsReport script whole status → AnswersText text whole status
 
 -- What was read, to its end or to the byte that is too many, is answered so.
 pub record AnswersSource (s : Streams) (status : Status) (whole : List ℕ) : Type 0 where

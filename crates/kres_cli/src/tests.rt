@@ -17,8 +17,6 @@ const PID_REPORT: &str = "1 p1 ask getpid bound 0 charged 2816
 end finished events 6 charged 2304 peak 2816 reads 0
 ";
 
-const NOT_BUILT: &str = "bad script: line 0: not built\n";
-
 const USAGE: &str = "usage: kres sim | threads W | print | table | gen N | load N\n";
 
 /// What the tool answers to `sim` on a text that comes and goes whole, and what it writes.
@@ -63,7 +61,16 @@ fn ends_right_whichever_allocation_is_refused(rt: HostRuntime) {
             Status::Finished,
             PID_REPORT,
         ),
-        ("program init\nfork\nend\n", Status::BadScript, NOT_BUILT),
+        (
+            "program init\nr1 = fork\nend\n",
+            Status::BadScript,
+            "bad script: line 2: not built\n",
+        ),
+        (
+            "heap 8192\nchoices 3 1 4\nprogram init\nr1 = getpid\nexit 0\nend\n",
+            Status::Finished,
+            PID_REPORT,
+        ),
     ];
     for (script, wanted, whole) in cases {
         let right = is_right(&rt, script, wanted, whole);
@@ -71,32 +78,80 @@ fn ends_right_whichever_allocation_is_refused(rt: HostRuntime) {
     }
 }
 
-#[test]
-fn refuses_what_is_no_small_script(rt: HostRuntime) -> Result<(), Fail> {
-    let texts = [
-        "",
-        "\n",
-        "program init\nend\n\n",
-        "program init\nend\nend\n",
-        "program init\n",
-        "program init\ngetpid",
-        "program init\nfork\nend\n",
-        "program init\ngetpid \nend\n",
-        "program init\nr1 =  getpid\nend\n",
-        "program init\nr16 = getpid\nend\n",
-        "program init\nr01 = getpid\nend\n",
-        "program init\nexit\nend\n",
-        "program init\nexit 1000\nend\n",
-        "program init\nexit -1\nend\n",
-        "heap 8192\nheap 8192\nprogram init\nend\n",
-        "heap 8193\nprogram init\nend\n",
-        "program other\nend\n",
-    ];
-    for text in texts {
-        let (status, sink) = sim_on(&rt, text.as_bytes().to_vec(rt.alloc())?)?;
-        assert_eq!(rt; status, Status::BadScript, "on {text:?}");
-        assert_eq!(rt; sink.bytes(), NOT_BUILT.as_bytes(), "on {text:?}");
+/// The first of these texts that `sim` doesn't answer with its status and its text.
+fn first_other<'a>(
+    rt: &HostRuntime,
+    cases: &[(&'a str, Status, &str)],
+) -> Result<Option<&'a str>, Fail> {
+    for (script, wanted, whole) in cases {
+        let (status, sink) = sim_on(rt, script.as_bytes().to_vec(rt.alloc())?)?;
+        if status != *wanted || sink.bytes() != whole.as_bytes() {
+            return Ok(Some(*script));
+        }
     }
+    Ok(None)
+}
+
+#[test]
+fn tells_the_fault_of_what_is_no_script(rt: HostRuntime) -> Result<(), Fail> {
+    let cases = [
+        ("", Status::BadScript, "bad script: line 0: no init\n"),
+        (
+            "program other\nend\n",
+            Status::BadScript,
+            "bad script: line 0: no init\n",
+        ),
+        (
+            "program init\nset r1 1\njmp a\nend\n",
+            Status::BadScript,
+            "bad script: line 3: unknown word\n",
+        ),
+        (
+            "program init\nr1 = fork\nend\n",
+            Status::BadScript,
+            "bad script: line 2: not built\n",
+        ),
+        (
+            "program init\nexit 1x\nend\n",
+            Status::BadScript,
+            "bad script: line 2: bad number\n",
+        ),
+        (
+            "heap 8191\nprogram init\nend\n",
+            Status::BadScript,
+            "bad script: line 1: out of range\n",
+        ),
+        (
+            "program init\njump a\nend\n",
+            Status::BadScript,
+            "bad script: line 2: no such label\n",
+        ),
+        (
+            "program init\nlabel a\njump a\nend\n",
+            Status::BadScript,
+            "bad script: line 3: wrong way\n",
+        ),
+        (
+            "heap 8192\nheap 8192\nprogram init\nend\n",
+            Status::BadScript,
+            "bad script: line 2: twice defined\n",
+        ),
+        (
+            "\nprogram init\ngetpid\n",
+            Status::BadScript,
+            "bad script: line 2: unended\n",
+        ),
+    ];
+    assert_eq!(rt; first_other(&rt, cases.as_slice())?, None);
+    Ok(())
+}
+
+#[test]
+fn tells_a_line_that_is_not_utf_8(rt: HostRuntime) -> Result<(), Fail> {
+    let text = b"# a comment\n\xff\nprogram init\nend\n".to_vec(rt.alloc())?;
+    let (status, sink) = sim_on(&rt, text)?;
+    assert_eq!(rt; status, Status::BadScript);
+    assert_eq!(rt; sink.bytes(), b"bad script: line 2: not utf-8\n".as_slice());
     Ok(())
 }
 
@@ -105,12 +160,24 @@ fn refuses_a_text_that_is_too_long(rt: HostRuntime) -> Result<(), Fail> {
     let text = vec![in rt.alloc(); b'\n'; 1048577]?;
     let (status, sink) = sim_on(&rt, text)?;
     assert_eq!(rt; status, Status::BadScript);
-    assert_eq!(rt; sink.bytes(), NOT_BUILT.as_bytes());
+    assert_eq!(rt; sink.bytes(), b"bad script: line 0: too long\n".as_slice());
     Ok(())
 }
 
+/// The first of these texts whose run doesn't finish, or whose report doesn't have its line.
+fn first_without<'a>(rt: &HostRuntime, cases: &[(&'a str, &str)]) -> Result<Option<&'a str>, Fail> {
+    for (script, line) in cases {
+        let (status, sink) = sim_on(rt, script.as_bytes().to_vec(rt.alloc())?)?;
+        let written = str::from_utf8(sink.bytes())?;
+        if status != Status::Finished || !written.contains(*line) {
+            return Ok(Some(*script));
+        }
+    }
+    Ok(None)
+}
+
 #[test]
-fn reads_every_small_statement(rt: HostRuntime) -> Result<(), Fail> {
+fn runs_the_calls_that_are_built(rt: HostRuntime) -> Result<(), Fail> {
     let cases = [
         ("program init\nend", "3 p1 ended exit 0 charged 2304\n"),
         (
@@ -122,24 +189,74 @@ fn reads_every_small_statement(rt: HostRuntime) -> Result<(), Fail> {
             "3 p1 ended exit 231 charged 2304\n",
         ),
         (
-            "program init\nexit 007\nend\n",
-            "3 p1 ended exit 7 charged 2304\n",
+            "program init\nexit -1\nend\n",
+            "3 p1 ended exit 255 charged 2304\n",
         ),
         (
-            "program init\nr15 = getpid\nend\n",
-            "6 p1 ended exit 0 charged 2304\n",
+            "program init\ngetpid\nend\n",
+            "3 p1 done getpid = 1 charged 2816\n",
         ),
         (
-            "heap 8192\nprogram init\ngetpid\nexit 12\nend\n",
-            "6 p1 ended exit 12 charged 2304\n",
+            "program init\nr1 = getppid\nend\n",
+            "3 p1 done getppid = 0 charged 2816\n",
+        ),
+        (
+            "program init\nsched_yield\nend\n",
+            "3 p1 done sched_yield = 0 charged 2816\n",
         ),
     ];
-    for (text, line) in cases {
-        let (status, sink) = sim_on(&rt, text.as_bytes().to_vec(rt.alloc())?)?;
-        assert_eq!(rt; status, Status::Finished, "on {text:?}");
-        let written = str::from_utf8(sink.bytes())?;
-        assert!(rt; written.contains(line), "on {text:?}");
-    }
+    assert_eq!(rt; first_without(&rt, cases.as_slice())?, None);
+    Ok(())
+}
+
+#[test]
+fn runs_local_statements_before_a_call(rt: HostRuntime) -> Result<(), Fail> {
+    let cases = [
+        // A register carries a reply to a later call.
+        (
+            "program init\nr3 = getpid\nadd r3 40\nexit r3\nend\n",
+            "6 p1 ended exit 41 charged 2304\n",
+        ),
+        // The first process's parent is 0, so the jump is taken.
+        (
+            "program init\nr1 = getppid\nif r1 == 0 on\nexit 1\nlabel on\nexit 2\nend\n",
+            "6 p1 ended exit 2 charged 2304\n",
+        ),
+        // Two rounds of a loop yield twice, and then the program goes on.
+        (
+            "program init\nset r1 2\nlabel a\nadd r2 5\nloop r1 a\nexit r2\nend\n",
+            "9 p1 ended exit 15 charged 2304\n",
+        ),
+        // The program `init` runs, wherever it stands.
+        (
+            "program other\nexit 1\nend\nprogram init\nexit 3\nend\n",
+            "3 p1 ended exit 3 charged 2304\n",
+        ),
+    ];
+    assert_eq!(rt; first_without(&rt, cases.as_slice())?, None);
+    Ok(())
+}
+
+#[test]
+fn a_choice_changes_nothing_where_one_event_is_enabled(rt: HostRuntime) -> Result<(), Fail> {
+    let cases = [
+        (
+            "heap 8192\nseed 7\nprogram init\nr1 = getpid\nexit 0\nend\n",
+            Status::Finished,
+            PID_REPORT,
+        ),
+        (
+            "heap 8192\nchoices 3 1 4\nprogram init\nr1 = getpid\nexit 0\nend\n",
+            Status::Finished,
+            PID_REPORT,
+        ),
+        (
+            "heap 8192\nchoices 0 1 2 3 4 5 6 7 8\nprogram init\nr1 = getpid\nexit 0\nend\n",
+            Status::Finished,
+            PID_REPORT,
+        ),
+    ];
+    assert_eq!(rt; first_other(&rt, cases.as_slice())?, None);
     Ok(())
 }
 
@@ -155,6 +272,30 @@ fn stops_when_the_events_are_used_up(rt: HostRuntime) -> Result<(), Fail> {
         b"\n1000 p1 ask getpid bound 0 charged 2816\nend spent events 1000 charged 2816 peak 2816 reads 0\n";
     assert_eq!(rt; status, Status::Spent);
     assert!(rt; sink.bytes().ends_with(last));
+    Ok(())
+}
+
+const LOOP_SCRIPT: &[u8] =
+    b"heap 8192\nsteps 10\nprogram init\nset r1 100\nlabel again\nr2 = getpid\nloop r1 again\nend\n";
+
+const LOOP_REPORT: &[u8] = b"1 p1 ask getpid bound 0 charged 2816
+2 p1 admit getpid bound 0 charged 2816
+3 p1 done getpid = 1 charged 2816
+4 p1 ask sched_yield bound 0 charged 2816
+5 p1 admit sched_yield bound 0 charged 2816
+6 p1 done sched_yield = 0 charged 2816
+7 p1 ask getpid bound 0 charged 2816
+8 p1 admit getpid bound 0 charged 2816
+9 p1 done getpid = 1 charged 2816
+10 p1 ask sched_yield bound 0 charged 2816
+end spent events 10 charged 2816 peak 2816 reads 0
+";
+
+#[test]
+fn stops_after_the_steps_of_the_script(rt: HostRuntime) -> Result<(), Fail> {
+    let (status, sink) = sim_on(&rt, LOOP_SCRIPT.to_vec(rt.alloc())?)?;
+    assert_eq!(rt; status, Status::Spent);
+    assert_eq!(rt; sink.bytes(), LOOP_REPORT);
     Ok(())
 }
 

@@ -1,30 +1,23 @@
 ghost use Rattle.std.specs.Prelude.{◌≡◌, ◌↔◌, ℕ, List, Option, IsTrue, IfOk, string_bytes};
+ghost use Rattle.posix_defs.specs.ValidScript.{IsValid};
 ghost use Rattle.kres_cli.specs.Run.{IsReport};
-ghost use Rattle.kres_cli.specs.Small.{IsRunnable, script_of};
 ghost use Rattle.kres_cli.specs.Tool.{AnswersText, AreSim, HasPut, OthersEnd, SimEnds};
 
-use crate::lines::report;
+use crate::lines::{fault_line, report};
 use crate::plain_store::PlainStore;
 use crate::reading::read_text;
 use crate::runs::run_to_end;
-use crate::script::read;
-use crate::small::SmallScript;
 use crate::statuses::Status;
 use crate::text::Text;
 use crate::writing::write_text;
-use kabi_types::Memory;
+use kabi_types::{Memory, Script};
 use kern_core::Core;
 use kio_ports::{Sink, Source};
+use script_parse::{ParseError, parse};
 use std::alloc::Global;
 
 /// What is written where the words aren't the program's.
 const USAGE: &str = "usage: kres sim | threads W | print | table | gen N | load N\n";
-
-/// What is written where a text is no script.
-const NOT_BUILT: &str = "bad script: line 0: not built\n";
-
-/// How many events a small script may take.
-const STEPS: u32 = 1000;
 
 /// A text to be written, and the status that it comes with.
 #[derive(Debug, Drop)]
@@ -127,23 +120,24 @@ fn sim<S: Source, K: Sink>(alloc: Global, source: &mut S, sink: &mut K) -> Statu
 fn answer_to(alloc: Global, text: &[u8]) -> Result<Answer, Memory>
     ensures { IfOk result (λ answer. AnswersText text.now (string_bytes answer.text) answer.status) }
 {
-    match read(alloc, text)? {
-        Some(script) => run_script(alloc, script),
-        None => Ok(Answer {
-            text: String::from_str(alloc, NOT_BUILT)?,
+    match parse(alloc, text) {
+        Ok(script) => run_script(alloc, &script),
+        Err(ParseError::Bad(fault)) => Ok(Answer {
+            text: fault_line(alloc, fault)?,
             status: Status::BadScript,
         }),
+        Err(ParseError::Memory) => Err(Memory),
     }
 }
 
 /// Runs a script to its end, and reports every event.
-fn run_script(alloc: Global, script: SmallScript) -> Result<Answer, Memory>
-    requires { IsRunnable script }
-    ensures { IfOk result (λ answer. IsReport (script_of script) (string_bytes answer.text) answer.status) }
+fn run_script(alloc: Global, script: &Script) -> Result<Answer, Memory>
+    requires { IsValid script.now }
+    ensures { IfOk result (λ answer. IsReport script.now (string_bytes answer.text) answer.status) }
 {
-    let heap = script.heap;
-    let mut core = Core::boot(alloc, PlainStore::boot(script), STEPS, heap)?;
-    let end = run_to_end(&mut core);
+    let store = PlainStore::boot(script);
+    let mut core = Core::boot(alloc, store, script.steps, script.heap)?;
+    let end = run_to_end(&mut core, &script.chooser);
     let text = report(
         alloc,
         core.run(),

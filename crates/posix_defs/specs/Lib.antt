@@ -23,7 +23,6 @@ pub mod Victim
 pub mod History
 pub mod Lines
 pub use Rattle.kabi_types.specs.Words
-pub mod SmallScript
 pub mod Tree
 pub mod FirstScript
 pub mod DiskFormat
