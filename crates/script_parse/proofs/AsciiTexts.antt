@@ -1,6 +1,6 @@
 -- Texts of ASCII read as they compute, since their lines are UTF-8.
 use Rattle.std.proofs.Common.{◌≡◌, ℕ, ◌+◌, Bool, true, false, ◌==◌, ◌&&◌, List, [], ◌∷◌, length, Result, Ok, Err, refl, ap, ◌∙◌, subst, arith}
-use Rattle.std.specs.Prelude.{⊤, nat_lt, nat_le}
+use Rattle.std.specs.Prelude.{nat_lt, nat_le}
 use Rattle.std.specs.List.{list_all, slice_split}
 use Rattle.std.specs.Str.{IsAscii}
 use Rattle.std.proofs.lemmas.Str.{IsUtf8-from_ascii, is_utf8-from_IsUtf8}
@@ -12,7 +12,7 @@ use Rattle.posix_defs.specs.declared.said.Word.{Word}
 use Rattle.posix_defs.specs.ScriptWords.{is_comment}
 use Rattle.posix_defs.specs.ScriptText.{most_bytes, ReadsText}
 use Rattle.script_parse.specs.Drafting.{State, step, finish, at_start}
-use Rattle.script_parse.proofs.OneReading.{line_by, line_read, lines_step, lines_read, reading, reading_by}
+use Rattle.script_parse.proofs.OneReading.{line_by, line_read, lines_step, lines_read, reading_by}
 use Rattle.script_parse.proofs.TextReads.{has_reading}
 
 abbrev pub is_ascii : List ℕ → Bool

@@ -4,6 +4,7 @@ pub mod Faults
 pub mod FirstFaults
 pub mod FirstParts
 pub mod Fronts
+pub mod Holds
 pub mod Joined
 pub mod LineFaults
 pub mod LinePlaces
@@ -16,3 +17,8 @@ pub mod Printed
 pub mod TextMeaning
 pub mod TextParts
 pub mod TextReads
+pub mod ValidLines
+pub mod ValidPrograms
+pub mod ValidScripts
+pub mod ValidValues
+pub mod ValidWords

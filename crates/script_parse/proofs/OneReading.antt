@@ -285,6 +285,16 @@ lines_are _ _ _ _ (stops state line first lines words fault says is) =
     ap (λ w. lines_step (λ s. lines_read s (line + 1) lines) (step state line w)) (line_is first words says)
     ∙ ap (lines_step (λ s. lines_read s (line + 1) lines)) is
 
+lines_by : (state : State) (line : ℕ) (first : List ℕ) (lines : List (List ℕ)) (next : Result State ScriptFault) → step state line (line_read first) ≡ next
+    → ((s : State) → Reads s (line + 1) lines (lines_read s (line + 1) lines))
+    → Reads state line (first ∷ lines) (lines_step (λ s. lines_read s (line + 1) lines) next)
+lines_by state line first lines (Ok next) is more = goes_on state next line first lines (line_read first) (lines_read next (line + 1) lines) (line_has first) is (more next)
+lines_by state line first lines (Err fault) is more = stops state line first lines (line_read first) fault (line_has first) is
+
+pub lines_have : (state : State) (line : ℕ) (lines : List (List ℕ)) → Reads state line lines (lines_read state line lines)
+lines_have state line [] = ended state line
+lines_have state line (first ∷ lines) = lines_by state line first lines (step state line (line_read first)) refl (λ s. lines_have s (line + 1) lines)
+
 abbrev pub reading_by : Bool → List ℕ → Result Script ScriptFault
 reading_by true text = lines_read at_start 1 (slice_split (λ byte. byte == 10) text)
 reading_by false text = fault_at 0 TooLong

@@ -6,6 +6,7 @@ ghost use Rattle.kabi_types.specs.declared.scripts.Script.{Script};
 ghost use Rattle.kabi_types.specs.declared.scripts.ScriptFault.{ScriptFault};
 ghost use Rattle.posix_defs.specs.FirstScript.{first_text, first_script};
 ghost use Rattle.posix_defs.specs.ScriptText.{ReadsText};
+ghost use Rattle.posix_defs.specs.ValidScript.{IsValid};
 
 /// A text reads as one script at most and has one fault at most, and never both.
 pub fn a_text_reads_in_one_way()
@@ -25,4 +26,9 @@ pub fn worked_texts_read()
     ensures unknown { ReadsText (codes "program init\nlabel a\njmp a\nend\n") (Err (record { line = 3; what = UnknownWord })) }
     ensures not_built { ReadsText (codes "program init\nr1 = fork\nend\n") (Err (record { line = 2; what = NotBuilt })) }
     ensures unended { ReadsText (codes "heap 8192\nprogram init\njmp a\n") (Err (record { line = 2; what = Unended })) }
+{}
+
+/// Every script that a text says keeps what scripts promise: its numbers are in their ranges, and its jumps go to labels.
+pub fn what_reads_is_valid()
+    ensures { (text : List ℕ) (script : Script) → ReadsText text (Ok script) → IsValid script }
 {}

@@ -31,7 +31,10 @@ mod tests_statements;
 mod values;
 mod words;
 
-pub use laws::{a_text_reads_in_one_way, every_text_reads_or_has_a_fault, worked_texts_read};
+pub use laws::{
+    a_text_reads_in_one_way, every_text_reads_or_has_a_fault, what_reads_is_valid,
+    worked_texts_read,
+};
 pub use parse_error::ParseError;
 use posix_defs::{AtTop, InProgram, Setting, Shape, Spoken, Stated, Word};
 pub use printing::print;

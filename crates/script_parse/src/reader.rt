@@ -1,7 +1,8 @@
 //! Reading a script.
 
-ghost use Rattle.std.specs.Prelude.{◌≡◌, ◌≢◌, ◌==◌, ◌∷◌, ◌++◌, ◌≤◌, false, All, MatchOption, length};
+ghost use Rattle.std.specs.Prelude.{◌≡◌, ◌≢◌, ◌==◌, ◌∷◌, ◌++◌, ◌≤◌, false, All, IfOk, MatchOption, length};
 ghost use Rattle.std.specs.List.{slice_split};
+ghost use Rattle.posix_defs.specs.ValidScript.{IsValid};
 ghost use Rattle.script_parse.specs.Reading.{Outcome};
 ghost use Rattle.posix_defs.specs.ScriptText.{ReadsText};
 ghost use Rattle.script_parse.specs.Drafting.{Reads, at_start};
@@ -45,9 +46,11 @@ fn read_lines(alloc: Global, text: &[u8]) -> Result<Script, ParseError>
 }
 
 /// The script that a text says. `Bad` is the first line at fault, and on it the fault that is told before its others; a
-/// program without `end` is at fault at its first line. `Memory` comes where the host has no memory left.
+/// program without `end` is at fault at its first line. `Memory` comes where the host has no memory left. The numbers of a
+/// script are in their ranges, and its jumps go to labels.
 pub fn parse(alloc: Global, text: &[u8]) -> Result<Script, ParseError>
-    ensures { Outcome (λ script. script) result (ReadsText text.now) }
+    ensures reads { Outcome (λ script. script) result (ReadsText text.now) }
+    ensures valid { IfOk result IsValid }
 {
     if text.len() > MOST_BYTES {
         return Err(ParseError::Bad(ScriptFault {

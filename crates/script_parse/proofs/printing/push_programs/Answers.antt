@@ -1,4 +1,4 @@
-use Rattle.std.proofs.Common.{◌++◌, string_bytes, arith}
+use Rattle.std.proofs.Common.{string_bytes, arith}
 use Rattle.posix_defs.specs.Canonical.{line_text, program_lines}
 use Rattle.script_parse.proofs.Printed.{all_lists_printed}
 use Rattle.script_parse.proofs.printing.push_programs.Goals as goal

@@ -1,4 +1,4 @@
-use Rattle.std.proofs.Common.{◌≡◌, ◌++◌, map, string_bytes, take}
+use Rattle.std.proofs.Common.{◌≡◌, ◌++◌, string_bytes, take}
 use Rattle.std.specs.List.{flat_map}
 use Rattle.posix_defs.specs.Canonical.{line_text, program_lines}
 use Rattle.script_parse.proofs.printing.push_programs.Given as goal
