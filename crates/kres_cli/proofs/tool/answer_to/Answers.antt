@@ -9,10 +9,10 @@ pub run_script-requires : goal.run_script-requires
 run_script-requires c = c.in-Ok.ensures.valid
 
 pub returns-in-Ok : goal.returns-in-Ok
-returns-in-Ok c = IfOk-map c.run_script.result (λ answer ran. reports c.in-Ok.script answer.status c.in-Ok.ensures.outcome ran) c.run_script.ensures
+returns-in-Ok c = IfOk-map c.run_script.result (λ answer ran. reports c.in-Ok.script answer.status c.in-Ok.ensures.reads ran) c.run_script.ensures
 
 pub returns-in_ok-fault_line-in-Err-Bad : goal.returns-in_ok-fault_line-in-Err-Bad
 returns-in_ok-fault_line-in-Err-Bad c =
     refuses c.in-Err-Bad.fault
-    (subst (λ error. Outcome (λ script. script) (Err error) (ReadsText c.args.text.now)) c.in-Err-Bad.field-0-is c.in-Err-Bad.ensures.outcome)
+    (subst (λ error. Outcome (λ script. script) (Err error) (ReadsText c.args.text.now)) c.in-Err-Bad.field-0-is c.in-Err-Bad.ensures.reads)
     c.in_ok-fault_line-in-Err-Bad.ensures
