@@ -8,7 +8,7 @@ use Rattle.posix_defs.specs.World.{World}
 use Rattle.posix_defs.specs.CoreState.{CoreState, boot_state}
 use Rattle.posix_defs.specs.Ends.{end_of}
 use Rattle.posix_defs.specs.Choice.{chosen, named_by}
-use Rattle.posix_defs.specs.Generator.{next_state, state_after, choice_of}
+use Rattle.posix_defs.specs.Generator.{next_state, state_after}
 use Rattle.posix_defs.specs.CoreRun.{IsPickedRun, boots, goes_on}
 use Rattle.posix_defs.proofs.Picking.{named_is_enabled}
 use Rattle.kern_core.specs.View.{CoreView, IsAt, HasBooted, Took}

@@ -1,5 +1,5 @@
 -- The worlds that a store of one process stands for, before and behind a call.
-use Rattle.std.proofs.Common.{◌≡◌, ◌≢◌, ℕ, zero, suc, Bool, true, false, List, [], ◌∷◌, length, Option, None, Some, refl, ap, sym, ◌∙◌, subst, arith}
+use Rattle.std.proofs.Common.{◌≡◌, ◌≢◌, ℕ, zero, suc, Bool, true, false, refl, ap, sym, ◌∙◌, subst, arith}
 use Rattle.std.specs.Prelude.{ℤ, pos}
 use Rattle.kabi_types.specs.declared.calls.Call.{Call}
 use Rattle.kabi_types.specs.declared.calls.Call.TheVariants as call
@@ -17,7 +17,7 @@ use Rattle.posix_defs.specs.Plain.{Plain, call_of}
 use Rattle.posix_defs.specs.Posix.{posix, replied}
 use Rattle.posix_defs.specs.Process.{is_alive, parent_of}
 use Rattle.posix_defs.specs.Turn.{Answers, Tells, TurnsTo, TurnsWhere}
-use Rattle.posix_defs.specs.World.{World, live_of}
+use Rattle.posix_defs.specs.World.{World}
 use Rattle.prog_ctl.specs.Runnable.{Rests}
 use Rattle.prog_ctl.proofs.Settling.{after_is, rests_settled}
 use Rattle.kres_cli.specs.Store.{StandsFor, table_of, world_of}

@@ -2,6 +2,7 @@
 #![tactic(auto)]
 
 mod choosing;
+mod commands;
 mod lines;
 mod plain_store;
 mod reading;

@@ -1,8 +1,12 @@
-ghost use Rattle.std.specs.Prelude.{◌≡◌, ◌↔◌, ℕ, List, Option, IsTrue, IfOk, string_bytes};
+ghost use Rattle.std.specs.Prelude.{◌≡◌, ℕ, List, Option, IfOk, string_bytes};
 ghost use Rattle.posix_defs.specs.ValidScript.{IsValid};
 ghost use Rattle.kres_cli.specs.Run.{IsReport};
-ghost use Rattle.kres_cli.specs.Tool.{AnswersText, AreSim, HasPut, OthersEnd, SimEnds};
+ghost use Rattle.kres_cli.specs.Tool.{AnswersText, Asks, CommandEnds, HasPut, Makes, OthersEnd, TellsError};
+ghost use Rattle.kres_cli.specs.declared.commands.Command.{Command};
+ghost use Rattle.kres_cli.specs.declared.statuses.Status.TheVariants.{Finished};
+ghost use Rattle.posix_defs.specs.Canonical.{canonical};
 
+use crate::commands::{Command, command_of};
 use crate::lines::{fault_line, report};
 use crate::plain_store::PlainStore;
 use crate::reading::read_text;
@@ -13,7 +17,7 @@ use crate::writing::write_text;
 use kabi_types::{Memory, Script};
 use kern_core::Core;
 use kio_ports::{Sink, Source};
-use script_parse::{ParseError, parse};
+use script_parse::{ParseError, parse, print};
 use std::alloc::Global;
 
 /// What is written where the words aren't the program's.
@@ -35,7 +39,17 @@ pub fn run_tool<R, S: Source, K: Sink>(
     source: &mut S,
     sink: &mut K,
 ) -> Status
-    ensures sim { AreSim words.now → SimEnds (record {
+    ensures commands { (command : Command) → Asks words.now command → CommandEnds (record {
+      left = S.left source.old;
+      left' = S.left source.new;
+      held = K.held sink.old;
+      held' = K.held sink.new;
+      takes = S.faults source.old;
+      takes' = S.faults source.new;
+      puts = K.faults sink.old;
+      puts' = K.faults sink.new;
+    }) command result }
+    ensures others { ((command : Command) → Asks words.now command → ⊥) → OthersEnd (record {
       left = S.left source.old;
       left' = S.left source.new;
       held = K.held sink.old;
@@ -45,31 +59,11 @@ pub fn run_tool<R, S: Source, K: Sink>(
       puts = K.faults sink.old;
       puts' = K.faults sink.new;
     }) result }
-    ensures others { (AreSim words.now → ⊥) → OthersEnd (record {
-      left = S.left source.old;
-      left' = S.left source.new;
-      held = K.held sink.old;
-      held' = K.held sink.new;
-      takes = S.faults source.old;
-      takes' = S.faults source.new;
-      puts = K.faults sink.old;
-      puts' = K.faults sink.new;
-    }) result }
-    ensures untouched { (AreSim words.now → ⊥) → source.new ≡ source.old }
+    ensures untouched { ((command : Command) → Asks words.now command → ⊥) → source.new ≡ source.old }
 {
-    if are_sim(words) {
-        sim(alloc, source, sink)
-    } else {
-        put(sink, USAGE, Status::Usage)
-    }
-}
-
-fn are_sim(words: &[String]) -> bool
-    ensures { IsTrue result ↔ AreSim words.now }
-{
-    match words {
-        [word] => word.as_str() == "sim",
-        _ => false,
+    match command_of(words) {
+        Some(command) => obey(alloc, command, source, sink),
+        None => put(sink, USAGE, Status::Usage),
     }
 }
 
@@ -92,9 +86,9 @@ fn put<K: Sink>(sink: &mut K, text: &str, status: Status) -> Status
     }
 }
 
-/// Reads a script from the source, runs it, and writes its report.
-fn sim<S: Source, K: Sink>(alloc: Global, source: &mut S, sink: &mut K) -> Status
-    ensures { SimEnds (record {
+/// Reads a script from the source, does what the command asks for, and writes the answer.
+fn obey<S: Source, K: Sink>(alloc: Global, command: Command, source: &mut S, sink: &mut K) -> Status
+    ensures { CommandEnds (record {
       left = S.left source.old;
       left' = S.left source.new;
       held = K.held sink.old;
@@ -103,31 +97,61 @@ fn sim<S: Source, K: Sink>(alloc: Global, source: &mut S, sink: &mut K) -> Statu
       takes' = S.faults source.new;
       puts = K.faults sink.old;
       puts' = K.faults sink.new;
-    }) result }
+    }) command result }
 {
     let text = match read_text(alloc, source) {
         Ok(Text::Read(text)) => text,
         Ok(Text::Fault) => return Status::ReadFault,
         Err(Memory) => return Status::Memory,
     };
-    match answer_to(alloc, text.as_slice()) {
+    match answer_to(alloc, command, text.as_slice()) {
         Ok(answer) => put(sink, answer.text.as_str(), answer.status),
         Err(Memory) => Status::Memory,
     }
 }
 
 /// What is written in answer to a text, and with which status.
-fn answer_to(alloc: Global, text: &[u8]) -> Result<Answer, Memory>
-    ensures { IfOk result (λ answer. AnswersText text.now (string_bytes answer.text) answer.status) }
+fn answer_to(alloc: Global, command: Command, text: &[u8]) -> Result<Answer, Memory>
+    ensures { IfOk result (λ answer. AnswersText text.now (string_bytes answer.text) command answer.status) }
 {
     match parse(alloc, text) {
-        Ok(script) => run_script(alloc, &script),
-        Err(ParseError::Bad(fault)) => Ok(Answer {
+        Ok(script) => obey_script(alloc, command, &script),
+        Err(error) => refuse(alloc, error),
+    }
+}
+
+/// Tells why a text isn't read.
+fn refuse(alloc: Global, error: ParseError) -> Result<Answer, Memory>
+    ensures { IfOk result (λ answer. TellsError error (string_bytes answer.text) answer.status) }
+{
+    match error {
+        ParseError::Bad(fault) => Ok(Answer {
             text: fault_line(alloc, fault)?,
             status: Status::BadScript,
         }),
-        Err(ParseError::Memory) => Err(Memory),
+        ParseError::Memory => Err(Memory),
     }
+}
+
+/// What the command makes of a script.
+fn obey_script(alloc: Global, command: Command, script: &Script) -> Result<Answer, Memory>
+    requires { IsValid script.now }
+    ensures { IfOk result (λ answer. Makes command script.now (string_bytes answer.text) answer.status) }
+{
+    match command {
+        Command::Sim => run_script(alloc, script),
+        Command::Print => print_script(alloc, script),
+    }
+}
+
+/// Prints a script in its canonical form.
+fn print_script(alloc: Global, script: &Script) -> Result<Answer, Memory>
+    ensures { IfOk result (λ answer. (string_bytes answer.text ≡ canonical script.now) × (answer.status ≡ Finished)) }
+{
+    Ok(Answer {
+        text: print(alloc, script)?,
+        status: Status::Finished,
+    })
 }
 
 /// Runs a script to its end, and reports every event.

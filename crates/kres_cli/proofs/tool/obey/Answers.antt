@@ -1,8 +1,8 @@
 use Rattle.std.proofs.Common.{subst, string_bytes}
 use Rattle.kres_cli.specs.Read.{HasRead}
 use Rattle.kres_cli.specs.Tool.{Streams, AnswersText, HasPut}
-use Rattle.kres_cli.proofs.Outcomes.{sim_put}
-use Rattle.kres_cli.proofs.tool.sim.Goals as goal
+use Rattle.kres_cli.proofs.Outcomes.{command_put}
+use Rattle.kres_cli.proofs.tool.obey.Goals as goal
 
 pub returns-in-Ok : goal.returns-in-Ok
 returns-in-Ok g c =
@@ -19,8 +19,8 @@ returns-in-Ok g c =
       puts' = g.K.Sink.faults c.put.new.sink;
     } in
     let read = subst (λ text. HasRead text streams.left streams.left' streams.takes streams.takes') c.in-Ok-Read.field-0-is c.in-Ok-Read.ensures.read in
-    let answers = subst (λ text. AnswersText text (string_bytes c.in-Ok.answer.text) c.in-Ok.answer.status) c.as_slice.ensures.value c.in-Ok.ensures in
-    sim_put streams (string_bytes c.in-Ok.answer.text) c.in-Ok.answer.status c.put.result
+    let answers = subst (λ text. AnswersText text (string_bytes c.in-Ok.answer.text) c.args.command c.in-Ok.answer.status) c.as_slice.ensures.value c.in-Ok.ensures in
+    command_put streams c.args.command (string_bytes c.in-Ok.answer.text) c.in-Ok.answer.status c.put.result
     (record { text = c.in-Ok-Read.text.items; taken = read.0; no_fault = read.1; answers = answers })
     (subst (λ whole. HasPut streams whole c.in-Ok.answer.status c.put.result) c.as_str.ensures.value
     (c.put.ensures streams.left streams.left' streams.takes streams.takes'))
