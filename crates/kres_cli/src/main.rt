@@ -10,6 +10,8 @@ mod runs;
 mod statuses;
 #[cfg(test)]
 mod tests;
+#[cfg(test)]
+mod tests_print;
 mod text;
 mod tool;
 mod writing;

@@ -21,13 +21,17 @@ end finished events 6 charged 2304 peak 2816 reads 0
 
 const USAGE: &str = "usage: kres sim | threads W | print | table | gen N | load N\n";
 
-/// What the tool answers to `sim` on a text that comes and goes whole, and what it writes.
-fn sim_on(rt: &HostRuntime, text: Vec<u8>) -> Result<(Status, MemSink), Fail> {
-    let words = vec![in rt.alloc(); "sim".to_string(rt.alloc())?]?;
+/// What the tool answers to a word on a text that comes and goes whole, and what it writes.
+pub fn answer_on(rt: &HostRuntime, word: &str, text: Vec<u8>) -> Result<(Status, MemSink), Fail> {
+    let words = vec![in rt.alloc(); word.to_string(rt.alloc())?]?;
     let mut source = MemSource::new(text, Vec::new(rt.alloc()), usize::MAX);
     let mut sink = MemSink::new(rt.alloc(), ROOM, Vec::new(rt.alloc()), usize::MAX)?;
     let status = run_tool(rt, rt.alloc(), words.as_slice(), &mut source, &mut sink);
     Ok((status, sink))
+}
+
+fn sim_on(rt: &HostRuntime, text: Vec<u8>) -> Result<(Status, MemSink), Fail> {
+    answer_on(rt, "sim", text)
 }
 
 #[test]
@@ -80,13 +84,14 @@ fn ends_right_whichever_allocation_is_refused(rt: HostRuntime) {
     }
 }
 
-/// The first of these texts that `sim` doesn't answer with its status and its text.
-fn first_other<'a>(
+/// The first of these texts that the word doesn't answer with its status and its text.
+pub fn first_other<'a>(
     rt: &HostRuntime,
+    word: &str,
     cases: &[(&'a str, Status, &str)],
 ) -> Result<Option<&'a str>, Fail> {
     for (script, wanted, whole) in cases {
-        let (status, sink) = sim_on(rt, script.as_bytes().to_vec(rt.alloc())?)?;
+        let (status, sink) = answer_on(rt, word, script.as_bytes().to_vec(rt.alloc())?)?;
         if status != *wanted || sink.bytes() != whole.as_bytes() {
             return Ok(Some(*script));
         }
@@ -144,7 +149,7 @@ fn tells_the_fault_of_what_is_no_script(rt: HostRuntime) -> Result<(), Fail> {
             "bad script: line 2: unended\n",
         ),
     ];
-    assert_eq!(rt; first_other(&rt, cases.as_slice())?, None);
+    assert_eq!(rt; first_other(&rt, "sim", cases.as_slice())?, None);
     Ok(())
 }
 
@@ -300,7 +305,7 @@ fn a_choice_changes_nothing_where_one_event_is_enabled(rt: HostRuntime) -> Resul
             PID_REPORT,
         ),
     ];
-    assert_eq!(rt; first_other(&rt, cases.as_slice())?, None);
+    assert_eq!(rt; first_other(&rt, "sim", cases.as_slice())?, None);
     Ok(())
 }
 
@@ -345,7 +350,16 @@ fn stops_after_the_steps_of_the_script(rt: HostRuntime) -> Result<(), Fail> {
 
 #[test]
 fn tells_the_words_that_it_knows(rt: HostRuntime) -> Result<(), Fail> {
-    for line in ["", "x", "sim x", "--help", "sims", "Sim"] {
+    for line in [
+        "",
+        "x",
+        "sim x",
+        "--help",
+        "sims",
+        "Sim",
+        "print sim",
+        "print print",
+    ] {
         let mut words = Vec::new(rt.alloc());
         for word in line.split_whitespace() {
             words.push(word.to_string(rt.alloc())?)?;
