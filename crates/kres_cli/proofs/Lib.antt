@@ -1,11 +1,7 @@
-pub mod Bodies
-pub mod Digits
+pub mod Booting
 pub mod EventLines
-pub mod FirstLine
 pub mod Outcomes
 pub mod Picks
 pub mod Pieces
 pub mod Puts
-pub mod Says
-pub mod Scripts
-pub mod SmallScripts
+pub mod Standing

@@ -1,27 +1,40 @@
 -- A run that goes by the rule of choice.
-use Rattle.std.proofs.Common.{◌≡◌, ℕ, cond, [], ◌∷◌, ◌++◌, length, Option, None, Some, is_some, refl, ap, sym, ◌∙◌, subst}
-use Rattle.kabi_types.specs.declared.entries.End.{End}
+use Rattle.std.proofs.Common.{◌≡◌, ℕ, zero, suc, ◌+◌, List, [], ◌∷◌, ◌++◌, length, Option, None, Some, refl, ap, sym, ◌∙◌, subst, arith, length-append}
 use Rattle.kabi_types.specs.declared.entries.Event.{Event}
 use Rattle.kabi_types.specs.declared.entries.Noted.{Noted}
+use Rattle.kabi_types.specs.declared.scripts.Chooser.{Chooser}
 use Rattle.kabi_types.specs.declared.scripts.Script.{Script}
 use Rattle.posix_defs.specs.World.{World}
 use Rattle.posix_defs.specs.CoreState.{CoreState, boot_state}
 use Rattle.posix_defs.specs.Ends.{end_of}
-use Rattle.posix_defs.specs.Choice.{default_of, default_in}
+use Rattle.posix_defs.specs.Choice.{chosen, named_by}
+use Rattle.posix_defs.specs.Generator.{next_state, state_after}
 use Rattle.posix_defs.specs.CoreRun.{IsPickedRun, boots, goes_on}
-use Rattle.posix_defs.proofs.EnabledEvents.{enabled}
+use Rattle.posix_defs.proofs.Picking.{named_is_enabled}
 use Rattle.kern_core.specs.View.{CoreView, IsAt, HasBooted, Took}
+use Rattle.kres_cli.specs.declared.choosing.Choosing.{Choosing}
+use Rattle.kres_cli.specs.Choosing.{given}
 use Rattle.kres_cli.specs.Run.{HasPicked}
 
--- an event is picked where no end stands, and it is the default
-pub picked : (script : Script) (steps taken : ℕ) (s : CoreState) (event : Event) → default_in script steps taken s ≡ Some event
-    → (end_of steps taken s ≡ None) × (default_of script s ≡ Some event)
-picked script steps taken s event e = go (end_of steps taken s) refl e
-  where
-    go : (end : Option End) → end_of steps taken s ≡ end → cond (is_some end) None (default_of script s) ≡ Some event
-        → (end_of steps taken s ≡ None) × (default_of script s ≡ Some event)
-    go None p q = (p, q)
-    go (Some end) p q = cc
+-- the generator goes on in the same way from a later state
+pub state_later : (x i : ℕ) → state_after (next_state x) i ≡ next_state (state_after x i)
+state_later x zero = refl
+state_later x (suc i) = ap next_state (state_later x i)
+
+-- who chooses the events behind so many chooses them as the chooser of the script does
+abbrev pub ChoosesFrom : Choosing → Chooser → ℕ → Type 0
+ChoosesFrom choosing chooser taken = (i : ℕ) → given choosing i ≡ chosen chooser (suc (taken + i))
+
+-- one event further
+pub chooses_more : (choosing rest : Choosing) (chooser : Chooser) (old new : List Noted) (noted : Noted) → ChoosesFrom choosing chooser (length old)
+    → ((i : ℕ) → given rest i ≡ given choosing (suc i)) → new ≡ old ++ noted ∷ [] → ChoosesFrom rest chooser (length new)
+chooses_more choosing rest chooser old new noted before later longer = λ i.
+    let many : length new ≡ length old + 1 = ap length longer ∙ length-append old (noted ∷ []) in
+    later i ∙ before (suc i) ∙ ap (chosen chooser) (let places : suc (length old + suc i) ≡ suc (length new + i) = omega (arith, many) in places)
+
+-- the number of the next event
+pub chooses_next : (choosing : Choosing) (chooser : Chooser) (taken : ℕ) → ChoosesFrom choosing chooser taken → given choosing 0 ≡ chosen chooser (taken + 1)
+chooses_next choosing chooser taken chooses = chooses 0 ∙ ap (chosen chooser) (let next : suc (taken + 0) ≡ taken + 1 = omega arith in next)
 
 pub picked_boot : {T : Type 0} (stands_for : T → World → Type 0) (script : Script) (core : CoreView T) → HasBooted stands_for script core → HasPicked stands_for script core
 picked_boot stands_for script core booted = record {
@@ -30,18 +43,20 @@ picked_boot stands_for script core booted = record {
   runs = subst (λ run. IsPickedRun script core.steps run (boot_state script)) (sym booted.run) boots;
 }
 
--- one event further
-pub picked_more : {T : Type 0} (stands_for : T → World → Type 0) (script : Script) (old new : CoreView T) (event : Event) (noted : Noted)
-    → HasPicked stands_for script old
-    → ((s : CoreState) → IsAt stands_for old s → Some event ≡ default_in script old.steps (length old.run) s)
+-- the run is one event longer
+pub picked_more : {T : Type 0} (stands_for : T → World → Type 0) (script : Script) (old new : CoreView T) (event : Event) (noted : Noted) (number : Option ℕ)
+    → HasPicked stands_for script old → number ≡ chosen script.chooser (length old.run + 1)
+    → ((s : CoreState) → IsAt stands_for old s → end_of old.steps (length old.run) s ≡ None)
+    → ((s : CoreState) → IsAt stands_for old s → named_by number script s ≡ Some event)
     → Took stands_for script old event noted new → HasPicked stands_for script new
-picked_more stands_for script old new event noted before chosen took =
-    let pick = picked script old.steps (length old.run) before.state event (sym (chosen before.state before.is_at)) in
-    let led = took.leads before.state before.is_at (enabled script before.state 0 event pick.1) in
+picked_more stands_for script old new event noted number before chooses no_end names took =
+    let named = names before.state before.is_at in
+    let led = took.leads before.state before.is_at (named_is_enabled script before.state event number named) in
+    let picked = ap (λ n. named_by n script before.state) (sym chooses) ∙ named ∙ ap Some (sym took.taken) in
     record {
       state = led.0;
       is_at = led.1;
       runs = subst (λ run. IsPickedRun script new.steps run led.0) (sym took.run)
           (subst (λ steps. IsPickedRun script steps (old.run ++ noted ∷ []) led.0) (sym took.steps)
-          (goes_on old.run before.state led.0 noted before.runs pick.0 (pick.1 ∙ ap Some (sym took.taken)) led.2));
+          (goes_on old.run before.state led.0 noted before.runs (no_end before.state before.is_at) picked led.2));
     }

@@ -1,5 +1,6 @@
+pub mod Choosing
 pub mod Read
 pub mod Run
-pub mod Small
 pub mod Status
+pub mod Store
 pub mod Tool

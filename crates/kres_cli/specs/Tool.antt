@@ -1,9 +1,16 @@
 -- What the tool answers to its words, and what it writes.
-use Rattle.std.specs.Prelude.{ℕ, ◌≡◌, ◌<◌, List, [], ◌∷◌, length, take, Option, String, string_bytes, codes}
+use Rattle.std.specs.Prelude.{ℕ, ◌≡◌, ◌<◌, List, [], ◌∷◌, length, take, Option, Ok, Err, String, string_bytes, codes}
 use Rattle.std.specs.Io.KnownBytes.{Appends}
 use Rattle.kabi_types.specs.declared.scripts.Script.{Script}
+use Rattle.kabi_types.specs.declared.scripts.ScriptFault.{ScriptFault}
 use Rattle.kio_ports.specs.Faults.{HasRisen}
-use Rattle.posix_defs.specs.SmallScript.{ReadsAs}
+use Rattle.posix_defs.specs.Canonical.{canonical}
+use Rattle.posix_defs.specs.Lines.{fault_line}
+use Rattle.posix_defs.specs.ScriptText.{ReadsText}
+use Rattle.script_parse.specs.declared.parse_error.ParseError.{ParseError}
+use Rattle.script_parse.specs.declared.parse_error.ParseError.TheVariants as error
+use Rattle.kres_cli.specs.declared.commands.Command.{Command}
+use Rattle.kres_cli.specs.declared.commands.Command.TheVariants as command
 use Rattle.kres_cli.specs.declared.statuses.Status.{Status}
 use Rattle.kres_cli.specs.declared.statuses.Status.TheVariants.{Finished, BadScript, Usage, Starved, AllAsleep, Spent, ReadFault, WriteFault, Memory}
 use Rattle.kres_cli.specs.Read.{HasTaken}
@@ -12,10 +19,6 @@ use Rattle.kres_cli.specs.Run.{IsReport}
 -- what is written where the words aren't the program's
 abbrev pub usage_line : List ℕ
 usage_line = codes "usage: kres sim | threads W | print | table | gen N | load N\n"
-
--- what is written where a text is no script
-abbrev pub bad_line : List ℕ
-bad_line = codes "bad script: line 0: not built\n"
 
 -- The streams before and after: the bytes that the source has left and those that the sink holds, where they tell them,
 -- and how many takes and puts have failed.
@@ -29,17 +32,27 @@ pub record Streams : Type 0 where
   pub puts : ℕ
   pub puts' : ℕ
 
--- The text is answered by this one, with this status: the one line where it says no script, else the report of its run.
-pub data AnswersText (text whole : List ℕ) : Status → Type 0 where
-  refuses : ((script : Script) → ReadsAs text script → ⊥) → whole ≡ bad_line → AnswersText text whole BadScript
-  reports : (script : Script) (status : Status) → ReadsAs text script → IsReport script whole status → AnswersText text whole status
+-- what a command makes of a script: the report of its run, with that end's status; or the script in its canonical form
+abbrev pub Makes : Command → Script → List ℕ → Status → Type 0
+Makes command.Sim script whole status = IsReport script whole status
+Makes command.Print script whole status = (whole ≡ canonical script) × (status ≡ Finished)
+
+-- The text is answered by this one, with this status: the line of its fault, or what the command makes of its script.
+pub data AnswersText (text whole : List ℕ) (asked : Command) : Status → Type 0 where
+  refuses : (fault : ScriptFault) → ReadsText text (Err fault) → whole ≡ fault_line fault → AnswersText text whole asked BadScript
+  makes : (script : Script) (status : Status) → ReadsText text (Ok script) → Makes asked script whole status → AnswersText text whole asked status
+
+-- the line and the status of a fault; nothing is told where the host has no memory
+abbrev pub TellsError : ParseError → List ℕ → Status → Type 0
+TellsError (error.Bad fault) whole status = (whole ≡ fault_line fault) × (status ≡ BadScript)
+TellsError error.Memory whole status = ⊥
 
 -- What was read, to its end or to the byte that is too many, is answered so.
-pub record AnswersSource (s : Streams) (status : Status) (whole : List ℕ) : Type 0 where
+pub record AnswersSource (s : Streams) (asked : Command) (status : Status) (whole : List ℕ) : Type 0 where
   pub text : List ℕ
   pub taken : HasTaken text s.left s.left'
   pub no_fault : s.takes' ≡ s.takes
-  pub answers : AnswersText text whole status
+  pub answers : AnswersText text whole asked status
 
 -- the whole text was written
 abbrev pub Wrote : Streams → List ℕ → Type 0
@@ -52,17 +65,21 @@ pub record Broke (s : Streams) (whole : List ℕ) : Type 0 where
   pub begun : Appends s.held s.held' (take count whole)
   pub fault : HasRisen s.puts s.puts'
 
--- what `sim` may end with
-abbrev pub SimEnds : Streams → Status → Type 0
-SimEnds s Finished = (whole : List ℕ) × AnswersSource s Finished whole × Wrote s whole
-SimEnds s BadScript = (whole : List ℕ) × AnswersSource s BadScript whole × Wrote s whole
-SimEnds s Usage = ⊥
-SimEnds s Starved = (whole : List ℕ) × AnswersSource s Starved whole × Wrote s whole
-SimEnds s AllAsleep = (whole : List ℕ) × AnswersSource s AllAsleep whole × Wrote s whole
-SimEnds s Spent = (whole : List ℕ) × AnswersSource s Spent whole × Wrote s whole
-SimEnds s ReadFault = HasRisen s.takes s.takes' × (s.held' ≡ s.held)
-SimEnds s WriteFault = (status : Status) × (whole : List ℕ) × AnswersSource s status whole × Broke s whole
-SimEnds s Memory = s.held' ≡ s.held
+-- what was read is answered whole, with this status
+abbrev pub Answered : Streams → Command → Status → Type 0
+Answered s asked status = (whole : List ℕ) × AnswersSource s asked status whole × Wrote s whole
+
+-- what a command may end with
+abbrev pub CommandEnds : Streams → Command → Status → Type 0
+CommandEnds s asked Finished = Answered s asked Finished
+CommandEnds s asked BadScript = Answered s asked BadScript
+CommandEnds s asked Usage = ⊥
+CommandEnds s asked Starved = Answered s asked Starved
+CommandEnds s asked AllAsleep = Answered s asked AllAsleep
+CommandEnds s asked Spent = Answered s asked Spent
+CommandEnds s asked ReadFault = HasRisen s.takes s.takes' × (s.held' ≡ s.held)
+CommandEnds s asked WriteFault = (status : Status) × (whole : List ℕ) × AnswersSource s asked status whole × Broke s whole
+CommandEnds s asked Memory = s.held' ≡ s.held
 
 -- what other words may end with
 abbrev pub OthersEnd : Streams → Status → Type 0
@@ -70,12 +87,17 @@ OthersEnd s Usage = Wrote s usage_line
 OthersEnd s WriteFault = Broke s usage_line
 OthersEnd s _ = ⊥
 
+-- the word of a command
+abbrev pub word_of : Command → List ℕ
+word_of command.Sim = codes "sim"
+word_of command.Print = codes "print"
+
 module _ {A : Type 0} where
-  -- the words are `sim`
-  abbrev pub AreSim : List (String A) → Type 0
-  AreSim [] = ⊥
-  AreSim (word ∷ []) = string_bytes word ≡ codes "sim"
-  AreSim (word ∷ other ∷ words) = ⊥
+  -- the words are this command
+  abbrev pub Asks : List (String A) → Command → Type 0
+  Asks [] asked = ⊥
+  Asks (word ∷ []) asked = string_bytes word ≡ word_of asked
+  Asks (word ∷ other ∷ words) asked = ⊥
 
 -- The sink got the whole text, and the status stands; or it failed.
 pub data HasPut (s : Streams) (whole : List ℕ) (status : Status) : Status → Type 0 where

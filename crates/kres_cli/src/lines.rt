@@ -1,9 +1,12 @@
-//! The lines of a report: one for each event of a run, and the end line.
+//! The lines of a report: one for each event of a run, and the end line; and the line of a text that is no script.
 
 ghost use Rattle.std.specs.Prelude.{◌≡◌, ℕ, ◌+◌, ◌^◌, ◌<◌, ◌++◌, length, IfOk, OnOk, string_bytes};
-ghost use Rattle.posix_defs.specs.Lines.{status_text, reply_text, cache_text, entry_text, kind_text, node_text, event_text, event_line, event_lines, end_text, end_line};
+ghost use Rattle.posix_defs.specs.Lines.{status_text, reply_text, cache_text, entry_text, kind_text, node_text, event_text, event_line, event_lines, end_text, end_line, fault_text, fault_line};
 
-use kabi_types::{Cached, CallKind, End, Entry, Event, NodeKind, Noted, PollHits, Reply, StatInfo};
+use kabi_types::{
+    Cached, CallKind, End, Entry, Event, FaultKind, NodeKind, Noted, PollHits, Reply, ScriptFault,
+    StatInfo,
+};
 use std::alloc::{AllocError, Global};
 
 /// The report of a run that ended so: a line for each of its events, numbered from 1, and the end line, which tells
@@ -217,5 +220,34 @@ fn cache_name(what: Cached) -> &'static str
         Cached::Name => "name",
         Cached::Block => "block",
         Cached::Vnode => "vnode",
+    }
+}
+
+/// The line that tells the fault of a text.
+pub fn fault_line(alloc: Global, fault: ScriptFault) -> Result<String, AllocError>
+    ensures { IfOk result (λ text. string_bytes text ≡ fault_line fault) }
+{
+    let line = fault.line;
+    let what = fault_text(fault.what);
+    let mut text = String::new(alloc);
+    write!(&mut text, "bad script: line {line}: {what}\n")?;
+    Ok(text)
+}
+
+fn fault_text(what: FaultKind) -> &'static str
+    ensures { result.now ≡ fault_text what }
+{
+    match what {
+        FaultKind::NotUtf8 => "not utf-8",
+        FaultKind::UnknownWord => "unknown word",
+        FaultKind::BadNumber => "bad number",
+        FaultKind::OutOfRange => "out of range",
+        FaultKind::NoSuchLabel => "no such label",
+        FaultKind::WrongWay => "wrong way",
+        FaultKind::TwiceDefined => "twice defined",
+        FaultKind::Unended => "unended",
+        FaultKind::NoInit => "no init",
+        FaultKind::TooLong => "too long",
+        FaultKind::NotBuilt => "not built",
     }
 }

@@ -1,16 +1,17 @@
 //! `kres`: runs scripts of processes on a kernel that reserves its heap before it runs a call.
 #![tactic(auto)]
 
-mod laws;
+mod choosing;
+mod commands;
 mod lines;
 mod plain_store;
 mod reading;
 mod runs;
-mod script;
-mod small;
 mod statuses;
 #[cfg(test)]
 mod tests;
+#[cfg(test)]
+mod tests_print;
 mod text;
 mod tool;
 mod writing;

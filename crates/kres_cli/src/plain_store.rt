@@ -1,12 +1,17 @@
-ghost use Rattle.std.specs.Prelude.{◌≡◌, ◌<◌, ◌≤◌, pos, true, slice_get, vec_len};
-ghost use Rattle.posix_defs.specs.World.{boot_world};
+ghost use Rattle.std.specs.Prelude.{◌≡◌, ◌≤◌, true, length};
+ghost use Rattle.kabi_types.specs.declared.scripts.Control.{Control};
+ghost use Rattle.posix_defs.specs.Control.{after, settled};
 ghost use Rattle.posix_defs.specs.Ending.{exit_status};
+ghost use Rattle.posix_defs.specs.Plain as plain;
 ghost use Rattle.posix_defs.specs.Turn.{Answers};
-ghost use Rattle.kres_cli.specs.Small.{IsRunnable, behind, script_of, small_call, world_of};
+ghost use Rattle.posix_defs.specs.ValidScript.{IsValid};
+ghost use Rattle.posix_defs.specs.World.{World, boot_world};
+ghost use Rattle.posix_defs.specs.declared.turner.Turned.TheVariants as turned;
+ghost use Rattle.kres_cli.specs.Store.{StandsFor};
 
-use crate::small::{Register, Small, SmallScript};
-use kabi_types::{Call, Control, Need, Reply};
+use kabi_types::{Call, Control, Errno, Need, Program, Reply, Script};
 use posix_defs::{Turned, Turner};
+use std::marker::Model;
 
 /// What one process takes of the kernel heap, with the root's vnode, in bytes.
 const LIVE: u64 = 640;
@@ -14,113 +19,121 @@ const LIVE: u64 = 640;
 /// What the root's vnode takes, in bytes.
 const ROOT: u64 = 128;
 
-/// A store of one process, which asks for its pid and ends.
-#[derive(Debug, Drop)]
-pub struct PlainStore {
-    script: SmallScript,
+/// A store of one process, which runs the program `init`.
+///
+/// Its control stands at its next call: the local statements before it are done.
+#[derive(Drop)]
+pub struct PlainStore<'a> {
+    script: &'a Script,
     control: Control,
     lives: bool,
-    ghost short: { vec_len script.body ≤ 1048576 },
-    ghost program: { control.program ≡ 0 },
-    ghost place: { control.place ≤ vec_len script.body },
 }
 
-impl PlainStore {
+impl<'a> Model for PlainStore<'a> {
+    ghost use Rattle.kres_cli.specs.Store.{StoreView, IsAtCall};
+
+    ghost Value = { StoreView };
+
+    ghost view = { λ store. record { script = store.script.now; control = store.control; lives = store.lives } };
+
+    ghost invariant = { λ store. IsAtCall store.script.now store.control };
+}
+
+impl<'a> PlainStore<'a> {
     /// The process at the start of its program.
-    pub fn boot(script: SmallScript) -> PlainStore
-        requires { IsRunnable script }
-        ensures script { result.script ≡ script }
-        ensures booted { world_of result.control result.lives ≡ boot_world (script_of script) }
+    pub fn boot(script: &'a Script) -> PlainStore<'a>
+        requires { IsValid script.now }
+        ensures script { result.script ≡ script.now }
+        ensures booted { StandsFor script.now result.control result.lives (boot_world script.now) }
     {
+        let mut control = Control {
+            program: place_of(script.programs.items(), b"init"),
+            place: 0,
+            regs: [0; 16],
+            done: 0,
+        };
+        let _ = prog_ctl::next_call(script, &mut control);
         PlainStore {
             script,
-            control: Control {
-                program: 0,
-                place: 0,
-                regs: [0; 16],
-                done: 0,
-            },
+            control,
             lives: true,
         }
     }
 
-    /// The statement that makes the next call; None at the end of the program.
-    fn statement(&self) -> Option<Small>
-        ensures { result ≡ slice_get self.now.script.body.items self.now.control.place }
-    {
-        self.script.body.get(self.control.place as usize).copied()
-    }
-
-    /// Goes on behind a call that was answered with the process's pid, which a register may get.
-    fn answer_pid(&mut self, register: Option<Register>)
-        requires { self.old.control.place < vec_len self.old.script.body }
+    /// Goes on behind the next call, which got this reply, to the call after it.
+    fn go_on(&mut self, reply: Reply) -> Turned
         ensures script { self.new.script ≡ self.old.script }
         ensures lives { self.new.lives ≡ self.old.lives }
-        ensures control { self.new.control ≡ behind self.old.control register }
+        ensures leads { (before : Control) → settled self.old.script before ≡ self.old.control
+            → settled self.old.script (after self.old.script before reply) ≡ self.new.control }
+        ensures told { result ≡ turned.Done reply }
     {
-        if let Some(register) = register {
-            self.control.regs[register.number as usize] = 1;
-        }
-        self.control.place += 1;
-        self.control.done = 0;
+        let mut control = self.control;
+        prog_ctl::answer(self.script, &mut control, &reply);
+        let _ = prog_ctl::next_call(self.script, &mut control);
+        self.control = control;
+        Turned::Done(reply)
     }
 
-    /// Runs the next call of the process, which is alive.
-    fn run_statement(&mut self) -> Turned
+    /// Runs a call of the process, which is alive.
+    fn run_call(&mut self, call: &Call) -> Turned
         requires { self.old.lives ≡ true }
         ensures script { self.new.script ≡ self.old.script }
-        ensures answers { Answers (script_of self.old.script) (world_of self.old.control true) 1
-            (small_call (slice_get self.old.script.body.items self.old.control.place)) result (world_of self.new.control self.new.lives) }
+        ensures turned { (world : World) → StandsFor self.old.script self.old.control true world
+            → (after : World) × StandsFor self.old.script self.new.control self.new.lives after
+            × Answers self.old.script world 1 call.now result after }
     {
-        match self.statement() {
-            Some(Small::Getpid(register)) => {
-                self.answer_pid(register);
-                Turned::Done(Reply::Val(1))
-            }
-            Some(Small::Exit(status)) => {
+        match call {
+            Call::Getpid => self.go_on(Reply::Val(1)),
+            // The first process has no parent.
+            Call::Getppid => self.go_on(Reply::Val(0)),
+            Call::SchedYield => self.go_on(Reply::Val(0)),
+            Call::Exit { status } => {
                 self.lives = false;
-                Turned::Ended(exit_status(status))
+                Turned::Ended(exit_status(*status))
             }
-            None => {
-                self.lives = false;
-                Turned::Ended(0)
-            }
+            _ => self.go_on(Reply::Fail(Errno::EINVAL)),
         }
     }
+}
+
+/// The place of the first program of this name; the number of programs where there is none.
+fn place_of(programs: &[Program], name: &[u8]) -> u32
+    requires { length programs.now ≤ 64 }
+    ensures { result ≡ plain.place_of name.now programs.now }
+{
+    let mut place = 0;
+    let mut rest = programs;
+    while let Some((program, next)) = rest.split_first() {
+        if program.name.items() == name {
+            break;
+        }
+        place += 1;
+        rest = next;
+    }
+    place
 }
 
 /// The wait status of a process that ends by itself: only the lowest eight bits of what it says are told.
-fn exit_status(status: u16) -> u16
-    ensures { result ≡ exit_status (pos status) }
+fn exit_status(status: i64) -> u16
+    ensures { result ≡ exit_status status }
 {
-    256 * (status % 256)
+    256 * (status.cast_unsigned() % 256) as u16
 }
 
-/// The call that a statement makes; at the end of a program it is `exit 0`.
-fn call_of(statement: Option<Small>) -> Call
-    ensures { result ≡ small_call statement }
-{
-    match statement {
-        Some(Small::Getpid(_)) => Call::Getpid,
-        Some(Small::Exit(status)) => Call::Exit {
-            status: i64::from(status),
-        },
-        None => Call::Exit { status: 0 },
-    }
-}
+impl<'a> Turner for PlainStore<'a> {
+    ghost script = { λ store. store.script };
 
-impl Turner for PlainStore {
-    ghost script = { λ store. script_of store.script };
-
-    ghost stands = { λ store world. world ≡ world_of store.control store.lives };
+    ghost stands = { λ store world. StandsFor store.script store.control store.lives world };
 
     fn next(&self, _pid: u32) -> Call {
-        call_of(self.statement())
+        let mut control = self.control;
+        prog_ctl::next_call(self.script, &mut control)
     }
 
-    fn turn(&mut self, pid: u32, _call: &Call, _need: Need) -> Turned {
+    fn turn(&mut self, pid: u32, call: &Call, _need: Need) -> Turned {
         if self.alive(pid) {
-            self.run_statement()
+            self.run_call(call)
         } else {
             Turned::Gone
         }

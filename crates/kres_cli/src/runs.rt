@@ -1,20 +1,45 @@
-ghost use Rattle.std.specs.Prelude.{◌≡◌};
-ghost use Rattle.kern_core.specs.View.{HasBooted};
+ghost use Rattle.std.specs.Prelude.{◌≡◌, None, Some, length};
+ghost use Rattle.kern_core.specs.View.{GoesOn, HasBooted, IsAt, MayTake};
 ghost use Rattle.kres_cli.specs.Run.{HasEnded};
+ghost use Rattle.posix_defs.specs.Choice.{named_by};
+ghost use Rattle.posix_defs.specs.CoreState.{CoreState};
+ghost use Rattle.posix_defs.specs.Ends.{end_of};
 
-use kabi_types::End;
+use crate::choosing::Choosing;
+use kabi_types::{Chooser, End, Event};
 use kern_core::Core;
 use posix_defs::Turner;
 
-/// Takes the default event until the run ends, and answers how.
-pub fn run_to_end<T: Turner + Drop>(core: &mut Core<T>) -> End
-    requires { HasBooted T.stands (T.script core.old.store) core.old }
+/// The event that a number names, or the default without a number, where some event may be taken.
+fn picked<T: Turner + Drop>(core: &Core<T>, number: Option<u32>) -> Event
+    requires goes_on { GoesOn T.stands (T.script core.now.store) core.now }
+    requires no_end { (s : CoreState) → IsAt T.stands core.now s → end_of core.now.steps (length core.now.run) s ≡ None }
+    ensures named { (s : CoreState) → IsAt T.stands core.now s → named_by number (T.script core.now.store) s ≡ Some result }
+    ensures may { MayTake T.stands (T.script core.now.store) core.now result }
+{
+    let place = match number {
+        Some(number) => number % core.count(),
+        None => 0,
+    };
+    core.enabled(place).unwrap()
+}
+
+/// Takes the events that the chooser of the script picks until the run ends, and answers how.
+pub fn run_to_end<T: Turner + Drop>(core: &mut Core<T>, chooser: &Chooser) -> End
+    requires booted { HasBooted T.stands (T.script core.old.store) core.old }
+    requires chooser { chooser.now ≡ (T.script core.old.store).chooser }
     ensures script { T.script core.new.store ≡ T.script core.old.store }
     ensures steps { core.new.steps ≡ core.old.steps }
     ensures ended { HasEnded T.stands (T.script core.old.store) core.new result }
 {
-    while let Some(event) = core.default_event() {
+    let mut choosing = Choosing::of(chooser);
+    loop {
+        if let Some(end) = core.ended() {
+            return end;
+        }
+        let (number, rest) = choosing.next();
+        let event = picked(core, number);
         let _ = core.step(event);
+        choosing = rest;
     }
-    core.ended().unwrap()
 }

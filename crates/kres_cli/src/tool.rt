@@ -1,30 +1,27 @@
-ghost use Rattle.std.specs.Prelude.{◌≡◌, ◌↔◌, ℕ, List, Option, IsTrue, IfOk, string_bytes};
+ghost use Rattle.std.specs.Prelude.{◌≡◌, ℕ, List, Option, IfOk, string_bytes};
+ghost use Rattle.posix_defs.specs.ValidScript.{IsValid};
 ghost use Rattle.kres_cli.specs.Run.{IsReport};
-ghost use Rattle.kres_cli.specs.Small.{IsRunnable, script_of};
-ghost use Rattle.kres_cli.specs.Tool.{AnswersText, AreSim, HasPut, OthersEnd, SimEnds};
+ghost use Rattle.kres_cli.specs.Tool.{AnswersText, Asks, CommandEnds, HasPut, Makes, OthersEnd, TellsError};
+ghost use Rattle.kres_cli.specs.declared.commands.Command.{Command};
+ghost use Rattle.kres_cli.specs.declared.statuses.Status.TheVariants.{Finished};
+ghost use Rattle.posix_defs.specs.Canonical.{canonical};
 
-use crate::lines::report;
+use crate::commands::{Command, command_of};
+use crate::lines::{fault_line, report};
 use crate::plain_store::PlainStore;
 use crate::reading::read_text;
 use crate::runs::run_to_end;
-use crate::script::read;
-use crate::small::SmallScript;
 use crate::statuses::Status;
 use crate::text::Text;
 use crate::writing::write_text;
-use kabi_types::Memory;
+use kabi_types::{Memory, Script};
 use kern_core::Core;
 use kio_ports::{Sink, Source};
+use script_parse::{ParseError, parse, print};
 use std::alloc::Global;
 
 /// What is written where the words aren't the program's.
 const USAGE: &str = "usage: kres sim | threads W | print | table | gen N | load N\n";
-
-/// What is written where a text is no script.
-const NOT_BUILT: &str = "bad script: line 0: not built\n";
-
-/// How many events a small script may take.
-const STEPS: u32 = 1000;
 
 /// A text to be written, and the status that it comes with.
 #[derive(Debug, Drop)]
@@ -42,7 +39,17 @@ pub fn run_tool<R, S: Source, K: Sink>(
     source: &mut S,
     sink: &mut K,
 ) -> Status
-    ensures sim { AreSim words.now → SimEnds (record {
+    ensures commands { (command : Command) → Asks words.now command → CommandEnds (record {
+      left = S.left source.old;
+      left' = S.left source.new;
+      held = K.held sink.old;
+      held' = K.held sink.new;
+      takes = S.faults source.old;
+      takes' = S.faults source.new;
+      puts = K.faults sink.old;
+      puts' = K.faults sink.new;
+    }) command result }
+    ensures others { ((command : Command) → Asks words.now command → ⊥) → OthersEnd (record {
       left = S.left source.old;
       left' = S.left source.new;
       held = K.held sink.old;
@@ -52,31 +59,11 @@ pub fn run_tool<R, S: Source, K: Sink>(
       puts = K.faults sink.old;
       puts' = K.faults sink.new;
     }) result }
-    ensures others { (AreSim words.now → ⊥) → OthersEnd (record {
-      left = S.left source.old;
-      left' = S.left source.new;
-      held = K.held sink.old;
-      held' = K.held sink.new;
-      takes = S.faults source.old;
-      takes' = S.faults source.new;
-      puts = K.faults sink.old;
-      puts' = K.faults sink.new;
-    }) result }
-    ensures untouched { (AreSim words.now → ⊥) → source.new ≡ source.old }
+    ensures untouched { ((command : Command) → Asks words.now command → ⊥) → source.new ≡ source.old }
 {
-    if are_sim(words) {
-        sim(alloc, source, sink)
-    } else {
-        put(sink, USAGE, Status::Usage)
-    }
-}
-
-fn are_sim(words: &[String]) -> bool
-    ensures { IsTrue result ↔ AreSim words.now }
-{
-    match words {
-        [word] => word.as_str() == "sim",
-        _ => false,
+    match command_of(words) {
+        Some(command) => obey(alloc, command, source, sink),
+        None => put(sink, USAGE, Status::Usage),
     }
 }
 
@@ -99,9 +86,9 @@ fn put<K: Sink>(sink: &mut K, text: &str, status: Status) -> Status
     }
 }
 
-/// Reads a script from the source, runs it, and writes its report.
-fn sim<S: Source, K: Sink>(alloc: Global, source: &mut S, sink: &mut K) -> Status
-    ensures { SimEnds (record {
+/// Reads a script from the source, does what the command asks for, and writes the answer.
+fn obey<S: Source, K: Sink>(alloc: Global, command: Command, source: &mut S, sink: &mut K) -> Status
+    ensures { CommandEnds (record {
       left = S.left source.old;
       left' = S.left source.new;
       held = K.held sink.old;
@@ -110,40 +97,71 @@ fn sim<S: Source, K: Sink>(alloc: Global, source: &mut S, sink: &mut K) -> Statu
       takes' = S.faults source.new;
       puts = K.faults sink.old;
       puts' = K.faults sink.new;
-    }) result }
+    }) command result }
 {
     let text = match read_text(alloc, source) {
         Ok(Text::Read(text)) => text,
         Ok(Text::Fault) => return Status::ReadFault,
         Err(Memory) => return Status::Memory,
     };
-    match answer_to(alloc, text.as_slice()) {
+    match answer_to(alloc, command, text.as_slice()) {
         Ok(answer) => put(sink, answer.text.as_str(), answer.status),
         Err(Memory) => Status::Memory,
     }
 }
 
 /// What is written in answer to a text, and with which status.
-fn answer_to(alloc: Global, text: &[u8]) -> Result<Answer, Memory>
-    ensures { IfOk result (λ answer. AnswersText text.now (string_bytes answer.text) answer.status) }
+fn answer_to(alloc: Global, command: Command, text: &[u8]) -> Result<Answer, Memory>
+    ensures { IfOk result (λ answer. AnswersText text.now (string_bytes answer.text) command answer.status) }
 {
-    match read(alloc, text)? {
-        Some(script) => run_script(alloc, script),
-        None => Ok(Answer {
-            text: String::from_str(alloc, NOT_BUILT)?,
-            status: Status::BadScript,
-        }),
+    match parse(alloc, text) {
+        Ok(script) => obey_script(alloc, command, &script),
+        Err(error) => refuse(alloc, error),
     }
 }
 
-/// Runs a script to its end, and reports every event.
-fn run_script(alloc: Global, script: SmallScript) -> Result<Answer, Memory>
-    requires { IsRunnable script }
-    ensures { IfOk result (λ answer. IsReport (script_of script) (string_bytes answer.text) answer.status) }
+/// Tells why a text isn't read.
+fn refuse(alloc: Global, error: ParseError) -> Result<Answer, Memory>
+    ensures { IfOk result (λ answer. TellsError error (string_bytes answer.text) answer.status) }
 {
-    let heap = script.heap;
-    let mut core = Core::boot(alloc, PlainStore::boot(script), STEPS, heap)?;
-    let end = run_to_end(&mut core);
+    match error {
+        ParseError::Bad(fault) => Ok(Answer {
+            text: fault_line(alloc, fault)?,
+            status: Status::BadScript,
+        }),
+        ParseError::Memory => Err(Memory),
+    }
+}
+
+/// What the command makes of a script.
+fn obey_script(alloc: Global, command: Command, script: &Script) -> Result<Answer, Memory>
+    requires { IsValid script.now }
+    ensures { IfOk result (λ answer. Makes command script.now (string_bytes answer.text) answer.status) }
+{
+    match command {
+        Command::Sim => run_script(alloc, script),
+        Command::Print => print_script(alloc, script),
+    }
+}
+
+/// Prints a script in its canonical form.
+fn print_script(alloc: Global, script: &Script) -> Result<Answer, Memory>
+    ensures { IfOk result (λ answer. (string_bytes answer.text ≡ canonical script.now) × (answer.status ≡ Finished)) }
+{
+    Ok(Answer {
+        text: print(alloc, script)?,
+        status: Status::Finished,
+    })
+}
+
+/// Runs a script to its end, and reports every event.
+fn run_script(alloc: Global, script: &Script) -> Result<Answer, Memory>
+    requires { IsValid script.now }
+    ensures { IfOk result (λ answer. IsReport script.now (string_bytes answer.text) answer.status) }
+{
+    let store = PlainStore::boot(script);
+    let mut core = Core::boot(alloc, store, script.steps, script.heap)?;
+    let end = run_to_end(&mut core, &script.chooser);
     let text = report(
         alloc,
         core.run(),

@@ -1,5 +1,5 @@
 -- The worked example's run, and two that are none.
-use Rattle.std.proofs.Common.{◌≡◌, ℕ, ◌+◌, pos, [], ◌∷◌, ◌++◌, Option, None, Some, codes, refl, ap, ◌∙◌, subst, arith}
+use Rattle.std.proofs.Common.{◌≡◌, ℕ, ◌+◌, pos, [], ◌∷◌, Option, None, Some, refl, ap, ◌∙◌, subst, arith}
 use Rattle.kabi_types.specs.declared.entries.End.TheVariants.{Finished}
 use Rattle.kabi_types.specs.declared.calls.CallKind.TheVariants as kind
 use Rattle.kabi_types.specs.declared.entries.Entry.{Entry}
@@ -13,12 +13,11 @@ use Rattle.posix_defs.specs.Ending.{die}
 use Rattle.posix_defs.specs.CoreState.{CoreState, boot_state, charged_in, next_kind, with_phase}
 use Rattle.posix_defs.specs.CoreEvent.{Steps, entry_of}
 use Rattle.posix_defs.specs.CoreRun.{IsCoreRun, boots, goes_on}
-use Rattle.posix_defs.specs.FirstScript.{first_text, first_script, first_run, first_report, pid_run, noted}
+use Rattle.posix_defs.specs.FirstScript.{first_script, first_run, first_report, pid_run, noted}
 use Rattle.std.specs.Fmt.{digits}
 use Rattle.posix_defs.specs.Lines.{report}
 use Rattle.posix_defs.specs.Posix.{posix}
 use Rattle.posix_defs.specs.Turn.{Tells}
-use Rattle.posix_defs.specs.SmallScript.{ReadsAs, ended, digit, getpid_into, exit_with, said, says, ends_line, getpid_to, exit, of_one, ones}
 use Rattle.posix_defs.proofs.LastStep.{at_boot, last_step}
 
 -- the states of the run, one event after another
@@ -88,22 +87,6 @@ exits = record {
 
 pub first_is_run : IsCoreRun first_script 1000 first_run after_six
 first_is_run = goes_on _ _ _ _ (goes_on _ _ _ _ (goes_on _ _ _ _ (goes_on _ _ _ _ (goes_on _ _ _ _ (goes_on [] _ _ _ boots refl asks_pid) refl admits_pid) refl tells_pid) refl asks_exit) refl admits_exit) refl exits
-
--- the text says the script
-pub first_reads : ReadsAs first_text first_script
-first_reads = record {
-  within = omega arith;
-  front = ended (codes "heap 8192");
-  heap = 8192;
-  rest = ended (codes "r1 = getpid") ++ ended (codes "exit 0") ++ ended (codes "end");
-  body = getpid_into (Some 1) ∷ exit_with 0 ∷ [];
-  text_is = refl;
-  says_heap = said;
-  says_body =
-      says (codes "r1 = getpid") _ _ _ (getpid_to (digit 1 ∷ []) 1 (of_one 1 (omega arith)))
-      (says (codes "exit 0") _ _ _ (exit (digit 0 ∷ []) 0 (ones 0 (omega arith))) ends_line);
-  script_is = refl;
-}
 
 two_is_not_one : ◌≡◌ {A = ℕ} 2 1 → ⊥
 two_is_not_one e = omega arith

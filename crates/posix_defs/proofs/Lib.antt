@@ -1,6 +1,7 @@
 pub mod MadePids
 pub mod Charged
 pub mod EnabledEvents
+pub mod Picking
 pub mod Progress
 pub mod Legal
 pub mod Refusals

@@ -1,11 +1,14 @@
 -- Which events may be taken in a state, and which one is.
-use Rattle.std.specs.Prelude.{ℕ, ◌+◌, ◌≡◌, ◌≤◌, true, if◌then◌else◌, List, [], ◌∷◌, ◌++◌, Option, None, is_some, slice_get}
+use Rattle.std.specs.Prelude.{ℕ, zero, suc, ◌+◌, ◌%◌, ◌≡◌, ◌≤◌, true, if◌then◌else◌, List, [], ◌∷◌, ◌++◌, length, Option, None, Some, is_some, slice_get}
 use Rattle.kabi_types.specs.declared.entries.Event.{Event}
 use Rattle.kabi_types.specs.declared.entries.Event.TheVariants.{Ask, Admit, Turn, Wake, Abandon, Evict, Kill}
+use Rattle.kabi_types.specs.declared.scripts.Chooser.{Chooser}
+use Rattle.kabi_types.specs.declared.scripts.Chooser.TheVariants.{Plain, Choices, Seed}
 use Rattle.kabi_types.specs.declared.scripts.Script.{Script}
 use Rattle.posix_defs.specs.declared.phases.Phase.{Phase}
 use Rattle.posix_defs.specs.declared.phases.Phase.TheVariants.{User, Waiting, Admitted, Asleep, Dead}
 use Rattle.posix_defs.specs.Ends.{end_of}
+use Rattle.posix_defs.specs.Generator.{state_after, choice_of}
 use Rattle.posix_defs.specs.CoreState.{CoreState, charged_in, fits, lives, next_bound, phase_of}
 
 -- the one event of a live process in this phase, if it may be taken; no call sleeps yet
@@ -46,3 +49,19 @@ default_of script s = slice_get (enabled_in script s) 0
 -- the event that is taken where so many of so many events were taken: none where an end stands
 abbrev pub default_in : Script → ℕ → ℕ → CoreState → Option Event
 default_in script steps taken s = if is_some (end_of steps taken s) then None else default_of script s
+
+-- the number that chooses the j-th event, from 1; None where nothing chooses it
+abbrev pub chosen : Chooser → ℕ → Option ℕ
+chosen Plain j = None
+chosen (Choices numbers) zero = None
+chosen (Choices numbers) (suc before) = slice_get numbers before
+chosen (Seed seed) j = Some (choice_of (state_after seed j))
+
+-- the event that a number names: it counts round the enabled events. Without a number it is the default.
+abbrev pub named_by : Option ℕ → Script → CoreState → Option Event
+named_by None script s = default_of script s
+named_by (Some number) script s = slice_get (enabled_in script s) (number % length (enabled_in script s))
+
+-- the event that is taken as the j-th, from 1
+abbrev pub picked_of : Script → ℕ → CoreState → Option Event
+picked_of script j s = named_by (chosen script.chooser j) script s

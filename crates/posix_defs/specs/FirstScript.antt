@@ -8,15 +8,30 @@ use Rattle.kabi_types.specs.declared.entries.Event.{Event}
 use Rattle.kabi_types.specs.declared.entries.Event.TheVariants.{Ask, Admit, Turn}
 use Rattle.kabi_types.specs.declared.entries.Noted.{Noted}
 use Rattle.kabi_types.specs.declared.replies.Reply.TheVariants.{Val}
+use Rattle.kabi_types.specs.declared.scripts.Chooser.TheVariants.{Plain}
+use Rattle.kabi_types.specs.declared.scripts.Operand.TheVariants.{Number}
+use Rattle.kabi_types.specs.declared.scripts.Policy.TheVariants.{Heaviest}
 use Rattle.kabi_types.specs.declared.scripts.Script.{Script}
-use Rattle.posix_defs.specs.SmallScript.{script_with, getpid_into, exit_with}
+use Rattle.kabi_types.specs.declared.scripts.Statement.{Statement}
+use Rattle.kabi_types.specs.declared.scripts.Statement.TheVariants.{Invoke}
 
 abbrev pub first_text : List ℕ
 first_text = codes "heap 8192\nprogram init\nr1 = getpid\nexit 0\nend\n"
 
--- the script that this text says
+-- its two statements
+abbrev pub first_body : List Statement
+first_body = Invoke kind.Getpid [] [] (Some 1) None ∷ Invoke kind.Exit (Number (pos 0) ∷ []) [] None None ∷ []
+
+-- the script that this text says: what it doesn't set has its default
 abbrev pub first_script : Script
-first_script = script_with 8192 (getpid_into (Some 1) ∷ exit_with 0 ∷ [])
+first_script = record {
+  heap = 8192;
+  disk = 64;
+  steps = 1000;
+  policy = Heaviest;
+  chooser = Plain;
+  programs = record { name = codes "init"; body = first_body } ∷ [];
+}
 
 abbrev pub noted : Event → CallKind → Option Entry → ℕ → Noted
 noted event kind entry charged = record { event = event; kind = Some kind; entry = entry; bound = 0; charged = charged }

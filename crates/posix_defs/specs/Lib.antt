@@ -16,13 +16,13 @@ pub mod Turn
 pub mod CoreState
 pub mod CoreEvent
 pub mod Ends
+pub mod Generator
 pub mod Choice
 pub mod CoreRun
 pub mod Victim
 pub mod History
 pub mod Lines
 pub use Rattle.kabi_types.specs.Words
-pub mod SmallScript
 pub mod Tree
 pub mod FirstScript
 pub mod DiskFormat

@@ -1,4 +1,4 @@
--- The lines of a report.
+-- The lines of a report, and the line of a text that is no script.
 use Rattle.std.specs.Prelude.{ℕ, ◌+◌, ◌/◌, ◌%◌, ◌==◌, false, if◌then◌else◌, List, [], ◌∷◌, ◌++◌, length, Option, None, Some, codes, decimal}
 use Rattle.std.specs.Fmt.{digits, signed_decimal}
 use Rattle.std.specs.List.{flat_map}
@@ -17,6 +17,9 @@ use Rattle.kabi_types.specs.declared.replies.NodeKind.{NodeKind}
 use Rattle.kabi_types.specs.declared.replies.NodeKind.TheVariants as node
 use Rattle.kabi_types.specs.declared.replies.Reply.{Reply}
 use Rattle.kabi_types.specs.declared.replies.Reply.TheVariants as reply
+use Rattle.kabi_types.specs.declared.scripts.FaultKind.{FaultKind}
+use Rattle.kabi_types.specs.declared.scripts.FaultKind.TheVariants as wrong
+use Rattle.kabi_types.specs.declared.scripts.ScriptFault.{ScriptFault}
 use Rattle.posix_defs.specs.CoreRun.{peak_of}
 
 -- a newline, and a blank
@@ -116,3 +119,21 @@ end_line end events charged peak reads =
 -- the report of a run that ended so
 abbrev pub report : List Noted → End → ℕ → ℕ → List ℕ
 report run end charged reads = event_lines 1 run ++ end_line end (length run) charged (peak_of run) reads
+
+-- what is wrong with a line
+abbrev pub fault_text : FaultKind → List ℕ
+fault_text wrong.NotUtf8 = codes "not utf-8"
+fault_text wrong.UnknownWord = codes "unknown word"
+fault_text wrong.BadNumber = codes "bad number"
+fault_text wrong.OutOfRange = codes "out of range"
+fault_text wrong.NoSuchLabel = codes "no such label"
+fault_text wrong.WrongWay = codes "wrong way"
+fault_text wrong.TwiceDefined = codes "twice defined"
+fault_text wrong.Unended = codes "unended"
+fault_text wrong.NoInit = codes "no init"
+fault_text wrong.TooLong = codes "too long"
+fault_text wrong.NotBuilt = codes "not built"
+
+-- the line that is written for a text that is no script
+abbrev pub fault_line : ScriptFault → List ℕ
+fault_line fault = codes "bad script: line " ++ decimal fault.line ++ codes ": " ++ fault_text fault.what ++ newline

@@ -6,6 +6,7 @@ use Rattle.kabi_types.specs.declared.errnos.Errno.TheVariants.{EINVAL}
 use Rattle.kabi_types.specs.declared.replies.Reply.{Reply}
 use Rattle.kabi_types.specs.declared.replies.Reply.TheVariants as reply
 use Rattle.kabi_types.specs.declared.scripts.Script.{Script}
+use Rattle.posix_defs.specs.Process.{parent_of}
 use Rattle.posix_defs.specs.Plain.{Plain, answered}
 use Rattle.posix_defs.specs.Answer.{Answer, Done, Ended}
 use Rattle.posix_defs.specs.Ending.{die, exit_status}
@@ -20,5 +21,7 @@ ended_with plain pid status = Ended status (die plain pid status)
 -- one case for each call that is built; one that isn't is answered EINVAL, and no script that is read makes one
 abbrev pub posix : Script → Plain → ℕ → Call → Answer
 posix script plain pid call.Getpid = replied script plain pid (reply.Val (pos pid))
+posix script plain pid call.Getppid = replied script plain pid (reply.Val (pos (parent_of plain.table pid)))
+posix script plain pid call.SchedYield = replied script plain pid (reply.Val (pos 0))
 posix script plain pid (call.Exit status) = ended_with plain pid (exit_status status)
 posix script plain pid _ = replied script plain pid (reply.Fail EINVAL)

@@ -1,11 +1,12 @@
 //! Laws above the definitions. Each is the contract of a function that does nothing.
 
-ghost use Rattle.std.specs.Prelude.{◌≡◌, ℕ, ◌<◌, ◌≤◌, List, None, Some, IsSome, length, pos};
+ghost use Rattle.std.specs.Prelude.{◌≡◌, ℕ, ◌<◌, ◌≤◌, List, [], ◌∷◌, None, Some, IsSome, length, map, pos};
 ghost use Rattle.std.specs.List.{AllByRecursion};
 ghost use Rattle.kabi_types.specs.declared.calls.CallKind.{CallKind};
 ghost use Rattle.kabi_types.specs.declared.entries.End.TheVariants.{Finished};
 ghost use Rattle.kabi_types.specs.declared.entries.Entry.{Entry};
 ghost use Rattle.kabi_types.specs.declared.entries.Entry.TheVariants.{Done, Part, Refused, Slept, Ended};
+ghost use Rattle.kabi_types.specs.declared.entries.Event.{Event};
 ghost use Rattle.kabi_types.specs.declared.entries.Noted.{Noted};
 ghost use Rattle.kabi_types.specs.declared.scripts.Script.{Script};
 ghost use Rattle.kabi_types.specs.declared.replies.Reply.{Reply};
@@ -13,11 +14,11 @@ ghost use Rattle.posix_defs.specs.Sizes.{bound, fixed, room};
 ghost use Rattle.posix_defs.specs.Plain.{call_of};
 ghost use Rattle.posix_defs.specs.CoreState.{CoreState, charged_in};
 ghost use Rattle.posix_defs.specs.Ends.{end_of};
-ghost use Rattle.posix_defs.specs.Choice.{default_of};
-ghost use Rattle.posix_defs.specs.CoreRun.{IsCoreRun, entries_of};
-ghost use Rattle.posix_defs.specs.FirstScript.{first_text, first_script, first_run, first_report, pid_run};
+ghost use Rattle.posix_defs.specs.Generator.{next_state, state_after, choice_of};
+ghost use Rattle.posix_defs.specs.Choice.{IsEnabled, enabled_in, default_of, picked_of};
+ghost use Rattle.posix_defs.specs.CoreRun.{IsCoreRun, IsPickedRun, entries_of};
+ghost use Rattle.posix_defs.specs.FirstScript.{first_script, first_run, first_report, pid_run};
 ghost use Rattle.posix_defs.specs.Lines.{report};
-ghost use Rattle.posix_defs.specs.SmallScript.{ReadsAs};
 ghost use Rattle.posix_defs.specs.History.{Past, IsRun, MayFollow, WantsNothing};
 
 /// In every state that a run of the core leads to, what is charged is at most the heap.
@@ -30,6 +31,31 @@ pub fn charged_stays_within_the_heap()
 pub fn something_can_be_taken()
     ensures { (script : Script) (steps : ℕ) (run : List Noted) (s : CoreState)
         → IsCoreRun script steps run s → fixed ≤ script.heap → end_of steps (length run) s ≡ None → IsSome (default_of script s) }
+{}
+
+/// Where one event is enabled it is picked, whoever chooses. Whatever is picked is enabled, and where some event is
+/// enabled one is picked.
+pub fn what_is_picked_is_enabled()
+    ensures one { (script : Script) (j : ℕ) (s : CoreState) (event : Event)
+        → enabled_in script s ≡ event ∷ [] → picked_of script j s ≡ Some event }
+    ensures enabled { (script : Script) (j : ℕ) (s : CoreState) (event : Event)
+        → picked_of script j s ≡ Some event → IsEnabled script s event }
+    ensures some { (script : Script) (j : ℕ) (s : CoreState)
+        → IsSome (default_of script s) → IsSome (picked_of script j s) }
+{}
+
+/// A run by the rule of choice is a run of the core.
+pub fn a_picked_run_is_a_run()
+    ensures { (script : Script) (steps : ℕ) (run : List Noted) (s : CoreState)
+        → IsPickedRun script steps run s → IsCoreRun script steps run s }
+{}
+
+/// The generator, computed by hand: three seeds, and for one of them four choices.
+pub fn the_generator_is_this_one()
+    ensures seven { next_state 7 ≡ 1282168116 }
+    ensures choice { choice_of 1282168116 ≡ 19564 }
+    ensures zero { map (λ j. choice_of (state_after 0 j)) (1 ∷ 2 ∷ []) ≡ 0 ∷ 21468 ∷ [] }
+    ensures one { map (λ j. choice_of (state_after 1 j)) (1 ∷ 2 ∷ 3 ∷ 4 ∷ []) ≡ 16838 ∷ 5758 ∷ 10113 ∷ 17515 ∷ [] }
 {}
 
 /// The entries of every run of the core are a legal history, which ends in the same plain machine with the same account.
@@ -60,10 +86,9 @@ pub fn refusals_stand_above_the_room()
         → MayFollow script past (Ended pid kind status) next → bound (call_of script past.plain pid) ≤ room script.heap }
 {}
 
-/// The worked example: its text says the script; its six events are a run of the core, which ends with the first
-/// process; and the report of that run is this text.
+/// The worked example: its six events are a run of the core, which ends with the first process, and the report of that
+/// run is this text.
 pub fn the_first_script_runs()
-    ensures reads { ReadsAs first_text first_script }
     ensures runs { (s : CoreState) × IsCoreRun first_script 1000 first_run s × (end_of 1000 (length first_run) s ≡ Some Finished) × (charged_in s ≡ 2304) × (s.world.reads ≡ 0) }
     ensures reported { report first_run Finished 2304 0 ≡ first_report }
 {}

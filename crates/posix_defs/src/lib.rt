@@ -22,9 +22,10 @@ pub use disk_laws::{
     what_is_free_is_counted,
 };
 pub use laws::{
-    charged_stays_within_the_heap, entries_are_a_legal_history, no_reply_wants_memory,
-    nothing_else_is_its_run, refusals_stand_above_the_room, something_can_be_taken,
-    the_first_script_runs,
+    a_picked_run_is_a_run, charged_stays_within_the_heap, entries_are_a_legal_history,
+    no_reply_wants_memory, nothing_else_is_its_run, refusals_stand_above_the_room,
+    something_can_be_taken, the_first_script_runs, the_generator_is_this_one,
+    what_is_picked_is_enabled,
 };
 pub use phases::Phase;
 pub use said::{AtTop, InProgram, Setting, Shape, Spoken, Stated, Word};

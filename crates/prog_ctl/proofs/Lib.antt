@@ -1,2 +1,5 @@
 pub mod CallFamilies
+pub mod Resting
 pub mod Settling
+pub mod Staying
+pub mod ValidPrograms

@@ -1,4 +1,4 @@
--- What a script that was read promises, as far as running it needs.
+-- Where a control may stand, and what running its program needs.
 use Rattle.std.specs.Prelude.{ℕ, ⊤, Bool, true, false, ◌<◌, ◌≤◌, ◌≡◌, List, length, Option, None, Some, slice_get, IfSome}
 use Rattle.std.specs.List.{AllByRecursion}
 use Rattle.kabi_types.specs.declared.calls.CallKind.{CallKind}
@@ -10,9 +10,7 @@ use Rattle.kabi_types.specs.declared.scripts.Statement.TheVariants as statement
 use Rattle.kabi_types.specs.declared.scripts.Script.{Script}
 use Rattle.kabi_types.specs.declared.scripts.Control.{Control}
 use Rattle.posix_defs.specs.Control.{body_of, local_at, statement_of}
-
-abbrev pub IsRegister : ℕ → Type 0
-IsRegister register = register < 16
+use Rattle.posix_defs.specs.ValidScript.{IsRegister, IsValid}
 
 abbrev pub IsOperand : Operand → Type 0
 IsOperand (Reg register) = IsRegister register
@@ -43,12 +41,11 @@ IsRunnableAt at (statement.Invoke kind operands texts first second) =
 abbrev pub IsRunnable : List Statement → Type 0
 IsRunnable body = (at : ℕ) → IfSome (slice_get body at) (IsRunnableAt at)
 
--- a control stands in a program of the script, or at its end
+-- The script is one that some text may say, and the control stands in a program of it, or at that program's end.
 pub record Stands (script : Script) (control : Control) : Type 0 where
+  pub valid : IsValid script
   pub program : control.program < length script.programs
   pub place : control.place ≤ length (body_of script control)
-  pub short : length (body_of script control) < 4294967295
-  pub body : IsRunnable (body_of script control)
 
 -- a local statement left this control, or it makes a call and left all as it was
 abbrev pub Moves : Bool → Control → Control → Option Control → Type 0

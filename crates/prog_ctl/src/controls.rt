@@ -45,6 +45,7 @@ pub fn next_call(script: &Script, control: &mut Control) -> Call
     requires { Stands script.now control.old }
     ensures call { result ≡ spec.call_of script.now control.old }
     ensures settled { control.new ≡ spec.settled script.now control.old }
+    ensures stands { Stands script.now control.new }
     ensures rests { Rests script.now control.new }
 {
     let body = body_of(script, control);
@@ -72,7 +73,8 @@ fn take_answer(control: &mut Control, statement: Option<&Statement>, reply: &Rep
 pub fn answer(script: &Script, control: &mut Control, reply: &Reply)
     requires stands { Stands script.now control.old }
     requires rests { Rests script.now control.old }
-    ensures { control.new ≡ spec.after script.now control.old reply.now }
+    ensures after { control.new ≡ spec.after script.now control.old reply.now }
+    ensures stands { Stands script.now control.new }
 {
     let body = body_of(script, control);
     take_answer(control, statement_at(body, control.place), reply);

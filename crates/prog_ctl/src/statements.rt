@@ -3,7 +3,8 @@
 ghost use Rattle.std.specs.Prelude.{◌≡◌, ◌<◌, ℤ, true, pos, ◌-ℤ◌, int_lt, IfSome};
 ghost use Rattle.kabi_types.specs.Reply.{first_of, second_of};
 ghost use Rattle.posix_defs.specs.Control as spec;
-ghost use Rattle.prog_ctl.specs.Runnable.{IsOperand, IsRegister, IsRunnableAt, Moves};
+ghost use Rattle.posix_defs.specs.ValidScript.{IsRegister};
+ghost use Rattle.prog_ctl.specs.Runnable.{IsOperand, IsRunnableAt, Moves};
 
 use kabi_types::{Control, Operand, Reply, Statement, Test};
 

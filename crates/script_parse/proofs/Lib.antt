@@ -1,10 +1,17 @@
+pub mod AsciiTexts
+pub mod Bodies
 pub mod Faults
+pub mod FirstFaults
+pub mod FirstParts
 pub mod Fronts
 pub mod Holds
 pub mod Joined
+pub mod LineFaults
+pub mod LinePlaces
 pub mod Lines
 pub mod Numbers
 pub mod OneReading
+pub mod PartFaults
 pub mod Placing
 pub mod Printed
 pub mod PrintedPrograms
@@ -12,6 +19,9 @@ pub mod PrintedScripts
 pub mod PrintedStatements
 pub mod PrintedValues
 pub mod PrintedWords
+pub mod TextMeaning
+pub mod TextParts
+pub mod TextReads
 pub mod ValidLines
 pub mod ValidPrograms
 pub mod ValidScripts

@@ -14,7 +14,8 @@ use Rattle.kabi_types.specs.declared.scripts.ScriptFault.{ScriptFault}
 use Rattle.posix_defs.specs.declared.said.Word.{Word}
 use Rattle.posix_defs.specs.declared.said.Word.TheVariants.{Bare, Quoted}
 use Rattle.posix_defs.specs.ScriptWords.{is_blank, ends_word, hex_number, hex_value, hex_piece, gives, escape_piece, piece, with_byte, SaysText, closed, holds, broken, with_word, Words, nothing, blank, bare, quoted, joined, unclosed, is_comment, LineWords, not_utf8, comment, spelled, misspelled}
-use Rattle.script_parse.specs.Drafting.{State, step, finish, at_start, fault_at, most_bytes, Reads, ended, goes_on, stops, ReadsText, too_long, reads}
+use Rattle.posix_defs.specs.ScriptText.{most_bytes}
+use Rattle.script_parse.specs.Drafting.{State, step, finish, at_start, fault_at, Reads, ended, goes_on, stops}
 
 -- what follows is shorter
 abbrev Shortens : List ℕ → Option (Option ℕ × List ℕ) → Type 0
@@ -234,15 +235,15 @@ abbrev words_or_fault : Option (List Word) → Result (List Word) FaultKind
 words_or_fault None = Err UnknownWord
 words_or_fault (Some words) = Ok words
 
-abbrev line_by : Bool → Bool → List ℕ → Result (List Word) FaultKind
+abbrev pub line_by : Bool → Bool → List ℕ → Result (List Word) FaultKind
 line_by false remark line = Err NotUtf8
 line_by true true line = Ok []
 line_by true false line = words_or_fault (words_read (length line + 1) line)
 
-abbrev line_read : List ℕ → Result (List Word) FaultKind
+abbrev pub line_read : List ℕ → Result (List Word) FaultKind
 line_read line = line_by (is_utf8 line) (is_comment line) line
 
-line_is : (line : List ℕ) (said : Result (List Word) FaultKind) → LineWords line said → line_read line ≡ said
+pub line_is : (line : List ℕ) (said : Result (List Word) FaultKind) → LineWords line said → line_read line ≡ said
 line_is _ _ (not_utf8 line none) = ap (λ b. line_by b (is_comment line) line) (false_from_ne_true (is_utf8 line) (λ yes. none (IsUtf8-from_is_utf8 line yes)))
 line_is _ _ (comment line utf8 is) = ap (λ b. line_by b (is_comment line) line) (is_utf8-from_IsUtf8 line utf8) ∙ ap (λ b. line_by true b line) is
 line_is _ _ (spelled line words utf8 is says) =
@@ -263,19 +264,19 @@ line_by_has line true true is_text is_remark = comment line (IsUtf8-from_is_utf8
 line_by_has line true false is_text is_remark =
     line_spelled line (words_read (length line + 1) line) (IsUtf8-from_is_utf8 line is_text) is_remark (words_have (length line + 1) line (omega arith))
 
-line_has : (line : List ℕ) → LineWords line (line_read line)
+pub line_has : (line : List ℕ) → LineWords line (line_read line)
 line_has line = line_by_has line (is_utf8 line) (is_comment line) refl refl
 
 -- lines, as a function reads them
-abbrev lines_step : (State → Result Script ScriptFault) → Result State ScriptFault → Result Script ScriptFault
+abbrev pub lines_step : (State → Result Script ScriptFault) → Result State ScriptFault → Result Script ScriptFault
 lines_step more (Ok next) = more next
 lines_step more (Err fault) = Err fault
 
-abbrev lines_read : State → ℕ → List (List ℕ) → Result Script ScriptFault
+abbrev pub lines_read : State → ℕ → List (List ℕ) → Result Script ScriptFault
 lines_read state line [] = finish state
 lines_read state line (first ∷ lines) = lines_step (λ next. lines_read next (line + 1) lines) (step state line (line_read first))
 
-lines_are : (state : State) (line : ℕ) (lines : List (List ℕ)) (outcome : Result Script ScriptFault) → Reads state line lines outcome → lines_read state line lines ≡ outcome
+pub lines_are : (state : State) (line : ℕ) (lines : List (List ℕ)) (outcome : Result Script ScriptFault) → Reads state line lines outcome → lines_read state line lines ≡ outcome
 lines_are _ _ _ _ (ended state line) = refl
 lines_are _ _ _ _ (goes_on state next line first lines words outcome says is rest) =
     ap (λ w. lines_step (λ s. lines_read s (line + 1) lines) (step state line w)) (line_is first words says)
@@ -290,27 +291,14 @@ lines_by : (state : State) (line : ℕ) (first : List ℕ) (lines : List (List �
 lines_by state line first lines (Ok next) is more = goes_on state next line first lines (line_read first) (lines_read next (line + 1) lines) (line_has first) is (more next)
 lines_by state line first lines (Err fault) is more = stops state line first lines (line_read first) fault (line_has first) is
 
-lines_have : (state : State) (line : ℕ) (lines : List (List ℕ)) → Reads state line lines (lines_read state line lines)
+pub lines_have : (state : State) (line : ℕ) (lines : List (List ℕ)) → Reads state line lines (lines_read state line lines)
 lines_have state line [] = ended state line
 lines_have state line (first ∷ lines) = lines_by state line first lines (step state line (line_read first)) refl (λ s. lines_have s (line + 1) lines)
 
-abbrev reading_by : Bool → List ℕ → Result Script ScriptFault
+abbrev pub reading_by : Bool → List ℕ → Result Script ScriptFault
 reading_by true text = lines_read at_start 1 (slice_split (λ byte. byte == 10) text)
 reading_by false text = fault_at 0 TooLong
 
 -- a whole text, as a function reads it
 abbrev pub reading : List ℕ → Result Script ScriptFault
 reading text = reading_by (nat_le (length text) most_bytes) text
-
-pub reading_is : (text : List ℕ) (outcome : Result Script ScriptFault) → ReadsText text outcome → reading text ≡ outcome
-reading_is _ _ (too_long text long) = let over : nat_le (length text) most_bytes ≡ false = grind (arith, long) in ap (λ b. reading_by b text) over
-reading_is _ _ (reads text outcome short says) =
-    let within : nat_le (length text) most_bytes ≡ true = grind (arith, short) in
-    ap (λ b. reading_by b text) within ∙ lines_are at_start 1 (slice_split (λ byte. byte == 10) text) outcome says
-
-reading_by_has : (text : List ℕ) (within : Bool) → nat_le (length text) most_bytes ≡ within → ReadsText text (reading_by within text)
-reading_by_has text true is = reads text _ (grind (arith, is)) (lines_have at_start 1 (slice_split (λ byte. byte == 10) text))
-reading_by_has text false is = too_long text (grind (arith, is))
-
-pub reading_has : (text : List ℕ) → ReadsText text (reading text)
-reading_has text = reading_by_has text (nat_le (length text) most_bytes) refl

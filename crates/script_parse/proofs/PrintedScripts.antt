@@ -24,9 +24,10 @@ use Rattle.posix_defs.specs.ScriptValues.{with}
 use Rattle.posix_defs.specs.ScriptLines.{said_at_top}
 use Rattle.posix_defs.specs.Canonical.{number_word, policy_text, words_text, statement_words, program_lines, chooser_lines, script_lines, canonical}
 use Rattle.posix_defs.specs.ValidScript.{IsProgram, IsChooser, AreApart, IsStatement, IsValid}
-use Rattle.script_parse.specs.Drafting.{Draft, nothing_set, at_start, has_program, outside, fault_at, with_setting, script_of, finish, Reads, ended, goes_on, ReadsText, reads}
+use Rattle.posix_defs.specs.ScriptText.{ReadsText}
+use Rattle.script_parse.specs.Drafting.{Draft, nothing_set, at_start, has_program, outside, fault_at, with_setting, script_of, finish, Reads, ended, goes_on}
 use Rattle.script_parse.proofs.Holds.{all_append}
-use Rattle.script_parse.proofs.OneReading.{reading_is}
+use Rattle.script_parse.proofs.TextReads.{text_means, reads_as}
 use Rattle.script_parse.proofs.ValidScripts.{reads_valid}
 use Rattle.script_parse.proofs.PrintedWords.{IsLine, lines_split}
 use Rattle.script_parse.proofs.PrintedStatements.{AreNamed, heap_read, disk_read, steps_read, policy_read, choosing_read, seed_read, number_line, policy_line, choices_line, program_line, end_line, statement_line}
@@ -215,7 +216,7 @@ all_lines script is = (
 -- the canonical text of a script reads as that script
 pub canonical_reads : (script : Script) → IsValid script → length (canonical script) ≤ 1048576 → ReadsText (canonical script) (Ok script)
 canonical_reads script is short =
-    reads (canonical script) (Ok script) short
+    text_means (canonical script) (Ok script) short
     (subst (λ lines. Reads at_start 1 lines (Ok script)) (sym (lines_split (script_lines script) (all_lines script is))) (script_reads script is))
 
 -- the script that is read, or another
@@ -228,4 +229,4 @@ pub printed_again : (text : List ℕ) (script again : Script) → ReadsText text
     → ReadsText (canonical script) (Ok again) → again ≡ script
 printed_again text script again says short other =
     ap (read_or again)
-    (sym (reading_is (canonical script) (Ok again) other) ∙ reading_is (canonical script) (Ok script) (canonical_reads script (reads_valid text (Ok script) says) short))
+    (sym (reads_as (canonical script) (Ok again) other) ∙ reads_as (canonical script) (Ok script) (canonical_reads script (reads_valid text (Ok script) says) short))

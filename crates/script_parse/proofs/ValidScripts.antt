@@ -1,5 +1,5 @@
 -- A script that is read keeps the promises of every script.
-use Rattle.std.proofs.Common.{◌≡◌, ◌≢◌, ◌<◌, ◌≤◌, ◌+◌, ℕ, zero, suc, Bool, true, false, ◌==◌, ◌||◌, List, [], ◌∷◌, ◌++◌, length, Option, None, Some, IfSome, Result, Ok, Err, IfOk, slice_get, refl, sym, ap, ◌∙◌, subst, arith}
+use Rattle.std.proofs.Common.{nat_le, ◌≡◌, ◌≢◌, ◌<◌, ◌≤◌, ◌+◌, ℕ, zero, suc, Bool, true, false, ◌==◌, ◌||◌, List, [], ◌∷◌, ◌++◌, length, Option, None, Some, IfSome, Result, Ok, Err, IfOk, slice_get, refl, sym, ap, ◌∙◌, subst, arith}
 use Rattle.std.specs.Prelude.{⊤, codes}
 use Rattle.std.specs.List.{AllByRecursion, slice_split}
 use Rattle.std.specs.Str.{bytes_eq}
@@ -27,7 +27,11 @@ use Rattle.posix_defs.specs.ValidScript.{IsProgram, IsChooser, AreApart, HasProg
 use Rattle.script_parse.specs.declared.parse_error.ParseError.{ParseError}
 use Rattle.script_parse.specs.LabelPlaces.{body_of}
 use Rattle.script_parse.specs.Reading.{Outcome}
-use Rattle.script_parse.specs.Drafting.{Draft, Opened, State, at_start, at_line, once, with_setting, has_program, may_begin, begin, outside, within, step_at_top, with_line, with_program, closed, step_in_program, step_from, or_default, script_of, finish_from, Reads, ended, goes_on, stops, ReadsText, too_long, reads}
+use Rattle.script_parse.specs.Drafting.{Draft, Opened, State, at_start, at_line, once, with_setting, has_program, may_begin, begin, outside, within, step_at_top, with_line, with_program, closed, step_in_program, step_from, script_of, finish_from, Reads, ended, goes_on, stops}
+use Rattle.posix_defs.specs.ScriptMeaning.{or_default}
+use Rattle.posix_defs.specs.ScriptText.{most_bytes, ReadsText}
+use Rattle.script_parse.proofs.OneReading.{lines_have, lines_read, reading_by}
+use Rattle.script_parse.proofs.TextReads.{reads_as}
 use Rattle.script_parse.proofs.Holds.{when, with_holds, then_holds, all_append}
 use Rattle.script_parse.proofs.ValidWords.{IsTextWord, line_bytes}
 use Rattle.script_parse.proofs.ValidLines.{IsSpoken, IsInside, inside_fits, IsSetting, IsTop, top_fits}
@@ -255,12 +259,18 @@ start_fits = record {
   opened = tt;
 }
 
+reading_valid : (text : List ℕ) (within : Bool) → nat_le (length text) most_bytes ≡ within → IfOk (reading_by within text) IsValid
+reading_valid text false is = tt
+reading_valid text true is =
+    let lines = slice_split (λ byte. byte == 10) text in
+    let short : length text ≤ most_bytes = grind (arith, is) in
+    reads_fit at_start 1 lines (lines_read at_start 1 lines) (lines_have at_start 1 lines) (omega arith)
+    (omega (arith, short, length-slice_split (λ byte. byte == 10) text, count_by-le-length (λ byte. byte == 10) text)) start_fits
+
 -- a text that reads as a script reads as one that keeps the promises
 pub reads_valid : (text : List ℕ) (outcome : Result Script ScriptFault) → ReadsText text outcome → IfOk outcome IsValid
-reads_valid _ _ (too_long text long) = tt
-reads_valid _ _ (reads text outcome short says) =
-    reads_fit at_start 1 (slice_split (λ byte. byte == 10) text) outcome says (omega arith)
-    (omega (arith, short, length-slice_split (λ byte. byte == 10) text, count_by-le-length (λ byte. byte == 10) text)) start_fits
+reads_valid text outcome says =
+    subst (λ r. IfOk r IsValid) (reads_as text outcome says) (reading_valid text (nat_le (length text) most_bytes) refl)
 
 pub parsed_valid : (text : List ℕ) (result : Result Script ParseError) → Outcome (λ script. script) result (ReadsText text) → IfOk result IsValid
 parsed_valid text (Ok script) says = reads_valid text (Ok script) says

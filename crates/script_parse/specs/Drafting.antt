@@ -1,11 +1,11 @@
--- A whole script, line by line.
-use Rattle.std.specs.Prelude.{ℕ, ◌+◌, ◌≤◌, ◌<◌, ◌≡◌, Bool, ◌==◌, if◌then◌else◌, List, [], ◌∷◌, ◌++◌, length, Option, None, Some, Result, Ok, Err, codes}
-use Rattle.std.specs.List.{list_any, slice_split}
+-- How the reader goes on from line to line: what is set so far, the program that is open, and what one more line adds.
+use Rattle.std.specs.Prelude.{ℕ, ◌+◌, ◌≡◌, Bool, ◌==◌, if◌then◌else◌, List, [], ◌∷◌, ◌++◌, length, Option, None, Some, Result, Ok, Err, codes}
+use Rattle.std.specs.List.{list_any}
 use Rattle.std.specs.Str.{bytes_eq}
 use Rattle.kabi_types.specs.declared.scripts.Chooser.{Chooser}
 use Rattle.kabi_types.specs.declared.scripts.Chooser.TheVariants.{Plain}
 use Rattle.kabi_types.specs.declared.scripts.FaultKind.{FaultKind}
-use Rattle.kabi_types.specs.declared.scripts.FaultKind.TheVariants.{OutOfRange, TwiceDefined, Unended, NoInit, TooLong}
+use Rattle.kabi_types.specs.declared.scripts.FaultKind.TheVariants.{OutOfRange, TwiceDefined, Unended, NoInit}
 use Rattle.kabi_types.specs.declared.scripts.Policy.{Policy}
 use Rattle.kabi_types.specs.declared.scripts.Policy.TheVariants.{Heaviest}
 use Rattle.kabi_types.specs.declared.scripts.Program.{Program}
@@ -23,14 +23,9 @@ use Rattle.posix_defs.specs.declared.said.Word.{Word}
 use Rattle.posix_defs.specs.ScriptWords.{LineWords}
 use Rattle.posix_defs.specs.ScriptValues.{with, ◌>>=◌}
 use Rattle.posix_defs.specs.ScriptLines.{said_at_top, said_in_program}
+use Rattle.posix_defs.specs.ScriptMeaning.{or_default}
+use Rattle.posix_defs.specs.ScriptFaults.{most_programs}
 use Rattle.script_parse.specs.LabelPlaces.{body_of}
-
--- the most bytes that a script may have, and the most programs
-abbrev pub most_bytes : ℕ
-most_bytes = 1048576
-
-abbrev pub most_programs : ℕ
-most_programs = 64
 
 -- what is set so far, and the programs that have ended
 pub record Draft : Type 0 where
@@ -128,10 +123,6 @@ step_from draft (Some opened) line words = step_in_program draft opened line (wo
 abbrev pub step : State → ℕ → Result (List Word) FaultKind → Result State ScriptFault
 step state line words = step_from state.draft state.opened line words
 
-abbrev pub or_default : {A : Type 0} → A → Option A → A
-or_default default None = default
-or_default default (Some a) = a
-
 abbrev pub script_of : Draft → Script
 script_of draft = record {
   heap = or_default 65536 draft.heap;
@@ -157,9 +148,3 @@ pub data Reads : State → ℕ → List (List ℕ) → Result Script ScriptFault
       → LineWords first words → step state line words ≡ Ok next → Reads next (line + 1) lines outcome → Reads state line (first ∷ lines) outcome
   stops : (state : State) (line : ℕ) (first : List ℕ) (lines : List (List ℕ)) (words : Result (List Word) FaultKind) (fault : ScriptFault)
       → LineWords first words → step state line words ≡ Err fault → Reads state line (first ∷ lines) (Err fault)
-
--- The text reads as a script, or has this fault: the first line at fault, and on it the least.
-pub data ReadsText : List ℕ → Result Script ScriptFault → Type 0 where
-  too_long : (text : List ℕ) → most_bytes < length text → ReadsText text (fault_at 0 TooLong)
-  reads : (text : List ℕ) (outcome : Result Script ScriptFault) → length text ≤ most_bytes
-      → Reads at_start 1 (slice_split (λ byte. byte == 10) text) outcome → ReadsText text outcome

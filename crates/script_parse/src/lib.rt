@@ -33,7 +33,7 @@ mod words;
 
 pub use laws::{
     a_text_reads_in_one_way, canonical_text_reads_as_its_script, every_text_reads_or_has_a_fault,
-    printing_again_is_the_same, what_reads_is_valid,
+    printing_again_is_the_same, what_reads_is_valid, worked_texts_read,
 };
 pub use parse_error::ParseError;
 use posix_defs::{AtTop, InProgram, Setting, Shape, Spoken, Stated, Word};

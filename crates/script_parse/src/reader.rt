@@ -4,7 +4,8 @@ ghost use Rattle.std.specs.Prelude.{◌≡◌, ◌≢◌, ◌==◌, ◌∷◌, �
 ghost use Rattle.std.specs.List.{slice_split};
 ghost use Rattle.posix_defs.specs.ValidScript.{IsValid};
 ghost use Rattle.script_parse.specs.Reading.{Outcome};
-ghost use Rattle.script_parse.specs.Drafting.{Reads, ReadsText, at_start};
+ghost use Rattle.posix_defs.specs.ScriptText.{ReadsText};
+ghost use Rattle.script_parse.specs.Drafting.{Reads, at_start};
 
 use crate::ParseError;
 use crate::state::State;

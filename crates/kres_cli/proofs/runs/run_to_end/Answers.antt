@@ -1,22 +1,37 @@
-use Rattle.std.proofs.Common.{◌≡◌, ◌∙◌, subst, refl, length, Some}
-use Rattle.posix_defs.specs.Choice.{default_in}
+use Rattle.std.proofs.Common.{◌≡◌, ◌∙◌, ap, subst, sym, refl, length, suc, ◌+◌, Some, arith}
+use Rattle.posix_defs.specs.Choice.{chosen, named_by}
 use Rattle.kern_core.specs.View.{Took}
-use Rattle.kres_cli.proofs.Picks.{picked_boot, picked_more}
+use Rattle.kres_cli.proofs.Picks.{chooses_more, chooses_next, picked_boot, picked_more}
 use Rattle.kres_cli.proofs.runs.run_to_end.Goals as goal
 
-pub loop-event-init : goal.loop-event-init
-loop-event-init g c = record { script = refl; steps = refl; picked = picked_boot g.T.Turner.stands _ _ c.requires }
+pub loop-end-init : goal.loop-end-init
+loop-end-init g c = record {
+  script = refl;
+  steps = refl;
+  picked = picked_boot g.T.Turner.stands _ _ c.requires.booted;
+  chooses = λ i.
+      let none : length c.args.core.now.run ≡ 0 = ap length c.requires.booted.run in
+      let same : suc i ≡ suc (length c.args.core.now.run + i) = omega (arith, none) in
+      c.of-choosing.ensures i ∙ ap (λ chooser. chosen chooser (suc i)) c.requires.chooser
+      ∙ ap (chosen (g.T.Turner.script c.args.core.now.store).chooser) same;
+}
 
-pub loop-event-preserved : goal.loop-event-preserved
-loop-event-preserved g c =
+pub loop-end-preserved : goal.loop-end-preserved
+loop-end-preserved g c =
     let script = g.T.Turner.script in
-    let same = c.loop-event.invariant.script in
-    let old = c.loop-event.core in
+    let stands = g.T.Turner.stands in
+    let chooser = (script c.args.core.now.store).chooser in
+    let same = c.loop-end.invariant.script in
+    let old = c.loop-end.core in
     record {
       script = c.step.ensures.script ∙ same;
-      steps = c.step.ensures.took.steps ∙ c.loop-event.invariant.steps;
-      picked = picked_more g.T.Turner.stands (script c.args.core.now.store) old c.step.new.self c.in-Some.event c.step.result
-          c.loop-event.invariant.picked
-          (λ s at. subst (λ sc. Some c.in-Some.event ≡ default_in sc old.steps (length old.run) s) same (c.in-Some.ensures.picked s at))
-          (subst (λ sc. Took g.T.Turner.stands sc old c.in-Some.event c.step.result c.step.new.self) same c.step.ensures.took);
+      steps = c.step.ensures.took.steps ∙ c.loop-end.invariant.steps;
+      picked = picked_more stands (script c.args.core.now.store) old c.step.new.self c.picked-event.result c.step.result c.next-number.result.0
+          c.loop-end.invariant.picked
+          (c.next-number.ensures.number ∙ chooses_next c.loop-end.choosing chooser (length old.run) c.loop-end.invariant.chooses)
+          (λ s at. sym (c.in_default.ensures.end s at))
+          (λ s at. subst (λ sc. named_by c.next-number.result.0 sc s ≡ Some c.picked-event.result) same (c.picked-event.ensures.named s at))
+          (subst (λ sc. Took stands sc old c.picked-event.result c.step.result c.step.new.self) same c.step.ensures.took);
+      chooses = chooses_more c.loop-end.choosing c.next-number.result.1 chooser old.run c.step.new.self.run c.step.result
+          c.loop-end.invariant.chooses c.next-number.ensures.rest c.step.ensures.took.run;
     }

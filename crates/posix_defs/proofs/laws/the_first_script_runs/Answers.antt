@@ -1,9 +1,6 @@
 use Rattle.std.proofs.Common.{refl}
-use Rattle.posix_defs.proofs.FirstRun.{after_six, first_is_run, first_reads, first_reported}
+use Rattle.posix_defs.proofs.FirstRun.{after_six, first_is_run, first_reported}
 use Rattle.posix_defs.proofs.laws.the_first_script_runs.Goals as goal
-
-pub returns-clause-reads : goal.returns-clause-reads
-returns-clause-reads c = first_reads
 
 pub returns-clause-runs : goal.returns-clause-runs
 returns-clause-runs c = (after_six, first_is_run, refl, refl, refl)

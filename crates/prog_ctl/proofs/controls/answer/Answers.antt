@@ -1,11 +1,19 @@
-use Rattle.std.proofs.Common.{◌∙◌, ap}
+use Rattle.std.proofs.Common.{◌≡◌, ◌∙◌, ap, subst, sym}
 use Rattle.std.specs.Prelude.{slice_get}
-use Rattle.posix_defs.specs.Control.{after_at, afresh}
+use Rattle.kabi_types.specs.declared.scripts.Control.{Control}
+use Rattle.posix_defs.specs.Control.{after, after_at, afresh}
+use Rattle.prog_ctl.specs.Runnable.{Stands}
 use Rattle.prog_ctl.proofs.Settling.{after_is}
+use Rattle.prog_ctl.proofs.Staying.{after_stands}
 use Rattle.prog_ctl.proofs.controls.answer.Goals as goal
 
-pub returns : goal.returns
-returns c =
+pub returns-clause-after : goal.returns-clause-after
+returns-clause-after c =
     ap afresh (c.take_answer.ensures ∙ ap (after_at c.args.control.now c.args.reply.now)
     (c.statement_at.ensures ∙ ap (λ b. slice_get b c.args.control.now.place) c.body_of-body.ensures))
     ∙ after_is c.args.script.now c.args.control.now c.args.reply.now c.requires.rests
+
+pub returns-clause-stands : goal.returns-clause-stands
+returns-clause-stands c =
+    subst (Stands c.args.script.now) (sym (returns-clause-after c))
+    (after_stands c.args.script.now c.args.control.now c.args.reply.now c.requires.stands c.requires.rests)
