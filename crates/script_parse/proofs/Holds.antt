@@ -1,6 +1,6 @@
 -- What holds of what is said, part by part.
 use Rattle.std.proofs.Common.{◌≡◌, ◌≤◌, ℕ, Bool, true, false, List, [], ◌∷◌, ◌++◌, length, Option, None, Some, IfSome, Result, Ok, Err, IfOk, refl, arith}
-use Rattle.std.specs.Prelude.{nat_le, if◌then◌else◌}
+use Rattle.std.specs.Prelude.{⊤, nat_le, if◌then◌else◌}
 use Rattle.std.specs.List.{AllByRecursion}
 use Rattle.std.proofs.lemmas.Bool.{and_parts}
 use Rattle.kabi_types.specs.declared.scripts.FaultKind.{FaultKind}
@@ -40,6 +40,11 @@ both_hold P Q (Ok a) (Ok b) one two = (one, two)
 both_hold P Q (Ok a) (Err f) one two = tt
 both_hold P Q (Err e) (Ok b) one two = tt
 both_hold P Q (Err e) (Err f) one two = tt
+
+-- nothing is asked of what is said
+pub any : {A : Type 0} (said : Result A FaultKind) → IfOk said (λ _. ⊤)
+any (Ok a) = tt
+any (Err kind) = tt
 
 pub known_holds : {A : Type 0} (P : A → Type 0) (said : Option A) → IfSome said P → IfOk (known said) P
 known_holds P None holds = tt

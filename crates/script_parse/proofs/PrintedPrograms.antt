@@ -1,9 +1,9 @@
 -- A printed program is read as it was printed.
-use Rattle.std.proofs.Common.{◌≡◌, ◌≢◌, ◌<◌, ◌+◌, ℕ, zero, suc, true, false, ◌==◌, nat_lt, List, [], ◌∷◌, ◌++◌, map, length, Option, None, Some, IfSome, slice_get, Result, Ok, Err, refl, sym, ap, ◌∙◌, subst, arith}
+use Rattle.std.proofs.Common.{append-nil, ◌≡◌, ◌≢◌, ◌<◌, ◌+◌, ℕ, zero, suc, true, false, ◌==◌, nat_lt, List, [], ◌∷◌, ◌++◌, map, length, Option, None, Some, IfSome, slice_get, Result, Ok, Err, refl, sym, ap, ◌∙◌, subst, arith}
 use Rattle.std.specs.Prelude.{⊤, if◌then◌else◌, codes}
 use Rattle.std.specs.Str.{bytes_eq}
 use Rattle.std.proofs.lemmas.Bool.{false_from_ne_true}
-use Rattle.std.proofs.lemmas.List.{append_assoc, length-append, map-append}
+use Rattle.std.proofs.lemmas.List.{append_assoc, length-append, length-map, map-append}
 use Rattle.std.proofs.lemmas.Slice.Eq.{bytes_eq-Decides}
 use Rattle.kabi_types.specs.declared.scripts.FaultKind.TheVariants.{WrongWay, TwiceDefined, OutOfRange}
 use Rattle.kabi_types.specs.declared.scripts.Program.{Program}
@@ -57,17 +57,13 @@ are_statements body at (s ∷ statements) each there =
 abbrev Open : Draft → ℕ → List ℕ → List Stated → State
 Open draft first name said = within draft (record { line = first; name = name; said = said })
 
-append_none : {A : Type 0} (list : List A) → list ++ [] ≡ list
-append_none [] = refl
-append_none (a ∷ list) = ap (λ l. a ∷ l) (append_none list)
-
 statements_read : (body : List Statement) (draft : Draft) (first : ℕ) (name : List ℕ) (said : List Stated) (line at : ℕ) (statements : List Statement)
     (lines : List (List ℕ)) (outcome : Result Script ScriptFault) → AreNamed body → AreStatements body at statements
     → Reads (Open draft first name (said ++ stated_as body line statements)) (line + length statements) lines outcome
     → Reads (Open draft first name said) line (map words_text (map (statement_words body) statements) ++ lines) outcome
 statements_read body draft first name said line at [] lines outcome named are rest =
     subst (λ n. Reads (Open draft first name said) n lines outcome) (let same : line + 0 ≡ line = omega arith in same)
-    (subst (λ s. Reads (Open draft first name s) (line + 0) lines outcome) (append_none said) rest)
+    (subst (λ s. Reads (Open draft first name s) (line + 0) lines outcome) (append-nil said) rest)
 statements_read body draft first name said line at (s ∷ statements) lines outcome named are rest =
     let stated : Stated = record { line = line; said = Ok (spoken_as body s) } in
     one_line (Open draft first name said) (Open draft first name (said ++ stated ∷ [])) line (statement_words body s)
@@ -191,9 +187,5 @@ program_reads draft program line lines outcome is room fresh rest =
     (program_read program.name is.name) (begins draft line program.name room fresh))
     (subst (λ l. Reads (Open draft line program.name []) (line + 1) l outcome) joined stated)
   where
-    many : (statements : List Statement) → length (map (statement_words program.body) statements) ≡ length statements
-    many [] = refl
-    many (s ∷ statements) = omega (arith, many statements)
-
     counts : line + length (program_lines program) ≡ line + 1 + length program.body + 1
-    counts = omega (arith, many program.body, length-append (map (statement_words program.body) program.body) ((Bare (codes "end") ∷ []) ∷ []))
+    counts = omega (arith, length-map program.body (statement_words program.body), length-append (map (statement_words program.body) program.body) ((Bare (codes "end") ∷ []) ∷ []))

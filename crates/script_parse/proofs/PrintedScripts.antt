@@ -1,5 +1,5 @@
 -- The canonical text of a script that keeps its promises reads as that script.
-use Rattle.std.proofs.Common.{◌≡◌, ◌≢◌, ◌≤◌, ◌+◌, ℕ, zero, suc, Bool, true, false, List, [], ◌∷◌, ◌++◌, map, length, Option, None, Some, IfSome, slice_get, Result, Ok, Err, refl, sym, ap, ◌∙◌, subst, arith}
+use Rattle.std.proofs.Common.{append-nil, ◌≡◌, ◌≢◌, ◌≤◌, ◌+◌, ℕ, zero, suc, Bool, true, false, List, [], ◌∷◌, ◌++◌, map, length, Option, None, Some, IfSome, slice_get, Result, Ok, Err, refl, sym, ap, ◌∙◌, subst, arith}
 use Rattle.std.specs.Prelude.{◌||◌, if◌then◌else◌, codes}
 use Rattle.std.specs.List.{AllByRecursion, flat_map}
 use Rattle.std.specs.Str.{bytes_eq}
@@ -57,16 +57,12 @@ apart_front (d ∷ done) p rest apart zero =
     subst (λ found. IfSome found (λ second. d.name ≢ second.name)) (behind_get done p rest) (apart 0 (suc (length done)) (omega arith))
 apart_front (d ∷ done) p rest apart (suc a) = apart_front done p rest (λ x y less. apart (suc x) (suc y) (omega (arith, less))) a
 
-append_none : {A : Type 0} (list : List A) → list ++ [] ≡ list
-append_none [] = refl
-append_none (a ∷ list) = ap (λ l. a ∷ l) (append_none list)
-
 programs_read : (draft : Draft) (done programs : List Program) (line : ℕ) (lines : List (List ℕ)) (outcome : Result Script ScriptFault) → AllByRecursion IsProgram programs
     → length done + length programs ≤ 64 → AreApart (done ++ programs)
     → ((last : ℕ) → Reads (outside (With draft (done ++ programs))) last lines outcome)
     → Reads (outside (With draft done)) line (map words_text (flat_map program_lines programs) ++ lines) outcome
 programs_read draft done [] line lines outcome all few apart rest =
-    subst (λ ps. Reads (outside (With draft ps)) line lines outcome) (append_none done) (rest line)
+    subst (λ ps. Reads (outside (With draft ps)) line lines outcome) (append-nil done) (rest line)
 programs_read draft done (p ∷ programs) line lines outcome all few apart rest =
     let texts = map words_text (flat_map program_lines programs) in
     let regroup : done ++ p ∷ programs ≡ (done ++ p ∷ []) ++ programs = sym (append_assoc done (p ∷ []) programs) in

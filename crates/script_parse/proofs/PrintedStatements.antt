@@ -1,8 +1,9 @@
 -- What a printed line says is what it was printed for.
-use Rattle.std.proofs.Common.{◌≡◌, ◌<◌, ◌≤◌, ◌%◌, ◌^◌, ℕ, Bool, true, false, ◌==◌, List, [], ◌∷◌, ◌++◌, map, length, Option, None, Some, slice_get, Ok, Err, refl, sym, ap, ◌∙◌, subst, arith}
+use Rattle.std.proofs.Common.{append-nil, ◌≡◌, ◌<◌, ◌≤◌, ◌%◌, ◌^◌, ℕ, Bool, true, false, ◌==◌, List, [], ◌∷◌, ◌++◌, map, length, Option, None, Some, slice_get, Ok, Err, refl, sym, ap, ◌∙◌, subst, arith}
 use Rattle.std.specs.Prelude.{not, ◌&&◌, nat_le, if◌then◌else◌, codes}
 use Rattle.std.specs.List.{AllByRecursion}
 use Rattle.std.proofs.lemmas.Bool.{and_parts}
+use Rattle.std.proofs.lemmas.List.{length-map}
 use Rattle.kabi_types.specs.Words.{word_of, is_built}
 use Rattle.kabi_types.specs.declared.calls.CallKind.{CallKind}
 use Rattle.kabi_types.specs.declared.calls.CallKind.TheVariants as kind
@@ -40,10 +41,6 @@ values_read (operand ∷ values) all =
     ap (λ said. with (λ p. p.0 ∷ p.1) (both said (each value (map operand_word values)))) (operand_read operand all.0)
     ∙ ap (λ rest. with (λ p. p.0 ∷ p.1) (both (Ok operand) rest)) (values_read values all.1)
 
-many_words : (values : List Operand) → length (map operand_word values) ≡ length values
-many_words [] = refl
-many_words (operand ∷ values) = omega (arith, many_words values)
-
 -- the operands of a call
 
 path_read : (text : List ℕ) → IsPath text → path (Quoted text) ≡ Ok text
@@ -66,24 +63,20 @@ nothing_in : {A : Type 0} (list : List A) → length list ≡ 0 → list ≡ []
 nothing_in [] none = refl
 nothing_in (a ∷ list) none = absurd (omega (arith, none))
 
-append_none : {A : Type 0} (list : List A) → list ++ [] ≡ list
-append_none [] = refl
-append_none (a ∷ list) = ap (λ l. a ∷ l) (append_none list)
-
 values_words : (count : ℕ) (values : List Operand) (texts : List (List ℕ)) → AllByRecursion IsOperand values → IsValues count values texts
     → ReadsOperands (shape.Values count) values texts
 values_words count values texts all fits =
     subst (λ t. ReadsOperands (shape.Values count) values t) (sym fits.texts_are)
-    (ap (λ words. if length words == count then with values_only (each value words) else Err UnknownWord) (append_none (map operand_word values))
+    (ap (λ words. if length words == count then with values_only (each value words) else Err UnknownWord) (append-nil (map operand_word values))
     ∙ ap (λ b. if b then with values_only (each value (map operand_word values)) else Err UnknownWord)
-    (let is : (length (map operand_word values) == count) ≡ true = grind (arith, many_words values, fits.values_are) in is)
+    (let is : (length (map operand_word values) == count) ≡ true = grind (arith, length-map values operand_word, fits.values_are) in is)
     ∙ ap (with values_only) (values_read values all))
 
 pairs_words : (values : List Operand) (texts : List (List ℕ)) → AllByRecursion IsOperand values → IsPairs values texts → ReadsOperands shape.Pairs values texts
 pairs_words values texts all fits =
     subst (λ t. ReadsOperands shape.Pairs values t) (sym fits.texts_are)
-    (ap (λ words. if length words % 2 == 1 then with values_only (each value words >>= at_most 17) else Err UnknownWord) (append_none (map operand_word values))
-    ∙ ap (λ n. if n % 2 == 1 then with values_only (each value (map operand_word values) >>= at_most 17) else Err UnknownWord) (many_words values)
+    (ap (λ words. if length words % 2 == 1 then with values_only (each value words >>= at_most 17) else Err UnknownWord) (append-nil (map operand_word values))
+    ∙ ap (λ n. if n % 2 == 1 then with values_only (each value (map operand_word values) >>= at_most 17) else Err UnknownWord) (length-map values operand_word)
     ∙ ap (λ n. if n == 1 then with values_only (each value (map operand_word values) >>= at_most 17) else Err UnknownWord) fits.pairs
     ∙ ap (λ said. with values_only (said >>= at_most 17)) (values_read values all)
     ∙ ap (λ b. with values_only (if b then Ok values else Err OutOfRange)) (let is : nat_le (length values) 17 ≡ true = grind (arith, fits.most) in is))

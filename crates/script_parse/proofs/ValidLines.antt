@@ -23,7 +23,7 @@ use Rattle.posix_defs.specs.declared.said.Word.{Word}
 use Rattle.posix_defs.specs.ScriptValues.{both, with, ◌>>=◌, each, is_word, register, value, is_name, name, path, stored}
 use Rattle.posix_defs.specs.ScriptLines.{kind_said, shape_of, CallOperands, values_only, counted, one_path, two_paths, path_value, value_path, value_bytes, at_most, pairs, operands_said, if_built, call_of_kind, call_said, set_said, add_said, test_said, if_said, jump_said, label_said, loop_said, call_for_one, call_for_both, call_for_two, call_for, statement_said, alone, said_in_program, natural, only, policy_said, choices_said, top_said, said_at_top}
 use Rattle.posix_defs.specs.ValidScript.{IsRegister, IsOperand, IsPath, IsStored, Fits, AreTargets, IsChooser}
-use Rattle.script_parse.proofs.Holds.{when, with_holds, then_holds, both_hold, AreAll, each_holds}
+use Rattle.script_parse.proofs.Holds.{any, when, with_holds, then_holds, both_hold, AreAll, each_holds}
 use Rattle.script_parse.proofs.ValidWords.{IsTextWord}
 use Rattle.script_parse.proofs.ValidValues.{register_is, natural_is, value_is, name_is, path_is, stored_is}
 
@@ -165,10 +165,6 @@ add_fits (target ∷ amount ∷ []) =
     then_holds IsRegister IsSpoken (register target) (λ r. value amount >>= λ v. Ok (spoken.Whole (statement.Add r v))) (register_is target)
     (λ r is. then_holds IsOperand IsSpoken (value amount) (λ v. Ok (spoken.Whole (statement.Add r v))) (value_is amount) (λ v of. (is, of)))
 add_fits (target ∷ amount ∷ more ∷ words) = tt
-
-any : {A : Type 0} (said : Result A FaultKind) → IfOk said (λ _. ⊤)
-any (Ok a) = tt
-any (Err kind) = tt
 
 if_fits : (words : List Word) → Speaks (if_said words)
 if_fits [] = tt

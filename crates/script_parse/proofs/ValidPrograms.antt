@@ -12,7 +12,7 @@ use Rattle.posix_defs.specs.declared.said.Spoken.TheVariants as spoken
 use Rattle.posix_defs.specs.declared.said.Stated.{Stated}
 use Rattle.posix_defs.specs.ValidScript.{IsLabel, IsFirstLabel, IsStatement}
 use Rattle.script_parse.specs.LabelPlaces.{names, place_in, place_from, later, earlier, first_label, placed, placed_in, before, body_from, body_of}
-use Rattle.script_parse.proofs.Holds.{when, with_holds}
+use Rattle.script_parse.proofs.Holds.{any, when, with_holds}
 use Rattle.script_parse.proofs.ValidLines.{IsWhole, IsSpoken}
 
 -- what a program's lines say, each of which promises what it has to
@@ -159,10 +159,6 @@ IsNoLabel (statement.If _ _ _ _) = ⊤
 IsNoLabel (statement.Jump _) = ⊤
 IsNoLabel (statement.Loop _ _) = ⊤
 IsNoLabel (statement.Invoke _ _ _ _ _) = ⊤
-
-any : {A : Type 0} (said : Result A FaultKind) → IfOk said (λ _. ⊤)
-any (Ok a) = tt
-any (Err kind) = tt
 
 -- a program that is read: its lines, and its statements
 record IsBody (lines : List Stated) (body : List Statement) : Type 0 where

@@ -1,4 +1,4 @@
-//! The language of scripts: reading a text, and the fault of a text that is no script.
+//! The language of scripts: reading a text, the fault of a text that is no script, and printing a script.
 #![tactic(auto)]
 
 mod calls;
