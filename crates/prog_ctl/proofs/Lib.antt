@@ -1,5 +1,6 @@
 pub mod CallFamilies
 pub mod Resting
+pub mod SampleIsValid
 pub mod Settling
 pub mod Staying
 pub mod ValidPrograms

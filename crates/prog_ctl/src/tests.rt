@@ -1,21 +1,69 @@
 ghost use Rattle.std.specs.Prelude.{◌≡◌, ◌∷◌, [], codes, IfOk};
+ghost use Rattle.kabi_types.specs.declared.scripts.Statement.TheVariants.{Invoke};
+ghost use Rattle.prog_ctl.specs.Sample.{sample, sample_body};
 
-use crate::{moved, next_call};
-use kabi_types::{Call, Chooser, Control, Name27, Policy, Program, Programs, Script, Statements};
-use std::alloc::Global;
+use crate::{answer, moved, next_call};
+use kabi_types::{
+    Call, CallKind, Chooser, Control, Errno, Name27, Operand, Operands, Policy, Program, Programs,
+    Reply, Script, Statement, Statements, Test, Texts,
+};
+use std::alloc::{AllocError, Global};
 use std::test::Fail;
 
-/// A script of one program without statements.
-fn empty_script(alloc: Global) -> Result<Script, Fail>
-    ensures { IfOk result (λ script. script.programs ≡ record { name = codes "init"; body = [] } ∷ []) }
+/// A call without texts.
+fn call(
+    alloc: Global,
+    kind: CallKind,
+    operands: Vec<Operand>,
+    first: Option<u8>,
+    second: Option<u8>,
+) -> Statement
+    ensures { result ≡ Invoke kind operands.items [] first second }
 {
+    Statement::Invoke {
+        kind,
+        operands: Operands::from_vec(operands),
+        texts: Texts::from_vec(Vec::new(alloc)),
+        first,
+        second,
+    }
+}
+
+/// The statements of the script that the tests run.
+fn sample_statements(alloc: Global, label: Name27) -> Result<Vec<Statement>, AllocError>
+    requires { label ≡ codes "b" }
+    ensures { IfOk result (λ body. body.items ≡ sample_body) }
+{
+    let mut status = Vec::new(alloc);
+    status.push(Operand::Number(9))?;
+    let mut body = Vec::new(alloc);
+    body.push(Statement::Set(1, Operand::Number(1)))?;
+    body.push(Statement::Add(3, Operand::Number(-1)))?;
+    body.push(Statement::If {
+        left: Operand::Reg(3),
+        test: Test::Lt,
+        right: Operand::Reg(0),
+        place: 4,
+    })?;
+    body.push(call(alloc, CallKind::Exit, status, None, None))?;
+    body.push(Statement::Label(label))?;
+    body.push(call(alloc, CallKind::Getpid, Vec::new(alloc), Some(2), Some(4)))?;
+    body.push(Statement::Loop(1, 4))?;
+    Ok(body)
+}
+
+/// The script that the tests run.
+fn sample_script(alloc: Global) -> Result<Script, Fail>
+    ensures { IfOk result (λ script. script ≡ sample) }
+{
+    let label = Name27::of(b"b").ok_or("a name")?;
     let name = Name27::of(b"init").ok_or("a name")?;
-    let program = Program {
-        name,
-        body: Statements::from_vec(Vec::new(alloc)),
-    };
+    let body = sample_statements(alloc, label)?;
     let mut programs = Vec::new(alloc);
-    programs.push(program)?;
+    programs.push(Program {
+        name,
+        body: Statements::from_vec(body),
+    })?;
     Ok(Script {
         heap: 65536,
         disk: 64,
@@ -27,18 +75,36 @@ fn empty_script(alloc: Global) -> Result<Script, Fail>
 }
 
 #[test]
-fn a_program_ends_with_exit_0(rt: HostRuntime) -> Result<(), Fail> {
-    let script = empty_script(rt.alloc())?;
+fn a_program_goes_from_call_to_call(rt: HostRuntime) -> Result<(), Fail> {
+    let script = sample_script(rt.alloc())?;
     let mut control = Control {
         program: 0,
         place: 0,
-        regs: [7; 16],
+        regs: [0; 16],
         done: 0,
     };
+    control.regs[4] = 5;
+    assert_eq!(rt; next_call(&script, &mut control), Call::Getpid);
+    assert_eq!(rt; control.place, 5);
+    assert_eq!(rt; control.regs[1], 1);
+    assert_eq!(rt; control.regs[3], -1);
+    assert_eq!(rt; next_call(&script, &mut control), Call::Getpid);
+    assert_eq!(rt; control.place, 5);
+    answer(&script, &mut control, &Reply::Val(7));
+    assert_eq!(rt; control.regs[2], 7);
+    assert_eq!(rt; control.regs[4], 0);
+    assert_eq!(rt; next_call(&script, &mut control), Call::SchedYield);
+    assert_eq!(rt; control.place, 6);
+    assert_eq!(rt; control.regs[1], 1);
+    answer(&script, &mut control, &Reply::Val(0));
+    assert_eq!(rt; control.place, 4);
+    assert_eq!(rt; control.regs[1], 0);
+    assert_eq!(rt; next_call(&script, &mut control), Call::Getpid);
+    answer(&script, &mut control, &Reply::Fail(Errno::EINVAL));
+    assert_eq!(rt; control.regs[2], -22);
     let exit = Call::Exit { status: 0 };
     assert_eq!(rt; next_call(&script, &mut control), exit);
-    assert_eq!(rt; control.place, 0);
-    assert_eq!(rt; control.regs, [7; 16]);
+    assert_eq!(rt; control.place, 7);
     Ok(())
 }
 
