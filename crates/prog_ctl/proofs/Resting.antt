@@ -1,13 +1,13 @@
 -- The local statements of a program end.
-use Rattle.std.proofs.Common.{◌≡◌, ℕ, zero, suc, ◌+◌, ◌<◌, ◌≤◌, true, false, List, length, Option, None, Some, refl, sym, ap, ◌∙◌, subst, arith}
+use Rattle.std.proofs.Common.{◌≡◌, ℕ, zero, suc, ◌+◌, ◌<◌, ◌≤◌, true, false, List, length, Option, None, Some, refl, ap, ◌∙◌, subst, arith}
 use Rattle.std.specs.Prelude.{IfSome, is_some, slice_get}
 use Rattle.std.proofs.lemmas.Option.{slice_get_within}
 use Rattle.kabi_types.specs.declared.scripts.Control.{Control}
 use Rattle.kabi_types.specs.declared.scripts.Script.{Script}
 use Rattle.kabi_types.specs.declared.scripts.Statement.{Statement}
-use Rattle.posix_defs.specs.Control.{body_of, call_at, call_of, carry_on, local, local_at, settle, settled, statement_of}
+use Rattle.posix_defs.specs.Control.{body_of, carry_on, local_at, settle, settled}
 use Rattle.prog_ctl.specs.Runnable.{IsRunnable, IsRunnableAt, Rests, Stands}
-use Rattle.prog_ctl.proofs.Settling.{local_later, rests_settled, same_body}
+use Rattle.prog_ctl.proofs.Settling.{local_later, same_body}
 use Rattle.prog_ctl.proofs.ValidPrograms.{stands_runs}
 
 -- no statement makes a call here, or the next statement does

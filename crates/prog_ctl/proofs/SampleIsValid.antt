@@ -1,11 +1,11 @@
 -- The tests' script is one that some text may say.
-use Rattle.std.proofs.Common.{◌≡◌, ◌≢◌, ℕ, zero, suc, ◌<◌, true, false, List, [], ◌∷◌, length, Option, None, Some, refl, sym, ap, ◌∙◌, subst, arith}
+use Rattle.std.proofs.Common.{◌≡◌, ◌≢◌, ℕ, zero, suc, ◌<◌, true, false, List, [], length, Option, Some, refl, sym, ap, ◌∙◌, subst, arith}
 use Rattle.std.specs.Prelude.{Bool, codes, IfSome, slice_get}
 use Rattle.kabi_types.specs.declared.scripts.Control.{Control}
 use Rattle.kabi_types.specs.declared.scripts.Script.{Script}
 use Rattle.kabi_types.specs.declared.scripts.Statement.{Statement}
 use Rattle.kabi_types.specs.declared.scripts.Statement.TheVariants as statement
-use Rattle.posix_defs.specs.ValidScript.{AreApart, IsProgram, IsStatement, IsValid}
+use Rattle.posix_defs.specs.ValidScript.{AreApart, IsStatement, IsValid}
 use Rattle.prog_ctl.specs.Runnable.{Stands}
 use Rattle.prog_ctl.specs.Sample.{sample, sample_body}
 

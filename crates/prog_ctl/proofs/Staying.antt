@@ -1,6 +1,6 @@
 -- A control stays in its program: local statements and replies lead to places of the same program.
-use Rattle.std.proofs.Common.{◌≡◌, ℕ, zero, suc, ◌+◌, ◌<◌, ◌≤◌, Bool, true, false, List, [], ◌∷◌, length, Option, None, Some, refl, sym, ap, ◌∙◌, subst, arith}
-use Rattle.std.specs.Prelude.{⊤, ℤ, pos, int_lt, if◌then◌else◌, slice_get, IfSome}
+use Rattle.std.proofs.Common.{◌≡◌, ℕ, zero, suc, ◌<◌, ◌≤◌, Bool, true, false, List, [], ◌∷◌, length, Option, None, Some, refl, sym, ◌∙◌, subst, arith}
+use Rattle.std.specs.Prelude.{ℤ, pos, int_lt, if◌then◌else◌, slice_get, IfSome}
 use Rattle.std.specs.List.{AllByRecursion}
 use Rattle.kabi_types.specs.Reply.{first_of, second_of}
 use Rattle.kabi_types.specs.declared.replies.Reply.{Reply}

@@ -1,6 +1,6 @@
 -- A valid script's programs can be run.
-use Rattle.std.proofs.Common.{◌≡◌, ℕ, zero, suc, ◌+◌, ◌<◌, ◌≤◌, Bool, true, false, ◌&&◌, List, [], ◌∷◌, length, Option, None, Some, refl, sym, ap, ◌∙◌, subst, arith}
-use Rattle.std.specs.Prelude.{⊤, IfSome, IsSome, slice_get, nat_le}
+use Rattle.std.proofs.Common.{◌≡◌, ℕ, zero, suc, ◌<◌, ◌≤◌, Bool, true, false, ◌&&◌, List, [], ◌∷◌, length, Option, None, Some, refl, sym, ap, subst, arith}
+use Rattle.std.specs.Prelude.{⊤, IfSome, slice_get, nat_le}
 use Rattle.std.specs.List.{AllByRecursion}
 use Rattle.std.proofs.lemmas.Option.{slice_get_within}
 use Rattle.kabi_types.specs.declared.calls.CallKind.{CallKind}
@@ -14,7 +14,6 @@ use Rattle.kabi_types.specs.declared.scripts.Statement.{Statement}
 use Rattle.kabi_types.specs.declared.scripts.Statement.TheVariants as statement
 use Rattle.posix_defs.specs.declared.said.Shape.{Shape}
 use Rattle.posix_defs.specs.declared.said.Shape.TheVariants as shape
-use Rattle.posix_defs.specs.ScriptValues.{is_path}
 use Rattle.posix_defs.specs.ScriptLines.{shape_of}
 use Rattle.posix_defs.specs.Control.{body_of, statements_of}
 use Rattle.posix_defs.specs.ValidScript as valid

@@ -1,7 +1,6 @@
-use Rattle.std.proofs.Common.{◌≡◌, ◌∙◌, ap, subst, sym}
+use Rattle.std.proofs.Common.{◌∙◌, ap, subst, sym}
 use Rattle.std.specs.Prelude.{slice_get}
-use Rattle.kabi_types.specs.declared.scripts.Control.{Control}
-use Rattle.posix_defs.specs.Control.{after, after_at, afresh}
+use Rattle.posix_defs.specs.Control.{after_at, afresh}
 use Rattle.prog_ctl.specs.Runnable.{Stands}
 use Rattle.prog_ctl.proofs.Settling.{after_is}
 use Rattle.prog_ctl.proofs.Staying.{after_stands}

@@ -1,4 +1,4 @@
-use Rattle.std.proofs.Common.{◌≡◌, ℤ, List, Option, None, Some, sym, ap, ◌∙◌}
+use Rattle.std.proofs.Common.{ℤ, List, Option, None, Some, sym, ap, ◌∙◌}
 use Rattle.std.specs.Prelude.{pos, neg_ℤ, slice_set}
 use Rattle.std.specs.Int.{w64, int_wrapping_add}
 use Rattle.kabi_types.specs.declared.scripts.Control.{Control}
