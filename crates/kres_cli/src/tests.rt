@@ -100,7 +100,7 @@ pub fn first_other<'a>(
 }
 
 #[test]
-fn tells_the_fault_of_what_is_no_script(rt: HostRuntime) -> Result<(), Fail> {
+fn tells_a_line_at_fault_by_itself(rt: HostRuntime) -> Result<(), Fail> {
     let cases = [
         ("", Status::BadScript, "bad script: line 0: no init\n"),
         (
@@ -123,6 +123,14 @@ fn tells_the_fault_of_what_is_no_script(rt: HostRuntime) -> Result<(), Fail> {
             Status::BadScript,
             "bad script: line 2: bad number\n",
         ),
+    ];
+    assert_eq!(rt; first_other(&rt, "sim", cases.as_slice())?, None);
+    Ok(())
+}
+
+#[test]
+fn tells_a_line_at_fault_beside_others(rt: HostRuntime) -> Result<(), Fail> {
+    let cases = [
         (
             "heap 8191\nprogram init\nend\n",
             Status::BadScript,
