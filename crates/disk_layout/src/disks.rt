@@ -1,6 +1,7 @@
 //! A disk in memory that counts its reads.
 
 ghost use Rattle.std.specs.Prelude.{◌≡◌, ℕ, ◌+◌, ◌-◌, ◌<◌, ◌≤◌, ◌++◌, ◌∷◌, [], min, length, slice_get, slice_set, slice_index, Some, IfOk};
+ghost use Rattle.disk_layout.specs.Disk.{IsRead};
 ghost use Rattle.posix_defs.specs.SoundDisk.{Sound};
 ghost use Rattle.posix_defs.specs.DiskContents.{zeros, first_marked, new_root, entry_for, new_entries, IsDirectoryOf, IsFormatted};
 
@@ -10,6 +11,7 @@ use crate::words::put;
 use kabi_types::{DirEntry, Inode, Memory, Name27};
 use posix_defs::Blocks;
 use std::alloc::Global;
+use std::marker::Model;
 
 /// A disk in memory, of 16 to 4096 blocks.
 #[derive(Drop)]
@@ -18,14 +20,25 @@ pub struct RamDisk {
     reads: u64,
 }
 
+impl Model for RamDisk {
+    ghost use Rattle.std.specs.Prelude.{length, ◌≤◌};
+    ghost use Rattle.disk_layout.specs.Disk.{Disk};
+
+    ghost Value = { Disk };
+
+    ghost view = { λ disk. record { blocks = disk.blocks.items; reads = disk.reads } };
+
+    ghost invariant = { λ disk. length disk.blocks.items ≤ 4096 };
+}
+
 impl RamDisk {
     /// A disk of so many blocks, 16 to 4096, whose root directory has `.` and `..` alone, and of which nothing was read.
     /// Memory where the host has none for its blocks.
     pub fn boot(alloc: Global, blocks: u32) -> Result<RamDisk, Memory>
         requires { (16 ≤ blocks) × (blocks ≤ 4096) }
-        ensures formatted { IfOk result (λ disk. IsFormatted blocks disk.blocks.items) }
-        ensures sound { IfOk result (λ disk. Sound disk.blocks.items) }
-        ensures root { IfOk result (λ disk. IsDirectoryOf disk.blocks.items 1 1 []) }
+        ensures formatted { IfOk result (λ disk. IsFormatted blocks disk.blocks) }
+        ensures sound { IfOk result (λ disk. Sound disk.blocks) }
+        ensures root { IfOk result (λ disk. IsDirectoryOf disk.blocks 1 1 []) }
         ensures unread { IfOk result (λ disk. disk.reads ≡ 0) }
     {
         let first = blocks / 16 + 1;
@@ -41,10 +54,10 @@ impl RamDisk {
 
     /// A block's bytes. The count of reads grows by one, up to its last value.
     pub fn read(&mut self, number: u32) -> [u8; 1024]
-        requires { number < length self.old.blocks.items }
-        ensures value { slice_get self.old.blocks.items number ≡ Some result }
-        ensures kept { self.new.blocks.items ≡ self.old.blocks.items }
-        ensures counted { self.new.reads ≡ min (self.old.reads + 1) 18446744073709551615 }
+        requires { number < length self.old.blocks }
+        ensures value { slice_get self.old.blocks number ≡ Some result }
+        ensures counted { IsRead self.old self.new }
+        ensures grows { self.old.reads ≤ self.new.reads }
     {
         self.reads = self.reads.saturating_add(1);
         self.blocks[number as usize]
@@ -59,8 +72,8 @@ impl RamDisk {
 
     /// Writes a block, and no other.
     pub fn write(&mut self, number: u32, bytes: &[u8; 1024])
-        requires { number < length self.old.blocks.items }
-        ensures after { self.new.blocks.items ≡ slice_set self.old.blocks.items number bytes.now }
+        requires { number < length self.old.blocks }
+        ensures after { self.new.blocks ≡ slice_set self.old.blocks number bytes.now }
         ensures reads { self.new.reads ≡ self.old.reads }
     {
         let place = number as usize;
@@ -69,27 +82,31 @@ impl RamDisk {
 }
 
 impl Blocks for RamDisk {
-    ghost blocks = { λ disk. disk.blocks.items };
+    ghost blocks = { λ disk. disk.blocks };
 
-    // It holds no lent part.
-    ghost same_parts = { λ _ _. Unit {0} };
+    // Reads are never taken back. It holds no lent part.
+    ghost follows = { λ before after. before.reads ≤ after.reads };
 
-    ghost same_parts_on = { λ _ _ _ _ _. tt };
+    ghost asked = { λ before _ after. IsRead before after };
 
-    fn get(&mut self, number: u32) -> [u8; 1024]
-        requires { number < length self.old.blocks.items }
-        ensures value { slice_get self.old.blocks.items number ≡ Some result }
-        ensures kept { self.new.blocks.items ≡ self.old.blocks.items }
-        ensures parts { Unit {0} }
-        ensures counted { self.new.reads ≡ min (self.old.reads + 1) 18446744073709551615 }
-    {
+    ghost use Rattle.std.proofs.Common.{arith};
+
+    ghost follows_refl = { λ a. Prim.omega arith };
+
+    ghost follows_trans = { λ a b c one other. Prim.omega arith };
+
+    fn count(&self) -> u32 {
+        self.blocks.len() as u32
+    }
+
+    fn get(&mut self, number: u32) -> [u8; 1024] {
         self.read(number)
     }
 
     fn set(&mut self, number: u32, bytes: &[u8; 1024])
-        requires { number < length self.old.blocks.items }
-        ensures after { self.new.blocks.items ≡ slice_set self.old.blocks.items number bytes.now }
-        ensures parts { Unit {0} }
+        requires { number < length self.old.blocks }
+        ensures after { self.new.blocks ≡ slice_set self.old.blocks number bytes.now }
+        ensures follows { self.old.reads ≤ self.new.reads }
         ensures reads { self.new.reads ≡ self.old.reads }
     {
         self.write(number, bytes);

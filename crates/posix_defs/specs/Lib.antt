@@ -25,6 +25,7 @@ pub mod Lines
 pub use Rattle.kabi_types.specs.Words
 pub mod Tree
 pub mod FirstScript
+pub mod Asking
 pub mod DiskFormat
 pub mod SoundDisk
 pub mod DiskContents

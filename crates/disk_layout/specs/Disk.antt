@@ -1,0 +1,16 @@
+-- What a caller sees of a disk in memory.
+use Rattle.std.specs.Prelude.{ℕ, ◌+◌, ◌-◌, ◌^◌, ◌≡◌, ◌≤◌, min, List}
+
+-- its blocks in order, and how often one was read
+pub record Disk : Type 0 where
+  pub blocks : List (List ℕ)
+  pub reads : ℕ
+
+-- a count of reads stands still at the last number of its type
+abbrev pub one_more : ℕ → ℕ
+one_more reads = min (reads + 1) (2 ^ 64 - 1)
+
+-- one read changes the count alone
+pub record IsRead (before after : Disk) : Type 0 where
+  pub blocks : after.blocks ≡ before.blocks
+  pub reads : after.reads ≡ one_more before.reads
