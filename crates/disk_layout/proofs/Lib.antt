@@ -1,4 +1,5 @@
 pub mod WordBytes
 pub mod InodeBytes
 pub mod EntryBytes
+pub mod MapBits
 pub mod NewDisk

@@ -1,7 +1,8 @@
 -- Numbers of four bytes one after the other, and bytes put into a row of bytes.
-use Rattle.std.proofs.Common.{◌≡◌, ℕ, ◌+◌, ◌*◌, ◌<◌, ◌≤◌, List, [], ◌++◌, length, get_or, take, drop, set, replicate, refl, sym, ap, ◌∙◌, append_assoc, arith}
+use Rattle.std.proofs.Common.{◌≡◌, ◌⊎◌, ℕ, zero, suc, ◌+◌, ◌-◌, ◌*◌, ◌<◌, ◌≤◌, inl, inr, List, [], ◌∷◌, ◌++◌, length, get_or, take, drop, set, replicate, refl, sym, ap, ◌∙◌, append_assoc, arith}
 use Rattle.std.specs.Int.{w32, to_be_bytes}
-use Rattle.std.proofs.lemmas.List.{take_at, drop_at, take-append-drop, take-take, drop-take, drop-drop, length-append, length-take, take_more_set, flat_map_more, take_more, ext_get_or, length-replicate, get_or-replicate}
+use Rattle.std.proofs.lemmas.List.{take_at, drop_at, take-append-drop, take-take, take-append-le, drop-take, drop-drop, length-append, length-take, length-take-le, take_more_set, flat_map_more, take_more, ext_get_or, length-replicate, get_or-replicate}
+use Rattle.std.proofs.lemmas.List.Concat.{flat_map-cons}
 use Rattle.posix_defs.proofs.DiskSpelling.{words, length-words}
 
 -- what lies from n on is m cells and what lies behind them
@@ -42,3 +43,40 @@ more_put old ws out new at k d lt le is_out is_new =
 
 pub all_zeros : (xs : List ℕ) (n : ℕ) → length xs ≡ n → ((k : ℕ) → k < length xs → get_or xs k 0 ≡ 0) → xs ≡ replicate n 0
 all_zeros xs n len h = ext_get_or 0 xs (replicate n 0) (len ∙ sym (length-replicate n 0)) (λ k lt. h k lt ∙ sym (get_or-replicate n k 0 0 (omega (arith, len, lt))))
+
+-- one number among many
+pub nth_word : (ns rest : List ℕ) (k : ℕ) → k < length ns → take 4 (drop (4 * k) (words ns ++ rest)) ≡ to_be_bytes w32 (get_or ns k 0)
+nth_word [] rest k lt = absurd (omega (arith, lt))
+nth_word (n ∷ ns) rest zero lt =
+    let first : words (n ∷ ns) ++ rest ≡ to_be_bytes w32 n ++ (words ns ++ rest) = ap (λ (x : List ℕ). x ++ rest) (flat_map-cons (to_be_bytes w32) n ns) ∙ append_assoc (to_be_bytes w32 n) (words ns) rest in
+    ap (take 4) first ∙ take_at (to_be_bytes w32 n) (words ns ++ rest) 4 refl
+nth_word (n ∷ ns) rest (suc k) lt =
+    let first : words (n ∷ ns) ++ rest ≡ to_be_bytes w32 n ++ (words ns ++ rest) = ap (λ (x : List ℕ). x ++ rest) (flat_map-cons (to_be_bytes w32) n ns) ∙ append_assoc (to_be_bytes w32 n) (words ns) rest in
+    let behind : drop 4 (words (n ∷ ns) ++ rest) ≡ words ns ++ rest = ap (drop 4) first ∙ drop_at (to_be_bytes w32 n) (words ns ++ rest) 4 refl in
+    let four : 4 * suc k ≡ 4 + 4 * k = omega arith in
+    ap (λ (m : ℕ). take 4 (drop m (words (n ∷ ns) ++ rest))) four ∙ ap (take 4) (sym (drop-drop (4 * k) 4 (words (n ∷ ns) ++ rest)) ∙ ap (drop (4 * k)) behind) ∙ nth_word ns rest k (omega (arith, lt))
+
+-- of bytes that are put, what lies before them and behind them stays
+pub kept_before : (old rest : List ℕ) (at from n : ℕ) → from + n ≤ at → at ≤ length old → take n (drop from (take at old ++ rest)) ≡ take n (drop from old)
+kept_before old rest at from n le within =
+    let len : length (take at old) ≡ at = length-take-le at old within in
+    sym (drop-take from n (take at old ++ rest)) ∙ ap (drop from) (take-append-le (from + n) (take at old) rest (omega (arith, le, len)) ∙ take-take (from + n) at old le) ∙ drop-take from n old
+
+pub kept_behind : (old bytes : List ℕ) (at m from : ℕ) → length bytes ≡ m → at + m ≤ from → at ≤ length old → drop from (take at old ++ (bytes ++ drop (at + m) old)) ≡ drop from old
+kept_behind old bytes at m from len le within =
+    let new : List ℕ = take at old ++ (bytes ++ drop (at + m) old) in
+    let further : ℕ = from - (at + m) in
+    let is : from ≡ at + m + further = omega (arith, le) in
+    let behind : drop (at + m) new ≡ drop (at + m) old =
+    sym (drop-drop m at new) ∙ ap (drop m) (drop_at (take at old) (bytes ++ drop (at + m) old) at (length-take-le at old within)) ∙ drop_at bytes (drop (at + m) old) m len in
+    ap (λ (n : ℕ). drop n new) is ∙ sym (drop-drop further (at + m) new) ∙ ap (drop further) behind ∙ drop-drop further (at + m) old ∙ ap (λ (n : ℕ). drop n old) (sym is)
+
+-- what is put is there
+pub put_there : (old bytes : List ℕ) (at m : ℕ) → length bytes ≡ m → at ≤ length old → take m (drop at (take at old ++ (bytes ++ drop (at + m) old))) ≡ bytes
+put_there old bytes at m len within =
+    ap (take m) (drop_at (take at old) (bytes ++ drop (at + m) old) at (length-take-le at old within)) ∙ take_at bytes (drop (at + m) old) m len
+
+-- a piece of bytes that lies before what is put, or behind it, stays
+pub other_piece : (old bytes : List ℕ) (at from n : ℕ) → length bytes ≡ n → (from + n ≤ at) ⊎ (at + n ≤ from) → at ≤ length old → take n (drop from (take at old ++ (bytes ++ drop (at + n) old))) ≡ take n (drop from old)
+other_piece old bytes at from n len (inl before) within = kept_before old (bytes ++ drop (at + n) old) at from n before within
+other_piece old bytes at from n len (inr behind) within = ap (take n) (kept_behind old bytes at n from len behind within)

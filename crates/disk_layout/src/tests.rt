@@ -1,8 +1,14 @@
-ghost use Rattle.std.specs.Prelude.{◌≡◌, ◌<◌, ◌≤◌, length};
+ghost use Rattle.std.specs.Prelude.{◌≡◌, ◌<◌, ◌≤◌, [], ◌∷◌, None, IsSome, length};
+ghost use Rattle.posix_defs.specs.Asking.{AskedInTurn};
+ghost use Rattle.disk_layout.specs.Disk.{one_more};
 
-use crate::{BadEntry, BadInode, RamDisk, bytes_of, bytes_of_entry, entry_of, inode_of};
+use crate::{
+    BadEntry, BadInode, RamDisk, block_of_pointers, bytes_of, bytes_of_entry, entry_of, inode_in,
+    inode_of, is_marked, mark, pointer_in, pointers_in, put_inode, unmark,
+};
 use kabi_types::{DirEntry, Inode, Name27};
 use posix_defs::Blocks;
+use std::process::Abort;
 use std::test::Fail;
 
 /// A file of 1024 bytes whose one block is block 2.
@@ -43,26 +49,43 @@ const FIRST_258: [u8; 33] = [
     255, 255, 255, 255, 255, 255, 255, 255, 255, 255, 255, 255, 255, 3,
 ];
 
+/// A file of 10240 bytes: as many as the ten blocks that an inode names itself hold.
+const TEN: [u8; 64] = [
+    1, 0, 0, 127, 0, 0, 0x28, 0, 0, 0, 0, 2, 0, 0, 0, 3, 0, 0, 0, 4, 0, 0, 0, 5, 0, 0, 0, 6, 0, 0,
+    0, 7, 0, 0, 0, 8, 0, 0, 0, 9, 0, 0, 0, 10, 0, 0, 0, 11, 0, 0, 0, 0, 0, 0, 0, 0, 0, 0, 0, 0, 0,
+    0, 0, 0,
+];
+
 const KIND: Option<BadInode> = Some(BadInode::BadKind);
 
 const POINTER: Option<BadInode> = Some(BadInode::BadPointer);
 
-/// What is wrong with an inode of a disk of 16 blocks, once one of its bytes is another.
-fn fault_with(bytes: &[u8; 64], place: usize, byte: u8) -> Option<BadInode>
-    requires { place < 64 }
-{
-    let mut changed = *bytes;
-    changed[place] = byte;
-    inode_of(&changed, 16).err()
+/// A place among the bytes of an inode, another byte for it, and what is then wrong on a disk of 16 blocks.
+type Row = (&'static str, usize, u8, Option<BadInode>);
+
+/// Whether each row is as it says, of an inode with these bytes.
+fn check_rows(rt: &impl Abort, bytes: &[u8; 64], rows: &[Row]) {
+    for (what, place, byte, fault) in rows {
+        let mut changed = *bytes;
+        if let Some(cell) = changed.get_mut(*place) {
+            *cell = *byte;
+        }
+        assert!(rt; inode_of(&changed, 16).err() == *fault, "{what}");
+    }
 }
 
-/// Whether an entry is bad once one of its bytes is another.
-fn is_bad_with(bytes: &[u8; 32], place: usize, byte: u8) -> bool
-    requires { place < 32 }
-{
-    let mut changed = *bytes;
-    changed[place] = byte;
-    entry_of(&changed).is_err()
+/// A place among the bytes of an entry, another byte for it, and whether it is then bad.
+type EntryRow = (&'static str, usize, u8, bool);
+
+/// Whether each row is as it says, of an entry with these bytes.
+fn check_entry_rows(rt: &impl Abort, bytes: &[u8; 32], rows: &[EntryRow]) {
+    for (what, place, byte, bad) in rows {
+        let mut changed = *bytes;
+        if let Some(cell) = changed.get_mut(*place) {
+            *cell = *byte;
+        }
+        assert!(rt; entry_of(&changed).is_err() == *bad, "{what}");
+    }
 }
 
 /// The block is the front and zeros behind it.
@@ -76,7 +99,7 @@ fn is_front(block: &[u8; 1024], front: &[u8]) -> bool
 #[test]
 fn a_new_disk_of_16_blocks(rt: HostRuntime) -> Result<(), Fail> {
     let mut disk = RamDisk::boot(rt.alloc(), 16)?;
-    assert_eq!(rt; disk.reads(), 0);
+    assert!(rt; disk.reads() == 0);
     assert!(rt; is_front(&disk.read(0), &[7]));
     assert!(rt; is_front(&disk.read(1), &[2, 0, 0, 1, 0, 0, 0, 0x40, 0, 0, 0, 2]));
     let entries = disk.read(2);
@@ -85,7 +108,7 @@ fn a_new_disk_of_16_blocks(rt: HostRuntime) -> Result<(), Fail> {
     assert!(rt; entries[32..39] == [0, 0, 0, 1, 2, 46, 46]);
     assert!(rt; entries[39..].iter().all(|byte| *byte == 0));
     assert!(rt; is_front(&disk.read(15), &[]));
-    assert_eq!(rt; disk.reads(), 4);
+    assert!(rt; disk.reads() == 4);
     Ok(())
 }
 
@@ -95,6 +118,40 @@ fn a_new_disk_of_4096_blocks(rt: HostRuntime) -> Result<(), Fail> {
     assert!(rt; is_front(&disk.read(0), &FIRST_258));
     assert!(rt; is_front(&disk.read(1), &[2, 0, 0, 1, 0, 0, 0, 0x40, 0, 0, 1, 1]));
     assert!(rt; disk.read(257)[37] == 46);
+    Ok(())
+}
+
+/// Reads the first two blocks of a disk, or none where it has fewer.
+fn read_two<B: Blocks>(disk: &mut B) -> Option<([u8; 1024], [u8; 1024])>
+    ensures few { length (B.blocks disk.old) < 2 → (result ≡ None) × AskedInTurn B.asked disk.old [] disk.new }
+    ensures many { 2 ≤ length (B.blocks disk.old) → IsSome result × AskedInTurn B.asked disk.old (0 ∷ 1 ∷ []) disk.new }
+    ensures follows { B.follows disk.old disk.new }
+{
+    if disk.count() < 2 {
+        return None;
+    }
+    let first = disk.get(0);
+    let second = disk.get(1);
+    Some((first, second))
+}
+
+/// What that costs on a disk in memory: two reads, and none of them is written anew.
+fn read_two_of(disk: &mut RamDisk) -> Option<([u8; 1024], [u8; 1024])>
+    requires { 2 ≤ length disk.old.blocks }
+    ensures reads { disk.new.reads ≡ one_more (one_more disk.old.reads) }
+    ensures blocks { disk.new.blocks ≡ disk.old.blocks }
+{
+    read_two(disk)
+}
+
+#[test]
+fn two_blocks_cost_two_reads(rt: HostRuntime) -> Result<(), Fail> {
+    let mut disk = RamDisk::boot(rt.alloc(), 16)?;
+    assert!(rt; disk.count() == 16);
+    if disk.count() >= 2 {
+        assert!(rt; read_two_of(&mut disk).is_some());
+    }
+    assert!(rt; disk.reads() == 2);
     Ok(())
 }
 
@@ -111,12 +168,12 @@ fn write_and_read<B: Blocks>(disk: &mut B) -> ([u8; 1024], [u8; 1024], [u8; 1024
 fn a_write_changes_one_block_and_counts_nothing(rt: HostRuntime) -> Result<(), Fail> {
     let mut disk = RamDisk::boot(rt.alloc(), 16)?;
     disk.write(7, &[8; 1024]);
-    assert_eq!(rt; disk.reads(), 0);
+    assert!(rt; disk.reads() == 0);
     let (before, written, next) = write_and_read(&mut disk);
     assert!(rt; written.iter().all(|byte| *byte == 9));
     assert!(rt; is_front(&before, &[]));
     assert!(rt; is_front(&next, &[]));
-    assert_eq!(rt; disk.reads(), 3);
+    assert!(rt; disk.reads() == 3);
     assert!(rt; disk.read(7).iter().all(|byte| *byte == 8));
     Ok(())
 }
@@ -144,42 +201,52 @@ fn inodes_are_read_and_written(rt: HostRuntime) {
     assert!(rt; inode_of(&[0; 64], 16).is_ok());
 }
 
-#[test]
-fn bytes_that_are_kept_zero(rt: HostRuntime) {
-    assert_eq!(rt; fault_with(&FILE, 1, 1), KIND, "behind the kind");
-    assert_eq!(rt; fault_with(&FILE, 52, 1), KIND, "the first at the end");
-    assert_eq!(rt; fault_with(&FILE, 63, 255), KIND, "the last");
-}
+const KEPT_ZERO: &[Row] = &[
+    ("behind the kind", 1, 1, KIND),
+    ("the first at the end", 52, 1, KIND),
+    ("the last", 63, 255, KIND),
+];
 
 #[test]
-fn kinds_and_links(rt: HostRuntime) {
-    assert_eq!(rt; fault_with(&FILE, 0, 2), None, "a directory");
-    assert_eq!(rt; fault_with(&[0; 64], 0, 3), None, "a socket's name");
-    assert_eq!(rt; fault_with(&FILE, 0, 4), KIND, "kind 4");
-    assert_eq!(rt; fault_with(&FILE, 0, 255), KIND, "kind 255");
-    assert_eq!(rt; fault_with(&FILE, 3, 127), None, "127 links");
-    assert_eq!(rt; fault_with(&FILE, 3, 128), KIND, "128 links");
-    assert_eq!(rt; fault_with(&FILE, 2, 1), KIND, "257 links");
-    assert_eq!(rt; fault_with(&[0; 64], 3, 1), KIND, "a free one with a link");
+fn bytes_that_are_kept_zero(rt: HostRuntime) {
+    check_rows(&rt, &FILE, KEPT_ZERO);
 }
+
+const KINDS_OF_A_FILE: &[Row] = &[
+    ("a directory", 0, 2, None),
+    ("kind 4", 0, 4, KIND),
+    ("kind 255", 0, 255, KIND),
+    ("127 links", 3, 127, None),
+    ("128 links", 3, 128, KIND),
+    ("257 links", 2, 1, KIND),
+    ("a socket's name of 1024 bytes", 0, 3, KIND),
+];
+
+const KINDS_OF_A_FREE_NODE: &[Row] = &[
+    ("a socket's name", 0, 3, None),
+    ("a free one with a link", 3, 1, KIND),
+    ("a free one of a byte", 7, 1, KIND),
+];
+
+#[test]
+fn kinds_links_and_sizes_go_together(rt: HostRuntime) {
+    check_rows(&rt, &FILE, KINDS_OF_A_FILE);
+    check_rows(&rt, &[0; 64], KINDS_OF_A_FREE_NODE);
+}
+
+const SIZES_OF_A_FULL_FILE: &[Row] = &[("272385 bytes", 7, 1, KIND)];
+
+const SIZES_OF_A_DIRECTORY: &[Row] = &[
+    ("65 bytes", 7, 0x41, KIND),
+    ("80 bytes", 7, 0x50, KIND),
+    ("one entry", 7, 0x20, None),
+    ("a file of 64 bytes", 0, 1, None),
+];
 
 #[test]
 fn sizes_of_each_kind(rt: HostRuntime) {
-    assert_eq!(rt; fault_with(&FULL, 7, 1), KIND, "272385 bytes");
-    assert_eq!(rt; fault_with(&[0; 64], 7, 1), KIND, "a free one of a byte");
-    assert_eq!(rt;
-        fault_with(&FILE, 0, 3),
-        KIND,
-        "a socket's name of 1024 bytes"
-    );
-    assert_eq!(rt; fault_with(&ROOT, 7, 0x41), KIND, "a directory of 65 bytes");
-    assert_eq!(rt; fault_with(&ROOT, 7, 0x50), KIND, "a directory of 80 bytes");
-    assert_eq!(rt;
-        fault_with(&ROOT, 7, 0x20),
-        None,
-        "a directory of one entry"
-    );
-    assert_eq!(rt; fault_with(&ROOT, 0, 1), None, "a file of 64 bytes");
+    check_rows(&rt, &FULL, SIZES_OF_A_FULL_FILE);
+    check_rows(&rt, &ROOT, SIZES_OF_A_DIRECTORY);
 }
 
 #[test]
@@ -192,51 +259,54 @@ fn a_bad_kind_comes_before_a_bad_pointer(rt: HostRuntime) {
     assert!(rt; inode_of(&odd, 16) == Err(BadInode::BadPointer));
 }
 
+const POINTERS_OF_A_FILE: &[Row] = &[
+    ("none", 11, 0, POINTER),
+    ("the table", 11, 1, POINTER),
+    ("the first for files", 11, 2, None),
+    ("the last", 11, 15, None),
+    ("behind the last", 11, 16, POINTER),
+    ("a second for 1024 bytes", 15, 3, POINTER),
+    ("one for 1025 bytes", 7, 1, POINTER),
+    ("a block of pointers for 1024 bytes", 51, 3, POINTER),
+];
+
+const POINTERS_OF_A_FULL_FILE: &[Row] = &[
+    ("the tenth", 47, 16, POINTER),
+    ("the table as block of pointers", 51, 1, POINTER),
+    ("no block of pointers", 51, 0, POINTER),
+];
+
 #[test]
 fn pointers_outside_the_blocks_for_files(rt: HostRuntime) {
-    assert_eq!(rt; fault_with(&FILE, 11, 0), POINTER, "none");
-    assert_eq!(rt; fault_with(&FILE, 11, 1), POINTER, "the table");
-    assert_eq!(rt; fault_with(&FILE, 11, 2), None, "the first for files");
-    assert_eq!(rt; fault_with(&FILE, 11, 15), None, "the last");
-    assert_eq!(rt; fault_with(&FILE, 11, 16), POINTER, "behind the last");
-    assert_eq!(rt; fault_with(&FULL, 47, 16), POINTER, "the tenth");
-    assert_eq!(rt; fault_with(&FULL, 51, 1), POINTER, "the block of pointers");
+    check_rows(&rt, &FILE, POINTERS_OF_A_FILE);
+    check_rows(&rt, &FULL, POINTERS_OF_A_FULL_FILE);
     assert!(rt; inode_of(&FILE, 32) == Err(BadInode::BadPointer));
 }
 
+const POINTERS_OF_TEN_BLOCKS: &[Row] = &[
+    ("10240 bytes", 51, 0, None),
+    ("a block of pointers for 10240 bytes", 51, 12, POINTER),
+    ("10241 bytes without a block of pointers", 7, 1, POINTER),
+];
+
+const POINTERS_OF_TEN_BLOCKS_AND_MORE: &[Row] = &[
+    ("10241 bytes", 7, 1, None),
+    ("a block of pointers that isn't needed", 7, 0, POINTER),
+];
+
 #[test]
 fn pointers_are_those_that_the_size_needs(rt: HostRuntime) {
-    assert_eq!(rt;
-        fault_with(&FILE, 15, 3),
-        POINTER,
-        "a second for 1024 bytes"
-    );
-    assert_eq!(rt; fault_with(&FILE, 7, 1), POINTER, "one for 1025 bytes");
-    assert_eq!(rt;
-        fault_with(&FILE, 51, 3),
-        POINTER,
-        "a block of pointers for 1024 bytes"
-    );
-    assert_eq!(rt; fault_with(&FULL, 51, 0), POINTER, "no block of pointers");
-    let mut ten = FULL;
-    ten[5] = 0;
-    assert_eq!(rt; fault_with(&ten, 51, 0), None, "10240 bytes");
-    assert_eq!(rt;
-        fault_with(&ten, 51, 12),
-        POINTER,
-        "a block of pointers for 10240 bytes"
-    );
-    assert_eq!(rt; fault_with(&ten, 7, 1), None, "10241 bytes");
+    check_rows(&rt, &TEN, POINTERS_OF_TEN_BLOCKS);
+    let mut more = TEN;
+    more[51] = 12;
+    check_rows(&rt, &more, POINTERS_OF_TEN_BLOCKS_AND_MORE);
 }
 
 #[test]
 fn entries_are_read_and_written(rt: HostRuntime) -> Result<(), Fail> {
     let longest = entry_of(&LONGEST).ok().ok_or("27 bytes are a name")?;
-    assert_eq!(rt; longest.node, 258);
-    assert_eq!(rt;
-        longest.name.items(),
-        b"abcdefghijklmnopqrstuvwxyz0".as_slice()
-    );
+    assert!(rt; longest.node == 258);
+    assert!(rt; longest.name.items() == b"abcdefghijklmnopqrstuvwxyz0".as_slice());
     assert!(rt; bytes_of_entry(&longest) == LONGEST);
     let name = Name27::of(b"ab").ok_or("two bytes are a name")?;
     let short = DirEntry { node: 3, name };
@@ -245,16 +315,66 @@ fn entries_are_read_and_written(rt: HostRuntime) -> Result<(), Fail> {
     Ok(())
 }
 
+const BAD_SHORT_ENTRIES: &[EntryRow] = &[
+    ("node 0", 3, 0, true),
+    ("no name", 4, 0, true),
+    ("a zero byte in the name", 4, 3, true),
+    ("a slash", 5, 47, true),
+    ("a byte behind the name", 7, 1, true),
+    ("the last byte", 31, 1, true),
+    ("a dot", 6, 46, false),
+];
+
+const BAD_LONG_ENTRIES: &[EntryRow] = &[
+    ("28 bytes", 4, 28, true),
+    ("a byte behind 26", 4, 26, true),
+];
+
 #[test]
 fn bad_entries(rt: HostRuntime) {
     assert!(rt; entry_of(&[0; 32]) == Err(BadEntry));
-    assert!(rt; is_bad_with(&SHORT, 3, 0), "node 0");
-    assert!(rt; is_bad_with(&SHORT, 4, 0), "no name");
-    assert!(rt; is_bad_with(&LONGEST, 4, 28), "28 bytes");
-    assert!(rt; is_bad_with(&LONGEST, 4, 26), "a byte behind 26");
-    assert!(rt; is_bad_with(&SHORT, 4, 3), "a zero byte in the name");
-    assert!(rt; is_bad_with(&SHORT, 5, 47), "a slash");
-    assert!(rt; is_bad_with(&SHORT, 7, 1), "a byte behind the name");
-    assert!(rt; is_bad_with(&SHORT, 31, 1), "the last byte");
-    assert!(rt; !is_bad_with(&SHORT, 6, 46), "a dot");
+    check_entry_rows(&rt, &SHORT, BAD_SHORT_ENTRIES);
+    check_entry_rows(&rt, &LONGEST, BAD_LONG_ENTRIES);
+}
+
+/// Where the pointers of a block stand, and that a block has those that it was made of.
+#[test]
+fn blocks_of_pointers(rt: HostRuntime) {
+    let mut pointers = [0; 256];
+    pointers[1] = 0x0102;
+    pointers[255] = 4095;
+    let block = block_of_pointers(&pointers);
+    assert!(rt; block[..8] == [0, 0, 0, 0, 0, 0, 1, 2]);
+    assert!(rt; block[1020..] == [0, 0, 15, 255]);
+    assert!(rt; pointer_in(&block, 255) == 4095);
+    assert!(rt; pointers_in(&block) == pointers);
+}
+
+/// Block 13 has bit 5 of byte 1.
+#[test]
+fn bits_of_a_map(rt: HostRuntime) {
+    let mut map = [0; 1024];
+    map[1] = 1;
+    mark(&mut map, 13);
+    assert!(rt; map[1] == 33);
+    assert!(rt; is_marked(&map, 13) && is_marked(&map, 8) && !is_marked(&map, 12));
+    unmark(&mut map, 8);
+    assert!(rt; map[1] == 32);
+}
+
+/// Slot 2 has bytes 128 to 191.
+#[test]
+fn slots_of_the_table(rt: HostRuntime) {
+    let mut block = [7; 1024];
+    let free = Inode {
+        kind: 0,
+        nlink: 0,
+        size: 0,
+        direct: [0; 10],
+        indirect: 0,
+    };
+    put_inode(&mut block, 2, &free);
+    assert!(rt; inode_in(&block, 2, 16) == Ok(free));
+    assert!(rt; block[127] == 7 && block[128] == 0 && block[191] == 0 && block[192] == 7);
+    assert!(rt; inode_in(&block, 3, 16) == Err(BadInode::BadKind));
 }

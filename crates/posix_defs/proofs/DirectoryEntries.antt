@@ -1,5 +1,5 @@
 -- A directory's bytes say one list of entries, of 32 bytes each.
-use Rattle.std.proofs.Common.{◌≡◌, ℕ, ◌*◌, List, [], ◌∷◌, ◌++◌, length, refl, sym, ap, ◌∙◌, arith}
+use Rattle.std.proofs.Common.{◌≡◌, ℕ, ◌*◌, List, [], ◌∷◌, ◌++◌, inl, inr, length, refl, sym, ap, subst, ◌∙◌, arith}
 use Rattle.std.specs.List.{flat_map, AllByRecursion}
 use Rattle.std.proofs.lemmas.List.{length-append}
 use Rattle.std.proofs.lemmas.List.Concat.{flat_map-cons}
@@ -7,8 +7,10 @@ use Rattle.std.proofs.lemmas.List.FromFn.{length-map-range_with_len}
 use Rattle.kabi_types.specs.declared.inodes.Inode.{Inode}
 use Rattle.kabi_types.specs.declared.inodes.DirEntry.{DirEntry}
 use Rattle.posix_defs.specs.DiskFormat.{IsEntry, entry_bytes}
-use Rattle.posix_defs.specs.DiskContents.{byte_at, node_bytes, HasEntries}
+use Rattle.posix_defs.specs.DiskContents.{byte_at, node_bytes, HasEntries, Finds}
+use Rattle.posix_defs.specs.TrueCaches.{HasName}
 use Rattle.posix_defs.proofs.DiskSpelling.{split_same, length-entry_bytes, same_entry_bytes}
+use Rattle.posix_defs.proofs.FormattedDisk.{one_inode}
 
 abbrev list_bytes : List DirEntry → List ℕ
 list_bytes entries = flat_map entry_bytes entries
@@ -37,3 +39,18 @@ length-node_bytes disk inode = length-map-range_with_len (λ (place : ℕ). byte
 
 pub size_of_entries : (disk : List (List ℕ)) (inode : Inode) (entries : List DirEntry) → HasEntries disk inode entries → inode.size ≡ 32 * length entries
 size_of_entries disk inode entries has = sym (length-node_bytes disk inode) ∙ ap length has.bytes ∙ length-list_bytes entries has.each
+
+-- a name is found at one node
+finds_one : (entries : List DirEntry) (name : List ℕ) (one other : ℕ) → Finds entries name one → Finds entries name other → one ≡ other
+finds_one [] name one other first second = absurd first
+finds_one (entry ∷ entries) name one other (inl here) (inl also) = sym here.1 ∙ also.1
+finds_one (entry ∷ entries) name one other (inl here) (inr later) = absurd (later.0 here.0)
+finds_one (entry ∷ entries) name one other (inr later) (inl here) = absurd (later.0 here.0)
+finds_one (entry ∷ entries) name one other (inr later) (inr also) = finds_one entries name one other later.1 also.1
+
+pub one_node : (disk : List (List ℕ)) (dir : ℕ) (name : List ℕ) (one other : ℕ) → HasName disk dir name one → HasName disk dir name other → one ≡ other
+one_node disk dir name one other has also =
+    let same_inode : also.inode ≡ has.inode = one_inode disk dir also.inode has.inode also.has has.has in
+    let list : HasEntries disk has.inode also.entries = subst (λ (inode : Inode). HasEntries disk inode also.entries) same_inode also.list in
+    let same_list : also.entries ≡ has.entries = one_list disk has.inode also.entries has.entries list has.list in
+    finds_one has.entries name one other has.found (subst (λ (entries : List DirEntry). Finds entries name other) same_list also.found)

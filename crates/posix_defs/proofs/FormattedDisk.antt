@@ -7,9 +7,9 @@ use Rattle.std.proofs.lemmas.List.{take_at, drop_at, drop-drop, take-replicate, 
 use Rattle.std.proofs.lemmas.List.FromFn.{fill_by_all}
 use Rattle.std.proofs.lemmas.Nat.Bits.{bit_at_ones, bit_at_ones_above}
 use Rattle.kabi_types.specs.declared.inodes.Inode.{Inode}
-use Rattle.posix_defs.specs.DiskFormat.{block_size, table_end, table_nodes, blocks_of, IsPointer, IsInode, IsEntry, inode_bytes, entry_bytes}
-use Rattle.posix_defs.specs.SoundDisk.{block_at, table_bytes, HasInode, named_at, IsNamed, map_bit, IsMarked, Sound}
-use Rattle.posix_defs.specs.DiskContents.{data_at, byte_at, node_bytes, IsDirectoryOf, entry_for, own_name, parent_name, zeros, first_marked, new_root, new_entries, IsFormatted}
+use Rattle.posix_defs.specs.DiskFormat.{block_size, table_end, table_nodes, IsPointer, IsInode, IsEntry, inode_bytes, entry_bytes}
+use Rattle.posix_defs.specs.SoundDisk.{block_bytes, table_bytes, HasInode, Place, Data, Pointers, HasPlace, named_at, IsNamed, map_bit, IsMarked, Sound}
+use Rattle.posix_defs.specs.DiskContents.{data_block, byte_at, node_bytes, IsDirectoryOf, entry_for, own_name, parent_name, zeros, first_marked, new_root, new_entries, IsFormatted}
 use Rattle.posix_defs.proofs.DiskSpelling.{same_inode, length-inode_bytes}
 
 -- ---- the map
@@ -105,17 +105,17 @@ root_bytes disk formatted is =
 
 -- behind the root, the block of the root has zeros
 first_zeros : (disk : List (List ℕ)) → IsFormatted (length disk) disk → IsInode (length disk) (new_root (length disk)) → (place : ℕ) → 0 < place → place < 16
-    → take 64 (drop (64 * place) (block_at disk 1)) ≡ replicate 64 0
+    → take 64 (drop (64 * place) (block_bytes disk 1)) ≡ replicate 64 0
 first_zeros disk formatted is place pos lt =
     let root : List ℕ = inode_bytes (new_root (length disk)) in
     let from : ℕ = 64 * place - 64 in
     let at : 64 * place ≡ 64 + from = omega arith in
-    let behind : drop 64 (block_at disk 1) ≡ zeros 960 = ap (drop 64) formatted.table ∙ drop_at root (zeros 960) 64 (length-inode_bytes (new_root (length disk)) is.fits) in
-    ap (λ (n : ℕ). take 64 (drop n (block_at disk 1))) at ∙ ap (take 64) (sym (drop-drop from 64 (block_at disk 1)) ∙ ap (drop from) behind) ∙ cut_zeros from 960 (omega arith)
+    let behind : drop 64 (block_bytes disk 1) ≡ zeros 960 = ap (drop 64) formatted.table ∙ drop_at root (zeros 960) 64 (length-inode_bytes (new_root (length disk)) is.fits) in
+    ap (λ (n : ℕ). take 64 (drop n (block_bytes disk 1))) at ∙ ap (take 64) (sym (drop-drop from 64 (block_bytes disk 1)) ∙ ap (drop from) behind) ∙ cut_zeros from 960 (omega arith)
 
 -- the other blocks of the table have zeros
 other_zeros : (disk : List (List ℕ)) → IsFormatted (length disk) disk → (block place : ℕ) → 1 < block → block ≤ table_end (length disk) → place < 16
-    → take 64 (drop (64 * place) (block_at disk block)) ≡ replicate 64 0
+    → take 64 (drop (64 * place) (block_bytes disk block)) ≡ replicate 64 0
 other_zeros disk formatted block place above within lt =
     ap (λ (bytes : List ℕ). take 64 (drop (64 * place) bytes)) (formatted.others block above (λ e. omega (arith, e, within)) (omega arith)) ∙ cut_zeros (64 * place) 1024 (omega arith)
 
@@ -126,7 +126,7 @@ free_in_table disk formatted is node above within =
     let block : ℕ = (node - 1) / 16 in
     let place : ℕ = (node - 1) % 16 in
     elim (cases_eq block 0) [
-      | inl first ↦ ap (λ (n : ℕ). take 64 (drop (64 * place) (block_at disk (1 + n)))) first ∙ first_zeros disk formatted is place (omega arith) (omega arith)
+      | inl first ↦ ap (λ (n : ℕ). take 64 (drop (64 * place) (block_bytes disk (1 + n)))) first ∙ first_zeros disk formatted is place (omega arith) (omega arith)
       | inr other ↦ other_zeros disk formatted (1 + block) place (omega (arith, other)) (omega (arith, within)) (omega arith)
     ]
 
@@ -151,20 +151,26 @@ which disk formatted enough most node inode has =
       | inr free ↦ inr (one_inode disk node inode no_inode has free)
     ]
 
+-- a node of 64 bytes takes one block, and an empty one takes none
+only_first : (place : Place) → HasPlace 64 place → place ≡ Data 0
+only_first (Data index) lt = let first : index ≡ 0 = omega (arith, lt) in ap Data first
+only_first Pointers lt = absurd (omega (arith, lt))
+
+takes_none : (place : Place) → ¬ (HasPlace 0 place)
+takes_none (Data index) lt = omega (arith, lt)
+takes_none Pointers lt = omega (arith, lt)
+
 -- who names a block is the root, and names one
-names_one : (disk : List (List ℕ)) → IsFormatted (length disk) disk → 16 ≤ length disk → length disk ≤ 4096 → (node : ℕ) (inode : Inode) (place : ℕ) → HasInode disk node inode → place < blocks_of inode.size
-    → (node ≡ 1) × (place ≡ 0) × (named_at disk inode place ≡ table_end (length disk) + 1)
+names_one : (disk : List (List ℕ)) → IsFormatted (length disk) disk → 16 ≤ length disk → length disk ≤ 4096 → (node : ℕ) (inode : Inode) (place : Place) → HasInode disk node inode → HasPlace inode.size place
+    → (node ≡ 1) × (place ≡ Data 0) × (named_at disk inode place ≡ table_end (length disk) + 1)
 unfolding no_inode
 names_one disk formatted enough most node inode place has lt =
     elim (which disk formatted enough most node inode has) [
       | inl root ↦
-          let within : place < 1 = subst (λ (i : Inode). place < blocks_of i.size) root.1 lt in
-          let first : place ≡ 0 = omega arith in
+          let first : place ≡ Data 0 = only_first place (subst (λ (i : Inode). HasPlace i.size place) root.1 lt) in
           let named : named_at disk inode place ≡ table_end (length disk) + 1 = ap (λ (i : Inode). named_at disk i place) root.1 ∙ ap (named_at disk (new_root (length disk))) first in
           (root.0, first, named)
-      | inr free ↦
-          let within : place < 0 = subst (λ (i : Inode). place < blocks_of i.size) free lt in
-          absurd (omega (arith, within))
+      | inr free ↦ absurd (takes_none place (subst (λ (i : Inode). HasPlace i.size place) free lt))
     ]
 
 small : (disk : List (List ℕ)) → IsFormatted (length disk) disk → 16 ≤ length disk → length disk ≤ 4096 → (node : ℕ) (inode : Inode) → HasInode disk node inode → inode.size ≤ 64
@@ -183,13 +189,14 @@ root_has disk formatted enough most =
 in_use : (disk : List (List ℕ)) → IsFormatted (length disk) disk → 16 ≤ length disk → length disk ≤ 4096 → (number : ℕ) → number < table_end (length disk) + 2 → (number ≤ table_end (length disk)) ⊎ IsNamed disk number
 in_use disk formatted enough most number lt =
     elim (cases_eq number (table_end (length disk) + 1)) [
-      | inl last ↦ inr (record { node = 1; inode = new_root (length disk); place = 0; has = root_has disk formatted enough most; within = omega arith; same = last })
+      | inl last ↦ inr (record { node = 1; inode = new_root (length disk); place = Data 0; has = root_has disk formatted enough most; within = omega arith; same = last })
       | inr other ↦ inl (omega (arith, other))
     ]
 
 formatted_is_sound : (disk : List (List ℕ)) → IsFormatted (length disk) disk → 16 ≤ length disk → length disk ≤ 4096 → Sound disk
 formatted_is_sound disk formatted enough most =
     record {
+      size = (enough, most);
       table = λ node pos within.
           elim (new_node disk formatted enough most node pos within) [
             | inl root ↦ (new_root (length disk), root.1)
@@ -245,10 +252,10 @@ root_byte disk formatted place lt =
     let root : Inode = new_root (length disk) in
     let block : place / 1024 ≡ 0 = omega arith in
     let at : place % 1024 ≡ place = omega arith in
-    let first : data_at disk root (place / 1024) ≡ table_end (length disk) + 1 = ap (data_at disk root) block in
+    let first : data_block disk root (place / 1024) ≡ table_end (length disk) + 1 = ap (data_block disk root) block in
     let front : get_or (new_entries ++ zeros (1024 - 64)) place 0 ≡ get_or new_entries place 0 = get_or_append_left new_entries (zeros (1024 - 64)) 0 place (omega (arith, length-new_entries)) in
     let byte : byte_at disk root place ≡ get_or new_entries place 0 =
-    ap (λ (n : ℕ). get_or (block_at disk n) (place % 1024) 0) first ∙ ap (λ (bytes : List ℕ). get_or bytes (place % 1024) 0) formatted.entries ∙ ap (λ (n : ℕ). get_or (new_entries ++ zeros (1024 - 64)) n 0) at ∙ front in
+    ap (λ (n : ℕ). get_or (block_bytes disk n) (place % 1024) 0) first ∙ ap (λ (bytes : List ℕ). get_or bytes (place % 1024) 0) formatted.entries ∙ ap (λ (n : ℕ). get_or (new_entries ++ zeros (1024 - 64)) n 0) at ∙ front in
     sym byte
 
 root_holds : (disk : List (List ℕ)) → IsFormatted (length disk) disk → node_bytes disk (new_root (length disk)) ≡ flat_map entry_bytes (entry_for 1 own_name ∷ entry_for 1 parent_name ∷ [])

@@ -7,8 +7,8 @@ use Rattle.std.proofs.lemmas.List.Concat.{flat_map-cons}
 use Rattle.std.proofs.lemmas.List.FromFn.{length-map-range_with_len}
 use Rattle.std.proofs.lemmas.List.Sums.{sum_by-cons}
 use Rattle.kabi_types.specs.declared.inodes.Inode.{Inode}
-use Rattle.posix_defs.specs.DiskFormat.{block_size, table_end, table_nodes, data_blocks, blocks_of, IsForFiles, IsPointer}
-use Rattle.posix_defs.specs.SoundDisk.{block_at, HasInode, pointer_at, named_at, IsNamed, map_bit, Sound, IsTable, free_in_map, free_blocks}
+use Rattle.posix_defs.specs.DiskFormat.{block_size, table_end, table_nodes, data_blocks, pointer_blocks, blocks_of, IsForFiles, IsPointer}
+use Rattle.posix_defs.specs.SoundDisk.{block_bytes, HasInode, pointer_at, Place, Data, Pointers, HasPlace, named_at, IsNamed, map_bit, Sound, IsTable, free_in_map, free_blocks}
 use Rattle.posix_defs.proofs.FormattedDisk.{one_inode}
 
 -- ---- how many numbers of a range pass a test
@@ -159,56 +159,86 @@ distinct_values f from (suc n) apart = (
 
 -- ---- the blocks that nodes name
 
--- a place among the blocks that a node takes is one that its size needs
-needed_places : (size place : ℕ) → place < blocks_of size
-    → (place < 10 → place * block_size < size) × (place ≡ 10 → 10 * block_size < size) × (10 < place → (10 + (place - 11)) * block_size < size)
-needed_places size place lt = elim (cases_lt 10 (data_blocks size)) [
-  | inl large ↦
-      let more : ◌≡◌ {A = ℕ} (cond (ltb 10 (data_blocks size)) 1 0) 1 = ap (λ (b : Bool). cond b 1 0) (lt-ltb 10 (data_blocks size) large) in
-      let within : place < data_blocks size + 1 = omega (arith, lt, more) in
-      (λ first. omega (arith, first, large), λ at. omega (arith, large), λ past. omega (arith, past, within))
-  | inr few ↦
-      let no_more : ◌≡◌ {A = ℕ} (cond (ltb 10 (data_blocks size)) 1 0) 0 = ap (λ (b : Bool). cond b 1 0) (le-ltb 10 (data_blocks size) few) in
-      let within : place < data_blocks size = omega (arith, lt, no_more) in
-      (λ first. omega (arith, within), λ at. absurd (omega (arith, at, few, within)), λ past. absurd (omega (arith, past, few, within)))
-]
-
 is_needed : (blocks place size pointer : ℕ) → place < size → IsPointer blocks (ltb place size) pointer → IsForFiles blocks pointer
 is_needed blocks place size pointer lt is = subst (λ (b : Bool). IsPointer blocks b pointer) (lt-ltb place size lt) is
 
-direct_at : (disk : List (List ℕ)) (inode : Inode) (place : ℕ) → place < 10 → named_at disk inode place ≡ get_or inode.direct place 0
-direct_at disk inode place lt = cond-true (ltb place 10) _ _ (lt-ltb place 10 lt)
+direct_at : (disk : List (List ℕ)) (inode : Inode) (index : ℕ) → index < 10 → named_at disk inode (Data index) ≡ get_or inode.direct index 0
+direct_at disk inode index lt = cond-true (ltb index 10) _ _ (lt-ltb index 10 lt)
 
-indirect_at : (disk : List (List ℕ)) (inode : Inode) (place : ℕ) → place ≡ 10 → named_at disk inode place ≡ inode.indirect
-indirect_at disk inode place e = ap (named_at disk inode) e
-
-behind_at : (disk : List (List ℕ)) (inode : Inode) (place : ℕ) → 10 < place → named_at disk inode place ≡ pointer_at (block_at disk inode.indirect) (place - 11)
-behind_at disk inode place past = cond-false (ltb place 10) _ _ (le-ltb place 10 (omega (arith, past))) ∙ cond-false (eqb place 10) _ _ (ne_eqb place 10 (λ e. omega (arith, e, past)))
+behind_at : (disk : List (List ℕ)) (inode : Inode) (index : ℕ) → 10 ≤ index → named_at disk inode (Data index) ≡ pointer_at (block_bytes disk inode.indirect) (index - 10)
+behind_at disk inode index past = cond-false (ltb index 10) _ _ (le-ltb index 10 past)
 
 -- what a node names is a block for files
-pub named_is_for_files : (disk : List (List ℕ)) → Sound disk → (node : ℕ) (inode : Inode) (place : ℕ) → HasInode disk node inode → place < blocks_of inode.size → IsForFiles (length disk) (named_at disk inode place)
-named_is_for_files disk sound node inode place has lt =
-    let needed = needed_places inode.size place lt in
-    elim (cases_lt place 10) [
+pub named_is_for_files : (disk : List (List ℕ)) → Sound disk → (node : ℕ) (inode : Inode) (place : Place) → HasInode disk node inode → HasPlace inode.size place → IsForFiles (length disk) (named_at disk inode place)
+named_is_for_files disk sound node inode (Data index) has lt =
+    elim (cases_lt index 10) [
       | inl first ↦
-          subst (IsForFiles (length disk)) (sym (direct_at disk inode place first)) (is_needed (length disk) (place * block_size) inode.size (get_or inode.direct place 0) (needed.0 first) (has.valid.pointers.direct place first))
+          subst (IsForFiles (length disk)) (sym (direct_at disk inode index first)) (is_needed (length disk) (index * block_size) inode.size (get_or inode.direct index 0) (omega (arith, lt)) (has.valid.pointers.direct index first))
       | inr behind ↦
-          elim (cases_eq place 10) [
-            | inl e ↦ subst (IsForFiles (length disk)) (sym (indirect_at disk inode place e)) (is_needed (length disk) (10 * block_size) inode.size inode.indirect (needed.1 e) has.valid.pointers.indirect)
-            | inr other ↦
-                let past : 10 < place = omega (arith, behind, other) in
-                let large : 10 * block_size < inode.size = omega (arith, needed.2 past) in
-                let within : place - 11 < 256 = omega (arith, needed.2 past, has.valid.kind.size) in
-                let is = sound.pointers node inode (place - 11) has large within in
-                subst (IsForFiles (length disk)) (sym (behind_at disk inode place past)) (is_needed (length disk) ((10 + (place - 11)) * block_size) inode.size (pointer_at (block_at disk inode.indirect) (place - 11)) (needed.2 past) is)
-          ]
+          let large : 10 * block_size < inode.size = omega (arith, lt, behind) in
+          let within : index - 10 < 256 = omega (arith, lt, has.valid.kind.size) in
+          let needed : (10 + (index - 10)) * block_size < inode.size = omega (arith, lt, behind) in
+          let is = sound.pointers node inode (index - 10) has large within in
+          subst (IsForFiles (length disk)) (sym (behind_at disk inode index behind)) (is_needed (length disk) ((10 + (index - 10)) * block_size) inode.size (pointer_at (block_bytes disk inode.indirect) (index - 10)) needed is)
     ]
+named_is_for_files disk sound node inode Pointers has lt = is_needed (length disk) (10 * block_size) inode.size inode.indirect (omega (arith, lt)) has.valid.pointers.indirect
 
 pub is_for_files : (disk : List (List ℕ)) (number : ℕ) → Sound disk → IsNamed disk number → IsForFiles (length disk) number
 is_for_files disk number sound named = subst (IsForFiles (length disk)) (sym named.same) (named_is_for_files disk sound named.node named.inode named.place named.has named.within)
 
+-- the places of a node of this size one after another, those of its bytes first
+abbrev nth_place : ℕ → ℕ → Place
+nth_place size k = cond (ltb k (data_blocks size)) (Data k) Pointers
+
+front_place : (size k : ℕ) → k < data_blocks size → nth_place size k ≡ Data k
+front_place size k lt = cond-true (ltb k (data_blocks size)) _ _ (lt-ltb k (data_blocks size) lt)
+
+last_place : (size k : ℕ) → data_blocks size ≤ k → nth_place size k ≡ Pointers
+last_place size k le = cond-false (ltb k (data_blocks size)) _ _ (le-ltb k (data_blocks size) le)
+
+one_for_pointers : (size : ℕ) → 10 < data_blocks size → pointer_blocks size ≡ 1
+one_for_pointers size large = ap (λ (b : Bool). cond b 1 0) (lt-ltb 10 (data_blocks size) large)
+
+none_for_pointers : (size : ℕ) → data_blocks size ≤ 10 → pointer_blocks size ≡ 0
+none_for_pointers size few = ap (λ (b : Bool). cond b 1 0) (le-ltb 10 (data_blocks size) few)
+
+-- of the places behind those of the bytes only one is there
+behind_bytes : (size k : ℕ) → k < blocks_of size → data_blocks size ≤ k → (10 < data_blocks size) × (k ≡ data_blocks size)
+behind_bytes size k lt behind = elim (cases_lt 10 (data_blocks size)) [
+  | inl large ↦ (large, omega (arith, lt, behind, one_for_pointers size large))
+  | inr few ↦ absurd (omega (arith, lt, behind, none_for_pointers size few))
+]
+
+has_nth : (size k : ℕ) → k < blocks_of size → HasPlace size (nth_place size k)
+has_nth size k lt = elim (cases_lt k (data_blocks size)) [
+  | inl front ↦ subst (HasPlace size) (sym (front_place size k front)) front
+  | inr behind ↦ subst (HasPlace size) (sym (last_place size k behind)) (behind_bytes size k lt behind).0
+]
+
+-- the number of a place among them
+abbrev place_number : ℕ → Place → ℕ
+place_number size (Data index) = index
+place_number size Pointers = data_blocks size
+
+number_within : (size : ℕ) (place : Place) → HasPlace size place → place_number size place < blocks_of size
+number_within size (Data index) lt = omega (arith, lt)
+number_within size Pointers large = omega (arith, one_for_pointers size large)
+
+nth_number : (size : ℕ) (place : Place) → HasPlace size place → nth_place size (place_number size place) ≡ place
+nth_number size (Data index) lt = front_place size index lt
+nth_number size Pointers large = last_place size (data_blocks size) (omega arith)
+
+number_nth : (size k : ℕ) → k < blocks_of size → place_number size (nth_place size k) ≡ k
+number_nth size k lt = elim (cases_lt k (data_blocks size)) [
+  | inl front ↦ ap (place_number size) (front_place size k front)
+  | inr behind ↦ ap (place_number size) (last_place size k behind) ∙ sym (behind_bytes size k lt behind).1
+]
+
+abbrev nth_named : List (List ℕ) → Inode → ℕ → ℕ
+nth_named disk inode k = named_at disk inode (nth_place inode.size k)
+
 abbrev named_by : List (List ℕ) → Inode → List ℕ
-named_by disk inode = values (named_at disk inode) 0 (blocks_of inode.size)
+named_by disk inode = values (nth_named disk inode) 0 (blocks_of inode.size)
 
 -- all that nodes name, node by node
 abbrev all_named : List (List ℕ) → List Inode → List ℕ
@@ -221,7 +251,7 @@ length-all_named disk (inode ∷ inodes) =
       arith,
       ap length (flat_map-cons (named_by disk) inode inodes),
       length-append (named_by disk inode) (all_named disk inodes),
-      length-map-range_with_len (named_at disk inode) 0 (blocks_of inode.size),
+      length-map-range_with_len (nth_named disk inode) 0 (blocks_of inode.size),
       length-all_named disk inodes,
       sum_by-cons (λ (i : Inode). blocks_of i.size) inode inodes,
     )
@@ -236,23 +266,26 @@ rest_have disk from inode inodes have = λ place none lt.
 
 -- what is among all that is named is named by one of them
 named_somewhere : (disk : List (List ℕ)) (from : ℕ) (inodes : List Inode) (number : ℕ) → Have disk from inodes → In number (all_named disk inodes)
-    → (node : ℕ) × (inode : Inode) × (place : ℕ) × (from ≤ node) × HasInode disk node inode × (place < blocks_of inode.size) × (number ≡ named_at disk inode place)
+    → (node : ℕ) × (inode : Inode) × (place : Place) × (from ≤ node) × HasInode disk node inode × HasPlace inode.size place × (number ≡ named_at disk inode place)
 unfolding In
 named_somewhere disk from [] number have is = absurd is
 named_somewhere disk from (inode ∷ inodes) number have is =
     elim (in_append number (named_by disk inode) (all_named disk inodes) is) [
       | inl here ↦
-          let at = in_values (named_at disk inode) 0 (blocks_of inode.size) number here in
-          (from, inode, at.0, omega arith, subst (λ (n : ℕ). HasInode disk n inode) (let e : from + 0 ≡ from = omega arith in e) (have 0 inode (omega arith)), omega (arith, at.2), at.3)
+          let at = in_values (nth_named disk inode) 0 (blocks_of inode.size) number here in
+          (from, inode, nth_place inode.size at.0, omega arith, subst (λ (n : ℕ). HasInode disk n inode) (let e : from + 0 ≡ from = omega arith in e) (have 0 inode (omega arith)), has_nth inode.size at.0 (omega (arith, at.2)), at.3)
       | inr later ↦
           let at = named_somewhere disk (from + 1) inodes number (rest_have disk from inode inodes have) later in
           (at.0, at.1, at.2, omega (arith, at.3), at.4, at.5, at.6)
     ]
 
-named_among : (disk : List (List ℕ)) (inodes : List Inode) (index place : ℕ) (none : Inode) → index < length inodes → place < blocks_of (get_or inodes index none).size
+named_among : (disk : List (List ℕ)) (inodes : List Inode) (index : ℕ) (place : Place) (none : Inode) → index < length inodes → HasPlace (get_or inodes index none).size place
     → In (named_at disk (get_or inodes index none) place) (all_named disk inodes)
 named_among disk [] index place none lt within = absurd (omega (arith, lt))
-named_among disk (inode ∷ inodes) zero place none lt within = in_left _ (named_by disk inode) (all_named disk inodes) (value_in (named_at disk inode) 0 (blocks_of inode.size) place (omega arith) (omega (arith, within)))
+named_among disk (inode ∷ inodes) zero place none lt within =
+    let number : ℕ = place_number inode.size place in
+    let is : In (nth_named disk inode number) (named_by disk inode) = value_in (nth_named disk inode) 0 (blocks_of inode.size) number (omega arith) (omega (arith, number_within inode.size place within)) in
+    in_left (named_at disk inode place) (named_by disk inode) (all_named disk inodes) (subst (λ (p : Place). In (named_at disk inode p) (named_by disk inode)) (nth_number inode.size place within) is)
 named_among disk (inode ∷ inodes) (suc index) place none lt within = in_right _ (named_by disk inode) (all_named disk inodes) (named_among disk inodes index place none (omega (arith, lt)) within)
 
 distinct_named : (disk : List (List ℕ)) → Sound disk → (from : ℕ) (inodes : List Inode) → Have disk from inodes → Distinct (all_named disk inodes)
@@ -260,13 +293,17 @@ unfolding Distinct
 distinct_named disk sound from [] have = tt
 distinct_named disk sound from (inode ∷ inodes) have =
     let this : HasInode disk (from + 0) inode = have 0 inode (omega arith) in
-    let own : Distinct (named_by disk inode) = distinct_values (named_at disk inode) 0 (blocks_of inode.size) (λ i j at_i at_j same. (sound.once (from + 0) (from + 0) inode inode i j this this (omega (arith, at_i)) (omega (arith, at_j)) same).1) in
+    let apart : (i j : ℕ) → i < blocks_of inode.size → j < blocks_of inode.size → nth_named disk inode i ≡ nth_named disk inode j → i ≡ j = λ i j at_i at_j same.
+    let one_place = (sound.once (from + 0) (from + 0) inode inode (nth_place inode.size i) (nth_place inode.size j) this this (has_nth inode.size i at_i) (has_nth inode.size j at_j) same).1 in
+    sym (number_nth inode.size i at_i) ∙ ap (place_number inode.size) one_place ∙ number_nth inode.size j at_j
+    in
+    let own : Distinct (named_by disk inode) = distinct_values (nth_named disk inode) 0 (blocks_of inode.size) (λ i j at_i at_j same. apart i j (omega (arith, at_i)) (omega (arith, at_j)) same) in
     let others : Distinct (all_named disk inodes) = distinct_named disk sound (from + 1) inodes (rest_have disk from inode inodes have) in
     distinct_append (named_by disk inode) (all_named disk inodes) own others (
     λ x here later.
-    let a = in_values (named_at disk inode) 0 (blocks_of inode.size) x here in
+    let a = in_values (nth_named disk inode) 0 (blocks_of inode.size) x here in
     let b = named_somewhere disk (from + 1) inodes x (rest_have disk from inode inodes have) later in
-    let same = (sound.once (from + 0) b.0 inode b.1 a.0 b.2 this b.4 (omega (arith, a.2)) b.5 (sym a.3 ∙ b.6)).0 in
+    let same = (sound.once (from + 0) b.0 inode b.1 (nth_place inode.size a.0) b.2 this b.4 (has_nth inode.size a.0 (omega (arith, a.2))) b.5 (sym a.3 ∙ b.6)).0 in
     omega (arith, same, b.3)
     )
 
@@ -325,7 +362,7 @@ marked_are_used disk inodes sound table number within is =
       | inl low ↦ in_left number (values (λ k. k) 0 first) (all_named disk inodes) (value_in (λ k. k) 0 first number (omega arith) (omega (arith, low)))
       | inr named ↦
           let at = in_table disk inodes table named.node named.inode named.inode named.has in
-          let lt : named.place < blocks_of (get_or inodes (named.node - 1) named.inode).size = subst (λ (i : Inode). named.place < blocks_of i.size) at.1 named.within in
+          let lt : HasPlace (get_or inodes (named.node - 1) named.inode).size named.place = subst (λ (i : Inode). HasPlace i.size named.place) at.1 named.within in
           let among = named_among disk inodes (named.node - 1) named.place named.inode at.0 lt in
           let same : named_at disk (get_or inodes (named.node - 1) named.inode) named.place ≡ number = ap (λ (i : Inode). named_at disk i named.place) (sym at.1) ∙ sym named.same in
           in_right number (values (λ k. k) 0 first) (all_named disk inodes) (subst (λ (n : ℕ). In n (all_named disk inodes)) same among)

@@ -1,19 +1,19 @@
 -- What a node of a disk holds: its bytes, the entries of a directory, and the disk of a new root.
-use Rattle.std.specs.Prelude.{ℕ, ◌+◌, ◌-◌, ◌*◌, ◌/◌, ◌%◌, ◌^◌, ◌<◌, ◌≡◌, ◌≢◌, min, List, [], ◌∷◌, ◌++◌, map, length, replicate, slice_index, nat_lt, cond}
+use Rattle.std.specs.Prelude.{ℕ, ◌+◌, ◌-◌, ◌*◌, ◌/◌, ◌%◌, ◌^◌, ◌<◌, ◌≡◌, ◌≢◌, ◌⊎◌, min, List, [], ◌∷◌, ◌++◌, map, length, replicate, slice_index}
 use Rattle.std.specs.List.{range_with_len, flat_map, AllByRecursion}
 use Rattle.kabi_types.specs.declared.inodes.Inode.{Inode}
 use Rattle.kabi_types.specs.declared.inodes.DirEntry.{DirEntry}
 use Rattle.posix_defs.specs.DiskFormat.{block_size, inode_size, direct_pointers, table_end, IsEntry, inode_bytes, entry_bytes}
-use Rattle.posix_defs.specs.SoundDisk.{block_at, HasInode, named_at}
+use Rattle.posix_defs.specs.SoundDisk.{block_bytes, HasInode, Data, named_at}
 use Rattle.posix_defs.specs.Tree.{directory}
 
--- the block that holds the bytes of a node from `index` blocks on: from the tenth on they are named behind the block of pointers
-abbrev pub data_at : List (List ℕ) → Inode → ℕ → ℕ
-data_at disk inode index = named_at disk inode (index + cond (nat_lt index direct_pointers) 0 1)
+-- the block that holds the bytes of a node from `index` blocks on
+abbrev pub data_block : List (List ℕ) → Inode → ℕ → ℕ
+data_block disk inode index = named_at disk inode (Data index)
 
 -- the byte of a node at a place
 abbrev pub byte_at : List (List ℕ) → Inode → ℕ → ℕ
-byte_at disk inode place = slice_index (block_at disk (data_at disk inode (place / block_size))) (place % block_size)
+byte_at disk inode place = slice_index (block_bytes disk (data_block disk inode (place / block_size))) (place % block_size)
 
 -- all bytes of a node
 unfoldable pub node_bytes : List (List ℕ) → Inode → List ℕ
@@ -24,6 +24,11 @@ pub record HasEntries (disk : List (List ℕ)) (inode : Inode) (entries : List D
   pub kind : inode.kind ≡ directory
   pub each : AllByRecursion IsEntry entries
   pub bytes : node_bytes disk inode ≡ flat_map entry_bytes entries
+
+-- a look for a name among entries finds this node: that of the first entry with the name
+abbrev pub Finds : List DirEntry → List ℕ → ℕ → Type 0
+Finds [] name node = ⊥
+Finds (entry ∷ entries) name node = ((entry.name ≡ name) × (entry.node ≡ node)) ⊎ ((entry.name ≢ name) × Finds entries name node)
 
 abbrev pub entry_for : ℕ → List ℕ → DirEntry
 entry_for node name = record { node = node; name = name }
@@ -61,8 +66,8 @@ new_entries = entry_bytes (entry_for 1 own_name) ++ entry_bytes (entry_for 1 par
 -- a disk whose root has `.` and `..` alone
 pub record IsFormatted (blocks : ℕ) (disk : List (List ℕ)) : Type 0 where
   pub count : length disk ≡ blocks
-  pub map_len : length (block_at disk 0) ≡ block_size
-  pub map : (place : ℕ) → place < block_size → slice_index (block_at disk 0) place ≡ first_marked (table_end blocks + 2) place
-  pub table : block_at disk 1 ≡ inode_bytes (new_root blocks) ++ zeros (block_size - inode_size)
-  pub entries : block_at disk (table_end blocks + 1) ≡ new_entries ++ zeros (block_size - 64)
-  pub others : (number : ℕ) → 1 < number → number ≢ table_end blocks + 1 → number < blocks → block_at disk number ≡ zeros block_size
+  pub map_len : length (block_bytes disk 0) ≡ block_size
+  pub map : (place : ℕ) → place < block_size → slice_index (block_bytes disk 0) place ≡ first_marked (table_end blocks + 2) place
+  pub table : block_bytes disk 1 ≡ inode_bytes (new_root blocks) ++ zeros (block_size - inode_size)
+  pub entries : block_bytes disk (table_end blocks + 1) ≡ new_entries ++ zeros (block_size - 64)
+  pub others : (number : ℕ) → 1 < number → number ≢ table_end blocks + 1 → number < blocks → block_bytes disk number ≡ zeros block_size

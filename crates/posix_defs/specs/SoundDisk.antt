@@ -3,15 +3,27 @@ use Rattle.std.specs.Prelude.{ℕ, ◌+◌, ◌-◌, ◌*◌, ◌/◌, ◌%◌, 
 use Rattle.std.specs.Int.{w32, from_be_bytes, bit_at}
 use Rattle.std.specs.List.{range_with_len, sum_by, count_by}
 use Rattle.kabi_types.specs.declared.inodes.Inode.{Inode}
-use Rattle.posix_defs.specs.DiskFormat.{block_size, inode_size, inodes_in_block, direct_pointers, block_pointers, table_end, table_nodes, blocks_of, IsPointer, IsInode, inode_bytes}
+use Rattle.posix_defs.specs.DiskFormat.{block_size, inode_size, inodes_in_block, direct_pointers, block_pointers, table_end, table_nodes, data_blocks, blocks_of, IsPointer, IsInode, inode_bytes}
 
-abbrev pub block_at : List (List ℕ) → ℕ → List ℕ
-block_at disk number = slice_index_or disk number []
+-- the bytes of a block
+abbrev pub block_bytes : List (List ℕ) → ℕ → List ℕ
+block_bytes disk number = slice_index_or disk number []
 
--- the bytes that the table has of a node; nodes are numbered from 1
+-- the block of the table that has a node's inode; nodes are numbered from 1
+abbrev pub table_block : ℕ → ℕ
+table_block node = 1 + (node - 1) / inodes_in_block
+
+-- its slot there
+abbrev pub table_slot : ℕ → ℕ
+table_slot node = (node - 1) % inodes_in_block
+
+-- the bytes of a slot of such a block
+abbrev pub slot_bytes : List ℕ → ℕ → List ℕ
+slot_bytes block slot = take inode_size (drop (inode_size * slot) block)
+
+-- the bytes that the table has of a node
 unfoldable pub table_bytes : List (List ℕ) → ℕ → List ℕ
-table_bytes disk node =
-    take inode_size (drop (inode_size * ((node - 1) % inodes_in_block)) (block_at disk (1 + (node - 1) / inodes_in_block)))
+table_bytes disk node = slot_bytes (block_bytes disk (table_block node)) (table_slot node)
 
 -- this is the node's inode
 pub record HasInode (disk : List (List ℕ)) (node : ℕ) (inode : Inode) : Type 0 where
@@ -27,35 +39,51 @@ HasNode disk node inode = HasInode disk node inode × (inode.kind ≢ 0)
 abbrev pub pointer_at : List ℕ → ℕ → ℕ
 pointer_at block place = from_be_bytes w32 (take 4 (drop (4 * place) block))
 
--- the blocks that a node names, in this order: the direct ones, its block of pointers, and those that are named there
-abbrev pub named_at : List (List ℕ) → Inode → ℕ → ℕ
-named_at disk inode place =
-    cond (nat_lt place direct_pointers) (slice_index inode.direct place)
-    (cond (nat_eq place direct_pointers) inode.indirect (pointer_at (block_at disk inode.indirect) (place - (direct_pointers + 1))))
+-- what a node takes a block for: its bytes, these blocks counted from 0, or the pointers that the inode has no room for
+pub data Place : Type 0 where
+  Data : ℕ → Place
+  Pointers : Place
+
+-- a node of this size takes a block for this
+abbrev pub HasPlace : ℕ → Place → Type 0
+HasPlace size (Data index) = index < data_blocks size
+HasPlace size Pointers = direct_pointers < data_blocks size
+
+-- the block that a node names for this: the first blocks of bytes in its inode, those behind them in its block of pointers
+abbrev pub named_at : List (List ℕ) → Inode → Place → ℕ
+named_at disk inode (Data index) =
+    cond (nat_lt index direct_pointers) (slice_index inode.direct index) (pointer_at (block_bytes disk inode.indirect) (index - direct_pointers))
+named_at disk inode Pointers = inode.indirect
 
 -- a node names this block
 pub record IsNamed (disk : List (List ℕ)) (number : ℕ) : Type 0 where
   pub node : ℕ
   pub inode : Inode
-  pub place : ℕ
+  pub place : Place
   pub has : HasInode disk node inode
-  pub within : place < blocks_of inode.size
+  pub within : HasPlace inode.size place
   pub same : number ≡ named_at disk inode place
 
--- the bit that the map has of a block
+-- the bit of a block in the bytes of a map
+abbrev pub bit_of : List ℕ → ℕ → ℕ
+bit_of map number = bit_at (slice_index map (number / 8)) (number % 8)
+
+-- the bit that the disk's map has of a block
 abbrev pub map_bit : List (List ℕ) → ℕ → ℕ
-map_bit disk number = bit_at (slice_index (block_at disk 0) (number / 8)) (number % 8)
+map_bit disk number = bit_of (block_bytes disk 0) number
 
 -- the map has this block as in use
 abbrev pub IsMarked : List (List ℕ) → ℕ → Type 0
 IsMarked disk number = map_bit disk number ≡ 1
 
--- each inode is one, each block of pointers has just those that the size needs, no block is named twice, and the map says which are in use
+-- a disk has 16 to 4096 blocks; each inode is one, each block of pointers has just those that the size needs, no block is named twice,
+-- and the map says which are in use
 pub record Sound (disk : List (List ℕ)) : Type 0 where
+  pub size : (16 ≤ length disk) × (length disk ≤ 4096)
   pub table : (node : ℕ) → 0 < node → node ≤ table_nodes (length disk) → (inode : Inode) × HasInode disk node inode
   pub pointers : (node : ℕ) (inode : Inode) (k : ℕ) → HasInode disk node inode → direct_pointers * block_size < inode.size → k < block_pointers
-      → IsPointer (length disk) (nat_lt ((direct_pointers + k) * block_size) inode.size) (pointer_at (block_at disk inode.indirect) k)
-  pub once : (first second : ℕ) (one other : Inode) (i j : ℕ) → HasInode disk first one → HasInode disk second other → i < blocks_of one.size → j < blocks_of other.size
+      → IsPointer (length disk) (nat_lt ((direct_pointers + k) * block_size) inode.size) (pointer_at (block_bytes disk inode.indirect) k)
+  pub once : (first second : ℕ) (one other : Inode) (i j : Place) → HasInode disk first one → HasInode disk second other → HasPlace one.size i → HasPlace other.size j
       → named_at disk one i ≡ named_at disk other j → (first ≡ second) × (i ≡ j)
   pub map : (number : ℕ) → number < length disk → IsMarked disk number ↔ ((number ≤ table_end (length disk)) ⊎ IsNamed disk number)
   pub rest : (number : ℕ) → length disk ≤ number → number < 8 * block_size → ¬ (IsMarked disk number)

@@ -1,18 +1,17 @@
 -- Caches that are true of a disk: each cached name, inode and block is what the disk says now.
 use Rattle.std.specs.Prelude.{ℕ, ◌≡◌, List, Option, Some, slice_get}
-use Rattle.std.specs.List.{Contains}
 use Rattle.kabi_types.specs.declared.inodes.Inode.{Inode}
 use Rattle.kabi_types.specs.declared.inodes.DirEntry.{DirEntry}
 use Rattle.posix_defs.specs.SoundDisk.{HasInode, HasNode}
-use Rattle.posix_defs.specs.DiskContents.{HasEntries, entry_for}
+use Rattle.posix_defs.specs.DiskContents.{HasEntries, Finds}
 
--- the directory has an entry of this name for this node
+-- a look for the name in the directory finds this node
 pub record HasName (disk : List (List ℕ)) (dir : ℕ) (name : List ℕ) (node : ℕ) : Type 0 where
   pub inode : Inode
   pub entries : List DirEntry
   pub has : HasInode disk dir inode
   pub list : HasEntries disk inode entries
-  pub entry : Contains entries (entry_for node name)
+  pub found : Finds entries name node
 
 -- a cache of names: it may have the node that is called so in a directory
 abbrev pub TrueNames : List (List ℕ) → (ℕ → List ℕ → Option ℕ) → Type 0

@@ -5,6 +5,7 @@ ghost use Rattle.kabi_types.specs.declared.inodes.DirEntry.{DirEntry};
 ghost use Rattle.kabi_types.specs.declared.inodes.Inode.{Inode};
 ghost use Rattle.posix_defs.specs.DiskFormat.{IsForFiles, IsEntry, entry_bytes};
 ghost use Rattle.posix_defs.specs.SoundDisk.{HasInode, IsNamed, Sound, IsTable, IsFreeBlock, IsFreeNode, free_in_map, free_blocks, free_inodes};
+ghost use Rattle.posix_defs.specs.TrueCaches.{HasName};
 ghost use Rattle.posix_defs.specs.DiskContents.{HasEntries, IsDirectoryOf, IsFormatted};
 
 /// A new disk is sound, and its root is a directory without entries but `.` and `..`, which both name the root.
@@ -23,6 +24,11 @@ pub fn bytes_of_a_disk_say_one_thing()
 /// A directory's size is 32 times its entries, `.` and `..` among them.
 pub fn a_directory_has_32_bytes_for_each_entry()
     ensures { (disk : List (List ℕ)) (inode : Inode) (entries : List DirEntry) → HasEntries disk inode entries → inode.size ≡ 32 * length entries }
+{}
+
+/// A name of a directory leads to one node, so what a cache of names has is what a look finds.
+pub fn a_name_leads_to_one_node()
+    ensures { (disk : List (List ℕ)) (dir : ℕ) (name : List ℕ) (one other : ℕ) → HasName disk dir name one → HasName disk dir name other → one ≡ other }
 {}
 
 /// The inodes of a sound disk are a list, which has one for each node.

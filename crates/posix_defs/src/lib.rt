@@ -17,9 +17,9 @@ mod turner;
 pub use blocks::{BlockList, Blocks};
 pub use dirs::{Dirs, RootAlone};
 pub use disk_laws::{
-    a_directory_has_32_bytes_for_each_entry, a_formatted_disk_is_sound, a_sound_disk_has_a_table,
-    bytes_of_a_disk_say_one_thing, free_blocks_are_those_that_no_node_names,
-    what_is_free_is_counted,
+    a_directory_has_32_bytes_for_each_entry, a_formatted_disk_is_sound, a_name_leads_to_one_node,
+    a_sound_disk_has_a_table, bytes_of_a_disk_say_one_thing,
+    free_blocks_are_those_that_no_node_names, what_is_free_is_counted,
 };
 pub use laws::{
     a_picked_run_is_a_run, charged_stays_within_the_heap, entries_are_a_legal_history,
