@@ -1,11 +1,14 @@
-pub mod CountLemmas
+pub mod FillLemmas
+pub mod KeyLemmas
 pub mod MarkLemmas
+pub mod MeterLemmas
 pub mod ObjectLemmas
 pub mod OnceLemmas
 pub mod OutsideLemmas
-pub mod OwnedLemmas
 pub mod OwnerLemmas
 pub mod PaidLemmas
 pub mod PurseLemmas
-pub mod ReplaceLemmas
+pub mod QueueLemmas
 pub mod ShelfLemmas
+pub mod SpaceLemmas
+pub mod TableLemmas

@@ -1,6 +1,7 @@
 -- What a key names, and how many objects there are, after a put or a removal.
-use Rattle.std.proofs.Common.{◌≡◌, ◌≢◌, ℕ, ◌+◌, ◌<◌, List, length, Option, Some, None, is_some, IsSome, cond, replicate, mul-zero, refl, ap, ◌∙◌, arith}
-use Rattle.std.proofs.lemmas.List.{get_or-set_same, get_or-set_other, get_or_past, length-set}
+use Rattle.std.proofs.Common.{◌≡◌, ◌≢◌, ℕ, ◌+◌, ◌<◌, List, length, Option, Some, None, is_some, IsSome, cond, replicate, mul-zero, refl, ap, inl, inr, ◌∙◌, arith}
+use Rattle.std.proofs.lemmas.Bool.{cases_lt}
+use Rattle.std.proofs.lemmas.List.{get_or-set_same, get_or-set_other, get_or_past, get_or-replicate, length-replicate, length-set}
 use Rattle.std.proofs.lemmas.List.Sums.{sum_by-set}
 use Rattle.std.proofs.lemmas.List.Folds.{sum_by-replicate}
 use Rattle.kheap_slabs.specs.Objects.{object, InUse, count, put, without}
@@ -8,6 +9,13 @@ use Rattle.kheap_slabs.specs.Objects.{object, InUse, count, put, without}
 module _ {X : Type 0} where
   pub count-none : (objects : List (Option X)) (limit : ℕ) → objects ≡ replicate limit None → count objects ≡ 0
   count-none objects limit empty = ap count empty ∙ sum_by-replicate (λ o. cond (is_some o) 1 0) limit None ∙ mul-zero limit
+
+  -- where there are no objects no key names one
+  pub object-none : (limit key : ℕ) (value : X) → object (replicate {A = Option X} limit None) key ≡ Some value → ⊥
+  object-none limit key value is = elim (cases_lt key limit) [
+    | inl lt ↦ let none : object (replicate {A = Option X} limit None) key ≡ None = get_or-replicate limit key None None lt in cc
+    | inr le ↦ let none : object (replicate {A = Option X} limit None) key ≡ None = get_or_past _ key None (rw length-replicate le) in cc
+  ]
 
   pub InUse-within : (objects : List (Option X)) (key : ℕ) → InUse objects key → key < length objects
   InUse-within objects key used = grind (arith, get_or_past)
@@ -29,6 +37,10 @@ module _ {X : Type 0} where
 
   pub length-without : (objects : List (Option X)) (key : ℕ) → length (without objects key) ≡ length objects
   length-without objects key = length-set objects key None
+
+  -- what is put under a key is found there only where the key has a place
+  pub put-within : (objects : List (Option X)) (key : ℕ) (value : X) → object (put objects key value) key ≡ Some value → key < length objects
+  put-within objects key value stored = rw length-put at (InUse-within (put objects key value) key (rw stored refl))
 
   pub count-put_new : (objects : List (Option X)) (key : ℕ) (value : X) → key < length objects → object objects key ≡ None → count (put objects key value) ≡ count objects + 1
   count-put_new objects key value within vacant =

@@ -3,7 +3,7 @@ use Rattle.std.proofs.Common.{◌≡◌, ◌⊎◌, refl, ℕ, zero, suc, ◌<�
 use Rattle.std.proofs.lemmas.Grind.{get_or_default_zero}
 use Rattle.std.proofs.lemmas.List.Elements.{Contains-append_left, Contains-append_right, Contains-append_cases}
 use Rattle.slab.proofs.SlabLemmas.{Contains-cons, Contains-cons_cases}
-use Rattle.kheap_slabs.specs.Owned.{IsOnce, Apart}
+use Rattle.kheap_slabs.specs.Keys.{IsOnce, Apart}
 
 -- an element stands at some place
 pub Contains-at : (keys : List ℕ) (i key : ℕ) → i < length keys → get_or keys i 0 ≡ key → Contains keys key

@@ -1,86 +1,202 @@
--- The owners of a heap's objects one by one.
-use Rattle.std.proofs.Common.{◌≡◌, ℕ, zero, suc, ◌<◌, List, [], ◌∷◌, Option, None, length, get_or, map, replicate, mul-zero, refl, sym, ap, inl, inr, ◌∙◌, arith, Contains}
-use Rattle.std.proofs.lemmas.Bool.{cases_lt}
-use Rattle.std.proofs.lemmas.List.{get_or-map, length-map, get_or-replicate, get_or_past, length-replicate}
+-- One owner of a heap's objects moves, comes, goes or changes what it owns, and all others own what they did.
+use Rattle.std.proofs.Common.{◌≡◌, ℕ, zero, suc, ◌<◌, ◌/◌, List, [], ◌∷◌, ◌++◌, Option, Some, None, map, replicate, mul-zero, length, get_or, refl, sym, ap, ◌∙◌, inl, inr, arith, Contains}
+use Rattle.std.proofs.lemmas.Bool.{cases_eq, cases_lt}
+use Rattle.std.proofs.lemmas.List.{get_or-replicate, get_or_past, length-replicate}
 use Rattle.std.proofs.lemmas.List.Folds.{sum_by-replicate}
-use Rattle.std.proofs.lemmas.List.Elements.{Contains-append_left, Contains-append_right}
+use Rattle.std.proofs.lemmas.List.Elements.{Contains-append_left, Contains-append_right, Contains-append_cases}
 use Rattle.std.specs.List.{concat}
+use Rattle.slab.proofs.SlabLemmas.{Contains-cons, Contains-cons_cases}
+use Rattle.kabi_types.specs.Class.{size}
+use Rattle.kabi_types.specs.declared.classes.Class.TheVariants as class
 use Rattle.kheap_slabs.specs.Heap.{Heap, empty_heap}
-use Rattle.kheap_slabs.specs.Objects.{object, InUse}
-use Rattle.kheap_slabs.specs.Outside.{KeepsOutside}
-use Rattle.kheap_slabs.specs.Owned.{IsOnce, Apart, OwnsChunks, OwnsAllChunks, keys_in, OwnsNodes, names_in, page_count, IsCounted, spaces_of, pipe_queues, sock_queues, IsOwned, OwnsItsObjects}
+use Rattle.kheap_slabs.specs.Objects.{object, InUse, put}
+use Rattle.kheap_slabs.specs.Keys.{Apart, AreKeysOf, ChangesKeys, Splits}
+use Rattle.kheap_slabs.specs.Queues.{OwnedQueue, OwnsChunks, fresh_queue}
+use Rattle.kheap_slabs.specs.Spaces.{mapped_count, keys_in, OwnsNodes, names_in, page_count, IsCounted}
+use Rattle.kheap_slabs.specs.Owners.{Owners, with_space, with_queue, node_keys, chunk_keys, IsOwned, SpaceChanges, QueueChanges, AreOwnersOf, OwnsItsObjects, spaces_of, pipe_queues, sock_queues}
 use Rattle.kheap_slabs.specs.declared.objects.Chunk.{Chunk}
-use Rattle.kheap_slabs.specs.declared.objects.QueueParts.{QueueParts}
-use Rattle.kheap_slabs.proofs.OnceLemmas.{IsOnce-left, IsOnce-right, IsOnce-apart}
-use Rattle.kheap_slabs.proofs.OwnedLemmas.{OwnsChunks-apart}
+use Rattle.kheap_slabs.specs.declared.objects.Node.{Node}
+use Rattle.kheap_slabs.proofs.ObjectLemmas.{InUse-within, object-put, object-put_other}
+use Rattle.kheap_slabs.proofs.OnceLemmas.{IsOnce-left, IsOnce-apart}
+use Rattle.kheap_slabs.proofs.KeyLemmas.{contains_or_not, Splits-to_front, Splits-from_front, AreKeysOf-to_front, AreKeysOf-from_front, ChangesKeys-apart, AreKeysOf-changes}
+use Rattle.kheap_slabs.proofs.QueueLemmas.{IsChain-used, OwnsChunks-apart, OwnsChunks-none, OwnsChunks-fresh, OwnsChunks-written}
 
-pub Contains-concat : (lists : List (List ℕ)) (i key : ℕ) → i < length lists → Contains (get_or lists i []) key → Contains (concat lists) key
-Contains-concat [] i key within there = absurd (omega arith)
-Contains-concat (first ∷ rest) zero key within there = Contains-append_left first (concat rest) key there
-Contains-concat (first ∷ rest) (suc i) key within there = Contains-append_right first (concat rest) key (Contains-concat rest i key (omega arith) there)
+-- one space moves to the front, and back to its place
+pub IsOwned-space_to_front : (h : Heap) (owners : Owners) (space : List (Option ℕ)) (rest : List (List (Option ℕ))) → Splits owners.spaces space rest → IsOwned h owners → IsOwned h (record owners { spaces = space ∷ rest })
+IsOwned-space_to_front h owners space rest split owned = record {
+  nodes = AreKeysOf-to_front h.nodes keys_in owners.spaces space rest split owned.nodes;
+  mapped = owned.mapped;
+  pages = owned.pages;
+  chunks = owned.chunks;
+  queues = owned.queues;
+}
 
--- two lists share no key where none stands twice in all together
-pub Apart-concat : (lists : List (List ℕ)) (i j : ℕ) → IsOnce (concat lists) → i < j → j < length lists → Apart (get_or lists i []) (get_or lists j [])
-Apart-concat [] i j once before within = λ key here there. omega arith
-Apart-concat (first ∷ rest) zero zero once before within = λ key here there. omega arith
-Apart-concat (first ∷ rest) zero (suc j) once before within =
-    λ key here there. IsOnce-apart first (concat rest) once key here (Contains-concat rest j key (omega arith) there)
-Apart-concat (first ∷ rest) (suc i) zero once before within = λ key here there. omega arith
-Apart-concat (first ∷ rest) (suc i) (suc j) once before within =
-    Apart-concat rest i j (IsOnce-right first (concat rest) once) (omega arith) (omega arith)
+pub IsOwned-space_from_front : (h : Heap) (owners : Owners) (space : List (Option ℕ)) (rest : List (List (Option ℕ))) → Splits owners.spaces space rest → IsOwned h (record owners { spaces = space ∷ rest }) → IsOwned h owners
+IsOwned-space_from_front h owners space rest split owned = record {
+  nodes = AreKeysOf-from_front h.nodes keys_in owners.spaces space rest split owned.nodes;
+  mapped = owned.mapped;
+  pages = owned.pages;
+  chunks = owned.chunks;
+  queues = owned.queues;
+}
 
-pub IsOnce-concat : (lists : List (List ℕ)) (i : ℕ) → IsOnce (concat lists) → i < length lists → IsOnce (get_or lists i [])
-IsOnce-concat [] i once within = absurd (omega arith)
-IsOnce-concat (first ∷ rest) zero once within = IsOnce-left first (concat rest) once
-IsOnce-concat (first ∷ rest) (suc i) once within = IsOnce-concat rest i (IsOnce-right first (concat rest) once) (omega arith)
+-- one queue moves to the front, and back to its place
+pub IsOwned-queue_to_front : (h : Heap) (owners : Owners) (queue : OwnedQueue) (rest : List OwnedQueue) → Splits owners.queues queue rest → IsOwned h owners → IsOwned h (record owners { queues = queue ∷ rest })
+IsOwned-queue_to_front h owners queue rest split owned = record {
+  nodes = owned.nodes;
+  mapped = owned.mapped;
+  pages = owned.pages;
+  chunks = AreKeysOf-to_front h.chunks (λ (one : OwnedQueue). one.chunks) owners.queues queue rest split owned.chunks;
+  queues = λ one there. owned.queues one (Splits-from_front owners.queues queue rest split one there);
+}
 
--- one space of the heap's owns its nodes
-pub IsOwned-space : (h : Heap) (spaces : List (List (Option ℕ))) (queues : List QueueParts) (chains : List (List ℕ)) (i : ℕ) → IsOwned h spaces queues chains → i < length spaces → OwnsNodes h.nodes (get_or spaces i [])
-IsOwned-space h spaces queues chains i owned within =
-    let same = get_or-map keys_in spaces i [] [] within in
-    let inside : i < length (map keys_in spaces) = rw length-map within in
+pub IsOwned-queue_from_front : (h : Heap) (owners : Owners) (queue : OwnedQueue) (rest : List OwnedQueue) → Splits owners.queues queue rest → IsOwned h (record owners { queues = queue ∷ rest }) → IsOwned h owners
+IsOwned-queue_from_front h owners queue rest split owned = record {
+  nodes = owned.nodes;
+  mapped = owned.mapped;
+  pages = owned.pages;
+  chunks = AreKeysOf-from_front h.chunks (λ (one : OwnedQueue). one.chunks) owners.queues queue rest split owned.chunks;
+  queues = λ one there. owned.queues one (Splits-to_front owners.queues queue rest split one there);
+}
+
+-- a space without nodes comes and goes
+pub IsOwned-space_joins : (h : Heap) (owners : Owners) (space : List (Option ℕ)) → keys_in space ≡ [] → IsOwned h owners → IsOwned h (with_space space owners)
+IsOwned-space_joins h owners space none owned = record {
+  nodes = rw none owned.nodes;
+  mapped = owned.mapped;
+  pages = owned.pages;
+  chunks = owned.chunks;
+  queues = owned.queues;
+}
+
+pub IsOwned-space_leaves : (h : Heap) (owners : Owners) (space : List (Option ℕ)) → keys_in space ≡ [] → IsOwned h (with_space space owners) → IsOwned h owners
+IsOwned-space_leaves h owners space none owned = record {
+  nodes = rw none at owned.nodes;
+  mapped = owned.mapped;
+  pages = owned.pages;
+  chunks = owned.chunks;
+  queues = owned.queues;
+}
+
+-- a queue without bytes comes and goes
+pub IsOwned-queue_joins : (h : Heap) (owners : Owners) → IsOwned h owners → IsOwned h (with_queue fresh_queue owners)
+IsOwned-queue_joins h owners owned = record {
+  nodes = owned.nodes;
+  mapped = owned.mapped;
+  pages = owned.pages;
+  chunks = owned.chunks;
+  queues = λ one there. elim (Contains-cons_cases fresh_queue one owners.queues there) [
+    | inl same ↦ rw (← same) (OwnsChunks-fresh h.chunks)
+    | inr behind ↦ owned.queues one behind
+  ];
+}
+
+pub first_there : {Y : Type 0} (first : Y) (rest : List Y) → Contains (first ∷ rest) first
+first_there first rest = (0, omega arith, refl)
+
+pub IsOwned-queue_leaves : (h : Heap) (owners : Owners) (queue : OwnedQueue) → queue.parts.len ≡ 0 → IsOwned h (with_queue queue owners) → IsOwned h owners
+IsOwned-queue_leaves h owners queue empty owned =
+    let none = OwnsChunks-none h.chunks queue (owned.queues queue (first_there queue owners.queues)) empty in
     record {
-      used = λ key there. owned.nodes_used key (Contains-concat (map keys_in spaces) i key inside (rw same there));
-      once = rw same at (IsOnce-concat (map keys_in spaces) i owned.nodes_once inside);
+      nodes = owned.nodes;
+      mapped = owned.mapped;
+      pages = owned.pages;
+      chunks = rw none at owned.chunks;
+      queues = λ one there. owned.queues one (Contains-cons queue one owners.queues there);
     }
 
--- two spaces share no node
-pub IsOwned-spaces_apart : (h : Heap) (spaces : List (List (Option ℕ))) (queues : List QueueParts) (chains : List (List ℕ)) (i j : ℕ) → IsOwned h spaces queues chains → i < j → j < length spaces → Apart (keys_in (get_or spaces i [])) (keys_in (get_or spaces j []))
-IsOwned-spaces_apart h spaces queues chains i j owned before within =
-    let one = get_or-map keys_in spaces i [] [] (omega arith) in
-    let other = get_or-map keys_in spaces j [] [] within in
-    rw (one, other) at (Apart-concat (map keys_in spaces) i j owned.nodes_once before (rw length-map within))
+-- the space in front owns what it says, and shares no node with another
+pub IsOwned-space : (h : Heap) (owners : Owners) (space : List (Option ℕ)) → IsOwned h (with_space space owners) → OwnsNodes h.nodes space
+IsOwned-space h owners space owned = record {
+  used = λ key there. owned.nodes.used key (Contains-append_left (keys_in space) (node_keys owners.spaces) key there);
+  mapped = λ key node there is. owned.mapped key node is;
+  once = IsOnce-left (keys_in space) (node_keys owners.spaces) owned.nodes.once;
+}
 
--- one queue of those that own chunks
-pub OwnsAllChunks-at : (chunks : List (Option Chunk)) (queues : List QueueParts) (chains : List (List ℕ)) (i : ℕ) (default : QueueParts) → OwnsAllChunks chunks queues chains → i < length queues → OwnsChunks chunks (get_or queues i default) (get_or chains i [])
-OwnsAllChunks-at chunks [] chains i default owns within = absurd (omega arith)
-OwnsAllChunks-at chunks (queue ∷ queues) [] i default owns within = absurd owns
-OwnsAllChunks-at chunks (queue ∷ queues) (keys ∷ others) zero default owns within = owns.0
-OwnsAllChunks-at chunks (queue ∷ queues) (keys ∷ others) (suc i) default owns within = OwnsAllChunks-at chunks queues others i default owns.1 (omega arith)
+Contains-concat : {Y : Type 0} (f : Y → List ℕ) (items : List Y) (one : Y) (key : ℕ) → Contains items one → Contains (f one) key → Contains (concat (map f items)) key
+Contains-concat f [] one key there here = absurd (omega (arith, there.1))
+Contains-concat f (first ∷ rest) one key there here = elim (Contains-cons_cases first one rest there) [
+  | inl same ↦ Contains-append_left (f first) (concat (map f rest)) key (rw same here)
+  | inr behind ↦ Contains-append_right (f first) (concat (map f rest)) key (Contains-concat f rest one key behind here)
+]
 
-pub OwnsAllChunks-length : (chunks : List (Option Chunk)) (queues : List QueueParts) (chains : List (List ℕ)) → OwnsAllChunks chunks queues chains → length chains ≡ length queues
-OwnsAllChunks-length chunks [] [] owns = refl
-OwnsAllChunks-length chunks [] (keys ∷ others) owns = absurd owns
-OwnsAllChunks-length chunks (queue ∷ queues) [] owns = absurd owns
-OwnsAllChunks-length chunks (queue ∷ queues) (keys ∷ others) owns = omega (arith, OwnsAllChunks-length chunks queues others owns.1)
+pub IsOwned-spaces_apart : (h : Heap) (owners : Owners) (space other : List (Option ℕ)) → IsOwned h (with_space space owners) → Contains owners.spaces other → Apart (keys_in space) (keys_in other)
+IsOwned-spaces_apart h owners space other owned there key here also =
+    IsOnce-apart (keys_in space) (node_keys owners.spaces) owned.nodes.once key here (Contains-concat keys_in owners.spaces other key there also)
 
--- a change of other chunks leaves them all
-pub OwnsAllChunks-apart : (changed : List ℕ) (old new : List (Option Chunk)) (queues : List QueueParts) (chains : List (List ℕ)) → KeepsOutside changed old new → Apart changed (concat chains) → OwnsAllChunks old queues chains → OwnsAllChunks new queues chains
-OwnsAllChunks-apart changed old new [] [] kept apart owns = owns
-OwnsAllChunks-apart changed old new [] (keys ∷ others) kept apart owns = owns
-OwnsAllChunks-apart changed old new (queue ∷ queues) [] kept apart owns = owns
-OwnsAllChunks-apart changed old new (queue ∷ queues) (keys ∷ others) kept apart owns = (
-  OwnsChunks-apart changed old new queue keys kept (λ key here there. apart key here (Contains-append_left keys (concat others) key there)) owns.0,
-  OwnsAllChunks-apart changed old new queues others kept (λ key here there. apart key here (Contains-append_right keys (concat others) key there)) owns.1,
-)
+pub IsOwned-queues_apart : (h : Heap) (owners : Owners) (queue other : OwnedQueue) → IsOwned h (with_queue queue owners) → Contains owners.queues other → Apart queue.chunks other.chunks
+IsOwned-queues_apart h owners queue other owned there key here also =
+    IsOnce-apart queue.chunks (chunk_keys owners.queues) owned.chunks.once key here (Contains-concat (λ (one : OwnedQueue). one.chunks) owners.queues other key there also)
 
--- two queues share no chunk
-pub IsOwned-queues_apart : (h : Heap) (spaces : List (List (Option ℕ))) (queues : List QueueParts) (chains : List (List ℕ)) (i j : ℕ) → IsOwned h spaces queues chains → i < j → j < length queues → Apart (get_or chains i []) (get_or chains j [])
-IsOwned-queues_apart h spaces queues chains i j owned before within =
-    Apart-concat chains i j owned.chunks_once before (rw (OwnsAllChunks-length h.chunks queues chains owned.chunks_used) within)
+-- one space changes its nodes, and the pages are counted
+pub IsOwned-space_changes : (old new : Heap) (owners : Owners) (space now : List (Option ℕ)) → SpaceChanges old new space now → IsOwned old (with_space space owners) → IsOwned new (with_space now owners)
+IsOwned-space_changes old new owners space now changes owned = record {
+  nodes = AreKeysOf-changes old.nodes new.nodes (keys_in space) (keys_in now) (node_keys owners.spaces) owned.nodes changes.nodes changes.owns.used changes.owns.once;
+  mapped = λ key node is. elim (contains_or_not (keys_in now) key) [
+    | inl mine ↦ changes.owns.mapped key node mine is
+    | inr other ↦ owned.mapped key node (sym (changes.nodes.outside key (λ named. neither key other (rw is refl) named)) ∙ is)
+  ];
+  pages = changes.pages;
+  chunks = rw changes.chunks owned.chunks;
+  queues = λ one there. rw changes.chunks (owned.queues one there);
+}
+  where
+    neither : (key : ℕ) → (Contains (keys_in now) key → ⊥) → InUse new.nodes key → Contains (keys_in space ++ keys_in now) key → ⊥
+    neither key other used named = elim (Contains-append_cases (keys_in space) (keys_in now) key named) [
+      | inl had ↦ other (changes.nodes.left key had used)
+      | inr has ↦ other has
+    ]
 
-pub IsOwned-queue : (h : Heap) (spaces : List (List (Option ℕ))) (queues : List QueueParts) (chains : List (List ℕ)) (i : ℕ) (default : QueueParts) → IsOwned h spaces queues chains → i < length queues → OwnsChunks h.chunks (get_or queues i default) (get_or chains i [])
-IsOwned-queue h spaces queues chains i default owned within = OwnsAllChunks-at h.chunks queues chains i default owned.chunks_used within
+-- one queue changes its chunks
+pub IsOwned-queue_changes : (old new : Heap) (owners : Owners) (queue now : OwnedQueue) → QueueChanges old new queue now → IsOwned old (with_queue queue owners) → IsOwned new (with_queue now owners)
+IsOwned-queue_changes old new owners queue now changes owned =
+    let apart = ChangesKeys-apart old.chunks new.chunks queue.chunks now.chunks (chunk_keys owners.queues) owned.chunks changes.chunks in
+    record {
+      nodes = rw changes.nodes owned.nodes;
+      mapped = λ key node is. owned.mapped key node (rw changes.nodes at is);
+      pages = rw (changes.nodes, changes.pages) owned.pages;
+      chunks = AreKeysOf-changes old.chunks new.chunks queue.chunks now.chunks (chunk_keys owners.queues) owned.chunks changes.chunks (IsChain-used new.chunks now.parts.first now.chunks changes.owns.chain) changes.owns.once;
+      queues = λ one there. elim (Contains-cons_cases now one owners.queues there) [
+        | inl same ↦ rw (← same) changes.owns
+        | inr behind ↦ OwnsChunks-apart (queue.chunks ++ now.chunks) old.chunks new.chunks one changes.chunks.outside (λ key named there. apart key named (Contains-concat (λ (one : OwnedQueue). one.chunks) owners.queues one key behind there)) (owned.queues one (Contains-cons queue one owners.queues behind))
+      ];
+    }
+
+-- a chunk of some queue gets other bytes and keeps its next
+pub IsOwned-chunk_written : (old new : Heap) (owners : Owners) (at : ℕ) (chunk written : Chunk) → object old.chunks at ≡ Some chunk → written.next ≡ chunk.next → new.chunks ≡ put old.chunks at written → new.nodes ≡ old.nodes → new.pages ≡ old.pages → IsOwned old owners → IsOwned new owners
+IsOwned-chunk_written old new owners at chunk written is next chunks nodes pages owned = record {
+  nodes = rw nodes owned.nodes;
+  mapped = λ key node there. owned.mapped key node (rw nodes at there);
+  pages = rw (nodes, pages) owned.pages;
+  chunks = rw chunks (record {
+    used = λ key there. in_use key (owned.chunks.used key there);
+    listed = λ key used. owned.chunks.listed key (was_in_use key used);
+    once = owned.chunks.once;
+  });
+  queues = λ one there. rw chunks (OwnsChunks-written old.chunks one at chunk written is next (owned.queues one there));
+}
+  where
+    in_use : (key : ℕ) → InUse old.chunks key → InUse (put old.chunks at written) key
+    in_use key used = elim (cases_eq key at) [
+      | inl same ↦ rw (same, object-put old.chunks at written (InUse-within old.chunks at (rw is refl))) refl
+      | inr differs ↦ rw (object-put_other old.chunks at key written differs) used
+    ]
+
+    was_in_use : (key : ℕ) → InUse (put old.chunks at written) key → InUse old.chunks key
+    was_in_use key used = elim (cases_eq key at) [
+      | inl same ↦ rw (same, is) refl
+      | inr differs ↦ rw (object-put_other old.chunks at key written differs) at used
+    ]
+
+-- what doesn't touch nodes, pages and chunks leaves the owners
+pub IsOwned-same : (old new : Heap) (owners : Owners) → new.nodes ≡ old.nodes → new.pages ≡ old.pages → new.chunks ≡ old.chunks → IsOwned old owners → IsOwned new owners
+IsOwned-same old new owners nodes pages chunks owned = record {
+  nodes = rw nodes owned.nodes;
+  mapped = λ key node is. owned.mapped key node (rw nodes at is);
+  pages = rw (nodes, pages) owned.pages;
+  chunks = rw chunks owned.chunks;
+  queues = λ one there. rw chunks (owned.queues one there);
+}
 
 no_spaces : (limit : ℕ) → spaces_of (replicate limit None) ≡ []
 no_spaces zero = refl
@@ -103,22 +219,31 @@ vacant X limit key = elim (cases_lt key limit) [
 unused : (X : Type 0) (limit key : ℕ) → InUse (replicate {A = Option X} limit None) key → ⊥
 unused X limit key used = let none = vacant X limit key in grind arith
 
+no_node : (limit key : ℕ) (node : Node) → object (replicate {A = Option Node} limit None) key ≡ Some node → ⊥
+no_node limit key node is = unused Node limit key (rw is refl)
+
 empty_heap-counted : (nodes pages : ℕ) → IsCounted (replicate nodes None) (replicate pages None)
 empty_heap-counted nodes pages = record {
   counts = λ page. ap page_count (vacant _ pages page) ∙ sym (sum_by-replicate (names_in page) nodes None ∙ mul-zero nodes);
   named = λ page used. absurd (unused _ pages page used);
 }
 
+no_keys : (X : Type 0) (limit : ℕ) → AreKeysOf (replicate {A = Option X} limit None) []
+no_keys X limit = record {
+  used = λ key there. absurd (omega (arith, there.1));
+  listed = λ key used. absurd (unused X limit key used);
+  once = λ i j before within same. omega arith;
+}
+
 pub empty_heap-owned : (heap : ℕ) → OwnsItsObjects (empty_heap heap)
 empty_heap-owned heap = (
-  [],
-  rw (no_spaces _, no_pipes _, no_socks _) (record {
-    nodes_used = λ key there. absurd (omega (arith, there.1));
-    nodes_owned = λ key used. absurd (unused _ _ key used);
-    nodes_once = λ i j before within same. omega arith;
-    pages = empty_heap-counted _ _;
-    chunks_used = tt;
-    chunks_owned = λ key used. absurd (unused _ _ key used);
-    chunks_once = λ i j before within same. omega arith;
-  }),
+  record { spaces = []; queues = [] },
+  record { spaces = sym (no_spaces (heap / size class.Proc)); queues = rw (no_pipes (heap / size class.Pipe), no_socks (heap / size class.Sock)) refl },
+  record {
+    nodes = no_keys Node (heap / size class.Node);
+    mapped = λ key node is. absurd (no_node (heap / size class.Node) key node is);
+    pages = empty_heap-counted (heap / size class.Node) (heap / size class.Page);
+    chunks = no_keys Chunk (heap / size class.Chunk);
+    queues = λ one there. absurd (omega (arith, there.1));
+  },
 )

@@ -4,7 +4,7 @@ use Rattle.kabi_types.specs.Class.{size}
 use Rattle.kabi_types.specs.declared.classes.Class.{Class}
 use Rattle.kabi_types.specs.declared.classes.Class.TheVariants as class
 use Rattle.kabi_types.specs.declared.classes.Need.{Need}
-use Rattle.kheap_slabs.specs.Purse.{counted, with_count, need_bytes}
+use Rattle.kheap_slabs.specs.Counts.{counted, with_count, need_bytes}
 
 pub need_bytes-less : (need : Need) (class : Class) → 0 < counted need class → need_bytes (with_count need class (counted need class - 1)) + size class ≡ need_bytes need
 need_bytes-less need class.Proc some = omega arith

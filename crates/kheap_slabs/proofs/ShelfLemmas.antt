@@ -6,7 +6,8 @@ use Rattle.std.proofs.lemmas.List.{get_or_read_under, length-replicate, get_or-r
 use Rattle.std.proofs.lemmas.List.Sums.{sum_by-set}
 use Rattle.std.proofs.lemmas.List.Folds.{sum_by-replicate}
 use Rattle.std.proofs.lemmas.Bool.{cases_lt}
-use Rattle.slab.specs.Slab.{Slab, get, slab_len, ContainsKey, Updates}
+use Rattle.slab.specs.Slab.{Slab, get, slab_len, ContainsKey, Updates, with_value}
+use Rattle.slab.proofs.SlabLemmas.{Updates-with_value}
 use Rattle.kheap_slabs.specs.Objects.{InUse}
 use Rattle.kheap_slabs.specs.Places.{found_at, shelved, IsSound}
 
@@ -94,6 +95,18 @@ module _ {T : Type 0} where
       same_at : (i : ℕ) → i ≢ key → (p : Option ℕ) → get_or places i None ≡ p → found_at new p ≡ found_at old p
       same_at i differs None is = refl
       same_at i differs (Some other) is = updates.others other (λ same. differs (sound.apart i key place (is ∙ ap Some same) placed))
+
+  -- what is read at a key's place is the object that the key names
+  pub shelved-was : (slab : Slab T) (places : List (Option ℕ)) (key place : ℕ) (was value : T) → get_or places key None ≡ Some place → get slab place ≡ Some was → get_or (shelved slab places) key None ≡ Some value → value ≡ was
+  shelved-was slab places key place was value placed read named =
+      let same = get_or-map (found_at slab) places key None None (placed_within places key place placed) in
+      let there : found_at slab (get_or places key None) ≡ Some was = rw placed read in
+      cc
+
+  -- an object is changed in its place
+  pub shelved-changed : (slab : Slab T) (places : List (Option ℕ)) (free : List ℕ) (room key place : ℕ) (now : T) → IsSound slab places free room → get_or places key None ≡ Some place → shelved (with_value slab place now) places ≡ set (shelved slab places) key (Some now)
+  shelved-changed slab places free room key place now sound placed =
+      shelved-set slab (with_value slab place now) places free room key place now sound placed (Updates-with_value slab place now (sound.filled key place placed))
 
   -- as many keys name an object as there are objects
   pub count-shelved : (slab : Slab T) (places : List (Option ℕ)) → ((key place : ℕ) → get_or places key None ≡ Some place → ContainsKey slab place) → count_by is_some (shelved slab places) ≡ count_by is_some places

@@ -1,8 +1,11 @@
 -- The heap: ten finite maps from key to object, and the bytes that the objects take.
-use Rattle.std.specs.Prelude.{ℕ, ◌+◌, ◌*◌, ◌/◌, List, Option, None, replicate}
+use Rattle.std.specs.Prelude.{◌≡◌, ℕ, ◌+◌, ◌/◌, ◌≤◌, List, Option, None, Some, length, max, replicate}
 use Rattle.kabi_types.specs.Class.{size}
+use Rattle.kabi_types.specs.declared.classes.Class.{Class}
 use Rattle.kabi_types.specs.declared.classes.Class.TheVariants as class
-use Rattle.kheap_slabs.specs.Objects.{count}
+use Rattle.kabi_types.specs.declared.classes.Need.{Need}
+use Rattle.kheap_slabs.specs.Counts.{counted, with_count, need_bytes}
+use Rattle.kheap_slabs.specs.Objects.{object, count}
 use Rattle.kheap_slabs.specs.declared.objects.Proc.{Proc}
 use Rattle.kheap_slabs.specs.declared.objects.Node.{Node}
 use Rattle.kheap_slabs.specs.declared.objects.Page.{Page}
@@ -14,7 +17,8 @@ use Rattle.kheap_slabs.specs.declared.objects.Pipe.{Pipe}
 use Rattle.kheap_slabs.specs.declared.objects.Chunk.{Chunk}
 use Rattle.kheap_slabs.specs.declared.objects.Sock.{Sock}
 
--- the object of each key of each class, how many bytes there are, and the most that were taken since the last mark
+-- the object of each key of each class, how many bytes there are, the most that were taken since the last mark, and
+-- how many marks there were, modulo 2 ^ 64
 pub record Heap : Type 0 where
   pub procs : List (Option Proc)
   pub nodes : List (Option Node)
@@ -28,14 +32,40 @@ pub record Heap : Type 0 where
   pub socks : List (Option Sock)
   pub heap : ℕ
   pub high : ℕ
+  pub marks : ℕ
+
+-- how many objects of each class there are
+abbrev pub counts_of : Heap → Need
+counts_of h = record {
+  proc = count h.procs;
+  node = count h.nodes;
+  page = count h.pages;
+  desc = count h.descs;
+  vnode = count h.vnodes;
+  name = count h.names;
+  block = count h.blocks;
+  pipe = count h.pipes;
+  chunk = count h.chunks;
+  sock = count h.socks;
+}
 
 -- the bytes that all objects take
 abbrev pub live_bytes : Heap → ℕ
-live_bytes h =
-    size class.Proc * count h.procs + size class.Node * count h.nodes + size class.Page * count h.pages
-    + size class.Desc * count h.descs + size class.Vnode * count h.vnodes + size class.Name * count h.names
-    + size class.Block * count h.blocks + size class.Pipe * count h.pipes + size class.Chunk * count h.chunks
-    + size class.Sock * count h.socks
+live_bytes h = need_bytes (counts_of h)
+
+-- an object of a class is made: of that class one more is there, and high rises to the bytes that are taken now
+pub record Makes (of : Class) (old new : Heap) : Type 0 where
+  pub counts : counts_of new ≡ with_count (counts_of old) of (counted (counts_of old) of + 1)
+  pub high : new.high ≡ max old.high (live_bytes new)
+  pub heap : new.heap ≡ old.heap
+  pub marks : new.marks ≡ old.marks
+
+-- an object of a class is freed: of that class one less is there
+pub record Frees (of : Class) (old new : Heap) : Type 0 where
+  pub counts : counts_of old ≡ with_count (counts_of new) of (counted (counts_of new) of + 1)
+  pub high : new.high ≡ old.high
+  pub heap : new.heap ≡ old.heap
+  pub marks : new.marks ≡ old.marks
 
 -- a heap of this size without objects: each class has keys for as many as would fill it
 abbrev pub empty_heap : ℕ → Heap
@@ -52,4 +82,15 @@ empty_heap heap = record {
   socks = replicate (heap / size class.Sock) None;
   heap = heap;
   high = 0;
+  marks = 0;
 }
+
+-- what every heap keeps: no more bytes are taken than it has, which are at most 8388608, and what its objects have in
+-- rows is as long as their types say
+pub record IsWellFormed (h : Heap) : Type 0 where
+  pub live_within : live_bytes h ≤ h.high
+  pub high_within : h.high ≤ h.heap
+  pub limit : h.heap ≤ 8388608
+  pub entries : (key : ℕ) (node : Node) → object h.nodes key ≡ Some node → length node.entries ≡ 64
+  pub page_bytes : (key : ℕ) (page : Page) → object h.pages key ≡ Some page → length page.bytes ≡ 4096
+  pub chunk_bytes : (key : ℕ) (chunk : Chunk) → object h.chunks key ≡ Some chunk → length chunk.bytes ≡ 512

@@ -1,8 +1,12 @@
+pub mod Counts
 pub mod Heap
+pub mod Keys
 pub mod Marks
 pub mod Metered
 pub mod Objects
 pub mod Outside
-pub mod Owned
+pub mod Owners
 pub mod Places
 pub mod Purse
+pub mod Queues
+pub mod Spaces

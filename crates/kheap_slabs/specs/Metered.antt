@@ -1,8 +1,9 @@
 -- What the heap's counters say of its objects.
-use Rattle.std.specs.Prelude.{◌≡◌, ℕ, ◌/◌, ◌≤◌, length}
+use Rattle.std.specs.Prelude.{◌≡◌, ℕ, ◌/◌, length}
 use Rattle.kabi_types.specs.Class.{size}
 use Rattle.kabi_types.specs.declared.classes.Class.TheVariants as class
-use Rattle.kheap_slabs.specs.Heap.{Heap, live_bytes}
+use Rattle.kabi_types.specs.declared.classes.Need.{Need}
+use Rattle.kheap_slabs.specs.Heap.{Heap, live_bytes, IsWellFormed}
 use Rattle.kheap_slabs.specs.declared.kheap.KHeap.TheInside.{Inside}
 
 -- the heap as its shelves and its meter have it
@@ -20,21 +21,41 @@ heap_of k = record {
   socks = k.socks;
   heap = k.meter.heap;
   high = k.meter.high;
+  marks = k.meter.marks;
 }
 
--- the counter has the bytes that all objects take, which are never more than the heap has, and each class has
--- keys for as many objects as would fill the heap
+-- how many keys each class has
+abbrev pub keys_of : Heap → Need
+keys_of h = record {
+  proc = length h.procs;
+  node = length h.nodes;
+  page = length h.pages;
+  desc = length h.descs;
+  vnode = length h.vnodes;
+  name = length h.names;
+  block = length h.blocks;
+  pipe = length h.pipes;
+  chunk = length h.chunks;
+  sock = length h.socks;
+}
+
+-- as many of each class as would fill the heap
+abbrev pub fitting : ℕ → Need
+fitting heap = record {
+  proc = heap / size class.Proc;
+  node = heap / size class.Node;
+  page = heap / size class.Page;
+  desc = heap / size class.Desc;
+  vnode = heap / size class.Vnode;
+  name = heap / size class.Name;
+  block = heap / size class.Block;
+  pipe = heap / size class.Pipe;
+  chunk = heap / size class.Chunk;
+  sock = heap / size class.Sock;
+}
+
+-- the counter has the bytes that all objects take, and each class has keys for as many objects as would fill the heap
 pub record IsMetered (h : Heap) (live : ℕ) : Type 0 where
   pub live_is : live ≡ live_bytes h
-  pub live_within : live ≤ h.high
-  pub high_within : h.high ≤ h.heap
-  pub procs : length h.procs ≡ h.heap / size class.Proc
-  pub nodes : length h.nodes ≡ h.heap / size class.Node
-  pub pages : length h.pages ≡ h.heap / size class.Page
-  pub descs : length h.descs ≡ h.heap / size class.Desc
-  pub vnodes : length h.vnodes ≡ h.heap / size class.Vnode
-  pub names : length h.names ≡ h.heap / size class.Name
-  pub blocks : length h.blocks ≡ h.heap / size class.Block
-  pub pipes : length h.pipes ≡ h.heap / size class.Pipe
-  pub chunks : length h.chunks ≡ h.heap / size class.Chunk
-  pub socks : length h.socks ≡ h.heap / size class.Sock
+  pub well_formed : IsWellFormed h
+  pub keys : keys_of h ≡ fitting h.heap

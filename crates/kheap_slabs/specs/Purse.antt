@@ -1,10 +1,13 @@
 -- What a call may still make, and what it filled.
-use Rattle.std.specs.Prelude.{◌≡◌, ℕ, ◌+◌, ◌*◌, ◌≤◌, List, [], max}
-use Rattle.kabi_types.specs.Class.{size}
+use Rattle.std.specs.Prelude.{◌≡◌, ℕ, ◌+◌, ◌≤◌, List, [], Option, length, max}
+use Rattle.std.specs.List.{Contains}
 use Rattle.kabi_types.specs.declared.classes.Class.{Class}
 use Rattle.kabi_types.specs.declared.classes.Class.TheVariants as class
 use Rattle.kabi_types.specs.declared.classes.Need.{Need}
-use Rattle.kheap_slabs.specs.Heap.{Heap, live_bytes}
+use Rattle.kheap_slabs.specs.Counts.{counted, need_bytes}
+use Rattle.kheap_slabs.specs.Heap.{Heap, counts_of, live_bytes}
+use Rattle.kheap_slabs.specs.Keys.{IsOnce}
+use Rattle.kheap_slabs.specs.Objects.{InUse}
 
 -- how many objects of each class a call may make in all, how many it still may, and the keys of each cached
 -- class that were filled, the first one first
@@ -14,40 +17,6 @@ pub record Purse : Type 0 where
   pub vnodes : List ℕ
   pub names : List ℕ
   pub blocks : List ℕ
-
--- the count of a class
-abbrev pub counted : Need → Class → ℕ
-counted need class.Proc = need.proc
-counted need class.Node = need.node
-counted need class.Page = need.page
-counted need class.Desc = need.desc
-counted need class.Vnode = need.vnode
-counted need class.Name = need.name
-counted need class.Block = need.block
-counted need class.Pipe = need.pipe
-counted need class.Chunk = need.chunk
-counted need class.Sock = need.sock
-
--- the same counts, with another one for a class
-abbrev pub with_count : Need → Class → ℕ → Need
-with_count need class.Proc count = record need { proc = count }
-with_count need class.Node count = record need { node = count }
-with_count need class.Page count = record need { page = count }
-with_count need class.Desc count = record need { desc = count }
-with_count need class.Vnode count = record need { vnode = count }
-with_count need class.Name count = record need { name = count }
-with_count need class.Block count = record need { block = count }
-with_count need class.Pipe count = record need { pipe = count }
-with_count need class.Chunk count = record need { chunk = count }
-with_count need class.Sock count = record need { sock = count }
-
--- the bytes of all objects that are counted
-abbrev pub need_bytes : Need → ℕ
-need_bytes need =
-    size class.Proc * need.proc + size class.Node * need.node + size class.Page * need.page
-    + size class.Desc * need.desc + size class.Vnode * need.vnode + size class.Name * need.name
-    + size class.Block * need.block + size class.Pipe * need.pipe + size class.Chunk * need.chunk
-    + size class.Sock * need.sock
 
 -- the bytes of what the purse has left
 abbrev pub left_bytes : Purse → ℕ
@@ -92,9 +61,34 @@ with_fills purse class.Pipe keys = purse
 with_fills purse class.Chunk keys = purse
 with_fills purse class.Sock keys = purse
 
--- a call that pays from its purse: the bytes taken and those that the purse has left are together no more than
--- they were, and no more than that was ever taken
+-- the heap has room for all that the purse has left
+abbrev pub CanPay : Heap → Purse → Type 0
+CanPay h purse = live_bytes h + left_bytes purse ≤ h.heap
+
+-- a call that pays from its purse: of each class, the objects that are there and those that the purse has left are
+-- together no more than they were; at no moment were more bytes taken than at its start with all that it could spend
 pub record IsPaid (old : Heap) (before : Purse) (new : Heap) (after : Purse) : Type 0 where
-  pub sum : live_bytes new + left_bytes after ≤ live_bytes old + left_bytes before
+  pub counts : (class : Class) → counted (counts_of new) class + counted after.left class ≤ counted (counts_of old) class + counted before.left class
+  pub need : after.need ≡ before.need
   pub high : new.high ≤ max old.high (live_bytes old + left_bytes before)
   pub heap : new.heap ≡ old.heap
+  pub marks : new.marks ≡ old.marks
+
+-- a call without a purse: of no class are more objects there than before, and at no moment were more bytes taken
+pub record TakesNothing (old new : Heap) : Type 0 where
+  pub counts : (class : Class) → counted (counts_of new) class ≤ counted (counts_of old) class
+  pub high : new.high ≤ old.high
+  pub heap : new.heap ≡ old.heap
+  pub marks : new.marks ≡ old.marks
+
+-- the keys that a purse keeps of a class are in use, each stands once, and no more are kept than were spent
+pub record AreFills {X : Type 0} (objects : List (Option X)) (keys : List ℕ) (left need : ℕ) : Type 0 where
+  pub used : (key : ℕ) → Contains keys key → InUse objects key
+  pub once : IsOnce keys
+  pub spent : length keys + left ≤ need
+
+-- all that the purse keeps as filled is there and was spent
+pub record HasFills (h : Heap) (purse : Purse) : Type 0 where
+  pub vnodes : AreFills h.vnodes purse.vnodes purse.left.vnode purse.need.vnode
+  pub names : AreFills h.names purse.names purse.left.name purse.need.name
+  pub blocks : AreFills h.blocks purse.blocks purse.left.block purse.need.block

@@ -1,4 +1,5 @@
-//! The kernel heap by class: ten kinds of objects under keys of its own, their live bytes, and the purse of a call.
+//! The kernel heap by class: ten kinds of objects under keys of its own, their live bytes, and the
+//! purse of a call.
 #![tactic(auto)]
 
 mod kheap;

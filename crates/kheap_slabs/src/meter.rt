@@ -1,11 +1,13 @@
 ghost use Rattle.std.specs.Prelude.{◌≡◌, ◌+◌, ◌≤◌, max};
 
-/// How many bytes the heap has, how many are taken, and the most that were taken since the last mark.
+/// How many bytes the heap has, how many are taken, the most that were taken since the last mark,
+/// and how many marks there were, modulo 2^64.
 #[derive(Drop)]
 pub(crate) struct Meter {
     pub heap: u64,
     pub live: u64,
     pub high: u64,
+    pub marks: u64,
 }
 
 impl Meter {
@@ -14,6 +16,7 @@ impl Meter {
         ensures heap { self.new.heap ≡ self.old.heap }
         ensures live { self.new.live ≡ self.old.live + bytes }
         ensures high { self.new.high ≡ max self.old.high self.new.live }
+        ensures marks { self.new.marks ≡ self.old.marks }
     {
         self.live += bytes;
         self.high = self.high.max(self.live);
@@ -24,6 +27,7 @@ impl Meter {
         ensures heap { self.new.heap ≡ self.old.heap }
         ensures live { self.new.live + bytes ≡ self.old.live }
         ensures high { self.new.high ≡ self.old.high }
+        ensures marks { self.new.marks ≡ self.old.marks }
     {
         self.live -= bytes;
     }

@@ -6,7 +6,8 @@ pub struct Proc {
     pub pid: u32,
     /// The parent's pid.
     pub parent: u32,
-    /// The wait status once it has ended: 256 times the exit status, or a signal's number. None while it is alive.
+    /// The wait status once it has ended: 256 times the exit status, or a signal's number. None
+    /// while it is alive.
     pub status: Option<u16>,
     /// The number of the node that is its working directory.
     pub cwd: u32,

@@ -1,12 +1,14 @@
 ghost use Rattle.std.specs.Prelude.{◌≡◌, ◌+◌, ◌-◌, ◌<◌, [], ◌∷◌, ◌++◌, length, slice_index_or, remove};
 ghost use Rattle.kabi_types.specs.Class.{size};
-ghost use Rattle.kheap_slabs.specs.Purse.{counted, with_count, fills_of, with_fills, IsCached, need_bytes, left_bytes};
+ghost use Rattle.kheap_slabs.specs.Counts.{counted, with_count, need_bytes};
+ghost use Rattle.kheap_slabs.specs.Purse.{fills_of, with_fills, IsCached, left_bytes};
 
 use arrayvec::ArrayVec;
 use kabi_types::{Class, Need};
 use std::marker::Model;
 
-/// What a call may still make: so many objects of each class. It also keeps the keys of what was filled through it.
+/// What a call may still make: so many objects of each class. It also keeps the keys of what was
+/// filled through it.
 #[derive(Drop)]
 pub struct Purse {
     need: Need,
@@ -97,7 +99,8 @@ fn put_count(need: Need, class: Class, count: u32) -> Need
 impl Purse {
     /// A purse that has left what the need counts, and has filled nothing.
     pub fn of(need: Need) -> Purse
-        ensures value { result ≡ record { need = need; left = need; vnodes = []; names = []; blocks = [] } }
+        ensures value { result
+            ≡ record { need = need; left = need; vnodes = []; names = []; blocks = [] } }
         ensures bytes { left_bytes result ≡ need_bytes need }
     {
         Purse {
@@ -119,7 +122,10 @@ impl Purse {
     /// Counts one object of the class as made.
     pub fn spend(&mut self, class: Class)
         requires { 0 < counted self.old.left class }
-        ensures kept { self.new ≡ record self.old { left = with_count self.old.left class (counted self.old.left class - 1) } }
+        ensures kept { self.new
+            ≡ record self.old {
+              left = with_count self.old.left class (counted self.old.left class - 1);
+            } }
         ensures bytes { left_bytes self.new + size class ≡ left_bytes self.old }
     {
         let left = count_of(&self.left, class);
@@ -129,7 +135,10 @@ impl Purse {
     /// Takes one object of the class, that was spent, back.
     pub fn give(&mut self, class: Class)
         requires { counted self.old.left class < counted self.old.need class }
-        ensures kept { self.new ≡ record self.old { left = with_count self.old.left class (counted self.old.left class + 1) } }
+        ensures kept { self.new
+            ≡ record self.old {
+              left = with_count self.old.left class (counted self.old.left class + 1);
+            } }
         ensures bytes { left_bytes self.new ≡ left_bytes self.old + size class }
     {
         let left = count_of(&self.left, class);
@@ -138,8 +147,8 @@ impl Purse {
         self.left = put_count(self.left, class, left + 1);
     }
 
-    /// The keys of the class that were filled through the purse, the one that was filled first at the front.
-    /// Only names, blocks and vnodes are filled.
+    /// The keys of the class that were filled through the purse, the one that was filled first at
+    /// the front. Only names, blocks and vnodes are filled.
     pub fn fills(&self, class: Class) -> &[u32]
         ensures { result.now ≡ fills_of self.now class }
     {

@@ -1,6 +1,8 @@
 ghost use Rattle.std.specs.Prelude.{◌≡◌, ◌+◌, ◌<◌, ◌≤◌, length, IfOk, None, Some, replicate, slice_index_or, vec_len, vec_capacity};
 ghost use Rattle.kheap_slabs.specs.Objects.{object, InUse, count, put, without};
 
+mod pages;
+
 use slab::Slab;
 use std::alloc::{AllocError, Global};
 use std::marker::Model;
@@ -28,13 +30,15 @@ impl<T> Model for Shelf<T> {
 
     ghost view = { λ shelf. shelved shelf.slab shelf.places.items };
 
-    ghost invariant = { λ shelf. IsSound shelf.slab shelf.places.items shelf.free.items (vec_capacity shelf.free) };
+    ghost invariant = { λ shelf.
+        IsSound shelf.slab shelf.places.items shelf.free.items (vec_capacity shelf.free) };
 }
 
 // The keys below the limit, the lowest last.
 fn falling_keys(alloc: Global, limit: u32) -> Result<Vec<u32>, AllocError>
     ensures len { IfOk result (λ keys. vec_len keys ≡ limit) }
-    ensures falling { IfOk result (λ keys. (i : _) → i < limit → slice_index_or keys.items i 0 + i + 1 ≡ limit) }
+    ensures falling { IfOk result (λ keys. (i : _) → i < limit
+        → slice_index_or keys.items i 0 + i + 1 ≡ limit) }
     ensures room { IfOk result (λ keys. limit ≤ vec_capacity keys) }
 {
     let mut keys = Vec::with_capacity(alloc, limit as usize)?;

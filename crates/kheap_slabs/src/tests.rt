@@ -105,7 +105,8 @@ fn sock_of(node: u32) -> Sock {
     }
 }
 
-// For each class: makes an object, frees it and makes another. True where both are read as they were made.
+// For each class: makes an object, frees it and makes another. True where both are read as they
+// were made.
 
 fn renew_proc(heap: &mut KHeap) -> bool
     requires { live_bytes heap.old + 512 ≤ heap.old.heap }
@@ -261,7 +262,8 @@ fn renew_four(heap: &mut KHeap) -> [bool; 4]
     [chunks, vnodes, pipes, descs]
 }
 
-/// Objects of all ten classes, each made, freed and made again, fill a heap of 8192 bytes to its last byte.
+/// Objects of all ten classes, each made, freed and made again, fill a heap of 8192 bytes to its
+/// last byte.
 #[test]
 fn ten_classes_fill_the_least_heap(rt: HostRuntime) -> Result<(), Fail> {
     let mut heap = KHeap::boot(rt.alloc(), 8192)?;

@@ -1,0 +1,10 @@
+use Rattle.std.proofs.Common.{refl}
+use Rattle.kheap_slabs.proofs.MeterLemmas.{IsMetered-boot}
+use Rattle.kheap_slabs.proofs.kheap.KHeap.boot.Goals as goal
+
+pub invariant_of-result : goal.invariant_of-result
+invariant_of-result c =
+    let memory = c.in_ok-memory.ensures in
+    let files = c.in_ok-files.ensures in
+    let queues = c.in_ok-queues.ensures in
+    rw (memory.procs, memory.nodes, memory.pages, files.descs, files.vnodes, files.names, files.blocks, queues.pipes, queues.chunks, queues.socks) (IsMetered-boot c.args.heap c.requires.most)

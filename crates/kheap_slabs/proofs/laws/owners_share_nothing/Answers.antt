@@ -1,8 +1,0 @@
-use Rattle.kheap_slabs.proofs.OwnerLemmas.{IsOwned-spaces_apart, IsOwned-queues_apart}
-use Rattle.kheap_slabs.proofs.laws.owners_share_nothing.Goals as goal
-
-pub returns-clause-spaces : goal.returns-clause-spaces
-returns-clause-spaces c = IsOwned-spaces_apart
-
-pub returns-clause-queues : goal.returns-clause-queues
-returns-clause-queues c = IsOwned-queues_apart

@@ -1,0 +1,185 @@
+//! Processes and their memory.
+
+ghost use Rattle.std.specs.Prelude.{◌≡◌, ◌+◌, ◌/◌, ◌<◌, ◌≤◌, None, Some, length};
+ghost use Rattle.kabi_types.specs.Class.{size};
+ghost use Rattle.kabi_types.specs.declared.classes.Class.TheVariants as class;
+ghost use Rattle.kheap_slabs.specs.Heap.{live_bytes, Makes, Frees};
+ghost use Rattle.kheap_slabs.specs.Objects.{object, InUse, put, without};
+ghost use Rattle.kheap_slabs.specs.Purse.{TakesNothing};
+ghost use Rattle.kheap_slabs.specs.Spaces.{with_bytes};
+ghost use Rattle.kheap_slabs.specs.declared.objects.Page.{Page as PageOf};
+
+use super::KHeap;
+use crate::{Node, Page, Proc};
+use kabi_types::Class;
+
+impl KHeap {
+    /// Puts a Proc under a key that was free, and gives the key.
+    pub fn insert_proc(&mut self, value: Proc) -> u32
+        requires { live_bytes self.old + size class.Proc ≤ self.old.heap }
+        ensures in_range { result < self.old.heap / size class.Proc }
+        ensures vacant { object self.old.procs result ≡ None }
+        ensures stored { object self.new.procs result ≡ Some value }
+        ensures kept { self.new
+            ≡ record self.old { procs = put self.old.procs result value; high = self.new.high } }
+        ensures live { live_bytes self.new ≡ live_bytes self.old + size class.Proc }
+        ensures makes { Makes class.Proc self.old self.new }
+    {
+        self.meter.grow(Class::Proc.bytes());
+        self.procs.insert(value)
+    }
+
+    /// Takes a Proc out of the heap; its key is free from then on.
+    pub fn free_proc(&mut self, key: u32) -> Proc
+        requires { InUse self.old.procs key }
+        ensures value { object self.old.procs key ≡ Some result }
+        ensures gone { object self.new.procs key ≡ None }
+        ensures kept { self.new ≡ record self.old { procs = without self.old.procs key } }
+        ensures live { live_bytes self.new + size class.Proc ≡ live_bytes self.old }
+        ensures frees { Frees class.Proc self.old self.new }
+    {
+        let value = self.procs.free(key);
+        self.meter.shrink(Class::Proc.bytes());
+        value
+    }
+
+    /// The Proc of a key.
+    pub fn get_proc(&self, key: u32) -> &Proc
+        requires { InUse self.now.procs key }
+        ensures { object self.now.procs key ≡ Some result.now }
+    {
+        self.procs.get(key)
+    }
+
+    /// Puts another Proc under a key in use.
+    pub fn set_proc(&mut self, key: u32, value: Proc)
+        requires { InUse self.old.procs key }
+        ensures stored { object self.new.procs key ≡ Some value }
+        ensures kept { self.new ≡ record self.old { procs = put self.old.procs key value } }
+        ensures live { live_bytes self.new ≡ live_bytes self.old }
+        ensures takes { TakesNothing self.old self.new }
+    {
+        self.procs.set(key, value);
+    }
+
+    /// Puts a Node under a key that was free, and gives the key.
+    pub fn insert_node(&mut self, value: Node) -> u32
+        requires { live_bytes self.old + size class.Node ≤ self.old.heap }
+        ensures in_range { result < self.old.heap / size class.Node }
+        ensures vacant { object self.old.nodes result ≡ None }
+        ensures stored { object self.new.nodes result ≡ Some value }
+        ensures kept { self.new
+            ≡ record self.old { nodes = put self.old.nodes result value; high = self.new.high } }
+        ensures live { live_bytes self.new ≡ live_bytes self.old + size class.Node }
+        ensures makes { Makes class.Node self.old self.new }
+    {
+        self.meter.grow(Class::Node.bytes());
+        self.nodes.insert(value)
+    }
+
+    /// Takes a Node out of the heap; its key is free from then on.
+    pub fn free_node(&mut self, key: u32) -> Node
+        requires { InUse self.old.nodes key }
+        ensures value { object self.old.nodes key ≡ Some result }
+        ensures gone { object self.new.nodes key ≡ None }
+        ensures kept { self.new ≡ record self.old { nodes = without self.old.nodes key } }
+        ensures live { live_bytes self.new + size class.Node ≡ live_bytes self.old }
+        ensures frees { Frees class.Node self.old self.new }
+    {
+        let value = self.nodes.free(key);
+        self.meter.shrink(Class::Node.bytes());
+        value
+    }
+
+    /// The Node of a key.
+    pub fn get_node(&self, key: u32) -> &Node
+        requires { InUse self.now.nodes key }
+        ensures { object self.now.nodes key ≡ Some result.now }
+    {
+        self.nodes.get(key)
+    }
+
+    /// Puts another Node under a key in use.
+    pub fn set_node(&mut self, key: u32, value: Node)
+        requires { InUse self.old.nodes key }
+        ensures stored { object self.new.nodes key ≡ Some value }
+        ensures kept { self.new ≡ record self.old { nodes = put self.old.nodes key value } }
+        ensures live { live_bytes self.new ≡ live_bytes self.old }
+        ensures takes { TakesNothing self.old self.new }
+    {
+        self.nodes.set(key, value);
+    }
+
+    /// Puts a Page under a key that was free, and gives the key.
+    pub fn insert_page(&mut self, value: Page) -> u32
+        requires { live_bytes self.old + size class.Page ≤ self.old.heap }
+        ensures in_range { result < self.old.heap / size class.Page }
+        ensures vacant { object self.old.pages result ≡ None }
+        ensures stored { object self.new.pages result ≡ Some value }
+        ensures kept { self.new
+            ≡ record self.old { pages = put self.old.pages result value; high = self.new.high } }
+        ensures live { live_bytes self.new ≡ live_bytes self.old + size class.Page }
+        ensures makes { Makes class.Page self.old self.new }
+    {
+        self.meter.grow(Class::Page.bytes());
+        self.pages.insert(value)
+    }
+
+    /// Takes a Page out of the heap; its key is free from then on.
+    pub fn free_page(&mut self, key: u32) -> Page
+        requires { InUse self.old.pages key }
+        ensures value { object self.old.pages key ≡ Some result }
+        ensures gone { object self.new.pages key ≡ None }
+        ensures kept { self.new ≡ record self.old { pages = without self.old.pages key } }
+        ensures live { live_bytes self.new + size class.Page ≡ live_bytes self.old }
+        ensures frees { Frees class.Page self.old self.new }
+    {
+        let value = self.pages.free(key);
+        self.meter.shrink(Class::Page.bytes());
+        value
+    }
+
+    /// The Page of a key.
+    pub fn get_page(&self, key: u32) -> &Page
+        requires { InUse self.now.pages key }
+        ensures { object self.now.pages key ≡ Some result.now }
+    {
+        self.pages.get(key)
+    }
+
+    /// Puts another Page under a key in use.
+    pub fn set_page(&mut self, key: u32, value: Page)
+        requires { InUse self.old.pages key }
+        ensures stored { object self.new.pages key ≡ Some value }
+        ensures kept { self.new ≡ record self.old { pages = put self.old.pages key value } }
+        ensures live { live_bytes self.new ≡ live_bytes self.old }
+        ensures takes { TakesNothing self.old self.new }
+    {
+        self.pages.set(key, value);
+    }
+
+    /// Tells of a page how many entries name it. Its bytes stay in their place.
+    pub fn set_page_count(&mut self, key: u32, count: u32)
+        requires { InUse self.old.pages key }
+        ensures kept { (page : PageOf) → object self.old.pages key ≡ Some page
+            → self.new
+            ≡ record self.old { pages = put self.old.pages key (record page { count = count }) } }
+        ensures live { live_bytes self.new ≡ live_bytes self.old }
+        ensures takes { TakesNothing self.old self.new }
+    {
+        self.pages.set_count(key, count);
+    }
+
+    /// Writes bytes into a page from a place on. Its other bytes and its count stay.
+    pub fn write_page(&mut self, key: u32, at: u32, bytes: &[u8])
+        requires used { InUse self.old.pages key }
+        requires within { at + length bytes.now ≤ 4096 }
+        ensures kept { (page : PageOf) → object self.old.pages key ≡ Some page
+            → self.new
+            ≡ record self.old { pages = put self.old.pages key (with_bytes page at bytes.now) } }
+        ensures live { live_bytes self.new ≡ live_bytes self.old }
+        ensures takes { TakesNothing self.old self.new }
+    {
+        self.pages.write(key, at, bytes);
+    }
+}

@@ -1,0 +1,44 @@
+//! Pages are changed in their place, since 4096 bytes are much to copy.
+
+ghost use Rattle.std.specs.Prelude.{◌≡◌, ◌+◌, ◌≤◌, Some, length};
+ghost use Rattle.kheap_slabs.specs.Objects.{object, InUse, count as count_of, put};
+ghost use Rattle.kheap_slabs.specs.Spaces.{with_bytes};
+ghost use Rattle.kheap_slabs.specs.declared.objects.Page.{Page as PageOf};
+
+use super::Shelf;
+use crate::Page;
+
+impl Shelf<Page> {
+    /// Tells of a page how many entries name it.
+    pub(crate) fn set_count(&mut self, key: u32, count: u32)
+        requires { InUse self.old key }
+        ensures kept { (page : PageOf) → object self.old key ≡ Some page
+            → self.new ≡ put self.old key (record page { count = count }) }
+        ensures counted { count_of self.new ≡ count_of self.old }
+        ensures len { length self.new ≡ length self.old }
+    {
+        match self.places[key as usize] {
+            Some(place) => self.slab[place].count = count,
+            None => unreachable!(),
+        }
+    }
+
+    /// Writes bytes into a page from a place on.
+    pub(crate) fn write(&mut self, key: u32, at: u32, bytes: &[u8])
+        requires used { InUse self.old key }
+        requires within { at + length bytes.now ≤ 4096 }
+        ensures kept { (page : PageOf) → object self.old key ≡ Some page
+            → self.new ≡ put self.old key (with_bytes page at bytes.now) }
+        ensures counted { count_of self.new ≡ count_of self.old }
+        ensures len { length self.new ≡ length self.old }
+    {
+        match self.places[key as usize] {
+            Some(place) => {
+                let page = &mut self.slab[place];
+                let at = at as usize;
+                page.bytes[at..at + bytes.len()].copy_from_slice(bytes);
+            }
+            None => unreachable!(),
+        }
+    }
+}
