@@ -12,3 +12,11 @@ pub mod FormattedDisk
 pub mod FreeBlocks
 pub mod DirectoryEntries
 pub mod FreeNodes
+pub mod TreeNodes
+pub mod TreeFacts
+pub mod EntryLists
+pub mod ListedNodes
+pub mod TreeSteps
+pub mod Climbing
+pub mod TreeKeeps
+pub mod NewTree

@@ -1,85 +1,55 @@
-ghost use Rattle.std.specs.Prelude.{◌≡◌, ℕ, List, Option, None, Some, IfSome};
-ghost use Rattle.kabi_types.specs.declared.inodes.Inode.{Inode};
-ghost use Rattle.posix_defs.specs.Tree.{IsInUse, IsDirectory, root_alone};
+ghost use Rattle.std.specs.Prelude.{◌≡◌, true};
+ghost use Rattle.posix_defs.specs.Tree.{Tree, IsInodeAt, found, is_directory, is_in_use, parent_at};
+ghost use Rattle.posix_defs.specs.IsTree.{IsTree};
+ghost use Rattle.posix_defs.specs.Queries.{Query, AskName, AskNode, AskParent};
 
 use kabi_types::Inode;
 
-/// The nodes of a tree of directories, wherever they lie. Numbers count from 1, which is the root's.
+/// The nodes of a tree of directories, wherever they lie. Numbers count from 1, which is the root's. No call changes the
+/// tree.
 ///
-/// `same_parts` says that two values hold the same lent parts, as for `Blocks`. No call changes the tree.
+/// An implementation may be made of lent parts, as a cache and the disk below it. `follows` says that one value goes on
+/// from another and holds the same loans, so that a caller knows after a call what it lent. `asked` says what one call led
+/// to, so that a caller learns what many of them, one after another, left.
 pub trait Dirs {
-    /// What the table has at a number; None where the node isn't in use.
-    ghost node_at: { Self → ℕ → Option Inode };
+    /// The nodes are those of this tree.
+    ghost stands: { Self → Tree → Type 0 };
 
-    /// The node under a name of a directory; None where the name isn't there.
-    ghost found: { Self → ℕ → List ℕ → Option ℕ };
+    /// The second value goes on from the first.
+    ghost follows: { Self → Self → Type 0 };
+
+    /// One question led from the first value to the second.
+    ghost asked: { Self → Query → Self → Type 0 };
+
+    /// The inode of a node in use.
+    fn node(&mut self, number: u32) -> Inode
+        requires { (tree : Tree) × stands self.old tree × (is_in_use tree number ≡ true) }
+        ensures value { (tree : Tree) → stands self.old tree → IsInodeAt tree number result }
+        ensures stands { (tree : Tree) → stands self.old tree → stands self.new tree }
+        ensures follows { follows self.old self.new }
+        ensures asked { asked self.old (AskNode number) self.new };
+
+    /// The node under a name of a directory, which is in use; None exactly where the name isn't there.
+    fn look(&mut self, dir: u32, name: &[u8]) -> Option<u32>
+        requires { (tree : Tree) × stands self.old tree × (is_directory tree dir ≡ true) }
+        ensures value { (tree : Tree) → stands self.old tree → result ≡ found tree dir name.now }
+        ensures stands { (tree : Tree) → stands self.old tree → stands self.new tree }
+        ensures follows { follows self.old self.new }
+        ensures asked { asked self.old (AskName dir name.now) self.new };
 
     /// The directory that `..` of a directory names; the root's is the root.
-    ghost parent_of: { Self → ℕ → ℕ };
-
-    /// Both hold the same lent parts.
-    ghost same_parts: { Self → Self → Type 0 };
-
-    /// A node in use.
-    fn node(&mut self, number: u32) -> Inode
-        requires { IsInUse (node_at self.old number) }
-        ensures value { node_at self.old number ≡ Some result }
-        ensures nodes { node_at self.new ≡ node_at self.old }
-        ensures names { found self.new ≡ found self.old }
-        ensures parents { parent_of self.new ≡ parent_of self.old }
-        ensures parts { same_parts self.old self.new };
-
-    /// The node under a name of a directory; None exactly where the name isn't there.
-    fn look(&mut self, dir: u32, name: &[u8]) -> Option<u32>
-        requires { IsDirectory (node_at self.old dir) }
-        ensures value { result ≡ found self.old dir name.now }
-        ensures in_use { IfSome result (λ number. IsInUse (node_at self.old number)) }
-        ensures nodes { node_at self.new ≡ node_at self.old }
-        ensures names { found self.new ≡ found self.old }
-        ensures parents { parent_of self.new ≡ parent_of self.old }
-        ensures parts { same_parts self.old self.new };
-
-    /// The directory above a directory.
     fn parent(&mut self, dir: u32) -> u32
-        requires { IsDirectory (node_at self.old dir) }
-        ensures value { result ≡ parent_of self.old dir }
-        ensures in_use { IsDirectory (node_at self.old result) }
-        ensures nodes { node_at self.new ≡ node_at self.old }
-        ensures names { found self.new ≡ found self.old }
-        ensures parents { parent_of self.new ≡ parent_of self.old }
-        ensures parts { same_parts self.old self.new };
+        requires { (tree : Tree) × stands self.old tree × (is_directory tree dir ≡ true) }
+        ensures value { (tree : Tree) → stands self.old tree → result ≡ parent_at tree dir }
+        ensures stands { (tree : Tree) → stands self.old tree → stands self.new tree }
+        ensures follows { follows self.old self.new }
+        ensures asked { asked self.old (AskParent dir) self.new };
 
-    ghost same_parts_on: { (a b c : Self) → same_parts a b → same_parts b c → same_parts a c };
-}
+    /// What it stands for is a tree: its root is a directory, what an entry names is in use, and a directory's parent is
+    /// a directory.
+    ghost stands_tree: { (a : Self) (tree : Tree) → stands a tree → IsTree tree };
 
-/// A tree in memory that has its root alone, with no name in it.
-#[derive(Clone, Copy, Debug, PartialEq, Eq)]
-pub struct RootAlone {
-    pub root: Inode,
-    ghost directory: { root.kind ≡ 2 },
-}
+    ghost follows_refl: { (a : Self) → follows a a };
 
-impl Dirs for RootAlone {
-    ghost node_at = { λ tree number. root_alone tree.root number };
-
-    ghost found = { λ _ _ _. None };
-
-    ghost parent_of = { λ _ _. 1 };
-
-    // It holds no lent part.
-    ghost same_parts = { λ _ _. Unit {0} };
-
-    ghost same_parts_on = { λ _ _ _ _ _. tt };
-
-    fn node(&mut self, _number: u32) -> Inode {
-        self.root
-    }
-
-    fn look(&mut self, _dir: u32, _name: &[u8]) -> Option<u32> {
-        None
-    }
-
-    fn parent(&mut self, _dir: u32) -> u32 {
-        1
-    }
+    ghost follows_trans: { (a b c : Self) → follows a b → follows b c → follows a c };
 }

@@ -8,14 +8,17 @@ mod blocks;
 mod dirs;
 mod disk_laws;
 mod laws;
+mod nodes;
 mod phases;
 mod said;
 #[cfg(test)]
 mod tests;
+mod tree_laws;
 mod turner;
+mod walked;
 
 pub use blocks::{BlockList, Blocks};
-pub use dirs::{Dirs, RootAlone};
+pub use dirs::Dirs;
 pub use disk_laws::{
     a_directory_has_32_bytes_for_each_entry, a_formatted_disk_is_sound, a_name_leads_to_one_node,
     a_sound_disk_has_a_table, bytes_of_a_disk_say_one_thing,
@@ -27,6 +30,9 @@ pub use laws::{
     something_can_be_taken, the_first_script_runs, the_generator_is_this_one,
     what_is_picked_is_enabled,
 };
+pub use nodes::{Listed, ListedNode, NodeList};
 pub use phases::Phase;
 pub use said::{AtTop, InProgram, Setting, Shape, Spoken, Stated, Word};
+pub use tree_laws::{a_closed_file_leaves_a_tree, a_name_goes_from_a_tree, a_new_root_is_a_tree, a_node_is_made_in_a_tree};
 pub use turner::{Turned, Turner};
+pub use walked::Walked;

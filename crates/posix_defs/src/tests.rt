@@ -1,9 +1,7 @@
 ghost use Rattle.std.specs.Prelude.{◌≡◌, ◌<◌, ◌≤◌, [], ◌∷◌, None, Some, IsSome, IfSome, length, slice_get};
 ghost use Rattle.posix_defs.specs.Asking.{AskedInTurn};
-ghost use Rattle.posix_defs.specs.Tree.{IsDirectory};
 
-use crate::{BlockList, Blocks, Dirs, RootAlone};
-use kabi_types::Inode;
+use crate::{BlockList, Blocks};
 use std::test::Fail;
 
 /// Writes a block of sevens and reads two blocks, through the trait alone.
@@ -43,25 +41,4 @@ fn blocks_are_written_one_by_one(rt: HostRuntime) -> Result<(), Fail> {
     assert!(rt; two.0 == [0; 1024]);
     assert!(rt; two.1 == [0; 1024]);
     Ok(())
-}
-
-/// What a tree has under a name of its root, and above its root.
-fn look_about<D: Dirs>(tree: &mut D) -> (Option<u32>, u32)
-    requires { IsDirectory (D.node_at tree.old 1) }
-{
-    (tree.look(1, b"bin"), tree.parent(1))
-}
-
-#[test]
-fn a_root_alone_has_no_names(rt: HostRuntime) {
-    let root = Inode {
-        kind: 2,
-        nlink: 1,
-        size: 64,
-        direct: [0; 10],
-        indirect: 0,
-    };
-    let mut tree = RootAlone { root };
-    assert_eq!(rt; look_about(&mut tree), (None, 1));
-    assert_eq!(rt; tree.node(1), root);
 }

@@ -1,0 +1,46 @@
+ghost use Rattle.std.specs.Prelude.{◌≡◌, ◌<◌, ◌∷◌, [], length, IfNone, IfSome};
+ghost use Rattle.std.specs.Str.{bytes_eq};
+ghost use Rattle.posix_defs.specs.DiskContents.{own_name, parent_name};
+ghost use Rattle.posix_defs.specs.Paths.{components, ends_in_slash, is_absolute};
+
+const SLASH: u8 = b'/';
+
+/// The first name of a path, and what stands behind it; None where the path has slashes alone.
+pub(crate) fn split_name(path: &[u8]) -> Option<(&[u8], &[u8])>
+    ensures none { IfNone result (components path.now ≡ []) }
+    ensures some { IfSome result (λ parts. components path.now ≡ parts.0.now ∷ components parts.1.now) }
+    ensures shorter { IfSome result (λ parts. length parts.1.now < length path.now) }
+{
+    let begin = path.iter().position(|byte| *byte != SLASH)?;
+    let rest = &path[begin..];
+    let end = rest.iter().position(|byte| *byte == SLASH).unwrap_or(rest.len());
+    Some(rest.split_at(end))
+}
+
+/// Whether a path begins at the root.
+pub(crate) fn begins_at_root(path: &[u8]) -> bool
+    ensures { result ≡ is_absolute path.now }
+{
+    path.first() == Some(&SLASH)
+}
+
+/// Whether a slash stands behind a path's last component.
+pub(crate) fn ends_at_slash(path: &[u8]) -> bool
+    ensures { result ≡ ends_in_slash path.now }
+{
+    path.last() == Some(&SLASH)
+}
+
+/// Whether a component is `.`.
+pub(crate) fn is_own(name: &[u8]) -> bool
+    ensures { result ≡ bytes_eq name.now own_name }
+{
+    name == b".".as_slice()
+}
+
+/// Whether a component is `..`.
+pub(crate) fn is_parent(name: &[u8]) -> bool
+    ensures { result ≡ bytes_eq name.now parent_name }
+{
+    name == b"..".as_slice()
+}

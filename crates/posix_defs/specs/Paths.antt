@@ -1,0 +1,78 @@
+-- Paths and what they lead to, by POSIX's pathname resolution.
+use Rattle.std.specs.Prelude.{ℕ, ◌<◌, ◌≤◌, ◌==◌, ◌&&◌, not, Bool, true, false, if◌then◌else◌, List, [], ◌∷◌, length, nat_lt, slice_index, ◌-◌, Option, None, Some, Result, Ok, Err}
+use Rattle.std.specs.List.{filter, list_any, slice_split}
+use Rattle.std.specs.Str.{bytes_eq}
+use Rattle.kabi_types.specs.declared.errnos.Errno.{Errno}
+use Rattle.kabi_types.specs.declared.errnos.Errno.TheVariants.{ENOENT, ENAMETOOLONG, ENOTDIR}
+use Rattle.posix_defs.specs.declared.walked.Walked.{Walked}
+use Rattle.posix_defs.specs.declared.walked.Walked.TheVariants as walked
+use Rattle.posix_defs.specs.DiskContents.{own_name, parent_name}
+use Rattle.posix_defs.specs.Tree.{Tree, root, is_directory, parent_at, found}
+
+abbrev pub is_slash : ℕ → Bool
+is_slash byte = byte == 47
+
+abbrev pub has_bytes : List ℕ → Bool
+has_bytes part = not (length part == 0)
+
+-- what stands between the slashes; slashes in a row count as one
+abbrev pub components : List ℕ → List (List ℕ)
+components path = filter has_bytes (slice_split is_slash path)
+
+abbrev pub is_long : List ℕ → Bool
+is_long component = nat_lt 27 (length component)
+
+abbrev pub path_fault : List ℕ → Option Errno
+path_fault path = if length path == 0 then Some ENOENT else (if list_any is_long (components path) then Some ENAMETOOLONG else None)
+
+-- the path begins at the root
+abbrev pub is_absolute : List ℕ → Bool
+is_absolute path = is_slash (slice_index path 0)
+
+-- a slash stands at the end
+abbrev pub ends_in_slash : List ℕ → Bool
+ends_in_slash path = is_slash (slice_index path (length path - 1))
+
+-- a directory among what was found: the way goes on there
+abbrev pub on_from : Tree → Option ℕ → Result ℕ Errno
+on_from tree None = Err ENOENT
+on_from tree (Some number) = if is_directory tree number then Ok number else Err ENOTDIR
+
+-- the directory that a component leads to from another, where a further one follows: `.` stays, `..` goes to the parent
+abbrev pub step : Tree → ℕ → List ℕ → Result ℕ Errno
+step tree dir name =
+    if bytes_eq name own_name then Ok dir
+    else if bytes_eq name parent_name then Ok (parent_at tree dir)
+    else on_from tree (found tree dir name)
+
+-- what the last name of a path leads to: a slash behind it asks for a directory, or for a name that is free
+abbrev pub name_leads : Tree → ℕ → List ℕ → Bool → Option ℕ → Walked
+name_leads tree dir name slashed None = walked.Free dir name slashed
+name_leads tree dir name slashed (Some number) =
+    if slashed && not (is_directory tree number) then walked.Fail ENOTDIR else walked.Named dir name number slashed
+
+-- what the last component leads to
+abbrev pub last_leads : Tree → ℕ → List ℕ → Bool → Walked
+last_leads tree dir name slashed =
+    if bytes_eq name own_name then walked.Node dir
+    else if bytes_eq name parent_name then walked.Node (parent_at tree dir)
+    else name_leads tree dir name slashed (found tree dir name)
+
+-- on with the directory that a component led to, or its fault
+abbrev pub go_on : Result ℕ Errno → (ℕ → Walked) → Walked
+go_on (Ok to) on = on to
+go_on (Err errno) on = walked.Fail errno
+
+-- what components lead to, one after another
+abbrev pub leads : Tree → Bool → ℕ → List (List ℕ) → Walked
+leads tree slashed dir [] = walked.Node dir
+leads tree slashed dir (name ∷ []) = last_leads tree dir name slashed
+leads tree slashed dir (name ∷ next ∷ names) = go_on (step tree dir name) (λ to. leads tree slashed to (next ∷ names))
+
+-- where a path begins
+abbrev pub begins_at : ℕ → List ℕ → ℕ
+begins_at start path = if is_absolute path then root else start
+
+-- what a path leads to from a working directory
+abbrev pub resolve : Tree → ℕ → List ℕ → Walked
+resolve tree start path = leads tree (ends_in_slash path) (begins_at start path) (components path)
