@@ -1,9 +1,26 @@
-ghost use Rattle.std.specs.Prelude.{◌≡◌, ◌<◌, ◌∷◌, [], length, IfNone, IfSome};
+ghost use Rattle.std.specs.Prelude.{◌≡◌, ◌<◌, ◌∷◌, [], not, length, IfNone, IfSome};
+ghost use Rattle.std.specs.List.{position};
 ghost use Rattle.std.specs.Str.{bytes_eq};
 ghost use Rattle.posix_defs.specs.DiskContents.{own_name, parent_name};
-ghost use Rattle.posix_defs.specs.Paths.{components, ends_in_slash, is_absolute};
+ghost use Rattle.posix_defs.specs.Paths.{components, ends_in_slash, is_absolute, is_slash};
 
 const SLASH: u8 = b'/';
+
+/// Where the first name of a path begins; None where the path has slashes alone.
+fn name_at(path: &[u8]) -> Option<usize>
+    ensures first { result ≡ position (λ byte. not (is_slash byte)) path.now }
+    ensures within { IfSome result (λ at. at < length path.now) }
+{
+    path.iter().position(|byte| *byte != SLASH)
+}
+
+/// Where the first slash stands.
+fn slash_at(path: &[u8]) -> Option<usize>
+    ensures first { result ≡ position is_slash path.now }
+    ensures within { IfSome result (λ at. at < length path.now) }
+{
+    path.iter().position(|byte| *byte == SLASH)
+}
 
 /// The first name of a path, and what stands behind it; None where the path has slashes alone.
 pub(crate) fn split_name(path: &[u8]) -> Option<(&[u8], &[u8])>
@@ -11,9 +28,9 @@ pub(crate) fn split_name(path: &[u8]) -> Option<(&[u8], &[u8])>
     ensures some { IfSome result (λ parts. components path.now ≡ parts.0.now ∷ components parts.1.now) }
     ensures shorter { IfSome result (λ parts. length parts.1.now < length path.now) }
 {
-    let begin = path.iter().position(|byte| *byte != SLASH)?;
+    let begin = name_at(path)?;
     let rest = &path[begin..];
-    let end = rest.iter().position(|byte| *byte == SLASH).unwrap_or(rest.len());
+    let end = slash_at(rest).unwrap_or(rest.len());
     Some(rest.split_at(end))
 }
 

@@ -253,3 +253,17 @@ renamed_are entries old new node are at is none =
               ]
           ]);
     }
+
+-- once an entry is taken out, no place has its name
+pub name_apart : (entries : List DirEntry) (name : List ℕ) (node : ℕ) → AreEntries entries → StandsAt entries name node → (k : ℕ) → k < length (entry_taken name entries)
+    → (get_or (entry_taken name entries) k no_entry).name ≢ name
+name_apart entries name node are at k within same =
+    let place : ℕ = place_of name entries in
+    let lt : k < length entries - 1 = omega (arith, within, length-taken entries name node at) in
+    let from = from_source entries place k at.within lt in
+    let off : source (length entries) place k ≢ place =
+        elim (cases_eq k place) [
+          | inl here ↦ λ e. omega (arith, here, lt, sym (ap (λ (b : Bool). cond b (length entries - 1) k) (eq-eqb k place here)) ∙ e)
+          | inr other ↦ λ e. other (sym (ap (λ (b : Bool). cond b (length entries - 1) k) (ne_eqb k place other)) ∙ e)
+        ] in
+    apart entries are.distinct (source (length entries) place k) place (source-lt (length entries) place k lt) at.within off (ap (λ (entry : DirEntry). entry.name) (sym from) ∙ same ∙ sym at.called)

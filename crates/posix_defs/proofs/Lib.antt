@@ -20,3 +20,5 @@ pub mod TreeSteps
 pub mod Climbing
 pub mod TreeKeeps
 pub mod NewTree
+pub mod TreeRenames
+pub mod FoundNames

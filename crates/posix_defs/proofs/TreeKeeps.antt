@@ -49,7 +49,7 @@ found_not_root tree dir name number is at =
     λ same. let none : names_of tree number ≡ 0 = ap (names_of tree) same ∙ root_unnamed tree is in omega (arith, none, found_named tree dir name number at)
 
 -- nothing is in an empty list
-none_among : (entry : DirEntry) (entries : List DirEntry) → entries ≡ [] → Contains entries entry → ⊥
+pub none_among : (entry : DirEntry) (entries : List DirEntry) → entries ≡ [] → Contains entries entry → ⊥
 none_among entry entries none among = let len : length entries ≡ 0 = ap length none in omega (arith, among.1, len)
 
 -- more bytes take no fewer blocks
@@ -151,7 +151,7 @@ unlink_keeps tree dir name number opened is at empty =
 -- ---- a new node
 
 -- an entry counts
-contained_counts : (entries : List DirEntry) (entry : DirEntry) → Contains entries entry → 0 < count_of entry.node entries
+pub contained_counts : (entries : List DirEntry) (entry : DirEntry) → Contains entries entry → 0 < count_of entry.node entries
 contained_counts entries entry among =
     let le = get_or-le-sum_by (λ e. cond (names_node entry.node e) 1 0) entries among.0 entry among.1 in
     let here : one_at (get_or entries among.0 entry).node entry.node ≡ 1 = ap (λ (e : DirEntry). one_at e.node entry.node) among.2 ∙ one_here entry.node entry.node refl in
@@ -201,11 +201,11 @@ climbs_free : (old new : Tree) (moved : ℕ) → ((m : ℕ) → is_directory new
 climbs_free old new moved keeps steps m is off at = (steps, climbed_off old new moved keeps steps m is off ∙ at)
 
 -- room for an entry, in blocks
-record Room (tree : Tree) (dir beside : ℕ) : Type 0 where
-  below : size_at tree dir < greatest_size
-  free : entry_growth tree dir + beside ≤ free_blocks tree
+pub record Room (tree : Tree) (dir beside : ℕ) : Type 0 where
+  pub below : size_at tree dir < greatest_size
+  pub free : entry_growth tree dir + beside ≤ free_blocks tree
 
-room_of : (tree : Tree) (dir beside : ℕ) → takes_entry tree dir beside ≡ true → Room tree dir beside
+pub room_of : (tree : Tree) (dir beside : ℕ) → takes_entry tree dir beside ≡ true → Room tree dir beside
 room_of tree dir beside takes =
     let both = and_parts (ltb (size_at tree dir) greatest_size) (leb (entry_growth tree dir + beside) (free_blocks tree)) takes in
     record { below = ltb-true (size_at tree dir) greatest_size both.0; free = leb-true (entry_growth tree dir + beside) (free_blocks tree) both.1 }

@@ -8,7 +8,7 @@ use Rattle.std.proofs.lemmas.Option.{same_Some, none-some}
 use Rattle.kabi_types.specs.declared.inodes.DirEntry.{DirEntry}
 use Rattle.posix_defs.specs.DiskFormat.{greatest_size, blocks_of}
 use Rattle.posix_defs.specs.Tree.{Content, File, Directory, SocketName, Node, Tree, root, node_at, with_node, is_in_use, is_directory, is_directory_in, is_directory_content, links_in, links_at, entries_of, entries_in, entries_at, parent_of, parent_in, parent_at, size_of, size_in, size_at, blocks_in, used_blocks}
-use Rattle.posix_defs.specs.TreeChanges.{with_content, with_entries_in, with_entries, left_of, left_in, link_dropped, link_added, under, hung, with_bytes_in, with_bytes, most_links}
+use Rattle.posix_defs.specs.TreeChanges.{with_content, with_entries_in, with_entries, left_of, left_in, link_dropped, link_added, under, hung, hung_if_directory, with_bytes_in, with_bytes, most_links}
 use Rattle.posix_defs.specs.IsTree.{AreEntries, IsContent, IsNode, named_in, names_of}
 use Rattle.posix_defs.proofs.TreeNodes.{IsNumber, is_number, directory_number, length-with_node, blocks-with_node, node_at-with_node, node_at-with_node_other, seen_same, summed, summed_same}
 use Rattle.posix_defs.proofs.EntryLists.{count_of, one_at}
@@ -254,3 +254,62 @@ same_directories tree number there is same_kind same_parent same_entries = recor
   entries = seen_same entries_in tree number there same_entries;
   names = λ k. summed_same (named_in k) tree number there is (ap (count_of k) same_entries);
 }
+
+-- ---- a directory that hangs elsewhere
+
+-- what another parent of a directory leaves; nothing changes where the node is none
+pub record Hung (old new : Tree) (number to : ℕ) : Type 0 where
+  pub blocks : new.blocks ≡ old.blocks
+  pub count : length new.nodes ≡ length old.nodes
+  pub links : (m : ℕ) → links_at new m ≡ links_at old m
+  pub directories : (m : ℕ) → is_directory new m ≡ is_directory old m
+  pub entries : (m : ℕ) → entries_at new m ≡ entries_at old m
+  pub names : (k : ℕ) → names_of new k ≡ names_of old k
+  pub used : used_blocks new ≡ used_blocks old
+  pub others : (m : ℕ) → m ≢ number → parent_at new m ≡ parent_at old m
+  pub here : is_directory new number ≡ true → parent_at new number ≡ to
+  pub nodes : AreNodes old → AreNodes new
+
+hung_node : (tree : Tree) (number to : ℕ) → is_directory tree number ≡ true
+    → hung tree number to ≡ with_node tree number (Some (record { links = links_at tree number; content = Directory to (entries_at tree number) }))
+hung_node tree number to is =
+    ap (λ (there : Option Node). with_node tree number (option_map {T = Node} (λ node. record node { content = under to node.content }) there)) (directory_is (node_at tree number) is)
+
+hung_there : (tree : Tree) (number to : ℕ) → is_directory tree number ≡ true → Hung tree (with_node tree number (Some (record { links = links_at tree number; content = Directory to (entries_at tree number) }))) number to
+hung_there tree number to is =
+    let node : Node = record { links = links_at tree number; content = Directory to (entries_at tree number) } in
+    let there : Option Node = Some node in
+    let at = directory_number tree number is in
+    let was = directory_is (node_at tree number) is in
+    record {
+      blocks = blocks-with_node tree number there;
+      count = length-with_node tree number there;
+      links = seen_same links_in tree number there refl;
+      directories = seen_same is_directory_in tree number there (sym is);
+      entries = seen_same entries_in tree number there refl;
+      names = λ k. summed_same (named_in k) tree number there at refl;
+      used = summed_same blocks_in tree number there at (sym (ap blocks_in was));
+      others = λ m other. ap parent_in (node_at-with_node_other tree number m there other);
+      here = λ _. ap parent_in (node_at-with_node tree number there at);
+      nodes = λ are. nodes-with_node tree number there are (λ n same.
+          let old : IsNode (record { links = links_at tree number; content = Directory (parent_at tree number) (entries_at tree number) }) = are number _ was in
+          subst IsNode (same_Some node n same) (record { content = old.content; size = old.size; links = old.links; single = λ _. old.single refl }));
+    }
+
+pub hung_is : (tree : Tree) (number to : ℕ) → Hung tree (hung_if_directory tree number to) number to
+hung_is tree number to =
+    elim (cases_Bool (is_directory tree number)) [
+      | inl is ↦ subst (λ (new : Tree). Hung tree new number to) (sym (cond-true (is_directory tree number) (hung tree number to) tree is ∙ hung_node tree number to is)) (hung_there tree number to is)
+      | inr not_dir ↦ subst (λ (new : Tree). Hung tree new number to) (sym (cond-false (is_directory tree number) (hung tree number to) tree not_dir)) (record {
+          blocks = refl;
+          count = refl;
+          links = λ m. refl;
+          directories = λ m. refl;
+          entries = λ m. refl;
+          names = λ k. refl;
+          used = refl;
+          others = λ m other. refl;
+          here = λ dir. absurd (false≢true (sym not_dir ∙ dir));
+          nodes = λ are. are;
+        })
+    ]

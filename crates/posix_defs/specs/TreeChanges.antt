@@ -1,5 +1,5 @@
 -- The changes of a tree, each as one function, and what the calls on files make of them.
-use Rattle.std.specs.Prelude.{ℕ, zero, suc, ◌+◌, ◌-◌, ◌==◌, not, ◌&&◌, ◌||◌, Bool, true, false, if◌then◌else◌, List, [], ◌∷◌, ◌++◌, length, take, slice_index_or, slice_set, nat_lt, nat_le, Option, None, Some, Result, Ok, Err}
+use Rattle.std.specs.Prelude.{ℕ, zero, suc, ◌+◌, ◌-◌, ◌==◌, ◌≡◌, not, ◌&&◌, ◌||◌, Bool, true, false, if◌then◌else◌, List, [], ◌∷◌, ◌++◌, length, take, slice_index_or, slice_set, nat_lt, nat_le, Option, None, Some, Result, Ok, Err}
 use Rattle.std.specs.List.{position_or_len, swap_remove}
 use Rattle.std.specs.Option.{option_map}
 use Rattle.kabi_types.specs.declared.errnos.Errno.{Errno}
@@ -8,7 +8,7 @@ use Rattle.kabi_types.specs.declared.inodes.DirEntry.{DirEntry}
 use Rattle.posix_defs.specs.DiskFormat.{greatest_size, blocks_of}
 use Rattle.posix_defs.specs.DiskContents.{entry_for}
 use Rattle.posix_defs.specs.FileBytes.{resized, overwritten, fitting}
-use Rattle.posix_defs.specs.Tree.{Content, File, Directory, SocketName, Node, Tree, node_at, with_node, has_name, entries_at, parent_at, links_at, size_at, size_of, free_blocks, free_node, is_directory}
+use Rattle.posix_defs.specs.Tree.{Content, File, Directory, SocketName, Node, Tree, node_at, with_node, has_name, entries_at, parent_at, links_at, size_at, size_of, free_blocks, free_node, is_directory, climbed}
 
 -- ---- one node
 
@@ -162,11 +162,15 @@ rename_to tree dir name number to new =
     if dir == to then with_entries tree dir (entry_renamed name new number)
     else hung_if_directory (with_entries (with_entries tree to (entry_put new number)) dir (entry_taken name)) number to
 
+-- a directory is the other one, or a way up by `..` leads from that one to it
+abbrev pub IsAtOrAbove : Tree → ℕ → ℕ → Type 0
+IsAtOrAbove tree dir other = (steps : ℕ) × (climbed tree steps other ≡ dir)
+
 -- from a directory, at most so many steps up by `..` lead to another one
 abbrev pub is_above : Tree → ℕ → ℕ → ℕ → Bool
 is_above tree zero dir at = at == dir
 is_above tree (suc more) dir at = at == dir || is_above tree more dir (parent_at tree at)
 
--- a directory is the other one, or above it
+-- the same as a test: no way up is longer than there are nodes
 abbrev pub is_at_or_above : Tree → ℕ → ℕ → Bool
 is_at_or_above tree dir other = is_above tree (length tree.nodes) dir other

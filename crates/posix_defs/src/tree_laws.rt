@@ -1,8 +1,8 @@
 //! Laws of the tree of files. Each is the contract of a function that does nothing.
 
-ghost use Rattle.std.specs.Prelude.{◌≡◌, ℕ, ◌≤◌, Bool, true, false, List, [], None, Some, Ok};
+ghost use Rattle.std.specs.Prelude.{◌≡◌, ◌≢◌, ℕ, ◌≤◌, Bool, true, false, List, [], None, Some, Ok};
 ghost use Rattle.posix_defs.specs.Tree.{Content, Tree, entries_at, found, is_directory, is_in_use, new_tree};
-ghost use Rattle.posix_defs.specs.TreeChanges.{closed, make, unlink};
+ghost use Rattle.posix_defs.specs.TreeChanges.{IsAtOrAbove, closed, make, rename_over, rename_to, takes_entry, unlink};
 ghost use Rattle.posix_defs.specs.IsTree.{IsEntryName, IsNewContent, IsTree};
 
 /// A node that is made under a new name leaves a tree.
@@ -26,4 +26,20 @@ pub fn a_new_root_is_a_tree()
 /// A file that is closed for the last time leaves a tree, whether it goes or has a name still.
 pub fn a_closed_file_leaves_a_tree()
     ensures { (tree : Tree) (number : ℕ) → IsTree tree → is_in_use tree number ≡ true → IsTree (closed tree number) }
+{}
+
+/// A rename over a name that is there leaves a tree. A directory that goes is empty, and none is moved below itself.
+pub fn a_rename_over_a_name_leaves_a_tree()
+    ensures { (tree : Tree) (dir : ℕ) (name : List ℕ) (number to : ℕ) (new : List ℕ) (replaced : ℕ) (opened : Bool) → IsTree tree
+        → found tree dir name ≡ Some number → found tree to new ≡ Some replaced → number ≢ replaced
+        → (is_directory tree replaced ≡ true → (entries_at tree replaced ≡ []) × (opened ≡ false))
+        → (is_directory tree number ≡ true → ¬ (IsAtOrAbove tree number to)) → IsTree (rename_over tree dir name number to new replaced opened) }
+{}
+
+/// A rename to a name that is missing leaves a tree, where there is room in the other directory and none is moved below
+/// itself.
+pub fn a_rename_to_a_new_name_leaves_a_tree()
+    ensures { (tree : Tree) (dir : ℕ) (name : List ℕ) (number to : ℕ) (new : List ℕ) → IsTree tree → found tree dir name ≡ Some number
+        → is_directory tree to ≡ true → found tree to new ≡ None → IsEntryName new → (dir ≢ to → takes_entry tree to 0 ≡ true)
+        → (is_directory tree number ≡ true → ¬ (IsAtOrAbove tree number to)) → IsTree (rename_to tree dir name number to new) }
 {}
