@@ -54,7 +54,7 @@ components-name rest pos =
     let len : length (take (end_of rest) rest) ≡ end_of rest = length-take-le (end_of rest) rest le in
     let is : has_bytes (take (end_of rest) rest) ≡ true = ap not (ne_eqb (length (take (end_of rest) rest)) 0 (λ none. omega (arith, len, pos, none))) in
     let kept : (parts : List (List ℕ)) → filter has_bytes (take (end_of rest) rest ∷ parts) ≡ take (end_of rest) rest ∷ filter has_bytes parts
-        = λ parts. cond-true (has_bytes (take (end_of rest) rest)) _ _ is in
+    = λ parts. cond-true (has_bytes (take (end_of rest) rest)) _ _ is in
     elim (cases_lt (end_of rest) (length rest)) [
       | inl lt ↦
           let byte : ℕ = get_or rest (end_of rest) 0 in
@@ -73,7 +73,7 @@ components-name rest pos =
 pub no_name : (path : List ℕ) → position (λ byte. not (is_slash byte)) path ≡ None → components path ≡ []
 no_name path at =
     components-slashes path (ltb-false (begin_of path) (length path) (false_from_ne_true (ltb (begin_of path) (length path)) (λ lt.
-        none-some (begin_of path) (sym at ∙ cond-true (ltb (begin_of path) (length path)) (Some (begin_of path)) None lt))))
+    none-some (begin_of path) (sym at ∙ cond-true (ltb (begin_of path) (length path)) (Some (begin_of path)) None lt))))
 
 -- a place that is found is the first, and within the list
 found_place : (p : ℕ → Bool) (xs : List ℕ) (at : ℕ) → position p xs ≡ Some at → (position_or_len p xs ≡ at) × (at < length xs)

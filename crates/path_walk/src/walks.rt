@@ -10,6 +10,7 @@ use kabi_types::{Errno, Name27};
 use posix_defs::{Dirs, Walked};
 
 const ROOT: u32 = 1;
+
 const DIRECTORY: u8 = 2;
 
 /// Where a path leads from a working directory: to a node, to a name with the directory that it stands in, there or free,

@@ -46,10 +46,10 @@ stands_at entries name node is =
     let at : option_map (λ entry. entry.node) (slice_get entries place) ≡ Some node = ap (option_map (λ entry. entry.node)) (sym (find_at (has_name name) entries)) ∙ is in
     elim (cases_lt place (length entries)) [
       | inl lt ↦ record {
-          within = lt;
-          aims = same_Some _ _ (ap (option_map (λ entry. entry.node)) (sym (slice_get-get_or entries place no_entry lt)) ∙ at);
-          called = same_name (get_or entries place no_entry) name (passes_at_first (has_name name) entries no_entry lt);
-        }
+        within = lt;
+        aims = same_Some _ _ (ap (option_map (λ entry. entry.node)) (sym (slice_get-get_or entries place no_entry lt)) ∙ at);
+        called = same_name (get_or entries place no_entry) name (passes_at_first (has_name name) entries no_entry lt);
+      }
       | inr past ↦ absurd (none-some node (ap (option_map (λ entry. entry.node)) (sym (slice_get_past entries place past)) ∙ at))
     ]
 
@@ -72,9 +72,9 @@ apart entries pairs i j i_in j_in other =
     elim (cases_order i j) [
       | inl same ↦ absurd (other same)
       | inr order ↦ elim order [
-          | inl lt ↦ pairs i j no_entry lt j_in
-          | inr gt ↦ λ e. pairs j i no_entry gt i_in (sym e)
-        ]
+        | inl lt ↦ pairs i j no_entry lt j_in
+        | inr gt ↦ λ e. pairs j i no_entry gt i_in (sym e)
+      ]
     ]
 
 -- pairs at the default that is asked are those at another within the list
@@ -126,10 +126,10 @@ from_source entries place k within lt =
     let last : DirEntry = get_or entries (length entries - 1) no_entry in
     get_or-take (length entries - 1) (set entries place last) k no_entry lt
     ∙ elim (cases_eq k place) [
-        | inl same ↦ ap (λ (n : ℕ). get_or (set entries place last) n no_entry) same ∙ get_or-set_same entries place last no_entry within
-            ∙ ap (λ (b : Bool). get_or entries (cond b (length entries - 1) k) no_entry) (sym (eq-eqb k place same))
-        | inr other ↦ get_or-set_other entries place k last no_entry other ∙ ap (λ (b : Bool). get_or entries (cond b (length entries - 1) k) no_entry) (sym (ne_eqb k place other))
-      ]
+      | inl same ↦ ap (λ (n : ℕ). get_or (set entries place last) n no_entry) same ∙ get_or-set_same entries place last no_entry within
+          ∙ ap (λ (b : Bool). get_or entries (cond b (length entries - 1) k) no_entry) (sym (eq-eqb k place same))
+      | inr other ↦ get_or-set_other entries place k last no_entry other ∙ ap (λ (b : Bool). get_or entries (cond b (length entries - 1) k) no_entry) (sym (ne_eqb k place other))
+    ]
 
 source-lt : (len place k : ℕ) → k < len - 1 → source len place k < len
 source-lt len place k lt = cond_both (eqb k place) (len - 1) k (λ (n : ℕ). n < len) (λ _. omega (arith, lt)) (λ _. omega (arith, lt))
@@ -175,7 +175,7 @@ taken_among entries name node entry at among =
     let k : ℕ = among.0 in
     let lt : k < length entries - 1 = omega (arith, among.1, length-taken entries name node at) in
     let is : get_or entries (source (length entries) place k) no_entry ≡ entry =
-        sym (from_source entries place k at.within lt) ∙ get_or_default (entry_taken name entries) k no_entry entry among.1 ∙ among.2 in
+    sym (from_source entries place k at.within lt) ∙ get_or_default (entry_taken name entries) k no_entry entry among.1 ∙ among.2 in
     subst (λ (e : DirEntry). Contains entries e) is (Contains-get_or entries (source (length entries) place k) no_entry (source-lt (length entries) place k lt))
 
 -- ---- an entry that changes in its place
@@ -239,7 +239,7 @@ renamed_are entries old new node are at is none =
     let name_of : DirEntry → List ℕ = λ e. e.name in
     let off : (k : ℕ) → k ≢ place → get_or changed k no_entry ≡ get_or entries k no_entry = λ k other. get_or-set_other entries place k entry no_entry other in
     let differs : (i j : ℕ) → j < length entries → i ≡ place → j ≢ place → name_of (get_or changed i no_entry) ≢ name_of (get_or changed j no_entry)
-        = λ i j j_in i_at j_off same. nowhere j j_in (ap name_of (sym (off j j_off)) ∙ sym same ∙ ap (λ (n : ℕ). name_of (get_or changed n no_entry)) i_at ∙ ap name_of here) in
+    = λ i j j_in i_at j_off same. nowhere j j_in (ap name_of (sym (off j j_off)) ∙ sym same ∙ ap (λ (n : ℕ). name_of (get_or changed n no_entry)) i_at ∙ ap name_of here) in
     record {
       names = All-set (λ e. IsEntryName e.name) entries place entry is are.names;
       distinct = pairs changed (λ i j i_in j_in other same.
@@ -248,9 +248,9 @@ renamed_are entries old new node are at is none =
           elim (cases_eq i place) [
             | inl i_at ↦ differs i j j_lt i_at (λ e. other (i_at ∙ sym e)) same
             | inr i_off ↦ elim (cases_eq j place) [
-                | inl j_at ↦ differs j i i_lt j_at i_off (sym same)
-                | inr j_off ↦ apart entries are.distinct i j i_lt j_lt other (ap name_of (sym (off i i_off)) ∙ same ∙ ap name_of (off j j_off))
-              ]
+              | inl j_at ↦ differs j i i_lt j_at i_off (sym same)
+              | inr j_off ↦ apart entries are.distinct i j i_lt j_lt other (ap name_of (sym (off i i_off)) ∙ same ∙ ap name_of (off j j_off))
+            ]
           ]);
     }
 
@@ -262,8 +262,8 @@ name_apart entries name node are at k within same =
     let lt : k < length entries - 1 = omega (arith, within, length-taken entries name node at) in
     let from = from_source entries place k at.within lt in
     let off : source (length entries) place k ≢ place =
-        elim (cases_eq k place) [
-          | inl here ↦ λ e. omega (arith, here, lt, sym (ap (λ (b : Bool). cond b (length entries - 1) k) (eq-eqb k place here)) ∙ e)
-          | inr other ↦ λ e. other (sym (ap (λ (b : Bool). cond b (length entries - 1) k) (ne_eqb k place other)) ∙ e)
-        ] in
+    elim (cases_eq k place) [
+      | inl here ↦ λ e. omega (arith, here, lt, sym (ap (λ (b : Bool). cond b (length entries - 1) k) (eq-eqb k place here)) ∙ e)
+      | inr other ↦ λ e. other (sym (ap (λ (b : Bool). cond b (length entries - 1) k) (ne_eqb k place other)) ∙ e)
+    ] in
     apart entries are.distinct (source (length entries) place k) place (source-lt (length entries) place k lt) at.within off (ap (λ (entry : DirEntry). entry.name) (sym from) ∙ same ∙ sym at.called)

@@ -28,8 +28,8 @@ pub found-put : (entries : List DirEntry) (name : List ℕ) (node : ℕ) → fou
 found-put entries name node none =
     let same : has_name name (entry_for node name) ≡ true = (bytes_eq-Decides name name).1 refl in
     ap (option_map (λ entry. entry.node)) (find-append (has_name name) entries (entry_for node name ∷ [])
-        ∙ ap (λ (o : Option DirEntry). option_or o (find (has_name name) (entry_for node name ∷ []))) (none_found entries name none)
-        ∙ cond-true (has_name name (entry_for node name)) (Some (entry_for node name)) None same)
+    ∙ ap (λ (o : Option DirEntry). option_or o (find (has_name name) (entry_for node name ∷ []))) (none_found entries name none)
+    ∙ cond-true (has_name name (entry_for node name)) (Some (entry_for node name)) None same)
 
 -- found by its place
 found_by_place : (entries : List DirEntry) (name : List ℕ) → place_of name entries < length entries → found_among entries name ≡ Some (get_or entries (place_of name entries) no_entry).node

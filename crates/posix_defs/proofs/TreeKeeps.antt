@@ -78,13 +78,13 @@ keeps_parent_unlinked tree between after dir number name is at listed dropped_li
     let dir_m : is_directory tree m ≡ true = sym (listed.directories m) ∙ was.0 in
     let up : ℕ = parent_at tree m in
     let up_stays : up ≢ number = λ same.
-        elim (cases_eq m root) [
-          | inl at_root ↦ found_not_root tree dir name number is at (sym same ∙ ap (parent_at tree) at_root ∙ is.root_parent)
-          | inr below ↦
-              let entry = parent_has_entry tree m is dir_m below in
-              let up_dir : is_directory tree number ≡ true = subst (λ (n : ℕ). is_directory tree n ≡ true) same (is.parents m dir_m) in
-              none_among entry.0 (entries_at tree up) (ap (entries_at tree) same ∙ empty up_dir) entry.1
-        ] in
+    elim (cases_eq m root) [
+      | inl at_root ↦ found_not_root tree dir name number is at (sym same ∙ ap (parent_at tree) at_root ∙ is.root_parent)
+      | inr below ↦
+          let entry = parent_has_entry tree m is dir_m below in
+          let up_dir : is_directory tree number ≡ true = subst (λ (n : ℕ). is_directory tree n ≡ true) same (is.parents m dir_m) in
+          none_among entry.0 (entries_at tree up) (ap (entries_at tree) same ∙ empty up_dir) entry.1
+    ] in
     record {
       same = ap parent_in (dropped_link.others m was.1) ∙ listed.parents m;
       directory = ap is_directory_in (dropped_link.others up up_stays) ∙ listed.directories up ∙ is.parents m dir_m;
@@ -118,12 +118,12 @@ unlink_tree tree between after dir number name is at listed dropped_link empty =
           let dir_then : is_directory tree entry.node ≡ true = sym (listed.directories entry.node) ∙ was.0 in
           let among_between : Contains (entries_at between d) entry = subst (λ (es : List DirEntry). Contains es entry) (dropped_link.entries d) among in
           let among_then : Contains (entries_at tree d) entry =
-              elim (cases_eq d dir) [
-                | inl same ↦
-                    let among_taken = subst (λ (es : List DirEntry). Contains es entry) (ap (entries_at between) same ∙ listed.here) among_between in
-                    subst (λ (n : ℕ). Contains (entries_at tree n) entry) (sym same) (taken_among entries name number entry stands among_taken)
-                | inr other ↦ subst (λ (es : List DirEntry). Contains es entry) (ap entries_in (listed.others d other)) among_between
-              ] in
+          elim (cases_eq d dir) [
+            | inl same ↦
+                let among_taken = subst (λ (es : List DirEntry). Contains es entry) (ap (entries_at between) same ∙ listed.here) among_between in
+                subst (λ (n : ℕ). Contains (entries_at tree n) entry) (sym same) (taken_among entries name number entry stands among_taken)
+            | inr other ↦ subst (λ (es : List DirEntry). Contains es entry) (ap entries_in (listed.others d other)) among_between
+          ] in
           (keeps entry.node stays).same ∙ is.below d entry among_then dir_then;
       climbs = λ m stays.
           let way = is.climbs m (sym (listed.directories m) ∙ (dropped_link.directories m stays).0) in
@@ -139,13 +139,13 @@ unlink_keeps tree dir name number opened is at empty =
     let listed = relisted tree dir (entry_taken name) is_dir in
     let between : Tree = with_entries tree dir (entry_taken name) in
     let are : AreNodes between = listed.nodes is.nodes (taken_are entries name number (entries_are tree dir is is_dir) stands)
-        (omega (arith, length-taken entries name number stands, entries_fit tree dir is is_dir)) in
+    (omega (arith, length-taken entries name number stands, entries_fit tree dir is is_dir)) in
     let linked : 0 < links_at between number = omega (arith, listed.links number, is.links number, found_named tree dir name number at) in
     let used : is_in_use between number ≡ true = linked_in_use (node_at between number) linked in
     let empty_between : is_directory between number ≡ true → (entries_at between number ≡ []) × (opened ≡ false) = λ dir_between.
-        let gone = empty (sym (listed.directories number) ∙ dir_between) in
-        let other : number ≢ dir = λ same. none-some number (sym (ap (λ (es : List DirEntry). found_among es name) (ap (entries_at tree) (sym same) ∙ gone.0)) ∙ at) in
-        (ap entries_in (listed.others number other) ∙ gone.0, gone.1) in
+    let gone = empty (sym (listed.directories number) ∙ dir_between) in
+    let other : number ≢ dir = λ same. none-some number (sym (ap (λ (es : List DirEntry). found_among es name) (ap (entries_at tree) (sym same) ∙ gone.0)) ∙ at) in
+    (ap entries_in (listed.others number other) ∙ gone.0, gone.1) in
     unlink_tree tree between (unlink tree dir name number opened) dir number name is at listed (dropped between number opened are used linked empty_between) (λ d. (empty d).0)
 
 -- ---- a new node
@@ -221,19 +221,19 @@ make_tree tree between after dir number name content is is_dir valid free_name n
     let stays : (m : ℕ) → is_directory tree m ≡ true → is_directory after m ≡ true = λ m at. was m (not_free m at) ∙ at in
     let up : (m : ℕ) → m ≢ number → parent_at after m ≡ parent_at tree m = λ m other. listed.parents m ∙ ap parent_in (add.others m other) in
     let hung : is_directory after number ≡ true → parent_at after number ≡ dir = λ at.
-        listed.parents number ∙ ap parent_in add.here ∙ new_parent dir content new (sym (ap is_directory_in add.here) ∙ sym (listed.directories number) ∙ at) in
+    listed.parents number ∙ ap parent_in add.here ∙ new_parent dir content new (sym (ap is_directory_in add.here) ∙ sym (listed.directories number) ∙ at) in
     let keeps : (m : ℕ) → is_directory after m ≡ true → m ≢ number → KeepsParent tree after m = λ m at other.
-        record { same = up m other; directory = stays (parent_at tree m) (is.parents m (sym (was m other) ∙ at)) } in
+    record { same = up m other; directory = stays (parent_at tree m) (is.parents m (sym (was m other) ∙ at)) } in
     let same_size : size_at between dir ≡ 32 * (length entries + 2) = listed.size ∙ ap (λ (es : List DirEntry). 32 * (length es + 2)) (add.entries dir) in
     let same_size_then : size_at tree dir ≡ size_at between dir = sym (ap size_in (add.others dir (not_free dir is_dir))) in
     let size : 32 * (length (entry_put name number entries) + 2) ≡ size_at tree dir + 32 = omega (arith, length-put entries name number, same_size, same_size_then) in
     let grown : blocks_of (32 * (length (entry_put name number entries) + 2)) ≡ blocks_of (size_at tree dir + 32) = ap blocks_of size in
     let before : blocks_of (size_at between dir) ≡ blocks_of (size_at tree dir) = ap blocks_of (sym same_size_then) in
     let old_entry : (d : ℕ) (entry : DirEntry) → Contains (entries_at tree d) entry → is_directory after entry.node ≡ true → parent_at after entry.node ≡ d = λ d entry among at.
-        let other : entry.node ≢ number = λ same.
-            let none : links_at tree entry.node ≡ 0 = ap (links_at tree) same ∙ ap links_in free in
-            omega (arith, none, entry_linked tree d entry is among) in
-        up entry.node other ∙ is.below d entry among (sym (was entry.node other) ∙ at) in
+    let other : entry.node ≢ number = λ same.
+    let none : links_at tree entry.node ≡ 0 = ap (links_at tree) same ∙ ap links_in free in
+    omega (arith, none, entry_linked tree d entry is among) in
+    up entry.node other ∙ is.below d entry among (sym (was entry.node other) ∙ at) in
     record {
       enough = subst (λ (n : ℕ). 16 ≤ n) (sym blocks) is.enough;
       most = subst (λ (n : ℕ). n ≤ 4096) (sym blocks) is.most;
@@ -242,7 +242,7 @@ make_tree tree between after dir number name content is is_dir valid free_name n
       nodes = listed.nodes (add.nodes is.nodes (new_is_node dir content new)) (put_are entries name number (entries_are tree dir is is_dir) valid free_name) (omega (arith, size, room.below, same_size, same_size_then));
       links = λ k.
           let listed_names : names_of after k + count_of k entries ≡ names_of between k + count_of k (entry_put name number entries) =
-              subst (λ (es : List DirEntry). names_of after k + count_of k es ≡ names_of between k + count_of k (entry_put name number entries)) (add.entries dir) (listed.names k) in
+          subst (λ (es : List DirEntry). names_of after k + count_of k es ≡ names_of between k + count_of k (entry_put name number entries)) (add.entries dir) (listed.names k) in
           omega (arith, is.links k, add.links k, listed.links k, add.names k, listed_names, count-put entries name number k);
       root_directory = stays root is.root_directory;
       root_parent = up root (not_free root is.root_directory) ∙ is.root_parent;
@@ -317,7 +317,7 @@ same_tree : (tree after : Tree) → IsTree tree → SameDirectories tree after �
 same_tree tree after is same links room are =
     let stays : (m : ℕ) → is_directory after m ≡ true → is_directory tree m ≡ true = λ m at. sym (same.directories m) ∙ at in
     let keeps : (m : ℕ) → is_directory after m ≡ true → KeepsParent tree after m = λ m at.
-        record { same = same.parents m; directory = same.directories (parent_at tree m) ∙ is.parents m (stays m at) } in
+    record { same = same.parents m; directory = same.directories (parent_at tree m) ∙ is.parents m (stays m at) } in
     record {
       enough = subst (λ (n : ℕ). 16 ≤ n) (sym same.blocks) is.enough;
       most = subst (λ (n : ℕ). n ≤ 4096) (sym same.blocks) is.most;

@@ -53,9 +53,9 @@ seen_same f tree (suc n) there same zero = refl
 seen_same f tree (suc n) there same (suc m) =
     elim (cases_eq m n) [
       | inl e ↦ elim (cases_lt n (length tree.nodes)) [
-          | inl lt ↦ ap (λ (k : ℕ). f (get_or (set tree.nodes n there) k None)) e ∙ ap f (get_or-set_same tree.nodes n there None lt) ∙ same ∙ ap (λ (k : ℕ). f (get_or tree.nodes k None)) (sym e)
-          | inr past ↦ ap (λ (nodes : List (Option Node)). f (get_or nodes m None)) (set_past tree.nodes n there past)
-        ]
+        | inl lt ↦ ap (λ (k : ℕ). f (get_or (set tree.nodes n there) k None)) e ∙ ap f (get_or-set_same tree.nodes n there None lt) ∙ same ∙ ap (λ (k : ℕ). f (get_or tree.nodes k None)) (sym e)
+        | inr past ↦ ap (λ (nodes : List (Option Node)). f (get_or nodes m None)) (set_past tree.nodes n there past)
+      ]
       | inr other ↦ ap f (get_or-set_other tree.nodes n m there None other)
     ]
 

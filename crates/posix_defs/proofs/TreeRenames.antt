@@ -49,12 +49,12 @@ keeps_parent_renamed tree after number to gone is renamed may m at other =
     let was = renamed.was m at in
     let up : ℕ = parent_at tree m in
     let up_stays : up ≢ gone = λ same.
-        elim (cases_eq m root) [
-          | inl at_root ↦ may.gone_not_root (sym same ∙ ap (parent_at tree) at_root ∙ is.root_parent)
-          | inr below ↦
-              let entry = parent_has_entry tree m is was.0 below in
-              none_among entry.0 (entries_at tree up) (ap (entries_at tree) same ∙ may.empty (subst (λ (n : ℕ). is_directory tree n ≡ true) same (is.parents m was.0))) entry.1
-        ] in
+    elim (cases_eq m root) [
+      | inl at_root ↦ may.gone_not_root (sym same ∙ ap (parent_at tree) at_root ∙ is.root_parent)
+      | inr below ↦
+          let entry = parent_has_entry tree m is was.0 below in
+          none_among entry.0 (entries_at tree up) (ap (entries_at tree) same ∙ may.empty (subst (λ (n : ℕ). is_directory tree n ≡ true) same (is.parents m was.0))) entry.1
+    ] in
     record { same = renamed.parents m at other; directory = renamed.stays up (is.parents m was.0) up_stays }
 
 rename_tree : (tree after : Tree) (number to gone : ℕ) → IsTree tree → Renamed tree after number to gone → MayRename tree number to gone → IsTree after
@@ -127,7 +127,7 @@ aimed_stands entries name new node replaced aim at at_new other =
     let same_place : place_of name changed ≡ place_of name entries = position_or_len-set (has_name name) entries place entry no_entry same_test in
     let off : place_of name entries ≢ place = λ e. other (sym at.aims ∙ ap (λ (k : ℕ). (get_or entries k no_entry).node) e ∙ at_new.aims) in
     let there : get_or changed (place_of name changed) no_entry ≡ get_or entries (place_of name entries) no_entry =
-        ap (λ (k : ℕ). get_or changed k no_entry) same_place ∙ get_or-set_other entries place (place_of name entries) entry no_entry off in
+    ap (λ (k : ℕ). get_or changed k no_entry) same_place ∙ get_or-set_other entries place (place_of name entries) entry no_entry off in
     record {
       within = omega (arith, same_place, length-set entries place entry, at.within);
       aims = ap (λ (e : DirEntry). e.node) there ∙ at.aims;
@@ -175,16 +175,28 @@ over_renamed tree t1 t2 t3 after dir to number replaced name new is at at_new ot
     let same_size : blocks_of (32 * (length (entry_aimed new number entries) + 2)) ≡ blocks_of (size_at tree to) = ap (λ (n : ℕ). blocks_of (32 * (n + 2))) len_aimed ∙ ap blocks_of (sym r1.size) in
     let smaller = blocks_of-le (32 * (length (entry_taken name list) + 2)) (size_at t2 dir) (omega (arith, len_taken, r3.size)) in
     let was : (m : ℕ) → is_directory after m ≡ true → (is_directory tree m ≡ true) × (m ≢ replaced) = λ m at_m.
-        let before = r2.directories m (sym (r3.directories m) ∙ sym (h.directories m) ∙ at_m) in
-        (sym (r1.directories m) ∙ before.0, before.1) in
+    let before = r2.directories m (sym (r3.directories m) ∙ sym (h.directories m) ∙ at_m) in
+    (sym (r1.directories m) ∙ before.0, before.1) in
     record {
       blocks = h.blocks ∙ r3.blocks ∙ r2.blocks ∙ r1.blocks;
       count = h.count ∙ r3.count ∙ r2.count ∙ r1.count;
       room = omega (arith, is.room, h.used, r3.used, smaller, r2.used, r1.used, same_size);
       nodes = h.nodes (r3.nodes (r2.nodes (r1.nodes is.nodes (aimed_are entries new replaced number (entries_are tree to is is_to) stands_new) (omega (arith, len_aimed, entries_fit tree to is is_to))))
           (taken_are list name number aimed.are aimed.stands) (omega (arith, len_taken, aimed.count, entries_fit tree dir is (found_in_directory tree dir name number at))));
-      links = λ k. omega (arith, is.links k, h.links k, h.names k, r3.links k, r3.names k, count-taken list name number k aimed.stands, r2.links k, r2.names k, r1.links k, r1.names k,
-          count-aimed entries new replaced number k stands_new);
+      links = λ k. omega (
+        arith,
+        is.links k,
+        h.links k,
+        h.names k,
+        r3.links k,
+        r3.names k,
+        count-taken list name number k aimed.stands,
+        r2.links k,
+        r2.names k,
+        r1.links k,
+        r1.names k,
+        count-aimed entries new replaced number k stands_new,
+      );
       was = was;
       stays = λ m at_m stays_m. h.directories m ∙ r3.directories m ∙ ap is_directory_in (r2.others m stays_m) ∙ r1.directories m ∙ at_m;
       parents = λ m at_m other_m. h.others m other_m ∙ r3.parents m ∙ ap parent_in (r2.others m (was m at_m).1) ∙ r1.parents m;
@@ -209,12 +221,15 @@ over_renamed tree t1 t2 t3 after dir to number replaced name new is at at_new ot
                 ]
             | inr apart ↦
                 let old : Contains (entries_at tree d) entry = subst (λ (es : List DirEntry). Contains es entry) (ap entries_in (r1.others d apart)) among1 in
-                inl (old, λ moved.
-                    let dir_number : is_directory tree number ≡ true = ap (is_directory tree) (sym moved) ∙ dir_entry in
-                    let here : d ≡ dir = sym (is.below d entry old dir_entry) ∙ ap (parent_at tree) moved ∙ parent_of_found tree dir name number is at dir_number in
-                    let list_is : list ≡ entries_at tree dir = r2.entries dir ∙ ap entries_in (r1.others dir (λ e. apart (here ∙ e))) in
-                    let taken : Contains (entry_taken name (entries_at tree dir)) entry = subst (λ (es : List DirEntry). Contains es entry) (ap (entries_at t3) here ∙ r3.here ∙ ap (entry_taken name) list_is) among3 in
-                    taken_once tree dir name number entry is at dir_number taken moved)
+                inl (
+                  old,
+                  λ moved.
+                      let dir_number : is_directory tree number ≡ true = ap (is_directory tree) (sym moved) ∙ dir_entry in
+                      let here : d ≡ dir = sym (is.below d entry old dir_entry) ∙ ap (parent_at tree) moved ∙ parent_of_found tree dir name number is at dir_number in
+                      let list_is : list ≡ entries_at tree dir = r2.entries dir ∙ ap entries_in (r1.others dir (λ e. apart (here ∙ e))) in
+                      let taken : Contains (entry_taken name (entries_at tree dir)) entry = subst (λ (es : List DirEntry). Contains es entry) (ap (entries_at t3) here ∙ r3.here ∙ ap (entry_taken name) list_is) among3 in
+                      taken_once tree dir name number entry is at dir_number taken moved,
+                )
           ];
     }
 
@@ -235,12 +250,12 @@ rename_over_keeps tree dir name number to new replaced opened is at at_new other
     let t1 : Tree = with_entries tree to (entry_aimed new number) in
     let r1 = relisted tree to (entry_aimed new number) is_to in
     let are1 : AreNodes t1 = r1.nodes is.nodes (aimed_are entries new replaced number (entries_are tree to is is_to) stands_new)
-        (omega (arith, length-set entries (place_of new entries) (entry_for number new), entries_fit tree to is is_to)) in
+    (omega (arith, length-set entries (place_of new entries) (entry_for number new), entries_fit tree to is is_to)) in
     let linked : 0 < links_at t1 replaced = omega (arith, r1.links replaced, is.links replaced, found_named tree to new replaced at_new) in
     let to_stays = not_gone tree to new replaced replaced at_new (λ d. (empty d).0) in
     let empty1 : is_directory t1 replaced ≡ true → (entries_at t1 replaced ≡ []) × (opened ≡ false) = λ dir1.
-        let gone = empty (sym (r1.directories replaced) ∙ dir1) in
-        (ap entries_in (r1.others replaced (λ e. to_stays (sym e))) ∙ gone.0, gone.1) in
+    let gone = empty (sym (r1.directories replaced) ∙ dir1) in
+    (ap entries_in (r1.others replaced (λ e. to_stays (sym e))) ∙ gone.0, gone.1) in
     let t2 : Tree = link_dropped t1 replaced opened in
     let r2 = dropped t1 replaced opened are1 (linked_in_use (node_at t1 replaced) linked) linked empty1 in
     let dir_stays = not_gone tree dir name number replaced at (λ d. (empty d).0) in
@@ -268,7 +283,7 @@ within_tree tree after dir number name new is at free valid r =
     let same_size : blocks_of (32 * (length (entry_renamed name new number entries) + 2)) ≡ blocks_of (size_at tree dir) = ap (λ (n : ℕ). blocks_of (32 * (n + 2))) len ∙ ap blocks_of (sym r.size) in
     let was : (m : ℕ) → is_directory after m ≡ true → is_directory tree m ≡ true = λ m at_m. sym (r.directories m) ∙ at_m in
     let keeps : (m : ℕ) → is_directory after m ≡ true → KeepsParent tree after m = λ m at_m.
-        record { same = r.parents m; directory = r.directories (parent_at tree m) ∙ is.parents m (was m at_m) } in
+    record { same = r.parents m; directory = r.directories (parent_at tree m) ∙ is.parents m (was m at_m) } in
     record {
       enough = subst (λ (n : ℕ). 16 ≤ n) (sym r.blocks) is.enough;
       most = subst (λ (n : ℕ). n ≤ 4096) (sym r.blocks) is.most;
@@ -328,20 +343,22 @@ moved_renamed tree t1 t2 after dir to number name new is at free valid apart is_
           elim (cases_eq d to) [
             | inl same ↦
                 let among1 : Contains (entry_put new number entries_to) entry =
-                    subst (λ (es : List DirEntry). Contains es entry) (ap (entries_at t2) same ∙ ap entries_in (r2.others to (λ e. apart (sym e))) ∙ r1.here) among2 in
+                subst (λ (es : List DirEntry). Contains es entry) (ap (entries_at t2) same ∙ ap entries_in (r2.others to (λ e. apart (sym e))) ∙ r1.here) among2 in
                 elim (cases_eq entry.node number) [
                   | inl moved ↦ inr (moved, same)
                   | inr unmoved ↦ elim (Contains-push_cases entries_to (entry_for number new) entry among1) [
-                      | inl old ↦ inl (subst (λ (n : ℕ). Contains (entries_at tree n) entry) (sym same) old, unmoved)
-                      | inr is_new ↦ absurd (unmoved (sym (ap (λ (e : DirEntry). e.node) is_new)))
-                    ]
+                    | inl old ↦ inl (subst (λ (n : ℕ). Contains (entries_at tree n) entry) (sym same) old, unmoved)
+                    | inr is_new ↦ absurd (unmoved (sym (ap (λ (e : DirEntry). e.node) is_new)))
+                  ]
                 ]
             | inr off_to ↦
                 elim (cases_eq d dir) [
                   | inl same ↦
                       let taken : Contains (entry_taken name entries) entry = subst (λ (es : List DirEntry). Contains es entry) (ap (entries_at t2) same ∙ r2_old.here) among2 in
-                      inl (subst (λ (n : ℕ). Contains (entries_at tree n) entry) (sym same) (taken_among entries name number entry stands taken),
-                          λ moved. taken_once tree dir name number entry is at (ap (is_directory tree) (sym moved) ∙ dir_entry) taken moved)
+                      inl (
+                        subst (λ (n : ℕ). Contains (entries_at tree n) entry) (sym same) (taken_among entries name number entry stands taken),
+                        λ moved. taken_once tree dir name number entry is at (ap (is_directory tree) (sym moved) ∙ dir_entry) taken moved,
+                      )
                   | inr off_dir ↦
                       let old : Contains (entries_at tree d) entry = subst (λ (es : List DirEntry). Contains es entry) (ap entries_in (r2.others d off_dir) ∙ ap entries_in (r1.others d off_to)) among2 in
                       inl (old, λ moved. off_dir (sym (is.below d entry old dir_entry) ∙ ap (parent_at tree) moved ∙ parent_of_found tree dir name number is at (ap (is_directory tree) (sym moved) ∙ dir_entry)))
@@ -366,11 +383,11 @@ rename_to_keeps tree dir name number to new is at is_to free valid takes off =
           let r2 = relisted t1 dir (entry_taken name) (r1.directories dir ∙ is_dir) in
           subst IsTree (sym (cond-false (eqb dir to) in_place moved (ne_eqb dir to apart)))
           (rename_tree tree moved number to 0 is (moved_renamed tree t1 t2 moved dir to number name new is at free valid apart is_to (room_of tree to 0 (takes apart)) r1 r2 (hung_is t2 number to)) (record {
-             number_not_root = found_not_root tree dir name number is at;
-             gone_not_root = λ e. omega (arith, e);
-             empty = λ none. absurd (false≢true none);
-             directory = is_to;
-             there = λ e. false≢true (ap (is_directory tree) (sym e) ∙ is_to);
-             off = off;
-           }))
+            number_not_root = found_not_root tree dir name number is at;
+            gone_not_root = λ e. omega (arith, e);
+            empty = λ none. absurd (false≢true none);
+            directory = is_to;
+            there = λ e. false≢true (ap (is_directory tree) (sym e) ∙ is_to);
+            off = off;
+          }))
     ]

@@ -170,15 +170,15 @@ dropped_at tree number opened node are is at linked empty =
           (dropped_to tree number None is (omega (arith, was)) entries refl refl (omega arith) (λ _ n e. absurd (none-some n e)))
       | inr stays ↦
           let no_dir : is_directory_content node.content ≡ false =
-              elim (cases_Bool (is_directory_content node.content)) [
-                | inl dir ↦ absurd (false≢true (sym stays ∙ and_from (eqb node.links 1) (not opened) (eq-eqb node.links 1 (valid.single dir)) (not_from_false opened (empty dir).1)))
-                | inr not_dir ↦ not_dir
-              ] in
+          elim (cases_Bool (is_directory_content node.content)) [
+            | inl dir ↦ absurd (false≢true (sym stays ∙ and_from (eqb node.links 1) (not opened) (eq-eqb node.links 1 (valid.single dir)) (not_from_false opened (empty dir).1)))
+            | inr not_dir ↦ not_dir
+          ] in
           let was : links_at tree number ≡ node.links = ap links_in at in
           let same_blocks : blocks_in (Some fewer) ≡ blocks_in (node_at tree number) = sym (ap blocks_in at) in
           subst (λ (there : Option Node). Dropped tree (with_node tree number there) number) (sym (cond-false last None (Some fewer) stays))
           (dropped_to tree number (Some fewer) is (omega (arith, was, linked)) entries (no_entries node.content no_dir) no_dir (omega (arith, same_blocks)) (λ _ n e.
-              subst IsNode (same_Some fewer n e) (record { content = valid.content; size = valid.size; links = omega (arith, valid.links); single = λ dir. absurd (false≢true (sym no_dir ∙ dir)) })))
+          subst IsNode (same_Some fewer n e) (record { content = valid.content; size = valid.size; links = omega (arith, valid.links); single = λ dir. absurd (false≢true (sym no_dir ∙ dir)) })))
     ]
 
 -- a node in use with a link loses one; a directory is empty, and no description keeps it
@@ -189,7 +189,7 @@ dropped tree number opened are used linked empty =
     let at = node.1 in
     subst (λ (there : Option Node). Dropped tree (with_node tree number (left_in opened there)) number) (sym at)
     (dropped_at tree number opened node.0 are (is_number tree number used) at (subst (λ (there : Option Node). 0 < links_in there) at linked)
-     (subst (λ (there : Option Node). is_directory_in there ≡ true → (entries_in there ≡ []) × (opened ≡ false)) at empty))
+    (subst (λ (there : Option Node). is_directory_in there ≡ true → (entries_in there ≡ []) × (opened ≡ false)) at empty))
 
 -- ---- a new node
 
@@ -301,15 +301,15 @@ hung_is tree number to =
     elim (cases_Bool (is_directory tree number)) [
       | inl is ↦ subst (λ (new : Tree). Hung tree new number to) (sym (cond-true (is_directory tree number) (hung tree number to) tree is ∙ hung_node tree number to is)) (hung_there tree number to is)
       | inr not_dir ↦ subst (λ (new : Tree). Hung tree new number to) (sym (cond-false (is_directory tree number) (hung tree number to) tree not_dir)) (record {
-          blocks = refl;
-          count = refl;
-          links = λ m. refl;
-          directories = λ m. refl;
-          entries = λ m. refl;
-          names = λ k. refl;
-          used = refl;
-          others = λ m other. refl;
-          here = λ dir. absurd (false≢true (sym not_dir ∙ dir));
-          nodes = λ are. are;
-        })
+        blocks = refl;
+        count = refl;
+        links = λ m. refl;
+        directories = λ m. refl;
+        entries = λ m. refl;
+        names = λ k. refl;
+        used = refl;
+        others = λ m other. refl;
+        here = λ dir. absurd (false≢true (sym not_dir ∙ dir));
+        nodes = λ are. are;
+      })
     ]

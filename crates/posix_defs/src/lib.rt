@@ -33,6 +33,10 @@ pub use laws::{
 pub use nodes::{Listed, ListedNode, NodeList};
 pub use phases::Phase;
 pub use said::{AtTop, InProgram, Setting, Shape, Spoken, Stated, Word};
-pub use tree_laws::{a_closed_file_leaves_a_tree, a_name_goes_from_a_tree, a_new_root_is_a_tree, a_node_is_made_in_a_tree, a_rename_over_a_name_leaves_a_tree, a_rename_to_a_new_name_leaves_a_tree};
+pub use tree_laws::{
+    a_closed_file_leaves_a_tree, a_name_goes_from_a_tree, a_new_root_is_a_tree,
+    a_node_is_made_in_a_tree, a_rename_over_a_name_leaves_a_tree,
+    a_rename_to_a_new_name_leaves_a_tree,
+};
 pub use turner::{Turned, Turner};
 pub use walked::Walked;

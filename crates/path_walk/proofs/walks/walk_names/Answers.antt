@@ -29,8 +29,8 @@ loop-next-preserved g c =
           let step_is : step tree c.loop-next.dir c.loop-next.name.now ≡ Ok c.in-Ok.to = sym (c.in-Ok.ensures.value tree (inv.stands tree st)) in
           let behind : List Query = asks tree c.args.slash c.in-Ok.to (c.in-Some.next.now ∷ components c.in-Some.further.now) in
           let all : asks tree c.args.slash c.loop-next.dir (c.loop-next.name.now ∷ components c.loop-next.rest.now) ≡ component_asks tree c.loop-next.dir c.loop-next.name.now true ++ behind =
-              ap (λ (names : List (List ℕ)). asks tree c.args.slash c.loop-next.dir (c.loop-next.name.now ∷ names)) parts
-              ∙ asks_on tree c.args.slash c.loop-next.dir c.in-Ok.to c.loop-next.name.now c.in-Some.next.now (components c.in-Some.further.now) step_is in
+          ap (λ (names : List (List ℕ)). asks tree c.args.slash c.loop-next.dir (c.loop-next.name.now ∷ names)) parts
+          ∙ asks_on tree c.args.slash c.loop-next.dir c.in-Ok.to c.loop-next.name.now c.in-Some.next.now (components c.in-Some.further.now) step_is in
           inv.asked tree st after (subst (λ (queries : List Query). AskedInTurn d.asked c.loop-next.d queries after) (sym all)
-              (asked_append d.asked c.loop-next.d c.enter.new.d after (component_asks tree c.loop-next.dir c.loop-next.name.now true) behind (c.in-Ok.ensures.asked tree (inv.stands tree st)) rest));
+          (asked_append d.asked c.loop-next.d c.enter.new.d after (component_asks tree c.loop-next.dir c.loop-next.name.now true) behind (c.in-Ok.ensures.asked tree (inv.stands tree st)) rest));
     }
