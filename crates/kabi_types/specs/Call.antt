@@ -1,4 +1,5 @@
 -- What kind a call is of.
+use Rattle.std.specs.Prelude.{List, [], ◌∷◌}
 use Rattle.kabi_types.specs.declared.calls.Call.{Call}
 use Rattle.kabi_types.specs.declared.calls.Call.TheVariants as call
 use Rattle.kabi_types.specs.declared.calls.CallKind.{CallKind}
@@ -47,3 +48,13 @@ kind_of (call.Connect _ _) = kind.Connect
 kind_of (call.Accept _) = kind.Accept
 kind_of (call.Shutdown _ _) = kind.Shutdown
 kind_of (call.Poll _ _) = kind.Poll
+
+-- every call, in the order of `Call`
+abbrev pub all_kinds : List CallKind
+all_kinds =
+    kind.Getpid ∷ kind.Getppid ∷ kind.SchedYield ∷ kind.Fork ∷ kind.Exec ∷ kind.Exit ∷ kind.Waitpid ∷ kind.Kill
+    ∷ kind.Mmap ∷ kind.Munmap ∷ kind.Store ∷ kind.Load ∷ kind.OpenFile ∷ kind.Close ∷ kind.Dup ∷ kind.Dup2
+    ∷ kind.Fcntl ∷ kind.Read ∷ kind.Write ∷ kind.Pread ∷ kind.Pwrite ∷ kind.Lseek ∷ kind.Readdir ∷ kind.Ftruncate
+    ∷ kind.Fstat ∷ kind.Stat ∷ kind.Chdir ∷ kind.Mkdir ∷ kind.Rmdir ∷ kind.Unlink ∷ kind.Link ∷ kind.Rename
+    ∷ kind.Pipe ∷ kind.Socket ∷ kind.Socketpair ∷ kind.Bind ∷ kind.Listen ∷ kind.Connect ∷ kind.Accept ∷ kind.Shutdown
+    ∷ kind.Poll ∷ []

@@ -2,6 +2,8 @@ pub mod Call
 pub mod Class
 pub mod Errno
 pub mod OpenFlags
+pub mod PathParts
+pub mod Arguments
 pub mod Packed
 pub mod Reply
 pub mod Words

@@ -1,5 +1,5 @@
 -- Which numbers are flags of `open`.
-use Rattle.std.specs.Prelude.{ℕ, ℤ, pos, negsuc, ◌+◌, ◌≡◌, ◌≢◌}
+use Rattle.std.specs.Prelude.{ℕ, ℤ, pos, negsuc, ◌+◌, Bool, false, not, ◌&&◌, ◌==◌}
 use Rattle.std.specs.Int.RustNames.{bit_and}
 use Rattle.kabi_types.specs.declared.open_flags.OpenFlags.{OpenFlags}
 
@@ -12,6 +12,6 @@ abbrev pub known_flags : ℕ
 known_flags = 3 + 64 + 128 + 512 + 1024 + 2048 + 524288
 
 -- no bit is unknown, and the access mode isn't 3
-abbrev pub AreOpenFlags : ℤ → Type 0
-AreOpenFlags (pos bits) = (bit_and bits known_flags ≡ bits) × (bit_and bits 3 ≢ 3)
-AreOpenFlags (negsuc _) = ⊥
+abbrev pub are_open_flags : ℤ → Bool
+are_open_flags (pos bits) = (bit_and bits known_flags == bits) && not (bit_and bits 3 == 3)
+are_open_flags (negsuc _) = false

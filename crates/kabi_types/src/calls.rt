@@ -202,6 +202,53 @@ pub enum CallKind {
     Poll,
 }
 
+impl CallKind {
+    /// Every call, in the order of `Call`.
+    pub const ALL: [CallKind; 41] = [
+        CallKind::Getpid,
+        CallKind::Getppid,
+        CallKind::SchedYield,
+        CallKind::Fork,
+        CallKind::Exec,
+        CallKind::Exit,
+        CallKind::Waitpid,
+        CallKind::Kill,
+        CallKind::Mmap,
+        CallKind::Munmap,
+        CallKind::Store,
+        CallKind::Load,
+        CallKind::OpenFile,
+        CallKind::Close,
+        CallKind::Dup,
+        CallKind::Dup2,
+        CallKind::Fcntl,
+        CallKind::Read,
+        CallKind::Write,
+        CallKind::Pread,
+        CallKind::Pwrite,
+        CallKind::Lseek,
+        CallKind::Readdir,
+        CallKind::Ftruncate,
+        CallKind::Fstat,
+        CallKind::Stat,
+        CallKind::Chdir,
+        CallKind::Mkdir,
+        CallKind::Rmdir,
+        CallKind::Unlink,
+        CallKind::Link,
+        CallKind::Rename,
+        CallKind::Pipe,
+        CallKind::Socket,
+        CallKind::Socketpair,
+        CallKind::Bind,
+        CallKind::Listen,
+        CallKind::Connect,
+        CallKind::Accept,
+        CallKind::Shutdown,
+        CallKind::Poll,
+    ];
+}
+
 impl Call {
     ghost use Rattle.kabi_types.specs.Call.{kind_of};
 

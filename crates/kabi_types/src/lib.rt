@@ -3,14 +3,18 @@
 //! Nothing here does anything yet. Each list type is seen by contracts as its list.
 #![tactic(auto)]
 
+mod arguments;
 mod calls;
 mod classes;
+mod copies;
 mod entries;
 mod errnos;
 mod inodes;
+mod laws;
 mod long_lists;
 mod memory;
 mod open_flags;
+mod paths;
 mod replies;
 mod scripts;
 mod short_lists;
@@ -21,6 +25,7 @@ pub use classes::{Class, Need, Weight};
 pub use entries::{Cached, End, Entry, Event, Noted};
 pub use errnos::Errno;
 pub use inodes::{DirEntry, Inode};
+pub use laws::every_call_is_listed;
 pub use long_lists::{Entries, Numbers, Operands, Programs, Statements, Text, Texts};
 pub use memory::Memory;
 pub use open_flags::OpenFlags;

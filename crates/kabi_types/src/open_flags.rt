@@ -1,4 +1,4 @@
-ghost use Rattle.std.specs.Prelude.{⊤, ◌≡◌, ◌↔◌, [], ◌∷◌, codes, pos, IsSome, IfSome};
+ghost use Rattle.std.specs.Prelude.{⊤, ◌≡◌, [], ◌∷◌, codes, pos, is_some, IfSome};
 
 use bitflags::{Flag, Flags, bitflag_items};
 
@@ -43,13 +43,13 @@ impl Flags for OpenFlags {
 }
 
 impl OpenFlags {
-    ghost use Rattle.kabi_types.specs.OpenFlags.{AreOpenFlags, bits_of};
+    ghost use Rattle.kabi_types.specs.OpenFlags.{are_open_flags, bits_of};
 
     /// The flags that a script's number stands for; None for a bit that is no flag's, and for access mode 3, which is no mode.
     /// See `open` in POSIX.1-2017.
     #[tactic(auto, unfolding(bitflags::specs::Sets::known_from))]
     pub fn of(flags: i64) -> Option<OpenFlags>
-        ensures known { IsSome result ↔ AreOpenFlags flags }
+        ensures known { is_some result ≡ are_open_flags flags }
         ensures same { IfSome result (λ found. pos (bits_of found) ≡ flags) }
     {
         let bits = u32::try_from(flags).ok()?;

@@ -7,44 +7,50 @@ use bitflags::Flags;
 use std::process::Abort;
 use std::test::Fail;
 
+mod arguments;
+mod copies;
+
+const NUMBERS: &[(Errno, u8)] = &[
+    (Errno::EPERM, 1),
+    (Errno::ENOENT, 2),
+    (Errno::ESRCH, 3),
+    (Errno::ENOEXEC, 8),
+    (Errno::EBADF, 9),
+    (Errno::ECHILD, 10),
+    (Errno::EAGAIN, 11),
+    (Errno::ENOMEM, 12),
+    (Errno::EACCES, 13),
+    (Errno::EFAULT, 14),
+    (Errno::EBUSY, 16),
+    (Errno::EEXIST, 17),
+    (Errno::ENOTDIR, 20),
+    (Errno::EISDIR, 21),
+    (Errno::EINVAL, 22),
+    (Errno::EMFILE, 24),
+    (Errno::EFBIG, 27),
+    (Errno::ENOSPC, 28),
+    (Errno::ESPIPE, 29),
+    (Errno::EMLINK, 31),
+    (Errno::EPIPE, 32),
+    (Errno::ENAMETOOLONG, 36),
+    (Errno::ENOTEMPTY, 39),
+    (Errno::EOVERFLOW, 75),
+    (Errno::ENOTSOCK, 88),
+    (Errno::EDESTADDRREQ, 89),
+    (Errno::EOPNOTSUPP, 95),
+    (Errno::EADDRINUSE, 98),
+    (Errno::EISCONN, 106),
+    (Errno::ENOTCONN, 107),
+    (Errno::ECONNREFUSED, 111),
+];
+
 #[test]
 fn errnos_have_their_numbers(rt: HostRuntime) {
-    let rows = [
-        (Errno::EPERM, 1),
-        (Errno::ENOENT, 2),
-        (Errno::ESRCH, 3),
-        (Errno::ENOEXEC, 8),
-        (Errno::EBADF, 9),
-        (Errno::ECHILD, 10),
-        (Errno::EAGAIN, 11),
-        (Errno::ENOMEM, 12),
-        (Errno::EACCES, 13),
-        (Errno::EFAULT, 14),
-        (Errno::EBUSY, 16),
-        (Errno::EEXIST, 17),
-        (Errno::ENOTDIR, 20),
-        (Errno::EISDIR, 21),
-        (Errno::EINVAL, 22),
-        (Errno::EMFILE, 24),
-        (Errno::EFBIG, 27),
-        (Errno::ENOSPC, 28),
-        (Errno::ESPIPE, 29),
-        (Errno::EMLINK, 31),
-        (Errno::EPIPE, 32),
-        (Errno::ENAMETOOLONG, 36),
-        (Errno::ENOTEMPTY, 39),
-        (Errno::EOVERFLOW, 75),
-        (Errno::ENOTSOCK, 88),
-        (Errno::EDESTADDRREQ, 89),
-        (Errno::EOPNOTSUPP, 95),
-        (Errno::EADDRINUSE, 98),
-        (Errno::EISCONN, 106),
-        (Errno::ENOTCONN, 107),
-        (Errno::ECONNREFUSED, 111),
-    ];
-    for (errno, number) in rows {
-        assert_eq!(rt; errno.number(), number, "{errno:?}");
-        assert_eq!(rt; Reply::Fail(errno).first(), -i64::from(number), "{errno:?}");
+    for (errno, number) in NUMBERS {
+        assert!(rt;
+            errno.number() == *number && Reply::Fail(*errno).first() == -i64::from(*number),
+            "{errno:?}"
+        );
     }
 }
 
@@ -57,79 +63,89 @@ fn bytes(rt: &impl Abort, bytes: &[u8]) -> Reply {
     Reply::Bytes(Bytes64::of(bytes).expect(rt, "at most 64"))
 }
 
+fn has_values(rt: &impl Abort, reply: &Reply, first: i64, second: i64) {
+    assert!(rt;
+        reply.first() == first && reply.second() == second && reply.copy() == *reply,
+        "{reply:?}"
+    );
+}
+
+const INFO: StatInfo = StatInfo {
+    kind: NodeKind::File,
+    number: 5,
+    nlink: 2,
+    size: 272384,
+};
+
 #[test]
 fn replies_have_two_values(rt: HostRuntime) {
-    let info = StatInfo {
-        kind: NodeKind::File,
-        number: 5,
-        nlink: 2,
-        size: 272384,
-    };
     let rows = [
         (Reply::Val(-7), -7, 0),
         (Reply::Val(9223372036854775807), 9223372036854775807, 0),
         (Reply::Pair(3, 4294967295), 3, 4294967295),
-        (Reply::Stat(info), 5, 272384),
+        (Reply::Stat(INFO), 5, 272384),
         (Reply::Waited(2, 1792), 2, 1792),
         (Reply::Waited(4294967295, 9), 4294967295, 9),
-        (polled(&rt, 0, &[]), 0, 0),
-        (polled(&rt, 2, &[1, 0, 32]), 2, 2097153),
-        (
-            polled(&rt, 8, &[1, 2, 3, 4, 5, 6, 7, 8]),
-            8,
-            578437695752307201,
-        ),
-        (
-            polled(&rt, 1, &[0, 0, 0, 0, 0, 0, 0, 128]),
-            1,
-            -9223372036854775808,
-        ),
-        (
-            polled(&rt, 8, &[255, 255, 255, 255, 255, 255, 255, 255]),
-            8,
-            -1,
-        ),
-        (bytes(&rt, &[]), 0, 0),
-        (bytes(&rt, &[200, 1]), 200, 0),
         (Reply::Fail(Errno::EPERM), -1, 0),
         (Reply::Fail(Errno::ECONNREFUSED), -111, 0),
     ];
-    for (reply, first, second) in rows {
-        assert_eq!(rt; reply.first(), first, "{reply:?}");
-        assert_eq!(rt; reply.second(), second, "{reply:?}");
-        assert_eq!(rt; reply.copy(), reply);
+    for (reply, first, second) in &rows {
+        has_values(&rt, reply, *first, *second);
     }
 }
 
+const POLLED: &[(u32, &[u8], i64)] = &[
+    (0, &[], 0),
+    (2, &[1, 0, 32], 2097153),
+    (8, &[1, 2, 3, 4, 5, 6, 7, 8], 578437695752307201),
+    (1, &[0, 0, 0, 0, 0, 0, 0, 128], -9223372036854775808),
+    (8, &[255, 255, 255, 255, 255, 255, 255, 255], -1),
+];
+
+const BYTES: &[(&[u8], i64)] = &[(&[], 0), (&[200, 1], 200)];
+
+#[test]
+fn replies_of_lists_have_two_values(rt: HostRuntime) {
+    for (hits, events, second) in POLLED {
+        has_values(&rt, &polled(&rt, *hits, events), i64::from(*hits), *second);
+    }
+    for (given, first) in BYTES {
+        has_values(&rt, &bytes(&rt, given), *first, 0);
+    }
+}
+
+const FLAGS: &[i64] = &[0, 1, 2, 64, 65, 128, 512, 1024, 2048, 524288, 528066];
+
+const NO_FLAGS: &[i64] = &[
+    3,
+    67,
+    528067,
+    4,
+    8,
+    16,
+    32,
+    256,
+    4096,
+    262144,
+    1048576,
+    524292,
+    2147483648,
+    4294967296,
+    4294967297,
+    -1,
+    -524288,
+    9223372036854775807,
+    -9223372036854775808,
+];
+
 #[test]
 fn open_flags_are_the_known_bits(rt: HostRuntime) {
-    for flags in [0, 1, 2, 64, 65, 128, 512, 1024, 2048, 524288, 528066] {
-        let found = OpenFlags::of(flags).map(|found| i64::from(found.bits()));
-        assert_eq!(rt; found, Some(flags), "{flags}");
+    for flags in FLAGS {
+        let found = OpenFlags::of(*flags).map(|found| i64::from(found.bits()));
+        assert!(rt; found == Some(*flags), "{flags}");
     }
-    let refused = [
-        3,
-        67,
-        528067,
-        4,
-        8,
-        16,
-        32,
-        256,
-        4096,
-        262144,
-        1048576,
-        524292,
-        2147483648,
-        4294967296,
-        4294967297,
-        -1,
-        -524288,
-        9223372036854775807,
-        -9223372036854775808,
-    ];
-    for flags in refused {
-        assert!(rt; OpenFlags::of(flags).is_none(), "{flags}");
+    for flags in NO_FLAGS {
+        assert!(rt; OpenFlags::of(*flags).is_none(), "{flags}");
     }
 }
 
@@ -145,32 +161,32 @@ fn counted<const N: usize>() -> [u8; N] {
 fn short_lists_take_their_capacity(rt: HostRuntime) {
     let bytes = counted::<255>();
     let path = Path::of(&bytes).expect(&rt, "255 bytes");
-    assert_eq!(rt; path.items(), bytes.as_slice());
-    assert_eq!(rt; path.copy(), path);
+    assert!(rt; path.items() == bytes.as_slice());
+    assert!(rt; path.copy() == path);
     assert!(rt; Path::of(&counted::<256>()).is_none());
 
     let bytes = counted::<64>();
     let stored = Bytes64::of(&bytes).expect(&rt, "64 bytes");
-    assert_eq!(rt; stored.items(), bytes.as_slice());
-    assert_eq!(rt; stored.copy(), stored);
+    assert!(rt; stored.items() == bytes.as_slice());
+    assert!(rt; stored.copy() == stored);
     assert!(rt; Bytes64::of(&counted::<65>()).is_none());
 
     let bytes = counted::<27>();
     let name = Name27::of(&bytes).expect(&rt, "27 bytes");
-    assert_eq!(rt; name.items(), bytes.as_slice());
-    assert_eq!(rt; name.copy(), name);
+    assert!(rt; name.items() == bytes.as_slice());
+    assert!(rt; name.copy() == name);
     assert!(rt; Name27::of(&counted::<28>()).is_none());
 
     let bytes = counted::<8>();
     let revents = Revents::of(&bytes).expect(&rt, "8 sets of events");
-    assert_eq!(rt; revents.items(), bytes.as_slice());
-    assert_eq!(rt; revents.copy(), revents);
+    assert!(rt; revents.items() == bytes.as_slice());
+    assert!(rt; revents.copy() == revents);
     assert!(rt; Revents::of(&counted::<9>()).is_none());
 
     let asked = counted::<8>().map(asks_about);
     let entries = PollList::of(&asked).expect(&rt, "8 entries");
-    assert_eq!(rt; entries.items(), asked.as_slice());
-    assert_eq!(rt; entries.copy(), entries);
+    assert!(rt; entries.items() == asked.as_slice());
+    assert!(rt; entries.copy() == entries);
     assert!(rt; PollList::of(&counted::<9>().map(asks_about)).is_none());
 }
 
@@ -185,10 +201,10 @@ fn asks_about(fd: u8) -> PollEntry {
 fn long_lists_keep_their_items(rt: HostRuntime) -> Result<(), Fail> {
     let alloc = rt.alloc();
     let numbers = Numbers::from_vec([3, 0, 4294967295].to_vec(alloc)?);
-    assert_eq!(rt; numbers.items(), [3, 0, 4294967295].as_slice());
+    assert!(rt; numbers.items() == [3, 0, 4294967295].as_slice());
     let given = [Operand::Reg(15), Operand::Number(-1)];
     let operands = Operands::from_vec(given.to_vec(alloc)?);
-    assert_eq!(rt; operands.items(), given.as_slice());
+    assert!(rt; operands.items() == given.as_slice());
 
     let mut written = Vec::new(alloc);
     written.push(Text::from_vec(b"/a".to_vec(alloc)?))?;
@@ -237,7 +253,7 @@ fn histories_keep_their_entries(rt: HostRuntime) -> Result<(), Fail> {
 #[test]
 fn calls_and_events_keep_their_kind(rt: HostRuntime) {
     let path = Path::of(b"/etc").expect(&rt, "4 bytes");
-    assert_eq!(rt; Call::Chdir { path }.kind(), CallKind::Chdir);
+    assert!(rt; Call::Chdir { path }.kind() == CallKind::Chdir);
     assert_eq!(rt;
         Call::Pwrite {
             fd: 3,
@@ -259,45 +275,53 @@ fn calls_and_events_keep_their_kind(rt: HostRuntime) {
         bound: 0,
         charged: 2304,
     };
-    assert_eq!(rt; noted.copy(), noted);
+    assert!(rt; noted.copy() == noted);
 }
+
+const FAULTS: &[(FaultKind, &str)] = &[
+    (FaultKind::NotUtf8, "line 4: not utf-8"),
+    (FaultKind::UnknownWord, "line 4: unknown word"),
+    (FaultKind::BadNumber, "line 4: bad number"),
+    (FaultKind::OutOfRange, "line 4: out of range"),
+    (FaultKind::NoSuchLabel, "line 4: no such label"),
+    (FaultKind::WrongWay, "line 4: wrong way"),
+    (FaultKind::TwiceDefined, "line 4: twice defined"),
+    (FaultKind::Unended, "line 4: unended"),
+    (FaultKind::NoInit, "line 4: no init"),
+    (FaultKind::TooLong, "line 4: too long"),
+    (FaultKind::NotBuilt, "line 4: not built"),
+];
 
 #[test]
 fn faults_are_told_in_words(rt: HostRuntime) -> Result<(), Fail> {
-    let rows = [
-        (FaultKind::NotUtf8, "line 4: not utf-8"),
-        (FaultKind::UnknownWord, "line 4: unknown word"),
-        (FaultKind::BadNumber, "line 4: bad number"),
-        (FaultKind::OutOfRange, "line 4: out of range"),
-        (FaultKind::NoSuchLabel, "line 4: no such label"),
-        (FaultKind::WrongWay, "line 4: wrong way"),
-        (FaultKind::TwiceDefined, "line 4: twice defined"),
-        (FaultKind::Unended, "line 4: unended"),
-        (FaultKind::NoInit, "line 4: no init"),
-        (FaultKind::TooLong, "line 4: too long"),
-        (FaultKind::NotBuilt, "line 4: not built"),
-    ];
-    for (what, words) in rows {
-        let told = format!(in rt.alloc(); "{}", ScriptFault { line: 4, what })?;
-        assert_eq!(rt; told.as_str(), words);
+    for (what, words) in FAULTS {
+        let told = format!(in rt.alloc();
+            "{}",
+            ScriptFault {
+                line: 4,
+                what: *what
+            }
+        )?;
+        assert!(rt; told.as_str() == *words);
     }
     let told = format!(in rt.alloc(); "{}", Errno::ENOTDIR)?;
-    assert_eq!(rt; told.as_str(), "not a directory");
+    assert!(rt; told.as_str() == "not a directory");
     Ok(())
 }
 
+const WORDS: &[(CallKind, &str)] = &[
+    (CallKind::Getpid, "getpid"),
+    (CallKind::SchedYield, "sched_yield"),
+    (CallKind::Exit, "exit"),
+    (CallKind::OpenFile, "open"),
+    (CallKind::Poll, "poll"),
+];
+
 #[test]
 fn calls_and_errnos_have_their_words(rt: HostRuntime) {
-    let words = [
-        (CallKind::Getpid, "getpid"),
-        (CallKind::SchedYield, "sched_yield"),
-        (CallKind::Exit, "exit"),
-        (CallKind::OpenFile, "open"),
-        (CallKind::Poll, "poll"),
-    ];
-    for (kind, word) in words {
-        assert_eq!(rt; kind.word(), word);
+    for (kind, word) in WORDS {
+        assert!(rt; kind.word() == *word);
     }
-    assert_eq!(rt; Errno::EPERM.name(), "EPERM");
-    assert_eq!(rt; Errno::ECONNREFUSED.name(), "ECONNREFUSED");
+    assert!(rt; Errno::EPERM.name() == "EPERM");
+    assert!(rt; Errno::ECONNREFUSED.name() == "ECONNREFUSED");
 }

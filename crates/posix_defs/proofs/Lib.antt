@@ -22,3 +22,4 @@ pub mod TreeKeeps
 pub mod NewTree
 pub mod TreeRenames
 pub mod FoundNames
+pub mod PriceLemmas

@@ -2,7 +2,11 @@ pub use Rattle.kabi_types.specs.Call
 pub use Rattle.kabi_types.specs.Class
 pub use Rattle.kabi_types.specs.Errno
 pub use Rattle.kabi_types.specs.Reply
+pub use Rattle.kabi_types.specs.PathParts
+pub use Rattle.kabi_types.specs.Arguments
+pub mod PriceList
 pub mod Sizes
+pub mod Needs
 pub mod ByPid
 pub mod Process
 pub mod Made

@@ -1,5 +1,6 @@
 -- What a line of a script says, by its words.
 use Rattle.std.specs.Prelude.{ℕ, ◌+◌, ◌%◌, ℤ, pos, unsigned_abs, Bool, true, false, ◌==◌, nat_le, if◌then◌else◌, List, [], ◌∷◌, length, Option, None, Some, Result, Ok, Err, codes}
+use Rattle.kabi_types.specs.Call.{all_kinds}
 use Rattle.kabi_types.specs.Words.{word_of, is_built}
 use Rattle.kabi_types.specs.declared.calls.CallKind.{CallKind}
 use Rattle.kabi_types.specs.declared.calls.CallKind.TheVariants as kind
@@ -24,15 +25,6 @@ use Rattle.posix_defs.specs.declared.said.Spoken.{Spoken}
 use Rattle.posix_defs.specs.declared.said.Spoken.TheVariants as spoken
 use Rattle.posix_defs.specs.declared.said.Word.{Word}
 use Rattle.posix_defs.specs.ScriptValues.{both, with, ◌>>=◌, each, is_word, register, number, value, name, path, stored}
-
-abbrev pub all_kinds : List CallKind
-all_kinds =
-    kind.Getpid ∷ kind.Getppid ∷ kind.SchedYield ∷ kind.Fork ∷ kind.Exec ∷ kind.Exit ∷ kind.Waitpid ∷ kind.Kill
-    ∷ kind.Mmap ∷ kind.Munmap ∷ kind.Store ∷ kind.Load ∷ kind.OpenFile ∷ kind.Close ∷ kind.Dup ∷ kind.Dup2
-    ∷ kind.Fcntl ∷ kind.Read ∷ kind.Write ∷ kind.Pread ∷ kind.Pwrite ∷ kind.Lseek ∷ kind.Readdir ∷ kind.Ftruncate
-    ∷ kind.Fstat ∷ kind.Stat ∷ kind.Chdir ∷ kind.Mkdir ∷ kind.Rmdir ∷ kind.Unlink ∷ kind.Link ∷ kind.Rename
-    ∷ kind.Pipe ∷ kind.Socket ∷ kind.Socketpair ∷ kind.Bind ∷ kind.Listen ∷ kind.Connect ∷ kind.Accept ∷ kind.Shutdown
-    ∷ kind.Poll ∷ []
 
 abbrev pub kind_among : List CallKind → Word → Option CallKind
 kind_among [] word = None

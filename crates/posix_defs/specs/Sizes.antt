@@ -7,11 +7,11 @@ use Rattle.kabi_types.specs.declared.calls.Call.{Call}
 
 -- two blocks, which closing and ending may always use
 abbrev pub reserve : ℕ
-reserve = 2176
+reserve = 2 * size class.Block
 
 -- what is charged at boot: the first process, the root's vnode, and the reserve
 abbrev pub fixed : ℕ
-fixed = 2816
+fixed = size class.Proc + size class.Vnode + reserve
 
 -- the greatest bound of a call that can ever be admitted
 abbrev pub room : ℕ → ℕ
@@ -27,10 +27,10 @@ bytes_of n = n.proc * size class.Proc + n.node * size class.Node + n.page * size
 abbrev pub no_need : Need
 no_need = record { proc = 0; node = 0; page = 0; desc = 0; vnode = 0; name = 0; block = 0; pipe = 0; chunk = 0; sock = 0 }
 
--- the objects that a call may make: none, for each call that is built so far
+-- the objects that the core lets a call make: it runs calls that make none so far, and no other is ever made
 abbrev pub need_of : Call → Need
 need_of _ = no_need
 
--- the heap that a call may use, in bytes
+-- the heap that the core lets a call use, in bytes
 abbrev pub bound : Call → ℕ
 bound call = bytes_of (need_of call)

@@ -10,6 +10,8 @@ mod disk_laws;
 mod laws;
 mod nodes;
 mod phases;
+mod price_laws;
+mod prices;
 mod said;
 #[cfg(test)]
 mod tests;
@@ -32,6 +34,11 @@ pub use laws::{
 };
 pub use nodes::{Listed, ListedNode, NodeList};
 pub use phases::Phase;
+pub use price_laws::{
+    a_bound_is_that_of_the_price_list, a_bound_is_the_sum_of_its_need,
+    a_write_costs_less_as_it_goes_on, a_wrong_operand_costs_nothing, no_bound_is_above_39040,
+};
+pub use prices::Price;
 pub use said::{AtTop, InProgram, Setting, Shape, Spoken, Stated, Word};
 pub use tree_laws::{
     a_closed_file_leaves_a_tree, a_name_goes_from_a_tree, a_new_root_is_a_tree,

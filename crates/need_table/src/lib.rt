@@ -1,0 +1,15 @@
+//! The price list of the kernel: which objects a call may make, and how many bytes of kernel heap it may use.
+//!
+//! A call reserves its bound before it runs, and counts its need down while it runs.
+#![tactic(auto)]
+
+mod bounds;
+mod needs;
+mod prices;
+
+pub use bounds::bound;
+pub use needs::need;
+pub use prices::price;
+
+#[cfg(test)]
+mod tests;

@@ -1,0 +1,178 @@
+ghost use Rattle.std.specs.Prelude.{◌≡◌, ◌-◌, ◌<◌, ◌≤◌, ◌^◌, length, None};
+ghost use Rattle.kabi_types.specs.Arguments.{argument_fault, range_fault, count_of};
+ghost use Rattle.posix_defs.specs.Needs.{need_of, objects_of, walk_need, two_walks_need, read_need, write_need, stored_bytes, pages_touched, pages_in, nodes_for, chunks_for};
+
+use kabi_types::{Call, Need};
+
+/// In bytes.
+const PAGE_SIZE: u64 = 4096;
+
+/// The number of bytes that an operand gives.
+fn count_of(number: i64) -> u64
+    ensures value { result ≡ count_of number }
+    ensures below { result < 2 ^ 63 }
+{
+    u64::try_from(number).unwrap_or(0)
+}
+
+/// How many groups of 64 page entries the pages of so many bytes may lie in.
+fn nodes(length: i64) -> u32
+    ensures { result ≡ nodes_for (pages_in (count_of length)) }
+{
+    let pages = (count_of(length) + (PAGE_SIZE - 1)) / PAGE_SIZE;
+    ((pages + 62) / 64 + 1).min(4) as u32
+}
+
+/// How many pages the bytes from an address on lie in.
+fn pages(addr: i64, n: u64) -> u32
+    requires { range_fault addr n ≡ None }
+    ensures { result ≡ pages_touched (count_of addr) n }
+{
+    let first = count_of(addr);
+    if n == 0 {
+        return 0;
+    }
+    ((first + n - 1) / PAGE_SIZE - first / PAGE_SIZE + 1) as u32
+}
+
+/// How many chunks a queue may need for what is left of `n` bytes when `done` were moved.
+fn chunks(n: i64, done: u32) -> u32
+    ensures { result ≡ chunks_for (count_of n - done) }
+{
+    let left = count_of(n).saturating_sub(u64::from(done));
+    ((left.min(4096) + 511) / 512) as u32
+}
+
+/// What walking a path may fill.
+fn walk() -> Need
+    ensures { result ≡ walk_need }
+{
+    Need {
+        vnode: 2,
+        name: 2,
+        block: 2,
+        ..Need::default()
+    }
+}
+
+/// What walking two paths may fill.
+fn two_walks() -> Need
+    ensures { result ≡ two_walks_need }
+{
+    Need {
+        vnode: 4,
+        name: 4,
+        ..walk()
+    }
+}
+
+fn read_into(addr: i64, n: i64) -> Need
+    requires { range_fault addr (count_of n) ≡ None }
+    ensures { result ≡ read_need (pages_touched (count_of addr) (count_of n)) }
+{
+    Need {
+        page: pages(addr, count_of(n)),
+        block: 2,
+        ..Need::default()
+    }
+}
+
+fn write_from(n: i64, done: u32) -> Need
+    ensures { result ≡ write_need (count_of n - done) }
+{
+    Need {
+        block: 2,
+        chunk: chunks(n, done),
+        ..Need::default()
+    }
+}
+
+/// The objects of a call whose operands are right.
+fn objects(call: &Call) -> Need
+    requires { argument_fault call.now ≡ None }
+    ensures objects { result ≡ objects_of call.now }
+    ensures stored { length (stored_bytes call.now) ≤ 64 }
+{
+    match call {
+        Call::Fork => Need {
+            proc: 1,
+            node: 4,
+            ..Need::default()
+        },
+        Call::Mmap { length } => Need {
+            node: nodes(*length),
+            ..Need::default()
+        },
+        Call::Store { addr, bytes } => Need {
+            page: pages(*addr, bytes.items().len() as u64),
+            ..Need::default()
+        },
+        Call::OpenFile { .. } => Need { desc: 1, ..walk() },
+        Call::Connect { .. } => Need { sock: 1, ..walk() },
+        Call::Exec { .. }
+        | Call::Stat { .. }
+        | Call::Chdir { .. }
+        | Call::Mkdir { .. }
+        | Call::Rmdir { .. }
+        | Call::Unlink { .. }
+        | Call::Bind { .. } => walk(),
+        Call::Link { .. } | Call::Rename { .. } => two_walks(),
+        Call::Read { addr, n, .. } | Call::Pread { addr, n, .. } | Call::Readdir { addr, n, .. } =>
+            read_into(*addr, *n),
+        Call::Write { n, done, .. } => write_from(*n, *done),
+        Call::Pwrite { n, .. } => write_from(*n, 0),
+        Call::Ftruncate { .. } => Need {
+            block: 2,
+            ..Need::default()
+        },
+        Call::Pipe => Need {
+            desc: 2,
+            pipe: 1,
+            ..Need::default()
+        },
+        Call::Socket => Need {
+            desc: 1,
+            sock: 1,
+            ..Need::default()
+        },
+        Call::Socketpair => Need {
+            desc: 2,
+            sock: 2,
+            ..Need::default()
+        },
+        Call::Accept { .. } => Need {
+            desc: 1,
+            ..Need::default()
+        },
+        Call::Getpid
+        | Call::Getppid
+        | Call::SchedYield
+        | Call::Exit { .. }
+        | Call::Waitpid { .. }
+        | Call::Kill { .. }
+        | Call::Munmap { .. }
+        | Call::Load { .. }
+        | Call::Close { .. }
+        | Call::Dup { .. }
+        | Call::Dup2 { .. }
+        | Call::Fcntl { .. }
+        | Call::Lseek { .. }
+        | Call::Fstat { .. }
+        | Call::Listen { .. }
+        | Call::Shutdown { .. }
+        | Call::Poll { .. } => Need::default(),
+    }
+}
+
+/// The objects that a call may make: none where an operand is wrong. A write may make its two blocks or its chunks, and
+/// never both.
+pub fn need(call: &Call) -> Need
+    ensures objects { result ≡ need_of call.now }
+    ensures stored { argument_fault call.now ≡ None → length (stored_bytes call.now) ≤ 64 }
+{
+    if call.checked().is_err() {
+        Need::default()
+    } else {
+        objects(call)
+    }
+}

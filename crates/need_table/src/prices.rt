@@ -1,0 +1,50 @@
+ghost use Rattle.std.specs.Prelude.{◌≡◌};
+ghost use Rattle.posix_defs.specs.PriceList.{price_of};
+
+use kabi_types::CallKind;
+use posix_defs::Price;
+
+/// What the price list says of a call.
+pub fn price(kind: CallKind) -> Price
+    ensures { result ≡ price_of kind }
+{
+    match kind {
+        CallKind::Fork
+        | CallKind::Exec
+        | CallKind::Stat
+        | CallKind::Chdir
+        | CallKind::Mkdir
+        | CallKind::Rmdir
+        | CallKind::Unlink
+        | CallKind::Bind => Price::Always(2560),
+        CallKind::OpenFile => Price::Always(2624),
+        CallKind::Link | CallKind::Rename => Price::Always(2944),
+        CallKind::Connect => Price::Always(2688),
+        CallKind::Ftruncate => Price::Always(2176),
+        CallKind::Pipe => Price::Always(256),
+        CallKind::Socket => Price::Always(192),
+        CallKind::Socketpair => Price::Always(384),
+        CallKind::Accept => Price::Always(64),
+        CallKind::Mmap => Price::Mapped(512),
+        CallKind::Store => Price::Touched(4096, 0),
+        CallKind::Read | CallKind::Pread | CallKind::Readdir => Price::Touched(4096, 2176),
+        CallKind::Write | CallKind::Pwrite => Price::Moved(2176, 576),
+        CallKind::Getpid
+        | CallKind::Getppid
+        | CallKind::SchedYield
+        | CallKind::Exit
+        | CallKind::Waitpid
+        | CallKind::Kill
+        | CallKind::Munmap
+        | CallKind::Load
+        | CallKind::Close
+        | CallKind::Dup
+        | CallKind::Dup2
+        | CallKind::Fcntl
+        | CallKind::Lseek
+        | CallKind::Fstat
+        | CallKind::Listen
+        | CallKind::Shutdown
+        | CallKind::Poll => Price::Always(0),
+    }
+}
