@@ -116,6 +116,16 @@ end_line end events charged peak reads =
     codes "end " ++ end_text end ++ codes " events " ++ decimal events ++ codes " charged " ++ decimal charged
     ++ codes " peak " ++ decimal peak ++ codes " reads " ++ decimal reads ++ newline
 
+-- the line of an entry of a history: its number from 1, and what happened
+abbrev pub entry_line : ℕ → Entry → List ℕ
+entry_line j entry = decimal j ++ blank ++ entry_text entry ++ newline
+
+-- the end line of a history, of which nobody knows what was charged at most
+abbrev pub end_line_threads : End → ℕ → ℕ → ℕ → List ℕ
+end_line_threads end entries charged reads =
+    codes "end " ++ end_text end ++ codes " entries " ++ decimal entries ++ codes " charged " ++ decimal charged
+    ++ codes " reads " ++ decimal reads ++ newline
+
 -- the report of a run that ended so
 abbrev pub report : List Noted → End → ℕ → ℕ → List ℕ
 report run end charged reads = event_lines 1 run ++ end_line end (length run) charged (peak_of run) reads

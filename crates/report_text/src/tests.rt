@@ -1,0 +1,208 @@
+use crate::{end_line_sim, end_line_threads, entry_line, event_line};
+use kabi_types::{
+    Bytes64, Cached, CallKind, End, Entry, Errno, Event, NodeKind, Noted, PollHits, Reply, Revents,
+    StatInfo,
+};
+use std::alloc::AllocGlobal;
+use std::process::Abort;
+use std::test::Fail;
+
+/// The line of an entry by itself, and that of the event that added it.
+fn says(
+    rt: &(impl Abort + AllocGlobal),
+    entry: Entry,
+    alone: &str,
+    charged: &str,
+) -> Result<(), Fail> {
+    let told = entry_line(rt.alloc(), 7, &entry)?;
+    let noted = Noted {
+        event: Event::Turn(3),
+        kind: None,
+        entry: Some(entry),
+        bound: 6272,
+        charged: 12160,
+    };
+    let line = event_line(rt.alloc(), 7, &noted)?;
+    assert!(rt;
+        told.as_str() == alone && line.as_str() == charged,
+        "{told}{line}"
+    );
+    Ok(())
+}
+
+#[test]
+fn entries_are_told(rt: HostRuntime) -> Result<(), Fail> {
+    let (pid, kind) = (3, CallKind::Read);
+    let rows = [
+        (
+            Entry::Part {
+                pid,
+                kind,
+                moved: 512,
+            },
+            "7 p3 part read 512\n",
+            "7 p3 part read 512 charged 12160\n",
+        ),
+        (
+            Entry::Refused {
+                pid,
+                kind,
+                bound: 39040,
+            },
+            "7 p3 refused read bound 39040 = ENOMEM\n",
+            "7 p3 refused read bound 39040 = ENOMEM charged 12160\n",
+        ),
+        (
+            Entry::Slept { pid, kind },
+            "7 p3 sleep read\n",
+            "7 p3 sleep read charged 12160\n",
+        ),
+        (
+            Entry::Gone { pid, kind },
+            "7 p3 gone read\n",
+            "7 p3 gone read charged 12160\n",
+        ),
+        (
+            Entry::Ended {
+                pid,
+                kind,
+                status: 65280,
+            },
+            "7 p3 ended exit 255\n",
+            "7 p3 ended exit 255 charged 12160\n",
+        ),
+        (
+            Entry::Ended {
+                pid,
+                kind,
+                status: 9,
+            },
+            "7 p3 ended signal 9\n",
+            "7 p3 ended signal 9 charged 12160\n",
+        ),
+        (
+            Entry::Killed {
+                pid,
+                waiter: 1,
+                need: 2560,
+                live: 3712,
+            },
+            "7 p3 killed for p1 need 2560 live 3712\n",
+            "7 p3 killed for p1 need 2560 live 3712 charged 12160\n",
+        ),
+        (
+            Entry::Evicted {
+                what: Cached::Vnode,
+            },
+            "7 evict vnode\n",
+            "7 evict vnode charged 12160\n",
+        ),
+    ];
+    for (entry, alone, charged) in rows {
+        says(&rt, entry, alone, charged)?;
+    }
+    Ok(())
+}
+
+fn replies(rt: &(impl Abort + AllocGlobal), reply: Reply, wanted: &str) -> Result<(), Fail> {
+    let (pid, kind) = (2, CallKind::Stat);
+    let told = entry_line(rt.alloc(), 1, &Entry::Done { pid, kind, reply })?;
+    assert!(rt; told.as_str() == wanted, "{told}");
+    Ok(())
+}
+
+#[test]
+fn replies_are_told(rt: HostRuntime) -> Result<(), Fail> {
+    let info = StatInfo {
+        kind: NodeKind::Dir,
+        number: 1,
+        nlink: 1,
+        size: 64,
+    };
+    let rows = [
+        (Reply::Val(-7), "1 p2 done stat = -7\n"),
+        (Reply::Pair(3, 4), "1 p2 done stat = 3 4\n"),
+        (Reply::Stat(info), "1 p2 done stat = dir 1 1 64\n"),
+        (Reply::Waited(4, 1792), "1 p2 done stat = 4 exit 7\n"),
+        (Reply::Waited(4, 9), "1 p2 done stat = 4 signal 9\n"),
+        (Reply::Fail(Errno::EAGAIN), "1 p2 done stat = EAGAIN\n"),
+    ];
+    for (reply, wanted) in rows {
+        replies(&rt, reply, wanted)?;
+    }
+    let bytes = Bytes64::of(&[0, 10, 171, 255]).expect(&rt, "four bytes");
+    replies(&rt, Reply::Bytes(bytes), "1 p2 done stat = x000aabff\n")?;
+    let none = Bytes64::of(&[]).expect(&rt, "no byte");
+    replies(&rt, Reply::Bytes(none), "1 p2 done stat = x\n")?;
+    let revents = Revents::of(&[1, 0, 16]).expect(&rt, "three sets");
+    let polled = PollHits { hits: 2, revents };
+    replies(
+        &rt,
+        Reply::Polled(polled),
+        "1 p2 done stat = 2 revents 1 0 16\n",
+    )?;
+    let revents = Revents::of(&[]).expect(&rt, "no set");
+    let polled = PollHits { hits: 0, revents };
+    replies(&rt, Reply::Polled(polled), "1 p2 done stat = 0 revents\n")
+}
+
+const EVENTS: &[(Event, &str)] = &[
+    (Event::Ask(1), "38 p1 ask fork bound 2560 charged 5888\n"),
+    (
+        Event::Admit(7),
+        "38 p7 admit fork bound 2560 charged 5888\n",
+    ),
+    (Event::Wake(2), "38 p2 wake fork bound 2560 charged 5888\n"),
+    (Event::Abandon(2), "38 p2 abandon fork charged 5888\n"),
+];
+
+#[test]
+fn events_without_an_entry_are_told(rt: HostRuntime) -> Result<(), Fail> {
+    for (event, wanted) in EVENTS {
+        let noted = Noted {
+            event: *event,
+            kind: Some(CallKind::Fork),
+            entry: None,
+            bound: 2560,
+            charged: 5888,
+        };
+        let line = event_line(rt.alloc(), 38, &noted)?;
+        assert!(rt; line.as_str() == *wanted, "{line}");
+    }
+    Ok(())
+}
+
+const ENDS: &[(End, &str, &str)] = &[
+    (
+        End::Finished,
+        "end finished events 44 charged 2304 peak 20096 reads 18446744073709551615\n",
+        "end finished entries 44 charged 2304 reads 18446744073709551615\n",
+    ),
+    (
+        End::Starved { pid: 1, need: 2560 },
+        "end starved p1 need 2560 events 44 charged 2304 peak 20096 reads 18446744073709551615\n",
+        "end starved p1 need 2560 entries 44 charged 2304 reads 18446744073709551615\n",
+    ),
+    (
+        End::AllAsleep,
+        "end asleep events 44 charged 2304 peak 20096 reads 18446744073709551615\n",
+        "end asleep entries 44 charged 2304 reads 18446744073709551615\n",
+    ),
+    (
+        End::Spent,
+        "end spent events 44 charged 2304 peak 20096 reads 18446744073709551615\n",
+        "end spent entries 44 charged 2304 reads 18446744073709551615\n",
+    ),
+];
+
+#[test]
+fn ends_are_told(rt: HostRuntime) -> Result<(), Fail> {
+    let (alloc, reads) = (rt.alloc(), u64::MAX);
+    for (end, sim, threads) in ENDS {
+        let line = end_line_sim(alloc, end, 44, 2304, 20096, reads)?;
+        assert!(rt; line.as_str() == *sim, "{line}");
+        let line = end_line_threads(alloc, end, 44, 2304, reads)?;
+        assert!(rt; line.as_str() == *threads, "{line}");
+    }
+    Ok(())
+}
