@@ -109,3 +109,7 @@ after script control reply = let here = settled script control in afresh (after_
 -- a part of a write moved so many bytes
 abbrev pub after_part : Control → ℕ → Control
 after_part control moved = record control { done = control.done + moved }
+
+-- at the start of another program: the registers are kept, and nothing of its first call is done
+abbrev pub restarted : Control → ℕ → Control
+restarted control program = record control { program = program; place = 0; done = 0 }

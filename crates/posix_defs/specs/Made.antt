@@ -1,5 +1,5 @@
 -- The call that a statement makes of its operands.
-use Rattle.std.specs.Prelude.{ℕ, ℤ, pos, List, [], ◌∷◌, drop, slice_index_or}
+use Rattle.std.specs.Prelude.{ℕ, ◌+◌, ℤ, pos, List, [], ◌∷◌, drop, slice_index_or}
 use Rattle.kabi_types.specs.declared.calls.PollEntry.{PollEntry}
 use Rattle.kabi_types.specs.declared.calls.Call.{Call}
 use Rattle.kabi_types.specs.declared.calls.Call.TheVariants as call
@@ -63,3 +63,8 @@ made kind.Connect numbers texts done = call.Connect (number_at numbers 0) (text_
 made kind.Accept numbers texts done = call.Accept (number_at numbers 0)
 made kind.Shutdown numbers texts done = call.Shutdown (number_at numbers 0) (number_at numbers 1)
 made kind.Poll numbers texts done = call.Poll (number_at numbers 0) (pairs_of (drop 1 numbers))
+
+-- the same call with so much more done of it; a write alone is done in parts
+abbrev pub further : ℕ → Call → Call
+further moved (call.Write fd addr n done) = call.Write fd addr n (done + moved)
+further moved other = other

@@ -1,4 +1,4 @@
-pub mod CallFamilies
+pub mod Parts
 pub mod Resting
 pub mod SampleIsValid
 pub mod Settling

@@ -2,6 +2,7 @@
 use Rattle.std.proofs.Common.{◌≡◌, ℕ, zero, suc, ◌<◌, ◌≤◌, Bool, true, false, List, [], ◌∷◌, length, Option, None, Some, refl, sym, ◌∙◌, subst, arith}
 use Rattle.std.specs.Prelude.{ℤ, pos, int_lt, if◌then◌else◌, slice_get, IfSome}
 use Rattle.std.specs.List.{AllByRecursion}
+use Rattle.std.proofs.lemmas.Option.{slice_get_within}
 use Rattle.kabi_types.specs.Reply.{first_of, second_of}
 use Rattle.kabi_types.specs.declared.replies.Reply.{Reply}
 use Rattle.kabi_types.specs.declared.scripts.Control.{Control}
@@ -9,19 +10,13 @@ use Rattle.kabi_types.specs.declared.scripts.Program.{Program}
 use Rattle.kabi_types.specs.declared.scripts.Script.{Script}
 use Rattle.kabi_types.specs.declared.scripts.Statement.{Statement}
 use Rattle.kabi_types.specs.declared.scripts.Statement.TheVariants as statement
-use Rattle.posix_defs.specs.Control.{after, after_at, afresh, at_place, body_of, carry_on, forward, into, local_at, passes, register_of, settle, settled, statement_of, statements_of, value_of}
+use Rattle.posix_defs.specs.Control.{after, after_at, afresh, at_place, body_of, carry_on, forward, into, local_at, passes, register_of, restarted, settle, settled, statement_of, statements_of, value_of}
 use Rattle.posix_defs.specs.ValidScript.{IsLabel, IsProgram, IsStatement, IsValid}
 use Rattle.prog_ctl.specs.Runnable.{Rests, Stands}
 use Rattle.prog_ctl.proofs.Settling.{after_is}
 
--- what is there has a place within
-within : {X : Type 0} (xs : List X) (i : ℕ) (x : X) → slice_get xs i ≡ Some x → i < length xs
-within [] i x e = cc
-within (y ∷ ys) zero x e = omega arith
-within (y ∷ ys) (suc i) x e = let rest : i < length ys = within ys i x e in omega arith
-
 label_within : (body : List Statement) (place : ℕ) → IsLabel body place → place < length body
-label_within body place label = within body place _ label.1
+label_within body place label = slice_get_within body place _ label.1
 
 all_at : {X : Type 0} (P : X → Type 0) (xs : List X) (i : ℕ) → AllByRecursion P xs → IfSome (slice_get xs i) P
 all_at P [] i all = tt
@@ -57,14 +52,14 @@ loop_in body control false here = (refl, (omega (arith, here)))
 local_in : (body : List Statement) (control : Control) (here : Option Statement) → slice_get body control.place ≡ here
     → IfSome here (IsStatement body control.place) → IfSome (local_at control here) (StaysIn body control.program)
 local_in body control None e is = tt
-local_in body control (Some (statement.Set register value)) e is = (refl, (omega (arith, within body control.place _ e)))
-local_in body control (Some (statement.Add register value)) e is = (refl, (omega (arith, within body control.place _ e)))
+local_in body control (Some (statement.Set register value)) e is = (refl, (omega (arith, slice_get_within body control.place _ e)))
+local_in body control (Some (statement.Add register value)) e is = (refl, (omega (arith, slice_get_within body control.place _ e)))
 local_in body control (Some (statement.If left test right place)) e is =
-    branch_in body control place (passes test (value_of control left) (value_of control right)) (within body control.place _ e) (label_within body place is.3)
+    branch_in body control place (passes test (value_of control left) (value_of control right)) (slice_get_within body control.place _ e) (label_within body place is.3)
 local_in body control (Some (statement.Jump place)) e is = (refl, (omega (arith, label_within body place is.1)))
-local_in body control (Some (statement.Label name)) e is = (refl, (omega (arith, within body control.place _ e)))
+local_in body control (Some (statement.Label name)) e is = (refl, (omega (arith, slice_get_within body control.place _ e)))
 local_in body control (Some (statement.Loop register place)) e is =
-    loop_in body control (int_lt (pos 0) (register_of control register)) (within body control.place _ e)
+    loop_in body control (int_lt (pos 0) (register_of control register)) (slice_get_within body control.place _ e)
 local_in body control (Some (statement.Invoke which values texts first second)) e is = tt
 
 on_in : (body : List Statement) (control : Control) (rest : Control → Control)
@@ -107,7 +102,7 @@ after_in body control reply None e is place = (refl, place)
 after_in body control reply (Some (statement.Invoke which values texts first second)) e is place =
     let one = into_keeps control first (first_of reply) in
     let both = into_keeps (into control first (first_of reply)) second (second_of reply) in
-    (both.0 ∙ one.0, (omega (arith, within body control.place _ e, one.1, both.1)))
+    (both.0 ∙ one.0, (omega (arith, slice_get_within body control.place _ e, one.1, both.1)))
 after_in body control reply (Some (statement.Loop register to)) e is place = (refl, (omega (arith, label_within body to is.2)))
 after_in body control reply (Some _) e is place = (refl, place)
 
@@ -117,3 +112,8 @@ after_stands script control reply stands rests =
     subst (Stands script) (after_is script control reply rests)
     (stays script control (afresh (after_at control reply (statement_of script control))) stands
     (after_in (body_of script control) control reply (statement_of script control) refl (valid_body script control stands.valid control.place) stands.place))
+
+-- the start of another program of the script is a place to stand at
+pub restarted_stands : (script : Script) (control : Control) (program : ℕ) → IsValid script → program < length script.programs
+    → Stands script (restarted control program)
+restarted_stands script control program valid less = record { valid = valid; program = less; place = omega arith }

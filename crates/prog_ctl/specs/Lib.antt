@@ -1,3 +1,2 @@
-pub mod Families
 pub mod Runnable
 pub mod Sample

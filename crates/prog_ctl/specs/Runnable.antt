@@ -1,14 +1,15 @@
 -- Where a control may stand, and what running its program needs.
 use Rattle.std.specs.Prelude.{ℕ, ⊤, Bool, true, false, ◌<◌, ◌≤◌, ◌≡◌, List, length, Option, None, Some, slice_get, IfSome}
 use Rattle.std.specs.List.{AllByRecursion}
-use Rattle.kabi_types.specs.declared.calls.CallKind.{CallKind}
-use Rattle.kabi_types.specs.declared.calls.CallKind.TheVariants as kind
 use Rattle.kabi_types.specs.declared.scripts.Operand.{Operand}
 use Rattle.kabi_types.specs.declared.scripts.Operand.TheVariants.{Reg, Number}
 use Rattle.kabi_types.specs.declared.scripts.Statement.{Statement}
 use Rattle.kabi_types.specs.declared.scripts.Statement.TheVariants as statement
 use Rattle.kabi_types.specs.declared.scripts.Script.{Script}
 use Rattle.kabi_types.specs.declared.scripts.Control.{Control}
+use Rattle.posix_defs.specs.declared.said.Shape.{Shape}
+use Rattle.posix_defs.specs.declared.said.Shape.TheVariants as shape
+use Rattle.posix_defs.specs.ScriptLines.{shape_of}
 use Rattle.posix_defs.specs.Control.{body_of, local_at, statement_of}
 use Rattle.posix_defs.specs.ValidScript.{IsRegister, IsValid}
 
@@ -16,9 +17,9 @@ abbrev pub IsOperand : Operand → Type 0
 IsOperand (Reg register) = IsRegister register
 IsOperand (Number value) = ⊤
 
--- the most bytes of a text of a call
-abbrev pub most_text : CallKind → ℕ
-most_text kind.Store = 64
+-- the most bytes of a text of a call whose operands have this shape
+abbrev pub most_text : Shape → ℕ
+most_text shape.ValueBytes = 64
 most_text _ = 255
 
 -- a later place
@@ -34,7 +35,7 @@ IsRunnableAt at (statement.Jump place) = IsLater at place
 IsRunnableAt at (statement.Label _) = ⊤
 IsRunnableAt at (statement.Loop register place) = IsRegister register × (place < at)
 IsRunnableAt at (statement.Invoke kind operands texts first second) =
-    AllByRecursion IsOperand operands × AllByRecursion (λ text. length text ≤ most_text kind) texts × (length operands ≤ 17)
+    AllByRecursion IsOperand operands × AllByRecursion (λ text. length text ≤ most_text (shape_of kind)) texts × (length operands ≤ 17)
     × IfSome first IsRegister × IfSome second IsRegister
 
 -- each statement of a program

@@ -1,7 +1,9 @@
 //! A control goes on: to its next call, and behind a reply.
 
 ghost use Rattle.std.specs.Prelude.{◌≡◌, ◌+◌, ◌<◌, ◌≤◌, length, option_copied, slice_get, IfSome, None};
+ghost use Rattle.kabi_types.specs.declared.scripts.Script.{Script};
 ghost use Rattle.posix_defs.specs.Control as spec;
+ghost use Rattle.posix_defs.specs.ValidScript.{IsValid};
 ghost use Rattle.prog_ctl.specs.Runnable.{IsRunnable, IsRunnableAt, Rests, Stands};
 
 use crate::made::call_at;
@@ -81,10 +83,25 @@ pub fn answer(script: &Script, control: &mut Control, reply: &Reply)
     control.done = 0;
 }
 
-/// A part of a write moved `k` bytes.
+/// A part of a write moved `k` bytes: the process still stands at that call.
 pub fn moved(control: &mut Control, k: u32)
     requires { control.old.done + k ≤ 4294967295 }
-    ensures { control.new ≡ spec.after_part control.old k }
+    ensures more { control.new ≡ spec.after_part control.old k }
+    ensures stands { (script : Script) → Stands script control.old → Stands script control.new }
+    ensures rests { (script : Script) → Rests script control.old → Rests script control.new }
 {
     control.done += k;
+}
+
+/// Goes to the start of another program of the script, as a call of `exec` does that succeeds. The registers are kept.
+pub fn restart(control: &mut Control, program: u32)
+    ensures restarted { control.new ≡ spec.restarted control.old program }
+    ensures stands { (script : Script) → IsValid script → program < length script.programs → Stands script control.new }
+{
+    *control = Control {
+        program,
+        place: 0,
+        regs: control.regs,
+        done: 0,
+    };
 }

@@ -1,14 +1,16 @@
 //! Laws of how programs go on. Each is the contract of a function that does nothing.
 
-ghost use Rattle.std.specs.Prelude.{◌≡◌, ℕ, ℤ, pos, neg_ℤ, Some, None, slice_set};
+ghost use Rattle.std.specs.Prelude.{◌≡◌, ◌<◌, ℕ, ℤ, pos, neg_ℤ, Some, None, length, slice_get, slice_set};
 ghost use Rattle.kabi_types.specs.declared.calls.Call.TheVariants.{Exit, SchedYield};
 ghost use Rattle.kabi_types.specs.declared.scripts.Control.{Control};
 ghost use Rattle.kabi_types.specs.declared.scripts.Operand.TheVariants.{Number};
 ghost use Rattle.kabi_types.specs.declared.scripts.Script.{Script};
 ghost use Rattle.kabi_types.specs.declared.scripts.Statement.TheVariants.{Add, Loop};
 ghost use Rattle.kabi_types.specs.declared.replies.Reply.{Reply};
-ghost use Rattle.posix_defs.specs.Control.{after, call_of, local, register_of, settled, statement_of, with_register};
+ghost use Rattle.posix_defs.specs.Control.{after, after_part, call_of, local, register_of, restarted, settled, statement_of, statements_of};
+ghost use Rattle.posix_defs.specs.Made.{further};
 ghost use Rattle.posix_defs.specs.ScriptValues.{least_value, greatest_value};
+ghost use Rattle.posix_defs.specs.ValidScript.{IsValid};
 ghost use Rattle.prog_ctl.specs.Runnable.{Rests, Stands};
 
 /// The local statements lead to a call or to the end of the program. There the next call is the one that was made before
@@ -25,6 +27,34 @@ pub fn asked_again_the_call_is_the_same()
 pub fn a_program_ends_by_exit_0()
     ensures { (script : Script) (control : Control) → statement_of script (settled script control) ≡ None
         → call_of script control ≡ Exit (pos 0) }
+{}
+
+/// A store may keep a control at its next call, in place of the one that the last reply left: asked or answered, the one goes
+/// on as the other.
+pub fn a_control_may_be_kept_at_its_call()
+    ensures kept { (script : Script) (control : Control) → Rests script control → settled script control ≡ control }
+    ensures call { (script : Script) (before : Control) → Rests script (settled script before)
+        → call_of script (settled script before) ≡ call_of script before }
+    ensures after { (script : Script) (before : Control) (reply : Reply) → Rests script (settled script before)
+        → after script (settled script before) reply ≡ after script before reply }
+{}
+
+/// A part of a write leaves the process at its call: what is done is all that changes, whether it is added before the local
+/// statements or behind them; the call is the same with that much more done, and its answer is the same.
+pub fn a_write_goes_on_in_parts()
+    ensures settled { (script : Script) (control : Control) (k : ℕ) → settled script (after_part control k) ≡ after_part (settled script control) k }
+    ensures call { (script : Script) (control : Control) (k : ℕ) → call_of script (after_part control k) ≡ further k (call_of script control) }
+    ensures answer { (script : Script) (control : Control) (k : ℕ) (reply : Reply) → after script (after_part control k) reply ≡ after script control reply }
+{}
+
+/// A control that starts another program of the script stands there with the registers that it had; the first call is that
+/// program's, and nothing of it is done.
+pub fn a_started_program_stands_at_its_first_statement()
+    ensures stands { (script : Script) (control : Control) (program : ℕ) → IsValid script → program < length script.programs
+        → Stands script (restarted control program) }
+    ensures registers { (control : Control) (program : ℕ) → (restarted control program).regs ≡ control.regs }
+    ensures first { (script : Script) (control : Control) (program : ℕ)
+        → statement_of script (restarted control program) ≡ slice_get (statements_of (slice_get script.programs program)) 0 }
 {}
 
 /// A sum wraps at both ends of 64 bits.

@@ -8,5 +8,9 @@ mod statements;
 #[cfg(test)]
 mod tests;
 
-pub use controls::{answer, moved, next_call};
-pub use laws::{a_program_ends_by_exit_0, asked_again_the_call_is_the_same, sums_wrap};
+pub use controls::{answer, moved, next_call, restart};
+pub use laws::{
+    a_control_may_be_kept_at_its_call, a_program_ends_by_exit_0,
+    a_started_program_stands_at_its_first_statement, a_write_goes_on_in_parts,
+    asked_again_the_call_is_the_same, sums_wrap,
+};

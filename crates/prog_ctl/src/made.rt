@@ -1,10 +1,10 @@
 //! The call that a statement makes of its operands.
 
-ghost use Rattle.std.specs.Prelude.{◌≡◌, ◌≤◌, ℕ, ℤ, List, drop, length, map, IfSome, option_copied};
+ghost use Rattle.std.specs.Prelude.{◌≡◌, ◌≤◌, drop, length, map, IfSome, option_copied};
 ghost use Rattle.std.specs.List.{AllByRecursion};
 ghost use Rattle.posix_defs.specs.Control.{call_at, value_of};
 ghost use Rattle.posix_defs.specs.Made as spec;
-ghost use Rattle.prog_ctl.specs.Families as families;
+ghost use Rattle.posix_defs.specs.ScriptLines.{shape_of};
 ghost use Rattle.prog_ctl.specs.Runnable.{IsOperand, IsRunnableAt, most_text};
 
 use crate::statements::value_of;
@@ -47,204 +47,6 @@ fn bytes_at(texts: &[Text], at: usize) -> Bytes64
     Bytes64::of(bytes).unwrap()
 }
 
-/// A call that speaks of processes alone, or of none. None where the call is another.
-fn process_call(kind: CallKind, numbers: &[i64]) -> Option<Call>
-    ensures { (texts : List (List ℕ)) (done : ℕ) → result ≡ families.process_call kind numbers.now texts done }
-{
-    match kind {
-        CallKind::Getpid => Some(Call::Getpid),
-        CallKind::Getppid => Some(Call::Getppid),
-        CallKind::SchedYield => Some(Call::SchedYield),
-        CallKind::Fork => Some(Call::Fork),
-        CallKind::Exit => Some(Call::Exit {
-            status: number_at(numbers, 0),
-        }),
-        CallKind::Waitpid => Some(Call::Waitpid {
-            pid: number_at(numbers, 0),
-            options: number_at(numbers, 1),
-        }),
-        CallKind::Kill => Some(Call::Kill {
-            pid: number_at(numbers, 0),
-            signal: number_at(numbers, 1),
-        }),
-        _ => None,
-    }
-}
-
-/// A call that names paths alone, or a path and flags. None where the call is another.
-fn path_call(kind: CallKind, numbers: &[i64], texts: &[Text]) -> Option<Call>
-    requires texts { AllByRecursion (λ text. length text ≤ most_text kind) texts.now }
-    ensures { (done : ℕ) → result ≡ families.path_call kind numbers.now texts.now done }
-{
-    match kind {
-        CallKind::Exec => Some(Call::Exec {
-            path: path_at(texts, 0),
-        }),
-        CallKind::OpenFile => Some(Call::OpenFile {
-            path: path_at(texts, 0),
-            flags: number_at(numbers, 0),
-        }),
-        CallKind::Stat => Some(Call::Stat {
-            path: path_at(texts, 0),
-        }),
-        CallKind::Chdir => Some(Call::Chdir {
-            path: path_at(texts, 0),
-        }),
-        CallKind::Mkdir => Some(Call::Mkdir {
-            path: path_at(texts, 0),
-        }),
-        CallKind::Rmdir => Some(Call::Rmdir {
-            path: path_at(texts, 0),
-        }),
-        CallKind::Unlink => Some(Call::Unlink {
-            path: path_at(texts, 0),
-        }),
-        CallKind::Link => Some(Call::Link {
-            old: path_at(texts, 0),
-            new: path_at(texts, 1),
-        }),
-        CallKind::Rename => Some(Call::Rename {
-            old: path_at(texts, 0),
-            new: path_at(texts, 1),
-        }),
-        _ => None,
-    }
-}
-
-/// A call on memory. None where the call is another.
-fn memory_call(kind: CallKind, numbers: &[i64], texts: &[Text]) -> Option<Call>
-    requires texts { AllByRecursion (λ text. length text ≤ most_text kind) texts.now }
-    ensures { (done : ℕ) → result ≡ families.memory_call kind numbers.now texts.now done }
-{
-    match kind {
-        CallKind::Mmap => Some(Call::Mmap {
-            length: number_at(numbers, 0),
-        }),
-        CallKind::Munmap => Some(Call::Munmap {
-            addr: number_at(numbers, 0),
-            length: number_at(numbers, 1),
-        }),
-        CallKind::Store => Some(Call::Store {
-            addr: number_at(numbers, 0),
-            bytes: bytes_at(texts, 0),
-        }),
-        CallKind::Load => Some(Call::Load {
-            addr: number_at(numbers, 0),
-            n: number_at(numbers, 1),
-        }),
-        _ => None,
-    }
-}
-
-/// A call on a descriptor. None where the call is another.
-fn descriptor_call(kind: CallKind, numbers: &[i64]) -> Option<Call>
-    ensures { (texts : List (List ℕ)) (done : ℕ) → result ≡ families.descriptor_call kind numbers.now texts done }
-{
-    match kind {
-        CallKind::Close => Some(Call::Close {
-            fd: number_at(numbers, 0),
-        }),
-        CallKind::Dup => Some(Call::Dup {
-            fd: number_at(numbers, 0),
-        }),
-        CallKind::Dup2 => Some(Call::Dup2 {
-            fd: number_at(numbers, 0),
-            to: number_at(numbers, 1),
-        }),
-        CallKind::Fcntl => Some(Call::Fcntl {
-            fd: number_at(numbers, 0),
-            cmd: number_at(numbers, 1),
-            arg: number_at(numbers, 2),
-        }),
-        CallKind::Lseek => Some(Call::Lseek {
-            fd: number_at(numbers, 0),
-            offset: number_at(numbers, 1),
-            whence: number_at(numbers, 2),
-        }),
-        CallKind::Ftruncate => Some(Call::Ftruncate {
-            fd: number_at(numbers, 0),
-            length: number_at(numbers, 1),
-        }),
-        CallKind::Fstat => Some(Call::Fstat {
-            fd: number_at(numbers, 0),
-        }),
-        _ => None,
-    }
-}
-
-/// A call that moves bytes. None where the call is another.
-fn transfer_call(kind: CallKind, numbers: &[i64], done: u32) -> Option<Call>
-    ensures { (texts : List (List ℕ)) → result ≡ families.transfer_call kind numbers.now texts done }
-{
-    match kind {
-        CallKind::Read => Some(Call::Read {
-            fd: number_at(numbers, 0),
-            addr: number_at(numbers, 1),
-            n: number_at(numbers, 2),
-        }),
-        CallKind::Write => Some(Call::Write {
-            fd: number_at(numbers, 0),
-            addr: number_at(numbers, 1),
-            n: number_at(numbers, 2),
-            done,
-        }),
-        CallKind::Pread => Some(Call::Pread {
-            fd: number_at(numbers, 0),
-            addr: number_at(numbers, 1),
-            n: number_at(numbers, 2),
-            at: number_at(numbers, 3),
-        }),
-        CallKind::Pwrite => Some(Call::Pwrite {
-            fd: number_at(numbers, 0),
-            addr: number_at(numbers, 1),
-            n: number_at(numbers, 2),
-            at: number_at(numbers, 3),
-        }),
-        CallKind::Readdir => Some(Call::Readdir {
-            fd: number_at(numbers, 0),
-            addr: number_at(numbers, 1),
-            n: number_at(numbers, 2),
-        }),
-        _ => None,
-    }
-}
-
-/// A call on pipes and sockets. None where the call is another.
-fn channel_call(kind: CallKind, numbers: &[i64], texts: &[Text]) -> Option<Call>
-    requires texts { AllByRecursion (λ text. length text ≤ most_text kind) texts.now }
-    requires numbers { length numbers.now ≤ 17 }
-    ensures { (done : ℕ) → result ≡ families.channel_call kind numbers.now texts.now done }
-{
-    match kind {
-        CallKind::Pipe => Some(Call::Pipe),
-        CallKind::Socket => Some(Call::Socket),
-        CallKind::Socketpair => Some(Call::Socketpair),
-        CallKind::Bind => Some(Call::Bind {
-            fd: number_at(numbers, 0),
-            path: path_at(texts, 0),
-        }),
-        CallKind::Listen => Some(Call::Listen {
-            fd: number_at(numbers, 0),
-        }),
-        CallKind::Connect => Some(Call::Connect {
-            fd: number_at(numbers, 0),
-            path: path_at(texts, 0),
-        }),
-        CallKind::Accept => Some(Call::Accept {
-            fd: number_at(numbers, 0),
-        }),
-        CallKind::Shutdown => Some(Call::Shutdown {
-            fd: number_at(numbers, 0),
-            how: number_at(numbers, 1),
-        }),
-        CallKind::Poll => Some(Call::Poll {
-            timeout: number_at(numbers, 0),
-            entries: entries_of(numbers),
-        }),
-        _ => None,
-    }
-}
-
 /// The entries of a `poll`: pairs of a descriptor and its events, behind the timeout.
 fn entries_of(numbers: &[i64]) -> PollList
     requires { length numbers.now ≤ 17 }
@@ -283,28 +85,154 @@ fn numbers_of(control: &Control, operands: &[Operand]) -> ArrayVec<i64, 17>
     numbers
 }
 
-/// The call of this kind, with these numbers and texts, behind what is done of it.
+/// The call of this kind, with these numbers and texts in the order of its fields, behind what is done of it.
 fn made(kind: CallKind, numbers: &[i64], texts: &[Text], done: u32) -> Call
     requires count { length numbers.now ≤ 17 }
-    requires texts { AllByRecursion (λ text. length text ≤ most_text kind) texts.now }
+    requires texts { AllByRecursion (λ text. length text ≤ most_text (shape_of kind)) texts.now }
     ensures { result ≡ spec.made kind numbers.now texts.now done }
 {
-    if let Some(call) = process_call(kind, numbers) {
-        return call;
+    match kind {
+        CallKind::Getpid => Call::Getpid,
+        CallKind::Getppid => Call::Getppid,
+        CallKind::SchedYield => Call::SchedYield,
+        CallKind::Fork => Call::Fork,
+        CallKind::Exec => Call::Exec {
+            path: path_at(texts, 0),
+        },
+        CallKind::Exit => Call::Exit {
+            status: number_at(numbers, 0),
+        },
+        CallKind::Waitpid => Call::Waitpid {
+            pid: number_at(numbers, 0),
+            options: number_at(numbers, 1),
+        },
+        CallKind::Kill => Call::Kill {
+            pid: number_at(numbers, 0),
+            signal: number_at(numbers, 1),
+        },
+        CallKind::Mmap => Call::Mmap {
+            length: number_at(numbers, 0),
+        },
+        CallKind::Munmap => Call::Munmap {
+            addr: number_at(numbers, 0),
+            length: number_at(numbers, 1),
+        },
+        CallKind::Store => Call::Store {
+            addr: number_at(numbers, 0),
+            bytes: bytes_at(texts, 0),
+        },
+        CallKind::Load => Call::Load {
+            addr: number_at(numbers, 0),
+            n: number_at(numbers, 1),
+        },
+        CallKind::OpenFile => Call::OpenFile {
+            path: path_at(texts, 0),
+            flags: number_at(numbers, 0),
+        },
+        CallKind::Close => Call::Close {
+            fd: number_at(numbers, 0),
+        },
+        CallKind::Dup => Call::Dup {
+            fd: number_at(numbers, 0),
+        },
+        CallKind::Dup2 => Call::Dup2 {
+            fd: number_at(numbers, 0),
+            to: number_at(numbers, 1),
+        },
+        CallKind::Fcntl => Call::Fcntl {
+            fd: number_at(numbers, 0),
+            cmd: number_at(numbers, 1),
+            arg: number_at(numbers, 2),
+        },
+        CallKind::Read => Call::Read {
+            fd: number_at(numbers, 0),
+            addr: number_at(numbers, 1),
+            n: number_at(numbers, 2),
+        },
+        CallKind::Write => Call::Write {
+            fd: number_at(numbers, 0),
+            addr: number_at(numbers, 1),
+            n: number_at(numbers, 2),
+            done,
+        },
+        CallKind::Pread => Call::Pread {
+            fd: number_at(numbers, 0),
+            addr: number_at(numbers, 1),
+            n: number_at(numbers, 2),
+            at: number_at(numbers, 3),
+        },
+        CallKind::Pwrite => Call::Pwrite {
+            fd: number_at(numbers, 0),
+            addr: number_at(numbers, 1),
+            n: number_at(numbers, 2),
+            at: number_at(numbers, 3),
+        },
+        CallKind::Lseek => Call::Lseek {
+            fd: number_at(numbers, 0),
+            offset: number_at(numbers, 1),
+            whence: number_at(numbers, 2),
+        },
+        CallKind::Readdir => Call::Readdir {
+            fd: number_at(numbers, 0),
+            addr: number_at(numbers, 1),
+            n: number_at(numbers, 2),
+        },
+        CallKind::Ftruncate => Call::Ftruncate {
+            fd: number_at(numbers, 0),
+            length: number_at(numbers, 1),
+        },
+        CallKind::Fstat => Call::Fstat {
+            fd: number_at(numbers, 0),
+        },
+        CallKind::Stat => Call::Stat {
+            path: path_at(texts, 0),
+        },
+        CallKind::Chdir => Call::Chdir {
+            path: path_at(texts, 0),
+        },
+        CallKind::Mkdir => Call::Mkdir {
+            path: path_at(texts, 0),
+        },
+        CallKind::Rmdir => Call::Rmdir {
+            path: path_at(texts, 0),
+        },
+        CallKind::Unlink => Call::Unlink {
+            path: path_at(texts, 0),
+        },
+        CallKind::Link => Call::Link {
+            old: path_at(texts, 0),
+            new: path_at(texts, 1),
+        },
+        CallKind::Rename => Call::Rename {
+            old: path_at(texts, 0),
+            new: path_at(texts, 1),
+        },
+        CallKind::Pipe => Call::Pipe,
+        CallKind::Socket => Call::Socket,
+        CallKind::Socketpair => Call::Socketpair,
+        CallKind::Bind => Call::Bind {
+            fd: number_at(numbers, 0),
+            path: path_at(texts, 0),
+        },
+        CallKind::Listen => Call::Listen {
+            fd: number_at(numbers, 0),
+        },
+        CallKind::Connect => Call::Connect {
+            fd: number_at(numbers, 0),
+            path: path_at(texts, 0),
+        },
+        CallKind::Accept => Call::Accept {
+            fd: number_at(numbers, 0),
+        },
+        CallKind::Shutdown => Call::Shutdown {
+            fd: number_at(numbers, 0),
+            how: number_at(numbers, 1),
+        },
+        CallKind::Poll => Call::Poll {
+            timeout: number_at(numbers, 0),
+            entries: entries_of(numbers),
+        },
     }
-    if let Some(call) = path_call(kind, numbers, texts) {
-        return call;
-    }
-    if let Some(call) = memory_call(kind, numbers, texts) {
-        return call;
-    }
-    if let Some(call) = descriptor_call(kind, numbers) {
-        return call;
-    }
-    if let Some(call) = transfer_call(kind, numbers, done) {
-        return call;
-    }
-    channel_call(kind, numbers, texts).unwrap()
 }
 
 /// The call that a statement makes; at the end of a program it is `exit 0`.

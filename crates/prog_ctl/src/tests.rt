@@ -2,7 +2,7 @@ ghost use Rattle.std.specs.Prelude.{◌≡◌, ◌∷◌, [], codes, IfOk};
 ghost use Rattle.kabi_types.specs.declared.scripts.Statement.TheVariants.{Invoke};
 ghost use Rattle.prog_ctl.specs.Sample.{sample, sample_body};
 
-use crate::{answer, moved, next_call};
+use crate::{answer, moved, next_call, restart};
 use kabi_types::{
     Call, CallKind, Chooser, Control, Errno, Name27, Operand, Operands, Policy, Program, Programs,
     Reply, Script, Statement, Statements, Test, Texts,
@@ -84,27 +84,27 @@ fn a_program_goes_from_call_to_call(rt: HostRuntime) -> Result<(), Fail> {
         done: 0,
     };
     control.regs[4] = 5;
-    assert_eq!(rt; next_call(&script, &mut control), Call::Getpid);
-    assert_eq!(rt; control.place, 5);
-    assert_eq!(rt; control.regs[1], 1);
-    assert_eq!(rt; control.regs[3], -1);
-    assert_eq!(rt; next_call(&script, &mut control), Call::Getpid);
-    assert_eq!(rt; control.place, 5);
+    assert!(rt; next_call(&script, &mut control) == Call::Getpid);
+    assert!(rt; control.place == 5);
+    assert!(rt; control.regs[1] == 1);
+    assert!(rt; control.regs[3] == -1);
+    assert!(rt; next_call(&script, &mut control) == Call::Getpid);
+    assert!(rt; control.place == 5);
     answer(&script, &mut control, &Reply::Val(7));
-    assert_eq!(rt; control.regs[2], 7);
-    assert_eq!(rt; control.regs[4], 0);
-    assert_eq!(rt; next_call(&script, &mut control), Call::SchedYield);
-    assert_eq!(rt; control.place, 6);
-    assert_eq!(rt; control.regs[1], 1);
+    assert!(rt; control.regs[2] == 7);
+    assert!(rt; control.regs[4] == 0);
+    assert!(rt; next_call(&script, &mut control) == Call::SchedYield);
+    assert!(rt; control.place == 6);
+    assert!(rt; control.regs[1] == 1);
     answer(&script, &mut control, &Reply::Val(0));
-    assert_eq!(rt; control.place, 4);
-    assert_eq!(rt; control.regs[1], 0);
-    assert_eq!(rt; next_call(&script, &mut control), Call::Getpid);
+    assert!(rt; control.place == 4);
+    assert!(rt; control.regs[1] == 0);
+    assert!(rt; next_call(&script, &mut control) == Call::Getpid);
     answer(&script, &mut control, &Reply::Fail(Errno::EINVAL));
-    assert_eq!(rt; control.regs[2], -22);
+    assert!(rt; control.regs[2] == -22);
     let exit = Call::Exit { status: 0 };
-    assert_eq!(rt; next_call(&script, &mut control), exit);
-    assert_eq!(rt; control.place, 7);
+    assert!(rt; next_call(&script, &mut control) == exit);
+    assert!(rt; control.place == 7);
     Ok(())
 }
 
@@ -118,5 +118,18 @@ fn parts_of_a_write_add_up(rt: HostRuntime) {
     };
     moved(&mut control, 4096);
     moved(&mut control, 904);
-    assert_eq!(rt; control.done, 5000);
+    assert!(rt; control.done == 5000);
+}
+
+#[test]
+fn another_program_starts_with_the_registers(rt: HostRuntime) {
+    let mut control = Control {
+        program: 0,
+        place: 5,
+        regs: [7; 16],
+        done: 3,
+    };
+    restart(&mut control, 2);
+    assert!(rt; (control.program, control.place, control.done) == (2, 0, 0));
+    assert!(rt; control.regs == [7; 16]);
 }
