@@ -27,13 +27,17 @@ use Rattle.posix_defs.specs.ScriptLines.{shape_of}
 abbrev pub escape : ℕ → List ℕ
 escape letter = 92 ∷ letter ∷ []
 
--- a byte of a text: itself where it can be printed and means nothing else, else an escape
+-- the escape of any byte: its two hexadecimal digits
+abbrev pub digits_of : ℕ → List ℕ
+digits_of byte = escape 120 ++ hex_byte byte
+
+-- a byte of a text: itself where it can be printed and is neither a quote nor a backslash, else an escape
 abbrev pub shown : ℕ → List ℕ
 shown byte =
     if byte == 10 then escape 110
-    else if byte == 34 || byte == 92 then escape byte
+    else if byte == 34 || byte == 92 then digits_of byte
     else if is_within 32 126 byte then byte ∷ []
-    else escape 120 ++ hex_byte byte
+    else digits_of byte
 
 abbrev pub shown_bytes : List ℕ → List ℕ
 shown_bytes bytes = flat_map shown bytes

@@ -79,9 +79,6 @@ name_of (Program _ name _) = Some name
 abbrev pub has_program : List ℕ → List Part → Bool
 has_program name parts = list_any (λ part. is_named name (name_of part)) parts
 
-abbrev pub is_program : Part → Bool
-is_program part = is_some (name_of part)
-
 -- how many of these parts are programs
 abbrev pub how_many : List Part → ℕ
 how_many [] = 0

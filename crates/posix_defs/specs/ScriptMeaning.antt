@@ -1,5 +1,6 @@
 -- The script that a text without a fault says, by its parts.
 use Rattle.std.specs.Prelude.{ℕ, ◌+◌, Bool, false, if◌then◌else◌, List, [], ◌∷◌, map, Option, None, Some, Result, Ok, Err}
+use Rattle.std.specs.List.{filter_map}
 use Rattle.std.specs.Str.{bytes_eq}
 use Rattle.kabi_types.specs.declared.scripts.Chooser.{Chooser}
 use Rattle.kabi_types.specs.declared.scripts.Chooser.TheVariants.{Plain}
@@ -30,15 +31,9 @@ spoken_in (Err _) = None
 abbrev pub spoken_by : Line → Option Spoken
 spoken_by line = spoken_in (inside_of line)
 
--- a statement before others, where there is one
-abbrev pub before : {A : Type 0} → Option A → List A → List A
-before None rest = rest
-before (Some first) rest = first ∷ rest
-
 -- the statements that the lines of a program say
 abbrev pub spoken_of : List Line → List Spoken
-spoken_of [] = []
-spoken_of (line ∷ lines) = before (spoken_by line) (spoken_of lines)
+spoken_of lines = filter_map spoken_by lines
 
 -- the name of the label that a statement is
 abbrev pub label_of : Spoken → Option (List ℕ)
@@ -53,30 +48,29 @@ is_named name None = false
 is_named name (Some other) = bytes_eq other name
 
 -- the number of the first label of this name among statements, which are counted from 0
-abbrev pub place_of : List ℕ → List Spoken → ℕ
-place_of name [] = 0
-place_of name (said ∷ rest) = if is_named name (label_of said) then 0 else place_of name rest + 1
+abbrev pub label_place : List ℕ → List Spoken → ℕ
+label_place name [] = 0
+label_place name (said ∷ rest) = if is_named name (label_of said) then 0 else label_place name rest + 1
 
 -- a statement among these: where it names a label, it gets the label's place
 abbrev pub statement_of : List Spoken → Spoken → Statement
 statement_of program (spoken.Whole said) = said
-statement_of program (spoken.If left test right label) = statement.If left test right (place_of label program)
-statement_of program (spoken.Jump label) = statement.Jump (place_of label program)
+statement_of program (spoken.If left test right label) = statement.If left test right (label_place label program)
+statement_of program (spoken.Jump label) = statement.Jump (label_place label program)
 statement_of program (spoken.Label name) = statement.Label name
-statement_of program (spoken.Loop register label) = statement.Loop register (place_of label program)
+statement_of program (spoken.Loop register label) = statement.Loop register (label_place label program)
 
 -- the statements of a program, by its lines
-abbrev pub body_of : List Line → List Statement
-body_of lines = map (statement_of (spoken_of lines)) (spoken_of lines)
+abbrev pub body_said : List Line → List Statement
+body_said lines = map (statement_of (spoken_of lines)) (spoken_of lines)
 
 abbrev pub program_in : Part → Option Program
 program_in (Alone _) = None
-program_in (Begun _ name (Some lines)) = Some (record { name = name; body = body_of lines })
+program_in (Begun _ name (Some lines)) = Some (record { name = name; body = body_said lines })
 program_in (Begun _ name None) = None
 
 abbrev pub programs_of : List Part → List Program
-programs_of [] = []
-programs_of (part ∷ parts) = before (program_in part) (programs_of parts)
+programs_of parts = filter_map program_in parts
 
 abbrev pub setting_said : Result AtTop FaultKind → Option Setting
 setting_said (Ok (top.Sets said)) = Some said
@@ -89,8 +83,7 @@ setting_in (Alone line) = setting_said (top_of line)
 setting_in (Begun _ _ _) = None
 
 abbrev pub settings_of : List Part → List Setting
-settings_of [] = []
-settings_of (part ∷ parts) = before (setting_in part) (settings_of parts)
+settings_of parts = filter_map setting_in parts
 
 abbrev pub heap_in : Setting → Option ℕ
 heap_in (setting.Heap n) = Some n

@@ -2,6 +2,7 @@
 use Rattle.std.proofs.Common.{◌≡◌, ℕ, ◌+◌, ◌<◌, Bool, true, false, List, [], ◌∷◌, ◌++◌, length, map, Option, None, Some, Result, Ok, Err, refl, sym, ap, ◌∙◌, subst, append_assoc, append-nil, arith}
 use Rattle.std.specs.Prelude.{nat_lt, ◌==◌, if◌then◌else◌}
 use Rattle.std.proofs.lemmas.List.{length-append}
+use Rattle.std.specs.List.{cons_option}
 use Rattle.kabi_types.specs.declared.scripts.FaultKind.{FaultKind}
 use Rattle.kabi_types.specs.declared.scripts.FaultKind.TheVariants.{WrongWay, TwiceDefined}
 use Rattle.kabi_types.specs.declared.scripts.ScriptFault.{ScriptFault}
@@ -14,7 +15,7 @@ use Rattle.posix_defs.specs.declared.said.Spoken.TheVariants as spoken
 use Rattle.posix_defs.specs.declared.said.Stated.{Stated}
 use Rattle.posix_defs.specs.ScriptValues.{with}
 use Rattle.posix_defs.specs.ScriptParts.{Line, inside_of}
-use Rattle.posix_defs.specs.ScriptMeaning.{before as in_front, or_next, spoken_in, spoken_of, is_named, label_of, place_of, statement_of}
+use Rattle.posix_defs.specs.ScriptMeaning.{or_next, spoken_in, spoken_of, is_named, label_of, label_place, statement_of}
 use Rattle.posix_defs.specs.ScriptFaults.{has_label}
 use Rattle.script_parse.specs.LabelPlaces.{place_from, later, earlier, first_label, placed, before, body_from}
 use Rattle.script_parse.proofs.LineFaults.{jump_fault, loop_fault, label_fault, spoken_fault, inside_fault, line_fault}
@@ -121,7 +122,7 @@ loop_placed above lines whole number said name false false here other is_up is_d
 
 -- The reader finds every label where it is counted among the statements.
 abbrev pub Agrees : List Line → Type 0
-Agrees whole = (name : List ℕ) (p : ℕ) → places_in whole name ≡ Some p → place_of name (spoken_of whole) ≡ p
+Agrees whole = (name : List ℕ) (p : ℕ) → places_in whole name ≡ Some p → label_place name (spoken_of whole) ≡ p
 
 -- The reader's statement is a fault, or the one that the line says.
 abbrev pub IsRead : Option FaultKind → List Line → Spoken → Result Statement FaultKind → Type 0
@@ -129,7 +130,7 @@ IsRead (Some kind) whole said answer = answer ≡ Err kind
 IsRead None whole said answer = (read : Statement) × (answer ≡ Ok read) × (Agrees whole → read ≡ statement_of (spoken_of whole) said)
 
 read_placed : (whole : List Line) (said : Spoken) (name : List ℕ) (make : ℕ → Statement) (found : Option FaultKind) (answer : Result ℕ FaultKind)
-    → (statement_of (spoken_of whole) said ≡ make (place_of name (spoken_of whole))) → IsPlaced found answer (places_in whole name)
+    → (statement_of (spoken_of whole) said ≡ make (label_place name (spoken_of whole))) → IsPlaced found answer (places_in whole name)
     → IsRead found whole said (with make answer)
 read_placed whole said name make (Some kind) answer made is = ap (with make) is
 read_placed whole said name make None answer made is =
@@ -202,11 +203,11 @@ abbrev pub answer_to : List Line → List Line → List Line → Result (List St
 answer_to whole above below = body_from (places_in whole) (at_place above) (stated_of below)
 
 abbrev answer_by : List Line → ℕ → Option Stated → List Line → Result (List Statement) ScriptFault
-answer_by whole at first lines = body_from (places_in whole) at (in_front first (stated_of lines))
+answer_by whole at first lines = body_from (places_in whole) at (cons_option first (stated_of lines))
 
 more_above : (above : List Line) (line : Line) (first : Option Stated) → stated_by line.number (inside_of line) ≡ first
-    → stated_of (above ++ line ∷ []) ≡ stated_of above ++ in_front first []
-more_above above line first is = stated_append above (line ∷ []) ∙ ap (λ f. stated_of above ++ in_front f []) is
+    → stated_of (above ++ line ∷ []) ≡ stated_of above ++ cons_option first []
+more_above above line first is = stated_append above (line ∷ []) ∙ ap (λ f. stated_of above ++ cons_option f []) is
 
 said_reads : (same : (name : List ℕ) → is_named name (Some name) ≡ true) (whole above lines : List Line) (line : Line) (said : Spoken) (found : Option FaultKind)
     → inside_of line ≡ Ok (inside.Says said) → spoken_fault above lines said ≡ found → whole ≡ above ++ line ∷ lines
@@ -215,19 +216,19 @@ said_reads : (same : (name : List ℕ) → is_named name (Some name) ≡ true) (
     (answer_by whole (at_place above) (Some (record { line = line.number; said = Ok said })) lines)
 said_reads same whole above lines line said (Some kind) says is whole_is more =
     let here : stated_of whole ≡ stated_of above ++ record { line = line.number; said = Ok said } ∷ stated_of lines =
-    ap stated_of whole_is ∙ stated_append above (line ∷ lines) ∙ ap (λ t. stated_of above ++ in_front (stated_by line.number t) (stated_of lines)) says in
+    ap stated_of whole_is ∙ stated_append above (line ∷ lines) ∙ ap (λ t. stated_of above ++ cons_option (stated_by line.number t) (stated_of lines)) says in
     let read = said_read same above lines whole line.number said (record { stated = here }) in
     line_step line.number kind (placed (places_in whole) (at_place above) said) (body_from (places_in whole) (at_place above + 1) (stated_of lines))
     (subst (λ f. IsRead f whole said (placed (places_in whole) (at_place above) said)) is read)
 said_reads same whole above lines line said None says is whole_is more =
     let here : stated_of whole ≡ stated_of above ++ record { line = line.number; said = Ok said } ∷ stated_of lines =
-    ap stated_of whole_is ∙ stated_append above (line ∷ lines) ∙ ap (λ t. stated_of above ++ in_front (stated_by line.number t) (stated_of lines)) says in
+    ap stated_of whole_is ∙ stated_append above (line ∷ lines) ∙ ap (λ t. stated_of above ++ cons_option (stated_by line.number t) (stated_of lines)) says in
     let read = said_read same above lines whole line.number said (record { stated = here }) in
     let next : at_place (above ++ line ∷ []) ≡ at_place above + 1 =
     ap length (more_above above line (Some (record { line = line.number; said = Ok said })) (ap (stated_by line.number) says))
     ∙ length-append (stated_of above) (record { line = line.number; said = Ok said } ∷ []) in
     reads_on whole lines line said (wrong_in (above ++ line ∷ []) lines) (placed (places_in whole) (at_place above) said)
-    (body_from (places_in whole) (at_place above + 1) (stated_of lines)) (ap (λ t. in_front (spoken_in t) (spoken_of lines)) says)
+    (body_from (places_in whole) (at_place above + 1) (stated_of lines)) (ap (λ t. cons_option (spoken_in t) (spoken_of lines)) says)
     (subst (λ f. IsRead f whole said (placed (places_in whole) (at_place above) said)) is read)
     (subst (λ at. Reads whole lines (wrong_in (above ++ line ∷ []) lines) (body_from (places_in whole) at (stated_of lines))) next more)
 
@@ -243,7 +244,7 @@ silent_reads whole above lines line no_stated no_spoken more =
   where
     with_silent : (found : Option ScriptFault) → Reads whole lines found (answer_to whole above lines) → Reads whole (line ∷ lines) found (answer_to whole above lines)
     with_silent (Some fault) is = is
-    with_silent None is = (is.0, is.1, λ agrees. is.2 agrees ∙ ap (λ s. map (statement_of (spoken_of whole)) (in_front s (spoken_of lines))) (sym no_spoken))
+    with_silent None is = (is.0, is.1, λ agrees. is.2 agrees ∙ ap (λ s. map (statement_of (spoken_of whole)) (cons_option s (spoken_of lines))) (sym no_spoken))
 
 line_reads : (same : (name : List ℕ) → is_named name (Some name) ≡ true) (whole above lines : List Line) (line : Line) (told : Result InProgram FaultKind)
     → inside_of line ≡ told → whole ≡ above ++ line ∷ lines

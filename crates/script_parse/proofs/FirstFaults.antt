@@ -2,6 +2,7 @@
 use Rattle.std.proofs.Common.{◌≡◌, ℕ, ◌+◌, ◌≤◌, Bool, true, false, List, [], ◌∷◌, ◌++◌, Option, None, Some, Result, Ok, Err, refl, sym, ap, ◌∙◌, subst, append_assoc, append-nil, arith, inl, inr}
 use Rattle.std.specs.Prelude.{⊤, if◌then◌else◌, is_some, unwrap_or}
 use Rattle.std.proofs.lemmas.Slice.Eq.{bytes_eq-Decides}
+use Rattle.std.specs.List.{cons_option}
 use Rattle.kabi_types.specs.declared.scripts.FaultKind.{FaultKind}
 use Rattle.kabi_types.specs.declared.scripts.ScriptFault.{ScriptFault}
 use Rattle.posix_defs.specs.declared.said.InProgram.{InProgram}
@@ -9,7 +10,7 @@ use Rattle.posix_defs.specs.declared.said.InProgram.TheVariants as inside
 use Rattle.posix_defs.specs.declared.said.Spoken.{Spoken}
 use Rattle.posix_defs.specs.ScriptValues.{rank}
 use Rattle.posix_defs.specs.ScriptParts.{Line, inside_of}
-use Rattle.posix_defs.specs.ScriptMeaning.{before as in_front, or_next, spoken_in, spoken_of, is_named, label_of, place_of, body_of}
+use Rattle.posix_defs.specs.ScriptMeaning.{or_next, spoken_in, spoken_of, is_named, label_of, label_place, body_said}
 use Rattle.posix_defs.specs.ScriptFaults.{IsToldBefore, LineFault}
 use Rattle.script_parse.specs.LabelPlaces.{place_from}
 use Rattle.script_parse.specs.LabelPlaces as reader
@@ -31,23 +32,23 @@ on_none line (Some kind) is = let wrong : true ≡ false = ap is_some is in absu
 
 said_agrees : (name : List ℕ) (i p : ℕ) (said : Spoken) (number : ℕ) (lines : List Line) (here : Bool) → is_named name (label_of said) ≡ here
     → (if reader.names name said then Some i else place_from (i + 1) name (stated_of lines)) ≡ Some p
-    → (place_from (i + 1) name (stated_of lines) ≡ Some p → i + 1 + place_of name (spoken_of lines) ≡ p)
-    → i + (if is_named name (label_of said) then 0 else place_of name (spoken_of lines) + 1) ≡ p
+    → (place_from (i + 1) name (stated_of lines) ≡ Some p → i + 1 + label_place name (spoken_of lines) ≡ p)
+    → i + (if is_named name (label_of said) then 0 else label_place name (spoken_of lines) + 1) ≡ p
 said_agrees name i p said number lines true is found more =
     let at : i ≡ p = ap (λ o. unwrap_or o i) (sym (ap (λ b. if b then Some i else place_from (i + 1) name (stated_of lines)) (names_is name said ∙ is)) ∙ found) in
     let none : i + 0 ≡ i = omega arith in
-    ap (λ b. i + (if b then 0 else place_of name (spoken_of lines) + 1)) is ∙ none ∙ at
+    ap (λ b. i + (if b then 0 else label_place name (spoken_of lines) + 1)) is ∙ none ∙ at
 said_agrees name i p said number lines false is found more =
     let on : place_from (i + 1) name (stated_of lines) ≡ Some p =
     sym (ap (λ b. if b then Some i else place_from (i + 1) name (stated_of lines)) (names_is name said ∙ is)) ∙ found in
-    let count : i + (place_of name (spoken_of lines) + 1) ≡ i + 1 + place_of name (spoken_of lines) = omega arith in
-    ap (λ b. i + (if b then 0 else place_of name (spoken_of lines) + 1)) is ∙ count ∙ more on
+    let count : i + (label_place name (spoken_of lines) + 1) ≡ i + 1 + label_place name (spoken_of lines) = omega arith in
+    ap (λ b. i + (if b then 0 else label_place name (spoken_of lines) + 1)) is ∙ count ∙ more on
 
 line_agrees : (above lines : List Line) (line : Line) (rest : Option ScriptFault) (name : List ℕ) (i p : ℕ) (told : Result InProgram FaultKind)
     → or_next (fault_on line (inside_fault above lines told)) rest ≡ None
-    → place_from i name (in_front (stated_by line.number told) (stated_of lines)) ≡ Some p
-    → (rest ≡ None → (j : ℕ) → place_from j name (stated_of lines) ≡ Some p → j + place_of name (spoken_of lines) ≡ p)
-    → i + place_of name (in_front (spoken_in told) (spoken_of lines)) ≡ p
+    → place_from i name (cons_option (stated_by line.number told) (stated_of lines)) ≡ Some p
+    → (rest ≡ None → (j : ℕ) → place_from j name (stated_of lines) ≡ Some p → j + label_place name (spoken_of lines) ≡ p)
+    → i + label_place name (cons_option (spoken_in told) (spoken_of lines)) ≡ p
 line_agrees above lines line rest name i p (Err kind) clean found more = let wrong : true ≡ false = ap is_some clean in absurd cc
 line_agrees above lines line rest name i p (Ok inside.Silent) clean found more = more clean i found
 line_agrees above lines line rest name i p (Ok inside.Ends) clean found more = more clean i found
@@ -56,23 +57,23 @@ line_agrees above lines line rest name i p (Ok (inside.Says said)) clean found m
     (more (none_of (fault_on line (spoken_fault above lines said)) rest clean).1 (i + 1))
 
 agrees_from : (above lines : List Line) (name : List ℕ) (p : ℕ) → wrong_in above lines ≡ None → (i : ℕ) → place_from i name (stated_of lines) ≡ Some p
-    → i + place_of name (spoken_of lines) ≡ p
+    → i + label_place name (spoken_of lines) ≡ p
 agrees_from above [] name p clean i found = let wrong : false ≡ true = ap is_some found in absurd cc
 agrees_from above (line ∷ lines) name p clean i found =
     line_agrees above lines line (wrong_in (above ++ line ∷ []) lines) name i p (inside_of line) clean found
     (λ none. agrees_from (above ++ line ∷ []) lines name p none)
 
 agrees : (lines : List Line) → wrong_in [] lines ≡ None → Agrees lines
-agrees lines clean name p found = let none : 0 + place_of name (spoken_of lines) ≡ place_of name (spoken_of lines) = omega arith in
+agrees lines clean name p found = let none : 0 + label_place name (spoken_of lines) ≡ label_place name (spoken_of lines) = omega arith in
     sym none ∙ agrees_from [] lines name p clean 0 found
 
 -- the reader's answer to a whole program
 abbrev pub answered : Option ScriptFault → List Line → Type 0
-answered (Some fault) lines = reader.body_of (stated_of lines) ≡ Err fault
-answered None lines = reader.body_of (stated_of lines) ≡ Ok (body_of lines)
+answered (Some fault) lines = reader.placed_body (stated_of lines) ≡ Err fault
+answered None lines = reader.placed_body (stated_of lines) ≡ Ok (body_said lines)
 
 answered_by : (lines : List Line) (found : Option ScriptFault) → wrong_in [] lines ≡ found
-    → Reads lines lines found (reader.body_of (stated_of lines)) → answered found lines
+    → Reads lines lines found (reader.placed_body (stated_of lines)) → answered found lines
 answered_by lines (Some fault) is read = read
 answered_by lines None is read = read.1 ∙ ap Ok (read.2 (agrees lines is))
 

@@ -9,6 +9,7 @@ pub mod Joined
 pub mod LineFaults
 pub mod LinePlaces
 pub mod Lines
+pub mod NamedPrograms
 pub mod Numbers
 pub mod OneReading
 pub mod PartFaults

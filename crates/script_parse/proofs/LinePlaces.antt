@@ -1,6 +1,8 @@
 -- Where labels stand among the lines of a program, as the reader counts and as its statements are counted.
 use Rattle.std.proofs.Common.{◌≡◌, ℕ, suc, ◌+◌, ◌<◌, ◌≤◌, Bool, true, false, ◌||◌, List, [], ◌∷◌, ◌++◌, length, Option, None, Some, Result, Ok, Err, refl, sym, ap, ◌∙◌, arith}
-use Rattle.std.specs.Prelude.{if◌then◌else◌}
+use Rattle.std.specs.Prelude.{filter_map, if◌then◌else◌}
+use Rattle.std.specs.List.{cons_option}
+use Rattle.std.proofs.lemmas.List.Elements.{filter_map-append}
 use Rattle.kabi_types.specs.declared.scripts.FaultKind.{FaultKind}
 use Rattle.posix_defs.specs.declared.said.InProgram.{InProgram}
 use Rattle.posix_defs.specs.declared.said.InProgram.TheVariants as inside
@@ -8,7 +10,7 @@ use Rattle.posix_defs.specs.declared.said.Spoken.{Spoken}
 use Rattle.posix_defs.specs.declared.said.Spoken.TheVariants as spoken
 use Rattle.posix_defs.specs.declared.said.Stated.{Stated}
 use Rattle.posix_defs.specs.ScriptParts.{Line, inside_of}
-use Rattle.posix_defs.specs.ScriptMeaning.{before, spoken_in, spoken_of, is_named, label_of}
+use Rattle.posix_defs.specs.ScriptMeaning.{spoken_by, spoken_in, spoken_of, is_named, label_of}
 use Rattle.posix_defs.specs.ScriptFaults.{has_label, label_by}
 use Rattle.script_parse.specs.LabelPlaces.{names, place_from}
 
@@ -20,24 +22,13 @@ stated_by number (Ok (inside.Says said)) = Some (record { line = number; said = 
 stated_by number (Err kind) = Some (record { line = number; said = Err kind })
 
 abbrev pub stated_of : List Line → List Stated
-stated_of [] = []
-stated_of (line ∷ lines) = before (stated_by line.number (inside_of line)) (stated_of lines)
-
-before_append : {A : Type 0} (first : Option A) (rest last : List A) → before first rest ++ last ≡ before first (rest ++ last)
-before_append None rest last = refl
-before_append (Some first) rest last = refl
+stated_of lines = filter_map (λ line. stated_by line.number (inside_of line)) lines
 
 pub stated_append : (above below : List Line) → stated_of (above ++ below) ≡ stated_of above ++ stated_of below
-stated_append [] below = refl
-stated_append (line ∷ above) below =
-    let first = stated_by line.number (inside_of line) in
-    ap (before first) (stated_append above below) ∙ sym (before_append first (stated_of above) (stated_of below))
+stated_append above below = filter_map-append (λ line. stated_by line.number (inside_of line)) above below
 
 pub spoken_append : (above below : List Line) → spoken_of (above ++ below) ≡ spoken_of above ++ spoken_of below
-spoken_append [] below = refl
-spoken_append (line ∷ above) below =
-    let first = spoken_in (inside_of line) in
-    ap (before first) (spoken_append above below) ∙ sym (before_append first (spoken_of above) (spoken_of below))
+spoken_append above below = filter_map-append spoken_by above below
 
 pub names_is : (name : List ℕ) (said : Spoken) → names name said ≡ is_named name (label_of said)
 names_is name (spoken.Label label) = refl
@@ -63,7 +54,7 @@ passes_said name number said rest back false any is none more i =
 
 passes_by : (name : List ℕ) (number : ℕ) (told : Result InProgram FaultKind) (rest back : List Stated) (any : Bool)
     → (is_named name (label_by (spoken_in told)) || any) ≡ false → (any ≡ false → IsPassed name rest back)
-    → IsPassed name (before (stated_by number told) rest) back
+    → IsPassed name (cons_option (stated_by number told) rest) back
 passes_by name number (Ok inside.Silent) rest back any none more i = more none i
 passes_by name number (Ok inside.Ends) rest back any none more i = more none i
 passes_by name number (Ok (inside.Says said)) rest back any none more i =
@@ -107,7 +98,7 @@ found_said name number said rest back false any i is some more =
 
 found_by : (name : List ℕ) (number : ℕ) (told : Result InProgram FaultKind) (rest back : List Stated) (any : Bool) (i : ℕ)
     → (is_named name (label_by (spoken_in told)) || any) ≡ true → (any ≡ true → (j : ℕ) → IsFound name rest back j)
-    → IsFound name (before (stated_by number told) rest) back i
+    → IsFound name (cons_option (stated_by number told) rest) back i
 found_by name number (Ok inside.Silent) rest back any i some more = more some i
 found_by name number (Ok inside.Ends) rest back any i some more = more some i
 found_by name number (Ok (inside.Says said)) rest back any i some more =

@@ -15,7 +15,7 @@ use Rattle.posix_defs.specs.declared.said.InProgram.TheVariants as inside
 use Rattle.posix_defs.specs.declared.said.Word.{Word}
 use Rattle.script_parse.specs.Reading.{Outcome, TakesLine, lines_in}
 use Rattle.posix_defs.specs.ScriptLines.{said_at_top, said_in_program}
-use Rattle.script_parse.specs.LabelPlaces.{body_of}
+use Rattle.script_parse.specs.LabelPlaces.{placed_body}
 use Rattle.posix_defs.specs.ScriptValues.{with, ◌>>=◌}
 use Rattle.script_parse.specs.Drafting.{Draft, Opened, State, Reads, ended, goes_on, stops, at_start, at_line, closed, finish, may_begin, outside, step, step_at_top, step_in_program, with_setting, within}
 
@@ -83,8 +83,8 @@ top_counts draft line (Ok (top.Sets setting)) = set_counts (with_setting draft s
 top_counts draft line (Ok (top.Begins name)) = begin_counts draft line name (may_begin draft name)
 top_counts draft line (Err kind) = refl
 
-closed_counts : (draft : Draft) (opened : Opened) → counted (closed draft opened.name (body_of opened.said)) ≤ length opened.said + 1
-closed_counts draft opened = omega (arith, none (body_of opened.said))
+closed_counts : (draft : Draft) (opened : Opened) → counted (closed draft opened.name (placed_body opened.said)) ≤ length opened.said + 1
+closed_counts draft opened = omega (arith, none (placed_body opened.said))
   where
     none : (body : _) → counted (closed draft opened.name body) ≡ 0
     none (Ok body) = refl

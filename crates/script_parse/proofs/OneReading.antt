@@ -272,6 +272,11 @@ abbrev pub lines_step : (State → Result Script ScriptFault) → Result State S
 lines_step more (Ok next) = more next
 lines_step more (Err fault) = Err fault
 
+pub same_step : (first second : State → Result Script ScriptFault) (next : Result State ScriptFault) → ((s : State) → first s ≡ second s)
+    → lines_step first next ≡ lines_step second next
+same_step first second (Ok next) same = same next
+same_step first second (Err fault) same = refl
+
 abbrev pub lines_read : State → ℕ → List (List ℕ) → Result Script ScriptFault
 lines_read state line [] = finish state
 lines_read state line (first ∷ lines) = lines_step (λ next. lines_read next (line + 1) lines) (step state line (line_read first))

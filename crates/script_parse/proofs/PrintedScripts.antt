@@ -25,12 +25,13 @@ use Rattle.posix_defs.specs.ScriptLines.{said_at_top}
 use Rattle.posix_defs.specs.Canonical.{number_word, policy_text, words_text, statement_words, program_lines, chooser_lines, script_lines, canonical}
 use Rattle.posix_defs.specs.ValidScript.{IsProgram, IsChooser, AreApart, IsStatement, IsValid}
 use Rattle.posix_defs.specs.ScriptText.{ReadsText}
-use Rattle.script_parse.specs.Drafting.{Draft, nothing_set, at_start, has_program, outside, fault_at, with_setting, script_of, finish, Reads, ended, goes_on}
+use Rattle.script_parse.specs.Drafting.{Draft, nothing_set, at_start, has_program, outside, fault_at, with_setting, drafted_script, finish, Reads, ended, goes_on}
 use Rattle.script_parse.proofs.Holds.{all_append}
 use Rattle.script_parse.proofs.TextReads.{text_means, reads_as}
 use Rattle.script_parse.proofs.ValidScripts.{reads_valid}
 use Rattle.script_parse.proofs.PrintedWords.{IsLine, lines_split}
 use Rattle.script_parse.proofs.PrintedStatements.{AreNamed, heap_read, disk_read, steps_read, policy_read, choosing_read, seed_read, number_line, policy_line, choices_line, program_line, end_line, statement_line}
+use Rattle.script_parse.proofs.NamedPrograms.{program_found}
 use Rattle.script_parse.proofs.PrintedPrograms.{one_line, top_steps, program_reads, labels_named}
 
 -- the programs
@@ -124,21 +125,8 @@ settings_read script lines outcome is rest =
 
 -- the whole text
 
--- a program of a name is found
-found_program : (programs : List Program) (name : List ℕ) (at : ℕ) (program : Program) → slice_get programs at ≡ Some program → program.name ≡ name
-    → has_program name programs ≡ true
-found_program [] name at program there named = absurd (let wrong : None ≡ Some program = there in cc)
-found_program (p ∷ programs) name zero program there named =
-    let same : p ≡ program = cc in
-    ap (λ b. b || has_program name programs) ((bytes_eq-Decides p.name name).1 (ap (λ q. q.name) same ∙ named))
-found_program (p ∷ programs) name (suc at) program there named = either (bytes_eq p.name name) (found_program programs name at program there named)
-  where
-    either : (here : Bool) → has_program name programs ≡ true → (here || has_program name programs) ≡ true
-    either true e = refl
-    either false e = e
-
 -- what is set is what the script has
-set_all : (script : Script) (chooser : Chooser) → script.chooser ≡ chooser → script_of (Set script (given chooser) script.programs) ≡ script
+set_all : (script : Script) (chooser : Chooser) → script.chooser ≡ chooser → drafted_script (Set script (given chooser) script.programs) ≡ script
 set_all script Plain is = ap (λ c. record script { chooser = c }) (sym is)
 set_all script (Choices choices) is = ap (λ c. record script { chooser = c }) (sym is)
 set_all script (Seed seed) is = ap (λ c. record script { chooser = c }) (sym is)
@@ -148,7 +136,7 @@ last_read : (script : Script) (line : ℕ) → IsValid script → Reads (outside
 last_read script line is =
     let draft = Set script (given script.chooser) script.programs in
     let finished : finish (outside draft) ≡ Ok script =
-    ap (λ b. if b then Ok (script_of draft) else fault_at 0 NoInit) (found_program script.programs (codes "init") is.init.at is.init.program is.init.is_there is.init.is_named)
+    ap (λ b. if b then Ok (drafted_script draft) else fault_at 0 NoInit) (program_found (codes "init") script.programs is.init)
     ∙ ap Ok (set_all script script.chooser refl) in
     goes_on (outside draft) (outside draft) line [] [] (Ok []) (Ok script) (spelled [] [] IsUtf8-nil refl nothing) refl
     (subst (Reads (outside draft) (line + 1) []) finished (ended (outside draft) (line + 1)))

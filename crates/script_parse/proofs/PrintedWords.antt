@@ -15,16 +15,11 @@ use Rattle.posix_defs.specs.declared.said.Word.{Word}
 use Rattle.posix_defs.specs.declared.said.Word.TheVariants.{Bare, Quoted}
 use Rattle.posix_defs.specs.Lines.{newline, hex_byte}
 use Rattle.posix_defs.specs.ScriptWords.{is_blank, is_within, ends_word, hex_value, hex_number, gives, hex_piece, escape_piece, piece, SaysText, closed, holds, Words, nothing, blank as behind_blank, bare, quoted, is_comment, LineWords, spelled}
-use Rattle.posix_defs.specs.Canonical.{escape, shown, shown_bytes, word_text, further_words, words_text, line_text}
+use Rattle.posix_defs.specs.Canonical.{digits_of, shown, shown_bytes, word_text, further_words, words_text, line_text}
 use Rattle.posix_defs.specs.ValidScript.{IsBytes}
 use Rattle.script_parse.proofs.Holds.{when, within_le, all_append}
 
 -- texts
-
-one_of : (byte : ℕ) (quote slash : Bool) → (byte == 34) ≡ quote → (byte == 92) ≡ slash → (quote || slash) ≡ true → (byte ≡ 34) ⊎ (byte ≡ 92)
-one_of byte true slash is_quote is_slash either = inl (grind (arith, is_quote))
-one_of byte false true is_quote is_slash either = inr (grind (arith, is_slash))
-one_of byte false false is_quote is_slash either = absurd (let wrong : false ≡ true = either in cc)
 
 hex_glyph : (n : ℕ) → n < 16 → hex_value (digit_glyph false n) ≡ Some n
 hex_glyph n small =
@@ -55,11 +50,7 @@ piece_shown : (byte : ℕ) (tail : List ℕ) → byte < 256 → piece (shown byt
 piece_shown byte tail small =
     let P : List ℕ → Type 0 = λ l. piece (l ++ tail) ≡ Some (Some byte, tail) in
     when P (byte == 10) _ _ (λ is. ap (λ b. Some (Some b, tail)) (let same : 10 ≡ byte = grind (arith, is) in same))
-    (λ _. when P (byte == 34 || byte == 92) _ _
-    (λ is. elim (one_of byte (byte == 34) (byte == 92) refl refl is) [
-      | inl quote ↦ subst (λ b. piece (escape b ++ tail) ≡ Some (Some b, tail)) (sym quote) refl
-      | inr slash ↦ subst (λ b. piece (escape b ++ tail) ≡ Some (Some b, tail)) (sym slash) refl
-    ])
+    (λ _. when P (byte == 34 || byte == 92) _ _ (λ _. hex_read byte tail small)
     (λ plain. let parts = or_parts (byte == 34) (byte == 92) plain in
     when P (is_within 32 126 byte) _ _
     (λ _. ap (λ b. if b then Some (None, tail) else if byte == 92 then escape_piece tail else Some (Some byte, tail)) parts.0
@@ -124,25 +115,23 @@ IsPlain byte = (32 ≤ byte) × (byte ≤ 126)
 glyph_plain : (n : ℕ) → n < 16 → IsPlain (digit_glyph false n)
 glyph_plain n small = when IsPlain (nat_lt n 10) (48 + n) (87 + n) (λ low. (omega arith, grind (arith, low))) (λ _. (omega arith, omega (arith, small)))
 
+digits_plain : (byte : ℕ) → byte < 256 → AllByRecursion IsPlain (digits_of byte)
+digits_plain byte small = (
+  (omega arith, omega arith),
+  (
+    (omega arith, omega arith),
+    subst (AllByRecursion IsPlain) (sym (ap (λ l. l ++ digits 16 false (byte % 16)) (hex_one_digit false (byte / 16) (omega (arith, small)))
+        ∙ ap (λ l. digit_glyph false (byte / 16) ∷ l) (hex_one_digit false (byte % 16) (omega arith))))
+        (glyph_plain (byte / 16) (omega (arith, small)), (glyph_plain (byte % 16) (omega arith), tt)),
+  ),
+)
+
 shown_plain : (byte : ℕ) → byte < 256 → AllByRecursion IsPlain (shown byte)
 shown_plain byte small =
     let P : List ℕ → Type 0 = λ l. AllByRecursion IsPlain l in
     when P (byte == 10) _ _ (λ _. ((omega arith, omega arith), ((omega arith, omega arith), tt)))
-    (λ _. when P (byte == 34 || byte == 92) _ _
-    (λ is. elim (one_of byte (byte == 34) (byte == 92) refl refl is) [
-      | inl quote ↦ ((omega arith, omega arith), ((omega (arith, quote), omega (arith, quote)), tt))
-      | inr slash ↦ ((omega arith, omega arith), ((omega (arith, slash), omega (arith, slash)), tt))
-    ])
-    (λ _. when P (is_within 32 126 byte) _ _ (λ is. (within_le 32 126 byte is, tt))
-    (λ _. (
-      (omega arith, omega arith),
-      (
-        (omega arith, omega arith),
-        subst P (sym (ap (λ l. l ++ digits 16 false (byte % 16)) (hex_one_digit false (byte / 16) (omega (arith, small)))
-            ∙ ap (λ l. digit_glyph false (byte / 16) ∷ l) (hex_one_digit false (byte % 16) (omega arith))))
-            (glyph_plain (byte / 16) (omega (arith, small)), (glyph_plain (byte % 16) (omega arith), tt)),
-      ),
-    ))))
+    (λ _. when P (byte == 34 || byte == 92) _ _ (λ _. digits_plain byte small)
+    (λ _. when P (is_within 32 126 byte) _ _ (λ is. (within_le 32 126 byte is, tt)) (λ _. digits_plain byte small)))
 
 shown_all_plain : (text : List ℕ) → IsBytes text → AllByRecursion IsPlain (shown_bytes text)
 shown_all_plain [] all = tt

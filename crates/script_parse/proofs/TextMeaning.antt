@@ -3,7 +3,9 @@ use Rattle.std.proofs.Common.{◌≡◌, ℕ, suc, ◌+◌, ◌<◌, ◌≤◌, 
 use Rattle.std.specs.Prelude.{⊤, nat_le, if◌then◌else◌, is_some}
 use Rattle.std.specs.Str.{bytes_eq}
 use Rattle.std.proofs.lemmas.List.{length-append}
+use Rattle.std.proofs.lemmas.List.Elements.{filter_map-append}
 use Rattle.std.proofs.lemmas.List.Folds.{list_any-append}
+use Rattle.std.specs.List.{cons_option}
 use Rattle.kabi_types.specs.declared.scripts.FaultKind.{FaultKind}
 use Rattle.kabi_types.specs.declared.scripts.FaultKind.TheVariants.{OutOfRange, TwiceDefined, Unended}
 use Rattle.kabi_types.specs.declared.scripts.Chooser.{Chooser}
@@ -19,7 +21,7 @@ use Rattle.posix_defs.specs.declared.said.Setting.{Setting}
 use Rattle.posix_defs.specs.declared.said.Setting.TheVariants as setting
 use Rattle.posix_defs.specs.ScriptValues.{◌>>=◌, with}
 use Rattle.posix_defs.specs.ScriptParts.{Line, top_of, inside_of, name_begun, is_ending, ends, Part, Alone, Program as Begun}
-use Rattle.posix_defs.specs.ScriptMeaning.{before as in_front, or_next, program_in, programs_of, setting_said, setting_in, settings_of, first_of, is_named, heap_in, disk_in, steps_in, policy_in, chooser_in, body_of}
+use Rattle.posix_defs.specs.ScriptMeaning.{or_next, program_in, programs_of, setting_said, setting_in, settings_of, first_of, is_named, heap_in, disk_in, steps_in, policy_in, chooser_in, body_said}
 use Rattle.posix_defs.specs.ScriptFaults.{most_programs, how_many, has_program, name_of, is_set_in}
 use Rattle.script_parse.specs.LabelPlaces as reader
 use Rattle.script_parse.specs.Drafting.{Draft, Opened, State, fault_at, at_line, once, with_setting, may_begin, begin, outside, within, step_at_top, step_in_program, finish_from, finish, step}
@@ -45,45 +47,31 @@ draft_by settings programs = record {
 abbrev pub draft_of : List Part → Draft
 draft_of parts = draft_by (settings_of parts) (programs_of parts)
 
-in_front_append : {A : Type 0} (first : Option A) (rest last : List A) → in_front first rest ++ last ≡ in_front first (rest ++ last)
-in_front_append None rest last = refl
-in_front_append (Some first) rest last = refl
-
-settings_append : (above below : List Part) → settings_of (above ++ below) ≡ settings_of above ++ settings_of below
-settings_append [] below = refl
-settings_append (part ∷ above) below =
-    ap (in_front (setting_in part)) (settings_append above below) ∙ sym (in_front_append (setting_in part) (settings_of above) (settings_of below))
-
-programs_append : (above below : List Part) → programs_of (above ++ below) ≡ programs_of above ++ programs_of below
-programs_append [] below = refl
-programs_append (part ∷ above) below =
-    ap (in_front (program_in part)) (programs_append above below) ∙ sym (in_front_append (program_in part) (programs_of above) (programs_of below))
-
 draft_more : (above : List Part) (part : Part)
-    → draft_of (above ++ part ∷ []) ≡ draft_by (settings_of above ++ in_front (setting_in part) []) (programs_of above ++ in_front (program_in part) [])
+    → draft_of (above ++ part ∷ []) ≡ draft_by (settings_of above ++ cons_option (setting_in part) []) (programs_of above ++ cons_option (program_in part) [])
 draft_more above part =
-    ap (λ s. draft_by s (programs_of (above ++ part ∷ []))) (settings_append above (part ∷ []))
-    ∙ ap (draft_by (settings_of above ++ in_front (setting_in part) [])) (programs_append above (part ∷ []))
+    ap (λ s. draft_by s (programs_of (above ++ part ∷ []))) (filter_map-append setting_in above (part ∷ []))
+    ∙ ap (draft_by (settings_of above ++ cons_option (setting_in part) [])) (filter_map-append program_in above (part ∷ []))
 
 -- a line outside programs that sets nothing
 draft_alone : (above : List Part) (line : Line) → setting_in (Alone line) ≡ None → draft_of (above ++ Alone line ∷ []) ≡ draft_of above
 draft_alone above line none =
     draft_more above (Alone line)
-    ∙ ap (λ s. draft_by (settings_of above ++ in_front s []) (programs_of above ++ [])) none
+    ∙ ap (λ s. draft_by (settings_of above ++ cons_option s []) (programs_of above ++ [])) none
     ∙ ap (λ s. draft_by s (programs_of above ++ [])) (append-nil (settings_of above)) ∙ ap (draft_by (settings_of above)) (append-nil (programs_of above))
 
 draft_set : (above : List Part) (line : Line) (said : Setting) → setting_in (Alone line) ≡ Some said
     → draft_of (above ++ Alone line ∷ []) ≡ draft_by (settings_of above ++ said ∷ []) (programs_of above)
 draft_set above line said is =
     draft_more above (Alone line)
-    ∙ ap (λ s. draft_by (settings_of above ++ in_front s []) (programs_of above ++ [])) is
+    ∙ ap (λ s. draft_by (settings_of above ++ cons_option s []) (programs_of above ++ [])) is
     ∙ ap (draft_by (settings_of above ++ said ∷ [])) (append-nil (programs_of above))
 
 draft_program : (above : List Part) (first : Line) (name : List ℕ) (body : List Line)
-    → draft_of (above ++ Begun first name (Some body) ∷ []) ≡ draft.with_program (draft_of above) name (body_of body)
+    → draft_of (above ++ Begun first name (Some body) ∷ []) ≡ draft.with_program (draft_of above) name (body_said body)
 draft_program above first name body =
     draft_more above (Begun first name (Some body))
-    ∙ ap (λ s. draft_by s (programs_of above ++ record { name = name; body = body_of body } ∷ [])) (append-nil (settings_of above))
+    ∙ ap (λ s. draft_by s (programs_of above ++ record { name = name; body = body_said body } ∷ [])) (append-nil (settings_of above))
 
 first_kept : {A : Type 0} (gives : Setting → Option A) (settings : List Setting) (said : Setting) → gives said ≡ None
     → first_of gives (settings ++ said ∷ []) ≡ first_of gives settings
@@ -202,7 +190,7 @@ has_program_append name first second = list_any-append (λ program. bytes_eq pro
 
 pub matches_alone : (above : List Part) (line : Line) → Matches above → Matches (above ++ Alone line ∷ [])
 matches_alone above line old =
-    let same : programs_of (above ++ Alone line ∷ []) ≡ programs_of above = programs_append above (Alone line ∷ []) ∙ append-nil (programs_of above) in
+    let same : programs_of (above ++ Alone line ∷ []) ≡ programs_of above = filter_map-append program_in above (Alone line ∷ []) ∙ append-nil (programs_of above) in
     let many : how_many (above ++ Alone line ∷ []) ≡ how_many above + 0 = how_append above (Alone line ∷ []) in record {
       count = omega (arith, many, old.count, ap length same);
       named = λ name. has_append name above (Alone line ∷ []) ∙ ap (λ b. b || false) (old.named name)
@@ -213,8 +201,8 @@ matches_alone above line old =
 pub matches_program : (above : List Part) (first : Line) (name : List ℕ) (body : List Line) → nat_le most_programs (how_many above) ≡ false → Matches above
     → Matches (above ++ Begun first name (Some body) ∷ [])
 matches_program above first name body room old =
-    let more : Program = record { name = name; body = body_of body } in
-    let same : programs_of (above ++ Begun first name (Some body) ∷ []) ≡ programs_of above ++ more ∷ [] = programs_append above (Begun first name (Some body) ∷ []) in
+    let more : Program = record { name = name; body = body_said body } in
+    let same : programs_of (above ++ Begun first name (Some body) ∷ []) ≡ programs_of above ++ more ∷ [] = filter_map-append program_in above (Begun first name (Some body) ∷ []) in
     let many : how_many (above ++ Begun first name (Some body) ∷ []) ≡ how_many above + 1 = how_append above (Begun first name (Some body) ∷ []) in
     let less : how_many above < most_programs = grind (arith, room) in record {
       count = omega (arith, many, old.count, ap length same, length-append (programs_of above) (more ∷ []));
@@ -362,13 +350,13 @@ top_line above line lines (Ok (top.Begins name)) tells old follows = begin_top a
 -- a line of a program
 
 more_stated : (current : Open) (line : Line) (told : Result InProgram FaultKind) → inside_of line ≡ told
-    → stated_of (with_line current line).body ≡ stated_of current.body ++ in_front (stated_by line.number told) []
+    → stated_of (with_line current line).body ≡ stated_of current.body ++ cons_option (stated_by line.number told) []
 more_stated current line told is =
-    stated_append current.body (line ∷ []) ∙ ap (λ t. stated_of current.body ++ in_front (stated_by line.number t) []) is
+    stated_append current.body (line ∷ []) ∙ ap (λ t. stated_of current.body ++ cons_option (stated_by line.number t) []) is
 
 inside_on : (above : List Part) (current : Open) (line : Line) (lines : List Line) (told : Result InProgram FaultKind) → inside_of line ≡ told
     → is_ending told ≡ false → Matches above → MayOpen above (Some current) → Follows lines
-    → machine (within (draft_of above) (record (opened_of current) { said = stated_of current.body ++ in_front (stated_by line.number told) [] })) lines
+    → machine (within (draft_of above) (record (opened_of current) { said = stated_of current.body ++ cons_option (stated_by line.number told) [] })) lines
     ≡ result above (if is_ending told then closed current ∷ parts_from None lines else parts_from (Some (with_line current line)) lines)
 inside_on above current line lines told is on old may follows =
     ap (λ s. machine (within (draft_of above) (record (opened_of current) { said = s })) lines) (sym (more_stated current line told is))
@@ -383,7 +371,7 @@ closed_fault above current found may is =
 
 close_by : (above : List Part) (current : Open) (lines : List Line) (found : Option ScriptFault) → wrong_in [] current.body ≡ found
     → answered found current.body → Matches above → MayOpen above (Some current) → Follows lines
-    → go_on lines (draft.closed (draft_of above) current.name (reader.body_of (stated_of current.body)))
+    → go_on lines (draft.closed (draft_of above) current.name (reader.placed_body (stated_of current.body)))
     ≡ result above (closed current ∷ parts_from None lines)
 close_by above current lines (Some fault) is answer old may follows =
     ap (λ b. go_on lines (draft.closed (draft_of above) current.name b)) answer

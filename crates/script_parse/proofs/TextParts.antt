@@ -7,7 +7,7 @@ use Rattle.kabi_types.specs.declared.scripts.Script.{Script}
 use Rattle.kabi_types.specs.declared.scripts.ScriptFault.{ScriptFault}
 use Rattle.posix_defs.specs.ScriptParts.{Line, Lines, none, more, begun, ends, Part, Alone, Program, Parts, nothing, alone, program, unended}
 use Rattle.script_parse.specs.Drafting.{State, step, finish}
-use Rattle.script_parse.proofs.OneReading.{line_read, line_is, line_has, lines_step, lines_read}
+use Rattle.script_parse.proofs.OneReading.{line_read, line_is, line_has, lines_step, lines_read, same_step}
 use Rattle.script_parse.proofs.FirstFaults.{From}
 use Rattle.script_parse.proofs.PartFaults.{Counted}
 
@@ -35,11 +35,6 @@ numbered_from number (text ∷ texts) = (refl, numbered_from (number + 1) texts)
 abbrev pub machine : State → List Line → Result Script ScriptFault
 machine state [] = finish state
 machine state (line ∷ lines) = lines_step (λ next. machine next lines) (step state line.number line.words)
-
-same_step : (first second : State → Result Script ScriptFault) (next : Result State ScriptFault) → ((s : State) → first s ≡ second s)
-    → lines_step first next ≡ lines_step second next
-same_step first second (Ok next) same = same next
-same_step first second (Err fault) same = refl
 
 pub machine_is : (state : State) (number : ℕ) (texts : List (List ℕ)) → lines_read state number texts ≡ machine state (numbered number texts)
 machine_is state number [] = refl

@@ -11,7 +11,7 @@ use Rattle.posix_defs.specs.declared.said.Spoken.{Spoken}
 use Rattle.posix_defs.specs.declared.said.Spoken.TheVariants as spoken
 use Rattle.posix_defs.specs.declared.said.Stated.{Stated}
 use Rattle.posix_defs.specs.ValidScript.{IsLabel, IsFirstLabel, IsStatement}
-use Rattle.script_parse.specs.LabelPlaces.{names, place_in, place_from, later, earlier, first_label, placed, placed_in, before, body_from, body_of}
+use Rattle.script_parse.specs.LabelPlaces.{names, place_in, place_from, later, earlier, first_label, placed, placed_in, before, body_from, placed_body}
 use Rattle.script_parse.proofs.Holds.{any, when, with_holds}
 use Rattle.script_parse.proofs.ValidLines.{IsWhole, IsSpoken}
 
@@ -264,10 +264,10 @@ pub record IsRead (lines : List Stated) (body : List Statement) : Type 0 where
   pub count : length body ≡ length lines
   pub each : (at : ℕ) → IfSome (slice_get body at) (IsStatement body at)
 
-pub program_fits : (lines : List Stated) → AreStated lines → IfOk (body_of lines) (IsRead lines)
-program_fits lines stated = go (body_of lines) refl
+pub program_fits : (lines : List Stated) → AreStated lines → IfOk (placed_body lines) (IsRead lines)
+program_fits lines stated = go (placed_body lines) refl
   where
-    go : (said : Result (List Statement) ScriptFault) → body_of lines ≡ said → IfOk said (IsRead lines)
+    go : (said : Result (List Statement) ScriptFault) → placed_body lines ≡ said → IfOk said (IsRead lines)
     go (Err fault) e = tt
     go (Ok body) e =
         let are = are_at (PlacesOf lines) 0 lines body e in

@@ -25,9 +25,9 @@ use Rattle.posix_defs.specs.ScriptValues.{◌>>=◌, is_name}
 use Rattle.posix_defs.specs.ScriptLines.{said_at_top, said_in_program}
 use Rattle.posix_defs.specs.ValidScript.{IsProgram, IsChooser, AreApart, HasProgram, IsValid}
 use Rattle.script_parse.specs.declared.parse_error.ParseError.{ParseError}
-use Rattle.script_parse.specs.LabelPlaces.{body_of}
+use Rattle.script_parse.specs.LabelPlaces.{placed_body}
 use Rattle.script_parse.specs.Reading.{Outcome}
-use Rattle.script_parse.specs.Drafting.{Draft, Opened, State, at_start, at_line, once, with_setting, has_program, may_begin, begin, outside, within, step_at_top, with_line, with_program, closed, step_in_program, step_from, script_of, finish_from, Reads, ended, goes_on, stops}
+use Rattle.script_parse.specs.Drafting.{Draft, Opened, State, at_start, at_line, once, with_setting, has_program, may_begin, begin, outside, within, step_at_top, with_line, with_program, closed, step_in_program, step_from, drafted_script, finish_from, Reads, ended, goes_on, stops}
 use Rattle.posix_defs.specs.ScriptMeaning.{or_default}
 use Rattle.posix_defs.specs.ScriptText.{most_bytes, ReadsText}
 use Rattle.script_parse.proofs.OneReading.{lines_have, lines_read, reading_by}
@@ -35,6 +35,7 @@ use Rattle.script_parse.proofs.TextReads.{reads_as}
 use Rattle.script_parse.proofs.Holds.{when, with_holds, then_holds, all_append}
 use Rattle.script_parse.proofs.ValidWords.{IsTextWord, line_bytes}
 use Rattle.script_parse.proofs.ValidLines.{IsSpoken, IsInside, inside_fits, IsSetting, IsTop, top_fits}
+use Rattle.script_parse.proofs.NamedPrograms.{found_program}
 use Rattle.script_parse.proofs.ValidPrograms.{AreStated, IsRead, program_fits}
 
 -- what the settings and programs so far promise
@@ -186,7 +187,7 @@ program_steps draft opened line (Ok inside.Silent) few is going fits = record {
   opened = record { name = going.name; fresh = going.fresh; room = going.room; stated = going.stated; lines = omega (arith, going.lines) };
 }
 program_steps draft opened line (Ok (inside.Says said)) few is going fits = line_added draft opened line (record { line = line; said = Ok said }) is going fits
-program_steps draft opened line (Ok inside.Ends) few is going fits = closed_fits draft opened line (body_of opened.said) few is going (program_fits opened.said going.stated)
+program_steps draft opened line (Ok inside.Ends) few is going fits = closed_fits draft opened line (placed_body opened.said) few is going (program_fits opened.said going.stated)
 
 -- a line of the text
 
@@ -210,18 +211,7 @@ or_default_holds : {A : Type 0} (P : A → Type 0) (default : A) (said : Option 
 or_default_holds P default None is holds = is
 or_default_holds P default (Some a) is holds = holds
 
-found_program : (name : List ℕ) (programs : List Program) → has_program name programs ≡ true → HasProgram programs name
-found_program name [] e = absurd (let wrong : false ≡ true = e in cc)
-found_program name (p ∷ programs) e = go (bytes_eq p.name name) refl e (λ is. found_program name programs is)
-  where
-    go : (here : Bool) → bytes_eq p.name name ≡ here → (here || has_program name programs) ≡ true
-        → (has_program name programs ≡ true → HasProgram programs name) → HasProgram (p ∷ programs) name
-    go true is e more = record { at = 0; program = p; is_there = refl; is_named = (bytes_eq-Decides p.name name).0 is }
-    go false is e more =
-        let found = more e in
-        record { at = suc found.at; program = found.program; is_there = found.is_there; is_named = found.is_named }
-
-script_fits : (draft : Draft) → IsDraft draft → has_program (codes "init") draft.programs ≡ true → IsValid (script_of draft)
+script_fits : (draft : Draft) → IsDraft draft → has_program (codes "init") draft.programs ≡ true → IsValid (drafted_script draft)
 script_fits draft is init =
     let heap = or_default_holds (λ n. (8192 ≤ n) × (n ≤ 8388608)) 65536 draft.heap (omega arith, omega arith) is.heap in
     let disk = or_default_holds (λ n. (16 ≤ n) × (n ≤ 4096)) 64 draft.disk (omega arith, omega arith) is.disk in

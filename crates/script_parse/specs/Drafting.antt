@@ -25,7 +25,7 @@ use Rattle.posix_defs.specs.ScriptValues.{with, ◌>>=◌}
 use Rattle.posix_defs.specs.ScriptLines.{said_at_top, said_in_program}
 use Rattle.posix_defs.specs.ScriptMeaning.{or_default}
 use Rattle.posix_defs.specs.ScriptFaults.{most_programs}
-use Rattle.script_parse.specs.LabelPlaces.{body_of}
+use Rattle.script_parse.specs.LabelPlaces.{placed_body}
 
 -- what is set so far, and the programs that have ended
 pub record Draft : Type 0 where
@@ -113,7 +113,7 @@ abbrev pub step_in_program : Draft → Opened → ℕ → Result InProgram Fault
 step_in_program draft opened line (Err kind) = Ok (within draft (with_line opened (record { line = line; said = Err kind })))
 step_in_program draft opened line (Ok inside.Silent) = Ok (within draft opened)
 step_in_program draft opened line (Ok (inside.Says said)) = Ok (within draft (with_line opened (record { line = line; said = Ok said })))
-step_in_program draft opened line (Ok inside.Ends) = closed draft opened.name (body_of opened.said)
+step_in_program draft opened line (Ok inside.Ends) = closed draft opened.name (placed_body opened.said)
 
 abbrev pub step_from : Draft → Option Opened → ℕ → Result (List Word) FaultKind → Result State ScriptFault
 step_from draft None line words = at_line line (words >>= said_at_top >>= step_at_top draft line)
@@ -123,8 +123,8 @@ step_from draft (Some opened) line words = step_in_program draft opened line (wo
 abbrev pub step : State → ℕ → Result (List Word) FaultKind → Result State ScriptFault
 step state line words = step_from state.draft state.opened line words
 
-abbrev pub script_of : Draft → Script
-script_of draft = record {
+abbrev pub drafted_script : Draft → Script
+drafted_script draft = record {
   heap = or_default 65536 draft.heap;
   disk = or_default 64 draft.disk;
   steps = or_default 1000 draft.steps;
@@ -134,7 +134,7 @@ script_of draft = record {
 }
 
 abbrev pub finish_from : Draft → Option Opened → Result Script ScriptFault
-finish_from draft None = if has_program (codes "init") draft.programs then Ok (script_of draft) else fault_at 0 NoInit
+finish_from draft None = if has_program (codes "init") draft.programs then Ok (drafted_script draft) else fault_at 0 NoInit
 finish_from draft (Some opened) = fault_at opened.line Unended
 
 -- the end of the text

@@ -78,5 +78,5 @@ abbrev pub body_from : (List ℕ → Option ℕ) → ℕ → List Stated → Res
 body_from places at [] = Ok []
 body_from places at (stated ∷ rest) = before stated.line (placed_in places at stated.said) (body_from places (at + 1) rest)
 
-abbrev pub body_of : List Stated → Result (List Statement) ScriptFault
-body_of lines = body_from (λ name. place_from 0 name lines) 0 lines
+abbrev pub placed_body : List Stated → Result (List Statement) ScriptFault
+placed_body lines = body_from (λ name. place_from 0 name lines) 0 lines

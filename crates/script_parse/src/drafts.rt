@@ -112,7 +112,7 @@ impl Draft {
 
     /// The script, with the defaults of what wasn't set.
     pub fn into_script(self) -> Script
-        ensures { result ≡ spec.script_of self }
+        ensures { result ≡ spec.drafted_script self }
     {
         Script {
             heap: self.heap.unwrap_or(DEFAULT_HEAP),
@@ -129,12 +129,5 @@ impl Draft {
 fn names_any(programs: &[Program], name: &[u8]) -> bool
     ensures { result ≡ spec.has_program name.now programs.now }
 {
-    let mut rest = programs;
-    while let Some((program, next)) = rest.split_first() {
-        if program.name.items() == name {
-            return true;
-        }
-        rest = next;
-    }
-    false
+    programs.iter().any(|program| program.name.items() == name)
 }

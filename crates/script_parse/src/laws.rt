@@ -25,7 +25,7 @@ pub fn worked_texts_read()
     ensures nothing { ReadsText [] (Err (record { line = 0; what = NoInit })) }
     ensures first { ReadsText first_text (Ok first_script) }
     ensures unknown { ReadsText (codes "program init\nlabel a\njmp a\nend\n") (Err (record { line = 3; what = UnknownWord })) }
-    ensures not_built { ReadsText (codes "program init\nr1 = fork\nend\n") (Err (record { line = 2; what = NotBuilt })) }
+    ensures not_built { ReadsText (codes "program init\nr1 = socket\nend\n") (Err (record { line = 2; what = NotBuilt })) }
     ensures unended { ReadsText (codes "heap 8192\nprogram init\njmp a\n") (Err (record { line = 2; what = Unended })) }
 {}
 

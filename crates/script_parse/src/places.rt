@@ -70,7 +70,7 @@ fn earlier(at: u32, place: Option<u32>) -> Result<u32, FaultKind>
 }
 
 /// The place of a label.
-fn place_of(places: &IndexMap<Name27, u32>, label: &Name27) -> Option<u32>
+fn noted_place(places: &IndexMap<Name27, u32>, label: &Name27) -> Option<u32>
     ensures { result ≡ get ⟦<Name27 as PartialEq>⟧.eq places.now label.now }
 {
     places.get(label).copied()
@@ -103,7 +103,7 @@ fn placed(
             right,
             label,
         } => {
-            let place = later(at, place_of(places, &label))?;
+            let place = later(at, noted_place(places, &label))?;
             Ok(Statement::If {
                 left,
                 test,
@@ -111,13 +111,13 @@ fn placed(
                 place,
             })
         }
-        Spoken::Jump(label) => Ok(Statement::Jump(later(at, place_of(places, &label))?)),
+        Spoken::Jump(label) => Ok(Statement::Jump(later(at, noted_place(places, &label))?)),
         Spoken::Label(name) => {
-            let place = place_of(places, &name);
+            let place = noted_place(places, &name);
             first_label(at, name, place)
         }
         Spoken::Loop(register, label) => {
-            let place = earlier(at, place_of(places, &label))?;
+            let place = earlier(at, noted_place(places, &label))?;
             Ok(Statement::Loop(register, place))
         }
     }
@@ -155,9 +155,9 @@ fn statements_of(
 }
 
 /// The statements of a program's lines, or the fault of the first line that has one.
-pub fn body_of(alloc: Global, lines: Vec<Stated>) -> Result<Vec<Statement>, ParseError>
+pub fn placed_body(alloc: Global, lines: Vec<Stated>) -> Result<Vec<Statement>, ParseError>
     requires { vec_len lines ≤ 4294967295 }
-    ensures { TellsBody result (spec.body_of lines.items) }
+    ensures { TellsBody result (spec.placed_body lines.items) }
 {
     let places = places_of(alloc, lines.as_slice())?;
     statements_of(alloc, &places, lines)

@@ -1,9 +1,11 @@
 //! Printing a script in its canonical form.
 
-ghost use Rattle.std.specs.Prelude.{◌≡◌, ◌++◌, ◌∷◌, [], Some, None, map, string_bytes, slice_get, IfOk, OnOk};
+ghost use Rattle.std.specs.Prelude.{◌≡◌, ◌≤◌, ◌++◌, ◌∷◌, [], Some, None, Ok, length, map, string_bytes, slice_get, IfOk, OnOk};
 ghost use Rattle.std.specs.List.{flat_map};
 ghost use Rattle.posix_defs.specs.Canonical as spec;
 ghost use Rattle.posix_defs.specs.Lines.{blank};
+ghost use Rattle.posix_defs.specs.ScriptText.{ReadsText};
+ghost use Rattle.posix_defs.specs.ValidScript.{IsValid};
 ghost use Rattle.posix_defs.specs.Canonical.{line_text, words_text, further_words, word_text};
 
 use crate::printing_words::{push_call, push_label, push_name, push_operand, push_test};
@@ -11,9 +13,12 @@ use kabi_types::{Chooser, Memory, Policy, Program, Script, Statement};
 use std::alloc::{AllocError, Global};
 
 /// The canonical text of a script: the lines of its settings, of who chooses among events, and of its programs, with one
-/// blank between words. An error is want of memory.
+/// blank between words. That of a valid script reads as the same script, where it is no longer than a script may be. An error
+/// is want of memory.
 pub fn print(alloc: Global, script: &Script) -> Result<String, Memory>
-    ensures { IfOk result (λ text. string_bytes text ≡ spec.canonical script.now) }
+    ensures canonical { IfOk result (λ text. string_bytes text ≡ spec.canonical script.now) }
+    ensures reads { IfOk result (λ text. IsValid script.now → length (string_bytes text) ≤ 1048576
+        → ReadsText (string_bytes text) (Ok script.now)) }
 {
     let mut text = String::new(alloc);
     push_script(&mut text, script)?;

@@ -13,15 +13,15 @@ use crate::calls::shape_of;
 use kabi_types::{CallKind, Operand, Statement, Test, Text};
 use std::alloc::AllocError;
 
-/// Adds a byte of a text: itself where it can be printed and means nothing else, else an escape.
+/// Adds a byte of a text: itself where it can be printed and means nothing else, else an escape, by its hexadecimal digits
+/// but for a newline.
 fn push_byte(out: &mut String, byte: u8) -> Result<(), AllocError>
     ensures { OnOk result (string_bytes out.new ≡ string_bytes out.old ++ spec.shown byte) }
 {
     match byte {
         b'\n' => out.push_str("\\n"),
-        b'"' => out.push_str("\\\""),
-        b'\\' => out.push_str("\\\\"),
-        32..=126 => out.push(char::from(byte)),
+        // All that can be printed but the quote and the backslash.
+        b' '..=b'!' | b'#'..=b'[' | b']'..=b'~' => out.push(char::from(byte)),
         _ => {
             let (high, low) = (byte / 16, byte % 16);
             write!(out, "\\x{high:x}{low:x}")

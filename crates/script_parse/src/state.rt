@@ -1,12 +1,12 @@
 //! Where the reader of a script stands: outside programs, or in one that is open.
 
 ghost use Rattle.std.specs.Prelude.{◌≡◌, ◌≤◌, length, Ok, Err, Some, None};
-ghost use Rattle.script_parse.specs.LabelPlaces.{body_of};
+ghost use Rattle.script_parse.specs.LabelPlaces.{placed_body};
 ghost use Rattle.script_parse.specs.Reading.{Outcome, TakesLine, lines_in};
 ghost use Rattle.script_parse.specs.Drafting as spec;
 
 use crate::drafts::Draft;
-use crate::places::body_of;
+use crate::places::placed_body;
 use crate::settings::said_at_top;
 use crate::statements::said_in_program;
 use crate::words::line_words;
@@ -104,10 +104,10 @@ fn with_line(
 /// The open program ends.
 fn close(alloc: Global, draft: Draft, opened: Opened) -> Result<State, ParseError>
     requires { length opened.said ≤ 4294967295 }
-    ensures { Outcome (λ state. state) result (λ next. next ≡ spec.closed draft opened.name (body_of opened.said)) }
+    ensures { Outcome (λ state. state) result (λ next. next ≡ spec.closed draft opened.name (placed_body opened.said)) }
 {
     let mut draft = draft;
-    let body = body_of(alloc, opened.said)?;
+    let body = placed_body(alloc, opened.said)?;
     draft.add_program(opened.name, body)?;
     Ok(outside(draft))
 }

@@ -1,13 +1,19 @@
 use crate::{ParseError, parse};
 use kabi_types::{FaultKind, Memory, Script};
-use std::alloc::{AllocError, Global};
+use std::alloc::{AllocError, AllocGlobal, Global};
+use std::process::Abort;
 use std::test::Fail;
 
 /// The most bytes that a script may have.
 const MOST_BYTES: usize = 1048576;
 
 /// The line and the fault of a text that is no script; None where it is one.
-pub fn fault_of(alloc: Global, text: &[u8]) -> Result<Option<(u32, FaultKind)>, Memory> {
+pub type Told = Option<(u32, FaultKind)>;
+
+/// A text with the line and the fault that it is to be told.
+pub type Row = (&'static str, u32, FaultKind);
+
+pub fn fault_of(alloc: Global, text: &[u8]) -> Result<Told, Memory> {
     match parse(alloc, text) {
         Ok(_) => Ok(None),
         Err(ParseError::Bad(fault)) => Ok(Some((fault.line, fault.what))),
@@ -16,7 +22,7 @@ pub fn fault_of(alloc: Global, text: &[u8]) -> Result<Option<(u32, FaultKind)>, 
 }
 
 /// The script that a text says; None where it is none.
-pub fn script_of(alloc: Global, text: &str) -> Result<Option<Script>, Memory> {
+pub fn script_said(alloc: Global, text: &str) -> Result<Option<Script>, Memory> {
     match parse(alloc, text.as_bytes()) {
         Ok(script) => Ok(Some(script)),
         Err(ParseError::Bad(_)) => Ok(None),
@@ -38,80 +44,66 @@ pub fn joined(
     Ok(text)
 }
 
-/// The fault of a script whose only program has one line between `program init` at line 1 and `end` at line 3.
-pub fn fault_in_init(alloc: Global, line: &[u8]) -> Result<Option<(u32, FaultKind)>, Memory> {
-    let text = joined(
-        alloc,
-        b"program init\n".as_slice(),
-        line,
-        b"\nend\n".as_slice(),
-    )?;
+/// What is told of a script whose only program has one line between `program init` at line 1 and `end` at line 3.
+pub fn fault_in_init(alloc: Global, line: &[u8]) -> Result<Told, Memory> {
+    let text = joined(alloc, b"program init\n", line, b"\nend\n")?;
     fault_of(alloc, text.as_slice())
 }
 
-/// The fault of a script that begins with this line and goes on with a program.
-pub fn fault_at_top(alloc: Global, line: &[u8]) -> Result<Option<(u32, FaultKind)>, Memory> {
-    let text = joined(
-        alloc,
-        line,
-        b"\nprogram init\n".as_slice(),
-        b"end\n".as_slice(),
-    )?;
+/// What is told of a script that begins with this line and goes on with a program.
+pub fn fault_at_top(alloc: Global, line: &[u8]) -> Result<Told, Memory> {
+    let text = joined(alloc, line, b"\nprogram init\n", b"end\n")?;
     fault_of(alloc, text.as_slice())
 }
 
-/// The first of these lines that isn't answered so where it stands in a program.
-pub fn first_other_in_init<'a>(
-    alloc: Global,
-    lines: &[&'a str],
-    wanted: Option<(u32, FaultKind)>,
-) -> Result<Option<&'a str>, Memory> {
-    for line in lines {
-        if fault_in_init(alloc, line.as_bytes())? != wanted {
-            return Ok(Some(*line));
-        }
+/// Each text is told its line and its fault.
+pub fn check_texts(rt: &(impl Abort + AllocGlobal), rows: &[Row]) -> Result<(), Fail> {
+    for (text, line, what) in rows {
+        let told = fault_of(rt.alloc(), text.as_bytes())?;
+        assert!(rt; told == Some((*line, *what)), "{text:?}");
     }
-    Ok(None)
+    Ok(())
 }
 
-/// The first of these lines that isn't answered so where it begins a script.
-pub fn first_other_at_top<'a>(
-    alloc: Global,
-    lines: &[&'a str],
-    wanted: Option<(u32, FaultKind)>,
-) -> Result<Option<&'a str>, Memory> {
+/// Each line is told this where it stands in a program.
+pub fn check_in_init(
+    rt: &(impl Abort + AllocGlobal),
+    lines: &[&str],
+    wanted: Told,
+) -> Result<(), Fail> {
     for line in lines {
-        if fault_at_top(alloc, line.as_bytes())? != wanted {
-            return Ok(Some(*line));
-        }
+        let told = fault_in_init(rt.alloc(), line.as_bytes())?;
+        assert!(rt; told == wanted, "{line:?}");
     }
-    Ok(None)
-}
-
-#[test]
-fn no_bytes_have_no_init(rt: HostRuntime) -> Result<(), Fail> {
-    assert_eq!(rt; fault_of(rt.alloc(), b"")?, Some((0, FaultKind::NoInit)));
     Ok(())
 }
 
-#[test]
-fn an_unknown_word_is_told_with_its_line(rt: HostRuntime) -> Result<(), Fail> {
-    let text = b"program init\nset r1 1\njmp a\nend\n";
-    assert_eq!(rt;
-        fault_of(rt.alloc(), text.as_slice())?,
-        Some((3, FaultKind::UnknownWord))
-    );
+/// Each line is told this where it begins a script.
+pub fn check_at_top(
+    rt: &(impl Abort + AllocGlobal),
+    lines: &[&str],
+    wanted: Told,
+) -> Result<(), Fail> {
+    for line in lines {
+        let told = fault_at_top(rt.alloc(), line.as_bytes())?;
+        assert!(rt; told == wanted, "{line:?}");
+    }
     Ok(())
 }
 
+const SMALL: &[Row] = &[
+    ("", 0, FaultKind::NoInit),
+    (
+        "program init\nset r1 1\njmp a\nend\n",
+        3,
+        FaultKind::UnknownWord,
+    ),
+    ("program init\nr1 = socket\nend\n", 2, FaultKind::NotBuilt),
+];
+
 #[test]
-fn a_call_that_is_not_built_is_told(rt: HostRuntime) -> Result<(), Fail> {
-    let text = b"program init\nr1 = fork\nend\n";
-    assert_eq!(rt;
-        fault_of(rt.alloc(), text.as_slice())?,
-        Some((2, FaultKind::NotBuilt))
-    );
-    Ok(())
+fn small_texts_are_told_their_fault(rt: HostRuntime) -> Result<(), Fail> {
+    check_texts(&rt, SMALL)
 }
 
 /// A small program, and a comment that fills the text up to so many bytes.
@@ -126,29 +118,20 @@ fn filled_to(alloc: Global, length: usize) -> Result<Vec<u8>, AllocError> {
 #[test]
 fn a_mebibyte_is_read_and_a_byte_more_is_not(rt: HostRuntime) -> Result<(), Fail> {
     let whole = filled_to(rt.alloc(), MOST_BYTES)?;
-    assert_eq!(rt; whole.len(), 1048576);
-    assert_eq!(rt; fault_of(rt.alloc(), whole.as_slice())?, None);
+    assert!(rt; whole.len() == 1048576);
+    assert!(rt; fault_of(rt.alloc(), whole.as_slice())?.is_none());
     let more = filled_to(rt.alloc(), MOST_BYTES + 1)?;
-    assert_eq!(rt; more.len(), 1048577);
-    assert_eq!(rt;
-        fault_of(rt.alloc(), more.as_slice())?,
-        Some((0, FaultKind::TooLong))
-    );
+    assert!(rt; more.len() == 1048577);
+    assert!(rt; fault_of(rt.alloc(), more.as_slice())? == Some((0, FaultKind::TooLong)));
     Ok(())
 }
 
 #[test]
 fn too_long_is_told_before_all_else(rt: HostRuntime) -> Result<(), Fail> {
     let most = vec![in rt.alloc(); 255; MOST_BYTES]?;
-    assert_eq!(rt;
-        fault_of(rt.alloc(), most.as_slice())?,
-        Some((1, FaultKind::NotUtf8))
-    );
+    assert!(rt; fault_of(rt.alloc(), most.as_slice())? == Some((1, FaultKind::NotUtf8)));
     let more = vec![in rt.alloc(); 255; MOST_BYTES + 1]?;
-    assert_eq!(rt;
-        fault_of(rt.alloc(), more.as_slice())?,
-        Some((0, FaultKind::TooLong))
-    );
+    assert!(rt; fault_of(rt.alloc(), more.as_slice())? == Some((0, FaultKind::TooLong)));
     Ok(())
 }
 
@@ -169,31 +152,13 @@ fn programs(alloc: Global, count: u8) -> Result<Vec<u8>, AllocError> {
 fn there_are_64_programs_at_most(rt: HostRuntime) -> Result<(), Fail> {
     let alloc = rt.alloc();
     let most = programs(alloc, 64)?;
-    assert_eq!(rt; fault_of(alloc, most.as_slice())?, None);
+    assert!(rt; fault_of(alloc, most.as_slice())?.is_none());
+    let one_too_many = Some((129, FaultKind::OutOfRange));
     let more = programs(alloc, 65)?;
-    assert_eq!(rt;
-        fault_of(alloc, more.as_slice())?,
-        Some((129, FaultKind::OutOfRange))
-    );
-    let again = joined(
-        alloc,
-        most.as_slice(),
-        b"program init\n".as_slice(),
-        b"end\n".as_slice(),
-    )?;
-    assert_eq!(rt;
-        fault_of(alloc, again.as_slice())?,
-        Some((129, FaultKind::OutOfRange))
-    );
-    let unended = joined(
-        alloc,
-        most.as_slice(),
-        b"program zz\n".as_slice(),
-        b"".as_slice(),
-    )?;
-    assert_eq!(rt;
-        fault_of(alloc, unended.as_slice())?,
-        Some((129, FaultKind::OutOfRange))
-    );
+    assert!(rt; fault_of(alloc, more.as_slice())? == one_too_many);
+    let again = joined(alloc, most.as_slice(), b"program init\n", b"end\n")?;
+    assert!(rt; fault_of(alloc, again.as_slice())? == one_too_many);
+    let unended = joined(alloc, most.as_slice(), b"program zz\n", b"")?;
+    assert!(rt; fault_of(alloc, unended.as_slice())? == one_too_many);
     Ok(())
 }

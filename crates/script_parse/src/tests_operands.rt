@@ -35,92 +35,66 @@ fn operands_in(alloc: Global, kind: CallKind, line: &[u8]) -> Result<(Operands, 
 
 const THREE: Operand = Operand::Number(3);
 
-#[test]
-fn values_keep_their_order(rt: HostRuntime) -> Result<(), Fail> {
-    let alloc = rt.alloc();
-    let values = [
-        THREE,
-        Operand::Reg(1),
-        Operand::Number(64),
-        Operand::Number(-1),
-    ];
-    assert!(rt;
-        says(
-            alloc,
-            CallKind::Pread,
-            b"3 r1 64 -1",
-            values.as_slice(),
-            &[]
-        )?
-    );
-    let polled = [
-        Operand::Number(-1),
-        THREE,
-        Operand::Number(1),
-        Operand::Reg(15),
-        Operand::Number(5),
-    ];
-    assert!(rt;
-        says(
-            alloc,
-            CallKind::Poll,
-            b"-1 3 POLLIN r15 POLLIN|POLLOUT",
-            polled.as_slice(),
-            &[]
-        )?
-    );
-    assert!(rt; says(alloc, CallKind::Pipe, b" \t", &[], &[])?);
-    Ok(())
-}
+/// A call, the words behind it, and the values and the texts that they say.
+type Said = (
+    CallKind,
+    &'static [u8],
+    &'static [Operand],
+    &'static [&'static [u8]],
+);
+
+const SAID: &[Said] = &[
+    (
+        CallKind::Pread,
+        b"3 r1 64 -1",
+        &[
+            THREE,
+            Operand::Reg(1),
+            Operand::Number(64),
+            Operand::Number(-1),
+        ],
+        &[],
+    ),
+    (
+        CallKind::Poll,
+        b"-1 3 POLLIN r15 POLLIN|POLLOUT",
+        &[
+            Operand::Number(-1),
+            THREE,
+            Operand::Number(1),
+            Operand::Reg(15),
+            Operand::Number(5),
+        ],
+        &[],
+    ),
+    (CallKind::Pipe, b" \t", &[], &[]),
+    (
+        CallKind::OpenFile,
+        b"\"/a b\" O_RDWR|O_CREAT",
+        &[Operand::Number(66)],
+        &[b"/a b"],
+    ),
+    (CallKind::Bind, b"3 \"/s\"", &[THREE], &[b"/s"]),
+    (
+        CallKind::Rename,
+        b"\"old\"\t\"new\"\r",
+        &[],
+        &[b"old", b"new"],
+    ),
+    (CallKind::Exec, b"\"\"", &[], &[b""]),
+    (CallKind::Exec, b"\"#\t \"", &[], &[b"#\t "]),
+    (
+        CallKind::Store,
+        b"r0 \"a\\n\\\\\\\"\\x00\\xfF\\x4a\\xA9n\xc3\xa9\x01\"",
+        &[Operand::Reg(0)],
+        &[b"a\n\\\"\x00\xff\x4a\xa9n\xc3\xa9\x01"],
+    ),
+];
 
 #[test]
-fn texts_stand_beside_values(rt: HostRuntime) -> Result<(), Fail> {
-    let alloc = rt.alloc();
-    let flags = [Operand::Number(66)];
-    assert!(rt;
-        says(
-            alloc,
-            CallKind::OpenFile,
-            b"\"/a b\" O_RDWR|O_CREAT",
-            flags.as_slice(),
-            &[b"/a b"]
-        )?
-    );
-    assert!(rt;
-        says(
-            alloc,
-            CallKind::Bind,
-            b"3 \"/s\"",
-            [THREE].as_slice(),
-            &[b"/s"]
-        )?
-    );
-    assert!(rt;
-        says(
-            alloc,
-            CallKind::Rename,
-            b"\"old\"\t\"new\"\r",
-            &[],
-            &[b"old", b"new"]
-        )?
-    );
-    assert!(rt; says(alloc, CallKind::Exec, b"\"\"", &[], &[b""])?);
-    assert!(rt; says(alloc, CallKind::Exec, b"\"#\t \"", &[], &[b"#\t "])?);
-    Ok(())
-}
-
-#[test]
-fn escapes_are_read(rt: HostRuntime) -> Result<(), Fail> {
-    let line = b"r0 \"a\\n\\\\\\\"\\x00\\xfF\\x4a\\xA9n\xc3\xa9\x01\"";
-    let bytes = b"a\n\\\"\x00\xff\x4a\xa9n\xc3\xa9\x01";
-    assert!(rt;
-        says(
-            rt.alloc(),
-            CallKind::Store,
-            line.as_slice(),
-            [Operand::Reg(0)].as_slice(),
-            &[bytes.as_slice()]
-        )?
-    );
+fn operands_keep_their_order_and_escapes_are_read(rt: HostRuntime) -> Result<(), Fail> {
+    for (kind, line, values, texts) in SAID {
+        assert!(rt; says(rt.alloc(), *kind, line, values, texts)?, "{line:?}");
+    }
     Ok(())
 }

@@ -1,5 +1,5 @@
 use crate::print;
-use crate::tests::script_of;
+use crate::tests::script_said;
 use kabi_types::{
     CallKind, Chooser, Memory, Name27, Numbers, Operand, Operands, Policy, Program, Programs,
     Script, Statement, Statements, Test, Text, Texts,
@@ -9,24 +9,10 @@ use std::test::Fail;
 
 /// The canonical text of the script that a text says; None where it is none.
 fn printed(alloc: Global, text: &str) -> Result<Option<String>, Memory> {
-    match script_of(alloc, text)? {
+    match script_said(alloc, text)? {
         Some(script) => Ok(Some(print(alloc, &script)?)),
         None => Ok(None),
     }
-}
-
-/// The first of these texts that isn't printed as it stands.
-fn first_printed_otherwise<'a>(
-    alloc: Global,
-    texts: &[&'a str],
-) -> Result<Option<&'a str>, Memory> {
-    for text in texts {
-        match printed(alloc, text)? {
-            Some(same) if same.as_str() == *text => {}
-            _ => return Ok(Some(*text)),
-        }
-    }
-    Ok(None)
 }
 
 fn texts_of(alloc: Global, texts: &[&[u8]]) -> Result<Texts, AllocError> {
@@ -41,10 +27,9 @@ fn texts_of(alloc: Global, texts: &[&[u8]]) -> Result<Texts, AllocError> {
 
 fn call(
     alloc: Global,
-    kind: CallKind,
-    values: &[Operand],
-    texts: &[&[u8]],
-    targets: (Option<u8>, Option<u8>),
+    (kind, values, texts): Called,
+    first: Option<u8>,
+    second: Option<u8>,
 ) -> Result<Statement, AllocError> {
     let mut operands = Vec::new(alloc);
     operands.extend_from_slice(values)?;
@@ -52,8 +37,8 @@ fn call(
         kind,
         operands: Operands::from_vec(operands),
         texts: texts_of(alloc, texts)?,
-        first: targets.0,
-        second: targets.1,
+        first,
+        second,
     })
 }
 
@@ -87,125 +72,130 @@ fn printed_alone(alloc: Global, statement: Statement) -> Result<Option<String>, 
     }
 }
 
-#[test]
-fn constants_are_printed_as_numbers(rt: HostRuntime) -> Result<(), Fail> {
-    let text = printed(
-        rt.alloc(),
+/// Texts and the canonical texts of what they say.
+const PRINTED: &[(&str, &str)] = &[
+    (
         "# x\nprogram init\nset r1 SEEK_END|SEEK_CUR\nend\n",
-    )?;
-    assert_eq!(rt;
-        text.as_deref(),
-        Some("heap 65536\ndisk 64\nsteps 1000\npolicy heaviest\nprogram init\nset r1 3\nend\n")
-    );
+        "heap 65536\ndisk 64\nsteps 1000\npolicy heaviest\nprogram init\nset r1 3\nend\n",
+    ),
+    (
+        "program\tb\n\tlabel  x \r\n\n # say\n add r15 -007\nend\nseed 1\npolicy\tyoungest\nsteps 1\nprogram init\nr0  = getpid\nend",
+        "heap 65536\ndisk 64\nsteps 1\npolicy youngest\nseed 1\nprogram b\nlabel x\nadd r15 -7\nend\nprogram init\nr0 = getpid\nend\n",
+    ),
+];
+
+#[test]
+fn settings_go_first_and_constants_blanks_and_remarks_go(rt: HostRuntime) -> Result<(), Fail> {
+    for (text, canonical) in PRINTED {
+        let told = printed(rt.alloc(), text)?;
+        assert!(rt; told.as_deref() == Some(*canonical));
+    }
     Ok(())
 }
 
-#[test]
-fn settings_go_first_and_blanks_and_remarks_go(rt: HostRuntime) -> Result<(), Fail> {
-    let text = printed(
-        rt.alloc(),
-        "program\tb\n\tlabel  x \r\n\n # say\n add r15 -007\nend\nseed 1\npolicy\tyoungest\nsteps 1\nprogram init\nr0  = getpid\nend",
-    )?;
-    assert_eq!(rt;
-        text.as_deref(),
-        Some(
-            "heap 65536\ndisk 64\nsteps 1\npolicy youngest\nseed 1\nprogram b\nlabel x\nadd r15 -7\nend\nprogram init\nr0 = getpid\nend\n"
-        )
-    );
-    Ok(())
-}
+/// Texts in their canonical form.
+const CANONICAL: &[&str] = &[
+    "heap 8388608\ndisk 4096\nsteps 100000\npolicy youngest\nseed 2147483647\nprogram init\nend\n",
+    "heap 8192\ndisk 16\nsteps 1\npolicy heaviest\nseed 0\nprogram init\nend\n",
+    "heap 65536\ndisk 64\nsteps 1000\npolicy heaviest\nchoices 0\nprogram init\nend\n",
+    "heap 65536\ndisk 64\nsteps 1000\npolicy heaviest\nchoices 4294967295 0 7\nprogram init\nend\nprogram a\nend\n",
+    "heap 65536\ndisk 64\nsteps 1000\npolicy heaviest\nprogram init\nset r0 9223372036854775807\nadd r15 -9223372036854775808\nset r9 r10\nadd r1 0\nend\n",
+    "heap 65536\ndisk 64\nsteps 1000\npolicy heaviest\nprogram init\nlabel a\nif r1 == 5 b\nif -1 != r2 b\nif 0 < 1 b\nif r3 <= r4 c_2\njump b\nlabel b\nloop r15 a\nlabel c_2\nend\n",
+    "heap 65536\ndisk 64\nsteps 1000\npolicy heaviest\nprogram init\ngetpid\nr1 = getppid\nr2 r3 = sched_yield\nexit r1\nr15 r0 = exit -256\nend\n",
+];
 
 #[test]
 fn canonical_texts_are_printed_as_they_stand(rt: HostRuntime) -> Result<(), Fail> {
-    let texts = [
-        "heap 8388608\ndisk 4096\nsteps 100000\npolicy youngest\nseed 2147483647\nprogram init\nend\n",
-        "heap 8192\ndisk 16\nsteps 1\npolicy heaviest\nseed 0\nprogram init\nend\n",
-        "heap 65536\ndisk 64\nsteps 1000\npolicy heaviest\nchoices 0\nprogram init\nend\n",
-        "heap 65536\ndisk 64\nsteps 1000\npolicy heaviest\nchoices 4294967295 0 7\nprogram init\nend\nprogram a\nend\n",
-        "heap 65536\ndisk 64\nsteps 1000\npolicy heaviest\nprogram init\nset r0 9223372036854775807\nadd r15 -9223372036854775808\nset r9 r10\nadd r1 0\nend\n",
-        "heap 65536\ndisk 64\nsteps 1000\npolicy heaviest\nprogram init\nlabel a\nif r1 == 5 b\nif -1 != r2 b\nif 0 < 1 b\nif r3 <= r4 c_2\njump b\nlabel b\nloop r15 a\nlabel c_2\nend\n",
-        "heap 65536\ndisk 64\nsteps 1000\npolicy heaviest\nprogram init\ngetpid\nr1 = getppid\nr2 r3 = sched_yield\nexit r1\nr15 r0 = exit -256\nend\n",
-    ];
-    assert_eq!(rt; first_printed_otherwise(rt.alloc(), &texts)?, None);
+    for text in CANONICAL {
+        let told = printed(rt.alloc(), text)?;
+        assert!(rt; told.as_deref() == Some(*text), "{text:?}");
+    }
     Ok(())
 }
 
-#[test]
-fn paths_and_values_stand_in_the_order_of_the_fields(rt: HostRuntime) -> Result<(), Fail> {
-    let alloc = rt.alloc();
-    let one = [Operand::Number(-1)];
-    let path: [&[u8]; 1] = [b"/a b".as_slice()];
-    let both: [&[u8]; 2] = [b"/a".as_slice(), b"".as_slice()];
-    let open = call(alloc, CallKind::OpenFile, &one, &path, (Some(1), None))?;
-    assert_eq!(rt;
-        printed_alone(alloc, open)?.as_deref(),
-        Some("r1 = open \"/a b\" -1")
-    );
-    let store = call(alloc, CallKind::Store, &one, &path, (None, None))?;
-    assert_eq!(rt;
-        printed_alone(alloc, store)?.as_deref(),
-        Some("store -1 \"/a b\"")
-    );
-    let bind = call(alloc, CallKind::Bind, &one, &path, (Some(1), Some(2)))?;
-    assert_eq!(rt;
-        printed_alone(alloc, bind)?.as_deref(),
-        Some("r1 r2 = bind -1 \"/a b\"")
-    );
-    let rename = call(alloc, CallKind::Rename, &[], &both, (None, None))?;
-    assert_eq!(rt;
-        printed_alone(alloc, rename)?.as_deref(),
-        Some("rename \"/a\" \"\"")
-    );
-    let mkdir = call(alloc, CallKind::Mkdir, &[], &path, (None, None))?;
-    assert_eq!(rt;
-        printed_alone(alloc, mkdir)?.as_deref(),
-        Some("mkdir \"/a b\"")
-    );
-    Ok(())
-}
+/// A call: its kind, its values and its texts.
+type Called = (CallKind, &'static [Operand], &'static [&'static [u8]]);
+
+/// Calls, the registers that get their values, and how they are printed.
+const CALLS: &[(Called, Option<u8>, Option<u8>, &str)] = &[
+    (
+        (CallKind::OpenFile, &[Operand::Number(-1)], &[b"/a b"]),
+        Some(1),
+        None,
+        "r1 = open \"/a b\" -1",
+    ),
+    (
+        (CallKind::Store, &[Operand::Number(-1)], &[b"/a b"]),
+        None,
+        None,
+        "store -1 \"/a b\"",
+    ),
+    (
+        (CallKind::Bind, &[Operand::Number(-1)], &[b"/a b"]),
+        Some(1),
+        Some(2),
+        "r1 r2 = bind -1 \"/a b\"",
+    ),
+    (
+        (CallKind::Rename, &[], &[b"/a", b""]),
+        None,
+        None,
+        "rename \"/a\" \"\"",
+    ),
+    (
+        (CallKind::Mkdir, &[], &[b"/a b"]),
+        None,
+        None,
+        "mkdir \"/a b\"",
+    ),
+    (
+        (
+            CallKind::Munmap,
+            &[Operand::Reg(12), Operand::Number(64)],
+            &[],
+        ),
+        Some(0),
+        None,
+        "r0 = munmap r12 64",
+    ),
+    (
+        (
+            CallKind::Poll,
+            &[
+                Operand::Number(-1),
+                Operand::Number(0),
+                Operand::Number(1),
+                Operand::Reg(3),
+                Operand::Number(5),
+            ],
+            &[],
+        ),
+        None,
+        None,
+        "poll -1 0 1 r3 5",
+    ),
+    ((CallKind::Pipe, &[], &[]), Some(2), Some(3), "r2 r3 = pipe"),
+    (
+        (
+            CallKind::Store,
+            &[Operand::Number(4095)],
+            &[&[
+                32, 33, 34, 35, 91, 92, 93, 126, 10, 9, 13, 0, 31, 127, 128, 171, 255,
+            ]],
+        ),
+        None,
+        None,
+        "store 4095 \" !\\x22#[\\x5c]~\\n\\x09\\x0d\\x00\\x1f\\x7f\\x80\\xab\\xff\"",
+    ),
+];
 
 #[test]
-fn calls_of_values_are_printed(rt: HostRuntime) -> Result<(), Fail> {
-    let alloc = rt.alloc();
-    let two = [Operand::Reg(12), Operand::Number(64)];
-    let many = [
-        Operand::Number(-1),
-        Operand::Number(0),
-        Operand::Number(1),
-        Operand::Reg(3),
-        Operand::Number(5),
-    ];
-    let munmap = call(alloc, CallKind::Munmap, &two, &[], (Some(0), None))?;
-    assert_eq!(rt;
-        printed_alone(alloc, munmap)?.as_deref(),
-        Some("r0 = munmap r12 64")
-    );
-    let poll = call(alloc, CallKind::Poll, &many, &[], (None, None))?;
-    assert_eq!(rt;
-        printed_alone(alloc, poll)?.as_deref(),
-        Some("poll -1 0 1 r3 5")
-    );
-    let pipe = call(alloc, CallKind::Pipe, &[], &[], (Some(2), Some(3)))?;
-    assert_eq!(rt;
-        printed_alone(alloc, pipe)?.as_deref(),
-        Some("r2 r3 = pipe")
-    );
-    Ok(())
-}
-
-#[test]
-fn bytes_of_texts_are_escaped(rt: HostRuntime) -> Result<(), Fail> {
-    let alloc = rt.alloc();
-    let bytes = [
-        32, 33, 34, 35, 91, 92, 93, 126, 10, 9, 13, 0, 31, 127, 128, 171, 255,
-    ];
-    let texts = [bytes.as_slice()];
-    let place = [Operand::Number(4095)];
-    let store = call(alloc, CallKind::Store, &place, &texts, (None, None))?;
-    assert_eq!(rt;
-        printed_alone(alloc, store)?.as_deref(),
-        Some("store 4095 \" !\\\"#[\\\\]~\\n\\x09\\x0d\\x00\\x1f\\x7f\\x80\\xab\\xff\"")
-    );
+fn calls_are_printed_in_the_order_of_their_fields(rt: HostRuntime) -> Result<(), Fail> {
+    for (called, first, second, line) in CALLS {
+        let call = call(rt.alloc(), *called, *first, *second)?;
+        let told = printed_alone(rt.alloc(), call)?;
+        assert!(rt; told.as_deref() == Some(*line), "{line}");
+    }
     Ok(())
 }
 
@@ -237,7 +227,7 @@ fn a_thousand_choices_are_printed(rt: HostRuntime) -> Result<(), Fail> {
         wanted.push_str(" 4294967295")?;
     }
     wanted.push_str("\n")?;
-    assert_eq!(rt; text, wanted);
+    assert!(rt; text == wanted);
     Ok(())
 }
 
@@ -245,8 +235,8 @@ fn a_thousand_choices_are_printed(rt: HostRuntime) -> Result<(), Fail> {
 fn a_place_without_a_label_has_no_name(rt: HostRuntime) -> Result<(), Fail> {
     let alloc = rt.alloc();
     let jump = Statement::Jump(0);
-    assert_eq!(rt; printed_alone(alloc, jump)?.as_deref(), Some("jump "));
+    assert!(rt; printed_alone(alloc, jump)?.as_deref() == Some("jump "));
     let back = Statement::Loop(3, 4294967295);
-    assert_eq!(rt; printed_alone(alloc, back)?.as_deref(), Some("loop r3 "));
+    assert!(rt; printed_alone(alloc, back)?.as_deref() == Some("loop r3 "));
     Ok(())
 }

@@ -1,20 +1,18 @@
-use crate::tests::{joined, script_of};
+use crate::tests::{joined, script_said};
 use kabi_types::{CallKind, Chooser, Memory, Operand, Policy, Script, Statement, Test};
 use std::alloc::Global;
 use std::test::Fail;
 
 #[test]
 fn settings_have_defaults(rt: HostRuntime) -> Result<(), Fail> {
-    let script = script_of(rt.alloc(), "program init\nend\n")?.expect(&rt, "a script");
-    assert_eq!(rt; script.heap, 65536);
-    assert_eq!(rt; script.disk, 64);
-    assert_eq!(rt; script.steps, 1000);
-    assert_eq!(rt; script.policy, Policy::Heaviest);
+    let script = script_said(rt.alloc(), "program init\nend\n")?.expect(&rt, "a script");
+    assert!(rt; (script.heap, script.disk, script.steps) == (65536, 64, 1000));
+    assert!(rt; script.policy == Policy::Heaviest);
     assert!(rt; matches!(script.chooser, Chooser::Plain));
     let programs = script.programs.items();
-    assert_eq!(rt; programs.len(), 1);
-    assert_eq!(rt; programs[0].name.items(), b"init".as_slice());
-    assert_eq!(rt; programs[0].body.items().len(), 0);
+    assert!(rt; programs.len() == 1);
+    assert!(rt; programs[0].name.items() == b"init".as_slice());
+    assert!(rt; programs[0].body.items().is_empty());
     Ok(())
 }
 
@@ -22,14 +20,11 @@ fn settings_have_defaults(rt: HostRuntime) -> Result<(), Fail> {
 fn settings_are_read(rt: HostRuntime) -> Result<(), Fail> {
     let text =
         "heap 008192\ndisk 4096\nsteps 100000\npolicy youngest\nchoices 3 -0 4294967295\nprogram init\nend";
-    let script = script_of(rt.alloc(), text)?.expect(&rt, "a script");
-    assert_eq!(rt; script.heap, 8192);
-    assert_eq!(rt; script.disk, 4096);
-    assert_eq!(rt; script.steps, 100000);
-    assert_eq!(rt; script.policy, Policy::Youngest);
-    let chosen = [3, 0, 4294967295];
+    let script = script_said(rt.alloc(), text)?.expect(&rt, "a script");
+    assert!(rt; (script.heap, script.disk, script.steps) == (8192, 4096, 100000));
+    assert!(rt; script.policy == Policy::Youngest);
     assert!(rt;
-        matches!(&script.chooser, Chooser::Choices(numbers) if numbers.items() == chosen.as_slice())
+        matches!(&script.chooser, Chooser::Choices(numbers) if numbers.items() == [3, 0, 4294967295].as_slice())
     );
     Ok(())
 }
@@ -38,18 +33,18 @@ fn settings_are_read(rt: HostRuntime) -> Result<(), Fail> {
 fn settings_may_stand_after_programs(rt: HostRuntime) -> Result<(), Fail> {
     let text =
         "program b\nexit 1\nend\nseed 7\nprogram init\nend\npolicy heaviest\nheap 8388608\n\ndisk 16\n#\nsteps 1\nprogram a\nexit 3\nexit 4\nend";
-    let script = script_of(rt.alloc(), text)?.expect(&rt, "a script");
-    assert_eq!(rt; (script.heap, script.disk, script.steps), (8388608, 16, 1));
-    assert_eq!(rt; script.policy, Policy::Heaviest);
+    let script = script_said(rt.alloc(), text)?.expect(&rt, "a script");
+    assert!(rt; (script.heap, script.disk, script.steps) == (8388608, 16, 1));
+    assert!(rt; script.policy == Policy::Heaviest);
     assert!(rt; matches!(script.chooser, Chooser::Seed(7)));
     let programs = script.programs.items();
-    assert_eq!(rt; programs.len(), 3);
-    assert_eq!(rt; programs[0].name.items(), b"b".as_slice());
-    assert_eq!(rt; programs[0].body.items().len(), 1);
-    assert_eq!(rt; programs[1].name.items(), b"init".as_slice());
-    assert_eq!(rt; programs[1].body.items().len(), 0);
-    assert_eq!(rt; programs[2].name.items(), b"a".as_slice());
-    assert_eq!(rt; programs[2].body.items().len(), 2);
+    assert!(rt; programs.len() == 3);
+    assert!(rt; programs[0].name.items() == b"b".as_slice());
+    assert!(rt; programs[0].body.items().len() == 1);
+    assert!(rt; programs[1].name.items() == b"init".as_slice());
+    assert!(rt; programs[1].body.items().is_empty());
+    assert!(rt; programs[2].name.items() == b"a".as_slice());
+    assert!(rt; programs[2].body.items().len() == 2);
     Ok(())
 }
 
@@ -85,9 +80,9 @@ end
 
 #[test]
 fn local_statements_are_read(rt: HostRuntime) -> Result<(), Fail> {
-    let script = script_of(rt.alloc(), JUMPING)?;
+    let script = script_said(rt.alloc(), JUMPING)?;
     let body = first_body(&script);
-    assert_eq!(rt; body.len(), 11);
+    assert!(rt; body.len() == 11);
     assert!(rt; matches!(&body[0], Statement::Set(0, Operand::Number(-7))));
     assert!(rt; matches!(&body[1], Statement::Add(15, Operand::Reg(2))));
     assert!(rt; matches!(&body[2], Statement::Label(name) if name.items() == b"top".as_slice()));
@@ -113,9 +108,9 @@ fn jumps_where(statement: &Statement, wanted: (Operand, Test, Operand)) -> bool 
 
 #[test]
 fn tests_are_read(rt: HostRuntime) -> Result<(), Fail> {
-    let script = script_of(rt.alloc(), JUMPING)?;
+    let script = script_said(rt.alloc(), JUMPING)?;
     let body = first_body(&script);
-    assert_eq!(rt; body.len(), 11);
+    assert!(rt; body.len() == 11);
     let one = Operand::Reg(1);
     assert!(rt; jumps_where(&body[3], (one, Test::Eq, Operand::Number(-1))));
     assert!(rt; jumps_where(&body[4], (Operand::Number(0), Test::Ne, Operand::Reg(10))));
@@ -158,9 +153,9 @@ r15 = exit r10
 r0 r15 = exit SEEK_END|SEEK_CUR
 end
 ";
-    let script = script_of(rt.alloc(), text)?;
+    let script = script_said(rt.alloc(), text)?;
     let body = first_body(&script);
-    assert_eq!(rt; body.len(), 7);
+    assert!(rt; body.len() == 7);
     let yielded = (CallKind::SchedYield, None, Some(5), Some(6));
     assert!(rt; calls(&body[0], (CallKind::Getpid, None, None, None)));
     assert!(rt; calls(&body[1], (CallKind::Getppid, None, Some(4), None)));
@@ -179,13 +174,13 @@ end
 fn blanks_stand_anywhere_between_words(rt: HostRuntime) -> Result<(), Fail> {
     let text =
         "\theap \t 8192\r\n\r\n program\tinit\r\n\r set\t\tr1  5\t\r\nlabel a\r\nloop\r r1\ta\r\n end\r";
-    let script = script_of(rt.alloc(), text)?;
+    let script = script_said(rt.alloc(), text)?;
     let body = first_body(&script);
-    assert_eq!(rt; body.len(), 3);
+    assert!(rt; body.len() == 3);
     assert!(rt; matches!(&body[0], Statement::Set(1, Operand::Number(5))));
     assert!(rt; matches!(&body[1], Statement::Label(name) if name.items() == b"a".as_slice()));
     assert!(rt; matches!(&body[2], Statement::Loop(1, 1)));
-    assert_eq!(rt; script.expect(&rt, "a script").heap, 8192);
+    assert!(rt; script.expect(&rt, "a script").heap == 8192);
     Ok(())
 }
 
@@ -193,13 +188,13 @@ fn blanks_stand_anywhere_between_words(rt: HostRuntime) -> Result<(), Fail> {
 fn programs_have_labels_of_their_own(rt: HostRuntime) -> Result<(), Fail> {
     let text =
         "program a\nexit 0\nlabel x\nloop r1 x\nend\nprogram init\nlabel x\nloop r2 x\nend\n";
-    let script = script_of(rt.alloc(), text)?;
+    let script = script_said(rt.alloc(), text)?;
     let body = first_body(&script);
-    assert_eq!(rt; body.len(), 3);
+    assert!(rt; body.len() == 3);
     assert!(rt; matches!(&body[2], Statement::Loop(1, 1)));
     let script = script.expect(&rt, "a script");
     let programs = script.programs.items();
-    assert_eq!(rt; programs.len(), 2);
+    assert!(rt; programs.len() == 2);
     assert!(rt;
         matches!(
             programs[1].body.items(),
@@ -212,9 +207,9 @@ fn programs_have_labels_of_their_own(rt: HostRuntime) -> Result<(), Fail> {
 #[test]
 fn words_of_statements_may_be_labels(rt: HostRuntime) -> Result<(), Fail> {
     let text = "program init\njump end\nlabel r1\nlabel jump\nlabel end\nloop r1 r1\nend\n";
-    let script = script_of(rt.alloc(), text)?;
+    let script = script_said(rt.alloc(), text)?;
     let body = first_body(&script);
-    assert_eq!(rt; body.len(), 5);
+    assert!(rt; body.len() == 5);
     assert!(rt; matches!(&body[0], Statement::Jump(3)));
     assert!(rt; matches!(&body[4], Statement::Loop(1, 1)));
     Ok(())
@@ -231,90 +226,78 @@ fn value_of(alloc: Global, value: &str) -> Result<Option<Operand>, Memory> {
     let Ok(text) = str::from_utf8(text.as_slice()) else {
         return Ok(None);
     };
-    let script = script_of(alloc, text)?;
+    let script = script_said(alloc, text)?;
     match first_body(&script) {
         [Statement::Set(3, value)] => Ok(Some(*value)),
         _ => Ok(None),
     }
 }
 
-/// The first of these words that isn't this number.
-fn first_other<'a>(alloc: Global, rows: &[(&'a str, i64)]) -> Result<Option<&'a str>, Memory> {
-    for (word, number) in rows {
-        if value_of(alloc, word)? != Some(Operand::Number(*number)) {
-            return Ok(Some(*word));
-        }
+const CONSTANTS: &[(&str, i64)] = &[
+    ("O_RDONLY", 0),
+    ("O_WRONLY", 1),
+    ("O_RDWR", 2),
+    ("O_CREAT", 64),
+    ("O_EXCL", 128),
+    ("O_TRUNC", 512),
+    ("O_APPEND", 1024),
+    ("O_NONBLOCK", 2048),
+    ("O_CLOEXEC", 524288),
+    ("SEEK_SET", 0),
+    ("SEEK_CUR", 1),
+    ("SEEK_END", 2),
+    ("F_DUPFD", 0),
+    ("F_GETFD", 1),
+    ("F_SETFD", 2),
+    ("F_GETFL", 3),
+    ("F_SETFL", 4),
+    ("FD_CLOEXEC", 1),
+    ("WNOHANG", 1),
+    ("SIGKILL", 9),
+    ("SHUT_RD", 0),
+    ("SHUT_WR", 1),
+    ("SHUT_RDWR", 2),
+    ("POLLIN", 1),
+    ("POLLOUT", 4),
+    ("POLLERR", 8),
+    ("POLLHUP", 16),
+    ("POLLNVAL", 32),
+];
+
+/// Joined constants, and numbers.
+const NUMBERS: &[(&str, i64)] = &[
+    ("SEEK_END|SEEK_CUR", 3),
+    ("POLLIN|POLLIN", 1),
+    ("F_GETFL|F_SETFD", 3),
+    ("SIGKILL|WNOHANG", 9),
+    ("O_WRONLY|O_CREAT|O_EXCL", 193),
+    ("FD_CLOEXEC|O_CLOEXEC|O_RDONLY", 524289),
+    ("POLLNVAL|POLLHUP|POLLERR|POLLOUT|POLLIN", 61),
+    ("0", 0),
+    ("-0", 0),
+    ("007", 7),
+    ("-007", -7),
+    ("9223372036854775807", 9223372036854775807),
+    ("-9223372036854775808", -9223372036854775808),
+    ("00000000000000000000000000000000000000000000000000001", 1),
+];
+
+#[test]
+fn constants_and_numbers_are_values(rt: HostRuntime) -> Result<(), Fail> {
+    for (word, number) in CONSTANTS.iter().chain(NUMBERS) {
+        let value = value_of(rt.alloc(), word)?;
+        assert!(rt; value == Some(Operand::Number(*number)), "{word:?}");
     }
-    Ok(None)
-}
-
-#[test]
-fn constants_have_their_numbers(rt: HostRuntime) -> Result<(), Fail> {
-    let rows = [
-        ("O_RDONLY", 0),
-        ("O_WRONLY", 1),
-        ("O_RDWR", 2),
-        ("O_CREAT", 64),
-        ("O_EXCL", 128),
-        ("O_TRUNC", 512),
-        ("O_APPEND", 1024),
-        ("O_NONBLOCK", 2048),
-        ("O_CLOEXEC", 524288),
-        ("SEEK_SET", 0),
-        ("SEEK_CUR", 1),
-        ("SEEK_END", 2),
-        ("F_DUPFD", 0),
-        ("F_GETFD", 1),
-        ("F_SETFD", 2),
-        ("F_GETFL", 3),
-        ("F_SETFL", 4),
-        ("FD_CLOEXEC", 1),
-        ("WNOHANG", 1),
-        ("SIGKILL", 9),
-        ("SHUT_RD", 0),
-        ("SHUT_WR", 1),
-        ("SHUT_RDWR", 2),
-        ("POLLIN", 1),
-        ("POLLOUT", 4),
-        ("POLLERR", 8),
-        ("POLLHUP", 16),
-        ("POLLNVAL", 32),
-    ];
-    assert_eq!(rt; first_other(rt.alloc(), &rows)?, None);
     Ok(())
 }
 
-#[test]
-fn joined_constants_and_numbers_are_read(rt: HostRuntime) -> Result<(), Fail> {
-    let rows = [
-        ("SEEK_END|SEEK_CUR", 3),
-        ("POLLIN|POLLIN", 1),
-        ("F_GETFL|F_SETFD", 3),
-        ("SIGKILL|WNOHANG", 9),
-        ("O_WRONLY|O_CREAT|O_EXCL", 193),
-        ("FD_CLOEXEC|O_CLOEXEC|O_RDONLY", 524289),
-        ("POLLNVAL|POLLHUP|POLLERR|POLLOUT|POLLIN", 61),
-        ("0", 0),
-        ("-0", 0),
-        ("007", 7),
-        ("-007", -7),
-        ("9223372036854775807", 9223372036854775807),
-        ("-9223372036854775808", -9223372036854775808),
-        ("00000000000000000000000000000000000000000000000000001", 1),
-    ];
-    assert_eq!(rt; first_other(rt.alloc(), &rows)?, None);
-    Ok(())
-}
+const REGISTERS: &[(&str, u8)] = &[("r0", 0), ("r1", 1), ("r9", 9), ("r10", 10), ("r15", 15)];
 
 #[test]
 fn registers_are_values(rt: HostRuntime) -> Result<(), Fail> {
-    let rows = [("r0", 0), ("r1", 1), ("r9", 9), ("r10", 10), ("r15", 15)];
-    for (word, number) in rows {
-        assert_eq!(rt;
-            value_of(rt.alloc(), word)?,
-            Some(Operand::Reg(number)),
-            "{word:?}"
-        );
+    for (word, number) in REGISTERS {
+        let value = value_of(rt.alloc(), word)?;
+        assert!(rt; value == Some(Operand::Reg(*number)), "{word:?}");
     }
     Ok(())
 }

@@ -1,166 +1,159 @@
-use crate::tests::{fault_at_top, first_other_at_top};
+use crate::tests::{Told, check_at_top, fault_at_top};
 use kabi_types::{FaultKind, Memory};
 use std::alloc::Global;
 use std::test::Fail;
 
-#[test]
-fn settings_have_unknown_words(rt: HostRuntime) -> Result<(), Fail> {
-    let lines = [
-        "hep 8192",
-        "Heap 8192",
-        "heap",
-        "heap 8192 8192",
-        "heap r1",
-        "heap SEEK_END",
-        "heap +8192",
-        "heap \"8192\"",
-        "\"heap\" 8192",
-        "heap 8192 # bytes",
-        "heap \"8192",
-        "\u{feff}heap 8192",
-        "disk",
-        "disk 64 64",
-        "disk r0",
-        "steps",
-        "steps 1 2",
-        "steps O_RDWR",
-        "policy",
-        "policy oldest",
-        "policy 1",
-        "policy heaviest youngest",
-        "policy \"heaviest\"",
-        "choices",
-        "choices x",
-        "choices 1 r1",
-        "choices \"1\"",
-        "seed",
-        "seed 1 2",
-        "seed WNOHANG",
-    ];
-    let wanted = Some((1, FaultKind::UnknownWord));
-    assert_eq!(rt; first_other_at_top(rt.alloc(), &lines, wanted)?, None);
-    Ok(())
-}
+const UNKNOWN_SETTINGS: &[&str] = &[
+    "hep 8192",
+    "Heap 8192",
+    "heap",
+    "heap 8192 8192",
+    "heap r1",
+    "heap SEEK_END",
+    "heap +8192",
+    "heap \"8192\"",
+    "\"heap\" 8192",
+    "heap 8192 # bytes",
+    "heap \"8192",
+    "\u{feff}heap 8192",
+    "disk",
+    "disk 64 64",
+    "disk r0",
+    "steps",
+    "steps 1 2",
+    "steps O_RDWR",
+    "policy",
+    "policy oldest",
+    "policy 1",
+    "policy heaviest youngest",
+    "policy \"heaviest\"",
+    "choices",
+    "choices x",
+    "choices 1 r1",
+    "choices \"1\"",
+    "seed",
+    "seed 1 2",
+    "seed WNOHANG",
+];
+
+const UNKNOWN_LINES: &[&str] = &[
+    "end",
+    "end x",
+    "set r1 1",
+    "label a",
+    "getpid",
+    "r1 = getpid",
+    "8192",
+    "-1",
+    "\"",
+    "program",
+    "program a b",
+    "program \"a\"",
+    "program 9a",
+    "program 1",
+    "program -1",
+    "program _a",
+    "program A",
+    "program aB",
+    "program a-b",
+    "program a\u{e9}",
+    "program abcdefghijklmnopqrstuvwxyz01",
+];
+
+const BAD_NUMBERS: &[&str] = &[
+    "heap 8192k",
+    "heap 0x2000",
+    "heap 8_192",
+    "heap -",
+    "heap --8192",
+    "heap 8192-",
+    "heap 9223372036854775808x",
+    "heap 8192\u{e9}",
+    "disk 64.0",
+    "disk 64|64",
+    "steps 1e3",
+    "steps 1,000",
+    "choices 1x",
+    "choices 1 2 3x",
+    "choices - 1",
+    "seed 0b1",
+    "seed -x",
+];
+
+const OUT_OF_RANGE: &[&str] = &[
+    "heap 8191",
+    "heap 8388609",
+    "heap 0",
+    "heap -5",
+    "heap -8192",
+    "heap 4295032832",
+    "heap 9223372036854775808",
+    "heap 18446744073709617152",
+    "heap 99999999999999999999999999999999999999999999",
+    "disk 15",
+    "disk 4097",
+    "disk -64",
+    "steps 0",
+    "steps 100001",
+    "steps -9223372036854775809",
+    "choices 4294967296",
+    "choices -1",
+    "choices 1 2 4294967296 3",
+    "seed 2147483648",
+    "seed -1",
+];
+
+const RIGHT_LINES: &[&str] = &[
+    "heap 8192",
+    "heap 8388608",
+    "heap 0000000000000000000000000000000000008192",
+    "disk 16",
+    "disk 4096",
+    "steps 1",
+    "steps 100000",
+    "policy heaviest",
+    "policy youngest",
+    "choices 0",
+    "choices 4294967295",
+    "choices -0 007",
+    "seed 0",
+    "seed -0",
+    "seed 2147483647",
+    "\t heap \t\r 8192\r",
+    "",
+    " \t\r",
+    "#",
+    "# heap \"",
+    " \t#heap 1",
+    "program a\nend",
+    "program z_9\nend",
+    "program abcdefghijklmnopqrstuvwxyz0\nend",
+];
 
 #[test]
 fn lines_outside_programs_have_unknown_words(rt: HostRuntime) -> Result<(), Fail> {
-    let lines = [
-        "end",
-        "end x",
-        "set r1 1",
-        "label a",
-        "getpid",
-        "r1 = getpid",
-        "8192",
-        "-1",
-        "\"",
-        "program",
-        "program a b",
-        "program \"a\"",
-        "program 9a",
-        "program 1",
-        "program -1",
-        "program _a",
-        "program A",
-        "program aB",
-        "program a-b",
-        "program a\u{e9}",
-        "program abcdefghijklmnopqrstuvwxyz01",
-    ];
     let wanted = Some((1, FaultKind::UnknownWord));
-    assert_eq!(rt; first_other_at_top(rt.alloc(), &lines, wanted)?, None);
-    Ok(())
+    check_at_top(&rt, UNKNOWN_SETTINGS, wanted)?;
+    check_at_top(&rt, UNKNOWN_LINES, wanted)
 }
 
 #[test]
 fn settings_have_bad_numbers(rt: HostRuntime) -> Result<(), Fail> {
-    let lines = [
-        "heap 8192k",
-        "heap 0x2000",
-        "heap 8_192",
-        "heap -",
-        "heap --8192",
-        "heap 8192-",
-        "heap 9223372036854775808x",
-        "heap 8192\u{e9}",
-        "disk 64.0",
-        "disk 64|64",
-        "steps 1e3",
-        "steps 1,000",
-        "choices 1x",
-        "choices 1 2 3x",
-        "choices - 1",
-        "seed 0b1",
-        "seed -x",
-    ];
-    let wanted = Some((1, FaultKind::BadNumber));
-    assert_eq!(rt; first_other_at_top(rt.alloc(), &lines, wanted)?, None);
-    Ok(())
+    check_at_top(&rt, BAD_NUMBERS, Some((1, FaultKind::BadNumber)))
 }
 
 #[test]
 fn settings_are_out_of_range(rt: HostRuntime) -> Result<(), Fail> {
-    let lines = [
-        "heap 8191",
-        "heap 8388609",
-        "heap 0",
-        "heap -5",
-        "heap -8192",
-        "heap 4295032832",
-        "heap 9223372036854775808",
-        "heap 18446744073709617152",
-        "heap 99999999999999999999999999999999999999999999",
-        "disk 15",
-        "disk 4097",
-        "disk -64",
-        "steps 0",
-        "steps 100001",
-        "steps -9223372036854775809",
-        "choices 4294967296",
-        "choices -1",
-        "choices 1 2 4294967296 3",
-        "seed 2147483648",
-        "seed -1",
-    ];
-    let wanted = Some((1, FaultKind::OutOfRange));
-    assert_eq!(rt; first_other_at_top(rt.alloc(), &lines, wanted)?, None);
-    Ok(())
+    check_at_top(&rt, OUT_OF_RANGE, Some((1, FaultKind::OutOfRange)))
 }
 
 #[test]
 fn lines_outside_programs_are_read(rt: HostRuntime) -> Result<(), Fail> {
-    let lines = [
-        "heap 8192",
-        "heap 8388608",
-        "heap 0000000000000000000000000000000000008192",
-        "disk 16",
-        "disk 4096",
-        "steps 1",
-        "steps 100000",
-        "policy heaviest",
-        "policy youngest",
-        "choices 0",
-        "choices 4294967295",
-        "choices -0 007",
-        "seed 0",
-        "seed -0",
-        "seed 2147483647",
-        "\t heap \t\r 8192\r",
-        "",
-        " \t\r",
-        "#",
-        "# heap \"",
-        " \t#heap 1",
-        "program a\nend",
-        "program z_9\nend",
-        "program abcdefghijklmnopqrstuvwxyz0\nend",
-    ];
-    assert_eq!(rt; first_other_at_top(rt.alloc(), &lines, None)?, None);
-    Ok(())
+    check_at_top(&rt, RIGHT_LINES, None)
 }
 
-/// The fault of a line with so many choices.
-fn fault_of_choices(alloc: Global, count: u32) -> Result<Option<(u32, FaultKind)>, Memory> {
+/// What is told of a line with so many choices.
+fn fault_of_choices(alloc: Global, count: u32) -> Result<Told, Memory> {
     let mut line = Vec::new(alloc);
     line.extend_from_slice(b"choices")?;
     for _ in 0..count {
@@ -171,8 +164,7 @@ fn fault_of_choices(alloc: Global, count: u32) -> Result<Option<(u32, FaultKind)
 
 #[test]
 fn there_are_1000_choices_at_most(rt: HostRuntime) -> Result<(), Fail> {
-    let wanted = Some((1, FaultKind::OutOfRange));
-    assert_eq!(rt; fault_of_choices(rt.alloc(), 1000)?, None);
-    assert_eq!(rt; fault_of_choices(rt.alloc(), 1001)?, wanted);
+    assert!(rt; fault_of_choices(rt.alloc(), 1000)?.is_none());
+    assert!(rt; fault_of_choices(rt.alloc(), 1001)? == Some((1, FaultKind::OutOfRange)));
     Ok(())
 }

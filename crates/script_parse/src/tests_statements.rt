@@ -1,9 +1,9 @@
-use crate::tests::{fault_in_init, first_other_in_init, joined};
+use crate::tests::{Told, check_in_init, fault_in_init, joined};
 use kabi_types::{FaultKind, Memory};
 use std::alloc::Global;
 use std::test::Fail;
 
-const UNKNOWN_IN_SET_AND_ADD: [&str; 37] = [
+const UNKNOWN_IN_SET_AND_ADD: &[&str] = &[
     "set",
     "set r1",
     "set r1 1 2",
@@ -43,17 +43,7 @@ const UNKNOWN_IN_SET_AND_ADD: [&str; 37] = [
     "add r1 ENOENT",
 ];
 
-#[test]
-fn set_and_add_have_unknown_words(rt: HostRuntime) -> Result<(), Fail> {
-    let wanted = Some((2, FaultKind::UnknownWord));
-    assert_eq!(rt;
-        first_other_in_init(rt.alloc(), &UNKNOWN_IN_SET_AND_ADD, wanted)?,
-        None
-    );
-    Ok(())
-}
-
-const UNKNOWN_IN_JUMPS_AND_LABELS: [&str; 43] = [
+const UNKNOWN_IN_JUMPS_AND_LABELS: &[&str] = &[
     "if",
     "if r1 == 1",
     "if r1 == 1 a b",
@@ -99,17 +89,7 @@ const UNKNOWN_IN_JUMPS_AND_LABELS: [&str; 43] = [
     "loop r1 abcdefghijklmnopqrstuvwxyz01",
 ];
 
-#[test]
-fn jumps_and_labels_have_unknown_words(rt: HostRuntime) -> Result<(), Fail> {
-    let wanted = Some((2, FaultKind::UnknownWord));
-    assert_eq!(rt;
-        first_other_in_init(rt.alloc(), &UNKNOWN_IN_JUMPS_AND_LABELS, wanted)?,
-        None
-    );
-    Ok(())
-}
-
-const UNKNOWN_FIRST_WORDS: [&str; 41] = [
+const UNKNOWN_FIRST_WORDS: &[&str] = &[
     "jmp a",
     "program other",
     "heap 8192",
@@ -153,17 +133,7 @@ const UNKNOWN_FIRST_WORDS: [&str; 41] = [
     "getpid #",
 ];
 
-#[test]
-fn calls_have_unknown_first_words(rt: HostRuntime) -> Result<(), Fail> {
-    let wanted = Some((2, FaultKind::UnknownWord));
-    assert_eq!(rt;
-        first_other_in_init(rt.alloc(), &UNKNOWN_FIRST_WORDS, wanted)?,
-        None
-    );
-    Ok(())
-}
-
-const MISSING_OR_FURTHER_WORDS: [&str; 49] = [
+const MISSING_OR_FURTHER_WORDS: &[&str] = &[
     "getpid 1",
     "getppid r1",
     "sched_yield 0",
@@ -215,183 +185,173 @@ const MISSING_OR_FURTHER_WORDS: [&str; 49] = [
     "poll 0 1 1 2 2 3 3 4 4 5 5 6 6 7 7 8 8 9",
 ];
 
+const UNKNOWN_OPERANDS: &[&str] = &[
+    "exit x",
+    "exit r16",
+    "exit EINVAL",
+    "exit \"0\"",
+    "mmap \"4096\"",
+    "exec a",
+    "exec 1",
+    "exec r1",
+    "exec 'a'",
+    "stat /a",
+    "open 0 \"a\"",
+    "open \"a\" \"b\"",
+    "store r1 2",
+    "store r1 1x",
+    "store \"a\" r1",
+    "link \"a\" 1",
+    "rename a \"b\"",
+    "bind \"a\" 1",
+    "connect 1 2",
+    "poll \"0\"",
+    "poll 0 1 \"POLLIN\"",
+];
+
+const BROKEN_TEXTS: &[&str] = &[
+    "\"",
+    "exec \"a",
+    "exec \"a\\\"",
+    "exec \"a\\",
+    "exec \"a\" \"",
+    "exec \"a\"b",
+    "exec \"a\"\"b\"",
+    "exec \"a\"#",
+    "exec \"a\"\u{b}",
+    "exec a\"b\"",
+    "exec \"\\t\"",
+    "exec \"\\r\"",
+    "exec \"\\0\"",
+    "exec \"\\'\"",
+    "exec \"\\N\"",
+    "exec \"\\X41\"",
+    "exec \"\\x\"",
+    "exec \"\\x4\"",
+    "exec \"\\x4g\"",
+    "exec \"\\xg4\"",
+    "exec \"\\x 41\"",
+    "exec \"\\ \"",
+    "set r1 \"",
+    "label a \"",
+    "exit \"\\q\"",
+    "end \"",
+];
+
 #[test]
-fn calls_have_missing_or_further_words(rt: HostRuntime) -> Result<(), Fail> {
+fn words_of_statements_are_unknown(rt: HostRuntime) -> Result<(), Fail> {
     let wanted = Some((2, FaultKind::UnknownWord));
-    assert_eq!(rt;
-        first_other_in_init(rt.alloc(), &MISSING_OR_FURTHER_WORDS, wanted)?,
-        None
-    );
-    Ok(())
+    check_in_init(&rt, UNKNOWN_IN_SET_AND_ADD, wanted)?;
+    check_in_init(&rt, UNKNOWN_IN_JUMPS_AND_LABELS, wanted)?;
+    check_in_init(&rt, UNKNOWN_FIRST_WORDS, wanted)
 }
 
 #[test]
 fn operands_are_unknown_words(rt: HostRuntime) -> Result<(), Fail> {
-    let lines = [
-        "exit x",
-        "exit r16",
-        "exit EINVAL",
-        "exit \"0\"",
-        "mmap \"4096\"",
-        "exec a",
-        "exec 1",
-        "exec r1",
-        "exec 'a'",
-        "stat /a",
-        "open 0 \"a\"",
-        "open \"a\" \"b\"",
-        "store r1 2",
-        "store r1 1x",
-        "store \"a\" r1",
-        "link \"a\" 1",
-        "rename a \"b\"",
-        "bind \"a\" 1",
-        "connect 1 2",
-        "poll \"0\"",
-        "poll 0 1 \"POLLIN\"",
-    ];
     let wanted = Some((2, FaultKind::UnknownWord));
-    assert_eq!(rt; first_other_in_init(rt.alloc(), &lines, wanted)?, None);
-    Ok(())
+    check_in_init(&rt, MISSING_OR_FURTHER_WORDS, wanted)?;
+    check_in_init(&rt, UNKNOWN_OPERANDS, wanted)?;
+    check_in_init(&rt, BROKEN_TEXTS, wanted)
 }
 
-#[test]
-fn broken_texts_are_unknown_words(rt: HostRuntime) -> Result<(), Fail> {
-    let lines = [
-        "\"",
-        "exec \"a",
-        "exec \"a\\\"",
-        "exec \"a\\",
-        "exec \"a\" \"",
-        "exec \"a\"b",
-        "exec \"a\"\"b\"",
-        "exec \"a\"#",
-        "exec \"a\"\u{b}",
-        "exec a\"b\"",
-        "exec \"\\t\"",
-        "exec \"\\r\"",
-        "exec \"\\0\"",
-        "exec \"\\'\"",
-        "exec \"\\N\"",
-        "exec \"\\X41\"",
-        "exec \"\\x\"",
-        "exec \"\\x4\"",
-        "exec \"\\x4g\"",
-        "exec \"\\xg4\"",
-        "exec \"\\x 41\"",
-        "exec \"\\ \"",
-        "set r1 \"",
-        "label a \"",
-        "exit \"\\q\"",
-        "end \"",
-    ];
-    let wanted = Some((2, FaultKind::UnknownWord));
-    assert_eq!(rt; first_other_in_init(rt.alloc(), &lines, wanted)?, None);
-    Ok(())
-}
+const BAD_NUMBERS: &[&str] = &[
+    "set r1 1x",
+    "set r1 0x10",
+    "set r1 -",
+    "set r1 --1",
+    "set r1 -+1",
+    "set r1 1-",
+    "set r1 1.5",
+    "set r1 1_000",
+    "set r1 -r1",
+    "set r1 1|2",
+    "set r1 2|SEEK_END",
+    "set r1 9223372036854775808x",
+    "add r1 1e3",
+    "add r1 -x",
+    "exit 1x",
+    "exit -",
+    "r1 = exit 0b1",
+    "r1 r2 = exit 1\u{e9}",
+    "mmap 4096k",
+    "waitpid - 0",
+    "write 1 2x 3",
+    "pread 1 2 3 4x",
+    "open \"a\" 0o17",
+    "store 1x \"a\"",
+    "bind 1x \"a\"",
+    "poll 1x",
+    "poll 0 1 2x",
+];
 
 #[test]
 fn statements_have_bad_numbers(rt: HostRuntime) -> Result<(), Fail> {
-    let lines = [
-        "set r1 1x",
-        "set r1 0x10",
-        "set r1 -",
-        "set r1 --1",
-        "set r1 -+1",
-        "set r1 1-",
-        "set r1 1.5",
-        "set r1 1_000",
-        "set r1 -r1",
-        "set r1 1|2",
-        "set r1 2|SEEK_END",
-        "set r1 9223372036854775808x",
-        "add r1 1e3",
-        "add r1 -x",
-        "exit 1x",
-        "exit -",
-        "r1 = exit 0b1",
-        "r1 r2 = exit 1\u{e9}",
-        "mmap 4096k",
-        "waitpid - 0",
-        "write 1 2x 3",
-        "pread 1 2 3 4x",
-        "open \"a\" 0o17",
-        "store 1x \"a\"",
-        "bind 1x \"a\"",
-        "poll 1x",
-        "poll 0 1 2x",
-    ];
-    let wanted = Some((2, FaultKind::BadNumber));
-    assert_eq!(rt; first_other_in_init(rt.alloc(), &lines, wanted)?, None);
-    Ok(())
+    check_in_init(&rt, BAD_NUMBERS, Some((2, FaultKind::BadNumber)))
 }
+
+const OUT_OF_RANGE: &[&str] = &[
+    "set r1 9223372036854775808",
+    "set r1 -9223372036854775809",
+    "set r1 18446744073709551616",
+    "set r1 100000000000000000000000000000000000000000000000",
+    "add r1 9223372036854775808",
+    "add r1 -18446744073709551617",
+    "exit 9223372036854775808",
+    "r1 = exit -9223372036854775809",
+    "mmap 9223372036854775808",
+    "write 1 2 9223372036854775808",
+    "poll 0 1 9223372036854775808",
+    "poll 0 1 1 2 2 3 3 4 4 5 5 6 6 7 7 8 8 9 9",
+    "exec \"\\x00\"",
+    "exec \"a\0b\"",
+    "stat \"\\x61\\x00\"",
+    "open \"a\\x00b\" 0",
+    "link \"a\" \"\\x00\"",
+    "link \"\\x00\" \"b\"",
+    "rename \"a\" \"\0\"",
+    "bind 1 \"\\x00\"",
+    "connect 1 \"\\x00\"",
+];
 
 #[test]
 fn statements_are_out_of_range(rt: HostRuntime) -> Result<(), Fail> {
-    let lines = [
-        "set r1 9223372036854775808",
-        "set r1 -9223372036854775809",
-        "set r1 18446744073709551616",
-        "set r1 100000000000000000000000000000000000000000000000",
-        "add r1 9223372036854775808",
-        "add r1 -18446744073709551617",
-        "exit 9223372036854775808",
-        "r1 = exit -9223372036854775809",
-        "mmap 9223372036854775808",
-        "write 1 2 9223372036854775808",
-        "poll 0 1 9223372036854775808",
-        "poll 0 1 1 2 2 3 3 4 4 5 5 6 6 7 7 8 8 9 9",
-        "exec \"\\x00\"",
-        "exec \"a\0b\"",
-        "stat \"\\x61\\x00\"",
-        "open \"a\\x00b\" 0",
-        "link \"a\" \"\\x00\"",
-        "link \"\\x00\" \"b\"",
-        "rename \"a\" \"\0\"",
-        "bind 1 \"\\x00\"",
-        "connect 1 \"\\x00\"",
-    ];
-    let wanted = Some((2, FaultKind::OutOfRange));
-    assert_eq!(rt; first_other_in_init(rt.alloc(), &lines, wanted)?, None);
-    Ok(())
+    check_in_init(&rt, OUT_OF_RANGE, Some((2, FaultKind::OutOfRange)))
 }
 
-/// The fault of a line in a program: these words, and a text of so many bytes in quotes.
-fn fault_of_text(
-    alloc: Global,
-    words: &[u8],
-    length: usize,
-) -> Result<Option<(u32, FaultKind)>, Memory> {
+/// What is told of a line in a program: these words, and a text of so many bytes in quotes.
+fn fault_of_text(alloc: Global, words: &str, length: usize) -> Result<Told, Memory> {
     let text = vec![in alloc; b'a'; length]?;
-    let opened = joined(alloc, words, b" \"".as_slice(), text.as_slice())?;
-    let closed = joined(alloc, opened.as_slice(), b"\"".as_slice(), b"".as_slice())?;
+    let opened = joined(alloc, words.as_bytes(), b" \"", text.as_slice())?;
+    let closed = joined(alloc, opened.as_slice(), b"\"", b"")?;
     fault_in_init(alloc, closed.as_slice())
 }
 
+/// Calls, the lengths of their text, and whether they are right.
+const LENGTHS: &[(&str, usize, FaultKind)] = &[
+    ("exec", 0, FaultKind::NotBuilt),
+    ("exec", 255, FaultKind::NotBuilt),
+    ("exec", 256, FaultKind::OutOfRange),
+    ("link \"a\"", 0, FaultKind::NotBuilt),
+    ("link \"a\"", 255, FaultKind::NotBuilt),
+    ("link \"a\"", 256, FaultKind::OutOfRange),
+    ("bind 3", 0, FaultKind::NotBuilt),
+    ("bind 3", 255, FaultKind::NotBuilt),
+    ("bind 3", 256, FaultKind::OutOfRange),
+    ("store r1", 0, FaultKind::NotBuilt),
+    ("store r1", 64, FaultKind::NotBuilt),
+    ("store r1", 65, FaultKind::OutOfRange),
+];
+
 #[test]
-fn paths_have_255_bytes_at_most(rt: HostRuntime) -> Result<(), Fail> {
-    let right = Some((2, FaultKind::NotBuilt));
-    let wrong = Some((2, FaultKind::OutOfRange));
-    for words in ["exec", "link \"a\"", "bind 3"] {
-        let words = words.as_bytes();
-        assert_eq!(rt; fault_of_text(rt.alloc(), words, 0)?, right);
-        assert_eq!(rt; fault_of_text(rt.alloc(), words, 255)?, right);
-        assert_eq!(rt; fault_of_text(rt.alloc(), words, 256)?, wrong);
+fn paths_have_255_bytes_at_most_and_stores_64(rt: HostRuntime) -> Result<(), Fail> {
+    for (words, length, what) in LENGTHS {
+        let told = fault_of_text(rt.alloc(), words, *length)?;
+        assert!(rt; told == Some((2, *what)), "{words} {length}");
     }
     Ok(())
 }
 
-#[test]
-fn stores_have_64_bytes_at_most(rt: HostRuntime) -> Result<(), Fail> {
-    let right = Some((2, FaultKind::NotBuilt));
-    let wrong = Some((2, FaultKind::OutOfRange));
-    assert_eq!(rt; fault_of_text(rt.alloc(), b"store r1", 0)?, right);
-    assert_eq!(rt; fault_of_text(rt.alloc(), b"store r1", 64)?, right);
-    assert_eq!(rt; fault_of_text(rt.alloc(), b"store r1", 65)?, wrong);
-    Ok(())
-}
-
-const RIGHT_CALLS: [&str; 42] = [
+const RIGHT_CALLS: &[&str] = &[
     "fork",
     "r0 r1 = fork",
     "exec \"\"",
@@ -438,24 +398,21 @@ const RIGHT_CALLS: [&str; 42] = [
 
 #[test]
 fn right_calls_are_not_built(rt: HostRuntime) -> Result<(), Fail> {
-    let wanted = Some((2, FaultKind::NotBuilt));
-    assert_eq!(rt;
-        first_other_in_init(rt.alloc(), &RIGHT_CALLS, wanted)?,
-        None
-    );
-    Ok(())
+    check_in_init(&rt, RIGHT_CALLS, Some((2, FaultKind::NotBuilt)))
 }
+
+const NOT_UTF_8: &[&[u8]] = &[
+    b"\xff",
+    b"# \xc3",
+    b"exec \"\xed\xa0\x80\"",
+    b"set r1 1x\x80",
+];
 
 #[test]
 fn every_line_has_to_be_utf_8(rt: HostRuntime) -> Result<(), Fail> {
-    let wanted = Some((2, FaultKind::NotUtf8));
-    assert_eq!(rt; fault_in_init(rt.alloc(), b"\xff")?, wanted);
-    assert_eq!(rt; fault_in_init(rt.alloc(), b"# \xc3")?, wanted);
-    assert_eq!(rt;
-        fault_in_init(rt.alloc(), b"exec \"\xed\xa0\x80\"")?,
-        wanted
-    );
-    assert_eq!(rt; fault_in_init(rt.alloc(), b"set r1 1x\x80")?, wanted);
-    assert_eq!(rt; fault_in_init(rt.alloc(), b"# \xc3\xa9")?, None);
+    for line in NOT_UTF_8 {
+        assert!(rt; fault_in_init(rt.alloc(), line)? == Some((2, FaultKind::NotUtf8)));
+    }
+    assert!(rt; fault_in_init(rt.alloc(), b"# \xc3\xa9")?.is_none());
     Ok(())
 }

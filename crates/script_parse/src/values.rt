@@ -313,14 +313,7 @@ fn is_name_byte(byte: u8) -> bool
 fn all_name_bytes(bytes: &[u8]) -> bool
     ensures { result ≡ list_all spec.is_name_byte bytes.now }
 {
-    let mut rest = bytes;
-    while let Some((byte, next)) = rest.split_first() {
-        if !is_name_byte(*byte) {
-            return false;
-        }
-        rest = next;
-    }
-    true
+    bytes.iter().all(|byte| is_name_byte(*byte))
 }
 
 /// Whether the word may name a program or a label.
@@ -352,14 +345,7 @@ pub fn name(word: &Word) -> Result<Name27, FaultKind>
 fn all_above_zero(bytes: &[u8]) -> bool
     ensures { result ≡ list_all (λ byte. not (byte == 0)) bytes.now }
 {
-    let mut rest = bytes;
-    while let Some((byte, next)) = rest.split_first() {
-        if *byte == 0 {
-            return false;
-        }
-        rest = next;
-    }
-    true
+    bytes.iter().all(|byte| *byte != 0)
 }
 
 fn is_path(text: &[u8]) -> bool
