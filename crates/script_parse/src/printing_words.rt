@@ -10,22 +10,30 @@ ghost use Rattle.kabi_types.specs.Words.{word_of};
 
 use crate::Shape;
 use crate::calls::shape_of;
+use crate::words::is_within;
 use kabi_types::{CallKind, Operand, Statement, Test, Text};
 use std::alloc::AllocError;
 
-/// Adds a byte of a text: itself where it can be printed and means nothing else, else an escape, by its hexadecimal digits
-/// but for a newline.
+/// Adds the escape of a byte by its two hexadecimal digits.
+fn push_digits(out: &mut String, byte: u8) -> Result<(), AllocError>
+    ensures { OnOk result (string_bytes out.new ≡ string_bytes out.old ++ spec.digits_of byte) }
+{
+    let (high, low) = (byte / 16, byte % 16);
+    write!(out, "\\x{high:x}{low:x}")
+}
+
+/// Adds a byte of a text: itself where it can be printed and is neither a quote nor a backslash, else an escape.
 fn push_byte(out: &mut String, byte: u8) -> Result<(), AllocError>
     ensures { OnOk result (string_bytes out.new ≡ string_bytes out.old ++ spec.shown byte) }
 {
-    match byte {
-        b'\n' => out.push_str("\\n"),
-        // All that can be printed but the quote and the backslash.
-        b' '..=b'!' | b'#'..=b'[' | b']'..=b'~' => out.push(char::from(byte)),
-        _ => {
-            let (high, low) = (byte / 16, byte % 16);
-            write!(out, "\\x{high:x}{low:x}")
-        }
+    if byte == b'\n' {
+        out.push_str("\\n")
+    } else if byte == b'"' || byte == b'\\' {
+        push_digits(out, byte)
+    } else if is_within(b' ', b'~', byte) {
+        out.push(char::from(byte))
+    } else {
+        push_digits(out, byte)
     }
 }
 

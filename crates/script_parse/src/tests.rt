@@ -1,4 +1,4 @@
-use crate::{ParseError, parse};
+use crate::{ParseError, parse, print};
 use kabi_types::{FaultKind, Memory, Script};
 use std::alloc::{AllocError, AllocGlobal, Global};
 use std::process::Abort;
@@ -25,6 +25,15 @@ pub fn fault_of(alloc: Global, text: &[u8]) -> Result<Told, Memory> {
 pub fn script_said(alloc: Global, text: &str) -> Result<Option<Script>, Memory> {
     match parse(alloc, text.as_bytes()) {
         Ok(script) => Ok(Some(script)),
+        Err(ParseError::Bad(_)) => Ok(None),
+        Err(ParseError::Memory) => Err(Memory),
+    }
+}
+
+/// The canonical text of the script that a text says; None where it is none.
+pub fn canonical_of(alloc: Global, text: &[u8]) -> Result<Option<String>, Memory> {
+    match parse(alloc, text) {
+        Ok(script) => Ok(Some(print(alloc, &script)?)),
         Err(ParseError::Bad(_)) => Ok(None),
         Err(ParseError::Memory) => Err(Memory),
     }
@@ -148,17 +157,20 @@ fn programs(alloc: Global, count: u8) -> Result<Vec<u8>, AllocError> {
     Ok(text)
 }
 
+/// What follows 64 programs, and what is told of the whole text.
+const BEHIND_64: &[(&[u8], Told)] = &[
+    (b"", None),
+    (b"program ge\nend\n", Some((129, FaultKind::OutOfRange))),
+    (b"program init\nend\n", Some((129, FaultKind::OutOfRange))),
+    (b"program zz\n", Some((129, FaultKind::OutOfRange))),
+];
+
 #[test]
 fn there_are_64_programs_at_most(rt: HostRuntime) -> Result<(), Fail> {
-    let alloc = rt.alloc();
-    let most = programs(alloc, 64)?;
-    assert!(rt; fault_of(alloc, most.as_slice())?.is_none());
-    let one_too_many = Some((129, FaultKind::OutOfRange));
-    let more = programs(alloc, 65)?;
-    assert!(rt; fault_of(alloc, more.as_slice())? == one_too_many);
-    let again = joined(alloc, most.as_slice(), b"program init\n", b"end\n")?;
-    assert!(rt; fault_of(alloc, again.as_slice())? == one_too_many);
-    let unended = joined(alloc, most.as_slice(), b"program zz\n", b"")?;
-    assert!(rt; fault_of(alloc, unended.as_slice())? == one_too_many);
+    let most = programs(rt.alloc(), 64)?;
+    for (more, told) in BEHIND_64 {
+        let text = joined(rt.alloc(), most.as_slice(), more, b"")?;
+        assert!(rt; fault_of(rt.alloc(), text.as_slice())? == *told);
+    }
     Ok(())
 }

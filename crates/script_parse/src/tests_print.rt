@@ -1,19 +1,11 @@
 use crate::print;
-use crate::tests::script_said;
+use crate::tests::{canonical_of, joined};
 use kabi_types::{
     CallKind, Chooser, Memory, Name27, Numbers, Operand, Operands, Policy, Program, Programs,
     Script, Statement, Statements, Test, Text, Texts,
 };
 use std::alloc::{AllocError, Global};
 use std::test::Fail;
-
-/// The canonical text of the script that a text says; None where it is none.
-fn printed(alloc: Global, text: &str) -> Result<Option<String>, Memory> {
-    match script_said(alloc, text)? {
-        Some(script) => Ok(Some(print(alloc, &script)?)),
-        None => Ok(None),
-    }
-}
 
 fn texts_of(alloc: Global, texts: &[&[u8]]) -> Result<Texts, AllocError> {
     let mut all = Vec::new(alloc);
@@ -42,11 +34,11 @@ fn call(
     })
 }
 
-/// What stands between the program's first line and its `end` where a script has this statement alone; None where
-/// something else is printed around it.
-fn printed_alone(alloc: Global, statement: Statement) -> Result<Option<String>, Memory> {
+/// Whether a script that has this statement alone is printed as these settings, its program's first line, this line, and
+/// its end.
+fn is_printed_alone(alloc: Global, statement: Statement, line: &str) -> Result<bool, Memory> {
     let Some(name) = Name27::of(b"init") else {
-        return Ok(None);
+        return Ok(false);
     };
     let mut body = Vec::new(alloc);
     body.push(statement)?;
@@ -61,15 +53,10 @@ fn printed_alone(alloc: Global, statement: Statement) -> Result<Option<String>, 
         chooser: Chooser::Seed(2147483647),
         programs: Programs::from_vec(programs),
     };
+    let before = b"heap 8192\ndisk 16\nsteps 1\npolicy youngest\nseed 2147483647\nprogram init\n";
+    let wanted = joined(alloc, before, line.as_bytes(), b"\nend\n")?;
     let text = print(alloc, &script)?;
-    let before = "heap 8192\ndisk 16\nsteps 1\npolicy youngest\nseed 2147483647\nprogram init\n";
-    let Some(rest) = text.strip_prefix(before) else {
-        return Ok(None);
-    };
-    match rest.strip_suffix("\nend\n") {
-        Some(line) => Ok(Some(String::from_str(alloc, line)?)),
-        None => Ok(None),
-    }
+    Ok(text.as_bytes() == wanted.as_slice())
 }
 
 /// Texts and the canonical texts of what they say.
@@ -87,7 +74,7 @@ const PRINTED: &[(&str, &str)] = &[
 #[test]
 fn settings_go_first_and_constants_blanks_and_remarks_go(rt: HostRuntime) -> Result<(), Fail> {
     for (text, canonical) in PRINTED {
-        let told = printed(rt.alloc(), text)?;
+        let told = canonical_of(rt.alloc(), text.as_bytes())?;
         assert!(rt; told.as_deref() == Some(*canonical));
     }
     Ok(())
@@ -107,7 +94,7 @@ const CANONICAL: &[&str] = &[
 #[test]
 fn canonical_texts_are_printed_as_they_stand(rt: HostRuntime) -> Result<(), Fail> {
     for text in CANONICAL {
-        let told = printed(rt.alloc(), text)?;
+        let told = canonical_of(rt.alloc(), text.as_bytes())?;
         assert!(rt; told.as_deref() == Some(*text), "{text:?}");
     }
     Ok(())
@@ -193,8 +180,7 @@ const CALLS: &[(Called, Option<u8>, Option<u8>, &str)] = &[
 fn calls_are_printed_in_the_order_of_their_fields(rt: HostRuntime) -> Result<(), Fail> {
     for (called, first, second, line) in CALLS {
         let call = call(rt.alloc(), *called, *first, *second)?;
-        let told = printed_alone(rt.alloc(), call)?;
-        assert!(rt; told.as_deref() == Some(*line), "{line}");
+        assert!(rt; is_printed_alone(rt.alloc(), call, line)?, "{line}");
     }
     Ok(())
 }
@@ -235,8 +221,8 @@ fn a_thousand_choices_are_printed(rt: HostRuntime) -> Result<(), Fail> {
 fn a_place_without_a_label_has_no_name(rt: HostRuntime) -> Result<(), Fail> {
     let alloc = rt.alloc();
     let jump = Statement::Jump(0);
-    assert!(rt; printed_alone(alloc, jump)?.as_deref() == Some("jump "));
+    assert!(rt; is_printed_alone(alloc, jump, "jump ")?);
     let back = Statement::Loop(3, 4294967295);
-    assert!(rt; printed_alone(alloc, back)?.as_deref() == Some("loop r3 "));
+    assert!(rt; is_printed_alone(alloc, back, "loop r3 ")?);
     Ok(())
 }

@@ -7,6 +7,7 @@ ghost use Rattle.script_parse.specs.Reading.{Tells};
 ghost use Rattle.posix_defs.specs.ScriptValues as spec;
 ghost use Rattle.posix_defs.specs.ScriptValues.{among, open_constants, descriptor_constants, other_constants};
 
+use crate::words::is_within;
 use crate::{Refused, Word};
 use kabi_types::{FaultKind, Name27, Operand, Text};
 use std::alloc::Global;
@@ -50,13 +51,13 @@ pub fn is_word(word: &Word, text: &str) -> bool
 fn is_digit(byte: u8) -> bool
     ensures { result ≡ spec.is_digit byte }
 {
-    b'0' <= byte && byte <= b'9'
+    is_within(b'0', b'9', byte)
 }
 
 fn is_letter(byte: u8) -> bool
     ensures { result ≡ spec.is_letter byte }
 {
-    b'a' <= byte && byte <= b'z'
+    is_within(b'a', b'z', byte)
 }
 
 /// The number of a register; None where the word is none.
@@ -64,8 +65,8 @@ fn register_said(word: &[u8]) -> Option<u8>
     ensures { result ≡ spec.register_said word.now }
 {
     match word {
-        [b'r', ones @ b'0'..=b'9'] => Some(*ones - b'0'),
-        [b'r', b'1', ones @ b'0'..=b'5'] => Some(10 + (*ones - b'0')),
+        [b'r', ones] if is_digit(*ones) => Some(*ones - b'0'),
+        [b'r', b'1', ones] if is_within(b'0', b'5', *ones) => Some(10 + (*ones - b'0')),
         _ => None,
     }
 }
@@ -146,20 +147,26 @@ fn decimal(word: &[u8]) -> Result<i64, FaultKind>
     }
 }
 
-/// A decimal number from `low` to `high`.
-pub fn number(low: i64, high: i64, word: &Word) -> Result<i64, FaultKind>
-    ensures { result ≡ spec.number low high word.now }
+/// The number, where it is from `low` to `high`.
+fn in_range(low: i64, high: i64, number: i64) -> Result<i64, FaultKind>
+    ensures { result ≡ spec.in_range low high number }
 {
-    let Word::Bare(bare) = word else {
-        return Err(FaultKind::UnknownWord);
-    };
-    let number = decimal(bare.items())?;
     if low <= number {
         if number <= high {
             return Ok(number);
         }
     }
     Err(FaultKind::OutOfRange)
+}
+
+/// A decimal number from `low` to `high`.
+pub fn number(low: i64, high: i64, word: &Word) -> Result<i64, FaultKind>
+    ensures { result ≡ spec.number low high word.now }
+{
+    match word {
+        Word::Bare(bare) => in_range(low, high, decimal(bare.items())?),
+        Word::Quoted(_) => Err(FaultKind::UnknownWord),
+    }
 }
 
 fn is(word: &[u8], text: &str) -> bool

@@ -19,15 +19,24 @@ fn is_blank(byte: u8) -> bool
     byte == b' ' || byte == b'\t' || byte == b'\r'
 }
 
+pub fn is_within(least: u8, most: u8, byte: u8) -> bool
+    ensures { result ≡ spec.is_within least most byte }
+{
+    least <= byte && byte <= most
+}
+
 /// The value of a hexadecimal digit; None where the byte is none.
 fn hex_value(byte: u8) -> Option<u8>
     ensures { result ≡ spec.hex_value byte }
 {
-    match byte {
-        b'0'..=b'9' => Some(byte - b'0'),
-        b'A'..=b'F' => Some(byte - b'A' + 10),
-        b'a'..=b'f' => Some(byte - b'a' + 10),
-        _ => None,
+    if is_within(b'0', b'9', byte) {
+        Some(byte - b'0')
+    } else if is_within(b'A', b'F', byte) {
+        Some(byte - b'A' + 10)
+    } else if is_within(b'a', b'f', byte) {
+        Some(byte - b'a' + 10)
+    } else {
+        None
     }
 }
 
