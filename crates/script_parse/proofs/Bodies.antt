@@ -180,12 +180,6 @@ abbrev pub Reads : List Line → List Line → Option ScriptFault → Result (Li
 Reads whole below (Some fault) answer = answer ≡ Err fault
 Reads whole below None answer = (body : List Statement) × (answer ≡ Ok body) × (Agrees whole → body ≡ map (statement_of (spoken_of whole)) (spoken_of below))
 
-reads_fault : (whole lines : List Line) (line : Line) (kind : FaultKind) (found rest : Option ScriptFault) (answer : Result Statement FaultKind) (more : Result (List Statement) ScriptFault)
-    → found ≡ Some (record { line = line.number; what = kind }) → answer ≡ Err kind
-    → Reads whole (line ∷ lines) (or_next found rest) (before line.number answer more)
-reads_fault whole lines line kind found rest answer more is_found is =
-    subst (λ f. Reads whole (line ∷ lines) (or_next f rest) (before line.number answer more)) (sym is_found) (line_step line.number kind answer more is)
-
 reads_on : (whole lines : List Line) (line : Line) (said : Spoken) (rest : Option ScriptFault) (answer : Result Statement FaultKind) (more : Result (List Statement) ScriptFault)
     → spoken_of (line ∷ lines) ≡ said ∷ spoken_of lines → IsRead None whole said answer → Reads whole lines rest more
     → Reads whole (line ∷ lines) rest (before line.number answer more)

@@ -10,7 +10,7 @@ use Rattle.posix_defs.specs.declared.said.Spoken.{Spoken}
 use Rattle.posix_defs.specs.declared.said.Spoken.TheVariants as spoken
 use Rattle.posix_defs.specs.declared.said.Stated.{Stated}
 use Rattle.posix_defs.specs.ScriptParts.{Line, inside_of}
-use Rattle.posix_defs.specs.ScriptMeaning.{spoken_by, spoken_in, spoken_of, is_named, label_of}
+use Rattle.posix_defs.specs.ScriptMeaning.{spoken_in, is_named, label_of}
 use Rattle.posix_defs.specs.ScriptFaults.{has_label, label_by}
 use Rattle.script_parse.specs.LabelPlaces.{names, place_from}
 
@@ -26,9 +26,6 @@ stated_of lines = filter_map (λ line. stated_by line.number (inside_of line)) l
 
 pub stated_append : (above below : List Line) → stated_of (above ++ below) ≡ stated_of above ++ stated_of below
 stated_append above below = filter_map-append (λ line. stated_by line.number (inside_of line)) above below
-
-pub spoken_append : (above below : List Line) → spoken_of (above ++ below) ≡ spoken_of above ++ spoken_of below
-spoken_append above below = filter_map-append spoken_by above below
 
 pub names_is : (name : List ℕ) (said : Spoken) → names name said ≡ is_named name (label_of said)
 names_is name (spoken.Label label) = refl

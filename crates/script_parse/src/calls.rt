@@ -7,56 +7,11 @@ use crate::values::is_word;
 use crate::{Shape, Word};
 use kabi_types::CallKind;
 
-/// Every call.
-const ALL_KINDS: [CallKind; 41] = [
-    CallKind::Getpid,
-    CallKind::Getppid,
-    CallKind::SchedYield,
-    CallKind::Fork,
-    CallKind::Exec,
-    CallKind::Exit,
-    CallKind::Waitpid,
-    CallKind::Kill,
-    CallKind::Mmap,
-    CallKind::Munmap,
-    CallKind::Store,
-    CallKind::Load,
-    CallKind::OpenFile,
-    CallKind::Close,
-    CallKind::Dup,
-    CallKind::Dup2,
-    CallKind::Fcntl,
-    CallKind::Read,
-    CallKind::Write,
-    CallKind::Pread,
-    CallKind::Pwrite,
-    CallKind::Lseek,
-    CallKind::Readdir,
-    CallKind::Ftruncate,
-    CallKind::Fstat,
-    CallKind::Stat,
-    CallKind::Chdir,
-    CallKind::Mkdir,
-    CallKind::Rmdir,
-    CallKind::Unlink,
-    CallKind::Link,
-    CallKind::Rename,
-    CallKind::Pipe,
-    CallKind::Socket,
-    CallKind::Socketpair,
-    CallKind::Bind,
-    CallKind::Listen,
-    CallKind::Connect,
-    CallKind::Accept,
-    CallKind::Shutdown,
-    CallKind::Poll,
-];
-
 /// The call that a word names; None where it names none.
 pub fn kind_said(word: &Word) -> Option<CallKind>
     ensures { result ≡ spec.kind_said word.now }
 {
-    kind_among(&ALL_KINDS, word)
+    kind_among(&CallKind::ALL, word)
 }
 
 fn kind_among(kinds: &[CallKind], word: &Word) -> Option<CallKind>

@@ -22,7 +22,7 @@ const DEFAULT_STEPS: u32 = 1000;
 const MOST_PROGRAMS: usize = 64;
 
 /// What is set so far, and the programs that have ended.
-#[derive(Debug, Drop)]
+#[derive(Drop)]
 pub struct Draft {
     heap: Option<u64>,
     disk: Option<u32>,

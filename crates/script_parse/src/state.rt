@@ -16,7 +16,7 @@ use std::alloc::Global;
 use std::marker::Model;
 
 /// The program that is open: its line, its name, and what its lines say so far.
-#[derive(Debug, Drop)]
+#[derive(Drop)]
 struct Opened {
     line: u32,
     name: Name27,
@@ -32,7 +32,7 @@ impl Model for Opened {
 }
 
 /// What is read so far.
-#[derive(Debug, Drop)]
+#[derive(Drop)]
 pub struct State {
     draft: Draft,
     opened: Option<Opened>,
