@@ -1,2 +1,3 @@
 pub mod NextRun
 pub mod Choosing
+pub mod Picks

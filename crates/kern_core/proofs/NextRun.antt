@@ -22,7 +22,7 @@ use Rattle.posix_defs.specs.Ends.{end_of, has_finished}
 use Rattle.posix_defs.specs.CoreRun.{IsCoreRun, goes_on, peak_of}
 use Rattle.posix_defs.proofs.Charged.{charged_within}
 use Rattle.posix_defs.proofs.Progress.{progress}
-use Rattle.posix_defs.specs.Choice.{IsEnabled}
+use Rattle.posix_defs.specs.Enabled.{IsEnabled}
 use Rattle.posix_defs.proofs.MadePids.{made_unless, with_pid-at}
 use Rattle.kern_core.specs.View.{CoreView, IsAt, GoesOn, MayTake, Took, IsKept}
 
@@ -42,8 +42,8 @@ some_is_not_none : ◌≡◌ {A = Option End} (Some Spent) None → ⊥
 some_is_not_none e = cc
 
 -- where no end holds, the run has room for one more event
-pub not_spent : (steps taken : ℕ) (s : CoreState) → end_of steps taken s ≡ None → taken ≢ steps
-not_spent steps taken s none same = go (has_finished s) none
+pub not_spent : (script : Script) (steps taken : ℕ) (s : CoreState) → end_of script steps taken s ≡ None → taken ≢ steps
+not_spent script steps taken s none same = go (has_finished s) none
   where
     go : (b : Bool) → cond b (Some Finished) (cond (taken == steps) (Some Spent) None) ≡ None → ⊥
     go true e = cc
@@ -62,10 +62,10 @@ kept_next stands_for script script' old new event noted heap run_room run_room' 
         is_at = led.1;
         runs = subst (λ r. IsCoreRun script new.steps r led.0) (sym run)
             (subst (λ n. IsCoreRun script n (old.run ++ noted ∷ []) led.0) (sym steps)
-            (goes_on old.run may.state led.0 noted may.runs may.no_end led.2));
+            (goes_on old.run may.state led.0 noted may.runs may.no_end tt led.2));
         peak = peak ∙ ap (λ p. max p noted.charged) kept.has_run.peak ∙ sym (peak_of-append old.run noted) ∙ ap peak_of (sym run);
         within =
-            let more : length old.run ≢ old.steps = not_spent old.steps (length old.run) may.state may.no_end in
+            let more : length old.run ≢ old.steps = not_spent script old.steps (length old.run) may.state may.no_end in
             let longer : length new.run ≡ length old.run + 1 = ap length run ∙ length-append old.run (noted ∷ []) in
             let within : length old.run ≤ old.steps = kept.has_run.within in
             omega arith;
@@ -81,7 +81,7 @@ kept_next stands_for script script' old new event noted heap run_room run_room' 
 -- where no end holds, some event may be taken
 pub may_go_on : {T : Type 0} (stands_for : T → World → Type 0) (script_of : T → Script) (inside core : CoreView T) (heap run_room : ℕ)
     → inside ≡ core → IsKept stands_for (script_of inside.store) inside heap run_room
-    → ((s : CoreState) → IsAt stands_for core s → None ≡ end_of core.steps (length core.run) s) → GoesOn stands_for (script_of core.store) core
+    → ((s : CoreState) → IsAt stands_for core s → None ≡ end_of (script_of core.store) core.steps (length core.run) s) → GoesOn stands_for (script_of core.store) core
 may_go_on stands_for script_of inside core heap run_room same kept none =
     let at : IsAt stands_for core kept.has_run.state = subst (λ c. IsAt stands_for c kept.has_run.state) same kept.has_run.is_at in
     let runs : IsCoreRun (script_of core.store) core.steps core.run kept.has_run.state =
@@ -94,7 +94,7 @@ may_go_on stands_for script_of inside core heap run_room same kept none =
       runs = runs;
       some = progress runs enough (sym (none kept.has_run.state at));
       room =
-          let more : length core.run ≢ core.steps = not_spent core.steps (length core.run) kept.has_run.state (sym (none kept.has_run.state at)) in
+          let more : length core.run ≢ core.steps = not_spent (script_of core.store) core.steps (length core.run) kept.has_run.state (sym (none kept.has_run.state at)) in
           let within : length core.run ≤ core.steps = subst (λ c. length c.run ≤ c.steps) same kept.has_run.within in
           omega arith;
     }
@@ -111,9 +111,9 @@ has_place stands_for core s pid phase at is other =
 
 -- the run has room for what is noted next
 pub has_room : {T : Type 0} (stands_for : T → World → Type 0) (script : Script) (core : CoreView T) (heap run_room : ℕ) (s : CoreState)
-    → IsKept stands_for script core heap run_room → end_of core.steps (length core.run) s ≡ None → length core.run < run_room
+    → IsKept stands_for script core heap run_room → end_of script core.steps (length core.run) s ≡ None → length core.run < run_room
 has_room stands_for script core heap run_room s kept none =
-    let more : length core.run ≢ core.steps = not_spent core.steps (length core.run) s none in
+    let more : length core.run ≢ core.steps = not_spent script core.steps (length core.run) s none in
     let within : length core.run ≤ core.steps = kept.has_run.within in
     let room : core.steps ≤ run_room = kept.room in
     omega arith
@@ -160,8 +160,7 @@ asks stands_for script core s pid which bound run peak at alive user kind_is bou
         charged = at.charged;
       },
       record {
-        lives = alive;
-        user = user;
+        enabled = (alive, user);
         fits_ever = omega arith;
         after = refl;
         noted_so = ap (λ which. record { event = Ask pid; kind = Some which; entry = None; bound = bound; charged = core.charged }) kind_is
@@ -188,9 +187,7 @@ admits stands_for script core s pid which bound run peak at alive waiting fits k
         charged = charged;
       },
       record {
-        lives = alive;
-        waiting = waiting;
-        fits = fits;
+        enabled = (alive, waiting, fits);
         after = refl;
         noted_so = ap (λ which. record { event = Admit pid; kind = Some which; entry = None; bound = bound; charged = core.charged + bound }) kind_is
             ∙ ap (λ charged. record { event = Admit pid; kind = Some (next_kind script s pid); entry = None; bound = bound; charged = charged }) (sym charged)
@@ -219,8 +216,7 @@ turns stands_for script core s pid which bound call store world told entry phase
         charged = charged;
       },
       record {
-        lives = alive;
-        admitted = admitted;
+        enabled = (alive, admitted);
         told = told;
         answers = subst (λ b. TurnsWhere b script s.world pid (next_call script s pid) told world) alive
             (subst (λ call. TurnsTo script s.world pid call told world) call_is turned);

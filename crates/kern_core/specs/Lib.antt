@@ -5,7 +5,9 @@ pub use Rattle.posix_defs.specs.World
 pub use Rattle.posix_defs.specs.CoreState
 pub use Rattle.posix_defs.specs.CoreEvent
 pub use Rattle.posix_defs.specs.Ends
+pub use Rattle.posix_defs.specs.Enabled
 pub use Rattle.posix_defs.specs.Choice
 pub use Rattle.posix_defs.specs.CoreRun
+pub mod Choosing
 pub mod View
 pub mod Sample

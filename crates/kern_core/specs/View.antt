@@ -1,5 +1,6 @@
 -- What contracts see of a core, and the state that it is in.
-use Rattle.std.specs.Prelude.{ℕ, ◌≡◌, ◌+◌, ◌<◌, ◌≤◌, List, [], ◌∷◌, ◌++◌, length, None, IsSome}
+use Rattle.std.specs.Prelude.{ℕ, ◌≡◌, ◌+◌, ◌<◌, ◌≤◌, List, [], ◌∷◌, ◌++◌, length, None, Some, IsSome}
+use Rattle.kabi_types.specs.declared.entries.End.{End}
 use Rattle.kabi_types.specs.declared.entries.Event.{Event}
 use Rattle.kabi_types.specs.declared.entries.Noted.{Noted}
 use Rattle.kabi_types.specs.declared.scripts.Script.{Script}
@@ -9,8 +10,9 @@ use Rattle.posix_defs.specs.World.{World}
 use Rattle.posix_defs.specs.CoreState.{CoreState, charged_in, boot_state}
 use Rattle.posix_defs.specs.CoreEvent.{Steps}
 use Rattle.posix_defs.specs.Ends.{end_of}
-use Rattle.posix_defs.specs.Choice.{IsEnabled, default_of}
-use Rattle.posix_defs.specs.CoreRun.{IsCoreRun, peak_of}
+use Rattle.posix_defs.specs.Enabled.{IsEnabled}
+use Rattle.posix_defs.specs.Choice.{default_of}
+use Rattle.posix_defs.specs.CoreRun.{IsCoreRun, IsPickedRun, peak_of}
 
 -- a core: its store, the number of events that it may take, the events taken, the phases of all processes ever made,
 -- what is reserved, charged and was charged at most, in bytes
@@ -59,7 +61,7 @@ pub record MayTake {T : Type 0} (stands_for : T → World → Type 0) (script : 
   pub is_at : IsAt stands_for core state
   pub runs : IsCoreRun script core.steps core.run state
   pub enabled : IsEnabled script state event
-  pub no_end : end_of core.steps (length core.run) state ≡ None
+  pub no_end : end_of script core.steps (length core.run) state ≡ None
 
 -- The event was taken: from each state in which it was enabled and no end held, to a state that it leads to.
 pub record Took {T : Type 0} (stands_for : T → World → Type 0) (script : Script) (old : CoreView T) (event : Event) (noted : Noted) (new : CoreView T) : Type 0 where
@@ -73,6 +75,19 @@ pub record Took {T : Type 0} (stands_for : T → World → Type 0) (script : Scr
 pub record HasBooted {T : Type 0} (stands_for : T → World → Type 0) (script : Script) (core : CoreView T) : Type 0 where
   pub is_at : IsAt stands_for core (boot_state script)
   pub run : core.run ≡ []
+
+-- The core has run the script, by the rule of choice, and this is how the run ended.
+pub record HasEnded {T : Type 0} (stands_for : T → World → Type 0) (script : Script) (core : CoreView T) (end : End) : Type 0 where
+  pub state : CoreState
+  pub is_at : IsAt stands_for core state
+  pub runs : IsPickedRun script core.steps core.run state
+  pub ends : end_of script core.steps (length core.run) state ≡ Some end
+
+-- The core has run the script so far, by the rule of choice.
+pub record HasPicked {T : Type 0} (stands_for : T → World → Type 0) (script : Script) (core : CoreView T) : Type 0 where
+  pub state : CoreState
+  pub is_at : IsAt stands_for core state
+  pub runs : IsPickedRun script core.steps core.run state
 
 -- What a core keeps beside what contracts see: its room for events, and the limits of its numbers.
 pub record IsKept {T : Type 0} (stands_for : T → World → Type 0) (script : Script) (core : CoreView T) (heap run_room : ℕ) : Type 0 where

@@ -122,7 +122,7 @@ impl<T: Turner + Drop> Core<T> {
 
     /// The end that stands now, the first that holds; None where the run goes on, and then some event may be taken.
     pub fn ended(&self) -> Option<End>
-        ensures end { (s : CoreState) → IsAt T.stands self.now s → result ≡ end_of self.now.steps (length self.now.run) s }
+        ensures end { (s : CoreState) → IsAt T.stands self.now s → result ≡ end_of (T.script self.now.store) self.now.steps (length self.now.run) s }
         ensures goes_on { IsNone result → GoesOn T.stands (T.script self.now.store) self.now }
     {
         if !self.store.alive(1) && !self.admits_any() {
@@ -211,7 +211,7 @@ impl<T: Turner + Drop> Core<T> {
         ensures may { IfSome result (λ event. MayTake T.stands (T.script self.now.store) self.now event) }
         ensures room { IfSome result (λ _. length self.now.run < self.now.steps) }
         ensures none { (s : CoreState) → IsAt T.stands self.now s → IsNone result
-            → IsSome (end_of self.now.steps (length self.now.run) s) }
+            → IsSome (end_of (T.script self.now.store) self.now.steps (length self.now.run) s) }
     {
         if self.ended().is_some() {
             None

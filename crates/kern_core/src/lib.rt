@@ -2,9 +2,13 @@
 #![tactic(auto)]
 
 mod bounds;
+mod choosing;
 mod cores;
+mod picks;
 #[cfg(test)]
 mod tests;
 mod turns;
 
+pub use choosing::Choosing;
 pub use cores::Core;
+pub use picks::run_to_end;

@@ -21,7 +21,7 @@ pub use mem_sink::MemSink;
 pub use mem_source::MemSource;
 pub use sink::Sink;
 pub use source::Source;
-pub use standard::{StdSink, StdSource};
+pub use standard::{ReadSource, StdSink, StdSource, WriteSink};
 
 #[cfg(test)]
 mod tests;

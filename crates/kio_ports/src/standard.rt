@@ -1,48 +1,54 @@
-ghost use Rattle.std.specs.Prelude.{◌≡◌, None};
+ghost use Rattle.std.specs.Prelude.{◌≡◌};
 
 use crate::{Failed, Sink, Source};
 use std::io::{Read, Stdin, Stdout, Write};
 use std::marker::Model;
 
-/// Standard input. Every error of a read counts as a fault, an interrupted read too.
-/// Which bytes come is told to nobody.
+/// Standard input, which tells nobody what bytes come.
+pub type StdSource = ReadSource<Stdin>;
+
+/// Standard output, which tells nobody what bytes went out.
+pub type StdSink = WriteSink<Stdout>;
+
+/// The bytes of a reader. Every error of a read counts as a fault, an interrupted read too.
 #[derive(Debug, Drop)]
-pub struct StdSource {
-    stdin: Stdin,
+pub struct ReadSource<R> {
+    reader: R,
     faults: u64,
 }
 
-impl Model for StdSource {
-    ghost use Rattle.std.specs.Prelude.{ℕ};
+impl<R> Model for ReadSource<R> {
+    ghost use Rattle.kio_ports.specs.Adapters.{Adapted};
 
-    ghost Value = { ℕ };
+    ghost Value = { Adapted R };
 
-    ghost view = { λ s. s.faults };
+    ghost view = { λ source. record { stream = source.reader; faults = source.faults } };
 }
 
-impl StdSource {
-    /// Reads from this handle; no read has failed.
-    pub fn new(stdin: Stdin) -> Self
-        ensures { result ≡ 0 }
+impl<R> ReadSource<R> {
+    /// Reads from this reader; no read has failed.
+    pub fn new(reader: R) -> Self
+        ensures stream { result.stream ≡ reader }
+        ensures faults { result.faults ≡ 0 }
     {
-        StdSource { stdin, faults: 0 }
+        ReadSource { reader, faults: 0 }
     }
 
     /// How many reads have failed.
     pub fn faults(&self) -> u64
-        ensures { result ≡ self.now }
+        ensures { result ≡ self.now.faults }
     {
         self.faults
     }
 }
 
-impl Source for StdSource {
-    ghost left = { λ _. None };
+impl<R: Read> Source for ReadSource<R> {
+    ghost left = { λ source. R.remaining source.stream };
 
-    ghost faults = { λ s. s };
+    ghost faults = { λ source. source.faults };
 
     fn take(&mut self, buf: &mut [u8]) -> Result<usize, Failed> {
-        match self.stdin.read(buf) {
+        match self.reader.read(buf) {
             Ok(count) => Ok(count),
             Err(_) => {
                 self.faults = self.faults.saturating_add(1);
@@ -52,45 +58,46 @@ impl Source for StdSource {
     }
 }
 
-/// Standard output. Every error of a write counts as a fault, an interrupted write too, and so does
-/// a write that takes nothing. Which bytes went out is told to nobody.
+/// A writer to put bytes into. Every error of a write counts as a fault, an interrupted write too, and so does a write
+/// that takes nothing.
 #[derive(Debug, Drop)]
-pub struct StdSink {
-    stdout: Stdout,
+pub struct WriteSink<W> {
+    writer: W,
     faults: u64,
 }
 
-impl Model for StdSink {
-    ghost use Rattle.std.specs.Prelude.{ℕ};
+impl<W> Model for WriteSink<W> {
+    ghost use Rattle.kio_ports.specs.Adapters.{Adapted};
 
-    ghost Value = { ℕ };
+    ghost Value = { Adapted W };
 
-    ghost view = { λ s. s.faults };
+    ghost view = { λ sink. record { stream = sink.writer; faults = sink.faults } };
 }
 
-impl StdSink {
-    /// Writes to this handle; no write has failed.
-    pub fn new(stdout: Stdout) -> Self
-        ensures { result ≡ 0 }
+impl<W> WriteSink<W> {
+    /// Writes to this writer; no write has failed.
+    pub fn new(writer: W) -> Self
+        ensures stream { result.stream ≡ writer }
+        ensures faults { result.faults ≡ 0 }
     {
-        StdSink { stdout, faults: 0 }
+        WriteSink { writer, faults: 0 }
     }
 
     /// How many writes have failed.
     pub fn faults(&self) -> u64
-        ensures { result ≡ self.now }
+        ensures { result ≡ self.now.faults }
     {
         self.faults
     }
 }
 
-impl Sink for StdSink {
-    ghost held = { λ _. None };
+impl<W: Write> Sink for WriteSink<W> {
+    ghost held = { λ sink. W.contents sink.stream };
 
-    ghost faults = { λ s. s };
+    ghost faults = { λ sink. sink.faults };
 
     fn put(&mut self, piece: &[u8]) -> Result<usize, Failed> {
-        match self.stdout.write(piece) {
+        match self.writer.write(piece) {
             Ok(count) if count > 0 || piece.is_empty() => Ok(count),
             _ => {
                 self.faults = self.faults.saturating_add(1);

@@ -1,7 +1,6 @@
 pub mod Booting
 pub mod EventLines
 pub mod Outcomes
-pub mod Picks
 pub mod Pieces
 pub mod Puts
 pub mod Standing

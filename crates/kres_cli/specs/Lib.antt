@@ -1,4 +1,3 @@
-pub mod Choosing
 pub mod Read
 pub mod Run
 pub mod Status

@@ -1,12 +1,10 @@
 //! `kres`: runs scripts of processes on a kernel that reserves its heap before it runs a call.
 #![tactic(auto)]
 
-mod choosing;
 mod commands;
 mod lines;
 mod plain_store;
 mod reading;
-mod runs;
 mod statuses;
 #[cfg(test)]
 mod tests;

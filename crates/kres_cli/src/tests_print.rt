@@ -1,7 +1,5 @@
 use crate::statuses::Status;
-use crate::tests::{answer_on, first_other};
-use crate::tool::run_tool;
-use kio_ports::{MemSink, MemSource};
+use crate::tests::{answer_on, expect_answers, expect_broken};
 use std::test::Fail;
 
 const SHORT: &str = "# x\nprogram init\nset r1 SEEK_END|SEEK_CUR\nend\n";
@@ -63,53 +61,40 @@ label out
 end
 steps 100000";
 
-#[test]
-fn prints_scripts_in_their_canonical_form(rt: HostRuntime) -> Result<(), Fail> {
-    let cases = [
-        (SHORT, Status::Finished, SHORT_PRINTED),
-        (SHORT_PRINTED, Status::Finished, SHORT_PRINTED),
-        (SPOKEN, Status::Finished, PRINTED),
-        (PRINTED, Status::Finished, PRINTED),
-    ];
-    assert_eq!(rt; first_other(&rt, "print", &cases)?, None);
-    Ok(())
-}
+const PRINTS: &[(&str, Status, &str)] = &[
+    (SHORT, Status::Finished, SHORT_PRINTED),
+    (SHORT_PRINTED, Status::Finished, SHORT_PRINTED),
+    (SPOKEN, Status::Finished, PRINTED),
+    (PRINTED, Status::Finished, PRINTED),
+    // What can't be read isn't printed.
+    ("", Status::BadScript, "bad script: line 0: no init\n"),
+    (
+        "program init\nlabel a\njmp a\nend\n",
+        Status::BadScript,
+        "bad script: line 3: unknown word\n",
+    ),
+    (
+        "program init\nr1 = fork\nend\n",
+        Status::BadScript,
+        "bad script: line 2: not built\n",
+    ),
+];
 
 #[test]
-fn tells_the_fault_of_what_it_cannot_print(rt: HostRuntime) -> Result<(), Fail> {
-    let cases = [
-        ("", Status::BadScript, "bad script: line 0: no init\n"),
-        (
-            "program init\nlabel a\njmp a\nend\n",
-            Status::BadScript,
-            "bad script: line 3: unknown word\n",
-        ),
-        (
-            "program init\nr1 = fork\nend\n",
-            Status::BadScript,
-            "bad script: line 2: not built\n",
-        ),
-    ];
-    assert_eq!(rt; first_other(&rt, "print", &cases)?, None);
-    Ok(())
+fn prints_scripts_in_their_canonical_form(rt: HostRuntime) -> Result<(), Fail> {
+    expect_answers(&rt, "print", PRINTS)
 }
 
 #[test]
 fn prints_no_text_that_is_too_long(rt: HostRuntime) -> Result<(), Fail> {
     let (status, sink) = answer_on(&rt, "print", vec![in rt.alloc(); b'#'; 1048577]?)?;
-    assert_eq!(rt; status, Status::BadScript);
-    assert_eq!(rt; sink.bytes(), b"bad script: line 0: too long\n".as_slice());
+    let line = b"bad script: line 0: too long\n";
+    assert!(rt; status == Status::BadScript && sink.bytes() == line);
     Ok(())
 }
 
 #[test]
 fn prints_a_beginning_where_the_sink_fails(rt: HostRuntime) -> Result<(), Fail> {
-    let words = vec![in rt.alloc(); "print".to_string(rt.alloc())?]?;
-    let text = SHORT.as_bytes().to_vec(rt.alloc())?;
-    let mut source = MemSource::new(text, Vec::new(rt.alloc()), 4096);
-    let mut sink = MemSink::new(rt.alloc(), 4096, vec![in rt.alloc(); 2]?, 7)?;
-    let status = run_tool(&rt, rt.alloc(), words.as_slice(), &mut source, &mut sink);
-    assert_eq!(rt; status, Status::WriteFault);
-    assert_eq!(rt; sink.bytes(), b"heap 65".as_slice());
-    Ok(())
+    let put = (Status::WriteFault, "heap 65");
+    expect_broken(&rt, "print", SHORT, Vec::new(rt.alloc()), 7, put)
 }

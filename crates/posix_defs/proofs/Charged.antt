@@ -8,7 +8,7 @@ use Rattle.posix_defs.specs.Sizes.{fixed, reserve}
 use Rattle.posix_defs.specs.World.{live_of}
 use Rattle.posix_defs.specs.CoreState.{CoreState, charged_in, next_bound}
 use Rattle.posix_defs.specs.CoreEvent.{StepsBy}
-use Rattle.posix_defs.specs.CoreRun.{IsCoreRun, boots, goes_on}
+use Rattle.posix_defs.specs.CoreRun.{IsRunBy, boots, goes_on}
 
 -- what was reserved for a call covers what its turn adds to the heap
 turn_within : (live live' reserved reserved' bound heap : ℕ) → live' ≤ live + bound → reserved' + bound ≡ reserved
@@ -20,7 +20,7 @@ step_within : (script : Script) (old : CoreState) (event : Event) (noted : Noted
 step_within script old (Ask pid) noted new step within = subst (λ s. charged_in s ≤ script.heap) (sym step.after) within
 step_within script old (Admit pid) noted new step within =
     subst (λ s. charged_in s ≤ script.heap) (sym step.after)
-    (let fits : charged_in old + next_bound script old pid ≤ script.heap = step.fits in omega arith)
+    (let fits : charged_in old + next_bound script old pid ≤ script.heap = step.enabled.2 in omega arith)
 step_within script old (Turn pid) noted new step within =
     turn_within (live_of old.world) (live_of new.world) old.reserved new.reserved (next_bound script old pid) script.heap
     step.answers.live step.reserved within
@@ -29,8 +29,8 @@ step_within script old (Abandon pid) noted new step within = absurd step
 step_within script old (Evict what) noted new step within = absurd step
 step_within script old (Kill pid) noted new step within = absurd step
 
-pub charged_within : {script : Script} {steps : ℕ} {run : List Noted} {s : CoreState} → IsCoreRun script steps run s
+pub charged_within : {rule : ℕ → CoreState → Event → Type 0} {script : Script} {steps : ℕ} {run : List Noted} {s : CoreState} → IsRunBy rule script steps run s
     → fixed ≤ script.heap → charged_in s ≤ script.heap
 charged_within boots enough = enough
-charged_within {script} (goes_on run old new noted before ends step) enough =
+charged_within {script = script} (goes_on run old new noted before ends follows step) enough =
     step_within script old noted.event noted new step (charged_within before enough)

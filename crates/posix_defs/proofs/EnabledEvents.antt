@@ -1,14 +1,16 @@
--- Every event of the list of enabled events may be taken.
-use Rattle.std.proofs.Common.{◌≡◌, ℕ, zero, suc, ◌+◌, Bool, true, false, cond, List, [], ◌∷◌, ◌++◌, length, append_assoc, Some, slice_get, unwrap_or, refl, ap, sym, ◌∙◌, subst, arith, length-append, ◌⊎◌, inl, inr}
+-- The list of enabled events has just those that may be taken.
+use Rattle.std.proofs.Common.{◌≡◌, ◌≢◌, ℕ, zero, suc, ◌+◌, ◌≤◌, Bool, true, false, cond, List, [], ◌∷◌, ◌++◌, length, append_assoc, Option, None, Some, slice_get, unwrap_or, refl, ap, sym, ◌∙◌, subst, arith, length-append, ◌⊎◌, inl, inr}
 use borrow.Author.Tests.{leb-true}
+use Rattle.std.proofs.lemmas.Bool.Decides.{nat_tests}
 use Rattle.kabi_types.specs.declared.entries.Event.{Event}
-use Rattle.kabi_types.specs.declared.entries.Event.TheVariants.{Admit}
+use Rattle.kabi_types.specs.declared.entries.Event.TheVariants.{Ask, Admit, Turn, Wake, Abandon, Evict, Kill}
 use Rattle.kabi_types.specs.declared.scripts.Script.{Script}
 use Rattle.posix_defs.specs.declared.phases.Phase.{Phase}
 use Rattle.posix_defs.specs.declared.phases.Phase.TheVariants.{User, Waiting, Admitted, Asleep, Dead}
 use Rattle.posix_defs.specs.ByPid.{at_pid}
-use Rattle.posix_defs.specs.CoreState.{CoreState, fits, lives, phase_of}
-use Rattle.posix_defs.specs.Choice.{live_events, events_of, events_from, enabled_in, IsEnabled}
+use Rattle.posix_defs.specs.CoreState.{CoreState, charged_in, fits, lives, next_bound, phase_of}
+use Rattle.posix_defs.specs.Enabled.{IsEnabled}
+use Rattle.posix_defs.specs.Choice.{live_events, events_of, events_from, enabled_in}
 
 -- behind a front comes what follows it
 pub get_behind : {X : Type 0} (before : List X) (x : X) (rest : List X) → slice_get (before ++ x ∷ rest) (length before) ≡ Some x
@@ -68,3 +70,55 @@ enabled_behind script s before (phase ∷ rest) i event at e =
 
 pub enabled : (script : Script) (s : CoreState) (i : ℕ) (event : Event) → slice_get (enabled_in script s) i ≡ Some event → IsEnabled script s event
 enabled script s i event e = enabled_behind script s [] s.phases i event refl e
+
+-- what is found behind a front
+found_behind : {X : Type 0} (front rest : List X) (i : ℕ) (x : X) → slice_get rest i ≡ Some x → (j : ℕ) × (slice_get (front ++ rest) j ≡ Some x)
+found_behind [] rest i x e = (i, e)
+found_behind (a ∷ front) rest i x e = let found = found_behind front rest i x e in (suc found.0, found.1)
+
+-- where a process has one event, it is listed behind those of the processes before it
+listed_from : (script : Script) (s : CoreState) (first place pid : ℕ) (phases : List Phase) (phase : Phase) (event : Event)
+    → first + place ≡ pid → slice_get phases place ≡ Some phase → events_of script s pid phase ≡ event ∷ []
+    → (j : ℕ) × (slice_get (events_from script s first phases) j ≡ Some event)
+listed_from script s first place pid [] phase event at found is = cc
+listed_from script s first zero pid (p ∷ phases) phase event at found is =
+    let same : first ≡ pid = omega arith in
+    let here : p ≡ phase = cc in (
+      0,
+      ap (λ events. slice_get (events ++ events_from script s (first + 1) phases) 0)
+          (ap (λ q. events_of script s q p) same ∙ ap (events_of script s pid) here ∙ is),
+    )
+listed_from script s first (suc place) pid (p ∷ phases) phase event at found is =
+    let later = listed_from script s (first + 1) place pid phases phase event (omega arith) found is in
+    found_behind (events_of script s first p) (events_from script s (first + 1) phases) later.0 event later.1
+
+-- a pid with a phase has its place
+place_of_phase : (phases : List Phase) (pid : ℕ) (phase : Phase) → unwrap_or (at_pid phases pid) Dead ≡ phase → Dead ≢ phase
+    → (place : ℕ) × (1 + place ≡ pid) × (slice_get phases place ≡ Some phase)
+place_of_phase phases zero phase is other = absurd (other is)
+place_of_phase phases (suc place) phase is other = (place, let at : 1 + place ≡ suc place = omega arith in at, go (slice_get phases place) refl is)
+  where
+    go : (found : Option Phase) → slice_get phases place ≡ found → unwrap_or found Dead ≡ phase → slice_get phases place ≡ Some phase
+    go None e q = absurd (other q)
+    go (Some p) e q = e ∙ ap Some q
+
+listed_pid : (script : Script) (s : CoreState) (pid : ℕ) (phase : Phase) (event : Event) → phase_of s pid ≡ phase → Dead ≢ phase
+    → events_of script s pid phase ≡ event ∷ [] → (j : ℕ) × (slice_get (enabled_in script s) j ≡ Some event)
+listed_pid script s pid phase event is other one_event =
+    let there = place_of_phase s.phases pid phase is other in
+    listed_from script s 1 there.0 pid s.phases phase event there.1 there.2 one_event
+
+pub listed : (script : Script) (s : CoreState) (event : Event) → IsEnabled script s event
+    → (i : ℕ) × (slice_get (enabled_in script s) i ≡ Some event)
+listed script s (Ask pid) may =
+    listed_pid script s pid User (Ask pid) may.1 (λ e. (cc)) (ap (λ b. cond b (Ask pid ∷ []) []) may.0)
+listed script s (Admit pid) may =
+    let fit : fits script s pid ≡ true = let within : charged_in s + next_bound script s pid ≤ script.heap = may.2 in grind (arith, nat_tests) in
+    listed_pid script s pid Waiting (Admit pid) may.1 (λ e. (cc))
+    (ap (λ b. cond b (cond (fits script s pid) (Admit pid ∷ []) []) []) may.0 ∙ ap (λ b. cond b (Admit pid ∷ []) []) fit)
+listed script s (Turn pid) may =
+    listed_pid script s pid Admitted (Turn pid) may.1 (λ e. (cc)) (ap (λ b. cond b (Turn pid ∷ []) []) may.0)
+listed script s (Wake pid) may = absurd may
+listed script s (Abandon pid) may = absurd may
+listed script s (Evict what) may = absurd may
+listed script s (Kill pid) may = absurd may

@@ -52,15 +52,14 @@ abbrev pub after_six : CoreState
 after_six = has_exited after_five
 
 asks_pid : Steps first_script (boot_state first_script) (noted (Ask 1) kind.Getpid None 2816) after_one
-asks_pid = record { lives = refl; user = refl; fits_ever = omega arith; after = refl; noted_so = refl }
+asks_pid = record { enabled = (refl, refl); fits_ever = omega arith; after = refl; noted_so = refl }
 
 admits_pid : Steps first_script after_one (noted (Admit 1) kind.Getpid None 2816) after_two
-admits_pid = record { lives = refl; waiting = refl; fits = omega arith; after = refl; noted_so = refl }
+admits_pid = record { enabled = (refl, refl, omega arith); after = refl; noted_so = refl }
 
 tells_pid : Steps first_script after_two (noted (Turn 1) kind.Getpid (Some (entry.Done 1 kind.Getpid (Val (pos 1)))) 2816) after_three
 tells_pid = record {
-  lives = refl;
-  admitted = refl;
+  enabled = (refl, refl);
   told = turned.Done (Val (pos 1));
   answers = record { answer = (refl, refl); account = refl; may_keep = record { names = refl; blocks = refl; vnodes = refl }; live = omega arith; names = omega arith; blocks = omega arith; vnodes = omega arith; reads = omega arith };
   phases = refl;
@@ -69,15 +68,14 @@ tells_pid = record {
 }
 
 asks_exit : Steps first_script after_three (noted (Ask 1) kind.Exit None 2816) after_four
-asks_exit = record { lives = refl; user = refl; fits_ever = omega arith; after = refl; noted_so = refl }
+asks_exit = record { enabled = (refl, refl); fits_ever = omega arith; after = refl; noted_so = refl }
 
 admits_exit : Steps first_script after_four (noted (Admit 1) kind.Exit None 2816) after_five
-admits_exit = record { lives = refl; waiting = refl; fits = omega arith; after = refl; noted_so = refl }
+admits_exit = record { enabled = (refl, refl, omega arith); after = refl; noted_so = refl }
 
 exits : Steps first_script after_five (noted (Turn 1) kind.Exit (Some (entry.Ended 1 kind.Exit 0)) 2304) after_six
 exits = record {
-  lives = refl;
-  admitted = refl;
+  enabled = (refl, refl);
   told = turned.Ended 0;
   answers = record { answer = (refl, refl); account = refl; may_keep = record { names = refl; blocks = refl; vnodes = refl }; live = omega arith; names = omega arith; blocks = omega arith; vnodes = omega arith; reads = omega arith };
   phases = refl;
@@ -86,7 +84,7 @@ exits = record {
 }
 
 pub first_is_run : IsCoreRun first_script 1000 first_run after_six
-first_is_run = goes_on _ _ _ _ (goes_on _ _ _ _ (goes_on _ _ _ _ (goes_on _ _ _ _ (goes_on _ _ _ _ (goes_on [] _ _ _ boots refl asks_pid) refl admits_pid) refl tells_pid) refl asks_exit) refl admits_exit) refl exits
+first_is_run = goes_on _ _ _ _ (goes_on _ _ _ _ (goes_on _ _ _ _ (goes_on _ _ _ _ (goes_on _ _ _ _ (goes_on [] _ _ _ boots refl tt asks_pid) refl tt admits_pid) refl tt tells_pid) refl tt asks_exit) refl tt admits_exit) refl tt exits
 
 two_is_not_one : ◌≡◌ {A = ℕ} 2 1 → ⊥
 two_is_not_one e = omega arith

@@ -17,10 +17,10 @@ use Rattle.posix_defs.specs.Plain.{Plain, call_of}
 use Rattle.posix_defs.specs.Answer.{Answer, Blocked, Done, Part, Ended}
 use Rattle.posix_defs.specs.Posix.{posix}
 use Rattle.posix_defs.specs.World.{Account}
-use Rattle.posix_defs.specs.Turn.{Tells}
+use Rattle.posix_defs.specs.Turn.{Tells, account_after}
 use Rattle.posix_defs.specs.CoreState.{CoreState}
 use Rattle.posix_defs.specs.CoreEvent.{StepsBy, entry_of}
-use Rattle.posix_defs.specs.CoreRun.{IsCoreRun, boots, goes_on, entries_of}
+use Rattle.posix_defs.specs.CoreRun.{IsRunBy, boots, goes_on, entries_of}
 use Rattle.posix_defs.specs.History as history
 use Rattle.posix_defs.specs.History.{Past, IsRun, MayFollow, MayRun, moves_on, had_turn, others, boot_past}
 
@@ -63,38 +63,40 @@ never_blocks script plain pid _ e = cc
 -- a turn adds the entry that it tells, and the machine goes on as it says
 turn_legal : (script : Script) (past : Past) (pid : ℕ) (told : Turned) (new : Plain) → is_alive past.plain.table pid ≡ true
     → Tells (posix script past.plain pid (call_of script past.plain pid)) past.plain told new
-    → (next : Past) × MayFollow script past (entry_of pid (kind_of (call_of script past.plain pid)) told) next × (next.plain ≡ new) × (next.account ≡ past.account)
+    → (next : Past) × MayFollow script past (entry_of pid (kind_of (call_of script past.plain pid)) told) next × (next.plain ≡ new)
+    × (next.account ≡ account_after past.account past.plain pid (call_of script past.plain pid) (posix script past.plain pid (call_of script past.plain pid)))
 turn_legal script past pid told new alive tells = go (posix script past.plain pid (call_of script past.plain pid)) refl tells
   where
     may_run : MayRun script past pid (kind_of (call_of script past.plain pid))
     may_run = record { alive = alive; of_kind = refl; fits_ever = omega arith }
 
     go : (answer : Answer) → posix script past.plain pid (call_of script past.plain pid) ≡ answer → Tells answer past.plain told new
-        → (next : Past) × MayFollow script past (entry_of pid (kind_of (call_of script past.plain pid)) told) next × (next.plain ≡ new) × (next.account ≡ past.account)
+        → (next : Past) × MayFollow script past (entry_of pid (kind_of (call_of script past.plain pid)) told) next × (next.plain ≡ new)
+        × (next.account ≡ account_after past.account past.plain pid (call_of script past.plain pid) (posix script past.plain pid (call_of script past.plain pid)))
     go Blocked e t = absurd (never_blocks script past.plain pid (call_of script past.plain pid) e)
     go (Done reply plain) e t =
-        let next = moves_on script (had_turn past (call_of script past.plain pid)) plain past.account (others pid past.asleep) in (
+        let next = moves_on script (had_turn past (call_of script past.plain pid)) plain (account_after past.account past.plain pid (call_of script past.plain pid) (Done reply plain)) (others pid past.asleep) in (
           next,
           subst (λ turn. MayFollow script past (entry_of pid (kind_of (call_of script past.plain pid)) turn) next) (sym t.0)
               (record { may_run = may_run; plain = plain; answers = e; leads = refl }),
           sym t.1,
-          refl,
+          ap (account_after past.account past.plain pid (call_of script past.plain pid)) (sym e),
         )
     go (Part moved plain) e t =
-        let next = moves_on script (had_turn past (call_of script past.plain pid)) plain past.account (pid ∷ others pid past.asleep) in (
+        let next = moves_on script (had_turn past (call_of script past.plain pid)) plain (account_after past.account past.plain pid (call_of script past.plain pid) (Part moved plain)) (pid ∷ others pid past.asleep) in (
           next,
           subst (λ turn. MayFollow script past (entry_of pid (kind_of (call_of script past.plain pid)) turn) next) (sym t.0)
               (record { may_run = may_run; plain = plain; answers = e; leads = refl }),
           sym t.1,
-          refl,
+          ap (account_after past.account past.plain pid (call_of script past.plain pid)) (sym e),
         )
     go (Ended status plain) e t =
-        let next = moves_on script (had_turn past (call_of script past.plain pid)) plain past.account (others pid past.asleep) in (
+        let next = moves_on script (had_turn past (call_of script past.plain pid)) plain (account_after past.account past.plain pid (call_of script past.plain pid) (Ended status plain)) (others pid past.asleep) in (
           next,
           subst (λ turn. MayFollow script past (entry_of pid (kind_of (call_of script past.plain pid)) turn) next) (sym t.0)
               (record { may_run = may_run; plain = plain; answers = e; leads = refl }),
           sym t.1,
-          refl,
+          ap (account_after past.account past.plain pid (call_of script past.plain pid)) (sym e),
         )
 
 -- one event further
@@ -109,7 +111,7 @@ step_legal script run old (Admit pid) noted new step stands =
 step_legal script run old (Turn pid) noted new step stands =
     let same = sym stands.plain_is in
     let legal = turn_legal script stands.past pid step.told new.world.plain
-    (subst (λ p. is_alive p.table pid ≡ true) same step.lives)
+    (subst (λ p. is_alive p.table pid ≡ true) same step.enabled.0)
     (subst (λ p. Tells (posix script p pid (call_of script p pid)) p step.told new.world.plain) same step.answers.answer) in
     let added : noted.entry ≡ Some (entry_of pid (kind_of (call_of script stands.past.plain pid)) step.told) =
     ap (λ n. n.entry) step.noted_so ∙ ap (λ p. Some (entry_of pid (kind_of (call_of script p pid)) step.told)) same in
@@ -118,7 +120,10 @@ step_legal script run old (Turn pid) noted new step stands =
       is_run = subst (λ entries. IsRun script entries legal.0) (sym (entries_more run noted ∙ ap (λ o. entries_of run ++ option_to_list o) added))
           (history.goes_on (entries_of run) stands.past legal.0 (entry_of pid (kind_of (call_of script stands.past.plain pid)) step.told) stands.is_run legal.1);
       plain_is = legal.2;
-      account_is = legal.3 ∙ stands.account_is ∙ sym step.answers.account;
+      account_is = legal.3
+          ∙ ap (λ p. account_after stands.past.account p pid (call_of script p pid) (posix script p pid (call_of script p pid))) stands.plain_is
+          ∙ ap (λ a. account_after a old.world.plain pid (call_of script old.world.plain pid) (posix script old.world.plain pid (call_of script old.world.plain pid))) stands.account_is
+          ∙ sym step.answers.account;
     }
 step_legal script run old (Wake pid) noted new step stands = absurd step
 step_legal script run old (Abandon pid) noted new step stands = absurd step
@@ -126,7 +131,7 @@ step_legal script run old (Evict what) noted new step stands = absurd step
 step_legal script run old (Kill pid) noted new step stands = absurd step
 
 -- the entries of a run are legal, and lead to the same machine
-pub legal : {script : Script} {steps : ℕ} {run : List Noted} {s : CoreState} → IsCoreRun script steps run s
+pub legal : {rule : ℕ → CoreState → Event → Type 0} {script : Script} {steps : ℕ} {run : List Noted} {s : CoreState} → IsRunBy rule script steps run s
     → StandsFor script (entries_of run) s.world.plain s.world.account
-legal {script} boots = record { past = boot_past script; is_run = history.boots; plain_is = refl; account_is = refl }
-legal {script} (goes_on run old new noted before ends step) = step_legal script run old noted.event noted new step (legal before)
+legal {script = script} boots = record { past = boot_past script; is_run = history.boots; plain_is = refl; account_is = refl }
+legal {script = script} (goes_on run old new noted before ends follows step) = step_legal script run old noted.event noted new step (legal before)

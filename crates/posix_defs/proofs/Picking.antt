@@ -5,8 +5,9 @@ use Rattle.kabi_types.specs.declared.entries.Event.{Event}
 use Rattle.kabi_types.specs.declared.entries.Noted.{Noted}
 use Rattle.kabi_types.specs.declared.scripts.Script.{Script}
 use Rattle.posix_defs.specs.CoreState.{CoreState}
-use Rattle.posix_defs.specs.Choice.{IsEnabled, enabled_in, default_of, named_by}
-use Rattle.posix_defs.specs.CoreRun.{IsCoreRun, IsPickedRun, boots, goes_on}
+use Rattle.posix_defs.specs.Enabled.{IsEnabled}
+use Rattle.posix_defs.specs.Choice.{enabled_in, default_of, named_by}
+use Rattle.posix_defs.specs.CoreRun.{IsCoreRun, IsRunBy, Anyhow, boots, goes_on}
 use Rattle.posix_defs.proofs.EnabledEvents.{enabled}
 
 -- every number names the one of a list of one
@@ -37,7 +38,8 @@ pub some_is_named : (script : Script) (s : CoreState) (number : Option ℕ) → 
 some_is_named script s None some = some
 some_is_named script s (Some number) some = round_is_some (enabled_in script s) number some
 
--- a run by the rule of choice is a run
-pub picked_is_run : {script : Script} {steps : ℕ} {events : List Noted} {s : CoreState} → IsPickedRun script steps events s → IsCoreRun script steps events s
-picked_is_run boots = boots
-picked_is_run (goes_on events old new noted before ends picked step) = goes_on events old new noted (picked_is_run before) ends step
+-- a run by any rule is a run
+pub ruled_is_run : {rule : ℕ → CoreState → Event → Type 0} {script : Script} {steps : ℕ} {events : List Noted} {s : CoreState}
+    → IsRunBy rule script steps events s → IsCoreRun script steps events s
+ruled_is_run boots = boots
+ruled_is_run (goes_on events old new noted before ends follows step) = goes_on events old new noted (ruled_is_run before) ends tt step

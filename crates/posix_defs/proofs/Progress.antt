@@ -22,7 +22,7 @@ use Rattle.posix_defs.specs.CoreState.{CoreState, charged_in, fits, lives, next_
 use Rattle.posix_defs.specs.CoreEvent.{Turns, StepsBy, phase_after, bury}
 use Rattle.posix_defs.specs.Ends.{end_of, has_finished}
 use Rattle.posix_defs.specs.Choice.{events_of, events_from, default_of}
-use Rattle.posix_defs.specs.CoreRun.{IsCoreRun, boots, goes_on}
+use Rattle.posix_defs.specs.CoreRun.{IsRunBy, boots, goes_on}
 use Rattle.posix_defs.proofs.Charged.{charged_within}
 
 -- a phase of a live process whose call doesn't sleep
@@ -70,7 +70,7 @@ first_turn script plain new _ told process table tells = inl (ap (λ p. p.table)
 
 turn_next : (script : Script) (old new : CoreState) (pid : ℕ) (noted : Noted) → IsAlone old → Turns script old pid noted new → IsAlone new
 turn_next script old new pid noted (alone process before table running phases busy) step =
-    let first : pid ≡ 1 = first_lives process pid (subst (λ t. is_alive t pid ≡ true) table step.lives) in
+    let first : pid ≡ 1 = first_lives process pid (subst (λ t. is_alive t pid ≡ true) table step.enabled.0) in
     let tells : Tells (posix script old.world.plain 1 (next_call script old pid)) old.world.plain step.told new.world.plain =
     subst (λ p. Tells (posix script old.world.plain p (next_call script old pid)) old.world.plain step.told new.world.plain) first step.answers.answer in
     let left : with_pid old.phases pid (phase_after step.told) ≡ phase_after step.told ∷ [] =
@@ -84,23 +84,23 @@ turn_next script old new pid noted (alone process before table running phases bu
       | inr went ↦ ended went.0 (after ∙ ap (λ t. bury t (phase_after step.told ∷ [])) went.0 ∙ ap (λ p. bury (None ∷ []) (p ∷ [])) went.1)
     ]
 turn_next script old new pid noted (ended table phases) step =
-    absurd (nobody pid (subst (λ t. is_alive t pid ≡ true) table step.lives))
+    absurd (nobody pid (subst (λ t. is_alive t pid ≡ true) table step.enabled.0))
 
 step_alone : (script : Script) (old : CoreState) (event : Event) (noted : Noted) (new : CoreState) → StepsBy script old event noted new
     → IsAlone old → IsAlone new
 step_alone script old (Ask pid) noted new step before =
-    busy_next old new pid Waiting before step.lives at_waiting (ap (λ s. s.world) step.after) (ap (λ s. s.phases) step.after)
+    busy_next old new pid Waiting before step.enabled.0 at_waiting (ap (λ s. s.world) step.after) (ap (λ s. s.phases) step.after)
 step_alone script old (Admit pid) noted new step before =
-    busy_next old new pid Admitted before step.lives at_admitted (ap (λ s. s.world) step.after) (ap (λ s. s.phases) step.after)
+    busy_next old new pid Admitted before step.enabled.0 at_admitted (ap (λ s. s.world) step.after) (ap (λ s. s.phases) step.after)
 step_alone script old (Turn pid) noted new step before = turn_next script old new pid noted before step
 step_alone script old (Wake pid) noted new step before = absurd step
 step_alone script old (Abandon pid) noted new step before = absurd step
 step_alone script old (Evict what) noted new step before = absurd step
 step_alone script old (Kill pid) noted new step before = absurd step
 
-pub is_alone : {script : Script} {steps : ℕ} {run : List Noted} {s : CoreState} → IsCoreRun script steps run s → IsAlone s
+pub is_alone : {rule : ℕ → CoreState → Event → Type 0} {script : Script} {steps : ℕ} {run : List Noted} {s : CoreState} → IsRunBy rule script steps run s → IsAlone s
 is_alone boots = alone first_process User refl refl refl at_user
-is_alone {script} (goes_on run old new noted before ends step) = step_alone script old noted.event noted new step (is_alone before)
+is_alone {script = script} (goes_on run old new noted before ends follows step) = step_alone script old noted.event noted new step (is_alone before)
 
 -- a busy process that lives has an event, where what is charged is within the heap
 busy_event : (script : Script) (s : CoreState) (phase : Phase) → IsBusy phase → lives s 1 ≡ true → charged_in s ≤ script.heap
@@ -113,9 +113,9 @@ busy_event script s phase at_waiting alive within =
 busy_event script s phase at_admitted alive within = subst (λ b. IsSome (slice_get (cond b (Turn 1 ∷ []) [] ++ []) 0)) (sym alive) refl
 
 -- after any run that hasn't ended, on a heap that holds what boot charges, an event may be taken
-pub progress : {script : Script} {steps : ℕ} {run : List Noted} {s : CoreState} → IsCoreRun script steps run s → fixed ≤ script.heap
-    → end_of steps (length run) s ≡ None → IsSome (default_of script s)
-progress {script} {steps} {run} {s} runs enough none = go (is_alone runs)
+pub progress : {rule : ℕ → CoreState → Event → Type 0} {script : Script} {steps : ℕ} {run : List Noted} {s : CoreState} → IsRunBy rule script steps run s → fixed ≤ script.heap
+    → end_of script steps (length run) s ≡ None → IsSome (default_of script s)
+progress {script = script} {steps = steps} {run = run} {s = s} runs enough none = go (is_alone runs)
   where
     go : IsAlone s → IsSome (default_of script s)
     go (alone process phase table running phases busy) =
@@ -126,5 +126,5 @@ progress {script} {steps} {run} {s} runs enough none = go (is_alone runs)
         let none_left : list_any is_admitted s.phases ≡ false = ap (list_any is_admitted) phases in
         let finished : has_finished s ≡ true =
         ap (λ b. not b && none_admitted s) dead ∙ ap not none_left in
-        let end : end_of steps (length run) s ≡ Some Finished = ap (λ b. cond b (Some Finished) (cond (length run == steps) (Some Spent) None)) finished in
+        let end : end_of script steps (length run) s ≡ Some Finished = ap (λ b. cond b (Some Finished) (cond (length run == steps) (Some Spent) None)) finished in
         cc

@@ -1,7 +1,7 @@
 -- Which events may be taken in a state, and which one is.
-use Rattle.std.specs.Prelude.{ℕ, zero, suc, ◌+◌, ◌%◌, ◌≡◌, ◌≤◌, true, if◌then◌else◌, List, [], ◌∷◌, ◌++◌, length, Option, None, Some, is_some, slice_get}
+use Rattle.std.specs.Prelude.{ℕ, zero, suc, ◌+◌, ◌%◌, if◌then◌else◌, List, [], ◌∷◌, ◌++◌, length, Option, None, Some, is_some, slice_get}
 use Rattle.kabi_types.specs.declared.entries.Event.{Event}
-use Rattle.kabi_types.specs.declared.entries.Event.TheVariants.{Ask, Admit, Turn, Wake, Abandon, Evict, Kill}
+use Rattle.kabi_types.specs.declared.entries.Event.TheVariants.{Ask, Admit, Turn}
 use Rattle.kabi_types.specs.declared.scripts.Chooser.{Chooser}
 use Rattle.kabi_types.specs.declared.scripts.Chooser.TheVariants.{Plain, Choices, Seed}
 use Rattle.kabi_types.specs.declared.scripts.Script.{Script}
@@ -9,7 +9,7 @@ use Rattle.posix_defs.specs.declared.phases.Phase.{Phase}
 use Rattle.posix_defs.specs.declared.phases.Phase.TheVariants.{User, Waiting, Admitted, Asleep, Dead}
 use Rattle.posix_defs.specs.Ends.{end_of}
 use Rattle.posix_defs.specs.Generator.{state_after, choice_of}
-use Rattle.posix_defs.specs.CoreState.{CoreState, charged_in, fits, lives, next_bound, phase_of}
+use Rattle.posix_defs.specs.CoreState.{CoreState, fits, lives}
 
 -- the one event of a live process in this phase, if it may be taken; no call sleeps yet
 abbrev pub live_events : Script → CoreState → ℕ → Phase → List Event
@@ -32,23 +32,13 @@ events_from script s pid (phase ∷ phases) = events_of script s pid phase ++ ev
 abbrev pub enabled_in : Script → CoreState → List Event
 enabled_in script s = events_from script s 1 s.phases
 
--- the event may be taken
-abbrev pub IsEnabled : Script → CoreState → Event → Type 0
-IsEnabled script s (Ask pid) = (lives s pid ≡ true) × (phase_of s pid ≡ User)
-IsEnabled script s (Admit pid) = (lives s pid ≡ true) × (phase_of s pid ≡ Waiting) × (charged_in s + next_bound script s pid ≤ script.heap)
-IsEnabled script s (Turn pid) = (lives s pid ≡ true) × (phase_of s pid ≡ Admitted)
-IsEnabled script s (Wake pid) = ⊥
-IsEnabled script s (Abandon pid) = ⊥
-IsEnabled script s (Evict what) = ⊥
-IsEnabled script s (Kill pid) = ⊥
-
 -- the default: the first enabled event
 abbrev pub default_of : Script → CoreState → Option Event
 default_of script s = slice_get (enabled_in script s) 0
 
 -- the event that is taken where so many of so many events were taken: none where an end stands
 abbrev pub default_in : Script → ℕ → ℕ → CoreState → Option Event
-default_in script steps taken s = if is_some (end_of steps taken s) then None else default_of script s
+default_in script steps taken s = if is_some (end_of script steps taken s) then None else default_of script s
 
 -- the number that chooses the j-th event, from 1; None where nothing chooses it
 abbrev pub chosen : Chooser → ℕ → Option ℕ

@@ -1,5 +1,5 @@
 -- The core's atomic steps: what each event asks for, what is noted of it, and the state after it.
-use Rattle.std.specs.Prelude.{ℕ, ◌+◌, ◌≡◌, ◌≤◌, true, if◌then◌else◌, List, [], ◌∷◌, Option, None, Some}
+use Rattle.std.specs.Prelude.{ℕ, ◌+◌, ◌≡◌, ◌≤◌, if◌then◌else◌, List, [], ◌∷◌, Option, None, Some}
 use Rattle.kabi_types.specs.declared.calls.CallKind.{CallKind}
 use Rattle.kabi_types.specs.declared.entries.Entry.{Entry}
 use Rattle.kabi_types.specs.declared.entries.Entry.TheVariants as entry
@@ -15,7 +15,8 @@ use Rattle.posix_defs.specs.ByPid.{with_pid}
 use Rattle.posix_defs.specs.Sizes.{room}
 use Rattle.posix_defs.specs.Process.{Table, is_alive}
 use Rattle.posix_defs.specs.Turn.{Answers}
-use Rattle.posix_defs.specs.CoreState.{CoreState, charged_in, phase_of, with_phase, next_call, next_kind, next_bound, lives}
+use Rattle.posix_defs.specs.CoreState.{CoreState, charged_in, with_phase, next_call, next_kind, next_bound}
+use Rattle.posix_defs.specs.Enabled.{IsEnabled}
 
 -- what is noted of an event of a process
 abbrev pub note : Script → CoreState → ℕ → Event → Option Entry → CoreState → Noted
@@ -29,17 +30,14 @@ note script old pid event told new = record {
 
 -- A process asks for its next call, and waits for room.
 pub record Asks (script : Script) (old : CoreState) (pid : ℕ) (noted : Noted) (new : CoreState) : Type 0 where
-  pub lives : lives old pid ≡ true
-  pub user : phase_of old pid ≡ User
+  pub enabled : IsEnabled script old (Ask pid)
   pub fits_ever : next_bound script old pid ≤ room script.heap
   pub after : new ≡ with_phase old pid Waiting
   pub noted_so : noted ≡ note script old pid (Ask pid) None new
 
 -- A waiting call reserves its bound, where the heap has room for it.
 pub record Admits (script : Script) (old : CoreState) (pid : ℕ) (noted : Noted) (new : CoreState) : Type 0 where
-  pub lives : lives old pid ≡ true
-  pub waiting : phase_of old pid ≡ Waiting
-  pub fits : charged_in old + next_bound script old pid ≤ script.heap
+  pub enabled : IsEnabled script old (Admit pid)
   pub after : new ≡ record (with_phase old pid Admitted) { reserved = old.reserved + next_bound script old pid }
   pub noted_so : noted ≡ note script old pid (Admit pid) None new
 
@@ -74,8 +72,7 @@ bury table phases = bury_from table 1 phases
 
 -- An admitted call of a live process runs, and gives its reserve back.
 pub record Turns (script : Script) (old : CoreState) (pid : ℕ) (noted : Noted) (new : CoreState) : Type 0 where
-  pub lives : lives old pid ≡ true
-  pub admitted : phase_of old pid ≡ Admitted
+  pub enabled : IsEnabled script old (Turn pid)
   pub told : Turned
   pub answers : Answers script old.world pid (next_call script old pid) told new.world
   pub phases : new.phases ≡ bury new.world.plain.table (with_pid old.phases pid (phase_after told))
@@ -86,7 +83,7 @@ abbrev pub StepsBy : Script → CoreState → Event → Noted → CoreState → 
 StepsBy script old (Ask pid) noted new = Asks script old pid noted new
 StepsBy script old (Admit pid) noted new = Admits script old pid noted new
 StepsBy script old (Turn pid) noted new = Turns script old pid noted new
--- no call sleeps yet, no process ends another, and nothing is cached that could be evicted
+-- the other events aren't enabled in any state yet
 StepsBy script old (Wake pid) noted new = ⊥
 StepsBy script old (Abandon pid) noted new = ⊥
 StepsBy script old (Evict what) noted new = ⊥

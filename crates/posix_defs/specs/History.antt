@@ -20,7 +20,7 @@ use Rattle.posix_defs.specs.Plain.{Plain, answered, boot_plain, call_of, last_pi
 use Rattle.posix_defs.specs.Answer.{Answer, Blocked, Done, Part, Ended}
 use Rattle.posix_defs.specs.Ending.{die}
 use Rattle.posix_defs.specs.Posix.{posix}
-use Rattle.posix_defs.specs.World.{Account, base, no_account, pins}
+use Rattle.posix_defs.specs.World.{Account, base, forget_dead, no_account, pins}
 use Rattle.posix_defs.specs.Turn.{account_after}
 use Rattle.posix_defs.specs.Victim.{victim_of}
 
@@ -106,7 +106,7 @@ pub record IsAnswered (script : Script) (past : Past) (pid : ℕ) (kind : CallKi
   pub may_run : MayRun script past pid kind
   pub plain : Plain
   pub answers : posix script past.plain pid (call_of script past.plain pid) ≡ answer plain
-  pub leads : next ≡ moves_on script (had_turn past (call_of script past.plain pid)) plain (account_after past.account (call_of script past.plain pid)) sleepers
+  pub leads : next ≡ moves_on script (had_turn past (call_of script past.plain pid)) plain (account_after past.account past.plain pid (call_of script past.plain pid) (answer plain)) sleepers
 
 -- A call would block, and its process sleeps from now on.
 pub record FallsAsleep (script : Script) (past : Past) (pid : ℕ) (kind : CallKind) (next : Past) : Type 0 where
@@ -140,7 +140,7 @@ pub record IsKilled (script : Script) (past : Past) (pid waiter need live : ℕ)
   pub fits_ever : need ≤ room script.heap
   pub all_pinned : live ≡ base past.plain past.account + size class.Vnode * pins past.plain
   pub too_much : script.heap < live + reserve + need
-  pub leads : next ≡ moves_on script past (die past.plain pid 9) past.account (others pid past.asleep)
+  pub leads : next ≡ moves_on script past (die past.plain pid 9) (forget_dead (die past.plain pid 9) past.account) (others pid past.asleep)
 
 -- An object that a call has put into a cache goes.
 pub record IsEvicted (script : Script) (past : Past) (what : Cached) (next : Past) : Type 0 where

@@ -18,6 +18,7 @@ pub mod Posix
 pub mod World
 pub mod Turn
 pub mod CoreState
+pub mod Enabled
 pub mod CoreEvent
 pub mod Ends
 pub mod Generator

@@ -30,6 +30,10 @@ no_account = record { frames = 0 }
 abbrev pub frames_named : Account → ℕ
 frames_named account = account.frames
 
+-- the account without what processes held that have ended: until they can map memory, it is theirs in nothing
+abbrev pub forget_dead : Plain → Account → Account
+forget_dead plain account = account
+
 -- the heap that processes, memory, descriptions, pipes, sockets and queues take: of these there are processes so far
 abbrev pub base : Plain → Account → ℕ
 base plain account = how_many plain.table * size class.Proc + frames_named account * size class.Page

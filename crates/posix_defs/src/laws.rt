@@ -1,6 +1,6 @@
 //! Laws above the definitions. Each is the contract of a function that does nothing.
 
-ghost use Rattle.std.specs.Prelude.{◌≡◌, ℕ, ◌<◌, ◌≤◌, List, [], ◌∷◌, None, Some, IsSome, length, map, pos};
+ghost use Rattle.std.specs.Prelude.{◌≡◌, ℕ, ◌<◌, ◌≤◌, List, [], ◌∷◌, None, Some, IsSome, slice_get, length, map, pos};
 ghost use Rattle.std.specs.List.{AllByRecursion};
 ghost use Rattle.kabi_types.specs.declared.calls.CallKind.{CallKind};
 ghost use Rattle.kabi_types.specs.declared.entries.End.TheVariants.{Finished};
@@ -15,7 +15,8 @@ ghost use Rattle.posix_defs.specs.Plain.{call_of};
 ghost use Rattle.posix_defs.specs.CoreState.{CoreState, charged_in};
 ghost use Rattle.posix_defs.specs.Ends.{end_of};
 ghost use Rattle.posix_defs.specs.Generator.{next_state, state_after, choice_of};
-ghost use Rattle.posix_defs.specs.Choice.{IsEnabled, enabled_in, default_of, picked_of};
+ghost use Rattle.posix_defs.specs.Enabled.{IsEnabled};
+ghost use Rattle.posix_defs.specs.Choice.{enabled_in, default_of, picked_of};
 ghost use Rattle.posix_defs.specs.CoreRun.{IsCoreRun, IsPickedRun, entries_of};
 ghost use Rattle.posix_defs.specs.FirstScript.{first_script, first_run, first_report, pid_run};
 ghost use Rattle.posix_defs.specs.Lines.{report};
@@ -30,7 +31,7 @@ pub fn charged_stays_within_the_heap()
 /// In every state that a run of the core leads to and in which no end stands, some event may be taken.
 pub fn something_can_be_taken()
     ensures { (script : Script) (steps : ℕ) (run : List Noted) (s : CoreState)
-        → IsCoreRun script steps run s → fixed ≤ script.heap → end_of steps (length run) s ≡ None → IsSome (default_of script s) }
+        → IsCoreRun script steps run s → fixed ≤ script.heap → end_of script steps (length run) s ≡ None → IsSome (default_of script s) }
 {}
 
 /// Where one event is enabled it is picked, whoever chooses. Whatever is picked is enabled, and where some event is
@@ -42,6 +43,14 @@ pub fn what_is_picked_is_enabled()
         → picked_of script j s ≡ Some event → IsEnabled script s event }
     ensures some { (script : Script) (j : ℕ) (s : CoreState)
         → IsSome (default_of script s) → IsSome (picked_of script j s) }
+{}
+
+/// The events that are listed are those that may be taken, and no others.
+pub fn events_are_listed_where_they_may_be_taken()
+    ensures listed { (script : Script) (s : CoreState) (i : ℕ) (event : Event)
+        → slice_get (enabled_in script s) i ≡ Some event → IsEnabled script s event }
+    ensures all { (script : Script) (s : CoreState) (event : Event)
+        → IsEnabled script s event → (i : ℕ) × (slice_get (enabled_in script s) i ≡ Some event) }
 {}
 
 /// A run by the rule of choice is a run of the core.
@@ -89,7 +98,7 @@ pub fn refusals_stand_above_the_room()
 /// The worked example: its six events are a run of the core, which ends with the first process, and the report of that
 /// run is this text.
 pub fn the_first_script_runs()
-    ensures runs { (s : CoreState) × IsCoreRun first_script 1000 first_run s × (end_of 1000 (length first_run) s ≡ Some Finished) × (charged_in s ≡ 2304) × (s.world.reads ≡ 0) }
+    ensures runs { (s : CoreState) × IsCoreRun first_script 1000 first_run s × (end_of first_script 1000 (length first_run) s ≡ Some Finished) × (charged_in s ≡ 2304) × (s.world.reads ≡ 0) }
     ensures reported { report first_run Finished 2304 0 ≡ first_report }
 {}
 

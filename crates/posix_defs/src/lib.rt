@@ -7,6 +7,7 @@
 mod blocks;
 mod dirs;
 mod disk_laws;
+mod generator;
 mod laws;
 mod nodes;
 mod phases;
@@ -26,8 +27,9 @@ pub use disk_laws::{
     a_sound_disk_has_a_table, bytes_of_a_disk_say_one_thing,
     free_blocks_are_those_that_no_node_names, what_is_free_is_counted,
 };
+pub use generator::{choice_of, next_state};
 pub use laws::{
-    a_picked_run_is_a_run, charged_stays_within_the_heap, entries_are_a_legal_history,
+    a_picked_run_is_a_run, charged_stays_within_the_heap, entries_are_a_legal_history, events_are_listed_where_they_may_be_taken,
     no_reply_wants_memory, nothing_else_is_its_run, refusals_stand_above_the_room,
     something_can_be_taken, the_first_script_runs, the_generator_is_this_one,
     what_is_picked_is_enabled,

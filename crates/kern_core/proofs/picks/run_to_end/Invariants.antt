@@ -1,7 +1,7 @@
 use Rattle.std.proofs.Common.{◌≡◌, ◌-◌, length}
-use Rattle.kres_cli.specs.Run.{HasPicked}
-use Rattle.kres_cli.proofs.Picks.{ChoosesFrom}
-use Rattle.kres_cli.proofs.runs.run_to_end.Given as goal
+use Rattle.kern_core.specs.View.{HasPicked}
+use Rattle.kern_core.proofs.Picks.{ChoosesFrom}
+use Rattle.kern_core.proofs.picks.run_to_end.Given as goal
 
 -- the run so far went by the rule of choice
 abbrev pub invariant-loop-end : goal.invariant-loop-end

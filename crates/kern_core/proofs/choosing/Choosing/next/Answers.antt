@@ -1,8 +1,8 @@
 use Rattle.std.proofs.Common.{ap, sym, ◌∙◌, Some, suc}
 use Rattle.posix_defs.specs.Generator.{choice_of, next_state, state_after}
-use Rattle.kres_cli.specs.Choosing.{given}
-use Rattle.kres_cli.proofs.Picks.{state_later}
-use Rattle.kres_cli.proofs.choosing.Choosing.next.Goals as goal
+use Rattle.kern_core.specs.Choosing.{given}
+use Rattle.kern_core.proofs.Picks.{state_later}
+use Rattle.kern_core.proofs.choosing.Choosing.next.Goals as goal
 
 pub returns-in-Generator-clause-rest : goal.returns-in-Generator-clause-rest
 returns-in-Generator-clause-rest c = λ i.

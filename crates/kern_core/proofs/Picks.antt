@@ -11,10 +11,9 @@ use Rattle.posix_defs.specs.Choice.{chosen, named_by}
 use Rattle.posix_defs.specs.Generator.{next_state, state_after}
 use Rattle.posix_defs.specs.CoreRun.{IsPickedRun, boots, goes_on}
 use Rattle.posix_defs.proofs.Picking.{named_is_enabled}
-use Rattle.kern_core.specs.View.{CoreView, IsAt, HasBooted, Took}
-use Rattle.kres_cli.specs.declared.choosing.Choosing.{Choosing}
-use Rattle.kres_cli.specs.Choosing.{given}
-use Rattle.kres_cli.specs.Run.{HasPicked}
+use Rattle.kern_core.specs.View.{CoreView, IsAt, HasBooted, HasPicked, Took}
+use Rattle.kern_core.specs.declared.choosing.Choosing.{Choosing}
+use Rattle.kern_core.specs.Choosing.{given}
 
 -- the generator goes on in the same way from a later state
 pub state_later : (x i : ℕ) → state_after (next_state x) i ≡ next_state (state_after x i)
@@ -46,7 +45,7 @@ picked_boot stands_for script core booted = record {
 -- the run is one event longer
 pub picked_more : {T : Type 0} (stands_for : T → World → Type 0) (script : Script) (old new : CoreView T) (event : Event) (noted : Noted) (number : Option ℕ)
     → HasPicked stands_for script old → number ≡ chosen script.chooser (length old.run + 1)
-    → ((s : CoreState) → IsAt stands_for old s → end_of old.steps (length old.run) s ≡ None)
+    → ((s : CoreState) → IsAt stands_for old s → end_of script old.steps (length old.run) s ≡ None)
     → ((s : CoreState) → IsAt stands_for old s → named_by number script s ≡ Some event)
     → Took stands_for script old event noted new → HasPicked stands_for script new
 picked_more stands_for script old new event noted number before chooses no_end names took =

@@ -1,9 +1,9 @@
 ghost use Rattle.std.specs.Prelude.{◌≡◌, ℕ, suc};
 ghost use Rattle.posix_defs.specs.Choice.{chosen};
-ghost use Rattle.posix_defs.specs.Generator as generator;
-ghost use Rattle.kres_cli.specs.Choosing.{given};
+ghost use Rattle.kern_core.specs.Choosing.{given};
 
 use kabi_types::Chooser;
+use posix_defs::{choice_of, next_state};
 
 /// Who chooses the events of a run that are still to come.
 #[derive(Clone, Copy, Debug)]
@@ -45,18 +45,4 @@ impl<'a> Choosing<'a> {
             }
         }
     }
-}
-
-/// The state of the generator that follows a state.
-fn next_state(state: u32) -> u32
-    ensures { result ≡ generator.next_state state }
-{
-    ((1103515245 * u64::from(state) + 12345) % 2147483648) as u32
-}
-
-/// The number that a state chooses by.
-fn choice_of(state: u32) -> u32
-    ensures { result ≡ generator.choice_of state }
-{
-    state / 65536
 }

@@ -1,8 +1,8 @@
 use Rattle.std.proofs.Common.{◌≡◌, ◌∙◌, ap, subst, sym, refl, length, suc, ◌+◌, Some, arith}
 use Rattle.posix_defs.specs.Choice.{chosen, named_by}
 use Rattle.kern_core.specs.View.{Took}
-use Rattle.kres_cli.proofs.Picks.{chooses_more, chooses_next, picked_boot, picked_more}
-use Rattle.kres_cli.proofs.runs.run_to_end.Goals as goal
+use Rattle.kern_core.proofs.Picks.{chooses_more, chooses_next, picked_boot, picked_more}
+use Rattle.kern_core.proofs.picks.run_to_end.Goals as goal
 
 pub loop-end-init : goal.loop-end-init
 loop-end-init g c = record {
