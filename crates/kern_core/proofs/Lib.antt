@@ -1,3 +1,3 @@
 pub mod NextRun
-pub mod Choosing
-pub mod Picks
+pub mod EnabledLoop
+pub mod PickedRuns

@@ -1,8 +1,8 @@
 ghost use Rattle.std.specs.Prelude.{◌≡◌};
 ghost use Rattle.kern_core.specs.Sample.{sample, sample_world};
 
-use crate::Core;
-use kabi_types::{Call, CallKind, End, Entry, Event, Need, Noted, Reply};
+use crate::{Choosing, Core, run_to_end};
+use kabi_types::{Call, CallKind, Chooser, End, Entry, Event, Need, Noted, Numbers, Reply};
 use posix_defs::{Turned, Turner};
 use std::test::Fail;
 
@@ -56,96 +56,148 @@ impl Turner for OnePid {
     }
 }
 
-/// What is noted of an event of the process, whose bounds are all 0.
-fn noted(event: Event, kind: CallKind, entry: Option<Entry>, charged: u64) -> Noted {
-    Noted {
-        event,
-        kind: Some(kind),
-        entry,
-        bound: 0,
-        charged,
+/// The process at its start.
+fn at_boot() -> OnePid {
+    OnePid {
+        asked: false,
+        lives: true,
     }
 }
 
-/// What is noted where a process asks for its pid and ends.
-fn whole_run() -> [Noted; 6] {
-    [
-        noted(Event::Ask(1), CallKind::Getpid, None, 2816),
-        noted(Event::Admit(1), CallKind::Getpid, None, 2816),
-        noted(
-            Event::Turn(1),
-            CallKind::Getpid,
-            Some(Entry::Done {
-                pid: 1,
-                kind: CallKind::Getpid,
-                reply: Reply::Val(1),
-            }),
-            2816,
-        ),
-        noted(Event::Ask(1), CallKind::Exit, None, 2816),
-        noted(Event::Admit(1), CallKind::Exit, None, 2816),
-        noted(
-            Event::Turn(1),
-            CallKind::Exit,
-            Some(Entry::Ended {
-                pid: 1,
-                kind: CallKind::Exit,
-                status: 0,
-            }),
-            2304,
-        ),
-    ]
+/// The events of a process that asks for its pid and ends, with what is charged after each; no call has a bound.
+const EVENTS: &[(Event, CallKind, u64)] = &[
+    (Event::Ask(1), CallKind::Getpid, 2816),
+    (Event::Admit(1), CallKind::Getpid, 2816),
+    (Event::Turn(1), CallKind::Getpid, 2816),
+    (Event::Ask(1), CallKind::Exit, 2816),
+    (Event::Admit(1), CallKind::Exit, 2816),
+    (Event::Turn(1), CallKind::Exit, 2304),
+];
+
+/// What the event at a place of the run adds to the history.
+fn entry_at(place: usize) -> Option<Entry> {
+    match place {
+        2 => Some(Entry::Done {
+            pid: 1,
+            kind: CallKind::Getpid,
+            reply: Reply::Val(1),
+        }),
+        5 => Some(Entry::Ended {
+            pid: 1,
+            kind: CallKind::Exit,
+            status: 0,
+        }),
+        _ => None,
+    }
 }
+
+/// Whether these are the first events of the run.
+fn are_first_events(run: &[Noted]) -> bool {
+    for (place, noted) in run.iter().enumerate() {
+        let Some((event, kind, charged)) = EVENTS.get(place) else {
+            return false;
+        };
+        let told = noted.event == *event && noted.kind == Some(*kind) && noted.bound == 0;
+        if !told || noted.charged != *charged || noted.entry != entry_at(place) {
+            return false;
+        }
+    }
+    true
+}
+
+/// Steps that a run may take, the events that it takes, its end, and what is charged then.
+const ENDS: &[(u32, usize, End, u64)] = &[
+    (0, 0, End::Spent, 2816),
+    (2, 2, End::Spent, 2816),
+    (5, 5, End::Spent, 2816),
+    (6, 6, End::Finished, 2304),
+    (100, 6, End::Finished, 2304),
+];
 
 #[test]
 fn runs_to_its_end(rt: HostRuntime) -> Result<(), Fail> {
-    let wanted = whole_run();
-    let rows = [
-        (0, 0, End::Spent, 2816),
-        (2, 2, End::Spent, 2816),
-        (5, 5, End::Spent, 2816),
-        (6, 6, End::Finished, 2304),
-        (100, 6, End::Finished, 2304),
-    ];
-    for (steps, taken, end, charged) in rows {
-        let store = OnePid {
-            asked: false,
-            lives: true,
-        };
-        let mut core = Core::boot(rt.alloc(), store, steps, 8192)?;
+    for (steps, taken, end, charged) in ENDS {
+        let mut core = Core::boot(rt.alloc(), at_boot(), *steps, 8192)?;
         while let Some(event) = core.default_event() {
             core.step(event);
         }
-        assert_eq!(rt; core.run(), &wanted[..taken], "in {steps} steps");
-        assert_eq!(rt; core.ended(), Some(end), "in {steps} steps");
-        assert_eq!(rt; core.charged(), charged, "in {steps} steps");
-        assert_eq!(rt; core.peak(), 2816, "in {steps} steps");
-        assert_eq!(rt; core.reads(), 0, "in {steps} steps");
+        let ran = core.run().len() == *taken && are_first_events(core.run());
+        let ended = core.ended() == Some(*end) && core.charged() == *charged;
+        assert!(rt; ran && ended, "in {steps} steps");
+        assert!(rt;
+            core.peak() == 2816 && core.reads() == 0,
+            "in {steps} steps"
+        );
     }
     Ok(())
 }
 
+const OFFERED: &[Event] = &[
+    Event::Ask(1),
+    Event::Admit(1),
+    Event::Turn(1),
+    Event::Ask(1),
+];
+
 #[test]
 fn offers_one_event_at_a_time(rt: HostRuntime) -> Result<(), Fail> {
-    let store = OnePid {
-        asked: false,
-        lives: true,
-    };
-    let mut core = Core::boot(rt.alloc(), store, 100, 8192)?;
-    for event in [
-        Event::Ask(1),
-        Event::Admit(1),
-        Event::Turn(1),
-        Event::Ask(1),
-    ] {
-        assert_eq!(rt; core.ended(), None, "before {event:?}");
-        assert_eq!(rt; core.count(), 1, "before {event:?}");
-        assert_eq!(rt; core.enabled(0), Some(event), "before {event:?}");
-        assert_eq!(rt; core.enabled(1), None, "before {event:?}");
+    let mut core = Core::boot(rt.alloc(), at_boot(), 100, 8192)?;
+    for event in OFFERED {
+        let offers = core.enabled(0) == Some(*event) && core.enabled(1) == None;
+        assert!(rt;
+            core.ended() == None && core.count() == 1,
+            "before {event:?}"
+        );
+        assert!(rt; offers, "before {event:?}");
         let next = core.default_event().ok_or("an event")?;
-        assert_eq!(rt; core.step(next).event, event);
+        assert!(rt; core.step(next).event == *event);
     }
     let store = core.close();
     assert!(rt; store.asked && store.lives);
+    Ok(())
+}
+
+#[test]
+fn runs_as_its_chooser_says(rt: HostRuntime) -> Result<(), Fail> {
+    let mut core = Core::boot(rt.alloc(), at_boot(), 100, 8192)?;
+    let end = run_to_end(&mut core, &Chooser::Plain);
+    assert!(rt; end == End::Finished && are_first_events(core.run()));
+    Ok(())
+}
+
+/// Whether the chooser gives these numbers one after another.
+fn gives(chooser: &Chooser, wanted: &[Option<u32>]) -> bool {
+    let mut choosing = Choosing::of(chooser);
+    for number in wanted {
+        let (given, rest) = choosing.next();
+        if given != *number {
+            return false;
+        }
+        choosing = rest;
+    }
+    true
+}
+
+/// By hand: 1103515245 * 7 + 12345 is 1282168116 modulo 2147483648, and that is 19564 * 65536 + 21812.
+const SEEDS: &[(u32, &[Option<u32>])] = &[
+    (7, &[Some(19564)]),
+    (1, &[Some(16838), Some(5758), Some(10113), Some(17515)]),
+    (0, &[Some(0), Some(21468)]),
+];
+
+#[test]
+fn a_seed_gives_the_numbers_of_its_generator(rt: HostRuntime) {
+    for (seed, wanted) in SEEDS {
+        assert!(rt; gives(&Chooser::Seed(*seed), *wanted), "from {seed}");
+    }
+}
+
+#[test]
+fn choices_come_in_their_order_and_then_the_default(rt: HostRuntime) -> Result<(), Fail> {
+    let one = Chooser::Choices(Numbers::from_vec(vec![in rt.alloc(); 4294967295]?));
+    assert!(rt; gives(&one, &[Some(4294967295), None, None]));
+    let three = Chooser::Choices(Numbers::from_vec(vec![in rt.alloc(); 3, 1, 4]?));
+    assert!(rt; gives(&three, &[Some(3), Some(1), Some(4), None, None]));
+    assert!(rt; gives(&Chooser::Plain, &[None, None]));
     Ok(())
 }

@@ -60,6 +60,8 @@ impl Sink for CleanSink {
 
     ghost faults = { λ _. 0 };
 
+    ghost put_gives = { λ _ piece answer _. IsOkAnd answer (λ k. k ≡ length piece) };
+
     fn put(&mut self, piece: &[u8]) -> Result<usize, Failed>
         ensures whole { IsOkAnd result (λ k. k ≡ length piece.now) }
     {

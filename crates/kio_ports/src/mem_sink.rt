@@ -1,5 +1,5 @@
 ghost use Rattle.std.specs.Prelude.{◌≡◌, ◌↔◌, ◌<◌, ◌≤◌, [], ◌++◌, Some, length, take, IfOk, IsErr, OnErr};
-ghost use Rattle.kio_ports.specs.Calls.{first_call, after_call, after_fault};
+ghost use Rattle.kio_ports.specs.Calls.{first_call, after_call, after_fault, next_number};
 ghost use Rattle.kio_ports.specs.Streams.{taken_count, PutFails};
 
 use crate::calls::Calls;
@@ -77,6 +77,9 @@ impl Sink for MemSink {
     ghost held = { λ sink. Some sink.held };
 
     ghost faults = { λ sink. sink.calls.faults };
+
+    ghost put_gives = { λ old piece answer new. (new.calls.made ≡ next_number old.calls.made)
+        × IfOk answer (λ k. new.held ≡ old.held ++ take k piece) };
 
     fn put(&mut self, piece: &[u8]) -> Result<usize, Failed>
         ensures fails { IsErr result ↔ PutFails self.old (length piece.now) }

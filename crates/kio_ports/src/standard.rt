@@ -1,4 +1,5 @@
-ghost use Rattle.std.specs.Prelude.{◌≡◌};
+ghost use Rattle.std.specs.Prelude.{◌≡◌, take, MatchResult};
+ghost use Rattle.std.specs.Io.KnownBytes.{Appends, Keeps};
 
 use crate::{Failed, Sink, Source};
 use std::io::{Read, Stdin, Stdout, Write};
@@ -95,6 +96,9 @@ impl<W: Write> Sink for WriteSink<W> {
     ghost held = { λ sink. W.contents sink.stream };
 
     ghost faults = { λ sink. sink.faults };
+
+    ghost put_gives = { λ old piece answer new. MatchResult answer (λ k. Appends (W.contents old.stream) (W.contents new.stream) (take k piece))
+        (λ _. Keeps (W.contents old.stream) (W.contents new.stream)) };
 
     fn put(&mut self, piece: &[u8]) -> Result<usize, Failed> {
         match self.writer.write(piece) {

@@ -2,7 +2,10 @@ ghost use Rattle.std.specs.Prelude.{◌≡◌, ◌≢◌, ◌<◌, ◌≤◌, le
 ghost use Rattle.std.specs.Io.KnownBytes.{Appends, Consumes, IsAtEnd};
 ghost use Rattle.kio_ports.specs.Faults.{HasRisen};
 
-use crate::{CleanSink, CleanSource, Failed, MemSink, MemSource, Sink, Source, StdSink, StdSource};
+use crate::{
+    CleanSink, CleanSource, Failed, MemSink, MemSource, ReadSource, Sink, Source, StdSink,
+    StdSource, WriteSink,
+};
 use std::alloc::Global;
 use std::process::Abort;
 use std::test::Fail;
@@ -79,46 +82,35 @@ fn expect_takes(
             Ok(count) => Some(&buf[..count]),
             Err(Failed) => None,
         };
-        assert_eq!(rt; given, *want, "at most {most} into {room}");
-        assert_eq!(rt; buf[7], b'.');
+        assert!(rt; given == *want, "at most {most} into {room}");
+        assert!(rt; buf[7] == b'.');
     }
-    assert_eq!(rt; source.calls(), wanted.len() as u64);
+    assert!(rt; source.calls() == wanted.len() as u64);
     Ok(())
 }
 
+const BY_TWO: &[Option<&[u8]>] = &[Some(b"ab"), Some(b"cd"), Some(b"e"), Some(b"")];
+
+const AFTER_TWO_FAULTS: &[Option<&[u8]>] = &[None, None, Some(b"abcd"), Some(b"e"), Some(b"")];
+
+const ONE_BY_ONE: &[Option<&[u8]>] = &[Some(b"a"), None, Some(b"b"), Some(b"c")];
+
+const INTO_NOTHING: &[Option<&[u8]>] = &[Some(b""), Some(b"")];
+
 #[test]
 fn source_gives_and_fails(rt: HostRuntime) -> Result<(), Fail> {
-    expect_takes(
-        &rt,
-        &[],
-        9,
-        2,
-        &[Some(b"ab"), Some(b"cd"), Some(b"e"), Some(b"")],
-    )?;
-    expect_takes(
-        &rt,
-        &[1, 2],
-        9,
-        4,
-        &[None, None, Some(b"abcd"), Some(b"e"), Some(b"")],
-    )?;
-    expect_takes(
-        &rt,
-        &[2, 7],
-        1,
-        4,
-        &[Some(b"a"), None, Some(b"b"), Some(b"c")],
-    )?;
-    expect_takes(&rt, &[], 3, 0, &[Some(b""), Some(b"")])
+    expect_takes(&rt, &[], 9, 2, BY_TWO)?;
+    expect_takes(&rt, &[1, 2], 9, 4, AFTER_TWO_FAULTS)?;
+    expect_takes(&rt, &[2, 7], 1, 4, ONE_BY_ONE)?;
+    expect_takes(&rt, &[], 3, 0, INTO_NOTHING)
 }
 
 #[test]
 fn source_without_bytes_is_at_its_end(rt: HostRuntime) -> Result<(), Fail> {
     let mut source = MemSource::new(Vec::new(rt.alloc()), Vec::new(rt.alloc()), 1);
     let mut buf = [b'.'; 4];
-    assert_eq!(rt; source.take(&mut buf), Ok(0));
-    assert_eq!(rt; buf, [b'.'; 4]);
-    assert_eq!(rt; source.faults(), 0);
+    let given = source.take(&mut buf);
+    assert!(rt; given == Ok(0) && buf == [b'.'; 4] && source.faults() == 0);
     Ok(())
 }
 
@@ -132,45 +124,45 @@ fn expect_puts(
     let mut faults = sink.faults();
     for put in puts {
         let (piece, want) = *put;
-        assert_eq!(rt; sink.put(piece), want);
+        let answer = sink.put(piece);
         faults = faults.saturating_add(u64::from(want.is_err()));
-        assert_eq!(rt; sink.faults(), faults);
+        assert!(rt; answer == want && sink.faults() == faults, "at {piece:?}");
     }
-    assert_eq!(rt; sink.bytes(), held);
-    assert_eq!(rt; sink.calls(), puts.len() as u64);
+    assert!(rt; sink.bytes() == held && sink.calls() == puts.len() as u64);
 }
+
+const BY_FOUR: &[(&[u8], Result<usize, Failed>)] = &[
+    (b"abcdef", Ok(4)),
+    (b"ef", Ok(2)),
+    (b"", Ok(0)),
+];
+
+const UNTIL_FULL: &[(&[u8], Result<usize, Failed>)] = &[
+    (b"abcd", Ok(3)),
+    (b"d", Err(Failed)),
+    (b"", Ok(0)),
+];
+
+const WITH_FAULTS: &[(&[u8], Result<usize, Failed>)] = &[
+    (b"a", Err(Failed)),
+    (b"b", Ok(1)),
+    (b"c", Err(Failed)),
+    (b"d", Ok(1)),
+];
+
+const SHUT: &[(&[u8], Result<usize, Failed>)] = &[(b"a", Err(Failed)), (b"", Ok(0))];
 
 #[test]
 fn sink_takes_and_fails(rt: HostRuntime) -> Result<(), Fail> {
     let alloc = rt.alloc();
     let mut slow = MemSink::new(alloc, 10, Vec::new(alloc), 4)?;
-    expect_puts(
-        &rt,
-        &mut slow,
-        &[(b"abcdef", Ok(4)), (b"ef", Ok(2)), (b"", Ok(0))],
-        b"abcdef",
-    );
+    expect_puts(&rt, &mut slow, BY_FOUR, b"abcdef");
     let mut small = MemSink::new(alloc, 3, Vec::new(alloc), 9)?;
-    expect_puts(
-        &rt,
-        &mut small,
-        &[(b"abcd", Ok(3)), (b"d", Err(Failed)), (b"", Ok(0))],
-        b"abc",
-    );
+    expect_puts(&rt, &mut small, UNTIL_FULL, b"abc");
     let mut faulty = MemSink::new(alloc, 9, vec![in alloc; 1, 3]?, 9)?;
-    expect_puts(
-        &rt,
-        &mut faulty,
-        &[
-            (b"a", Err(Failed)),
-            (b"b", Ok(1)),
-            (b"c", Err(Failed)),
-            (b"d", Ok(1)),
-        ],
-        b"bd",
-    );
+    expect_puts(&rt, &mut faulty, WITH_FAULTS, b"bd");
     let mut shut = MemSink::new(alloc, 9, Vec::new(alloc), 0)?;
-    expect_puts(&rt, &mut shut, &[(b"a", Err(Failed)), (b"", Ok(0))], b"");
+    expect_puts(&rt, &mut shut, SHUT, b"");
     Ok(())
 }
 
@@ -178,49 +170,65 @@ fn sink_takes_and_fails(rt: HostRuntime) -> Result<(), Fail> {
 fn clean_streams_never_fail(rt: HostRuntime) -> Result<(), Fail> {
     let mut source = CleanSource::new(b"abc".to_vec(rt.alloc())?);
     let mut buf = [b'.'; 2];
-    assert_eq!(rt; source.take(&mut buf), Ok(2));
-    assert_eq!(rt; buf, *b"ab");
-    assert_eq!(rt; source.take(&mut buf), Ok(1));
-    assert_eq!(rt; buf, *b"cb");
-    assert_eq!(rt; source.take(&mut buf), Ok(0));
+    let first = source.take(&mut buf);
+    assert!(rt; first == Ok(2) && buf == *b"ab");
+    let second = source.take(&mut buf);
+    assert!(rt; second == Ok(1) && buf == *b"cb");
+    assert!(rt; source.take(&mut buf) == Ok(0));
     let mut sink = CleanSink::new();
-    assert_eq!(rt; sink.put(b"hello"), Ok(5));
-    assert_eq!(rt; sink.put(b""), Ok(0));
+    assert!(rt; sink.put(b"hello") == Ok(5));
+    assert!(rt; sink.put(b"") == Ok(0));
     Ok(())
 }
 
+const LINE: &[u8] = b"1 p1 ask getpid bound 0 charged 2816\n";
+
+const FAILING_TAKES: &[(u64, Option<&[u8]>)] = &[(1, None), (4, None), (5, Some(LINE))];
+
 #[test]
-fn loops_over_streams(rt: HostRuntime) -> Result<(), Fail> {
-    let text = b"1 p1 ask getpid bound 0 charged 2816\n";
-    for (fail, want) in [(1, None), (4, None), (5, Some(text.as_slice()))] {
-        let fails = vec![in rt.alloc(); fail]?;
-        let mut source = MemSource::new(text.to_vec(rt.alloc())?, fails, 16);
-        let read = read_to_end(rt.alloc(), &mut source, 100);
-        match want {
-            Some(bytes) => assert_eq!(rt; read?.as_slice(), bytes),
-            None => assert_eq!(rt; read, Err(ReadError::Fault), "failed at {fail}"),
-        }
+fn loops_over_sources(rt: HostRuntime) -> Result<(), Fail> {
+    for (fail, want) in FAILING_TAKES {
+        let fails = vec![in rt.alloc(); *fail]?;
+        let mut source = MemSource::new(LINE.to_vec(rt.alloc())?, fails, 16);
+        let right = match (read_to_end(rt.alloc(), &mut source, 100), *want) {
+            (Ok(read), Some(bytes)) => read.as_slice() == bytes,
+            (Err(ReadError::Fault), None) => true,
+            _ => false,
+        };
+        assert!(rt; right, "where take {fail} fails");
     }
-    let mut sink = MemSink::new(rt.alloc(), 100, vec![in rt.alloc(); 2]?, 10)?;
-    assert_eq!(rt; write_whole(&mut sink, text), Err(10));
-    assert_eq!(rt; sink.bytes(), b"1 p1 ask g".as_slice());
-    assert_eq!(rt; write_whole(&mut sink, &text[10..]), Ok(()));
-    assert_eq!(rt; sink.bytes(), text.as_slice());
     Ok(())
 }
 
 #[test]
-fn standard_input_is_read(rt: HostRuntime) {
-    let mut source = StdSource::new(rt.stdin());
-    let answer = source.take(&mut []);
-    assert_eq!(rt; answer, Ok(0));
-    assert_eq!(rt; source.faults(), 0);
+fn loops_over_sinks(rt: HostRuntime) -> Result<(), Fail> {
+    let mut sink = MemSink::new(rt.alloc(), 100, vec![in rt.alloc(); 2]?, 10)?;
+    let first = write_whole(&mut sink, LINE);
+    assert!(rt; first == Err(10) && sink.bytes() == b"1 p1 ask g".as_slice());
+    let rest = write_whole(&mut sink, &LINE[10..]);
+    assert!(rt; rest == Ok(()) && sink.bytes() == LINE);
+    Ok(())
 }
 
 #[test]
-fn standard_output_is_written(rt: HostRuntime) {
+fn standard_streams_are_streams(rt: HostRuntime) {
+    let mut source = StdSource::new(rt.stdin());
+    assert!(rt; source.take(&mut []) == Ok(0));
+    assert!(rt; source.faults() == 0);
     let mut sink = StdSink::new(rt.stdout());
-    assert_eq!(rt; sink.put(b""), Ok(0));
-    assert_eq!(rt; sink.put(b"\n"), Ok(1));
-    assert_eq!(rt; sink.faults(), 0);
+    assert!(rt; sink.put(b"") == Ok(0));
+    assert!(rt; sink.put(b"\n") == Ok(1));
+    assert!(rt; sink.faults() == 0);
+}
+
+/// A reader and a writer of std in the place of the standard streams: what is read and written is known.
+#[test]
+fn readers_and_writers_are_streams(rt: HostRuntime) -> Result<(), Fail> {
+    let mut source = ReadSource::new(LINE);
+    let read = read_to_end(rt.alloc(), &mut source, 100)?;
+    assert!(rt; read.as_slice() == LINE && source.faults() == 0);
+    let mut sink = WriteSink::new(Vec::new(rt.alloc()));
+    assert!(rt; write_whole(&mut sink, LINE) == Ok(()));
+    assert!(rt; sink.faults() == 0);
+    Ok(())
 }

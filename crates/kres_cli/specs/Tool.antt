@@ -1,5 +1,5 @@
 -- What the tool answers to its words, and what it writes.
-use Rattle.std.specs.Prelude.{ℕ, ◌≡◌, ◌<◌, List, [], ◌∷◌, length, take, Option, Ok, Err, String, string_bytes, codes}
+use Rattle.std.specs.Prelude.{ℕ, ◌≡◌, ◌<◌, Bool, true, false, List, [], ◌∷◌, length, take, Option, Ok, Err, String, string_bytes, codes}
 use Rattle.std.specs.Io.KnownBytes.{Appends}
 use Rattle.kabi_types.specs.declared.scripts.Script.{Script}
 use Rattle.kabi_types.specs.declared.scripts.ScriptFault.{ScriptFault}
@@ -21,8 +21,9 @@ abbrev pub usage_line : List ℕ
 usage_line = codes "usage: kres sim | threads W | print | table | gen N | load N\n"
 
 -- The streams before and after: the bytes that the source has left and those that the sink holds, where they tell them,
--- and how many takes and puts have failed.
-pub record Streams : Type 0 where
+-- how many takes and puts have failed, and which texts were offered to the sink, each put all that was left of it, whole
+-- or to a put that failed.
+pub record Streams : Type 1 where
   pub left : Option (List ℕ)
   pub left' : Option (List ℕ)
   pub held : Option (List ℕ)
@@ -31,6 +32,7 @@ pub record Streams : Type 0 where
   pub takes' : ℕ
   pub puts : ℕ
   pub puts' : ℕ
+  pub offered : List ℕ → Bool → Type 0
 
 -- what a command makes of a script: the report of its run, with that end's status; or the script in its canonical form
 abbrev pub Makes : Command → Script → List ℕ → Status → Type 0
@@ -56,13 +58,14 @@ pub record AnswersSource (s : Streams) (asked : Command) (status : Status) (whol
 
 -- the whole text was written
 abbrev pub Wrote : Streams → List ℕ → Type 0
-Wrote s whole = Appends s.held s.held' whole
+Wrote s whole = Appends s.held s.held' whole × s.offered whole true
 
 -- The sink failed, and holds a proper beginning of the text.
 pub record Broke (s : Streams) (whole : List ℕ) : Type 0 where
   pub count : ℕ
   pub less : count < length whole
   pub begun : Appends s.held s.held' (take count whole)
+  pub offered : s.offered whole false
   pub fault : HasRisen s.puts s.puts'
 
 -- what was read is answered whole, with this status

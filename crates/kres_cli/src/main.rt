@@ -1,6 +1,11 @@
 //! `kres`: runs scripts of processes on a kernel that reserves its heap before it runs a call.
 #![tactic(auto)]
 
+ghost use Rattle.std.specs.Prelude.{◌≡◌, drop, IfOk};
+ghost use Rattle.std.specs.Process.{exit_status};
+ghost use Rattle.std.specs.Vec.Iter.{into_iter_items};
+ghost use Rattle.kres_cli.specs.Status.{number_of};
+
 mod commands;
 mod lines;
 mod plain_store;
@@ -16,17 +21,32 @@ mod writing;
 
 use kio_ports::{StdSink, StdSource};
 use statuses::Status;
+use std::alloc::{AllocError, Global};
 use std::process::ExitCode;
 use std::{env, io};
 use tool::run_tool;
 
-/// The words after the program's name.
-fn words_of(rt: &HostRuntime) -> io::Result<Vec<String>> {
-    let mut words = Vec::new(rt.alloc());
-    for word in env::args(rt)?.skip(1) {
+/// The words after the program's name, which stands first.
+fn after_name(alloc: Global, mut all: env::Args) -> Result<Vec<String>, AllocError>
+    ensures { IfOk result (λ words. words.items ≡ drop 1 (into_iter_items all)) }
+{
+    let _name = all.next();
+    let mut words = Vec::new(alloc);
+    for word in all {
         words.push(word)?;
     }
     Ok(words)
+}
+
+/// What the program ends with: the number of its status.
+fn code_of(status: Status) -> ExitCode
+    ensures { exit_status result ≡ number_of status }
+{
+    ExitCode::from(status.number())
+}
+
+fn words_of(rt: &HostRuntime) -> io::Result<Vec<String>> {
+    Ok(after_name(rt.alloc(), env::args(rt)?)?)
 }
 
 fn run(rt: &HostRuntime, words: &[String]) -> Status {
@@ -42,5 +62,5 @@ fn main(rt: HostRuntime) -> ExitCode {
         // A word that is no text is no word of the program's.
         Err(_) => run(&rt, &[]),
     };
-    ExitCode::from(status.number())
+    code_of(status)
 }

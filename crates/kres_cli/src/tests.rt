@@ -1,6 +1,7 @@
 use crate::statuses::Status;
 use crate::tool::run_tool;
 use kio_ports::{MemSink, MemSource};
+use std::process::Abort;
 use std::test::Fail;
 
 /// Room for every text that a test writes, in bytes.
@@ -20,7 +21,11 @@ end finished events 6 charged 2304 peak 2816 reads 0
 const USAGE: &str = "usage: kres sim | threads W | print | table | gen N | load N\n";
 
 /// What the tool answers to a word on a text that comes and goes whole, and what it writes.
-pub fn answer_on(rt: &HostRuntime, word: &str, text: Vec<u8>) -> Result<(Status, MemSink), Fail> {
+pub fn answer_on(
+    rt: &impl AllocGlobal,
+    word: &str,
+    text: Vec<u8>,
+) -> Result<(Status, MemSink), Fail> {
     let words = vec![in rt.alloc(); word.to_string(rt.alloc())?]?;
     let mut source = MemSource::new(text, Vec::new(rt.alloc()), usize::MAX);
     let mut sink = MemSink::new(rt.alloc(), ROOM, Vec::new(rt.alloc()), usize::MAX)?;
@@ -30,7 +35,7 @@ pub fn answer_on(rt: &HostRuntime, word: &str, text: Vec<u8>) -> Result<(Status,
 
 /// The word answers each of these scripts with its status and its text.
 pub fn expect_answers(
-    rt: &HostRuntime,
+    rt: &(impl Abort + AllocGlobal),
     word: &str,
     rows: &[(&str, Status, &str)],
 ) -> Result<(), Fail> {
@@ -43,7 +48,7 @@ pub fn expect_answers(
 }
 
 /// Each of these scripts runs to its first process's end, and its report has the line.
-fn expect_lines(rt: &HostRuntime, rows: &[(&str, &str)]) -> Result<(), Fail> {
+fn expect_lines(rt: &(impl Abort + AllocGlobal), rows: &[(&str, &str)]) -> Result<(), Fail> {
     for (script, line) in rows {
         let (status, sink) = answer_on(rt, "sim", script.as_bytes().to_vec(rt.alloc())?)?;
         let written = str::from_utf8(sink.bytes())?;
@@ -113,7 +118,11 @@ const REFUSALS: &[(&str, Status, &str)] = &[
 /// has no memory.
 fn is_right(rt: &HostRuntime, script: &str, wanted: Status, whole: &str) -> Option<bool> {
     let text = script.as_bytes().to_vec(rt.alloc()).ok()?;
-    let (status, sink) = answer_on(rt, "sim", text).ok()?;
+    let word = "sim".to_string(rt.alloc()).ok()?;
+    let words = vec![in rt.alloc(); word].ok()?;
+    let mut source = MemSource::new(text, Vec::new(rt.alloc()), usize::MAX);
+    let mut sink = MemSink::new(rt.alloc(), ROOM, Vec::new(rt.alloc()), usize::MAX).ok()?;
+    let status = run_tool(rt, rt.alloc(), words.as_slice(), &mut source, &mut sink);
     let written = sink.bytes();
     Some(match status {
         Status::Memory => whole.as_bytes().starts_with(written),
@@ -185,7 +194,7 @@ fn tells_the_line_at_fault(rt: HostRuntime) -> Result<(), Fail> {
 }
 
 /// A text that is no script is answered by this line alone.
-fn expect_fault(rt: &HostRuntime, text: Vec<u8>, line: &[u8]) -> Result<(), Fail> {
+fn expect_fault(rt: &(impl Abort + AllocGlobal), text: Vec<u8>, line: &[u8]) -> Result<(), Fail> {
     let (status, sink) = answer_on(rt, "sim", text)?;
     assert!(rt; status == Status::BadScript && sink.bytes() == line);
     Ok(())
@@ -297,7 +306,7 @@ fn tells_the_words_that_it_knows(rt: HostRuntime) -> Result<(), Fail> {
 /// A word on a text whose source fails at the takes that are listed, and whose sink fails at its second put and takes
 /// `most` bytes at a time: the status, and what is written.
 pub fn expect_broken(
-    rt: &HostRuntime,
+    rt: &(impl Abort + AllocGlobal),
     word: &str,
     script: &str,
     fails: Vec<u64>,

@@ -88,7 +88,7 @@ fn prints_scripts_in_their_canonical_form(rt: HostRuntime) -> Result<(), Fail> {
 #[test]
 fn prints_no_text_that_is_too_long(rt: HostRuntime) -> Result<(), Fail> {
     let (status, sink) = answer_on(&rt, "print", vec![in rt.alloc(); b'#'; 1048577]?)?;
-    let line = b"bad script: line 0: too long\n";
+    let line = b"bad script: line 0: too long\n".as_slice();
     assert!(rt; status == Status::BadScript && sink.bytes() == line);
     Ok(())
 }

@@ -1,4 +1,5 @@
 ghost use Rattle.std.specs.Prelude.{◌≡◌, ℕ, List, Option, IfOk, string_bytes};
+ghost use Rattle.kio_ports.specs.Offers.{PutsAll};
 ghost use Rattle.posix_defs.specs.ValidScript.{IsValid};
 ghost use Rattle.kres_cli.specs.Run.{IsReport};
 ghost use Rattle.kres_cli.specs.Tool.{AnswersText, Asks, CommandEnds, HasPut, Makes, OthersEnd, TellsError};
@@ -47,6 +48,7 @@ pub fn run_tool<R, S: Source, K: Sink>(
       takes' = S.faults source.new;
       puts = K.faults sink.old;
       puts' = K.faults sink.new;
+      offered = λ text whole. PutsAll K.put_gives sink.old text whole sink.new;
     }) command result }
     ensures others { ((command : Command) → Asks words.now command → ⊥) → OthersEnd (record {
       left = S.left source.old;
@@ -57,6 +59,7 @@ pub fn run_tool<R, S: Source, K: Sink>(
       takes' = S.faults source.new;
       puts = K.faults sink.old;
       puts' = K.faults sink.new;
+      offered = λ text whole. PutsAll K.put_gives sink.old text whole sink.new;
     }) result }
     ensures untouched { ((command : Command) → Asks words.now command → ⊥) → source.new ≡ source.old }
 {
@@ -77,6 +80,7 @@ fn put<K: Sink>(sink: &mut K, text: &str, status: Status) -> Status
       takes' = takes';
       puts = K.faults sink.old;
       puts' = K.faults sink.new;
+      offered = λ text whole. PutsAll K.put_gives sink.old text whole sink.new;
     }) text.now status result }
 {
     match write_text(sink, text.as_bytes()) {
@@ -96,6 +100,7 @@ fn obey<S: Source, K: Sink>(alloc: Global, command: Command, source: &mut S, sin
       takes' = S.faults source.new;
       puts = K.faults sink.old;
       puts' = K.faults sink.new;
+      offered = λ text whole. PutsAll K.put_gives sink.old text whole sink.new;
     }) command result }
 {
     let text = match read_text(alloc, source) {

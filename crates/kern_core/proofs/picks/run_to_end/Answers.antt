@@ -1,7 +1,7 @@
 use Rattle.std.proofs.Common.{◌≡◌, ◌∙◌, ap, subst, sym, refl, length, suc, ◌+◌, Some, arith}
 use Rattle.posix_defs.specs.Choice.{chosen, named_by}
 use Rattle.kern_core.specs.View.{Took}
-use Rattle.kern_core.proofs.Picks.{chooses_more, chooses_next, picked_boot, picked_more}
+use Rattle.kern_core.proofs.PickedRuns.{chooses_more, chooses_next, picked_boot, picked_more}
 use Rattle.kern_core.proofs.picks.run_to_end.Goals as goal
 
 pub loop-end-init : goal.loop-end-init

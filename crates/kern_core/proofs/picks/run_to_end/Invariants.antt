@@ -1,6 +1,6 @@
 use Rattle.std.proofs.Common.{◌≡◌, ◌-◌, length}
 use Rattle.kern_core.specs.View.{HasPicked}
-use Rattle.kern_core.proofs.Picks.{ChoosesFrom}
+use Rattle.kern_core.proofs.PickedRuns.{ChoosesFrom}
 use Rattle.kern_core.proofs.picks.run_to_end.Given as goal
 
 -- the run so far went by the rule of choice

@@ -1,4 +1,5 @@
 use Rattle.std.proofs.Common.{subst, string_bytes}
+use Rattle.kio_ports.specs.Offers.{PutsAll}
 use Rattle.kres_cli.specs.Read.{HasRead}
 use Rattle.kres_cli.specs.Tool.{Streams, AnswersText, HasPut}
 use Rattle.kres_cli.proofs.Outcomes.{command_put}
@@ -17,6 +18,7 @@ returns-in-Ok g c =
       takes' = takes c.read_text.new.source;
       puts = g.K.Sink.faults c.args.sink.now;
       puts' = g.K.Sink.faults c.put.new.sink;
+      offered = λ text whole. PutsAll g.K.Sink.put_gives c.args.sink.now text whole c.put.new.sink;
     } in
     let read = subst (λ text. HasRead text streams.left streams.left' streams.takes streams.takes') c.in-Ok-Read.field-0-is c.in-Ok-Read.ensures.read in
     let answers = subst (λ text. AnswersText text (string_bytes c.in-Ok.answer.text) c.args.command c.in-Ok.answer.status) c.as_slice.ensures.value c.in-Ok.ensures in

@@ -1,4 +1,5 @@
 use Rattle.std.proofs.Common.{subst}
+use Rattle.kio_ports.specs.Offers.{PutsAll}
 use Rattle.kres_cli.specs.Tool.{CommandEnds, Streams}
 use Rattle.kres_cli.proofs.Outcomes.{asks_once, usage_put}
 use Rattle.kres_cli.proofs.tool.run_tool.Goals as goal
@@ -16,6 +17,7 @@ returns-in-Some-clause-commands g c = λ command asks.
       takes' = takes c.obey.new.source;
       puts = g.K.Sink.faults c.args.sink.now;
       puts' = g.K.Sink.faults c.obey.new.sink;
+      offered = λ text whole. PutsAll g.K.Sink.put_gives c.args.sink.now text whole c.obey.new.sink;
     } in
     subst (λ asked. CommandEnds streams asked c.obey.result) (asks_once c.args.words.now c.in-Some.command command c.in-Some.ensures asks) c.obey.ensures
 

@@ -1,7 +1,7 @@
 use Rattle.std.proofs.Common.{ap, sym, ◌∙◌, Some, suc}
 use Rattle.posix_defs.specs.Generator.{choice_of, next_state, state_after}
 use Rattle.kern_core.specs.Choosing.{given}
-use Rattle.kern_core.proofs.Picks.{state_later}
+use Rattle.kern_core.proofs.PickedRuns.{state_later}
 use Rattle.kern_core.proofs.choosing.Choosing.next.Goals as goal
 
 pub returns-in-Generator-clause-rest : goal.returns-in-Generator-clause-rest

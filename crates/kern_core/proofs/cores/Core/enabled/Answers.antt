@@ -1,7 +1,7 @@
 use Rattle.std.proofs.Common.{◌≡◌, slice_get, Some, None, add-zero, sym, ap, ◌∙◌, subst, arith}
 use Rattle.posix_defs.specs.Choice.{enabled_in}
 use Rattle.kern_core.specs.View.{IsAt, CanTake}
-use Rattle.kern_core.proofs.Choosing.{Passed, passed_none, passed_more, event_at, none_left, can_take}
+use Rattle.kern_core.proofs.EnabledLoop.{Passed, passed_none, passed_more, event_at, none_left, can_take}
 use Rattle.kern_core.proofs.cores.Core.enabled.Goals as goal
 use Rattle.kern_core.proofs.cores.Core.enabled.Goals.{in-Some+else-before-i, in_default}
 

@@ -1,7 +1,7 @@
 use Rattle.std.proofs.Common.{◌≤◌}
 use Rattle.posix_defs.specs.CoreState.{CoreState}
 use Rattle.kern_core.specs.View.{IsAt}
-use Rattle.kern_core.proofs.Choosing.{Passed}
+use Rattle.kern_core.proofs.EnabledLoop.{Passed}
 use Rattle.kern_core.proofs.cores.Core.enabled.Given as goal
 
 -- of each state that the core is at so many events were passed
