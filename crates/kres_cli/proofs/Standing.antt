@@ -16,8 +16,8 @@ use Rattle.posix_defs.specs.Ending.{exit_status}
 use Rattle.posix_defs.specs.Plain.{Plain, call_of}
 use Rattle.posix_defs.specs.Posix.{posix, replied}
 use Rattle.posix_defs.specs.Process.{is_alive, parent_of}
-use Rattle.posix_defs.specs.Turn.{Answers, Tells, TurnsTo, TurnsWhere}
-use Rattle.posix_defs.specs.World.{World}
+use Rattle.posix_defs.specs.Turn.{Answers, Tells, TurnsTo, TurnsWhere, account_after}
+use Rattle.posix_defs.specs.World.{World, no_account}
 use Rattle.prog_ctl.specs.Runnable.{Rests}
 use Rattle.prog_ctl.proofs.Settling.{after_is, rests_settled}
 use Rattle.kres_cli.specs.Store.{StandsFor, table_of, world_of}
@@ -73,7 +73,7 @@ went_on script control control' lives lives' world which reply told alive same s
       record {
         answer = subst (λ answer. Tells answer (world_of stands.before true).plain told (world_of (after script stands.before reply) true).plain)
             (sym (is (world_of stands.before true).plain refl)) (tells, refl);
-        account = refl;
+        account = ap (account_after no_account (world_of stands.before true).plain 1 which) (sym (is (world_of stands.before true).plain refl));
         may_keep = record { names = refl; blocks = refl; vnodes = refl };
         live = omega arith;
         names = omega arith;

@@ -27,15 +27,10 @@ use std::{env, io};
 use tool::run_tool;
 
 /// The words after the program's name, which stands first.
-fn after_name(alloc: Global, mut all: env::Args) -> Result<Vec<String>, AllocError>
+fn after_name(alloc: Global, all: env::Args) -> Result<Vec<String>, AllocError>
     ensures { IfOk result (λ words. words.items ≡ drop 1 (into_iter_items all)) }
 {
-    let _name = all.next();
-    let mut words = Vec::new(alloc);
-    for word in all {
-        words.push(word)?;
-    }
-    Ok(words)
+    all.skip(1).collect(alloc)
 }
 
 /// What the program ends with: the number of its status.

@@ -11,7 +11,7 @@ invariant-loop-left g l = record {
   rest : l.left ≡ drop put l.text;
   held : Appends (g.K.Sink.held l.initial.sink) (g.K.Sink.held l.sink) (take put l.text);
   faults : g.K.Sink.faults l.sink ≡ g.K.Sink.faults l.initial.sink;
-  offers : (whole : Bool) (after : g.K) → PutsAll g.K.Sink.put_gives l.sink l.left whole after
+  offers : (whole : Bool) (after : _) → PutsAll g.K.Sink.put_gives l.sink l.left whole after
       → PutsAll g.K.Sink.put_gives l.initial.sink l.text whole after;
 }
 
