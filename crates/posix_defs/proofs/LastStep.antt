@@ -4,7 +4,7 @@ use Rattle.kabi_types.specs.declared.entries.Noted.{Noted}
 use Rattle.kabi_types.specs.declared.scripts.Script.{Script}
 use Rattle.posix_defs.specs.CoreState.{CoreState, boot_state}
 use Rattle.posix_defs.specs.CoreEvent.{Steps}
-use Rattle.posix_defs.specs.CoreRun.{IsCoreRun, IsRunBy, boots, goes_on}
+use Rattle.posix_defs.specs.CoreRun.{IsCoreRun, boots, goes_on}
 
 -- two lists that end with one more are alike before it and in it
 same_last : {X : Type 0} (xs ys : List X) (x y : X) → xs ++ x ∷ [] ≡ ys ++ y ∷ [] → (xs ≡ ys) × (x ≡ y)

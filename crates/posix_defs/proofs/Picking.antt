@@ -7,7 +7,7 @@ use Rattle.kabi_types.specs.declared.scripts.Script.{Script}
 use Rattle.posix_defs.specs.CoreState.{CoreState}
 use Rattle.posix_defs.specs.Enabled.{IsEnabled}
 use Rattle.posix_defs.specs.Choice.{enabled_in, default_of, named_by}
-use Rattle.posix_defs.specs.CoreRun.{IsCoreRun, IsRunBy, Anyhow, boots, goes_on}
+use Rattle.posix_defs.specs.CoreRun.{IsCoreRun, IsRunBy, boots, goes_on}
 use Rattle.posix_defs.proofs.EnabledEvents.{enabled}
 
 -- every number names the one of a list of one

@@ -1,5 +1,5 @@
 -- Which events may be taken in a state of the core.
-use Rattle.std.specs.Prelude.{ℕ, ◌+◌, ◌≡◌, ◌≤◌, true}
+use Rattle.std.specs.Prelude.{◌+◌, ◌≡◌, ◌≤◌, true}
 use Rattle.kabi_types.specs.declared.entries.Event.{Event}
 use Rattle.kabi_types.specs.declared.entries.Event.TheVariants.{Ask, Admit, Turn, Wake, Abandon, Evict, Kill}
 use Rattle.kabi_types.specs.declared.scripts.Script.{Script}
