@@ -6,10 +6,12 @@
 mod bounds;
 mod needs;
 mod prices;
+mod tables;
 
 pub use bounds::bound;
 pub use needs::need;
 pub use prices::price;
+pub use tables::table;
 
 #[cfg(test)]
 mod tests;

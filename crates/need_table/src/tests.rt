@@ -1,7 +1,8 @@
-use crate::{bound, need, price};
+use crate::{bound, need, price, table};
 use kabi_types::{Bytes64, Call, CallKind, Need, Path};
 use posix_defs::Price;
 use std::process::Abort;
+use std::test::Fail;
 
 const GREATEST: i64 = 9223372036854775807;
 
@@ -233,4 +234,66 @@ fn fork_needs_a_process_and_its_nodes(rt: HostRuntime) {
         ..Need::default()
     };
     assert!(rt; need(&Call::Fork) == wanted && bound(&Call::Fork) == 2560);
+}
+
+const PRINTED: &str = "class Proc 512
+class Node 512
+class Page 4096
+class Desc 64
+class Vnode 128
+class Name 64
+class Block 1088
+class Pipe 128
+class Chunk 576
+class Sock 128
+permanent 2176
+fixed 2816
+bound getpid 0
+bound getppid 0
+bound sched_yield 0
+bound fork 2560
+bound exec 2560
+bound exit 0
+bound waitpid 0
+bound kill 0
+bound mmap 512*min(4,(p+62)/64+1)
+bound munmap 0
+bound store 4096*pages
+bound load 0
+bound open 2624
+bound close 0
+bound dup 0
+bound dup2 0
+bound fcntl 0
+bound read 4096*pages+2176
+bound write max(2176,576*ceil(min(m,4096)/512))
+bound pread 4096*pages+2176
+bound pwrite max(2176,576*ceil(min(m,4096)/512))
+bound lseek 0
+bound readdir 4096*pages+2176
+bound ftruncate 2176
+bound fstat 0
+bound stat 2560
+bound chdir 2560
+bound mkdir 2560
+bound rmdir 2560
+bound unlink 2560
+bound link 2944
+bound rename 2944
+bound pipe 256
+bound socket 192
+bound socketpair 384
+bound bind 2560
+bound listen 0
+bound connect 2688
+bound accept 64
+bound shutdown 0
+bound poll 0
+";
+
+#[test]
+fn the_list_is_printed(rt: HostRuntime) -> Result<(), Fail> {
+    let printed = table(rt.alloc())?;
+    assert!(rt; printed.as_str() == PRINTED);
+    Ok(())
 }

@@ -22,12 +22,14 @@ pub mod Enabled
 pub mod CoreEvent
 pub mod Ends
 pub mod Generator
+pub mod Generated
 pub mod Choice
 pub mod CoreRun
 pub mod Victim
 pub mod History
 pub mod Lines
 pub use Rattle.kabi_types.specs.Words
+pub mod PriceText
 pub mod FirstScript
 pub mod Asking
 pub mod DiskFormat

@@ -6,24 +6,10 @@ use Rattle.kabi_types.specs.declared.errnos.Errno.{Errno}
 use Rattle.kabi_types.specs.declared.errnos.Errno.TheVariants.{ENOENT, ENAMETOOLONG, ENOTDIR}
 use Rattle.posix_defs.specs.declared.walked.Walked.{Walked}
 use Rattle.posix_defs.specs.declared.walked.Walked.TheVariants as walked
+pub use Rattle.kabi_types.specs.PathParts.{is_slash, has_bytes, components, is_long}
+pub use Rattle.kabi_types.specs.Arguments.{path_fault}
 use Rattle.posix_defs.specs.DiskContents.{own_name, parent_name}
 use Rattle.posix_defs.specs.Tree.{Tree, root, is_directory, parent_at, found}
-
-abbrev pub is_slash : ℕ → Bool
-is_slash byte = byte == 47
-
-abbrev pub has_bytes : List ℕ → Bool
-has_bytes part = not (length part == 0)
-
--- what stands between the slashes; slashes in a row count as one
-abbrev pub components : List ℕ → List (List ℕ)
-components path = filter has_bytes (slice_split is_slash path)
-
-abbrev pub is_long : List ℕ → Bool
-is_long component = nat_lt 27 (length component)
-
-abbrev pub path_fault : List ℕ → Option Errno
-path_fault path = if length path == 0 then Some ENOENT else (if list_any is_long (components path) then Some ENAMETOOLONG else None)
 
 -- the path begins at the root
 abbrev pub is_absolute : List ℕ → Bool
