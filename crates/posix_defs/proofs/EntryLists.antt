@@ -64,10 +64,10 @@ stands_nowhere entries name is k lt =
 
 -- ---- two places have two names
 
-abbrev Apart : List DirEntry → Type 0
+abbrev pub Apart : List DirEntry → Type 0
 Apart entries = (i j : ℕ) → i < length entries → j < length entries → i ≢ j → (get_or entries i no_entry).name ≢ (get_or entries j no_entry).name
 
-apart : (entries : List DirEntry) → AllPairs (λ one other. one.name ≢ other.name) entries → Apart entries
+pub apart : (entries : List DirEntry) → AllPairs (λ one other. one.name ≢ other.name) entries → Apart entries
 apart entries pairs i j i_in j_in other =
     elim (cases_order i j) [
       | inl same ↦ absurd (other same)
@@ -117,10 +117,10 @@ length-taken entries name node at =
     omega (arith, cut, at.within)
 
 -- where it stood before what stands at a place after it
-abbrev source : ℕ → ℕ → ℕ → ℕ
+abbrev pub source : ℕ → ℕ → ℕ → ℕ
 source len place k = cond (eqb k place) (len - 1) k
 
-from_source : (entries : List DirEntry) (place k : ℕ) → place < length entries → k < length entries - 1
+pub from_source : (entries : List DirEntry) (place k : ℕ) → place < length entries → k < length entries - 1
     → get_or (swap_remove entries place no_entry) k no_entry ≡ get_or entries (source (length entries) place k) no_entry
 from_source entries place k within lt =
     let last : DirEntry = get_or entries (length entries - 1) no_entry in

@@ -36,7 +36,7 @@ is_unmarked disk formatted number lt past = λ (is : IsMarked disk number).
 -- ---- the table
 
 -- an inode that is free
-no_inode : Inode
+pub no_inode : Inode
 no_inode = record { kind = 0; nlink = 0; size = 0; direct = replicate 10 0; indirect = 0 }
 
 free_bytes : inode_bytes no_inode ≡ replicate 64 0
@@ -131,7 +131,7 @@ free_in_table disk formatted is node above within =
     ]
 
 -- a node of the new disk is the root, or free
-new_node : (disk : List (List ℕ)) → IsFormatted (length disk) disk → 16 ≤ length disk → length disk ≤ 4096 → (node : ℕ) → 0 < node → node ≤ table_nodes (length disk)
+pub new_node : (disk : List (List ℕ)) → IsFormatted (length disk) disk → 16 ≤ length disk → length disk ≤ 4096 → (node : ℕ) → 0 < node → node ≤ table_nodes (length disk)
     → ((node ≡ 1) × HasInode disk node (new_root (length disk))) ⊎ HasInode disk node no_inode
 new_node disk formatted enough most node pos within =
     let is = new_root_is (length disk) enough most in
@@ -282,3 +282,8 @@ pub new_root_is_empty : (blocks : ℕ) (disk : List (List ℕ)) → 16 ≤ block
 new_root_is_empty blocks disk enough most formatted =
     let same : blocks ≡ length disk = sym formatted.count in
     formatted_root_is_empty disk (subst (λ (n : ℕ). IsFormatted n disk) same formatted) (subst (λ (n : ℕ). 16 ≤ n) same enough) (subst (λ (n : ℕ). n ≤ 4096) same most)
+
+-- an inode that is free is of no kind
+pub no_kind : no_inode.kind ≡ 0
+unfolding no_inode
+no_kind = refl

@@ -3,9 +3,9 @@ use Rattle.std.proofs.Common.{◌≡◌, ◌≢◌, ℕ, zero, suc, ◌+◌, ◌
 use Rattle.std.specs.Str.{bytes_eq}
 use Rattle.std.specs.Option.{option_map, option_or}
 use Rattle.std.specs.List.{find, position_or_len}
-use Rattle.std.proofs.lemmas.Bool.{cases_Bool, cond-true, cond-false, cases_lt, cases_eq, false_from_ne_true}
+use Rattle.std.proofs.lemmas.Bool.{cases_Bool, cond-true, cond-false, cases_lt, cases_eq, eq-eqb, ne_eqb}
 use Rattle.std.proofs.lemmas.Option.{none-some, slice_get-get_or, slice_get_past}
-use Rattle.std.proofs.lemmas.List.{length-set, get_or-set_same}
+use Rattle.std.proofs.lemmas.List.{length-set, get_or-set_same, get_or-set_other}
 use Rattle.std.proofs.lemmas.List.Sums.{prefix_len-le-length}
 use Rattle.std.proofs.lemmas.List.Folds.{find-append, find_at, position_or_len-set}
 use Rattle.std.proofs.lemmas.Slice.Eq.{bytes_eq-Decides}
@@ -14,7 +14,7 @@ use Rattle.posix_defs.specs.DiskContents.{entry_for}
 use Rattle.posix_defs.specs.Tree.{Tree, root, node_at, is_directory, entries_in, entries_at, has_name, found_among, found}
 use Rattle.posix_defs.specs.TreeChanges.{place_of, no_entry, entry_put, entry_taken, entry_aimed, entry_renamed}
 use Rattle.posix_defs.specs.IsTree.{AreEntries}
-use Rattle.posix_defs.proofs.EntryLists.{StandsAt, stands_at, stands_nowhere, taken_among, name_apart}
+use Rattle.posix_defs.proofs.EntryLists.{StandsAt, stands_at, stands_nowhere, name_apart, apart, source, from_source, taken_are, length-taken}
 
 -- nothing found is nothing found by the test
 none_found : (entries : List DirEntry) (name : List ℕ) → found_among entries name ≡ None → find (has_name name) entries ≡ None
@@ -58,3 +58,69 @@ found-aimed entries name node aim at =
     found_by_place (entry_aimed name aim entries) name within
     ∙ ap (λ (k : ℕ). Some (get_or (entry_aimed name aim entries) k no_entry).node) same_place
     ∙ ap (λ (e : DirEntry). Some e.node) (get_or-set_same entries place entry no_entry at.within)
+
+-- an entry at any place is what is found under its name
+pub found_at_place : (entries : List DirEntry) (name : List ℕ) (k : ℕ) → AreEntries entries → k < length entries → (get_or entries k no_entry).name ≡ name
+    → found_among entries name ≡ Some (get_or entries k no_entry).node
+found_at_place entries name k are lt called =
+    elim (cases_lt (place_of name entries) (length entries)) [
+      | inl within ↦
+          let stands = stands_at entries name (get_or entries (place_of name entries) no_entry).node (found_by_place entries name within) in
+          let same : place_of name entries ≡ k = elim (cases_eq (place_of name entries) k) [
+            | inl e ↦ e
+            | inr other ↦ absurd (apart entries are.distinct (place_of name entries) k within lt other (stands.called ∙ sym called))
+          ] in
+          found_by_place entries name within ∙ ap (λ (n : ℕ). Some (get_or entries n no_entry).node) same
+      | inr past ↦ absurd (stands_nowhere entries name (found_past entries name past) k lt called)
+    ]
+
+-- where nothing has a name, nothing is found
+pub found_nowhere : (entries : List DirEntry) (name : List ℕ) → ((k : ℕ) → k < length entries → (get_or entries k no_entry).name ≢ name) → found_among entries name ≡ None
+found_nowhere entries name nowhere =
+    elim (cases_lt (place_of name entries) (length entries)) [
+      | inl within ↦
+          let stands = stands_at entries name (get_or entries (place_of name entries) no_entry).node (found_by_place entries name within) in
+          absurd (nowhere (place_of name entries) within stands.called)
+      | inr past ↦ found_past entries name past
+    ]
+
+-- where another name goes, one that is there is found as before
+pub found-taken_other : (entries : List DirEntry) (name other : List ℕ) (node aim : ℕ) → AreEntries entries → StandsAt entries name node → StandsAt entries other aim → other ≢ name
+    → found_among (entry_taken name entries) other ≡ Some aim
+found-taken_other entries name other node aim are at at_other differs =
+    let taken : List DirEntry = entry_taken name entries in
+    let are_taken = taken_are entries name node are at in
+    let len = length-taken entries name node at in
+    let place : ℕ = place_of name entries in
+    let k : ℕ = place_of other entries in
+    let apart_places : k ≢ place = λ e. differs (sym at_other.called ∙ ap (λ (n : ℕ). (get_or entries n no_entry).name) e ∙ at.called) in
+    let found_there : (j : ℕ) → j < length taken → source (length entries) place j ≡ k → found_among taken other ≡ Some aim = λ j lt from.
+    let there : get_or taken j no_entry ≡ get_or entries k no_entry = from_source entries place j at.within (omega (arith, lt, len)) ∙ ap (λ (n : ℕ). get_or entries n no_entry) from in
+    found_at_place taken other j are_taken lt (ap (λ (e : DirEntry). e.name) there ∙ at_other.called) ∙ ap (λ (e : DirEntry). Some e.node) there ∙ ap Some at_other.aims in
+    elim (cases_eq k (length entries - 1)) [
+      | inl last ↦
+          let lt : place < length taken = elim (cases_lt place (length taken)) [ inl below ↦ below | inr past ↦ absurd (apart_places (omega (arith, last, past, len, at.within))) ] in
+          found_there place lt (ap (λ (b : Bool). cond b (length entries - 1) place) (eq-eqb place place refl) ∙ sym last)
+      | inr before ↦
+          let lt : k < length taken = elim (cases_lt k (length taken)) [ inl below ↦ below | inr past ↦ absurd (before (omega (arith, past, len, at_other.within))) ] in
+          found_there k lt (ap (λ (b : Bool). cond b (length entries - 1) k) (ne_eqb k place apart_places))
+    ]
+
+pub found-renamed : (entries : List DirEntry) (old new : List ℕ) (node : ℕ) → AreEntries (entry_renamed old new node entries) → StandsAt entries old node → found_among (entry_renamed old new node entries) new ≡ Some node
+found-renamed entries old new node are at =
+    let place : ℕ = place_of old entries in
+    let entry : DirEntry = entry_for node new in
+    let changed : List DirEntry = entry_renamed old new node entries in
+    let here : get_or changed place no_entry ≡ entry = get_or-set_same entries place entry no_entry at.within in
+    found_at_place changed new place are (omega (arith, length-set entries place entry, at.within)) (ap (λ (e : DirEntry). e.name) here) ∙ ap (λ (e : DirEntry). Some e.node) here
+
+pub found-renamed_old : (entries : List DirEntry) (old new : List ℕ) (node : ℕ) → AreEntries entries → StandsAt entries old node → new ≢ old → found_among (entry_renamed old new node entries) old ≡ None
+found-renamed_old entries old new node are at differs =
+    let place : ℕ = place_of old entries in
+    let entry : DirEntry = entry_for node new in
+    let changed : List DirEntry = entry_renamed old new node entries in
+    found_nowhere changed old (λ k lt. elim (cases_eq k place) [
+      | inl same ↦ λ called. differs (sym (ap (λ (n : ℕ). (get_or changed n no_entry).name) same ∙ ap (λ (e : DirEntry). e.name) (get_or-set_same entries place entry no_entry at.within)) ∙ called)
+      | inr other ↦ λ called. apart entries are.distinct k place (omega (arith, lt, length-set entries place entry)) at.within other
+          (sym (ap (λ (e : DirEntry). e.name) (get_or-set_other entries place k entry no_entry other)) ∙ called ∙ sym at.called)
+    ])

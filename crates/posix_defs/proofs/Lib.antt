@@ -23,3 +23,8 @@ pub mod NewTree
 pub mod TreeRenames
 pub mod FoundNames
 pub mod PriceLemmas
+pub mod FileRoom
+pub mod FileKeeps
+pub mod FoundAfter
+pub mod Ways
+pub mod PathLeads

@@ -130,9 +130,15 @@ unlink_tree tree between after dir number name is at listed dropped_link empty =
           (way.0, climbed_same tree after keeps way.0 m stays ∙ way.1);
     }
 
-pub unlink_keeps : (tree : Tree) (dir : ℕ) (name : List ℕ) (number : ℕ) (opened : Bool) → IsTree tree → found tree dir name ≡ Some number
-    → (is_directory tree number ≡ true → (entries_at tree number ≡ []) × (opened ≡ false)) → IsTree (unlink tree dir name number opened)
-unlink_keeps tree dir name number opened is at empty =
+-- a name that goes is taken from the entries, and its node loses a link
+pub record Unlinked (tree after : Tree) (dir : ℕ) (name : List ℕ) (number : ℕ) : Type 0 where
+  pub between : Tree
+  pub listed : Relisted tree between dir (entry_taken name (entries_at tree dir))
+  pub link : Dropped between after number
+
+pub unlinked : (tree : Tree) (dir : ℕ) (name : List ℕ) (number : ℕ) (opened : Bool) → IsTree tree → found tree dir name ≡ Some number
+    → (is_directory tree number ≡ true → (entries_at tree number ≡ []) × (opened ≡ false)) → Unlinked tree (unlink tree dir name number opened) dir name number
+unlinked tree dir name number opened is at empty =
     let entries : List DirEntry = entries_at tree dir in
     let is_dir = found_in_directory tree dir name number at in
     let stands = stands_at entries name number at in
@@ -146,7 +152,13 @@ unlink_keeps tree dir name number opened is at empty =
     let gone = empty (sym (listed.directories number) ∙ dir_between) in
     let other : number ≢ dir = λ same. none-some number (sym (ap (λ (es : List DirEntry). found_among es name) (ap (entries_at tree) (sym same) ∙ gone.0)) ∙ at) in
     (ap entries_in (listed.others number other) ∙ gone.0, gone.1) in
-    unlink_tree tree between (unlink tree dir name number opened) dir number name is at listed (dropped between number opened are used linked empty_between) (λ d. (empty d).0)
+    record { between = between; listed = listed; link = dropped between number opened are used linked empty_between }
+
+pub unlink_keeps : (tree : Tree) (dir : ℕ) (name : List ℕ) (number : ℕ) (opened : Bool) → IsTree tree → found tree dir name ≡ Some number
+    → (is_directory tree number ≡ true → (entries_at tree number ≡ []) × (opened ≡ false)) → IsTree (unlink tree dir name number opened)
+unlink_keeps tree dir name number opened is at empty =
+    let parts = unlinked tree dir name number opened is at empty in
+    unlink_tree tree parts.between (unlink tree dir name number opened) dir number name is at parts.listed parts.link (λ d. (empty d).0)
 
 -- ---- a new node
 
@@ -182,7 +194,7 @@ new_is_node dir (Directory parent entries) is = subst (λ (es : List DirEntry). 
     (record { content = record { names = λ k d lt. absurd (omega (arith, lt)); distinct = λ i j d lt within. absurd (omega (arith, within)) }; size = omega arith; links = omega arith; single = λ _. refl })
 new_is_node dir SocketName is = record { content = tt; size = omega arith; links = omega arith; single = λ _. refl }
 
-new_entries_none : (dir : ℕ) (content : Content) → IsNewContent dir content → entries_of content ≡ []
+pub new_entries_none : (dir : ℕ) (content : Content) → IsNewContent dir content → entries_of content ≡ []
 new_entries_none dir (File bytes) is = refl
 new_entries_none dir (Directory parent entries) is = is.1
 new_entries_none dir SocketName is = refl
@@ -273,10 +285,10 @@ make_tree tree between after dir number name content is is_dir valid free_name n
           ];
     }
 
-same_Ok : {A : Type 0} (x y : A) → ◌≡◌ {A = Result A Errno} (Ok x) (Ok y) → x ≡ y
+pub same_Ok : {A : Type 0} (x y : A) → ◌≡◌ {A = Result A Errno} (Ok x) (Ok y) → x ≡ y
 same_Ok x y same = cc
 
-err-ok : {A : Type 0} (e : Errno) (x : A) → ◌≡◌ {A = Result A Errno} (Err e) (Ok x) → ⊥
+pub err-ok : {A : Type 0} (e : Errno) (x : A) → ◌≡◌ {A = Result A Errno} (Err e) (Ok x) → ⊥
 err-ok e x same = cc
 
 -- a node is made at the free number where there is room
@@ -312,7 +324,7 @@ make_keeps tree dir name content number after is is_dir valid free_name new at =
 
 -- ---- what keeps every directory and every count of names
 
-same_tree : (tree after : Tree) → IsTree tree → SameDirectories tree after → ((m : ℕ) → links_at after m ≡ links_at tree m) → 1 + table_end tree.blocks + used_blocks after ≤ tree.blocks → AreNodes after
+pub same_tree : (tree after : Tree) → IsTree tree → SameDirectories tree after → ((m : ℕ) → links_at after m ≡ links_at tree m) → 1 + table_end tree.blocks + used_blocks after ≤ tree.blocks → AreNodes after
     → IsTree after
 same_tree tree after is same links room are =
     let stays : (m : ℕ) → is_directory after m ≡ true → is_directory tree m ≡ true = λ m at. sym (same.directories m) ∙ at in

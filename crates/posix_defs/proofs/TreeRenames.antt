@@ -118,7 +118,7 @@ taken_once tree dir name number entry is at dir_number among = λ same.
     omega (arith, counted, count-taken entries name number number stands, one_here number number refl, named_at-le tree dir number, is.links number, one_link tree number is dir_number, unnamed)
 
 -- in a list where an entry got another node, another name stands as before
-aimed_stands : (entries : List DirEntry) (name new : List ℕ) (node replaced aim : ℕ) → StandsAt entries name node → StandsAt entries new replaced → node ≢ replaced → StandsAt (entry_aimed new aim entries) name node
+pub aimed_stands : (entries : List DirEntry) (name new : List ℕ) (node replaced aim : ℕ) → StandsAt entries name node → StandsAt entries new replaced → node ≢ replaced → StandsAt (entry_aimed new aim entries) name node
 aimed_stands entries name new node replaced aim at at_new other =
     let place : ℕ = place_of new entries in
     let entry : DirEntry = entry_for aim new in
@@ -135,12 +135,12 @@ aimed_stands entries name new node replaced aim at at_new other =
     }
 
 -- the entries of the old directory when the new name has got the node
-record Aimed (entries : List DirEntry) (name : List ℕ) (number len : ℕ) : Type 0 where
-  stands : StandsAt entries name number
-  are : AreEntries entries
-  count : length entries ≡ len
+pub record Aimed (entries : List DirEntry) (name : List ℕ) (number len : ℕ) : Type 0 where
+  pub stands : StandsAt entries name number
+  pub are : AreEntries entries
+  pub count : length entries ≡ len
 
-aimed_list : (tree t1 t2 : Tree) (dir to number replaced : ℕ) (name new : List ℕ) → IsTree tree → found tree dir name ≡ Some number → found tree to new ≡ Some replaced → number ≢ replaced
+pub aimed_list : (tree t1 t2 : Tree) (dir to number replaced : ℕ) (name new : List ℕ) → IsTree tree → found tree dir name ≡ Some number → found tree to new ≡ Some replaced → number ≢ replaced
     → Relisted tree t1 to (entry_aimed new number (entries_at tree to)) → Dropped t1 t2 replaced → Aimed (entries_at t2 dir) name number (length (entries_at tree dir))
 aimed_list tree t1 t2 dir to number replaced name new is at at_new other r1 r2 =
     let entries : List DirEntry = entries_at tree to in
@@ -239,10 +239,20 @@ not_gone tree dir name number gone at empty same =
     let is : is_directory tree gone ≡ true = ap (is_directory tree) (sym same) ∙ found_in_directory tree dir name number at in
     none-some number (sym (ap (λ (es : List DirEntry). found_among es name) (ap (entries_at tree) same ∙ empty is)) ∙ at)
 
-pub rename_over_keeps : (tree : Tree) (dir : ℕ) (name : List ℕ) (number to : ℕ) (new : List ℕ) (replaced : ℕ) (opened : Bool) → IsTree tree → found tree dir name ≡ Some number → found tree to new ≡ Some replaced
-    → number ≢ replaced → (is_directory tree replaced ≡ true → (entries_at tree replaced ≡ []) × (opened ≡ false)) → (is_directory tree number ≡ true → IsOff tree number to)
-    → IsTree (rename_over tree dir name number to new replaced opened)
-rename_over_keeps tree dir name number to new replaced opened is at at_new other empty off =
+-- over a name that is there: its entry gets the node, the node that it had loses a link, the old entry goes, `..` follows
+pub record RenamedOver (tree after : Tree) (dir : ℕ) (name : List ℕ) (number to : ℕ) (new : List ℕ) (replaced : ℕ) : Type 0 where
+  pub t1 : Tree
+  pub t2 : Tree
+  pub t3 : Tree
+  pub aim : Relisted tree t1 to (entry_aimed new number (entries_at tree to))
+  pub link : Dropped t1 t2 replaced
+  pub taken : Relisted t2 t3 dir (entry_taken name (entries_at t2 dir))
+  pub hung : Hung t3 after number to
+  pub stays : to ≢ replaced
+
+pub renamed_over : (tree : Tree) (dir : ℕ) (name : List ℕ) (number to : ℕ) (new : List ℕ) (replaced : ℕ) (opened : Bool) → IsTree tree → found tree dir name ≡ Some number → found tree to new ≡ Some replaced
+    → (is_directory tree replaced ≡ true → (entries_at tree replaced ≡ []) × (opened ≡ false)) → RenamedOver tree (rename_over tree dir name number to new replaced opened) dir name number to new replaced
+renamed_over tree dir name number to new replaced opened is at at_new empty =
     let entries : List DirEntry = entries_at tree to in
     let is_to = found_in_directory tree to new replaced at_new in
     let is_dir = found_in_directory tree dir name number at in
@@ -261,13 +271,20 @@ rename_over_keeps tree dir name number to new replaced opened is at at_new other
     let dir_stays = not_gone tree dir name number replaced at (λ d. (empty d).0) in
     let r3 = relisted t2 dir (entry_taken name) (ap is_directory_in (r2.others dir dir_stays) ∙ r1.directories dir ∙ is_dir) in
     let t3 : Tree = with_entries t2 dir (entry_taken name) in
+    record { t1 = t1; t2 = t2; t3 = t3; aim = r1; link = r2; taken = r3; hung = hung_is t3 number to; stays = to_stays }
+
+pub rename_over_keeps : (tree : Tree) (dir : ℕ) (name : List ℕ) (number to : ℕ) (new : List ℕ) (replaced : ℕ) (opened : Bool) → IsTree tree → found tree dir name ≡ Some number → found tree to new ≡ Some replaced
+    → number ≢ replaced → (is_directory tree replaced ≡ true → (entries_at tree replaced ≡ []) × (opened ≡ false)) → (is_directory tree number ≡ true → IsOff tree number to)
+    → IsTree (rename_over tree dir name number to new replaced opened)
+rename_over_keeps tree dir name number to new replaced opened is at at_new other empty off =
+    let p = renamed_over tree dir name number to new replaced opened is at at_new empty in
     let after : Tree = rename_over tree dir name number to new replaced opened in
-    rename_tree tree after number to replaced is (over_renamed tree t1 t2 t3 after dir to number replaced name new is at at_new other r1 r2 r3 (hung_is t3 number to)) (record {
+    rename_tree tree after number to replaced is (over_renamed tree p.t1 p.t2 p.t3 after dir to number replaced name new is at at_new other p.aim p.link p.taken p.hung) (record {
       number_not_root = found_not_root tree dir name number is at;
       gone_not_root = found_not_root tree to new replaced is at_new;
       empty = λ d. (empty d).0;
-      directory = is_to;
-      there = to_stays;
+      directory = found_in_directory tree to new replaced at_new;
+      there = p.stays;
       off = off;
     })
 

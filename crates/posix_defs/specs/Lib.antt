@@ -43,6 +43,7 @@ pub mod NodeLists
 pub mod Paths
 pub mod Queries
 pub mod DiskTree
+pub mod WorkedTrees
 pub mod TrueCaches
 pub mod ScriptWords
 pub mod ScriptValues

@@ -1,5 +1,5 @@
 -- Paths and what they lead to, by POSIX's pathname resolution.
-use Rattle.std.specs.Prelude.{ℕ, ◌<◌, ◌≤◌, ◌==◌, ◌&&◌, not, Bool, true, false, if◌then◌else◌, List, [], ◌∷◌, length, nat_lt, slice_index, ◌-◌, Option, None, Some, Result, Ok, Err}
+use Rattle.std.specs.Prelude.{ℕ, ◌<◌, ◌≤◌, ◌≡◌, ◌⊎◌, ◌==◌, ◌&&◌, not, Bool, true, false, if◌then◌else◌, List, [], ◌∷◌, length, nat_lt, slice_index, ◌-◌, Option, None, Some, Result, Ok, Err}
 use Rattle.std.specs.List.{filter, list_any, slice_split}
 use Rattle.std.specs.Str.{bytes_eq}
 use Rattle.kabi_types.specs.declared.errnos.Errno.{Errno}
@@ -62,3 +62,18 @@ begins_at start path = if is_absolute path then root else start
 -- what a path leads to from a working directory
 abbrev pub resolve : Tree → ℕ → List ℕ → Walked
 resolve tree start path = leads tree (ends_in_slash path) (begins_at start path) (components path)
+
+-- where a path leads is there: a directory, a name of a directory with its node, or a free name of one
+abbrev pub IsLed : Tree → Walked → Type 0
+IsLed tree (walked.Node number) = is_directory tree number ≡ true
+IsLed tree (walked.Named parent name number slashed) =
+    (is_directory tree parent ≡ true) × (found tree parent name ≡ Some number) × (slashed ≡ true → is_directory tree number ≡ true)
+IsLed tree (walked.Free parent name slashed) = (is_directory tree parent ≡ true) × (found tree parent name ≡ None)
+IsLed tree (walked.Fail errno) = (errno ≡ ENOENT) ⊎ (errno ≡ ENOTDIR)
+
+-- the last name of a path, where it leads to one
+abbrev pub last_name : Walked → Option (List ℕ)
+last_name (walked.Node _) = None
+last_name (walked.Named _ name _ _) = Some name
+last_name (walked.Free _ name _) = Some name
+last_name (walked.Fail _) = None

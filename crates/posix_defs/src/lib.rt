@@ -10,6 +10,7 @@ mod disk_laws;
 mod generator;
 mod laws;
 mod nodes;
+mod path_laws;
 mod phases;
 mod price_laws;
 mod prices;
@@ -19,6 +20,7 @@ mod tests;
 mod tree_laws;
 mod turner;
 mod walked;
+mod worked_trees;
 
 pub use blocks::{BlockList, Blocks};
 pub use dirs::Dirs;
@@ -35,6 +37,10 @@ pub use laws::{
     what_is_picked_is_enabled,
 };
 pub use nodes::{Listed, ListedNode, NodeList};
+pub use path_laws::{
+    a_last_name_may_be_an_entrys, a_path_leads_to_what_is_there, dots_lead_to_directories,
+    ways_up_end_at_the_root,
+};
 pub use phases::Phase;
 pub use price_laws::{
     a_bound_is_that_of_the_price_list, a_bound_is_the_sum_of_its_need,
@@ -43,9 +49,13 @@ pub use price_laws::{
 pub use prices::Price;
 pub use said::{AtTop, InProgram, Setting, Shape, Spoken, Stated, Word};
 pub use tree_laws::{
-    a_closed_file_leaves_a_tree, a_name_goes_from_a_tree, a_new_root_is_a_tree,
-    a_node_is_made_in_a_tree, a_rename_over_a_name_leaves_a_tree,
-    a_rename_to_a_new_name_leaves_a_tree,
+    a_changed_file_leaves_a_tree, a_further_name_leaves_a_tree, a_new_root_is_a_tree,
+    a_removed_name_is_free, a_rename_over_a_name_moves_the_node,
+    a_rename_to_a_new_name_moves_the_node, what_is_made_is_found,
 };
 pub use turner::{Turned, Turner};
 pub use walked::Walked;
+pub use worked_trees::{
+    a_directory_moves_with_its_parent, a_small_disk_is_full_at_12288_bytes, paths_lead_to_these,
+    renames_leave_these_entries, sizes_take_these_blocks, writes_fit_so_far,
+};
