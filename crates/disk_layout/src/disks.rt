@@ -4,6 +4,8 @@ ghost use Rattle.std.specs.Prelude.{◌≡◌, ℕ, ◌+◌, ◌-◌, ◌<◌, �
 ghost use Rattle.disk_layout.specs.Disk.{IsRead};
 ghost use Rattle.posix_defs.specs.SoundDisk.{Sound};
 ghost use Rattle.posix_defs.specs.DiskContents.{zeros, first_marked, new_root, entry_for, new_entries, IsDirectoryOf, IsFormatted};
+ghost use Rattle.posix_defs.specs.Tree.{new_tree};
+ghost use Rattle.posix_defs.specs.DiskTree.{StandsFor};
 
 use crate::entries::bytes_of_entry;
 use crate::inodes::bytes_of;
@@ -32,13 +34,15 @@ impl Model for RamDisk {
 }
 
 impl RamDisk {
-    /// A disk of so many blocks, 16 to 4096, whose root directory has `.` and `..` alone, and of which nothing was read.
+    /// A disk of so many blocks, 16 to 4096, whose root directory has `.` and `..` alone, and of which nothing was read:
+    /// it stands for the new tree.
     /// Memory where the host has none for its blocks.
     pub fn boot(alloc: Global, blocks: u32) -> Result<RamDisk, Memory>
         requires { (16 ≤ blocks) × (blocks ≤ 4096) }
         ensures formatted { IfOk result (λ disk. IsFormatted blocks disk.blocks) }
         ensures sound { IfOk result (λ disk. Sound disk.blocks) }
         ensures root { IfOk result (λ disk. IsDirectoryOf disk.blocks 1 1 []) }
+        ensures tree { IfOk result (λ disk. StandsFor disk.blocks (new_tree blocks)) }
         ensures unread { IfOk result (λ disk. disk.reads ≡ 0) }
     {
         let first = blocks / 16 + 1;

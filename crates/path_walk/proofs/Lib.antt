@@ -1,2 +1,3 @@
 pub mod Components
 pub mod Steps
+pub mod SmallTrees

@@ -4,6 +4,8 @@
 #![tactic(auto)]
 
 mod names;
+#[cfg(test)]
+mod tests;
 mod walks;
 
 pub use posix_defs::Walked;

@@ -7,15 +7,15 @@ use Rattle.std.proofs.lemmas.List.{length-replicate, get_or-replicate, get_or_pa
 use Rattle.std.proofs.lemmas.List.Sums.{sum_by-cons}
 use Rattle.kabi_types.specs.declared.inodes.Inode.{Inode}
 use Rattle.kabi_types.specs.declared.inodes.DirEntry.{DirEntry}
-use Rattle.posix_defs.specs.DiskFormat.{table_nodes, blocks_of}
+use Rattle.posix_defs.specs.DiskFormat.{table_end, table_nodes, blocks_of}
 use Rattle.posix_defs.specs.SoundDisk as disks
 use Rattle.posix_defs.specs.SoundDisk.{HasInode, IsFreeNode, IsTable, Sound, free_in_map}
 use Rattle.posix_defs.specs.DiskContents.{node_bytes, HasEntries, IsFormatted, entry_for, own_name, parent_name, new_root}
 use Rattle.posix_defs.specs.Tree.{Content, File, Directory, SocketName, Node, Tree, root, node_at, with_node, new_tree, new_root_node, size_in, blocks_in, used_blocks, free_blocks}
 use Rattle.posix_defs.specs.DiskTree.{HasContent, HasNodeOf, HasThere, StandsFor, ChangesNode}
-use Rattle.posix_defs.proofs.TreeNodes.{node_at-with_node, node_at-with_node_other, blocks-with_node, length-with_node}
+use Rattle.posix_defs.proofs.TreeNodes.{IsNumber, node_at-with_node, node_at-with_node_other, blocks-with_node, length-with_node}
 use Rattle.posix_defs.proofs.FormattedDisk.{no_inode, no_kind, new_node, one_inode, new_is_sound, new_root_is_empty}
-use Rattle.posix_defs.proofs.FreeBlocks.{counted_free, table_of}
+use Rattle.posix_defs.proofs.FreeBlocks.{how_many_free, has_table}
 use Rattle.posix_defs.proofs.NewTree.{none_in}
 
 -- ---- a new disk
@@ -25,12 +25,12 @@ new_root_has : (disk : List (List ℕ)) → 16 ≤ length disk → length disk �
 new_root_has disk enough most formatted =
     let empty = new_root_is_empty (length disk) disk enough most formatted in
     let is : empty.inode ≡ new_root (length disk) =
-        elim (new_node disk formatted enough most root (omega arith) (omega (arith, enough))) [
-          | inl at ↦ one_inode disk root empty.inode (new_root (length disk)) empty.has at.1
-          | inr free ↦
-              let none : empty.inode ≡ no_inode = one_inode disk root empty.inode no_inode empty.has free in
-              absurd (omega (arith, empty.list.kind, ap (λ (i : Inode). i.kind) none, no_kind))
-        ] in
+    elim (new_node disk formatted enough most root (omega arith) (omega (arith, enough))) [
+      | inl at ↦ one_inode disk root empty.inode (new_root (length disk)) empty.has at.1
+      | inr free ↦
+          let none : empty.inode ≡ no_inode = one_inode disk root empty.inode no_inode empty.has free in
+          absurd (omega (arith, empty.list.kind, ap (λ (i : Inode). i.kind) none, no_kind))
+    ] in
     record {
       inode = empty.inode;
       has = empty.has;
@@ -93,7 +93,7 @@ changed_stands old new tree number there stands changes above within has =
       count = length-with_node tree number there ∙ stands.count ∙ ap table_nodes (sym blocks);
       each = λ other pos le. elim (cases_eq other number) [
         | inl same ↦
-            let is_number = record { above = above; within = subst (λ (n : ℕ). number ≤ n) (sym stands.count) within } in
+            let is_number : IsNumber tree number = record { above = above; within = subst (λ (n : ℕ). number ≤ n) (sym stands.count) within } in
             let at : node_at after other ≡ there = ap (node_at after) same ∙ node_at-with_node tree number there is_number in
             subst (HasThere new other) (sym at) (subst (λ (n : ℕ). HasThere new n there) (sym same) has)
         | inr off ↦
@@ -121,3 +121,14 @@ same_blocks disk number None inode has at =
 same_blocks disk number (Some node) inode has at =
     let same : inode ≡ has.inode = one_inode disk number inode has.inode at has.has in
     ap (λ (i : Inode). blocks_of i.size) same ∙ ap blocks_of has.shows.size
+
+-- the map has as many blocks as free as the tree leaves
+pub free_in_tree : (disk : List (List ℕ)) (tree : Tree) → StandsFor disk tree → free_in_map disk ≡ free_blocks tree
+free_in_tree disk tree stands =
+    let table = has_table disk stands.sound in
+    let inodes : List Inode = table.0 in
+    let len : length inodes ≡ length tree.nodes = table.1.count ∙ ap table_nodes stands.blocks ∙ sym stands.count in
+    let used : sum_by (λ inode. blocks_of inode.size) inodes ≡ used_blocks tree = sum_same (λ inode. blocks_of inode.size) blocks_in inodes tree.nodes no_inode None len (λ k lt.
+    let has : HasInode disk (suc k) (get_or inodes k no_inode) = subst (λ (n : ℕ). HasInode disk n (get_or inodes k no_inode)) (let next : k + 1 ≡ suc k = omega arith in next) (table.1.each k no_inode lt) in
+    same_blocks disk (suc k) (get_or tree.nodes k None) (get_or inodes k no_inode) (stands.each (suc k) (omega arith) (omega (arith, lt, len, stands.count))) has) in
+    how_many_free disk inodes stands.sound table.1 ∙ ap (λ (n : ℕ). disks.free_blocks n inodes) stands.blocks ∙ ap (λ (n : ℕ). tree.blocks - 1 - table_end tree.blocks - n) used

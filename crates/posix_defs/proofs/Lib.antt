@@ -28,3 +28,4 @@ pub mod FileKeeps
 pub mod FoundAfter
 pub mod Ways
 pub mod PathLeads
+pub mod DiskStands

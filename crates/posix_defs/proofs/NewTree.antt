@@ -11,7 +11,7 @@ use Rattle.posix_defs.specs.DiskFormat.{table_end, table_nodes}
 use Rattle.posix_defs.specs.Tree.{Content, Directory, Node, Tree, root, node_at, is_directory, is_directory_in, links_at, links_in, entries_in, entries_at, parent_at, climbed, blocks_in, new_root_node, new_tree}
 use Rattle.posix_defs.specs.IsTree.{IsNode, IsTree, named_in, names_of, unnamed_links}
 
-none_in : (count place : ℕ) → get_or (replicate count (let none : Option Node = None in none)) place None ≡ None
+pub none_in : (count place : ℕ) → get_or (replicate count (let none : Option Node = None in none)) place None ≡ None
 none_in count place =
     elim (cases_lt place count) [
       | inl lt ↦ get_or-replicate count place None None lt

@@ -7,6 +7,7 @@
 mod blocks;
 mod dirs;
 mod disk_laws;
+mod disk_tree_laws;
 mod generator;
 mod laws;
 mod nodes;
@@ -28,6 +29,10 @@ pub use disk_laws::{
     a_directory_has_32_bytes_for_each_entry, a_formatted_disk_is_sound, a_name_leads_to_one_node,
     a_sound_disk_has_a_table, bytes_of_a_disk_say_one_thing,
     free_blocks_are_those_that_no_node_names, what_is_free_is_counted,
+};
+pub use disk_tree_laws::{
+    a_change_of_one_node_stands_for_the_changed_tree, a_new_disk_stands_for_the_new_tree,
+    free_blocks_of_the_disk_are_those_of_the_tree,
 };
 pub use generator::{choice_of, next_state};
 pub use laws::{

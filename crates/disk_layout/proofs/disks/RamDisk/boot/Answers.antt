@@ -3,6 +3,7 @@ use Rattle.std.proofs.lemmas.List.{ext_get_or}
 use Rattle.posix_defs.specs.DiskFormat.{inode_bytes}
 use Rattle.posix_defs.specs.DiskContents.{zeros, new_root}
 use Rattle.posix_defs.proofs.FormattedDisk.{new_is_sound, new_root_is_empty}
+use Rattle.posix_defs.proofs.DiskStands.{formatted_stands}
 use Rattle.disk_layout.proofs.NewDisk.{is_formatted, length-new_root, length-zeros}
 use Rattle.disk_layout.proofs.disks.RamDisk.boot.Goals as goal
 
@@ -22,3 +23,6 @@ returns-clause-sound c = new_is_sound c.args.blocks _ c.requires.0 c.requires.1 
 
 pub returns-clause-root : goal.returns-clause-root
 returns-clause-root c = new_root_is_empty c.args.blocks _ c.requires.0 c.requires.1 (returns-clause-formatted c)
+
+pub returns-clause-tree : goal.returns-clause-tree
+returns-clause-tree c = formatted_stands c.args.blocks _ c.requires.0 c.requires.1 (returns-clause-formatted c)
