@@ -7,7 +7,8 @@ use Rattle.std.proofs.lemmas.List.Sums.{AllPass-from_list_all}
 use Rattle.posix_defs.specs.Tree.{Content, File, Directory, SocketName, Tree, new_tree, found, is_directory}
 use Rattle.posix_defs.specs.TreeChanges.{make}
 use Rattle.posix_defs.specs.IsTree.{IsEntryName, IsTree}
-use Rattle.posix_defs.specs.Paths.{path_fault, resolve, last_name}
+use Rattle.kabi_types.specs.Arguments.{path_fault}
+use Rattle.posix_defs.specs.Paths.{resolve, last_name}
 use Rattle.posix_defs.proofs.PathLeads.{last_is_entry_name}
 use Rattle.posix_defs.proofs.NewTree.{new_is_tree}
 use Rattle.posix_defs.proofs.TreeKeeps.{make_keeps}

@@ -1,14 +1,13 @@
 ghost use Rattle.std.specs.Prelude.{◌≡◌, ◌≤◌, ◌∷◌, [], true, None, Some, IsTrue, IfOk, length};
-ghost use Rattle.std.specs.List.{list_any};
 ghost use Rattle.std.specs.Option.{option_map};
 ghost use Rattle.posix_defs.specs.DiskContents.{entry_for};
 ghost use Rattle.posix_defs.specs.Tree.{Directory, File, SocketName, is_directory};
-ghost use Rattle.posix_defs.specs.Paths.{components, is_long, path_fault};
+ghost use Rattle.kabi_types.specs.Arguments.{path_fault};
 ghost use Rattle.posix_defs.specs.NodeLists.{node_listed, tree_listed};
 ghost use Rattle.path_walk.specs.SmallTree.{small_tree};
 
 use crate::{Walked, walk};
-use kabi_types::{DirEntry, Errno, Name27};
+use kabi_types::{Call, DirEntry, Errno, Name27, Path};
 use posix_defs::{Listed, ListedNode, NodeList};
 use std::alloc::{AllocError, Global};
 use std::test::Fail;
@@ -98,15 +97,10 @@ fn small(alloc: Global) -> Result<NodeList, AllocError>
 fn passes(path: &[u8]) -> bool
     ensures { IsTrue result → path_fault path.now ≡ None }
 {
-    !path.is_empty() && !has_long_name(path)
-}
-
-fn has_long_name(path: &[u8]) -> bool
-    ensures { result ≡ list_any is_long (components path.now) }
-{
-    path.split(|byte| *byte == b'/')
-        .filter(|part| !part.is_empty())
-        .any(|name| name.len() > 27)
+    match Path::of(path) {
+        Some(path) => Call::Stat { path }.checked().is_ok(),
+        None => false,
+    }
 }
 
 /// Where a path leads in the small tree.
@@ -269,4 +263,12 @@ fn a_path_may_have_255_bytes(rt: HostRuntime) -> Result<(), Fail> {
     };
     assert!(rt; led(rt.alloc(), At::Bin, &path)? == expected);
     Ok(())
+}
+
+#[test]
+fn the_argument_check_comes_before_a_walk(rt: HostRuntime) {
+    assert!(rt; !passes(b""));
+    assert!(rt; passes(b"/abcdefghijklmnopqrstuvwxyza"));
+    assert!(rt; !passes(b"/abcdefghijklmnopqrstuvwxyzab"));
+    assert!(rt; !passes(b"bin/abcdefghijklmnopqrstuvwxyzab/.."));
 }

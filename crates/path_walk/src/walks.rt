@@ -2,7 +2,9 @@ ghost use Rattle.std.specs.Prelude.{◌≡◌, ◌∷◌, [], true, false, if◌
 ghost use Rattle.std.specs.List.{list_any};
 ghost use Rattle.posix_defs.specs.Asking.{AskedInTurn};
 ghost use Rattle.posix_defs.specs.Tree.{Tree, found, is_directory, is_in_use};
-ghost use Rattle.posix_defs.specs.Paths.{components, is_long, last_leads, leads, name_leads, path_fault, resolve, step};
+ghost use Rattle.kabi_types.specs.PathParts.{components, is_long};
+ghost use Rattle.kabi_types.specs.Arguments.{path_fault};
+ghost use Rattle.posix_defs.specs.Paths.{last_leads, leads, name_leads, resolve, step};
 ghost use Rattle.posix_defs.specs.Queries.{AskName, AskNode, asks, asks_kind, component_asks, queries_of};
 
 use crate::names::{begins_at_root, ends_at_slash, is_own, is_parent, split_name};

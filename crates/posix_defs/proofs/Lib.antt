@@ -29,3 +29,5 @@ pub mod FoundAfter
 pub mod Ways
 pub mod PathLeads
 pub mod DiskStands
+pub mod FileFits
+pub mod DiskNames

@@ -15,7 +15,9 @@ use Rattle.posix_defs.specs.DiskFormat.{IsName}
 use Rattle.posix_defs.specs.DiskContents.{own_name, parent_name}
 use Rattle.posix_defs.specs.Tree.{Tree, root, is_directory, parent_at, found}
 use Rattle.posix_defs.specs.IsTree.{IsEntryName, IsTree}
-use Rattle.posix_defs.specs.Paths.{is_slash, has_bytes, components, is_long, path_fault, begins_at, is_absolute, on_from, step, name_leads, last_leads, go_on, leads, ends_in_slash, resolve, IsLed, last_name}
+use Rattle.kabi_types.specs.PathParts.{is_slash, has_bytes, components, is_long}
+use Rattle.kabi_types.specs.Arguments.{path_fault}
+use Rattle.posix_defs.specs.Paths.{begins_at, is_absolute, on_from, step, name_leads, last_leads, go_on, leads, ends_in_slash, resolve, IsLed, last_name}
 use Rattle.posix_defs.proofs.TreeFacts.{step_to_directory}
 
 -- ---- what is there

@@ -4,7 +4,8 @@ use Rattle.std.specs.Str.{bytes_eq}
 use Rattle.kabi_types.specs.declared.errnos.Errno.{Errno}
 use Rattle.posix_defs.specs.DiskContents.{own_name, parent_name}
 use Rattle.posix_defs.specs.Tree.{Tree, found}
-use Rattle.posix_defs.specs.Paths.{components, ends_in_slash, begins_at, step}
+use Rattle.kabi_types.specs.PathParts.{components}
+use Rattle.posix_defs.specs.Paths.{ends_in_slash, begins_at, step}
 
 -- one question
 pub data Query : Type 0 where

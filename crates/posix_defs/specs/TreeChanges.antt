@@ -1,5 +1,5 @@
 -- The changes of a tree, each as one function, and what the calls on files make of them.
-use Rattle.std.specs.Prelude.{ℕ, zero, suc, ◌+◌, ◌-◌, ◌==◌, ◌≡◌, not, ◌&&◌, ◌||◌, Bool, true, false, if◌then◌else◌, List, [], ◌∷◌, ◌++◌, length, take, slice_index_or, slice_set, nat_lt, nat_le, Option, None, Some, Result, Ok, Err}
+use Rattle.std.specs.Prelude.{ℕ, zero, suc, ◌+◌, ◌-◌, ◌<◌, ◌==◌, ◌≡◌, not, ◌&&◌, ◌||◌, Bool, true, false, if◌then◌else◌, List, [], ◌∷◌, ◌++◌, length, take, slice_index_or, slice_set, nat_lt, nat_le, Option, None, Some, Result, Ok, Err}
 use Rattle.std.specs.List.{position_or_len, swap_remove}
 use Rattle.std.specs.Option.{option_map}
 use Rattle.kabi_types.specs.declared.errnos.Errno.{Errno}
@@ -97,6 +97,10 @@ with_bytes tree number change = with_content tree number (with_bytes_in change)
 -- how many blocks a node has or could have
 abbrev pub blocks_for : Tree → ℕ → ℕ
 blocks_for tree number = blocks_of (size_at tree number) + free_blocks tree
+
+-- a file of this size would take more blocks than that
+abbrev pub HasNoRoom : Tree → ℕ → ℕ → Type 0
+HasNoRoom tree number size = blocks_for tree number < blocks_of size
 
 -- bytes are written at a place: as many as there is room for, which are told with the tree after it
 abbrev pub write : Tree → ℕ → ℕ → List ℕ → Result (ℕ × Tree) Errno

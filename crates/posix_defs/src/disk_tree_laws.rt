@@ -1,10 +1,11 @@
 //! Laws of disks that stand for a tree. Each is the contract of a function that does nothing.
 
-ghost use Rattle.std.specs.Prelude.{◌≡◌, ℕ, ◌<◌, ◌≤◌, List, Option};
+ghost use Rattle.std.specs.Prelude.{◌≡◌, ◌≢◌, ℕ, ◌<◌, ◌≤◌, ◌↔◌, List, Option, Some};
 ghost use Rattle.posix_defs.specs.DiskFormat.{table_nodes};
 ghost use Rattle.posix_defs.specs.SoundDisk.{free_in_map};
-ghost use Rattle.posix_defs.specs.DiskContents.{IsFormatted};
-ghost use Rattle.posix_defs.specs.Tree.{Node, Tree, free_blocks, new_tree, with_node};
+ghost use Rattle.posix_defs.specs.DiskContents.{IsFormatted, own_name, parent_name};
+ghost use Rattle.posix_defs.specs.TrueCaches.{HasName};
+ghost use Rattle.posix_defs.specs.Tree.{Node, Tree, found, free_blocks, new_tree, with_node};
 ghost use Rattle.posix_defs.specs.DiskTree.{HasThere, StandsFor, ChangesNode};
 
 /// A new disk stands for the new tree.
@@ -21,4 +22,10 @@ pub fn a_change_of_one_node_stands_for_the_changed_tree()
 /// The map of a disk has as many blocks as free as the tree leaves.
 pub fn free_blocks_of_the_disk_are_those_of_the_tree()
     ensures { (disk : List (List ℕ)) (tree : Tree) → StandsFor disk tree → free_in_map disk ≡ free_blocks tree }
+{}
+
+/// What is found under a name of the tree is what a look on its disk finds; `.` and `..` have entries on the disk alone.
+pub fn names_of_the_disk_are_those_of_the_tree()
+    ensures { (disk : List (List ℕ)) (tree : Tree) (dir : ℕ) (name : List ℕ) (node : ℕ) → StandsFor disk tree → name ≢ own_name → name ≢ parent_name
+        → (found tree dir name ≡ Some node) ↔ HasName disk dir name node }
 {}

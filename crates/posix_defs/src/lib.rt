@@ -32,7 +32,7 @@ pub use disk_laws::{
 };
 pub use disk_tree_laws::{
     a_change_of_one_node_stands_for_the_changed_tree, a_new_disk_stands_for_the_new_tree,
-    free_blocks_of_the_disk_are_those_of_the_tree,
+    free_blocks_of_the_disk_are_those_of_the_tree, names_of_the_disk_are_those_of_the_tree,
 };
 pub use generator::{choice_of, next_state};
 pub use laws::{
@@ -56,7 +56,8 @@ pub use said::{AtTop, InProgram, Setting, Shape, Spoken, Stated, Word};
 pub use tree_laws::{
     a_changed_file_leaves_a_tree, a_further_name_leaves_a_tree, a_new_root_is_a_tree,
     a_removed_name_is_free, a_rename_over_a_name_moves_the_node,
-    a_rename_to_a_new_name_moves_the_node, what_is_made_is_found,
+    a_rename_to_a_new_name_moves_the_node, a_write_goes_as_far_as_there_is_room,
+    what_is_made_is_found,
 };
 pub use turner::{Turned, Turner};
 pub use walked::Walked;

@@ -6,7 +6,8 @@ ghost use Rattle.posix_defs.specs.DiskContents.{own_name, parent_name};
 ghost use Rattle.posix_defs.specs.Tree.{Tree, climbed, is_directory, parent_at, root};
 ghost use Rattle.posix_defs.specs.TreeChanges.{IsAtOrAbove, is_at_or_above};
 ghost use Rattle.posix_defs.specs.IsTree.{IsEntryName, IsTree};
-ghost use Rattle.posix_defs.specs.Paths.{IsLed, last_name, path_fault, resolve, step};
+ghost use Rattle.kabi_types.specs.Arguments.{path_fault};
+ghost use Rattle.posix_defs.specs.Paths.{IsLed, last_name, resolve, step};
 
 /// Where a path leads is there. Its faults are ENOENT and ENOTDIR alone.
 pub fn a_path_leads_to_what_is_there()

@@ -1,9 +1,11 @@
 //! Laws of the tree of files. Each is the contract of a function that does nothing.
 
-ghost use Rattle.std.specs.Prelude.{◌≡◌, ◌≢◌, ℕ, ◌^◌, ◌<◌, ◌≤◌, Bool, true, false, List, [], None, Some, Ok};
+ghost use Rattle.std.specs.Prelude.{◌≡◌, ◌≢◌, ℕ, ◌+◌, ◌^◌, ◌<◌, ◌≤◌, Bool, true, false, List, [], None, Some, Ok, Err, length};
 ghost use Rattle.std.specs.List.{All};
+ghost use Rattle.kabi_types.specs.declared.errnos.Errno.TheVariants.{EFBIG, ENOSPC};
+ghost use Rattle.posix_defs.specs.DiskFormat.{greatest_size};
 ghost use Rattle.posix_defs.specs.Tree.{Content, File, Tree, entries_at, found, is_directory, is_in_use, new_tree, node_at};
-ghost use Rattle.posix_defs.specs.TreeChanges.{IsAtOrAbove, closed, link, make, rename_over, rename_to, resize, takes_entry, unlink, write};
+ghost use Rattle.posix_defs.specs.TreeChanges.{HasNoRoom, IsAtOrAbove, closed, link, make, rename_over, rename_to, resize, takes_entry, unlink, write};
 ghost use Rattle.posix_defs.specs.IsTree.{IsEntryName, IsNewContent, IsTree};
 
 /// A disk's new root stands alone in a tree.
@@ -77,4 +79,15 @@ pub fn a_changed_file_leaves_a_tree()
     ensures sized { (tree : Tree) (number links size : ℕ) (old : List ℕ) (after : Tree) → IsTree tree
         → node_at tree number ≡ Some (record { links = links; content = File old }) → resize tree number size ≡ Ok after → IsTree after }
     ensures closed { (tree : Tree) (number : ℕ) → IsTree tree → is_in_use tree number ≡ true → IsTree (closed tree number) }
+{}
+
+/// A write moves the most bytes for which the blocks of the new size are there: more of them would take blocks that
+/// aren't, or pass the greatest size. ENOSPC comes where not even one fits, and EFBIG behind the greatest size.
+pub fn a_write_goes_as_far_as_there_is_room()
+    ensures far { (tree : Tree) (number at : ℕ) (bytes : List ℕ) (count : ℕ) (after : Tree) → write tree number at bytes ≡ Ok (count, after)
+        → (0 < count) × (count ≤ length bytes)
+        × ((more : ℕ) → count < more → more ≤ length bytes → at + more ≤ greatest_size → HasNoRoom tree number (at + more)) }
+    ensures none { (tree : Tree) (number at : ℕ) (bytes : List ℕ) → write tree number at bytes ≡ Err ENOSPC
+        → (at < greatest_size) × ((more : ℕ) → 0 < more → more ≤ length bytes → at + more ≤ greatest_size → HasNoRoom tree number (at + more)) }
+    ensures big { (tree : Tree) (number at : ℕ) (bytes : List ℕ) → write tree number at bytes ≡ Err EFBIG → greatest_size ≤ at }
 {}

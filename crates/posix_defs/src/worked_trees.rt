@@ -9,7 +9,8 @@ ghost use Rattle.posix_defs.specs.DiskContents.{entry_for};
 ghost use Rattle.posix_defs.specs.FileBytes.{capacity, fitting, overwritten, resized};
 ghost use Rattle.posix_defs.specs.Tree.{File, entries_at, free_blocks, free_node, links_at, new_tree, parent_at};
 ghost use Rattle.posix_defs.specs.TreeChanges.{closed, is_at_or_above, make, rename_over, rename_to, resize, unlink, write};
-ghost use Rattle.posix_defs.specs.Paths.{path_fault, resolve};
+ghost use Rattle.kabi_types.specs.Arguments.{path_fault};
+ghost use Rattle.posix_defs.specs.Paths.{resolve};
 ghost use Rattle.posix_defs.specs.WorkedTrees.{one_file, four_files, three_directories};
 
 /// How many blocks a size takes, and what so many blocks hold: beyond ten there is a block of pointers.

@@ -2,7 +2,8 @@ use Rattle.std.proofs.Common.{◌≡◌, ◌∷◌, ◌++◌, true, List, ℕ, O
 use Rattle.std.specs.List.{list_any}
 use Rattle.std.proofs.lemmas.Bool.{or_parts}
 use Rattle.posix_defs.specs.Asking.{AskedInTurn}
-use Rattle.posix_defs.specs.Paths.{components, is_long, leads, step}
+use Rattle.kabi_types.specs.PathParts.{components, is_long}
+use Rattle.posix_defs.specs.Paths.{leads, step}
 use Rattle.posix_defs.specs.Queries.{Query, asks, component_asks}
 use Rattle.posix_defs.proofs.TreeFacts.{step_to_directory}
 use Rattle.path_walk.proofs.Steps.{asked_append, leads_on, asks_on}
