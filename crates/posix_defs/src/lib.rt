@@ -36,10 +36,10 @@ pub use disk_tree_laws::{
 };
 pub use generator::{choice_of, next_state};
 pub use laws::{
-    a_picked_run_is_a_run, charged_stays_within_the_heap, entries_are_a_legal_history, events_are_listed_where_they_may_be_taken,
-    no_reply_wants_memory, nothing_else_is_its_run, refusals_stand_above_the_room,
-    something_can_be_taken, the_first_script_runs, the_generator_is_this_one,
-    what_is_picked_is_enabled,
+    a_picked_run_is_a_run, charged_stays_within_the_heap, entries_are_a_legal_history,
+    events_are_listed_where_they_may_be_taken, no_reply_wants_memory, nothing_else_is_its_run,
+    refusals_stand_above_the_room, something_can_be_taken, the_first_script_runs,
+    the_generator_is_this_one, what_is_picked_is_enabled,
 };
 pub use nodes::{Listed, ListedNode, NodeList};
 pub use path_laws::{
