@@ -1,15 +1,13 @@
 -- Ways up to the root, and who names a directory.
-use Rattle.std.proofs.Common.{◌≡◌, ◌≢◌, ℕ, zero, suc, ◌+◌, ◌-◌, ◌<◌, ◌≤◌, Bool, true, false, cond, ◌⊎◌, inl, inr, List, [], ◌∷◌, length, get_or, eqb, Option, Some, None, refl, sym, ap, subst, ◌∙◌, arith}
-use Rattle.std.specs.List.{sum_by, count_by, Contains}
-use Rattle.std.proofs.lemmas.Bool.{cases_Bool, cases_eq, cases_lt, false≢true, eqb-true, eq-eqb, ne_eqb}
-use Rattle.std.proofs.lemmas.List.{get_or_default}
+use Rattle.std.proofs.Common.{◌≡◌, ◌≢◌, ℕ, zero, suc, ◌<◌, Bool, true, false, cond, inl, inr, List, [], ◌∷◌, length, get_or, None, refl, sym, ap, subst, ◌∙◌, arith}
+use Rattle.std.specs.List.{sum_by, Contains}
+use Rattle.std.proofs.lemmas.Bool.{cases_eq, cases_lt, eqb-true, ne_eqb}
 use Rattle.std.proofs.lemmas.List.Sums.{sum_by-cons}
 use Rattle.std.proofs.lemmas.List.Elements.{Contains-get_or}
 use Rattle.kabi_types.specs.declared.inodes.DirEntry.{DirEntry}
-use Rattle.posix_defs.specs.Tree.{Content, Directory, Node, Tree, root, node_at, is_directory, links_at, links_in, entries_in, entries_at, parent_at, parent_in, climbed}
+use Rattle.posix_defs.specs.Tree.{Tree, root, node_at, is_directory, links_at, entries_in, entries_at, parent_at, climbed}
 use Rattle.posix_defs.specs.TreeChanges.{no_entry}
-use Rattle.posix_defs.specs.IsTree.{IsNode, IsTree, names_node, named_in, names_of, unnamed_links}
-use Rattle.posix_defs.proofs.EntryLists.{count_of}
+use Rattle.posix_defs.specs.IsTree.{IsTree, names_node, named_in, names_of, unnamed_links}
 use Rattle.posix_defs.proofs.TreeSteps.{directory_is}
 
 -- ---- ways up

@@ -1,17 +1,15 @@
 -- When a disk stands for a tree: a new disk, and one that changed at one node.
-use Rattle.std.proofs.Common.{◌≡◌, ◌≢◌, ℕ, zero, suc, ◌+◌, ◌-◌, ◌*◌, ◌/◌, ◌<◌, ◌≤◌, ◌⊎◌, inl, inr, List, [], ◌∷◌, length, get_or, replicate, Option, Some, None, refl, sym, ap, subst, ◌∙◌, arith}
+use Rattle.std.proofs.Common.{◌≡◌, ◌≢◌, ℕ, zero, suc, ◌+◌, ◌-◌, ◌<◌, ◌≤◌, inl, inr, List, [], ◌∷◌, length, get_or, Option, Some, None, refl, sym, ap, subst, ◌∙◌, arith}
 use Rattle.std.specs.List.{sum_by}
-use Rattle.std.proofs.lemmas.Bool.{cases_eq, cases_lt}
-use Rattle.std.proofs.lemmas.Option.{none-some, same_Some}
-use Rattle.std.proofs.lemmas.List.{length-replicate, get_or-replicate, get_or_past}
+use Rattle.std.proofs.lemmas.Bool.{cases_eq}
+use Rattle.std.proofs.lemmas.List.{length-replicate}
 use Rattle.std.proofs.lemmas.List.Sums.{sum_by-cons}
 use Rattle.kabi_types.specs.declared.inodes.Inode.{Inode}
-use Rattle.kabi_types.specs.declared.inodes.DirEntry.{DirEntry}
 use Rattle.posix_defs.specs.DiskFormat.{table_end, table_nodes, blocks_of}
 use Rattle.posix_defs.specs.SoundDisk as disks
 use Rattle.posix_defs.specs.SoundDisk.{HasInode, IsFreeNode, IsTable, Sound, free_in_map}
-use Rattle.posix_defs.specs.DiskContents.{node_bytes, HasEntries, IsFormatted, entry_for, own_name, parent_name, new_root}
-use Rattle.posix_defs.specs.Tree.{Content, File, Directory, SocketName, Node, Tree, root, node_at, with_node, new_tree, new_root_node, size_in, blocks_in, used_blocks, free_blocks}
+use Rattle.posix_defs.specs.DiskContents.{node_bytes, IsFormatted, new_root}
+use Rattle.posix_defs.specs.Tree.{Content, File, Directory, SocketName, Node, Tree, root, node_at, with_node, new_tree, new_root_node, blocks_in, used_blocks, free_blocks}
 use Rattle.posix_defs.specs.DiskTree.{HasContent, HasNodeOf, HasThere, StandsFor, ChangesNode}
 use Rattle.posix_defs.proofs.TreeNodes.{IsNumber, node_at-with_node, node_at-with_node_other, blocks-with_node, length-with_node}
 use Rattle.posix_defs.proofs.FormattedDisk.{no_inode, no_kind, new_node, one_inode, new_is_sound, new_root_is_empty}

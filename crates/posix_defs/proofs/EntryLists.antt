@@ -1,13 +1,12 @@
 -- The entries of a directory under the changes of one entry: which there are, what names them, and how many name a node.
-use Rattle.std.proofs.Common.{◌≡◌, ◌≢◌, ℕ, zero, suc, ◌+◌, ◌-◌, ◌<◌, ◌≤◌, Bool, true, false, cond, not, ◌⊎◌, inl, inr, List, [], ◌∷◌, ◌++◌, length, get_or, set, take, eqb, ltb, Option, Some, None, refl, sym, ap, subst, ◌∙◌, arith, slice_get}
-use Rattle.std.specs.Str.{bytes_eq}
+use Rattle.std.proofs.Common.{◌≡◌, ◌≢◌, ℕ, ◌+◌, ◌-◌, ◌<◌, Bool, true, cond, ◌⊎◌, inl, inr, List, length, get_or, set, take, eqb, Some, None, sym, ap, subst, ◌∙◌, arith, slice_get}
 use Rattle.std.specs.Option.{option_map}
-use Rattle.std.specs.List.{find, sum_by, count_by, All, AllPairs, Contains, position_or_len, swap_remove}
-use Rattle.std.proofs.lemmas.Bool.{cases_Bool, cond-true, cond-false, false≢true, eq-eqb, cases_lt, cases_eq, cases_order, cond_both, ne_eqb}
+use Rattle.std.specs.List.{count_by, AllPairs, Contains, swap_remove}
+use Rattle.std.proofs.lemmas.Bool.{false≢true, eq-eqb, cases_lt, cases_eq, cases_order, cond_both, ne_eqb}
 use Rattle.std.proofs.lemmas.Slice.Eq.{bytes_eq-Decides}
-use Rattle.std.proofs.lemmas.Option.{same_Some, none-some, slice_get_past, slice_get-get_or, slice_get_within}
-use Rattle.std.proofs.lemmas.List.{get_or_past, get_or_default, length-set, length_push, get_or_append_left, get_or_push, get_or-set_same, get_or-set_other, get_or-take, length-take-le}
-use Rattle.std.proofs.lemmas.List.Sums.{sum_by_push, sum_by-set, sum_by-swap_remove, passes_at_first, fails_before_first, prefix_len-le-length}
+use Rattle.std.proofs.lemmas.Option.{same_Some, none-some, slice_get_past, slice_get-get_or}
+use Rattle.std.proofs.lemmas.List.{get_or_default, length-set, length_push, get_or-set_same, get_or-set_other, get_or-take, length-take-le}
+use Rattle.std.proofs.lemmas.List.Sums.{sum_by_push, sum_by-set, sum_by-swap_remove, passes_at_first, fails_before_first}
 use Rattle.std.proofs.lemmas.List.Folds.{find_at}
 use Rattle.std.proofs.lemmas.List.Elements.{All-push, All-set, All-take, Contains-get_or}
 use Rattle.std.proofs.lemmas.List.Quantifiers.{all_pairs_push}

@@ -1,13 +1,12 @@
 -- A write goes as far as there is room.
-use Rattle.std.proofs.Common.{◌≡◌, ◌≢◌, ℕ, zero, suc, ◌+◌, ◌-◌, ◌<◌, ◌≤◌, min, Bool, true, false, cond, ◌⊎◌, inl, inr, List, length, take, eqb, leb, Result, Ok, Err, refl, sym, ap, subst, ◌∙◌, arith}
+use Rattle.std.proofs.Common.{◌≡◌, ℕ, ◌+◌, ◌<◌, ◌≤◌, cond, inl, inr, List, length, take, eqb, leb, Result, Ok, Err, sym, ◌∙◌, arith}
 use Rattle.std.proofs.lemmas.Bool.{cases_Bool, cases_lt, cond-true, cond-false, eqb-true, leb-true, leb-false}
 use Rattle.kabi_types.specs.declared.errnos.Errno.{Errno}
 use Rattle.kabi_types.specs.declared.errnos.Errno.TheVariants.{EFBIG, ENOSPC}
 use Rattle.posix_defs.specs.DiskFormat.{greatest_size, blocks_of}
-use Rattle.posix_defs.specs.FileBytes.{capacity, fitting, overwritten}
+use Rattle.posix_defs.specs.FileBytes.{fitting, overwritten}
 use Rattle.posix_defs.specs.Tree.{Tree}
 use Rattle.posix_defs.specs.TreeChanges.{blocks_for, with_bytes, write, HasNoRoom}
-use Rattle.posix_defs.proofs.TreeKeeps.{err-ok}
 use Rattle.posix_defs.proofs.FileKeeps.{wrote}
 use Rattle.posix_defs.proofs.FileRoom.{fits_capacity}
 

@@ -1,5 +1,5 @@
 -- A write, a change of a file's size and a further name leave a tree.
-use Rattle.std.proofs.Common.{◌≡◌, ◌≢◌, ℕ, zero, suc, ◌+◌, ◌-◌, ◌*◌, ◌^◌, ◌<◌, ◌≤◌, min, Bool, true, false, cond, ◌⊎◌, inl, inr, List, [], ◌∷◌, length, take, eqb, ltb, leb, Option, Some, None, is_some, Result, Ok, Err, refl, sym, ap, subst, ◌∙◌, arith, length-take}
+use Rattle.std.proofs.Common.{◌≡◌, ◌≢◌, ℕ, ◌+◌, ◌*◌, ◌^◌, ◌<◌, ◌≤◌, true, false, cond, inl, inr, List, length, take, eqb, ltb, leb, Option, Some, None, is_some, Result, Ok, Err, refl, sym, ap, subst, ◌∙◌, arith, length-take}
 use Rattle.std.specs.Option.{option_map}
 use Rattle.std.specs.List.{All, Contains}
 use Rattle.std.proofs.lemmas.Bool.{cases_Bool, cases_eq, cond-true, cond-false, false≢true, ltb-false, leb-false, eqb-false}
@@ -11,10 +11,10 @@ use Rattle.kabi_types.specs.declared.inodes.DirEntry.{DirEntry}
 use Rattle.posix_defs.specs.DiskFormat.{greatest_size, table_end, table_nodes, blocks_of}
 use Rattle.posix_defs.specs.DiskContents.{entry_for}
 use Rattle.posix_defs.specs.FileBytes.{resized, overwritten, capacity, fitting}
-use Rattle.posix_defs.specs.Tree.{Content, File, Node, Tree, root, node_at, with_node, is_in_use, is_directory, is_directory_in, links_at, links_in, entries_in, entries_at, parent_in, parent_at, size_at, size_in, blocks_in, used_blocks, found}
+use Rattle.posix_defs.specs.Tree.{File, Node, Tree, root, node_at, with_node, is_in_use, is_directory, is_directory_in, links_at, links_in, entries_in, entries_at, parent_in, parent_at, size_at, size_in, blocks_in, used_blocks, found}
 use Rattle.posix_defs.specs.TreeChanges.{entry_put, with_bytes, with_bytes_in, blocks_for, with_entries, link_added, takes_entry, most_links, write, resize, link}
 use Rattle.posix_defs.specs.IsTree.{IsEntryName, IsNode, IsTree, names_of}
-use Rattle.posix_defs.proofs.TreeNodes.{IsNumber, is_number, node_at-with_node, node_at-with_node_other, seen_same, summed, summed_same}
+use Rattle.posix_defs.proofs.TreeNodes.{is_number, node_at-with_node, node_at-with_node_other, seen_same, summed, summed_same}
 use Rattle.posix_defs.proofs.EntryLists.{count_of, one_at, count-put, length-put, put_are}
 use Rattle.posix_defs.proofs.TreeSteps.{AreNodes, nodes-with_node, Relisted, relisted, SameDirectories, same_directories, one_here, one_off, node_of}
 use Rattle.posix_defs.proofs.Climbing.{KeepsParent, climbed_same}

@@ -1,16 +1,16 @@
 -- What is found after a node was made, a name went, or a rename.
-use Rattle.std.proofs.Common.{◌≡◌, ◌≢◌, ℕ, Bool, true, false, cond, ◌⊎◌, inl, inr, List, [], ◌∷◌, eqb, Option, Some, None, Ok, refl, sym, ap, subst, ◌∙◌}
+use Rattle.std.proofs.Common.{◌≡◌, ◌≢◌, ℕ, Bool, true, false, inl, inr, List, [], eqb, Option, Some, None, Ok, sym, ap, subst, ◌∙◌}
 use Rattle.std.proofs.lemmas.Bool.{cases_eq, cond-true, cond-false, false≢true, eq-eqb, ne_eqb}
 use Rattle.std.proofs.lemmas.Option.{same_Some, none-some}
 use Rattle.kabi_types.specs.declared.inodes.DirEntry.{DirEntry}
-use Rattle.posix_defs.specs.Tree.{Content, Node, Tree, node_at, with_node, is_directory, is_directory_in, entries_in, entries_at, found, found_among}
+use Rattle.posix_defs.specs.Tree.{Content, Tree, node_at, with_node, is_directory, is_directory_in, entries_in, entries_at, found, found_among}
 use Rattle.posix_defs.specs.TreeChanges.{entry_put, entry_taken, entry_aimed, entry_renamed, with_entries, with_new, make, unlink, hung_if_directory, rename_over, rename_to}
 use Rattle.posix_defs.specs.IsTree.{IsEntryName, IsNewContent, IsTree}
 use Rattle.posix_defs.proofs.EntryLists.{StandsAt, stands_at, renamed_are}
 use Rattle.posix_defs.proofs.FoundNames.{found-put, found-taken, found-taken_other, found-aimed, found-renamed, found-renamed_old}
-use Rattle.posix_defs.proofs.TreeSteps.{Relisted, relisted, added, hung_is}
+use Rattle.posix_defs.proofs.TreeSteps.{relisted, added, hung_is}
 use Rattle.posix_defs.proofs.TreeKeeps.{entries_are, found_in_directory, free_is, made_is, new_entries_none, unlinked}
-use Rattle.posix_defs.proofs.TreeRenames.{aimed_list, aimed_stands, renamed_over}
+use Rattle.posix_defs.proofs.TreeRenames.{aimed_list, renamed_over}
 
 abbrev name_in : List ℕ → List DirEntry → Option ℕ
 name_in name entries = found_among entries name

@@ -1,11 +1,11 @@
 -- What a list of nodes has under a number.
-use Rattle.std.proofs.Common.{◌≡◌, ℕ, zero, suc, ◌-◌, ◌<◌, Bool, true, false, List, length, get_or, map, Option, Some, None, refl, sym, ap, ◌∙◌, arith}
+use Rattle.std.proofs.Common.{◌≡◌, ℕ, zero, suc, ◌-◌, ◌<◌, true, length, get_or, Option, None, sym, ap, ◌∙◌, arith}
 use Rattle.std.specs.Option.{option_map}
 use Rattle.std.proofs.lemmas.Bool.{false≢true}
 use Rattle.std.proofs.lemmas.List.{get_or-map, length-map}
 use Rattle.posix_defs.specs.declared.nodes.ListedNode.{ListedNode}
 use Rattle.posix_defs.specs.declared.nodes.NodeList.{NodeList}
-use Rattle.posix_defs.specs.Tree.{Node, node_at, is_in_use}
+use Rattle.posix_defs.specs.Tree.{node_at, is_in_use}
 use Rattle.posix_defs.specs.NodeLists.{node_listed, tree_listed}
 use Rattle.posix_defs.proofs.TreeNodes.{is_number}
 

@@ -1,14 +1,13 @@
 -- The new tree is a tree.
-use Rattle.std.proofs.Common.{◌≡◌, ◌≢◌, ℕ, zero, suc, ◌+◌, ◌-◌, ◌*◌, ◌/◌, ◌<◌, ◌≤◌, Bool, true, false, cond, ◌⊎◌, inl, inr, List, [], ◌∷◌, length, get_or, replicate, eqb, Option, Some, None, refl, sym, ap, subst, ◌∙◌, arith}
-use Rattle.std.specs.List.{sum_by, Contains}
+use Rattle.std.proofs.Common.{◌≡◌, ℕ, zero, suc, ◌+◌, ◌-◌, ◌*◌, ◌≤◌, Bool, true, cond, ◌⊎◌, inl, inr, [], length, get_or, replicate, Option, Some, None, refl, sym, ap, subst, ◌∙◌, arith}
+use Rattle.std.specs.List.{sum_by}
 use Rattle.std.proofs.lemmas.Bool.{cases_lt, false≢true, ne_eqb}
 use Rattle.std.proofs.lemmas.Option.{same_Some, none-some}
 use Rattle.std.proofs.lemmas.List.{length-replicate, get_or-replicate, get_or_past}
 use Rattle.std.proofs.lemmas.List.Sums.{sum_by-cons}
 use Rattle.std.proofs.lemmas.List.Folds.{sum_by-replicate}
-use Rattle.kabi_types.specs.declared.inodes.DirEntry.{DirEntry}
-use Rattle.posix_defs.specs.DiskFormat.{table_end, table_nodes}
-use Rattle.posix_defs.specs.Tree.{Content, Directory, Node, Tree, root, node_at, is_directory, is_directory_in, links_at, links_in, entries_in, entries_at, parent_at, climbed, blocks_in, new_root_node, new_tree}
+use Rattle.posix_defs.specs.DiskFormat.{table_nodes}
+use Rattle.posix_defs.specs.Tree.{Node, root, node_at, is_directory, is_directory_in, links_at, links_in, entries_in, entries_at, parent_at, blocks_in, new_root_node, new_tree}
 use Rattle.posix_defs.specs.IsTree.{IsNode, IsTree, named_in, names_of, unnamed_links}
 
 pub none_in : (count place : ℕ) → get_or (replicate count (let none : Option Node = None in none)) place None ≡ None

@@ -1,19 +1,18 @@
 -- What follows of a tree: what an entry names is in use, and who is a directory's parent.
-use Rattle.std.proofs.Common.{◌≡◌, ◌≢◌, ℕ, zero, suc, ◌+◌, ◌-◌, ◌<◌, ◌≤◌, Bool, true, false, cond, not, ◌⊎◌, inl, inr, List, [], ◌∷◌, length, get_or, eqb, Option, Some, None, is_some, Result, Ok, Err, refl, sym, ap, subst, ◌∙◌, arith, if◌then◌else◌, ◌==◌}
+use Rattle.std.proofs.Common.{◌≡◌, ℕ, zero, suc, ◌<◌, ◌≤◌, Bool, true, cond, inl, inr, List, [], ◌∷◌, length, Option, Some, None, is_some, Result, Ok, refl, sym, ap, subst, ◌∙◌, arith, if◌then◌else◌}
 use Rattle.std.specs.Str.{bytes_eq}
 use Rattle.std.specs.Option.{option_map}
-use Rattle.std.specs.List.{find, sum_by, count_by}
-use Rattle.std.proofs.lemmas.Bool.{cases_Bool, cond-true, cond-false, false≢true, eq-eqb, cases_lt}
+use Rattle.std.specs.List.{find, count_by}
+use Rattle.std.proofs.lemmas.Bool.{cases_Bool, cond-true, cond-false, eq-eqb, cases_lt}
 use Rattle.std.proofs.lemmas.Option.{same_Some, none-some}
 use Rattle.std.proofs.lemmas.List.{get_or_past}
 use Rattle.std.proofs.lemmas.List.Sums.{sum_by-cons, get_or-le-sum_by}
 use Rattle.kabi_types.specs.declared.errnos.Errno.{Errno}
 use Rattle.kabi_types.specs.declared.inodes.DirEntry.{DirEntry}
 use Rattle.posix_defs.specs.DiskContents.{own_name, parent_name}
-use Rattle.posix_defs.specs.Tree.{Content, Node, Tree, root, node_at, links_at, links_in, is_in_use, is_directory, is_directory_in, entries_in, entries_at, parent_at, has_name, found_among, found}
-use Rattle.posix_defs.specs.IsTree.{IsTree, names_node, named_in, names_of, unnamed_links}
+use Rattle.posix_defs.specs.Tree.{Node, Tree, node_at, links_in, is_in_use, is_directory, entries_at, parent_at, has_name, found_among, found}
+use Rattle.posix_defs.specs.IsTree.{IsTree, names_node, named_in, names_of}
 use Rattle.posix_defs.specs.Paths.{on_from, step}
-use Rattle.posix_defs.proofs.TreeNodes.{IsNumber, is_number, directory_number}
 
 abbrev one : Bool → ℕ
 one b = cond b 1 0

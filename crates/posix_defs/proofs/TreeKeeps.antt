@@ -1,8 +1,8 @@
 -- What is reached from a tree by a call on files is a tree.
-use Rattle.std.proofs.Common.{◌≡◌, ◌≢◌, ℕ, zero, suc, ◌+◌, ◌-◌, ◌*◌, ◌/◌, ◌<◌, ◌≤◌, Bool, true, false, cond, not, ◌&&◌, ◌⊎◌, inl, inr, List, [], ◌∷◌, ◌++◌, length, get_or, set, eqb, ltb, leb, Option, Some, None, is_some, is_none, Result, Ok, Err, refl, sym, ap, subst, ◌∙◌, arith, ◌==◌, if◌then◌else◌, add-zero}
-use Rattle.std.specs.List.{sum_by, count_by, Contains, position_from}
+use Rattle.std.proofs.Common.{◌≡◌, ◌≢◌, ℕ, zero, suc, ◌+◌, ◌*◌, ◌/◌, ◌<◌, ◌≤◌, Bool, true, false, cond, inl, inr, List, [], ◌∷◌, length, get_or, eqb, ltb, leb, Option, Some, None, is_none, Result, Ok, Err, refl, sym, ap, subst, ◌∙◌, arith, add-zero}
+use Rattle.std.specs.List.{Contains, position_from}
 use Rattle.std.proofs.lemmas.List.Sums.{get_or-le-sum_by}
-use Rattle.std.proofs.lemmas.Bool.{cases_Bool, cond-true, cond-false, false≢true, eq-eqb, ne_eqb, cases_lt, cases_eq, ltb-true, leb-true, lt-ltb, and_parts, eqb-true, false_from_ne_true}
+use Rattle.std.proofs.lemmas.Bool.{cases_Bool, cond-true, cond-false, false≢true, cases_eq, ltb-true, leb-true, lt-ltb, and_parts, eqb-true, false_from_ne_true}
 use Rattle.std.proofs.lemmas.Option.{same_Some, none-some}
 use Rattle.std.proofs.lemmas.List.Elements.{Contains-push_cases}
 use Rattle.kabi_types.specs.declared.errnos.Errno.{Errno}
@@ -10,12 +10,12 @@ use Rattle.kabi_types.specs.declared.inodes.DirEntry.{DirEntry}
 use Rattle.posix_defs.specs.DiskFormat.{greatest_size, table_end, table_nodes, blocks_of}
 use Rattle.posix_defs.specs.DiskContents.{entry_for}
 use Rattle.posix_defs.specs.Tree.{Content, File, Directory, SocketName, Node, Tree, root, node_at, with_node, is_in_use, is_directory, is_directory_in, is_directory_content, links_in, links_at, entries_of, entries_in, entries_at, parent_of, parent_in, parent_at, size_of, size_in, size_at, blocks_in, used_blocks, free_blocks, free_node, found, found_among, climbed}
-use Rattle.posix_defs.specs.TreeChanges.{entry_put, entry_taken, entry_aimed, entry_renamed, with_entries, with_new, make, make_at, takes_entry, entry_growth, link_dropped, unlink, closed}
-use Rattle.posix_defs.specs.IsTree.{AreEntries, IsEntryName, IsNewContent, IsNode, IsTree, names_node, names_of, unnamed_links}
+use Rattle.posix_defs.specs.TreeChanges.{entry_put, entry_taken, with_entries, with_new, make, make_at, takes_entry, entry_growth, unlink, closed}
+use Rattle.posix_defs.specs.IsTree.{AreEntries, IsEntryName, IsNewContent, IsNode, IsTree, names_node, names_of}
 use Rattle.posix_defs.proofs.TreeNodes.{IsNumber, is_number, seen_same, summed}
-use Rattle.posix_defs.proofs.TreeFacts.{linked_in_use, found_in_use, found_counts, named_at-le}
-use Rattle.posix_defs.proofs.EntryLists.{count_of, one_at, StandsAt, stands_at, count-put, length-put, put_are, count-taken, length-taken, taken_are, taken_among, set_among, count-aimed, aimed_are, count-renamed, renamed_are}
-use Rattle.posix_defs.proofs.TreeSteps.{AreNodes, nodes-with_node, directory_is, Relisted, relisted, Dropped, dropped, one_here, one_off, node_of, Added, added, SameDirectories, same_directories}
+use Rattle.posix_defs.proofs.TreeFacts.{linked_in_use, found_counts, named_at-le}
+use Rattle.posix_defs.proofs.EntryLists.{count_of, one_at, stands_at, count-put, length-put, put_are, count-taken, length-taken, taken_are, taken_among}
+use Rattle.posix_defs.proofs.TreeSteps.{AreNodes, nodes-with_node, directory_is, Relisted, relisted, Dropped, dropped, one_here, Added, added, SameDirectories, same_directories}
 use Rattle.posix_defs.proofs.Climbing.{IsOff, KeepsParent, climbed_same, climbed_off, climbs_moved, parent_has_entry, one_link, root_unnamed}
 
 -- ---- what a tree says of one directory

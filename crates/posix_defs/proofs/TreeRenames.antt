@@ -1,5 +1,5 @@
 -- A rename leaves a tree.
-use Rattle.std.proofs.Common.{◌≡◌, ◌≢◌, ℕ, zero, suc, ◌+◌, ◌-◌, ◌*◌, ◌<◌, ◌≤◌, Bool, true, false, cond, ◌⊎◌, inl, inr, List, [], ◌∷◌, length, get_or, eqb, Option, Some, None, refl, sym, ap, subst, ◌∙◌, arith}
+use Rattle.std.proofs.Common.{◌≡◌, ◌≢◌, ℕ, ◌+◌, ◌*◌, ◌<◌, ◌≤◌, Bool, true, false, cond, ◌⊎◌, inl, inr, List, [], length, get_or, eqb, Some, None, refl, sym, ap, subst, ◌∙◌, arith}
 use Rattle.std.specs.Str.{bytes_eq}
 use Rattle.std.specs.List.{Contains}
 use Rattle.std.proofs.lemmas.List.{length-set, get_or-set_other}
@@ -8,16 +8,15 @@ use Rattle.std.proofs.lemmas.Bool.{cases_Bool, cases_eq, cond-true, cond-false, 
 use Rattle.std.proofs.lemmas.Option.{none-some}
 use Rattle.std.proofs.lemmas.List.Elements.{Contains-get_or, Contains-push_cases}
 use Rattle.kabi_types.specs.declared.inodes.DirEntry.{DirEntry}
-use Rattle.posix_defs.specs.DiskFormat.{greatest_size, table_end, table_nodes, blocks_of}
+use Rattle.posix_defs.specs.DiskFormat.{table_end, table_nodes, blocks_of}
 use Rattle.posix_defs.specs.DiskContents.{entry_for}
-use Rattle.posix_defs.specs.Tree.{Node, Tree, root, node_at, is_in_use, is_directory, is_directory_in, links_at, links_in, entries_in, entries_at, parent_in, parent_at, size_at, size_in, used_blocks, has_name, found, found_among, climbed}
+use Rattle.posix_defs.specs.Tree.{Tree, root, node_at, is_directory, is_directory_in, links_at, entries_in, entries_at, parent_in, parent_at, size_at, used_blocks, has_name, found, found_among}
 use Rattle.posix_defs.specs.TreeChanges.{place_of, no_entry, entry_put, entry_taken, entry_aimed, entry_renamed, with_entries, link_dropped, hung_if_directory, rename_over, rename_to, takes_entry}
-use Rattle.posix_defs.specs.IsTree.{AreEntries, IsEntryName, IsNode, IsTree, names_of, unnamed_links}
-use Rattle.posix_defs.proofs.TreeNodes.{IsNumber}
+use Rattle.posix_defs.specs.IsTree.{AreEntries, IsEntryName, IsTree, names_of, unnamed_links}
 use Rattle.posix_defs.proofs.TreeFacts.{linked_in_use, named_at-le}
-use Rattle.posix_defs.proofs.EntryLists.{count_of, one_at, StandsAt, stands_at, count-put, length-put, put_are, count-taken, length-taken, taken_are, taken_among, set_among, count-aimed, aimed_are, count-renamed, renamed_are}
-use Rattle.posix_defs.proofs.TreeSteps.{AreNodes, directory_is, Relisted, relisted, Dropped, dropped, one_here, one_off, Hung, hung_is}
-use Rattle.posix_defs.proofs.Climbing.{IsOff, KeepsParent, climbed_same, climbs_moved, parent_has_entry, one_link, root_unnamed}
+use Rattle.posix_defs.proofs.EntryLists.{count_of, StandsAt, stands_at, count-put, length-put, put_are, count-taken, length-taken, taken_are, taken_among, set_among, count-aimed, aimed_are, count-renamed, renamed_are}
+use Rattle.posix_defs.proofs.TreeSteps.{AreNodes, Relisted, relisted, Dropped, dropped, one_here, Hung, hung_is}
+use Rattle.posix_defs.proofs.Climbing.{IsOff, KeepsParent, climbed_same, climbs_moved, parent_has_entry, one_link}
 use Rattle.posix_defs.proofs.TreeKeeps.{entries_are, entries_fit, found_in_directory, found_named, found_not_root, none_among, contained_counts, blocks_of-le, Room, room_of}
 
 -- a node's name went over to `to`, and a node went with the name that stood there; 0 where none did

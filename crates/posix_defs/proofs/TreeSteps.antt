@@ -1,15 +1,14 @@
 -- What each single change leaves of all that a tree has to keep: other entries in a directory, a link less, a new node, another parent.
-use Rattle.std.proofs.Common.{◌≡◌, ◌≢◌, ℕ, zero, suc, ◌+◌, ◌-◌, ◌*◌, ◌/◌, ◌<◌, ◌≤◌, Bool, true, false, cond, not, ◌&&◌, ◌⊎◌, inl, inr, List, [], ◌∷◌, ◌++◌, length, get_or, set, eqb, ltb, Option, Some, None, is_some, refl, sym, ap, subst, ◌∙◌, arith, ◌==◌, if◌then◌else◌}
+use Rattle.std.proofs.Common.{◌≡◌, ◌≢◌, ℕ, zero, suc, ◌+◌, ◌-◌, ◌*◌, ◌<◌, ◌≤◌, Bool, true, false, cond, not, ◌&&◌, inl, inr, List, [], length, eqb, Option, Some, None, is_some, refl, sym, ap, subst, ◌∙◌, arith}
 use Rattle.std.specs.Option.{option_map}
-use Rattle.std.specs.List.{sum_by, count_by, All, AllPairs, Contains}
-use Rattle.std.proofs.lemmas.Bool.{cases_Bool, cond-true, cond-false, false≢true, eq-eqb, ne_eqb, eqb-true, eqb-false, cases_lt, cases_eq, and_parts, and_from, not-true, not_from_false}
+use Rattle.std.proofs.lemmas.Bool.{cases_Bool, cond-true, cond-false, false≢true, eq-eqb, ne_eqb, eqb-true, cases_lt, cases_eq, and_parts, and_from, not_from_false}
 use Rattle.std.proofs.lemmas.List.{set_past}
 use Rattle.std.proofs.lemmas.Option.{same_Some, none-some}
 use Rattle.kabi_types.specs.declared.inodes.DirEntry.{DirEntry}
 use Rattle.posix_defs.specs.DiskFormat.{greatest_size, blocks_of}
-use Rattle.posix_defs.specs.Tree.{Content, File, Directory, SocketName, Node, Tree, root, node_at, with_node, is_in_use, is_directory, is_directory_in, is_directory_content, links_in, links_at, entries_of, entries_in, entries_at, parent_of, parent_in, parent_at, size_of, size_in, size_at, blocks_in, used_blocks}
-use Rattle.posix_defs.specs.TreeChanges.{with_content, with_entries_in, with_entries, left_of, left_in, link_dropped, link_added, under, hung, hung_if_directory, with_bytes_in, with_bytes, most_links}
-use Rattle.posix_defs.specs.IsTree.{AreEntries, IsContent, IsNode, named_in, names_of}
+use Rattle.posix_defs.specs.Tree.{Content, File, Directory, SocketName, Node, Tree, node_at, with_node, is_in_use, is_directory, is_directory_in, is_directory_content, links_in, links_at, entries_of, entries_in, entries_at, parent_of, parent_in, parent_at, size_of, size_in, size_at, blocks_in, used_blocks}
+use Rattle.posix_defs.specs.TreeChanges.{with_entries_in, with_entries, left_of, left_in, link_dropped, under, hung, hung_if_directory}
+use Rattle.posix_defs.specs.IsTree.{AreEntries, IsNode, named_in, names_of}
 use Rattle.posix_defs.proofs.TreeNodes.{IsNumber, is_number, directory_number, length-with_node, blocks-with_node, node_at-with_node, node_at-with_node_other, seen_same, summed, summed_same}
 use Rattle.posix_defs.proofs.EntryLists.{count_of, one_at}
 

@@ -1,13 +1,11 @@
 -- Paths and what they lead to, by POSIX's pathname resolution.
-use Rattle.std.specs.Prelude.{ℕ, ◌<◌, ◌≤◌, ◌≡◌, ◌⊎◌, ◌==◌, ◌&&◌, not, Bool, true, false, if◌then◌else◌, List, [], ◌∷◌, length, nat_lt, slice_index, ◌-◌, Option, None, Some, Result, Ok, Err}
+use Rattle.std.specs.Prelude.{ℕ, ◌≡◌, ◌⊎◌, ◌&&◌, not, Bool, true, if◌then◌else◌, List, [], ◌∷◌, length, slice_index, ◌-◌, Option, None, Some, Result, Ok, Err}
 use Rattle.std.specs.Str.{bytes_eq}
 use Rattle.kabi_types.specs.PathParts.{is_slash, components}
 use Rattle.kabi_types.specs.declared.errnos.Errno.{Errno}
 use Rattle.kabi_types.specs.declared.errnos.Errno.TheVariants.{ENOENT, ENOTDIR}
 use Rattle.posix_defs.specs.declared.walked.Walked.{Walked}
 use Rattle.posix_defs.specs.declared.walked.Walked.TheVariants as walked
-pub use Rattle.kabi_types.specs.PathParts.{is_slash, has_bytes, components, is_long}
-pub use Rattle.kabi_types.specs.Arguments.{path_fault}
 use Rattle.posix_defs.specs.DiskContents.{own_name, parent_name}
 use Rattle.posix_defs.specs.Tree.{Tree, root, is_directory, parent_at, found}
 

@@ -1,6 +1,6 @@
 -- The tree of files: what there is of each node, and what is found from one node to another. No block occurs in it: how many
 -- a node takes follows from its size.
-use Rattle.std.specs.Prelude.{ℕ, zero, suc, ◌+◌, ◌-◌, ◌*◌, ◌==◌, ◌≡◌, Bool, true, false, List, [], ◌∷◌, length, replicate, Option, None, Some, is_some, is_none, slice_index_or, slice_set}
+use Rattle.std.specs.Prelude.{ℕ, zero, suc, ◌+◌, ◌-◌, ◌*◌, ◌≡◌, Bool, true, false, List, [], ◌∷◌, length, replicate, Option, None, Some, is_some, is_none, slice_index_or, slice_set}
 use Rattle.std.specs.List.{find, position_from, sum_by}
 use Rattle.std.specs.Option.{option_map}
 use Rattle.std.specs.Str.{bytes_eq}

@@ -1,5 +1,5 @@
 -- The changes of a tree, each as one function, and what the calls on files make of them.
-use Rattle.std.specs.Prelude.{ℕ, zero, suc, ◌+◌, ◌-◌, ◌<◌, ◌==◌, ◌≡◌, not, ◌&&◌, ◌||◌, Bool, true, false, if◌then◌else◌, List, [], ◌∷◌, ◌++◌, length, take, slice_index_or, slice_set, nat_lt, nat_le, Option, None, Some, Result, Ok, Err}
+use Rattle.std.specs.Prelude.{ℕ, zero, suc, ◌+◌, ◌-◌, ◌<◌, ◌==◌, ◌≡◌, not, ◌&&◌, ◌||◌, Bool, if◌then◌else◌, List, [], ◌∷◌, ◌++◌, length, take, slice_set, nat_lt, nat_le, Option, None, Some, Result, Ok, Err}
 use Rattle.std.specs.List.{position_or_len, swap_remove}
 use Rattle.std.specs.Option.{option_map}
 use Rattle.kabi_types.specs.declared.errnos.Errno.{Errno}
@@ -8,7 +8,7 @@ use Rattle.kabi_types.specs.declared.inodes.DirEntry.{DirEntry}
 use Rattle.posix_defs.specs.DiskFormat.{greatest_size, blocks_of}
 use Rattle.posix_defs.specs.DiskContents.{entry_for}
 use Rattle.posix_defs.specs.FileBytes.{resized, overwritten, fitting}
-use Rattle.posix_defs.specs.Tree.{Content, File, Directory, SocketName, Node, Tree, node_at, with_node, has_name, entries_at, parent_at, links_at, size_at, size_of, free_blocks, free_node, is_directory, climbed}
+use Rattle.posix_defs.specs.Tree.{Content, File, Directory, Node, Tree, node_at, with_node, has_name, parent_at, links_at, size_at, size_of, free_blocks, free_node, is_directory, climbed}
 
 -- ---- one node
 

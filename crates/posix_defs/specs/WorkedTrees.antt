@@ -1,6 +1,6 @@
 -- Small trees for worked examples, on disks of 16 blocks.
-use Rattle.std.specs.Prelude.{ℕ, List, [], ◌∷◌, codes}
-use Rattle.posix_defs.specs.Tree.{Content, File, Directory, Tree, new_tree}
+use Rattle.std.specs.Prelude.{[], codes}
+use Rattle.posix_defs.specs.Tree.{File, Directory, Tree, new_tree}
 use Rattle.posix_defs.specs.TreeChanges.{with_new}
 
 -- a file `f`
