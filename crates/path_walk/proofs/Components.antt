@@ -1,7 +1,7 @@
 -- A path falls into its first name and what stands behind it.
-use Rattle.std.proofs.Common.{◌≡◌, ℕ, zero, suc, ◌+◌, ◌-◌, ◌<◌, ◌≤◌, Bool, true, false, cond, not, ◌⊎◌, inl, inr, List, [], ◌∷◌, length, get_or, take, drop, eqb, ltb, Option, Some, None, IfNone, unwrap_or, length-drop, refl, sym, ap, subst, ◌∙◌, arith, one-add, take_all}
+use Rattle.std.proofs.Common.{◌≡◌, ℕ, suc, ◌+◌, ◌-◌, ◌<◌, ◌≤◌, Bool, true, false, cond, not, inl, inr, List, [], ◌∷◌, length, get_or, take, drop, ltb, Option, Some, None, IfNone, unwrap_or, length-drop, refl, sym, ap, subst, ◌∙◌, arith, one-add, take_all}
 use Rattle.std.specs.List.{filter, slice_split, position_or_len, position, All}
-use Rattle.std.proofs.lemmas.Bool.{cases_Bool, cond-true, cond-false, false≢true, true≢false, cases_lt, eqb-true, ne_eqb, not-true, ltb-true, ltb-false, lt-ltb, le-ltb, false_from_ne_true}
+use Rattle.std.proofs.lemmas.Bool.{cases_Bool, cond-true, cond-false, cases_lt, ne_eqb, not-true, ltb-true, ltb-false, lt-ltb, le-ltb, false_from_ne_true}
 use Rattle.std.proofs.lemmas.Option.{none-some, cond_some}
 use Rattle.std.proofs.lemmas.List.{drop_all, drop_more, take_rest, length-take-le}
 use Rattle.std.proofs.lemmas.List.Sums.{prefix_len-le-length, passes_at_first, fails_before_first}

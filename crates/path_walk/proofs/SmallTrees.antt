@@ -1,11 +1,10 @@
 -- The small tree is one: each of its nodes was made.
-use Rattle.std.proofs.Common.{◌≡◌, ℕ, ◌^◌, ◌<◌, ◌&&◌, Bool, true, List, [], ◌∷◌, get_or, Some, None, Ok, ltb, refl, arith}
+use Rattle.std.proofs.Common.{◌≡◌, ℕ, ◌^◌, ◌<◌, ◌&&◌, Bool, true, List, [], get_or, Some, None, ltb, refl, arith}
 use Rattle.std.specs.List.{All, list_all}
 use Rattle.std.specs.Prelude.{codes}
 use Rattle.std.proofs.lemmas.Bool.{and_parts, ltb-true}
 use Rattle.std.proofs.lemmas.List.Sums.{AllPass-from_list_all}
-use Rattle.posix_defs.specs.Tree.{Content, File, Directory, SocketName, Tree, new_tree, found, is_directory}
-use Rattle.posix_defs.specs.TreeChanges.{make}
+use Rattle.posix_defs.specs.Tree.{File, Directory, SocketName, new_tree}
 use Rattle.posix_defs.specs.IsTree.{IsEntryName, IsTree}
 use Rattle.kabi_types.specs.Arguments.{path_fault}
 use Rattle.posix_defs.specs.Paths.{resolve, last_name}

@@ -1,10 +1,10 @@
 -- One component on: where the rest of a path leads, and what it asks.
-use Rattle.std.proofs.Common.{◌≡◌, ℕ, Bool, true, List, [], ◌∷◌, ◌++◌, Result, Ok, Err, refl, sym, ap, subst, ◌∙◌}
+use Rattle.std.proofs.Common.{◌≡◌, ℕ, Bool, true, List, [], ◌∷◌, ◌++◌, Result, Ok, ap, subst}
 use Rattle.kabi_types.specs.declared.errnos.Errno.{Errno}
 use Rattle.posix_defs.specs.Asking.{AskedInTurn}
 use Rattle.posix_defs.specs.Tree.{Tree}
 use Rattle.posix_defs.specs.Paths.{go_on, leads, step}
-use Rattle.posix_defs.specs.Queries.{Query, asks, component_asks, then_asks}
+use Rattle.posix_defs.specs.Queries.{asks, component_asks, then_asks}
 
 -- questions after questions
 pub asked_append : {Thing Question : Type 0} (asked : Thing → Question → Thing → Type 0) (first second third : Thing) (xs ys : List Question)

@@ -1,6 +1,6 @@
 -- A small tree for tests: in the root `bin`, `f`, a name of 27 letters and `s`; in `bin` `old` and `sh`.
-use Rattle.std.specs.Prelude.{ℕ, List, [], ◌∷◌, codes}
-use Rattle.posix_defs.specs.Tree.{Content, File, Directory, SocketName, Tree, new_tree}
+use Rattle.std.specs.Prelude.{ℕ, List, [], codes}
+use Rattle.posix_defs.specs.Tree.{File, Directory, SocketName, Tree, new_tree}
 use Rattle.posix_defs.specs.TreeChanges.{with_new}
 
 -- a name as long as a name may be

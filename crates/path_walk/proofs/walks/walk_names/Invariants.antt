@@ -1,6 +1,6 @@
 -- Where the rest of the path leads from the directory reached is where the whole path leads, and what is still asked comes
 -- after what was.
-use Rattle.std.proofs.Common.{◌≡◌, ℕ, List, ◌∷◌, length, true, false}
+use Rattle.std.proofs.Common.{◌≡◌, ◌∷◌, length, true, false}
 use Rattle.std.specs.List.{list_any}
 use Rattle.posix_defs.specs.Asking.{AskedInTurn}
 use Rattle.posix_defs.specs.Tree.{Tree, is_directory}
