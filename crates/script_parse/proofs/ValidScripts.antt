@@ -23,7 +23,7 @@ use Rattle.posix_defs.specs.declared.said.Stated.{Stated}
 use Rattle.posix_defs.specs.declared.said.Word.{Word}
 use Rattle.posix_defs.specs.ScriptValues.{◌>>=◌, is_name}
 use Rattle.posix_defs.specs.ScriptLines.{said_at_top, said_in_program}
-use Rattle.posix_defs.specs.ValidScript.{IsProgram, IsChooser, AreApart, HasProgram, IsValid}
+use Rattle.posix_defs.specs.ValidScript.{IsProgram, IsChooser, AreApart, IsValid}
 use Rattle.script_parse.specs.declared.parse_error.ParseError.{ParseError}
 use Rattle.script_parse.specs.LabelPlaces.{placed_body}
 use Rattle.script_parse.specs.Reading.{Outcome}
