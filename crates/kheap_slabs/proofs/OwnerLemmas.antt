@@ -1,5 +1,5 @@
 -- One owner of a heap's objects moves, comes, goes or changes what it owns, and all others own what they did.
-use Rattle.std.proofs.Common.{◌≡◌, ℕ, zero, suc, ◌<◌, ◌/◌, List, [], ◌∷◌, ◌++◌, Option, Some, None, map, replicate, mul-zero, length, get_or, refl, sym, ap, ◌∙◌, inl, inr, arith, Contains}
+use Rattle.std.proofs.Common.{◌≡◌, ◌≢◌, ◌⊎◌, ℕ, zero, suc, ◌<◌, ◌/◌, List, [], ◌∷◌, ◌++◌, Option, Some, None, map, replicate, mul-zero, length, get_or, set, refl, sym, ap, ◌∙◌, inl, inr, arith, Contains}
 use Rattle.std.proofs.lemmas.Bool.{cases_eq, cases_lt}
 use Rattle.std.proofs.lemmas.List.{get_or-replicate, get_or_past, length-replicate}
 use Rattle.std.proofs.lemmas.List.Folds.{sum_by-replicate}
@@ -9,16 +9,16 @@ use Rattle.slab.proofs.SlabLemmas.{Contains-cons, Contains-cons_cases}
 use Rattle.kabi_types.specs.Class.{size}
 use Rattle.kabi_types.specs.declared.classes.Class.TheVariants as class
 use Rattle.kheap_slabs.specs.Heap.{Heap, empty_heap}
-use Rattle.kheap_slabs.specs.Objects.{object, InUse, put}
-use Rattle.kheap_slabs.specs.Keys.{Apart, AreKeysOf, ChangesKeys, Splits}
+use Rattle.kheap_slabs.specs.Objects.{object, InUse, put, without}
+use Rattle.kheap_slabs.specs.Keys.{IsOnce, Apart, AreKeysOf, ChangesKeys, Splits}
 use Rattle.kheap_slabs.specs.Queues.{OwnedQueue, OwnsChunks, fresh_queue}
 use Rattle.kheap_slabs.specs.Spaces.{mapped_count, keys_in, OwnsNodes, names_in, page_count, IsCounted}
 use Rattle.kheap_slabs.specs.Owners.{Owners, with_space, with_queue, node_keys, chunk_keys, IsOwned, SpaceChanges, QueueChanges, AreOwnersOf, OwnsItsObjects, spaces_of, pipe_queues, sock_queues}
 use Rattle.kheap_slabs.specs.declared.objects.Chunk.{Chunk}
 use Rattle.kheap_slabs.specs.declared.objects.Node.{Node}
-use Rattle.kheap_slabs.proofs.ObjectLemmas.{InUse-within, object-put, object-put_other}
-use Rattle.kheap_slabs.proofs.OnceLemmas.{IsOnce-left, IsOnce-apart}
-use Rattle.kheap_slabs.proofs.KeyLemmas.{contains_or_not, Splits-to_front, Splits-from_front, AreKeysOf-to_front, AreKeysOf-from_front, ChangesKeys-apart, AreKeysOf-changes}
+use Rattle.kheap_slabs.proofs.ObjectLemmas.{InUse-within, put-within, object-put, object-put_other, object-without, object-without_other}
+use Rattle.kheap_slabs.proofs.OnceLemmas.{IsOnce-head, IsOnce-tail, IsOnce-cons, IsOnce-left, IsOnce-apart}
+use Rattle.kheap_slabs.proofs.KeyLemmas.{contains_or_not, Splits-to_front, Splits-from_front, AreKeysOf-to_front, AreKeysOf-from_front, ChangesKeys-apart, AreKeysOf-changes, IsOnce-swap}
 use Rattle.kheap_slabs.proofs.QueueLemmas.{IsChain-used, OwnsChunks-apart, OwnsChunks-none, OwnsChunks-fresh, OwnsChunks-written}
 
 -- one space moves to the front, and back to its place
@@ -146,6 +146,132 @@ IsOwned-space_changes old new owners space now changes owned = record {
       | inl had ↦ other (changes.nodes.left key had used)
       | inr has ↦ other has
     ]
+
+in_use : {X : Type 0} (objects : List (Option X)) (key : ℕ) (value : X) → object objects key ≡ Some value → InUse objects key
+in_use objects key value is = rw is refl
+
+stored_in_use : {X : Type 0} (objects : List (Option X)) (at : ℕ) (value : X) (key : ℕ) → InUse objects at → InUse objects key → InUse (put objects at value) key
+stored_in_use objects at value key there used = elim (cases_eq key at) [
+  | inl same ↦ rw (same, object-put objects at value (InUse-within objects at there)) refl
+  | inr differs ↦ rw (object-put_other objects at key value differs) used
+]
+
+-- what the node of a key is after one is put under a key
+node_after : (nodes : List (Option Node)) (at : ℕ) (value : Node) (key : ℕ) (node : Node) → at < length nodes → object (put nodes at value) key ≡ Some node → ((key ≡ at) × (node ≡ value)) ⊎ ((key ≢ at) × (object nodes key ≡ Some node))
+node_after nodes at value key node within is = elim (cases_eq key at) [
+  | inl same ↦ (
+    let stored = object-put nodes at value within in
+    let named : object (put nodes at value) at ≡ Some node = rw same at is in
+    let one : node ≡ value = grind arith in
+    inl (same, one)
+  )
+  | inr differs ↦ inr (differs, sym (object-put_other nodes at key value differs) ∙ is)
+]
+
+-- a space changes one of its nodes
+pub SpaceChanges-sets : (old new : Heap) (owners : Owners) (space : List (Option ℕ)) (key : ℕ) (node : Node) → Contains (keys_in space) key → 0 < mapped_count node → new.nodes ≡ put old.nodes key node → new.chunks ≡ old.chunks → IsCounted new.nodes new.pages → IsOwned old (with_space space owners) → SpaceChanges old new space space
+SpaceChanges-sets old new owners space key node there mapped nodes chunks counted owned =
+    let owns = IsOwned-space old owners space owned in
+    let within = InUse-within old.nodes key (owns.used key there) in
+    record {
+      nodes = rw nodes (record {
+        outside = λ other outside. object-put_other old.nodes key other node (λ same. outside (Contains-append_left (keys_in space) (keys_in space) other (rw same there)));
+        fresh = λ other mine. inl mine;
+        left = λ other mine used. mine;
+      });
+      owns = rw nodes (record {
+        used = λ other mine. stored_in_use old.nodes key node other (owns.used key there) (owns.used other mine);
+        mapped = λ other found mine is. elim (node_after old.nodes key node other found within is) [
+          | inl it ↦ rw it.1 mapped
+          | inr before ↦ owns.mapped other found mine before.1
+        ];
+        once = owns.once;
+      });
+      pages = counted;
+      chunks = chunks;
+    }
+
+-- a space gets a node under a key that was free
+pub SpaceChanges-comes : (old new : Heap) (owners : Owners) (space now : List (Option ℕ)) (key : ℕ) (node : Node) → Splits (keys_in now) key (keys_in space) → object old.nodes key ≡ None → object new.nodes key ≡ Some node → 0 < mapped_count node → new.nodes ≡ put old.nodes key node → new.chunks ≡ old.chunks → IsCounted new.nodes new.pages → IsOwned old (with_space space owners) → SpaceChanges old new space now
+SpaceChanges-comes old new owners space now key node split vacant stored mapped nodes chunks counted owned =
+    let owns = IsOwned-space old owners space owned in
+    let within = put-within old.nodes key node (sym (ap (λ list. object list key) nodes) ∙ stored) in
+    let absent : Contains (keys_in space) key → ⊥ = λ there. unused vacant (owns.used key there) in
+    record {
+      nodes = rw nodes (record {
+        outside = λ other outside. object-put_other old.nodes key other node (λ same. outside (Contains-append_right (keys_in space) (keys_in now) other (rw same (Splits-from_front (keys_in now) key (keys_in space) split key (first_there key (keys_in space))))));
+        fresh = λ other there. elim (Contains-cons_cases key other (keys_in space) (Splits-to_front (keys_in now) key (keys_in space) split other there)) [
+          | inl same ↦ inr (rw (← same) vacant)
+          | inr mine ↦ inl mine
+        ];
+        left = λ other mine used. Splits-from_front (keys_in now) key (keys_in space) split other (Contains-cons key other (keys_in space) mine);
+      });
+      owns = rw nodes (record {
+        used = λ other there. elim (Contains-cons_cases key other (keys_in space) (Splits-to_front (keys_in now) key (keys_in space) split other there)) [
+          | inl same ↦ rw (← same, object-put old.nodes key node within) refl
+          | inr mine ↦ rw (object-put_other old.nodes key other node (λ same. absent (rw same at mine))) (owns.used other mine)
+        ];
+        mapped = λ other found there is. elim (node_after old.nodes key node other found within is) [
+          | inl it ↦ rw it.1 mapped
+          | inr before ↦ owned.mapped other found before.1
+        ];
+        once = rw split.whole_is (IsOnce-swap (key ∷ []) split.before split.after (IsOnce-cons key (split.before ++ split.after) (λ there. absent (rw split.rest_is there)) (rw split.rest_is at owns.once)));
+      });
+      pages = counted;
+      chunks = chunks;
+    }
+  where
+    unused : object old.nodes key ≡ None → InUse old.nodes key → ⊥
+    unused vacant used = grind arith
+
+-- a space gives a node back
+pub SpaceChanges-goes : (old new : Heap) (owners : Owners) (space now : List (Option ℕ)) (key : ℕ) → Splits (keys_in space) key (keys_in now) → new.nodes ≡ without old.nodes key → new.chunks ≡ old.chunks → IsCounted new.nodes new.pages → IsOwned old (with_space space owners) → SpaceChanges old new space now
+SpaceChanges-goes old new owners space now key split nodes chunks counted owned =
+    let owns = IsOwned-space old owners space owned in
+    let mine = Splits-from_front (keys_in space) key (keys_in now) split key (first_there key (keys_in now)) in
+    let within = InUse-within old.nodes key (owns.used key mine) in
+    let once : IsOnce (key ∷ keys_in now) = rw split.rest_is (IsOnce-swap split.before (key ∷ []) split.after (rw split.whole_is at owns.once)) in
+    let differs : (other : ℕ) → Contains (keys_in now) other → other ≢ key = λ other there same. IsOnce-head key (keys_in now) once (rw same at there) in
+    let had : (other : ℕ) → Contains (keys_in now) other → Contains (keys_in space) other = λ other there. Splits-from_front (keys_in space) key (keys_in now) split other (Contains-cons key other (keys_in now) there) in
+    record {
+      nodes = rw nodes (record {
+        outside = λ other outside. object-without_other old.nodes key other (λ same. outside (Contains-append_left (keys_in space) (keys_in now) other (rw same mine)));
+        fresh = λ other there. inl (had other there);
+        left = λ other there used. elim (Contains-cons_cases key other (keys_in now) (Splits-to_front (keys_in space) key (keys_in now) split other there)) [
+          | inl same ↦ absurd (gone (object-without old.nodes key within) (rw (← same) at used))
+          | inr behind ↦ behind
+        ];
+      });
+      owns = rw nodes (record {
+        used = λ other there. rw (object-without_other old.nodes key other (differs other there)) (owns.used other (had other there));
+        mapped = λ other found there is. owns.mapped other found (had other there) (sym (object-without_other old.nodes key other (differs other there)) ∙ is);
+        once = IsOnce-tail key (keys_in now) once;
+      });
+      pages = counted;
+      chunks = chunks;
+    }
+  where
+    gone : object (without old.nodes key) key ≡ None → InUse (without old.nodes key) key → ⊥
+    gone none used = grind arith
+
+-- the keys of a space where one of its places is filled, and where one is cleared
+pub keys_in-filled : (space : List (Option ℕ)) (place key : ℕ) → place < length space → get_or space place None ≡ None → Splits (keys_in (set space place (Some key))) key (keys_in space)
+keys_in-filled [] place key within none = absurd (omega (arith, within))
+keys_in-filled (None ∷ rest) zero key within none = record { before = []; after = keys_in rest; whole_is = refl; rest_is = refl }
+keys_in-filled (Some other ∷ rest) zero key within none = absurd (cc)
+keys_in-filled (None ∷ rest) (suc place) key within none = keys_in-filled rest place key (omega arith) none
+keys_in-filled (Some other ∷ rest) (suc place) key within none =
+    let behind = keys_in-filled rest place key (omega arith) none in
+    record { before = other ∷ behind.before; after = behind.after; whole_is = ap (λ keys. other ∷ keys) behind.whole_is; rest_is = ap (λ keys. other ∷ keys) behind.rest_is }
+
+pub keys_in-cleared : (space : List (Option ℕ)) (place key : ℕ) → get_or space place None ≡ Some key → Splits (keys_in space) key (keys_in (set space place None))
+keys_in-cleared [] place key some = absurd (cc)
+keys_in-cleared (None ∷ rest) zero key some = absurd (cc)
+keys_in-cleared (Some other ∷ rest) zero key some = record { before = []; after = keys_in rest; whole_is = cc; rest_is = refl }
+keys_in-cleared (None ∷ rest) (suc place) key some = keys_in-cleared rest place key some
+keys_in-cleared (Some other ∷ rest) (suc place) key some =
+    let behind = keys_in-cleared rest place key some in
+    record { before = other ∷ behind.before; after = behind.after; whole_is = ap (λ keys. other ∷ keys) behind.whole_is; rest_is = ap (λ keys. other ∷ keys) behind.rest_is }
 
 -- one queue changes its chunks
 pub IsOwned-queue_changes : (old new : Heap) (owners : Owners) (queue now : OwnedQueue) → QueueChanges old new queue now → IsOwned old (with_queue queue owners) → IsOwned new (with_queue now owners)

@@ -1,12 +1,13 @@
-ghost use Rattle.std.specs.Prelude.{◌≡◌, ℕ, List, Option, Some, [], ◌∷◌};
+ghost use Rattle.std.specs.Prelude.{◌≡◌, ℕ, ◌<◌, List, Option, None, Some, [], ◌∷◌, length, slice_index_or, slice_set};
 ghost use Rattle.std.specs.List.{Contains};
 ghost use Rattle.kheap_slabs.specs.Heap.{Heap, empty_heap};
 ghost use Rattle.kheap_slabs.specs.Keys.{Apart, Splits};
-ghost use Rattle.kheap_slabs.specs.Objects.{object, put};
+ghost use Rattle.kheap_slabs.specs.Objects.{object, put, without};
 ghost use Rattle.kheap_slabs.specs.Owners.{Owners, with_space, with_queue, IsOwned, SameOwners, SpaceChanges, QueueChanges, OwnsItsObjects};
 ghost use Rattle.kheap_slabs.specs.Queues.{OwnedQueue, OwnsChunks, fresh_queue};
-ghost use Rattle.kheap_slabs.specs.Spaces.{keys_in, OwnsNodes};
+ghost use Rattle.kheap_slabs.specs.Spaces.{keys_in, mapped_count, OwnsNodes, IsCounted};
 ghost use Rattle.kheap_slabs.specs.declared.objects.Chunk.{Chunk};
+ghost use Rattle.kheap_slabs.specs.declared.objects.Node.{Node};
 
 /// The order of the owners doesn't matter: any of them may stand in front.
 pub fn owners_move()
@@ -53,6 +54,39 @@ pub fn owners_change_alone()
         (now : OwnedQueue)
         → QueueChanges old new queue now
         → IsOwned old (with_queue queue owners) → IsOwned new (with_queue now owners) }
+{}
+
+/// How a space changes what it owns: it changes a node, gets one or gives one back.
+pub fn spaces_change()
+    ensures sets { (old : Heap) (new : Heap) (owners : Owners) (space : List (Option ℕ)) (key : ℕ)
+        (node : Node)
+        → Contains (keys_in space) key → 0 < mapped_count node
+        → new.nodes ≡ put old.nodes key node → new.chunks ≡ old.chunks
+        → IsCounted new.nodes new.pages → IsOwned old (with_space space owners)
+        → SpaceChanges old new space space }
+    ensures comes { (old : Heap) (new : Heap) (owners : Owners) (space : List (Option ℕ))
+        (now : List (Option ℕ)) (key : ℕ) (node : Node)
+        → Splits (keys_in now) key (keys_in space)
+        → object old.nodes key ≡ None → object new.nodes key ≡ Some node → 0 < mapped_count node
+        → new.nodes ≡ put old.nodes key node → new.chunks ≡ old.chunks
+        → IsCounted new.nodes new.pages → IsOwned old (with_space space owners)
+        → SpaceChanges old new space now }
+    ensures goes { (old : Heap) (new : Heap) (owners : Owners) (space : List (Option ℕ))
+        (now : List (Option ℕ)) (key : ℕ)
+        → Splits (keys_in space) key (keys_in now)
+        → new.nodes ≡ without old.nodes key → new.chunks ≡ old.chunks
+        → IsCounted new.nodes new.pages → IsOwned old (with_space space owners)
+        → SpaceChanges old new space now }
+{}
+
+/// The keys of a space where a place is filled, and where one is cleared.
+pub fn places_of_a_space_change()
+    ensures filled { (space : List (Option ℕ)) (place : ℕ) (key : ℕ)
+        → place < length space → slice_index_or space place None ≡ None
+        → Splits (keys_in (slice_set space place (Some key))) key (keys_in space) }
+    ensures cleared { (space : List (Option ℕ)) (place : ℕ) (key : ℕ)
+        → slice_index_or space place None ≡ Some key
+        → Splits (keys_in space) key (keys_in (slice_set space place None)) }
 {}
 
 /// All own what they owned where a chunk gets other bytes and keeps its next, and where nodes,
