@@ -9,7 +9,7 @@ use prog.Atomic.{either}
 use Rattle.atomic_table.specs.Table.{step, keeps, stepped, Allows, Splits, Joins}
 use Rattle.atomic_table.proofs.Lists.{at_set, at_snoc, set_else, set_here}
 use Rattle.charge_words.specs.declared.rule.ChargeView.{ChargeView}
-use Rattle.charge_words.specs.Rule.{Cells, Mine, total, counted, in_use, as_boot, IsViewOf, IsCharged, holding, loaded, Tells, Loads, Reserves, GivesBack, with_one_more, newcomer, taken_in, spent}
+use Rattle.charge_words.specs.Rule.{Cells, Mine, total, counted, in_use, as_boot, IsViewOf, IsCharged, holding, reserving, loaded, Tells, Loads, Reserves, GivesBack, with_one_more, newcomer, taken_in, spent}
 use Rattle.charge_words.proofs.Totals.{total_set, total_snoc, total_at_least, one_counts}
 
 unspent : (v : ChargeView) → v.is_spent ≡ false → (counted v ≡ v.holds) × (in_use v ≡ 1)
@@ -75,7 +75,7 @@ reserves heap slots id me old new live more room s r _ at _ =
     let word : ℕ = slice_index s.words 0 in
     let told = tells heap s id me.0 r at live in
     dite (ℕ_discrete word old)
-    (λ hit. let w = holding me.0 (me.0.holds + (new - old)) in (
+    (λ hit. let w = reserving me.0 (new - old) in (
       w,
       keeps,
       tt,

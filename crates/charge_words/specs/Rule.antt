@@ -43,11 +43,11 @@ pub record IsCharged (heap : ℕ) (s : Cells) : Type 0 where
 
 -- the view of the seat of `boot`, before any step
 abbrev pub opened : ℕ → ChargeView
-opened heap = record { heap = heap; is_boot = true; is_spent = false; holds = 2816; others = 0; loads = 0; last = 0; earlier = 0; held = 0 }
+opened heap = record { heap = heap; is_boot = true; is_spent = false; holds = 2816; others = 0; loads = 0; last = 0; earlier = 0; held = 0; reserves = 0; raised = 0 }
 
 -- a new seat's view
 abbrev pub fresh : ℕ → ChargeView
-fresh heap = record { heap = heap; is_boot = false; is_spent = false; holds = 0; others = 0; loads = 0; last = 0; earlier = 0; held = 0 }
+fresh heap = record { heap = heap; is_boot = false; is_spent = false; holds = 0; others = 0; loads = 0; last = 0; earlier = 0; held = 0; reserves = 0; raised = 0 }
 
 -- what a seat that splits makes
 abbrev pub newcomer : ChargeView → ChargeView
@@ -55,11 +55,15 @@ newcomer v = fresh v.heap
 
 -- the view that a join leaves
 abbrev pub spent : ChargeView
-spent = record { heap = 0; is_boot = false; is_spent = true; holds = 0; others = 0; loads = 0; last = 0; earlier = 0; held = 0 }
+spent = record { heap = 0; is_boot = false; is_spent = true; holds = 0; others = 0; loads = 0; last = 0; earlier = 0; held = 0; reserves = 0; raised = 0 }
 
 -- the seat now holds this much
 abbrev pub holding : ChargeView → ℕ → ChargeView
 holding v n = record v { holds = n }
+
+-- the seat holds so much more, and one more step has reserved
+abbrev pub reserving : ChargeView → ℕ → ChargeView
+reserving v n = record v { holds = v.holds + n; reserves = v.reserves + 1; raised = v.raised + n }
 
 -- a load found this word
 abbrev pub loaded : ChargeView → ℕ → ChargeView
@@ -69,9 +73,18 @@ loaded v word = record v { loads = v.loads + 1; last = word; earlier = v.last; h
 abbrev pub with_one_more : ChargeView → ChargeView
 with_one_more v = record v { others = v.others + 1 }
 
--- another seat was joined, with all that it held
+-- another seat was joined, with all that it held and had reserved
 abbrev pub taken_in : ChargeView → ChargeView → ChargeView
-taken_in v other = record v { holds = v.holds + other.holds; others = v.others - 1 }
+taken_in v other = record v {
+  holds = v.holds + other.holds;
+  others = v.others - 1;
+  reserves = v.reserves + other.reserves;
+  raised = v.raised + other.raised;
+}
+
+-- another seat was joined, a new one was split, and this much is held of what both held
+abbrev pub settled : ChargeView → ChargeView → ℕ → ChargeView
+settled v other kept = record v { holds = kept; reserves = v.reserves + other.reserves; raised = v.raised + other.raised }
 
 -- what the rule tells at a word: it is at most the heap and at least what the seat holds, and just that where no other seat is left
 abbrev pub Tells : ChargeView → ℕ → Type 0
@@ -84,7 +97,7 @@ Loads step before found after = (after ≡ (loaded before.0 found, before.1)) ×
 -- the word was the expected one, and the seat holds what was added; or it was another, and is loaded
 abbrev pub Reserves : Step (Unit {0}) → Mine → ℕ → Mine → Type 0
 Reserves step before found after =
-    (found ≡ step.first → (after ≡ (holding before.0 (before.0.holds + (step.second - step.first)), before.1)) × Tells before.0 found)
+    (found ≡ step.first → (after ≡ (reserving before.0 (step.second - step.first), before.1)) × Tells before.0 found)
     × (found ≢ step.first → (after ≡ (loaded before.0 found, before.1)) × Tells before.0 found)
 
 -- the seat holds so much less

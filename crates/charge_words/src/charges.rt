@@ -1,7 +1,7 @@
 //! The charge word and its calls. None of them waits.
 ghost use Rattle.std.specs.Prelude.{◌≡◌, ◌<◌, ◌≤◌, ◌+◌, ◌-◌, ◌^◌, true, IfOk};
 ghost use Rattle.charge_words.specs.Names.{seat_of};
-ghost use Rattle.charge_words.specs.Rule.{Tells, opened, fresh, holding, loaded, taken_in, with_one_more};
+ghost use Rattle.charge_words.specs.Rule.{Tells, opened, fresh, holding, loaded, settled, taken_in, with_one_more};
 ghost use Rattle.charge_words.specs.Answers.{Answers};
 
 use crate::rule::{ChargeRule, GiveBack, Load, NewSeat, Reserve, TakeIn};
@@ -113,12 +113,13 @@ impl Charge {
     }
 
     /// The seat of `boot` takes in what another seat holds and keeps `kept` bytes, at most what both hold. The word gets
-    /// the rest back. The answer is a seat that holds 0, in place of the one that was handed in.
+    /// the rest back and never rises: nothing is reserved in any step. The answer is a seat that holds 0, in place of the
+    /// one that was handed in.
     pub fn settle(&self, from: ChargeSeat, into: &mut ChargeSeat, kept: u64) -> ChargeSeat
         requires charge { (from.charge ≡ self.now) × (into.old.charge ≡ self.now) }
         requires boot { into.old.known.is_boot ≡ true }
         requires kept { kept ≤ into.old.known.holds + from.known.holds }
-        ensures into { into.new ≡ seat_of into.old.charge (holding into.old.known kept) }
+        ensures into { into.new ≡ seat_of into.old.charge (settled into.old.known from.known kept) }
         ensures new { result ≡ seat_of self.now (fresh self.now.heap) }
         ensures room { into.old.known.holds + from.known.holds ≤ self.now.heap }
     {

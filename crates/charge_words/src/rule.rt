@@ -22,6 +22,10 @@ pub struct ChargeView {
     pub earlier: u64,
     /// What the seat held at the last load.
     pub held: u64,
+    /// In how many steps the seat reserved; a seat that takes another in adds that one's.
+    pub reserves: u64,
+    /// How many bytes these steps have added to the word in all.
+    pub raised: u64,
 }
 
 /// The charge rule. Its key is the heap.

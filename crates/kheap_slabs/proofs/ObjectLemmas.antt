@@ -1,6 +1,6 @@
 -- What a key names, and how many objects there are, after a put or a removal.
 use Rattle.std.proofs.Common.{◌≡◌, ◌≢◌, ℕ, ◌+◌, ◌<◌, List, length, Option, Some, None, is_some, IsSome, cond, replicate, mul-zero, refl, ap, inl, inr, ◌∙◌, arith}
-use Rattle.std.proofs.lemmas.Bool.{cases_lt}
+use Rattle.std.proofs.lemmas.Bool.{cases_eq, cases_lt}
 use Rattle.std.proofs.lemmas.List.{get_or-set_same, get_or-set_other, get_or_past, get_or-replicate, length-replicate, length-set}
 use Rattle.std.proofs.lemmas.List.Sums.{sum_by-set}
 use Rattle.std.proofs.lemmas.List.Folds.{sum_by-replicate}
@@ -25,6 +25,13 @@ module _ {X : Type 0} where
 
   pub object-put_other : (objects : List (Option X)) (key other : ℕ) (value : X) → other ≢ key → object (put objects key value) other ≡ object objects other
   object-put_other objects key other value differs = get_or-set_other objects key other (Some value) None differs
+
+  -- a key in use stays in use where one in use gets another object
+  pub InUse-put : (objects : List (Option X)) (at : ℕ) (value : X) (key : ℕ) → InUse objects at → InUse objects key → InUse (put objects at value) key
+  InUse-put objects at value key there used = elim (cases_eq key at) [
+    | inl same ↦ rw (same, object-put objects at value (InUse-within objects at there)) refl
+    | inr differs ↦ rw (object-put_other objects at key value differs) used
+  ]
 
   pub object-without : (objects : List (Option X)) (key : ℕ) → key < length objects → object (without objects key) key ≡ None
   object-without objects key within = get_or-set_same objects key None None within

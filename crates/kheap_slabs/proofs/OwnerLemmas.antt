@@ -16,7 +16,7 @@ use Rattle.kheap_slabs.specs.Spaces.{mapped_count, keys_in, OwnsNodes, names_in,
 use Rattle.kheap_slabs.specs.Owners.{Owners, with_space, with_queue, node_keys, chunk_keys, IsOwned, SpaceChanges, QueueChanges, AreOwnersOf, OwnsItsObjects, spaces_of, pipe_queues, sock_queues}
 use Rattle.kheap_slabs.specs.declared.objects.Chunk.{Chunk}
 use Rattle.kheap_slabs.specs.declared.objects.Node.{Node}
-use Rattle.kheap_slabs.proofs.ObjectLemmas.{InUse-within, put-within, object-put, object-put_other, object-without, object-without_other}
+use Rattle.kheap_slabs.proofs.ObjectLemmas.{InUse-within, InUse-put, put-within, object-put, object-put_other, object-without, object-without_other}
 use Rattle.kheap_slabs.proofs.OnceLemmas.{IsOnce-head, IsOnce-tail, IsOnce-cons, IsOnce-left, IsOnce-apart}
 use Rattle.kheap_slabs.proofs.KeyLemmas.{contains_or_not, Splits-to_front, Splits-from_front, AreKeysOf-to_front, AreKeysOf-from_front, ChangesKeys-apart, AreKeysOf-changes, IsOnce-swap}
 use Rattle.kheap_slabs.proofs.QueueLemmas.{IsChain-used, OwnsChunks-apart, OwnsChunks-none, OwnsChunks-fresh, OwnsChunks-written}
@@ -147,24 +147,15 @@ IsOwned-space_changes old new owners space now changes owned = record {
       | inr has ↦ other has
     ]
 
-in_use : {X : Type 0} (objects : List (Option X)) (key : ℕ) (value : X) → object objects key ≡ Some value → InUse objects key
-in_use objects key value is = rw is refl
-
-stored_in_use : {X : Type 0} (objects : List (Option X)) (at : ℕ) (value : X) (key : ℕ) → InUse objects at → InUse objects key → InUse (put objects at value) key
-stored_in_use objects at value key there used = elim (cases_eq key at) [
-  | inl same ↦ rw (same, object-put objects at value (InUse-within objects at there)) refl
-  | inr differs ↦ rw (object-put_other objects at key value differs) used
-]
-
 -- what the node of a key is after one is put under a key
 node_after : (nodes : List (Option Node)) (at : ℕ) (value : Node) (key : ℕ) (node : Node) → at < length nodes → object (put nodes at value) key ≡ Some node → ((key ≡ at) × (node ≡ value)) ⊎ ((key ≢ at) × (object nodes key ≡ Some node))
 node_after nodes at value key node within is = elim (cases_eq key at) [
   | inl same ↦ (
-    let stored = object-put nodes at value within in
-    let named : object (put nodes at value) at ≡ Some node = rw same at is in
-    let one : node ≡ value = grind arith in
-    inl (same, one)
-  )
+      let stored = object-put nodes at value within in
+      let named : object (put nodes at value) at ≡ Some node = rw same at is in
+      let one : node ≡ value = grind arith in
+      inl (same, one)
+      )
   | inr differs ↦ inr (differs, sym (object-put_other nodes at key value differs) ∙ is)
 ]
 
@@ -180,7 +171,7 @@ SpaceChanges-sets old new owners space key node there mapped nodes chunks counte
         left = λ other mine used. mine;
       });
       owns = rw nodes (record {
-        used = λ other mine. stored_in_use old.nodes key node other (owns.used key there) (owns.used other mine);
+        used = λ other mine. InUse-put old.nodes key node other (owns.used key there) (owns.used other mine);
         mapped = λ other found mine is. elim (node_after old.nodes key node other found within is) [
           | inl it ↦ rw it.1 mapped
           | inr before ↦ owns.mapped other found mine before.1
@@ -295,19 +286,13 @@ IsOwned-chunk_written old new owners at chunk written is next chunks nodes pages
   mapped = λ key node there. owned.mapped key node (rw nodes at there);
   pages = rw (nodes, pages) owned.pages;
   chunks = rw chunks (record {
-    used = λ key there. in_use key (owned.chunks.used key there);
+    used = λ key there. InUse-put old.chunks at written key (rw is refl) (owned.chunks.used key there);
     listed = λ key used. owned.chunks.listed key (was_in_use key used);
     once = owned.chunks.once;
   });
   queues = λ one there. rw chunks (OwnsChunks-written old.chunks one at chunk written is next (owned.queues one there));
 }
   where
-    in_use : (key : ℕ) → InUse old.chunks key → InUse (put old.chunks at written) key
-    in_use key used = elim (cases_eq key at) [
-      | inl same ↦ rw (same, object-put old.chunks at written (InUse-within old.chunks at (rw is refl))) refl
-      | inr differs ↦ rw (object-put_other old.chunks at key written differs) used
-    ]
-
     was_in_use : (key : ℕ) → InUse (put old.chunks at written) key → InUse old.chunks key
     was_in_use key used = elim (cases_eq key at) [
       | inl same ↦ rw (same, is) refl

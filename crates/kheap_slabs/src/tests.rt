@@ -1,5 +1,8 @@
 ghost use Rattle.std.specs.Prelude.{◌≡◌, ◌+◌, ◌≤◌};
 ghost use Rattle.kheap_slabs.specs.Heap.{live_bytes};
+ghost use Rattle.kheap_slabs.specs.Queues.{empty_queue};
+
+mod callers;
 
 use crate::{
     Access, Block, Chunk, Desc, DescFlags, KHeap, Name, Node, Page, PageEntry, Pipe, Proc,
@@ -80,9 +83,17 @@ fn block_of(number: u32) -> Block {
     }
 }
 
-fn pipe_of(readers: u32) -> Pipe {
+fn pipe_of(readers: u32) -> Pipe
+    ensures { result.queue ≡ empty_queue }
+{
+    let queue = QueueParts {
+        first: None,
+        last: None,
+        place: 0,
+        len: 0,
+    };
     Pipe {
-        queue: QueueParts::default(),
+        queue,
         readers,
         writers: 1,
     }
@@ -229,7 +240,7 @@ fn renew_sock(heap: &mut KHeap) -> bool
 }
 
 // 512 + 512 + 4096 + 64 + 128 + 64 + 1088 + 128 + 576 + 128 bytes.
-fn renew_each(heap: &mut KHeap) -> [bool; 10]
+fn renew_each(heap: &mut KHeap) -> bool
     requires { live_bytes heap.old + 7296 ≤ heap.old.heap }
     ensures heap { heap.new.heap ≡ heap.old.heap }
     ensures live { live_bytes heap.new ≡ live_bytes heap.old + 7296 }
@@ -244,13 +255,13 @@ fn renew_each(heap: &mut KHeap) -> [bool; 10]
     let pipes = renew_pipe(heap);
     let chunks = renew_chunk(heap);
     let socks = renew_sock(heap);
-    [
-        procs, nodes, pages, descs, vnodes, names, blocks, pipes, chunks, socks,
-    ]
+    let memory = procs && nodes && pages;
+    let files = descs && vnodes && names && blocks;
+    memory && files && pipes && chunks && socks
 }
 
 // 576 + 128 + 128 + 64 bytes.
-fn renew_four(heap: &mut KHeap) -> [bool; 4]
+fn renew_four(heap: &mut KHeap) -> bool
     requires { live_bytes heap.old + 896 ≤ heap.old.heap }
     ensures heap { heap.new.heap ≡ heap.old.heap }
     ensures live { live_bytes heap.new ≡ live_bytes heap.old + 896 }
@@ -259,7 +270,7 @@ fn renew_four(heap: &mut KHeap) -> [bool; 4]
     let vnodes = renew_vnode(heap);
     let pipes = renew_pipe(heap);
     let descs = renew_desc(heap);
-    [chunks, vnodes, pipes, descs]
+    chunks && vnodes && pipes && descs
 }
 
 /// Objects of all ten classes, each made, freed and made again, fill a heap of 8192 bytes to its
@@ -271,12 +282,9 @@ fn ten_classes_fill_the_least_heap(rt: HostRuntime) -> Result<(), Fail> {
     let ten = renew_each(&mut heap);
     let between = heap.live();
     let four = renew_four(&mut heap);
-    assert_eq!(rt;
-        (empty, between, heap.live(), heap.high(), heap.heap()),
-        (0, 7296, 8192, 8192, 8192)
-    );
-    assert_eq!(rt; ten, [true; 10]);
-    assert_eq!(rt; four, [true; 4]);
+    assert!(rt; empty == 0 && between == 7296 && heap.live() == 8192);
+    assert!(rt; heap.high() == 8192 && heap.heap() == 8192);
+    assert!(rt; ten && four);
     Ok(())
 }
 
@@ -297,43 +305,40 @@ fn fill_with_descs(heap: &mut KHeap)
 fn a_class_fills_the_greatest_heap(rt: HostRuntime) -> Result<(), Fail> {
     let mut heap = KHeap::boot(rt.alloc(), 8388608)?;
     fill_with_descs(&mut heap);
-    assert_eq!(rt;
-        (heap.live(), heap.high(), heap.heap()),
-        (8388608, 8388608, 8388608)
-    );
+    assert!(rt; heap.live() == 8388608 && heap.high() == 8388608 && heap.heap() == 8388608);
     Ok(())
-}
-
-// Two pages; one goes, a process comes and another is put in its place. What was read on the way.
-fn change_some(heap: &mut KHeap) -> [u64; 6]
-    requires empty { live_bytes heap.old ≡ 0 }
-    requires size { heap.old.heap ≡ 8192 }
-    ensures { live_bytes heap.new ≡ 4608 }
-{
-    let one = heap.insert_page(page_of(1));
-    let other = heap.insert_page(page_of(2));
-    prove!(one != other);
-    let high = heap.high();
-    let freed = heap.free_page(one);
-    heap.mark();
-    let marked = heap.high();
-    let child = heap.insert_proc(proc_of(2));
-    heap.set_proc(child, proc_of(3));
-    [
-        high,
-        freed.bytes[4095] as u64,
-        marked,
-        heap.get_proc(child).pid as u64,
-        heap.get_page(other).bytes[0] as u64,
-        heap.high(),
-    ]
 }
 
 /// A page that goes, a mark and a process that is set leave the other page as it was.
 #[test]
 fn each_call_changes_one_object(rt: HostRuntime) -> Result<(), Fail> {
     let mut heap = KHeap::boot(rt.alloc(), 8192)?;
-    let seen = change_some(&mut heap);
-    assert_eq!(rt; seen, [8192, 1, 4096, 3, 2, 4608]);
+    let one = heap.insert_page(page_of(1));
+    let other = heap.insert_page(page_of(2));
+    assert!(rt; one != other && heap.high() == 8192);
+    let freed = heap.free_page(one);
+    heap.mark();
+    assert!(rt; freed.bytes[4095] == 1 && heap.high() == 4096);
+    let child = heap.insert_proc(proc_of(2));
+    heap.set_proc(child, proc_of(3));
+    assert!(rt; heap.get_proc(child).pid == 3 && heap.get_page(other).bytes[0] == 2);
+    assert!(rt; heap.high() == 4608);
+    Ok(())
+}
+
+/// Bytes are written at a page's front, in its middle and at its end, and the bytes around them stay.
+#[test]
+fn a_page_is_written_in_its_place(rt: HostRuntime) -> Result<(), Fail> {
+    let mut heap = KHeap::boot(rt.alloc(), 8192)?;
+    let key = heap.insert_page(page_of(1));
+    heap.write_page(key, 0, &[7]);
+    heap.write_page(key, 2000, &[8, 9]);
+    heap.write_page(key, 4095, &[5]);
+    heap.write_page(key, 4096, &[]);
+    heap.set_page_count(key, 3);
+    let page = heap.get_page(key);
+    assert!(rt; page.count == 3 && page.bytes[..2] == [7, 1]);
+    assert!(rt; page.bytes[1999..2003] == [1, 8, 9, 1]);
+    assert!(rt; page.bytes[4094..] == [1, 5]);
     Ok(())
 }

@@ -10,7 +10,8 @@ const KEYS: u64 = 3000;
 /// How many of the places at which they were put are emptied in the end, the first of them first.
 const DROPPED: u64 = 2000;
 
-/// The fewest keys of a balanced tree, by its depth: one for the top, and those of the two depths before.
+/// The fewest keys of a balanced tree, by its depth: one for the top, and those of the two depths
+/// before.
 const FEWEST: [u32; 18] = [
     0, 1, 2, 4, 7, 12, 20, 33, 54, 88, 143, 232, 376, 609, 986, 1596, 2583, 4180,
 ];
@@ -57,7 +58,8 @@ fn forget(index: &mut Index<u64>, key: u64) {
     }
 }
 
-/// Puts all keys, and after each fourth drops one that was put about half as long ago. Whether the tree stayed low.
+/// Puts all keys, and after each fourth drops one that was put about half as long ago. Whether the
+/// tree stayed low.
 fn fill(index: &mut Index<u64>, order: Order) -> bool {
     for place in 0..KEYS {
         add(index, key_at(order, place));
@@ -86,7 +88,8 @@ fn keys_of(index: &Index<u64>) -> u32 {
     index.shape().map_or(0, |shape: Shape| shape.keys)
 }
 
-/// How many keys are there after the filling and after the draining, or None where the tree grew too deep.
+/// How many keys are there after the filling and after the draining, or None where the tree grew
+/// too deep.
 fn counts(alloc: Global, order: Order) -> Result<Option<(u32, u32)>, Memory> {
     let mut index = Index::boot(alloc, KEYS as u32)?;
     if !fill(&mut index, order) {
@@ -99,21 +102,22 @@ fn counts(alloc: Global, order: Order) -> Result<Option<(u32, u32)>, Memory> {
     Ok(Some((filled, keys_of(&index))))
 }
 
-// Of 3000 keys 750 are dropped while they are put, all of them among the first 2000. So 2250 are left, and then 1000.
+// Of 3000 keys 750 are dropped while they are put, all of them among the first 2000. So 2250 are
+// left, and then 1000.
 #[test]
 fn stays_balanced_at_rising_keys(rt: HostRuntime) -> Result<(), Fail> {
-    assert_eq!(rt; counts(rt.alloc(), Order::Rising)?, Some((2250, 1000)));
+    assert!(rt; counts(rt.alloc(), Order::Rising)? == Some((2250, 1000)));
     Ok(())
 }
 
 #[test]
 fn stays_balanced_at_falling_keys(rt: HostRuntime) -> Result<(), Fail> {
-    assert_eq!(rt; counts(rt.alloc(), Order::Falling)?, Some((2250, 1000)));
+    assert!(rt; counts(rt.alloc(), Order::Falling)? == Some((2250, 1000)));
     Ok(())
 }
 
 #[test]
 fn stays_balanced_at_mixed_keys(rt: HostRuntime) -> Result<(), Fail> {
-    assert_eq!(rt; counts(rt.alloc(), Order::Mixed)?, Some((2250, 1000)));
+    assert!(rt; counts(rt.alloc(), Order::Mixed)? == Some((2250, 1000)));
     Ok(())
 }

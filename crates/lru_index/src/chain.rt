@@ -1,4 +1,5 @@
-//! The order of use, as a chain through a tree: each key is kept with its slot, and with the keys that stand beside it.
+//! The order of use, as a chain through a tree: each key is kept with its slot, and with the keys
+//! that stand beside it.
 //!
 //! Each call goes through the tree a few times, and never along the chain.
 ghost use Rattle.std.specs.Prelude.{◌≡◌, ℕ, List, [], ◌∷◌, ◌++◌, None, Some, Option, IsSome, cond, length};
@@ -45,7 +46,8 @@ impl<K: Key> Chain<K> {
     /// The slot of a key, or None where it is absent.
     pub fn slot(&self, key: K) -> Option<u32>
         requires sorted { IsSorted K.cmp (keys_of self.now.uses) }
-        ensures { (pairs : List (K × ℕ)) → IsChain K.eq self.now pairs → result ≡ lookup (K.eq key) pairs }
+        ensures { (pairs : List (K × ℕ)) → IsChain K.eq self.now pairs
+            → result ≡ lookup (K.eq key) pairs }
     {
         match self.uses.get(key) {
             Some(entry) => Some(entry.slot),
@@ -56,7 +58,8 @@ impl<K: Key> Chain<K> {
     /// The coldest key, or the one that was used just after a key.
     pub fn coldest(&self, after: Option<K>) -> Option<K>
         requires sorted { IsSorted K.cmp (keys_of self.now.uses) }
-        ensures { (pairs : List (K × ℕ)) → IsChain K.eq self.now pairs → result ≡ coldest_of K.eq after pairs }
+        ensures { (pairs : List (K × ℕ)) → IsChain K.eq self.now pairs
+            → result ≡ coldest_of K.eq after pairs }
     {
         match after {
             None => self.coldest,
@@ -67,7 +70,8 @@ impl<K: Key> Chain<K> {
     /// The key that was used just after another, if there is one.
     fn warmer(&self, key: K) -> Option<K>
         requires sorted { IsSorted K.cmp (keys_of self.now.uses) }
-        ensures { (pairs : List (K × ℕ)) → IsChain K.eq self.now pairs → result ≡ first_key (warmer (K.eq key) pairs) }
+        ensures { (pairs : List (K × ℕ)) → IsChain K.eq self.now pairs
+            → result ≡ first_key (warmer (K.eq key) pairs) }
     {
         match self.uses.get(key) {
             Some(entry) => entry.warmer,
@@ -82,7 +86,8 @@ impl<K: Key> Chain<K> {
         requires left { leaves.left.value ≡ [] }
         requires right { leaves.right.value ≡ [] }
         ensures sorted { IsSorted K.cmp (keys_of self.new.uses) }
-        ensures added { (pairs : List (K × ℕ)) → IsChain K.eq self.old pairs → IsChain K.eq self.new (pairs ++ (key, slot) ∷ []) }
+        ensures added { (pairs : List (K × ℕ)) → IsChain K.eq self.old pairs
+            → IsChain K.eq self.new (pairs ++ (key, slot) ∷ []) }
     {
         let colder = self.warmest;
         self.set_warmer(colder, Some(key));
@@ -100,8 +105,10 @@ impl<K: Key> Chain<K> {
         requires sorted { IsSorted K.cmp (keys_of self.old.uses) }
         requires there { IsSome (lookup (K.eq key) self.old.uses) }
         ensures sorted { IsSorted K.cmp (keys_of self.new.uses) }
-        ensures slot { (pairs : List (K × ℕ)) → IsChain K.eq self.old pairs → lookup (K.eq key) pairs ≡ Some result.0 }
-        ensures removed { (pairs : List (K × ℕ)) → IsChain K.eq self.old pairs → IsChain K.eq self.new (remove_entry (K.eq key) pairs) }
+        ensures slot { (pairs : List (K × ℕ)) → IsChain K.eq self.old pairs
+            → lookup (K.eq key) pairs ≡ Some result.0 }
+        ensures removed { (pairs : List (K × ℕ)) → IsChain K.eq self.old pairs
+            → IsChain K.eq self.new (remove_entry (K.eq key) pairs) }
         ensures left { result.1.left.value ≡ [] }
         ensures right { result.1.right.value ≡ [] }
     {
@@ -122,7 +129,10 @@ impl<K: Key> Chain<K> {
     fn set_warmer(&mut self, of: Option<K>, to: Option<K>)
         requires sorted { IsSorted K.cmp (keys_of self.old.uses) }
         ensures sorted { IsSorted K.cmp (keys_of self.new.uses) }
-        ensures uses { (other : K) → lookup (K.eq other) self.new.uses ≡ cond (hits K.eq of other) (option_map (with_warmer to) (lookup (K.eq other) self.old.uses)) (lookup (K.eq other) self.old.uses) }
+        ensures uses { (other : K)
+            → lookup (K.eq other) self.new.uses ≡ cond (hits K.eq of other)
+            (option_map (with_warmer to) (lookup (K.eq other) self.old.uses))
+            (lookup (K.eq other) self.old.uses) }
         ensures coldest { self.new.coldest ≡ end_after of to self.old.coldest }
         ensures warmest { self.new.warmest ≡ self.old.warmest }
     {
@@ -140,7 +150,10 @@ impl<K: Key> Chain<K> {
     fn set_colder(&mut self, of: Option<K>, to: Option<K>)
         requires sorted { IsSorted K.cmp (keys_of self.old.uses) }
         ensures sorted { IsSorted K.cmp (keys_of self.new.uses) }
-        ensures uses { (other : K) → lookup (K.eq other) self.new.uses ≡ cond (hits K.eq of other) (option_map (with_colder to) (lookup (K.eq other) self.old.uses)) (lookup (K.eq other) self.old.uses) }
+        ensures uses { (other : K)
+            → lookup (K.eq other) self.new.uses ≡ cond (hits K.eq of other)
+            (option_map (with_colder to) (lookup (K.eq other) self.old.uses))
+            (lookup (K.eq other) self.old.uses) }
         ensures coldest { self.new.coldest ≡ self.old.coldest }
         ensures warmest { self.new.warmest ≡ end_after of to self.old.warmest }
     {

@@ -1,4 +1,5 @@
-//! `Index` and its calls. A clause sees an index as its `pairs`, the coldest first, and its `capacity`.
+//! `Index` and its calls. A clause sees an index as its `pairs`, the coldest first, and its
+//! `capacity`.
 ghost use Rattle.std.specs.Prelude.{◌≡◌, ◌<◌, [], ◌∷◌, ◌++◌, length, Some, None, IfOk, IfSome, IsSome, cond, vec_capacity};
 ghost use Rattle.std.specs.Bool.{MatchBool};
 ghost use Rattle.std.specs.Option.{ForSome};
@@ -58,7 +59,8 @@ impl<K: Key> Index<K> {
 
     /// Whether there is no room for one more pair.
     pub fn is_full(&self) -> bool
-        ensures { MatchBool result (self.now.capacity ≡ length self.now.pairs) (length self.now.pairs < self.now.capacity) }
+        ensures { MatchBool result (self.now.capacity ≡ length self.now.pairs)
+            (length self.now.pairs < self.now.capacity) }
     {
         self.spare.is_empty()
     }
@@ -75,7 +77,8 @@ impl<K: Key> Index<K> {
     pub fn touch(&mut self, key: K)
         requires there { IsSome (lookup (K.eq key) self.old.pairs) }
         ensures pairs { self.new ≡ order (touched (K.eq key) self.old.pairs) self.old.capacity }
-        ensures finds { (other : K) → lookup (K.eq other) self.new.pairs ≡ lookup (K.eq other) self.old.pairs }
+        ensures finds { (other : K)
+            → lookup (K.eq other) self.new.pairs ≡ lookup (K.eq other) self.old.pairs }
         ensures valid { IsOrder K.eq self.new }
     {
         let slot = self.drop_key(key);
@@ -86,8 +89,11 @@ impl<K: Key> Index<K> {
     pub fn drop_key(&mut self, key: K) -> u32
         requires there { IsSome (lookup (K.eq key) self.old.pairs) }
         ensures slot { lookup (K.eq key) self.old.pairs ≡ Some result }
-        ensures pairs { self.new ≡ order (remove_entry (K.eq key) self.old.pairs) self.old.capacity }
-        ensures finds { (other : K) → lookup (K.eq other) self.new.pairs ≡ cond (K.eq key other) None (lookup (K.eq other) self.old.pairs) }
+        ensures pairs { self.new
+            ≡ order (remove_entry (K.eq key) self.old.pairs) self.old.capacity }
+        ensures finds { (other : K)
+            → lookup (K.eq other) self.new.pairs
+            ≡ cond (K.eq key other) None (lookup (K.eq other) self.old.pairs) }
         ensures room { length self.new.pairs < self.new.capacity }
         ensures valid { IsOrder K.eq self.new }
     {
@@ -101,7 +107,9 @@ impl<K: Key> Index<K> {
         requires absent { lookup (K.eq key) self.old.pairs ≡ None }
         requires room { length self.old.pairs < self.old.capacity }
         ensures pairs { self.new ≡ order (self.old.pairs ++ (key, slot) ∷ []) self.old.capacity }
-        ensures finds { (other : K) → lookup (K.eq other) self.new.pairs ≡ cond (K.eq key other) (Some slot) (lookup (K.eq other) self.old.pairs) }
+        ensures finds { (other : K)
+            → lookup (K.eq other) self.new.pairs ≡ cond (K.eq key other) (Some slot)
+            (lookup (K.eq other) self.old.pairs) }
         ensures valid { IsOrder K.eq self.new }
     {
         let Some(leaves) = self.spare.pop() else {
@@ -116,7 +124,8 @@ impl<K: Key> Index<K> {
         self.chain.shape()
     }
 
-    /// The coldest key, or the coldest of those warmer than a key that is there; None where there is none.
+    /// The coldest key, or the coldest of those warmer than a key that is there; None where there
+    /// is none.
     pub fn coldest(&self, after: Option<K>) -> Option<K>
         requires there { ForSome after (λ key. IsSome (lookup (K.eq key) self.now.pairs)) }
         ensures key { result ≡ coldest_of K.eq after self.now.pairs }

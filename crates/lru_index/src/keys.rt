@@ -1,6 +1,8 @@
 //! What an index may be kept by.
-ghost use Rattle.std.specs.Prelude.{◌≡◌, true};
+ghost use Rattle.std.specs.Prelude.{◌≡◌, ℕ, true, List};
 ghost use Rattle.std.proofs.Common.{eqb-true};
+
+use kabi_types::Name27;
 
 /// A key of an index. Keys that compare as equal are the same.
 pub trait Key: Ord + Copy {
@@ -11,12 +13,31 @@ impl Key for u64 {
     ghost same = { eqb-true };
 }
 
-/// A name in a directory: the number of the directory's node, the name's length in bytes, and its bytes.
+/// A name in a directory: the number of the directory's node, the name's length in bytes, and its
+/// bytes with zeros behind them. `of` makes it, so that a name has one key.
 #[derive(Clone, Copy, Debug, PartialEq, Eq, PartialOrd, Ord)]
 pub struct NameKey {
     pub dir: u32,
     pub len: u8,
     pub name: [u8; 27],
+}
+
+impl NameKey {
+    ghost use Rattle.lru_index.specs.NameKeys.{name_key};
+
+    /// The key of a name in the directory of a node.
+    pub fn of(dir: u32, name: &Name27) -> NameKey
+        ensures { result ≡ name_key dir name.now }
+    {
+        let bytes = name.items();
+        let mut padded = [0; 27];
+        padded[..bytes.len()].copy_from_slice(bytes);
+        NameKey {
+            dir,
+            len: bytes.len() as u8,
+            name: padded,
+        }
+    }
 }
 
 impl Key for NameKey {

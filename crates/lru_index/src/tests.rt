@@ -1,9 +1,10 @@
 use crate::{Index, Key, NameKey};
-use kabi_types::Memory;
+use kabi_types::{Memory, Name27};
 use std::alloc::Global;
 use std::test::Fail;
 
-/// The same in the plainest way: the pairs in a list, the coldest first, and each call a walk over it.
+/// The same in the plainest way: the pairs in a list, the coldest first, and each call a walk over
+/// it.
 #[derive(Drop)]
 struct Plain<K: Key> {
     pairs: Vec<(K, u32)>,
@@ -114,13 +115,24 @@ fn touched_key_is_the_warmest(rt: HostRuntime) -> Result<(), Fail> {
     index.put(5u64, 0);
     index.put(7, 1);
     index.touch(5);
-    assert_eq!(rt; index.coldest(None), Some(7));
-    assert_eq!(rt; index.coldest(Some(7)), Some(5));
-    assert_eq!(rt; index.coldest(Some(5)), None);
-    assert_eq!(rt; index.find(7), Some(1));
-    assert_eq!(rt; index.drop_key(7), 1);
-    assert_eq!(rt; index.find(7), None);
-    assert_eq!(rt; index.coldest(None), Some(5));
+    assert!(rt; index.coldest(None) == Some(7));
+    assert!(rt; index.coldest(Some(7)) == Some(5));
+    assert!(rt; index.coldest(Some(5)) == None);
+    assert!(rt; index.find(7) == Some(1));
+    assert!(rt; index.drop_key(7) == 1);
+    assert!(rt; index.find(7) == None);
+    assert!(rt; index.coldest(None) == Some(5));
+    Ok(())
+}
+
+#[test]
+fn a_name_and_the_same_with_a_zero_behind_it_have_two_keys(rt: HostRuntime) -> Result<(), Fail> {
+    let short = Name27::of(b"ab").ok_or("too long")?;
+    let long = Name27::of(b"ab\0").ok_or("too long")?;
+    let key = NameKey::of(7, &short);
+    assert!(rt; key.dir == 7 && key.len == 2 && key.name[..3] == [97, 98, 0]);
+    assert!(rt; key == NameKey::of(7, &short) && key != NameKey::of(8, &short));
+    assert!(rt; key != NameKey::of(7, &long));
     Ok(())
 }
 

@@ -1,7 +1,8 @@
 //! A search tree from keys to values, which is seen as its pairs in the order of the keys.
 //!
-//! A node's two sides differ in height by at most one, so a call goes down as many nodes as the logarithm of their number.
-//! Leaves are boxes too: `put` takes two that its caller kept, and `take` gives two back, so neither asks for memory.
+//! A node's two sides differ in height by at most one, so a call goes down as many nodes as the
+//! logarithm of their number. Leaves are boxes too: `put` takes two that its caller kept, and
+//! `take` gives two back, so neither asks for memory.
 ghost use Rattle.std.specs.Prelude.{◌≡◌, [], ◌∷◌, ◌++◌, Some, None, MatchOption, IsSome, cond};
 ghost use Rattle.std.specs.Map.{keys_of, lookup};
 ghost use Rattle.lru_index.specs.Sorted.{IsSorted, IsWith, IsSet};
@@ -96,7 +97,9 @@ impl<K: Key, V: Copy> Tree<K, V> {
         requires there { IsSome (lookup (K.eq key) self.old) }
         ensures set { IsSet key value self.old self.new }
         ensures sorted { IsSorted K.cmp (keys_of self.new) }
-        ensures finds { (other : K) → lookup (K.eq other) self.new ≡ cond (K.eq key other) (Some value) (lookup (K.eq other) self.old) }
+        ensures finds { (other : K)
+            → lookup (K.eq other) self.new ≡ cond (K.eq key other) (Some value)
+            (lookup (K.eq other) self.old) }
     {
         match &mut self.node {
             Node::Leaf => unreachable!(),
@@ -116,7 +119,9 @@ impl<K: Key, V: Copy> Tree<K, V> {
         requires right { leaves.right.value ≡ [] }
         ensures more { IsWith (key, value) self.old self.new }
         ensures sorted { IsSorted K.cmp (keys_of self.new) }
-        ensures finds { (other : K) → lookup (K.eq other) self.new ≡ cond (K.eq key other) (Some value) (lookup (K.eq other) self.old) }
+        ensures finds { (other : K)
+            → lookup (K.eq other) self.new ≡ cond (K.eq key other) (Some value)
+            (lookup (K.eq other) self.old) }
     {
         let fork = match self.take_node() {
             Node::Leaf => Fork {
@@ -144,7 +149,9 @@ impl<K: Key, V: Copy> Tree<K, V> {
         requires there { IsSome (lookup (K.eq key) self.old) }
         ensures less { IsWith (key, result.value) self.new self.old }
         ensures sorted { IsSorted K.cmp (keys_of self.new) }
-        ensures finds { (other : K) → lookup (K.eq other) self.new ≡ cond (K.eq key other) None (lookup (K.eq other) self.old) }
+        ensures finds { (other : K)
+            → lookup (K.eq other) self.new
+            ≡ cond (K.eq key other) None (lookup (K.eq other) self.old) }
         ensures value { lookup (K.eq key) self.old ≡ Some result.value }
         ensures left { result.leaves.left.value ≡ [] }
         ensures right { result.leaves.right.value ≡ [] }
@@ -190,7 +197,9 @@ impl<K: Key, V: Copy> Tree<K, V> {
 
     /// Takes the lowest key out, where there is one.
     fn take_first(&mut self) -> Option<Taken<K, V>>
-        ensures first { MatchOption result ((self.old ≡ []) × (self.new ≡ [])) (λ t. (self.old ≡ (t.key, t.value) ∷ self.new) × (t.leaves.left.value ≡ []) × (t.leaves.right.value ≡ [])) }
+        ensures first { MatchOption result ((self.old ≡ []) × (self.new ≡ []))
+            (λ t. (self.old ≡ (t.key, t.value) ∷ self.new) × (t.leaves.left.value
+            ≡ []) × (t.leaves.right.value ≡ [])) }
     {
         let Node::Inner(mut fork) = self.take_node() else {
             return None;
@@ -266,7 +275,8 @@ pub struct Shape {
 
 #[cfg(test)]
 impl<K: Key, V: Copy> Tree<K, V> {
-    /// The shape of a tree, or None where a node's sides differ in depth by more than one or its height is not its depth.
+    /// The shape of a tree, or None where a node's sides differ in depth by more than one or its
+    /// height is not its depth.
     pub fn shape(&self) -> Option<Shape> {
         match &self.node {
             Node::Leaf => Some(Shape { depth: 0, keys: 0 }),
@@ -286,7 +296,8 @@ impl<K: Key, V: Copy> Tree<K, V> {
     }
 }
 
-/// The same keys with sides that differ in height by at most one, where they differed by two at most.
+/// The same keys with sides that differ in height by at most one, where they differed by two at
+/// most.
 fn balanced<K: Key, V: Copy>(mut fork: Fork<K, V>) -> Fork<K, V>
     ensures { in_order_fork result ≡ in_order_fork fork }
 {
