@@ -31,3 +31,4 @@ pub mod PathLeads
 pub mod DiskStands
 pub mod FileFits
 pub mod DiskNames
+pub mod QueueOrder

@@ -8,6 +8,9 @@ pub mod PriceList
 pub mod Sizes
 pub mod Needs
 pub mod ByPid
+pub mod QueuePlace
+pub mod Pipe
+pub mod QueueRuns
 pub mod Process
 pub mod Made
 pub mod Control

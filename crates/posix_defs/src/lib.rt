@@ -13,6 +13,7 @@ mod laws;
 mod nodes;
 mod path_laws;
 mod phases;
+mod pipe_laws;
 mod price_laws;
 mod prices;
 mod said;
@@ -47,6 +48,7 @@ pub use path_laws::{
     ways_up_end_at_the_root,
 };
 pub use phases::Phase;
+pub use pipe_laws::{bytes_keep_their_order, chunks_follow_the_bytes, writes_keep_to_their_room};
 pub use price_laws::{
     a_bound_is_that_of_the_price_list, a_bound_is_the_sum_of_its_need,
     a_write_costs_less_as_it_goes_on, a_wrong_operand_costs_nothing, no_bound_is_above_39040,

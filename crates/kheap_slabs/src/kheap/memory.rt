@@ -164,6 +164,7 @@ impl KHeap {
         ensures kept { (page : PageOf) → object self.old.pages key ≡ Some page
             → self.new
             ≡ record self.old { pages = put self.old.pages key (record page { count = count }) } }
+        ensures stays { InUse self.new.pages key }
         ensures live { live_bytes self.new ≡ live_bytes self.old }
         ensures takes { TakesNothing self.old self.new }
     {
@@ -177,6 +178,7 @@ impl KHeap {
         ensures kept { (page : PageOf) → object self.old.pages key ≡ Some page
             → self.new
             ≡ record self.old { pages = put self.old.pages key (with_bytes page at bytes.now) } }
+        ensures stays { InUse self.new.pages key }
         ensures live { live_bytes self.new ≡ live_bytes self.old }
         ensures takes { TakesNothing self.old self.new }
     {
