@@ -45,6 +45,7 @@ pub mod IsTree
 pub mod NodeLists
 pub mod Paths
 pub mod Queries
+pub mod PathCalls
 pub mod DiskTree
 pub mod WorkedTrees
 pub mod TrueCaches

@@ -64,6 +64,7 @@ pub use tree_laws::{
 pub use turner::{Turned, Turner};
 pub use walked::Walked;
 pub use worked_trees::{
-    a_directory_moves_with_its_parent, a_small_disk_is_full_at_12288_bytes, paths_lead_to_these,
-    renames_leave_these_entries, sizes_take_these_blocks, writes_fit_so_far,
+    a_directory_moves_with_its_parent, a_small_disk_is_full_at_12288_bytes,
+    calls_on_paths_answer_these, paths_lead_to_these, renames_leave_these_entries,
+    sizes_take_these_blocks, writes_fit_so_far,
 };

@@ -2,7 +2,8 @@
 //! nothing.
 
 ghost use Rattle.std.specs.Prelude.{◌≡◌, ℕ, ◌+◌, true, false, List, [], ◌∷◌, None, Some, Ok, Err, is_ok, map, codes};
-ghost use Rattle.kabi_types.specs.declared.errnos.Errno.TheVariants.{EFBIG, ENAMETOOLONG, ENOENT, ENOSPC, ENOTDIR};
+ghost use Rattle.kabi_types.specs.declared.errnos.Errno.TheVariants.{EBUSY, EEXIST, EFBIG, EINVAL, EISDIR, ENAMETOOLONG, ENOENT, ENOSPC, ENOTDIR, ENOTEMPTY};
+ghost use Rattle.kabi_types.specs.declared.replies.NodeKind.TheVariants as kinds;
 ghost use Rattle.posix_defs.specs.declared.walked.Walked.TheVariants.{Node, Named, Free, Fail};
 ghost use Rattle.posix_defs.specs.DiskFormat.{blocks_of};
 ghost use Rattle.posix_defs.specs.DiskContents.{entry_for};
@@ -11,7 +12,8 @@ ghost use Rattle.posix_defs.specs.Tree.{File, entries_at, free_blocks, free_node
 ghost use Rattle.posix_defs.specs.TreeChanges.{closed, is_at_or_above, make, rename_over, rename_to, resize, unlink, write};
 ghost use Rattle.kabi_types.specs.Arguments.{path_fault};
 ghost use Rattle.posix_defs.specs.Paths.{resolve};
-ghost use Rattle.posix_defs.specs.WorkedTrees.{one_file, four_files, three_directories};
+ghost use Rattle.posix_defs.specs.PathCalls.{link_path, mkdir_path, open_path, rename_path, rmdir_path, stat_path, unlink_path};
+ghost use Rattle.posix_defs.specs.WorkedTrees.{one_file, four_files, three_directories, with_a, with_b, with_f, with_g, nowhere, to_write};
 
 /// How many blocks a size takes, and what so many blocks hold: beyond ten there is a block of pointers.
 pub fn sizes_take_these_blocks()
@@ -87,4 +89,21 @@ pub fn paths_lead_to_these()
         ≡ Fail ENOENT ∷ Fail ENOENT ∷ Fail ENOENT ∷ [] }
     ensures files { map (λ path. resolve one_file 1 path) (codes "f/" ∷ codes "f/." ∷ codes "f/x" ∷ [])
         ≡ Fail ENOTDIR ∷ Fail ENOTDIR ∷ Fail ENOTDIR ∷ [] }
+{}
+
+/// Calls on paths, one after another: directories `/a` and `/a/b`, a file `/f` with the further name `/g`.
+pub fn calls_on_paths_answer_these()
+    ensures mkdir { (mkdir_path (new_tree 64) 1 (codes "/a") ≡ Ok (2, with_a)) × (mkdir_path with_a 1 (codes "/a/b/") ≡ Ok (3, with_b)) }
+    ensures below { rename_path with_b 1 (codes "/a") (codes "/a/b/c") nowhere nowhere ≡ Err EINVAL }
+    ensures opened { open_path with_b 1 (codes "/f") to_write ≡ Ok (4, with_f) }
+    ensures linked { link_path with_f 1 (codes "/f") (codes "/g") ≡ Ok with_g }
+    ensures one_node { rename_path with_g 1 (codes "/f") (codes "/g") nowhere nowhere ≡ Ok with_g }
+    ensures told { stat_path with_g 1 (codes "/f") ≡ Ok (record { kind = kinds.File; number = 4; nlink = 2; size = 0 }) }
+    ensures kinds { (rename_path with_g 1 (codes "/a") (codes "/f") nowhere nowhere ≡ Err ENOTDIR)
+        × (rename_path with_g 1 (codes "/f") (codes "/a") nowhere nowhere ≡ Err EISDIR) }
+    ensures full { rmdir_path with_g 1 (codes "/a") nowhere ≡ Err ENOTEMPTY }
+    ensures slash { unlink_path with_g 1 (codes "/f/") nowhere ≡ Err ENOTDIR }
+    ensures root { stat_path (new_tree 64) 1 (codes "/.") ≡ Ok (record { kind = kinds.Dir; number = 1; nlink = 1; size = 64 }) }
+    ensures dots { (rmdir_path with_a 1 (codes "/") nowhere ≡ Err EBUSY) × (rmdir_path with_a 1 (codes ".") nowhere ≡ Err EINVAL)
+        × (rmdir_path with_a 1 (codes "a/..") nowhere ≡ Err ENOTEMPTY) × (mkdir_path with_a 1 (codes "/") ≡ Err EEXIST) }
 {}
