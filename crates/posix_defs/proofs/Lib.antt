@@ -31,4 +31,5 @@ pub mod PathLeads
 pub mod DiskStands
 pub mod FileFits
 pub mod DiskNames
+pub mod CallsKeep
 pub mod QueueOrder

@@ -146,7 +146,7 @@ component_name name is not_own not_parent = record {
 }
 
 -- the last name of what is led to
-abbrev NamesEntry : Walked → Type 0
+abbrev pub NamesEntry : Walked → Type 0
 NamesEntry led = (name : List ℕ) → last_name led ≡ Some name → IsEntryName name
 
 no_name : (led : Walked) → last_name led ≡ None → NamesEntry led

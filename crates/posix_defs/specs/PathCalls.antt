@@ -1,6 +1,6 @@
 -- What the calls on paths answer, as far as the tree decides it. What descriptions open, and who works in a directory, come
 -- in as tests; descriptors, offsets and processes do not occur.
-use Rattle.std.specs.Prelude.{ℕ, ◌==◌, ◌&&◌, ◌||◌, not, Bool, true, false, if◌then◌else◌, List, [], length, nat_eq, Option, None, Some, Result, Ok, Err}
+use Rattle.std.specs.Prelude.{ℕ, ◌==◌, ◌&&◌, ◌||◌, not, Bool, true, false, if◌then◌else◌, List, [], length, Option, None, Some, Result, Ok, Err}
 use Rattle.std.specs.List.{last_or}
 use Rattle.std.specs.Option.{option_map_or}
 use Rattle.std.specs.Str.{bytes_eq}
@@ -14,7 +14,7 @@ use Rattle.posix_defs.specs.declared.walked.Walked.{Walked}
 use Rattle.posix_defs.specs.declared.walked.Walked.TheVariants as walked
 use Rattle.posix_defs.specs.DiskContents.{own_name, parent_name}
 use Rattle.posix_defs.specs.FileBytes.{resized}
-use Rattle.posix_defs.specs.Tree.{Content, File, Directory, SocketName, Node, Tree, root, node_at, is_directory, links_at, entries_at, size_at}
+use Rattle.posix_defs.specs.Tree.{Content, File, Directory, SocketName, Node, Tree, node_at, is_directory, links_at, entries_at, size_at}
 use Rattle.posix_defs.specs.TreeChanges.{with_bytes, make, link, unlink, rename_over, rename_to, takes_entry, is_at_or_above}
 use Rattle.posix_defs.specs.Paths.{resolve}
 

@@ -1,5 +1,5 @@
 -- Small trees for worked examples, on disks of 16 blocks.
-use Rattle.std.specs.Prelude.{ℕ, Bool, true, false, List, [], ◌∷◌, codes}
+use Rattle.std.specs.Prelude.{ℕ, Bool, true, false, [], codes}
 use Rattle.posix_defs.specs.Tree.{File, Directory, Tree, new_tree}
 use Rattle.posix_defs.specs.TreeChanges.{with_new, with_entries, link_added, entry_put}
 use Rattle.posix_defs.specs.PathCalls.{Opening}

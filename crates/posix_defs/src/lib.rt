@@ -5,6 +5,7 @@
 #![tactic(auto)]
 
 mod blocks;
+mod call_laws;
 mod dirs;
 mod disk_laws;
 mod disk_tree_laws;
@@ -25,6 +26,7 @@ mod walked;
 mod worked_trees;
 
 pub use blocks::{BlockList, Blocks};
+pub use call_laws::calls_on_paths_leave_a_tree;
 pub use dirs::Dirs;
 pub use disk_laws::{
     a_directory_has_32_bytes_for_each_entry, a_formatted_disk_is_sound, a_name_leads_to_one_node,
