@@ -33,3 +33,4 @@ pub mod FileFits
 pub mod DiskNames
 pub mod CallsKeep
 pub mod QueueOrder
+pub mod FileBytesLaws

@@ -1,20 +1,23 @@
 -- What the calls on paths answer, as far as the tree decides it. What descriptions open, and who works in a directory, come
 -- in as tests; descriptors, offsets and processes do not occur.
-use Rattle.std.specs.Prelude.{ℕ, ◌==◌, ◌&&◌, ◌||◌, not, Bool, true, false, if◌then◌else◌, List, [], length, Option, None, Some, Result, Ok, Err}
-use Rattle.std.specs.List.{last_or}
-use Rattle.std.specs.Option.{option_map_or}
+use Rattle.std.specs.Prelude.{ℕ, ◌*◌, ◌/◌, ◌==◌, ◌&&◌, ◌||◌, not, Bool, true, false, if◌then◌else◌, List, [], ◌∷◌, ◌++◌, length, take, drop, nat_eq, Option, None, Some, Result, Ok, Err, codes}
+use Rattle.std.specs.List.{last_or, flat_map, position_from, starts_with}
+use Rattle.std.specs.Option.{option_map_or, ok_or}
 use Rattle.std.specs.Str.{bytes_eq}
 use Rattle.kabi_types.specs.PathParts.{components}
 use Rattle.kabi_types.specs.declared.errnos.Errno.{Errno}
-use Rattle.kabi_types.specs.declared.errnos.Errno.TheVariants.{EADDRINUSE, EBUSY, EEXIST, EINVAL, EISDIR, ENOENT, ENOSPC, ENOTDIR, ENOTEMPTY, EOPNOTSUPP, EPERM}
+use Rattle.kabi_types.specs.declared.errnos.Errno.TheVariants.{EACCES, EADDRINUSE, EBUSY, EEXIST, EINVAL, EISDIR, ENOENT, ENOEXEC, ENOSPC, ENOTDIR, ENOTEMPTY, EOPNOTSUPP, EPERM}
+use Rattle.kabi_types.specs.declared.inodes.DirEntry.{DirEntry}
 use Rattle.kabi_types.specs.declared.replies.NodeKind.{NodeKind}
 use Rattle.kabi_types.specs.declared.replies.NodeKind.TheVariants as kinds
 use Rattle.kabi_types.specs.declared.replies.StatInfo.{StatInfo}
+use Rattle.kabi_types.specs.declared.scripts.Program.{Program}
 use Rattle.posix_defs.specs.declared.walked.Walked.{Walked}
 use Rattle.posix_defs.specs.declared.walked.Walked.TheVariants as walked
-use Rattle.posix_defs.specs.DiskContents.{own_name, parent_name}
+use Rattle.posix_defs.specs.DiskFormat.{entry_bytes}
+use Rattle.posix_defs.specs.DiskContents.{entry_for, own_name, parent_name}
 use Rattle.posix_defs.specs.FileBytes.{resized}
-use Rattle.posix_defs.specs.Tree.{Content, File, Directory, SocketName, Node, Tree, node_at, is_directory, links_at, entries_at, size_at}
+use Rattle.posix_defs.specs.Tree.{Content, File, Directory, SocketName, Node, Tree, node_at, is_directory, links_at, entries_at, parent_at, size_at}
 use Rattle.posix_defs.specs.TreeChanges.{with_bytes, make, link, unlink, rename_over, rename_to, takes_entry, is_at_or_above}
 use Rattle.posix_defs.specs.Paths.{resolve}
 
@@ -218,3 +221,42 @@ rename_led tree opened busy (walked.Fail errno) new = Err errno
 -- `opened` where a description opens a node, `busy` where that or a process works in it
 abbrev pub rename_path : Tree → ℕ → List ℕ → List ℕ → (ℕ → Bool) → (ℕ → Bool) → Result Tree Errno
 rename_path tree cwd old new opened busy = rename_led tree opened busy (resolve tree cwd old) (resolve tree cwd new)
+
+-- ---- exec, and what is read
+
+abbrev pub bytes_of : Content → List ℕ
+bytes_of (File bytes) = bytes
+bytes_of _ = []
+
+abbrev pub bytes_in : Option Node → List ℕ
+bytes_in None = []
+bytes_in (Some node) = bytes_of node.content
+
+-- the bytes of a file from a place on, at most so many
+abbrev pub read_node : Tree → ℕ → ℕ → ℕ → List ℕ
+read_node tree number at count = take count (drop at (bytes_in (node_at tree number)))
+
+-- the entries of a directory as `readdir` tells them, `.` and `..` first
+abbrev pub all_entries : Tree → ℕ → List DirEntry
+all_entries tree dir = entry_for dir own_name ∷ entry_for (parent_at tree dir) parent_name ∷ entries_at tree dir
+
+-- whole entries of 32 bytes from a place on, as many as so many bytes allow
+abbrev pub list_node : Tree → ℕ → ℕ → ℕ → List ℕ
+list_node tree dir at count = take (32 * (count / 32)) (drop at (flat_map entry_bytes (all_entries tree dir)))
+
+-- `#!`, the program's name and a newline
+abbrev pub first_line : Program → List ℕ
+first_line program = codes "#!" ++ program.name ++ codes "\n"
+
+-- the program whose line the bytes begin with, by its place
+abbrev pub program_of : List Program → List ℕ → Result ℕ Errno
+program_of programs bytes = ok_or (position_from (λ program. starts_with nat_eq bytes (first_line program)) 0 programs) ENOEXEC
+
+abbrev pub exec_found : Tree → List Program → Result ℕ Errno → Result ℕ Errno
+exec_found tree programs (Ok number) =
+    unless (is_directory tree number || is_socket tree number) EACCES (program_of programs (bytes_in (node_at tree number)))
+exec_found tree programs (Err errno) = Err errno
+
+-- the program that an exec starts, by its place in the script
+abbrev pub exec_path : Tree → ℕ → List ℕ → List Program → Result ℕ Errno
+exec_path tree cwd path programs = exec_found tree programs (node_led (resolve tree cwd path))

@@ -1,5 +1,6 @@
 -- Small trees for worked examples, on disks of 16 blocks.
-use Rattle.std.specs.Prelude.{ℕ, Bool, true, false, [], codes}
+use Rattle.std.specs.Prelude.{List, ◌∷◌, ℕ, Bool, true, false, [], codes}
+use Rattle.kabi_types.specs.declared.scripts.Program.{Program}
 use Rattle.posix_defs.specs.Tree.{File, Directory, Tree, new_tree}
 use Rattle.posix_defs.specs.TreeChanges.{with_new, with_entries, link_added, entry_put}
 use Rattle.posix_defs.specs.PathCalls.{Opening}
@@ -38,3 +39,13 @@ nowhere _ = false
 -- an open to write that makes the file where it is missing
 abbrev pub to_write : Opening
 to_write = record { writes = true; creates = true; excludes = false; truncates = false }
+
+-- files `/s` and `/b`
+abbrev pub with_script : Tree
+with_script = with_new (with_new (new_tree 16) 2 1 (codes "s") (File (codes "#!sh\nx"))) 3 1 (codes "b") (File (codes "#!shell\n"))
+
+abbrev pub empty_program : List ℕ → Program
+empty_program name = record { name = name; body = [] }
+
+abbrev pub two_programs : List Program
+two_programs = empty_program (codes "init") ∷ empty_program (codes "sh") ∷ []

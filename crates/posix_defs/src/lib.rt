@@ -61,12 +61,12 @@ pub use tree_laws::{
     a_changed_file_leaves_a_tree, a_further_name_leaves_a_tree, a_new_root_is_a_tree,
     a_removed_name_is_free, a_rename_over_a_name_moves_the_node,
     a_rename_to_a_new_name_moves_the_node, a_write_goes_as_far_as_there_is_room,
-    what_is_made_is_found,
+    bytes_are_read_as_they_were_written, what_is_made_is_found,
 };
 pub use turner::{Turned, Turner};
 pub use walked::Walked;
 pub use worked_trees::{
     a_directory_moves_with_its_parent, a_small_disk_is_full_at_12288_bytes,
-    calls_on_paths_answer_these, paths_lead_to_these, renames_leave_these_entries,
-    sizes_take_these_blocks, writes_fit_so_far,
+    calls_on_paths_answer_these, files_are_read_and_started, paths_lead_to_these,
+    renames_leave_these_entries, sizes_take_these_blocks, writes_fit_so_far,
 };

@@ -1,9 +1,10 @@
 //! Laws of the tree of files. Each is the contract of a function that does nothing.
 
-ghost use Rattle.std.specs.Prelude.{◌≡◌, ◌≢◌, ℕ, ◌+◌, ◌^◌, ◌<◌, ◌≤◌, Bool, true, false, List, [], None, Some, Ok, Err, length};
+ghost use Rattle.std.specs.Prelude.{◌≡◌, ◌≢◌, ℕ, ◌+◌, ◌^◌, ◌<◌, ◌≤◌, Bool, true, false, List, [], None, Some, Ok, Err, length, max, slice_index, take, drop};
 ghost use Rattle.std.specs.List.{All};
 ghost use Rattle.kabi_types.specs.declared.errnos.Errno.TheVariants.{EFBIG, ENOSPC};
 ghost use Rattle.posix_defs.specs.DiskFormat.{greatest_size};
+ghost use Rattle.posix_defs.specs.FileBytes.{overwritten, resized};
 ghost use Rattle.posix_defs.specs.Tree.{Content, File, Tree, entries_at, found, is_directory, is_in_use, new_tree, node_at};
 ghost use Rattle.posix_defs.specs.TreeChanges.{HasNoRoom, IsAtOrAbove, closed, link, make, rename_over, rename_to, resize, takes_entry, unlink, write};
 ghost use Rattle.posix_defs.specs.IsTree.{IsEntryName, IsNewContent, IsTree};
@@ -90,4 +91,15 @@ pub fn a_write_goes_as_far_as_there_is_room()
     ensures none { (tree : Tree) (number at : ℕ) (bytes : List ℕ) → write tree number at bytes ≡ Err ENOSPC
         → (at < greatest_size) × ((more : ℕ) → 0 < more → more ≤ length bytes → at + more ≤ greatest_size → HasNoRoom tree number (at + more)) }
     ensures big { (tree : Tree) (number at : ℕ) (bytes : List ℕ) → write tree number at bytes ≡ Err EFBIG → greatest_size ≤ at }
+{}
+
+/// What was written is read, and every other byte is as it was; a gap reads as zeros. A file that gets another size keeps
+/// its bytes within it, with zeros behind them.
+pub fn bytes_are_read_as_they_were_written()
+    ensures back { (at : ℕ) (new old : List ℕ) → take (length new) (drop at (overwritten at new old)) ≡ new }
+    ensures before { (at : ℕ) (new old : List ℕ) (k : ℕ) → k < at → slice_index (overwritten at new old) k ≡ slice_index old k }
+    ensures behind { (at : ℕ) (new old : List ℕ) (k : ℕ) → at + length new ≤ k → slice_index (overwritten at new old) k ≡ slice_index old k }
+    ensures len { (at : ℕ) (new old : List ℕ) → length (overwritten at new old) ≡ max (at + length new) (length old) }
+    ensures sized { (size : ℕ) (bytes : List ℕ) (k : ℕ) → k < size → slice_index (resized size bytes) k ≡ slice_index bytes k }
+    ensures size { (size : ℕ) (bytes : List ℕ) → length (resized size bytes) ≡ size }
 {}

@@ -1,8 +1,8 @@
 //! Worked examples of the tree of files and of paths, computed by hand. Each is the contract of a function that does
 //! nothing.
 
-ghost use Rattle.std.specs.Prelude.{◌≡◌, ℕ, ◌+◌, true, false, List, [], ◌∷◌, None, Some, Ok, Err, is_ok, map, codes};
-ghost use Rattle.kabi_types.specs.declared.errnos.Errno.TheVariants.{EBUSY, EEXIST, EFBIG, EINVAL, EISDIR, ENAMETOOLONG, ENOENT, ENOSPC, ENOTDIR, ENOTEMPTY};
+ghost use Rattle.std.specs.Prelude.{◌≡◌, ℕ, ◌+◌, true, false, List, [], ◌∷◌, None, Some, Ok, Err, is_ok, map, replicate, codes};
+ghost use Rattle.kabi_types.specs.declared.errnos.Errno.TheVariants.{EACCES, EBUSY, EEXIST, EFBIG, EINVAL, EISDIR, ENAMETOOLONG, ENOENT, ENOEXEC, ENOSPC, ENOTDIR, ENOTEMPTY};
 ghost use Rattle.kabi_types.specs.declared.replies.NodeKind.TheVariants as kinds;
 ghost use Rattle.posix_defs.specs.declared.walked.Walked.TheVariants.{Node, Named, Free, Fail};
 ghost use Rattle.posix_defs.specs.DiskFormat.{blocks_of};
@@ -12,8 +12,8 @@ ghost use Rattle.posix_defs.specs.Tree.{File, entries_at, free_blocks, free_node
 ghost use Rattle.posix_defs.specs.TreeChanges.{closed, is_at_or_above, make, rename_over, rename_to, resize, unlink, write};
 ghost use Rattle.kabi_types.specs.Arguments.{path_fault};
 ghost use Rattle.posix_defs.specs.Paths.{resolve};
-ghost use Rattle.posix_defs.specs.PathCalls.{link_path, mkdir_path, open_path, rename_path, rmdir_path, stat_path, unlink_path};
-ghost use Rattle.posix_defs.specs.WorkedTrees.{one_file, four_files, three_directories, with_a, with_b, with_f, with_g, nowhere, to_write};
+ghost use Rattle.posix_defs.specs.PathCalls.{exec_path, link_path, list_node, mkdir_path, open_path, read_node, rename_path, rmdir_path, stat_path, unlink_path};
+ghost use Rattle.posix_defs.specs.WorkedTrees.{one_file, four_files, three_directories, with_a, with_b, with_f, with_g, with_script, two_programs, nowhere, to_write};
 
 /// How many blocks a size takes, and what so many blocks hold: beyond ten there is a block of pointers.
 pub fn sizes_take_these_blocks()
@@ -106,4 +106,15 @@ pub fn calls_on_paths_answer_these()
     ensures root { stat_path (new_tree 64) 1 (codes "/.") ≡ Ok (record { kind = kinds.Dir; number = 1; nlink = 1; size = 64 }) }
     ensures dots { (rmdir_path with_a 1 (codes "/") nowhere ≡ Err EBUSY) × (rmdir_path with_a 1 (codes ".") nowhere ≡ Err EINVAL)
         × (rmdir_path with_a 1 (codes "a/..") nowhere ≡ Err ENOTEMPTY) × (mkdir_path with_a 1 (codes "/") ≡ Err EEXIST) }
+{}
+
+/// Files `s`, which begins with the line of the second of two programs, and `b`, which begins with that of none; and what
+/// is read of them and of their directory.
+pub fn files_are_read_and_started()
+    ensures started { exec_path with_script 1 (codes "/s") two_programs ≡ Ok 1 }
+    ensures other { (exec_path with_script 1 (codes "/b") two_programs ≡ Err ENOEXEC) × (exec_path with_script 1 (codes "/") two_programs ≡ Err EACCES)
+        × (exec_path with_script 1 (codes "/x") two_programs ≡ Err ENOENT) }
+    ensures read { (read_node with_script 2 2 4 ≡ codes "sh\nx") × (read_node with_script 2 5 9 ≡ codes "x") × (read_node with_script 2 6 9 ≡ []) }
+    ensures listed { list_node (new_tree 16) 1 32 63 ≡ 0 ∷ 0 ∷ 0 ∷ 1 ∷ 2 ∷ 46 ∷ 46 ∷ replicate 25 0 }
+    ensures ended { list_node (new_tree 16) 1 64 32767 ≡ [] }
 {}
