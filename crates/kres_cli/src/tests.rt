@@ -103,7 +103,7 @@ fn runs_scripts_to_their_ends(rt: HostRuntime) -> Result<(), Fail> {
 const REFUSALS: &[(&str, Status, &str)] = &[
     (PID_SCRIPT, Status::Finished, PID_REPORT),
     (
-        "program init\nr1 = fork\nend\n",
+        "program init\nr1 = socket\nend\n",
         Status::BadScript,
         "bad script: line 2: not built\n",
     ),
@@ -152,7 +152,7 @@ const FAULTS: &[(&str, Status, &str)] = &[
         "bad script: line 3: unknown word\n",
     ),
     (
-        "program init\nr1 = fork\nend\n",
+        "program init\nr1 = socket\nend\n",
         Status::BadScript,
         "bad script: line 2: not built\n",
     ),

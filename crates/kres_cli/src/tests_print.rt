@@ -74,7 +74,7 @@ const PRINTS: &[(&str, Status, &str)] = &[
         "bad script: line 3: unknown word\n",
     ),
     (
-        "program init\nr1 = fork\nend\n",
+        "program init\nr1 = socket\nend\n",
         Status::BadScript,
         "bad script: line 2: not built\n",
     ),
