@@ -13,13 +13,13 @@ use Rattle.posix_defs.proofs.FormattedDisk.{one_inode}
 
 -- ---- how many numbers of a range pass a test
 
-abbrev numbers : (ℕ → Bool) → ℕ → ℕ → ℕ
+abbrev pub numbers : (ℕ → Bool) → ℕ → ℕ → ℕ
 numbers p from n = count_by p (range_with_len from n)
 
-abbrev one : Bool → ℕ
+abbrev pub one : Bool → ℕ
 one b = cond b 1 0
 
-numbers-suc : (p : ℕ → Bool) (from n : ℕ) → numbers p from (suc n) ≡ one (p from) + numbers p (from + 1) n
+pub numbers-suc : (p : ℕ → Bool) (from n : ℕ) → numbers p from (suc n) ≡ one (p from) + numbers p (from + 1) n
 numbers-suc p from n = sum_by-cons (λ (k : ℕ). cond (p k) 1 0) from (range_with_len (from + 1) n)
 
 numbers_alike : (p q : ℕ → Bool) (from n : ℕ) → ((k : ℕ) → from ≤ k → p k ≡ q k) → numbers p from n ≡ numbers q from n
@@ -162,10 +162,10 @@ distinct_values f from (suc n) apart = (
 is_needed : (blocks place size pointer : ℕ) → place < size → IsPointer blocks (ltb place size) pointer → IsForFiles blocks pointer
 is_needed blocks place size pointer lt is = subst (λ (b : Bool). IsPointer blocks b pointer) (lt-ltb place size lt) is
 
-direct_at : (disk : List (List ℕ)) (inode : Inode) (index : ℕ) → index < 10 → named_at disk inode (Data index) ≡ get_or inode.direct index 0
+pub direct_at : (disk : List (List ℕ)) (inode : Inode) (index : ℕ) → index < 10 → named_at disk inode (Data index) ≡ get_or inode.direct index 0
 direct_at disk inode index lt = cond-true (ltb index 10) _ _ (lt-ltb index 10 lt)
 
-behind_at : (disk : List (List ℕ)) (inode : Inode) (index : ℕ) → 10 ≤ index → named_at disk inode (Data index) ≡ pointer_at (block_bytes disk inode.indirect) (index - 10)
+pub behind_at : (disk : List (List ℕ)) (inode : Inode) (index : ℕ) → 10 ≤ index → named_at disk inode (Data index) ≡ pointer_at (block_bytes disk inode.indirect) (index - 10)
 behind_at disk inode index past = cond-false (ltb index 10) _ _ (le-ltb index 10 past)
 
 -- what a node names is a block for files
@@ -196,10 +196,10 @@ front_place size k lt = cond-true (ltb k (data_blocks size)) _ _ (lt-ltb k (data
 last_place : (size k : ℕ) → data_blocks size ≤ k → nth_place size k ≡ Pointers
 last_place size k le = cond-false (ltb k (data_blocks size)) _ _ (le-ltb k (data_blocks size) le)
 
-one_for_pointers : (size : ℕ) → 10 < data_blocks size → pointer_blocks size ≡ 1
+pub one_for_pointers : (size : ℕ) → 10 < data_blocks size → pointer_blocks size ≡ 1
 one_for_pointers size large = ap (λ (b : Bool). cond b 1 0) (lt-ltb 10 (data_blocks size) large)
 
-none_for_pointers : (size : ℕ) → data_blocks size ≤ 10 → pointer_blocks size ≡ 0
+pub none_for_pointers : (size : ℕ) → data_blocks size ≤ 10 → pointer_blocks size ≡ 0
 none_for_pointers size few = ap (λ (b : Bool). cond b 1 0) (le-ltb 10 (data_blocks size) few)
 
 -- of the places behind those of the bytes only one is there
@@ -375,13 +375,13 @@ how_many_used disk inodes sound table some =
     let many = members (used disk inodes) (is_used disk) (length disk) (distinct_used disk inodes sound table) (used_are_marked disk inodes sound table some) (marked_are_used disk inodes sound table) in
     many ∙ length-append (values (λ k. k) 0 first) (all_named disk inodes) ∙ ap (λ (n : ℕ). n + length (all_named disk inodes)) (length-map-range_with_len (λ k. k) 0 first) ∙ ap (λ (n : ℕ). first + n) (length-all_named disk inodes)
 
+pub used_and_free : (disk : List (List ℕ)) (inodes : List Inode) → Sound disk → IsTable disk inodes
+    → free_in_map disk + (table_end (length disk) + 1 + sum_by (λ (inode : Inode). blocks_of inode.size) inodes) ≡ length disk
+used_and_free disk inodes sound table =
+    omega (arith, passing_and_others (is_used disk) 0 (length disk), how_many_used disk inodes sound table (omega (arith, sound.size.0)))
+
 pub how_many_free : (disk : List (List ℕ)) (inodes : List Inode) → Sound disk → IsTable disk inodes → free_in_map disk ≡ free_blocks (length disk) inodes
-how_many_free disk inodes sound table =
-    let both : numbers (is_used disk) 0 (length disk) + free_in_map disk ≡ length disk = passing_and_others (is_used disk) 0 (length disk) in
-    elim (cases_eq (length disk) 0) [
-      | inl none ↦ omega (arith, both, none)
-      | inr some ↦ omega (arith, both, how_many_used disk inodes sound table (omega (arith, some)))
-    ]
+how_many_free disk inodes sound table = omega (arith, used_and_free disk inodes sound table)
 
 -- ---- the table
 

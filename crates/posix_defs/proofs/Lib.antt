@@ -10,6 +10,7 @@ pub mod FirstRun
 pub mod DiskSpelling
 pub mod FormattedDisk
 pub mod FreeBlocks
+pub mod OneNode
 pub mod DirectoryEntries
 pub mod FreeNodes
 pub mod TreeNodes

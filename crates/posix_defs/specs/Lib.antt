@@ -48,6 +48,7 @@ pub mod Queries
 pub mod PathCalls
 pub mod DiskTree
 pub mod WorkedTrees
+pub mod NodeChange
 pub mod TrueCaches
 pub mod ScriptWords
 pub mod ScriptValues

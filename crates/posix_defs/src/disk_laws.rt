@@ -1,11 +1,12 @@
 //! Laws of a disk's format. Each is the contract of a function that does nothing.
 
-ghost use Rattle.std.specs.Prelude.{◌≡◌, ℕ, ◌*◌, ◌<◌, ◌≤◌, ◌↔◌, List, [], length};
+ghost use Rattle.std.specs.Prelude.{◌≡◌, ℕ, ◌+◌, ◌*◌, ◌<◌, ◌≤◌, ◌↔◌, List, [], length};
 ghost use Rattle.kabi_types.specs.declared.inodes.DirEntry.{DirEntry};
 ghost use Rattle.kabi_types.specs.declared.inodes.Inode.{Inode};
-ghost use Rattle.posix_defs.specs.DiskFormat.{IsForFiles, IsEntry, entry_bytes};
+ghost use Rattle.posix_defs.specs.DiskFormat.{IsForFiles, IsEntry, blocks_of, entry_bytes};
 ghost use Rattle.posix_defs.specs.SoundDisk.{HasInode, IsNamed, Sound, IsTable, IsFreeBlock, IsFreeNode, free_in_map, free_blocks, free_inodes};
 ghost use Rattle.posix_defs.specs.TrueCaches.{HasName};
+ghost use Rattle.posix_defs.specs.NodeChange.{Replaces, KeepsOthers};
 ghost use Rattle.posix_defs.specs.DiskContents.{HasEntries, IsDirectoryOf, IsFormatted};
 
 /// A new disk is sound, and its root is a directory without entries but `.` and `..`, which both name the root.
@@ -49,4 +50,14 @@ pub fn free_blocks_are_those_that_no_node_names()
 pub fn what_is_free_is_counted()
     ensures blocks { (disk : List (List ℕ)) → (0 < free_in_map disk) ↔ ((number : ℕ) × IsFreeBlock disk number) }
     ensures nodes { (disk : List (List ℕ)) (inodes : List Inode) → IsTable disk inodes → (0 < free_inodes inodes) ↔ ((node : ℕ) × IsFreeNode disk node) }
+{}
+
+/// Where one node was replaced, by the facts that say so, the disk is sound, the node has its new inode, every other node
+/// has the inode and the bytes that it had, and so many blocks are free as the two sizes leave.
+pub fn one_node_is_replaced()
+    ensures sound { (number : ℕ) (before : List (List ℕ)) (old : Inode) (after : List (List ℕ)) (new : Inode) → Sound before → Replaces number before old after new → Sound after }
+    ensures has { (number : ℕ) (before : List (List ℕ)) (old : Inode) (after : List (List ℕ)) (new : Inode) → Replaces number before old after new → HasInode after number new }
+    ensures others { (number : ℕ) (before : List (List ℕ)) (old : Inode) (after : List (List ℕ)) (new : Inode) → Sound before → Replaces number before old after new → KeepsOthers number before after }
+    ensures free { (number : ℕ) (before : List (List ℕ)) (old : Inode) (after : List (List ℕ)) (new : Inode) → Sound before → Replaces number before old after new
+        → free_in_map after + blocks_of new.size ≡ free_in_map before + blocks_of old.size }
 {}

@@ -31,7 +31,7 @@ pub use dirs::Dirs;
 pub use disk_laws::{
     a_directory_has_32_bytes_for_each_entry, a_formatted_disk_is_sound, a_name_leads_to_one_node,
     a_sound_disk_has_a_table, bytes_of_a_disk_say_one_thing,
-    free_blocks_are_those_that_no_node_names, what_is_free_is_counted,
+    free_blocks_are_those_that_no_node_names, one_node_is_replaced, what_is_free_is_counted,
 };
 pub use disk_tree_laws::{
     a_change_of_one_node_stands_for_the_changed_tree, a_new_disk_stands_for_the_new_tree,

@@ -1,0 +1,9 @@
+pub mod Blocks
+pub mod Counted
+pub mod Finding
+pub mod Forgetting
+pub mod Giving
+pub mod Growth
+pub mod Inodes
+pub mod SameBlocks
+pub mod Taking

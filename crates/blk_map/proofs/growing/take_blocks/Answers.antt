@@ -1,0 +1,68 @@
+use Rattle.std.proofs.Common.{◌≡◌, ℕ, ◌+◌, ◌-◌, ◌<◌, ◌≤◌, ◌⊎◌, inl, inr, List, length, get_or, sym, ap, subst, ◌∙◌, arith}
+use Rattle.posix_defs.specs.DiskFormat.{data_blocks}
+use Rattle.posix_defs.specs.SoundDisk.{pointer_at, bit_of, block_bytes}
+use Rattle.blk_map.specs.Named.{pointer_to}
+use Rattle.blk_map.proofs.Taking.{Taking, taken_grows}
+use Rattle.blk_map.proofs.growing.take_blocks.Goals as goal
+
+pub returns-clause-grows : goal.returns-clause-grows
+returns-clause-grows g c =
+    let before : List (List ℕ) = g.B.Blocks.blocks c.args.b.now in
+    let taken : List ℕ = c.args.blocks.now in
+    let had : ℕ = data_blocks c.args.inode.now.size in
+    let more : ℕ = data_blocks c.args.size - had in
+    let here : c.args.map ≡ block_bytes before 0 = c.requires.map in
+    let direct : List ℕ = c.name_all.new.direct in
+    let behind : List ℕ = c.name_all.new.behind in
+    let had_is : c.data_count-had.result ≡ had = c.data_count-had.ensures in
+    let more_is : c.data_count.result - c.data_count-had.result ≡ more = omega (arith, c.data_count.ensures, had_is) in
+    let these : (k : ℕ) → k < more → pointer_to direct behind (had + k) ≡ get_or taken k 0 = λ k lt.
+    ap (λ (n : ℕ). pointer_to direct behind (n + k)) (sym had_is) ∙ c.name_all.ensures.these k (omega (arith, lt, more_is))
+    in
+    let others : (index : ℕ) → (index < had) ⊎ (had + more ≤ index) → pointer_to direct behind index ≡ pointer_to c.args.inode.now.direct c.behind_of-behind.result index = λ index where_.
+    c.name_all.ensures.others index (elim where_ [ inl lt ↦ inl (omega (arith, lt, had_is)) | inr le ↦ inr (omega (arith, le, had_is, more_is)) ])
+    in
+    taken_grows (
+    record {
+      number = c.args.number;
+      before = before;
+      old = c.args.inode.now;
+      size = c.args.size;
+      taken = taken;
+      map = c.mark_all.new.map;
+      marked = g.B.Blocks.blocks c.behind_of-behind.new.b;
+      behind = c.behind_of-behind.result;
+      direct_now = c.name_all.new.direct;
+      behind_now = c.name_all.new.behind;
+      indirect = c.place_or-inode.result;
+      cleared = g.B.Blocks.blocks c.zero_all.new.b;
+      after = g.B.Blocks.blocks c.settle.new.b;
+      sound = c.requires.sound;
+      had = c.requires.node.0;
+      kind = c.requires.kind;
+      more = c.requires.size;
+      most = c.requires.most;
+      many = c.requires.many;
+      free = c.requires.free;
+      apart = c.requires.apart;
+      lowest = c.requires.lowest;
+      map_these = c.mark_all.ensures.these;
+      map_stays = λ block is. c.mark_all.ensures.stays block (ap (λ (map : List ℕ). bit_of map block) here ∙ is);
+      map_only = λ block is. subst (λ (map : List ℕ). (bit_of map block ≡ 1) ⊎ ((k : ℕ) × (k < length taken) × (get_or taken k 0 ≡ block))) here (c.mark_all.ensures.only block is);
+      map_set = c.behind_of-behind.ensures.kept ∙ c.set.ensures.after;
+      behind_large = λ was k lt. c.behind_of-behind.ensures.large was k lt ∙ ap (λ (disk : List (List ℕ)). pointer_at (block_bytes disk c.args.inode.now.indirect) k) (sym c.behind_of-behind.ensures.kept);
+      behind_small = c.behind_of-behind.ensures.small;
+      names_these = these;
+      names_others = others;
+      ten = c.name_all.array_long;
+      indirect_is = c.place_or-inode.ensures ∙ ap (λ (n : ℕ). get_or taken n c.args.inode.now.indirect) more_is;
+      cleared_count = c.zero_all.ensures.count;
+      cleared_these = λ k lt. c.zero_all.ensures.these k (omega (arith, lt, more_is));
+      cleared_others = λ block none. c.zero_all.ensures.others block (λ k lt. none k (omega (arith, lt, more_is)));
+      after_count = c.settle.ensures.count;
+      after_slot = c.settle.ensures.slot;
+      after_slots = c.settle.ensures.slots;
+      after_named = c.settle.ensures.named;
+      after_others = c.settle.ensures.others;
+    }
+    )

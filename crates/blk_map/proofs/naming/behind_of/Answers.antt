@@ -1,0 +1,12 @@
+use Rattle.std.proofs.Common.{◌≡◌, ℕ, List, sym, ap, ◌∙◌, arith}
+use Rattle.std.proofs.lemmas.List.{get_or-replicate}
+use Rattle.posix_defs.specs.SoundDisk.{block_bytes, pointer_at}
+use Rattle.blk_map.proofs.Blocks.{got}
+use Rattle.blk_map.proofs.naming.behind_of.Goals as goal
+
+pub returns-then-data_count-le-DIRECT_POINTERS-clause-small : goal.returns-then-data_count-le-DIRECT_POINTERS-clause-small
+returns-then-data_count-le-DIRECT_POINTERS-clause-small g c = λ few k lt. get_or-replicate 256 k 0 0 lt
+
+pub returns-clause-large : goal.returns-clause-large
+returns-clause-large g c = λ large k lt.
+    c.pointers_in.ensures k lt ∙ ap (λ (bytes : List ℕ). pointer_at bytes k) (sym (got (g.B.Blocks.blocks c.args.b.now) c.args.inode.now.indirect c.get-block.result c.get-block.ensures.value))

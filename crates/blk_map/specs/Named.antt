@@ -1,0 +1,24 @@
+-- The blocks of a node as the calls have them in hand: the pointers of its inode, and those of its block of pointers.
+use Rattle.std.specs.Prelude.{ℕ, ◌-◌, ◌<◌, ◌≡◌, ◌⊎◌, ◌%◌, List, [], ◌∷◌, slice_index, nat_lt, cond}
+use Rattle.kabi_types.specs.declared.inodes.Inode.{Inode}
+use Rattle.posix_defs.specs.DiskFormat.{direct_pointers}
+
+-- the kind of a file
+abbrev pub file : ℕ
+file = 1
+
+-- the kind of a directory
+abbrev pub directory : ℕ
+directory = 2
+
+-- what may grow and shrink: a file, and a directory by whole entries
+abbrev pub MayHaveSize : ℕ → ℕ → Type 0
+MayHaveSize kind size = (kind ≡ file) ⊎ ((kind ≡ directory) × (size % 32 ≡ 0))
+
+-- the pointer to a block of bytes
+abbrev pub pointer_to : List ℕ → List ℕ → ℕ → ℕ
+pointer_to direct behind index = cond (nat_lt index direct_pointers) (slice_index direct index) (slice_index behind (index - direct_pointers))
+
+-- the blocks that are asked for to find a block of a node's bytes
+abbrev pub asked_for : Inode → ℕ → List ℕ
+asked_for inode index = cond (nat_lt index direct_pointers) [] (inode.indirect ∷ [])

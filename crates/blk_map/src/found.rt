@@ -1,0 +1,67 @@
+//! Free blocks, found in a map and marked there.
+
+ghost use Rattle.std.specs.Prelude.{◌≡◌, ◌≢◌, ℕ, ◌*◌, ◌<◌, ◌≤◌, ◌⊎◌, min, length, slice_index};
+ghost use Rattle.posix_defs.specs.DiskFormat.{block_size};
+ghost use Rattle.posix_defs.specs.SoundDisk.{bit_of};
+ghost use Rattle.blk_map.specs.Found.{free_below};
+
+use disk_layout::{is_marked, mark, unmark};
+
+/// The lowest free blocks of a map, as many as were wanted and are there.
+#[derive(Clone, Copy)]
+pub struct Found {
+    pub blocks: [u32; 267],
+    pub count: usize,
+}
+
+/// The lowest free blocks of a map of so many blocks, up to as many as are wanted.
+pub fn lowest_free(map: &[u8; 1024], blocks: u32, wanted: usize) -> Found
+    requires few { blocks ≤ 8 * block_size }
+    requires room { wanted ≤ 267 }
+    ensures many { result.count ≡ min wanted (free_below map.now blocks) }
+    ensures each { (k : ℕ) → k < result.count → (slice_index result.blocks k < blocks) × (bit_of map.now (slice_index result.blocks k) ≢ 1) }
+    ensures apart { (j k : ℕ) → j < result.count → k < result.count → slice_index result.blocks j ≡ slice_index result.blocks k → j ≡ k }
+    ensures lowest { (block : ℕ) → block < blocks → bit_of map.now block ≢ 1
+        → ((k : ℕ) × (k < result.count) × (slice_index result.blocks k ≡ block)) ⊎ ((k : ℕ) → k < result.count → slice_index result.blocks k < block) }
+{
+    let mut found = [0; 267];
+    let mut count = 0;
+    let mut number = 0;
+    while number < blocks && count < wanted {
+        if !is_marked(map, number) {
+            found[count] = number;
+            count += 1;
+        }
+        number += 1;
+    }
+    Found {
+        blocks: found,
+        count,
+    }
+}
+
+/// Has these blocks in use, and leaves all others.
+pub fn mark_all(map: &mut [u8; 1024], blocks: &[u32])
+    requires { (k : ℕ) → k < length blocks.now → slice_index blocks.now k < 8 * block_size }
+    ensures these { (k : ℕ) → k < length blocks.now → bit_of map.new (slice_index blocks.now k) ≡ 1 }
+    ensures others { (block : ℕ) → ((k : ℕ) → k < length blocks.now → slice_index blocks.now k ≢ block) → bit_of map.new block ≡ bit_of map.old block }
+    ensures stays { (block : ℕ) → bit_of map.old block ≡ 1 → bit_of map.new block ≡ 1 }
+    ensures only { (block : ℕ) → bit_of map.new block ≡ 1 → (bit_of map.old block ≡ 1) ⊎ ((k : ℕ) × (k < length blocks.now) × (slice_index blocks.now k ≡ block)) }
+{
+    for block in blocks {
+        mark(map, *block);
+    }
+}
+
+/// Has the first of these blocks free, and leaves all others.
+pub fn unmark_all(map: &mut [u8; 1024], blocks: &[u32], count: usize)
+    requires few { count ≤ length blocks.now }
+    requires within { (k : ℕ) → k < count → slice_index blocks.now k < 8 * block_size }
+    ensures these { (k : ℕ) → k < count → bit_of map.new (slice_index blocks.now k) ≡ 0 }
+    ensures others { (block : ℕ) → ((k : ℕ) → k < count → slice_index blocks.now k ≢ block) → bit_of map.new block ≡ bit_of map.old block }
+    ensures only { (block : ℕ) → bit_of map.new block ≡ 1 → bit_of map.old block ≡ 1 }
+{
+    for k in 0..count {
+        unmark(map, blocks[k]);
+    }
+}

@@ -1,0 +1,19 @@
+//! The blocks of a node: which block has which bytes, and what it is for a node to get more of them or fewer.
+//!
+//! Every call works over any `Blocks`, keeps at most one block's bytes beside the one that it writes, copies the pointers
+//! of a block of pointers out once, and writes the map and the table once.
+#![tactic(auto)]
+
+mod counts;
+mod found;
+mod growing;
+mod locating;
+mod naming;
+mod settling;
+mod shrinking;
+#[cfg(test)]
+mod tests;
+
+pub use growing::grow;
+pub use locating::block_at;
+pub use shrinking::shrink;
