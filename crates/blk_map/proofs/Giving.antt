@@ -7,7 +7,7 @@ use Rattle.posix_defs.specs.DiskFormat.{block_size, table_end, table_nodes, data
 use Rattle.posix_defs.specs.SoundDisk.{block_bytes, table_block, table_bytes, HasInode, pointer_at, Place, Data, Pointers, HasPlace, named_at, bit_of, IsMarked, Sound}
 use Rattle.posix_defs.specs.NodeChange.{Names, Replaces, Resizes}
 use Rattle.posix_defs.proofs.FreeBlocks.{named_is_for_files, direct_at, behind_at}
-use Rattle.posix_defs.proofs.OneNode.{named_is_marked, stays_sound, this_has, keeps_others, free_after}
+use Rattle.posix_defs.proofs.OneNode.{named_is_marked, this_has, changes_node, free_after}
 use Rattle.blk_map.specs.Named.{MayHaveSize, pointer_to}
 use Rattle.blk_map.proofs.Blocks.{in_table, same_table}
 use Rattle.blk_map.proofs.Inodes.{pointer_direct, pointer_behind, names_in_hand, pointer_is, none_needed, Points, is_inode}
@@ -217,10 +217,9 @@ pub gives : (v : Giving) → Resizes v.number v.before v.old v.size v.after (lef
 gives v =
     let change = replaces v in
     record {
-      sound = stays_sound v.number v.before v.old v.after (left v) v.sound change;
       has = this_has v.number v.before v.old v.after (left v) change;
       fields = (refl, refl, refl);
-      others = keeps_others v.number v.before v.old v.after (left v) v.sound change;
+      changes = changes_node v.number v.before v.old v.after (left v) v.sound change;
       kept = λ index lt also. (
         name v (Data index) also,
         stays_there v (named_at v.before v.old (Data index)) (files v (Data index) lt).0 (

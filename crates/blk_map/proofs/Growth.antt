@@ -7,7 +7,7 @@ use Rattle.posix_defs.specs.SoundDisk.{block_bytes, table_bytes, HasInode, point
 use Rattle.posix_defs.specs.DiskContents.{data_block, zeros}
 use Rattle.posix_defs.specs.NodeChange.{Names, Replaces, Resizes, Grows}
 use Rattle.posix_defs.proofs.FreeBlocks.{named_is_for_files, direct_at, behind_at}
-use Rattle.posix_defs.proofs.OneNode.{named_is_marked, stays_sound, this_has, keeps_others, free_after}
+use Rattle.posix_defs.proofs.OneNode.{named_is_marked, this_has, changes_node, free_after}
 use Rattle.blk_map.specs.Named.{MayHaveSize}
 use Rattle.blk_map.proofs.Inodes.{pointer_is, Points, is_inode}
 use Rattle.blk_map.proofs.Counted.{given_least, given_one_more, given_as_many}
@@ -251,10 +251,9 @@ resizes g =
     let change = replaces g in
     let left = free_after g.number g.before g.old g.after g.new g.sound change in
     record {
-      sound = stays_sound g.number g.before g.old g.after g.new g.sound change;
       has = this_has g.number g.before g.old g.after g.new change;
       fields = g.fields;
-      others = keeps_others g.number g.before g.old g.after g.new g.sound change;
+      changes = changes_node g.number g.before g.old g.after g.new g.sound change;
       kept = λ index lt also. (g.kept_names index lt, bytes_kept g index lt);
       free = ap (λ (n : ℕ). free_in_map g.after + blocks_of n) (sym g.fields.2) ∙ left;
     }

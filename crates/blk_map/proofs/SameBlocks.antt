@@ -6,7 +6,7 @@ use Rattle.posix_defs.specs.DiskFormat.{block_size, table_end, table_nodes, data
 use Rattle.posix_defs.specs.SoundDisk.{block_bytes, table_block, table_bytes, HasInode, pointer_at, Place, Data, Pointers, HasPlace, named_at, bit_of, IsMarked, Sound, IsFreeBlock, free_in_map}
 use Rattle.posix_defs.specs.NodeChange.{Names, Replaces, Resizes, Grows}
 use Rattle.posix_defs.proofs.FreeBlocks.{named_is_for_files, direct_at, behind_at}
-use Rattle.posix_defs.proofs.OneNode.{named_is_marked, stays_sound, this_has, keeps_others, free_after}
+use Rattle.posix_defs.proofs.OneNode.{named_is_marked, this_has, changes_node, free_after}
 use Rattle.blk_map.specs.Named.{MayHaveSize}
 use Rattle.blk_map.proofs.Blocks.{in_table}
 use Rattle.blk_map.proofs.Inodes.{pointer_is, none_needed, Points, is_inode}
@@ -116,10 +116,9 @@ pub same_resizes : (s : SameBlocks) → Resizes s.number s.before s.old s.size s
 same_resizes s =
     let change = replaces s in
     record {
-      sound = stays_sound s.number s.before s.old s.after (resized s) s.sound change;
       has = this_has s.number s.before s.old s.after (resized s) change;
       fields = (refl, refl, refl);
-      others = keeps_others s.number s.before s.old s.after (resized s) s.sound change;
+      changes = changes_node s.number s.before s.old s.after (resized s) s.sound change;
       kept = λ index lt also. (name s (Data index) lt, stays_there s (named_at s.before s.old (Data index)) (files s (Data index) lt).0);
       free = free_after s.number s.before s.old s.after (resized s) s.sound change;
     }

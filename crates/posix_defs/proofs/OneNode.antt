@@ -8,7 +8,8 @@ use Rattle.kabi_types.specs.declared.inodes.Inode.{Inode}
 use Rattle.posix_defs.specs.DiskFormat.{block_size, table_end, table_nodes, data_blocks, blocks_of, IsPointer, IsInode}
 use Rattle.posix_defs.specs.SoundDisk.{block_bytes, HasInode, pointer_at, Place, Data, Pointers, HasPlace, named_at, IsNamed, IsMarked, Sound, IsTable, free_in_map}
 use Rattle.posix_defs.specs.DiskContents.{data_block, byte_at, node_bytes}
-use Rattle.posix_defs.specs.NodeChange.{Names, Replaces, KeepsOthers}
+use Rattle.posix_defs.specs.NodeChange.{Names, Replaces}
+use Rattle.posix_defs.specs.DiskTree.{ChangesNode}
 use Rattle.posix_defs.proofs.FormattedDisk.{one_inode}
 use Rattle.posix_defs.proofs.FreeBlocks.{named_is_for_files, direct_at, behind_at, has_table, used_and_free}
 
@@ -233,10 +234,11 @@ same_bytes before after old new size same =
     in
     ap (λ (n : ℕ). map (λ (place : ℕ). byte_at after new place) (range_with_len 0 n)) size ∙ values_alike (λ place. byte_at after new place) (λ place. byte_at before old place) 0 old.size each
 
-pub keeps_others : (number : ℕ) (before : List (List ℕ)) (old : Inode) (after : List (List ℕ)) (new : Inode) → Sound before → Replaces number before old after new → KeepsOthers number before after
-keeps_others number before old after new sound change =
+pub changes_node : (number : ℕ) (before : List (List ℕ)) (old : Inode) (after : List (List ℕ)) (new : Inode) → Sound before → Replaces number before old after new → ChangesNode before after number
+changes_node number before old after new sound change =
     record {
-      count = change.count;
+      sound = stays_sound number before old after new sound change;
+      blocks = change.count;
       inodes = others_have number before old after new change;
       bytes = λ node inode other has.
           same_bytes before after inode inode refl (

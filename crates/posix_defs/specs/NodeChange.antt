@@ -2,8 +2,9 @@
 use Rattle.std.specs.Prelude.{ℕ, ◌+◌, ◌*◌, ◌<◌, ◌≤◌, ◌≡◌, ◌≢◌, ◌⊎◌, List, length, nat_lt}
 use Rattle.kabi_types.specs.declared.inodes.Inode.{Inode}
 use Rattle.posix_defs.specs.DiskFormat.{block_size, direct_pointers, block_pointers, table_end, table_nodes, data_blocks, blocks_of, IsPointer, IsInode, inode_bytes}
-use Rattle.posix_defs.specs.SoundDisk.{block_bytes, table_bytes, HasInode, pointer_at, Place, HasPlace, named_at, IsMarked, Sound, IsFreeBlock, free_in_map}
-use Rattle.posix_defs.specs.DiskContents.{data_block, node_bytes, zeros}
+use Rattle.posix_defs.specs.SoundDisk.{block_bytes, table_bytes, HasInode, pointer_at, Place, HasPlace, named_at, IsMarked, IsFreeBlock, free_in_map}
+use Rattle.posix_defs.specs.DiskContents.{data_block, zeros}
+use Rattle.posix_defs.specs.DiskTree.{ChangesNode}
 
 -- a node with this inode names the block
 pub record Names (disk : List (List ℕ)) (inode : Inode) (block : ℕ) : Type 0 where
@@ -30,18 +31,11 @@ pub record Replaces (number : ℕ) (before : List (List ℕ)) (old : Inode) (aft
   pub takes : (place : Place) → HasPlace new.size place → IsMarked after (named_at after new place)
   pub rest : (block : ℕ) → length before ≤ block → block < 8 * block_size → ¬ (IsMarked after block)
 
--- every other node has the inode and the bytes that it had
-pub record KeepsOthers (number : ℕ) (before after : List (List ℕ)) : Type 0 where
-  pub count : length after ≡ length before
-  pub inodes : (node : ℕ) (inode : Inode) → node ≢ number → HasInode before node inode → HasInode after node inode
-  pub bytes : (node : ℕ) (inode : Inode) → node ≢ number → HasInode before node inode → node_bytes after inode ≡ node_bytes before inode
-
--- a node has another size: its blocks are those that it had, as far as both sizes go, with their bytes, and so many are free as the sizes leave
+-- a node alone changes, and has another size: its blocks are those that it had, as far as both sizes go, with their bytes, and so many are free as the sizes leave
 pub record Resizes (number : ℕ) (before : List (List ℕ)) (old : Inode) (size : ℕ) (after : List (List ℕ)) (new : Inode) : Type 0 where
-  pub sound : Sound after
+  pub changes : ChangesNode before after number
   pub has : HasInode after number new
   pub fields : (new.kind ≡ old.kind) × (new.nlink ≡ old.nlink) × (new.size ≡ size)
-  pub others : KeepsOthers number before after
   pub kept : (index : ℕ) → index < data_blocks old.size → index < data_blocks size
       → (data_block after new index ≡ data_block before old index) × (block_bytes after (data_block before old index) ≡ block_bytes before (data_block before old index))
   pub free : free_in_map after + blocks_of size ≡ free_in_map before + blocks_of old.size

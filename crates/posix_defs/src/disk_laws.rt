@@ -6,7 +6,8 @@ ghost use Rattle.kabi_types.specs.declared.inodes.Inode.{Inode};
 ghost use Rattle.posix_defs.specs.DiskFormat.{IsForFiles, IsEntry, blocks_of, entry_bytes};
 ghost use Rattle.posix_defs.specs.SoundDisk.{HasInode, IsNamed, Sound, IsTable, IsFreeBlock, IsFreeNode, free_in_map, free_blocks, free_inodes};
 ghost use Rattle.posix_defs.specs.TrueCaches.{HasName};
-ghost use Rattle.posix_defs.specs.NodeChange.{Replaces, KeepsOthers};
+ghost use Rattle.posix_defs.specs.NodeChange.{Replaces};
+ghost use Rattle.posix_defs.specs.DiskTree.{ChangesNode};
 ghost use Rattle.posix_defs.specs.DiskContents.{HasEntries, IsDirectoryOf, IsFormatted};
 
 /// A new disk is sound, and its root is a directory without entries but `.` and `..`, which both name the root.
@@ -55,9 +56,8 @@ pub fn what_is_free_is_counted()
 /// Where one node was replaced, by the facts that say so, the disk is sound, the node has its new inode, every other node
 /// has the inode and the bytes that it had, and so many blocks are free as the two sizes leave.
 pub fn one_node_is_replaced()
-    ensures sound { (number : ℕ) (before : List (List ℕ)) (old : Inode) (after : List (List ℕ)) (new : Inode) → Sound before → Replaces number before old after new → Sound after }
     ensures has { (number : ℕ) (before : List (List ℕ)) (old : Inode) (after : List (List ℕ)) (new : Inode) → Replaces number before old after new → HasInode after number new }
-    ensures others { (number : ℕ) (before : List (List ℕ)) (old : Inode) (after : List (List ℕ)) (new : Inode) → Sound before → Replaces number before old after new → KeepsOthers number before after }
+    ensures changes { (number : ℕ) (before : List (List ℕ)) (old : Inode) (after : List (List ℕ)) (new : Inode) → Sound before → Replaces number before old after new → ChangesNode before after number }
     ensures free { (number : ℕ) (before : List (List ℕ)) (old : Inode) (after : List (List ℕ)) (new : Inode) → Sound before → Replaces number before old after new
         → free_in_map after + blocks_of new.size ≡ free_in_map before + blocks_of old.size }
 {}
