@@ -1,0 +1,200 @@
+ghost use Rattle.std.specs.Prelude.{◌≡◌, IfSome};
+ghost use Rattle.posix_defs.specs.SoundDisk.{HasNode, Sound};
+
+use crate::counts::data_count;
+use crate::settling::put_in_table;
+use crate::{block_at, grow, shrink};
+use disk_layout::{RamDisk, inode_in, is_marked};
+use kabi_types::{Errno, Inode};
+use posix_defs::Blocks;
+use std::process::Abort;
+use std::test::Fail;
+
+/// A disk that counts its reads, and here its writes too.
+#[derive(Drop)]
+struct Counting {
+    disk: RamDisk,
+    sets: u64,
+}
+
+impl Blocks for Counting {
+    ghost blocks = { λ counting. counting.disk.blocks };
+
+    ghost follows = { λ _ _. Unit {0} };
+
+    ghost asked = { λ before _ after. after.disk.blocks ≡ before.disk.blocks };
+
+    ghost follows_refl = { λ _. tt };
+
+    ghost follows_trans = { λ _ _ _ _ _. tt };
+
+    fn count(&self) -> u32 {
+        self.disk.count()
+    }
+
+    fn get(&mut self, number: u32) -> [u8; 1024] {
+        self.disk.read(number)
+    }
+
+    fn set(&mut self, number: u32, bytes: &[u8; 1024]) {
+        self.sets = self.sets.saturating_add(1);
+        self.disk.write(number, bytes);
+    }
+}
+
+/// An empty file as node 2, where that is free.
+fn make_file(b: &mut Counting) -> Option<Inode>
+    requires { Sound b.old.disk.blocks }
+    ensures { IfSome result (λ inode. Sound b.new.disk.blocks × HasNode b.new.disk.blocks 2 inode × (inode.kind ≡ 1)) }
+{
+    let table = b.get(1);
+    let free = inode_in(&table, 1, b.count()).ok()?;
+    if free.kind != 0 {
+        return None;
+    }
+    let file = Inode {
+        kind: 1,
+        nlink: 1,
+        size: 0,
+        direct: [0; 10],
+        indirect: 0,
+    };
+    put_in_table(b, 2, &file);
+    Some(file)
+}
+
+/// Gives node 2 another size, whichever way that is.
+fn resize(b: &mut Counting, inode: &mut Inode, size: u32) -> Result<(), Errno>
+    requires sound { Sound b.old.disk.blocks }
+    requires node { HasNode b.old.disk.blocks 2 inode.old }
+    requires kind { inode.old.kind ≡ 1 }
+    ensures sound { Sound b.new.disk.blocks }
+    ensures node { HasNode b.new.disk.blocks 2 inode.new }
+    ensures kind { inode.new.kind ≡ 1 }
+{
+    if size >= inode.size {
+        return grow(b, 2, inode, size);
+    }
+    shrink(b, 2, inode, size);
+    Ok(())
+}
+
+/// How many blocks the map has as free.
+fn free_count(b: &mut Counting) -> u32
+    requires { Sound b.old.disk.blocks }
+    ensures { b.new.disk.blocks ≡ b.old.disk.blocks }
+{
+    let map = b.disk.read(0);
+    let mut free = 0;
+    for number in 0..b.disk.count() {
+        if !is_marked(&map, number) {
+            free += 1;
+        }
+    }
+    free
+}
+
+/// The block that has the bytes from `index` blocks on; None behind the node's end.
+fn look(b: &mut Counting, inode: &Inode, index: u32) -> Option<u32>
+    requires sound { Sound b.old.disk.blocks }
+    requires node { HasNode b.old.disk.blocks 2 inode.now }
+    ensures { b.new.disk.blocks ≡ b.old.disk.blocks }
+{
+    if index >= data_count(inode.size) {
+        return None;
+    }
+    Some(block_at(b, inode, index))
+}
+
+/// A size for the file, what is answered, how many blocks were read and written for it, and how many are free then.
+type Row = (u32, Result<(), Errno>, u64, u64, u32);
+
+/// Whether each row is as it says, one after another.
+fn check_sizes(rt: &impl Abort, b: &mut Counting, inode: &mut Inode, rows: &[Row])
+    requires sound { Sound b.old.disk.blocks }
+    requires node { HasNode b.old.disk.blocks 2 inode.old }
+    requires kind { inode.old.kind ≡ 1 }
+    ensures sound { Sound b.new.disk.blocks }
+    ensures node { HasNode b.new.disk.blocks 2 inode.new }
+{
+    for (size, answer, gets, sets, free) in rows {
+        let (got, put) = (b.disk.reads(), b.sets);
+        assert!(rt; resize(b, inode, *size) == *answer, "size {size}");
+        assert!(rt;
+            b.disk.reads().saturating_sub(got) == *gets,
+            "gets for size {size}"
+        );
+        assert!(rt; b.sets.saturating_sub(put) == *sets, "sets for size {size}");
+        assert!(rt; free_count(b) == *free, "free with size {size}");
+    }
+}
+
+/// A new disk has the root in one of its 14 blocks for files. Each size is tried on the file that the row before left.
+const ON_16_BLOCKS: &[Row] = &[
+    (12288, Ok(()), 2, 15, 0),
+    (12289, Err(Errno::ENOSPC), 1, 0, 0),
+    (272_385, Err(Errno::EFBIG), 0, 0, 0),
+    (12288, Ok(()), 1, 1, 0),
+    (10241, Ok(()), 3, 3, 1),
+    (12288, Ok(()), 3, 4, 0),
+    (10240, Ok(()), 3, 2, 3),
+    (0, Ok(()), 2, 2, 13),
+    (1, Ok(()), 2, 3, 12),
+    (1024, Ok(()), 1, 1, 12),
+    (1025, Ok(()), 2, 3, 11),
+    (0, Ok(()), 2, 2, 13),
+];
+
+#[test]
+fn sizes_on_16_blocks(rt: HostRuntime) -> Result<(), Fail> {
+    let disk = RamDisk::boot(rt.alloc(), 16)?;
+    let mut b = Counting { disk, sets: 0 };
+    let mut inode = make_file(&mut b).ok_or("node 2 is free")?;
+    check_sizes(&rt, &mut b, &mut inode, ON_16_BLOCKS);
+    Ok(())
+}
+
+/// A new disk has 3839 blocks for files, of which the root has one.
+const ON_4096_BLOCKS: &[Row] = &[
+    (10240, Ok(()), 2, 12, 3828),
+    (10241, Ok(()), 2, 4, 3826),
+    (11264, Ok(()), 1, 1, 3826),
+    (272_384, Ok(()), 3, 258, 3571),
+    (272_385, Err(Errno::EFBIG), 0, 0, 3571),
+    (10241, Ok(()), 3, 3, 3826),
+    (10240, Ok(()), 3, 2, 3828),
+    (0, Ok(()), 2, 2, 3838),
+];
+
+#[test]
+fn sizes_on_4096_blocks(rt: HostRuntime) -> Result<(), Fail> {
+    let disk = RamDisk::boot(rt.alloc(), 4096)?;
+    let mut b = Counting { disk, sets: 0 };
+    let mut inode = make_file(&mut b).ok_or("node 2 is free")?;
+    check_sizes(&rt, &mut b, &mut inode, ON_4096_BLOCKS);
+    Ok(())
+}
+
+const TWELVE_BLOCKS: &[Row] = &[(12288, Ok(()), 2, 15, 0)];
+
+/// The lowest free block is 3. The block of pointers comes behind those of the bytes.
+#[test]
+fn blocks_of_a_file(rt: HostRuntime) -> Result<(), Fail> {
+    let disk = RamDisk::boot(rt.alloc(), 16)?;
+    let mut b = Counting { disk, sets: 0 };
+    let mut inode = make_file(&mut b).ok_or("node 2 is free")?;
+    check_sizes(&rt, &mut b, &mut inode, TWELVE_BLOCKS);
+    let before = b.disk.reads();
+    assert!(rt; look(&mut b, &inode, 0) == Some(3));
+    assert!(rt; look(&mut b, &inode, 9) == Some(12));
+    assert!(rt; b.disk.reads() == before, "the first ten cost nothing");
+    assert!(rt; look(&mut b, &inode, 10) == Some(13));
+    assert!(rt; look(&mut b, &inode, 11) == Some(14));
+    assert!(rt;
+        b.disk.reads().saturating_sub(before) == 2,
+        "each other one a get"
+    );
+    assert!(rt; look(&mut b, &inode, 12).is_none());
+    assert!(rt; inode.indirect == 15);
+    Ok(())
+}
