@@ -4,7 +4,7 @@ use Rattle.std.proofs.lemmas.Bool.{cases_lt}
 use Rattle.std.proofs.lemmas.List.{get_or-replicate, get_or_past, length-replicate}
 use Rattle.kabi_types.specs.declared.inodes.Inode.{Inode}
 use Rattle.posix_defs.specs.DiskFormat.{block_size, table_end, IsInode, inode_bytes}
-use Rattle.posix_defs.specs.SoundDisk.{block_bytes, table_block, table_bytes, HasInode, Place, Data, Pointers, HasPlace, bit_of, IsMarked, Sound}
+use Rattle.posix_defs.specs.SoundDisk.{block_bytes, table_block, slot_bytes, table_bytes, HasInode, Place, Data, Pointers, HasPlace, bit_of, IsMarked, Sound}
 use Rattle.posix_defs.specs.NodeChange.{Names, Replaces}
 use Rattle.posix_defs.proofs.OneNode.{stays_sound, this_has}
 use Rattle.blk_map.proofs.Blocks.{in_table}
@@ -64,6 +64,8 @@ new_file number before after old sound had empty count slot slots others =
     let change = replaces number before after old sound had empty count slot slots others in
     (stays_sound number before old after empty_file sound change, this_has number before old after empty_file change)
 
--- what a slot of the table says is the node's inode
-pub in_slot : (disk : List (List ℕ)) (inode : Inode) → Sound disk → IsInode (length disk) inode → table_bytes disk 2 ≡ inode_bytes inode → HasInode disk 2 inode
-in_slot disk inode sound valid bytes = record { number = (omega arith, omega (arith, sound.size.0)); valid = valid; bytes = bytes }
+-- what the second slot of the table has is the inode of node 2
+pub in_slot : (disk : List (List ℕ)) (inode : Inode) (block : List ℕ) → Sound disk → IsInode (length disk) inode → block_bytes disk 1 ≡ block → slot_bytes block 1 ≡ inode_bytes inode → HasInode disk 2 inode
+unfolding table_bytes
+in_slot disk inode block sound valid is bytes =
+    record { number = (omega arith, omega (arith, sound.size.0)); valid = valid; bytes = ap (λ (b : List ℕ). slot_bytes b 1) is ∙ bytes }

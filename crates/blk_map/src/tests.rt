@@ -48,7 +48,9 @@ fn make_file(b: &mut Counting) -> Option<Inode>
     ensures { IfSome result (λ inode. Sound b.new.disk.blocks × HasNode b.new.disk.blocks 2 inode × (inode.kind ≡ 1)) }
 {
     let table = b.get(1);
-    let free = inode_in(&table, 1, b.count()).ok()?;
+    let Ok(free) = inode_in(&table, 1, b.count()) else {
+        return None;
+    };
     if free.kind != 0 {
         return None;
     }
