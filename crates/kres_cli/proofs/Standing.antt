@@ -14,7 +14,8 @@ use Rattle.posix_defs.specs.Control as program
 use Rattle.posix_defs.specs.Control.{after, after_at, afresh, call_at, settled, statement_of}
 use Rattle.posix_defs.specs.Ending.{exit_status}
 use Rattle.posix_defs.specs.Plain.{Plain, call_of}
-use Rattle.posix_defs.specs.Posix.{posix, replied}
+use Rattle.posix_defs.specs.Answer.{replied}
+use Rattle.posix_defs.specs.Posix.{posix}
 use Rattle.posix_defs.specs.Process.{is_alive, parent_of}
 use Rattle.posix_defs.specs.Turn.{Answers, Tells, TurnsTo, TurnsWhere, account_after}
 use Rattle.posix_defs.specs.World.{World, no_account}

@@ -1,6 +1,10 @@
 pub mod MadePids
 pub mod Charged
 pub mod EnabledEvents
+pub mod TablePlaces
+pub mod LivingVictim
+pub mod Families
+pub mod Errors
 pub mod Picking
 pub mod Progress
 pub mod Legal

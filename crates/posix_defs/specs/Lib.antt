@@ -17,6 +17,11 @@ pub mod Control
 pub mod Plain
 pub mod Answer
 pub mod Ending
+pub mod Family
+pub mod Forking
+pub mod Waiting
+pub mod Killing
+pub mod Machine
 pub mod Posix
 pub mod World
 pub mod Turn
@@ -59,3 +64,4 @@ pub mod ScriptFaults
 pub mod ScriptText
 pub mod ValidScript
 pub mod Canonical
+pub mod TwoProcesses

@@ -17,6 +17,7 @@ mod phases;
 mod pipe_laws;
 mod price_laws;
 mod prices;
+mod process_laws;
 mod said;
 #[cfg(test)]
 mod tests;
@@ -56,6 +57,10 @@ pub use price_laws::{
     a_write_costs_less_as_it_goes_on, a_wrong_operand_costs_nothing, no_bound_is_above_39040,
 };
 pub use prices::Price;
+pub use process_laws::{
+    a_pid_is_never_used_again, an_error_changes_the_control_alone, answers_keep_a_family,
+    nobody_outlives_the_first_process, processes_are_a_family, two_processes_run,
+};
 pub use said::{AtTop, InProgram, Setting, Shape, Spoken, Stated, Word};
 pub use tree_laws::{
     a_changed_file_leaves_a_tree, a_further_name_leaves_a_tree, a_new_root_is_a_tree,

@@ -1,0 +1,4 @@
+pub mod Present
+pub mod Leaving
+pub mod Choosing
+pub mod Standing
