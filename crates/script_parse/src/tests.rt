@@ -30,11 +30,11 @@ pub fn script_said(alloc: Global, text: &str) -> Result<Option<Script>, Memory> 
     }
 }
 
-/// The canonical text of the script that a text says; None where it is none.
-pub fn canonical_of(alloc: Global, text: &[u8]) -> Result<Option<String>, Memory> {
+/// Whether a text says a script of which this is the canonical text.
+pub fn is_canonical(alloc: Global, text: &[u8], canonical: &[u8]) -> Result<bool, Memory> {
     match parse(alloc, text) {
-        Ok(script) => Ok(Some(print(alloc, &script)?)),
-        Err(ParseError::Bad(_)) => Ok(None),
+        Ok(script) => Ok(print(alloc, &script)?.as_bytes() == canonical),
+        Err(ParseError::Bad(_)) => Ok(false),
         Err(ParseError::Memory) => Err(Memory),
     }
 }

@@ -1,5 +1,5 @@
 use crate::print;
-use crate::tests::{canonical_of, joined};
+use crate::tests::{is_canonical, joined};
 use kabi_types::{
     CallKind, Chooser, Memory, Name27, Numbers, Operand, Operands, Policy, Program, Programs,
     Script, Statement, Statements, Test, Text, Texts,
@@ -74,8 +74,7 @@ const PRINTED: &[(&str, &str)] = &[
 #[test]
 fn settings_go_first_and_constants_blanks_and_remarks_go(rt: HostRuntime) -> Result<(), Fail> {
     for (text, canonical) in PRINTED {
-        let told = canonical_of(rt.alloc(), text.as_bytes())?;
-        assert!(rt; told.as_deref() == Some(*canonical));
+        assert!(rt; is_canonical(rt.alloc(), text.as_bytes(), canonical.as_bytes())?);
     }
     Ok(())
 }
@@ -94,8 +93,10 @@ const CANONICAL: &[&str] = &[
 #[test]
 fn canonical_texts_are_printed_as_they_stand(rt: HostRuntime) -> Result<(), Fail> {
     for text in CANONICAL {
-        let told = canonical_of(rt.alloc(), text.as_bytes())?;
-        assert!(rt; told.as_deref() == Some(*text), "{text:?}");
+        assert!(rt;
+            is_canonical(rt.alloc(), text.as_bytes(), text.as_bytes())?,
+            "{text:?}"
+        );
     }
     Ok(())
 }

@@ -1,5 +1,6 @@
-use crate::tests::{canonical_of, joined, script_said};
+use crate::tests::{is_canonical, joined, script_said};
 use kabi_types::{Chooser, Policy, Statement};
+use std::alloc::{AllocError, Global};
 use std::test::Fail;
 
 /// Settings that a text doesn't give, as they are printed.
@@ -86,13 +87,16 @@ const READ: &[(&str, &str)] = &[
 #[test]
 fn texts_are_read(rt: HostRuntime) -> Result<(), Fail> {
     for (text, canonical) in READ {
-        let told = canonical_of(rt.alloc(), text.as_bytes())?;
-        assert!(rt; told.as_deref() == Some(*canonical), "{text}");
+        assert!(rt;
+            is_canonical(rt.alloc(), text.as_bytes(), canonical.as_bytes())?,
+            "{text}"
+        );
     }
     Ok(())
 }
 
-const CONSTANTS: &[(&str, &str)] = &[
+/// Constants, joined constants, numbers and registers, and the values that they are.
+const VALUES: &[(&str, &str)] = &[
     ("O_RDONLY", "0"),
     ("O_WRONLY", "1"),
     ("O_RDWR", "2"),
@@ -121,10 +125,6 @@ const CONSTANTS: &[(&str, &str)] = &[
     ("POLLERR", "8"),
     ("POLLHUP", "16"),
     ("POLLNVAL", "32"),
-];
-
-/// Joined constants, and numbers.
-const NUMBERS: &[(&str, &str)] = &[
     ("SEEK_END|SEEK_CUR", "3"),
     ("POLLIN|POLLIN", "1"),
     ("F_GETFL|F_SETFD", "3"),
@@ -139,9 +139,6 @@ const NUMBERS: &[(&str, &str)] = &[
     ("9223372036854775807", "9223372036854775807"),
     ("-9223372036854775808", "-9223372036854775808"),
     ("00000000000000000000000000000000000000000000000000001", "1"),
-];
-
-const REGISTERS: &[(&str, &str)] = &[
     ("r0", "r0"),
     ("r1", "r1"),
     ("r9", "r9"),
@@ -149,25 +146,24 @@ const REGISTERS: &[(&str, &str)] = &[
     ("r15", "r15"),
 ];
 
+/// A program that sets a register to this value.
+fn with_value(alloc: Global, value: &str) -> Result<Vec<u8>, AllocError> {
+    joined(
+        alloc,
+        b"program init\nset r3 ",
+        value.as_bytes(),
+        b"\nend\n",
+    )
+}
+
 #[test]
 fn values_are_read(rt: HostRuntime) -> Result<(), Fail> {
-    for (word, shown) in CONSTANTS.iter().chain(NUMBERS).chain(REGISTERS) {
-        let text = joined(
-            rt.alloc(),
-            b"program init\nset r3 ",
-            word.as_bytes(),
-            b"\nend\n",
-        )?;
-        let line = joined(
-            rt.alloc(),
-            b"program init\nset r3 ",
-            shown.as_bytes(),
-            b"\nend\n",
-        )?;
+    for (word, value) in VALUES {
+        let text = with_value(rt.alloc(), word)?;
+        let line = with_value(rt.alloc(), value)?;
         let wanted = joined(rt.alloc(), DEFAULTS, line.as_slice(), b"")?;
-        let told = canonical_of(rt.alloc(), text.as_slice())?;
         assert!(rt;
-            told.as_ref().map(|text| text.as_bytes()) == Some(wanted.as_slice()),
+            is_canonical(rt.alloc(), text.as_slice(), wanted.as_slice())?,
             "{word}"
         );
     }
