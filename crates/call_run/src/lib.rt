@@ -4,6 +4,8 @@
 
 mod calls;
 mod tasks;
+#[cfg(test)]
+mod tests;
 
 pub use calls::{go_on, run};
 pub use tasks::{MOST_TASKS, Task, Tasks, Told};
