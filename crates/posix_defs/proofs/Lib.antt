@@ -39,3 +39,4 @@ pub mod DiskNames
 pub mod CallsKeep
 pub mod QueueOrder
 pub mod FileBytesLaws
+pub mod DiskFreeNodes

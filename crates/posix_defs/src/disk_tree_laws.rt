@@ -1,11 +1,11 @@
 //! Laws of disks that stand for a tree. Each is the contract of a function that does nothing.
 
-ghost use Rattle.std.specs.Prelude.{◌≡◌, ◌≢◌, ℕ, ◌<◌, ◌≤◌, ◌↔◌, List, Option, Some};
+ghost use Rattle.std.specs.Prelude.{◌≡◌, ◌≢◌, ℕ, ◌<◌, ◌≤◌, ◌↔◌, List, Option, Some, None};
 ghost use Rattle.posix_defs.specs.DiskFormat.{table_nodes};
-ghost use Rattle.posix_defs.specs.SoundDisk.{free_in_map};
+ghost use Rattle.posix_defs.specs.SoundDisk.{IsFreeNode, IsLowestFreeNode, free_in_map};
 ghost use Rattle.posix_defs.specs.DiskContents.{IsFormatted, own_name, parent_name};
 ghost use Rattle.posix_defs.specs.TrueCaches.{HasName};
-ghost use Rattle.posix_defs.specs.Tree.{Node, Tree, found, free_blocks, new_tree, with_node};
+ghost use Rattle.posix_defs.specs.Tree.{Node, Tree, found, free_blocks, free_node, new_tree, with_node};
 ghost use Rattle.posix_defs.specs.DiskTree.{HasThere, StandsFor, ChangesNode};
 
 /// A new disk stands for the new tree.
@@ -28,4 +28,11 @@ pub fn free_blocks_of_the_disk_are_those_of_the_tree()
 pub fn names_of_the_disk_are_those_of_the_tree()
     ensures { (disk : List (List ℕ)) (tree : Tree) (dir : ℕ) (name : List ℕ) (node : ℕ) → StandsFor disk tree → name ≢ own_name → name ≢ parent_name
         → (found tree dir name ≡ Some node) ↔ HasName disk dir name node }
+{}
+
+/// The node that the tree makes next is the free one of the disk with the lowest number; where it makes none, none is
+/// free.
+pub fn free_nodes_of_the_disk_are_those_of_the_tree()
+    ensures lowest { (disk : List (List ℕ)) (tree : Tree) (number : ℕ) → StandsFor disk tree → free_node tree ≡ Some number → IsLowestFreeNode disk number }
+    ensures none { (disk : List (List ℕ)) (tree : Tree) (number : ℕ) → StandsFor disk tree → free_node tree ≡ None → ¬ (IsFreeNode disk number) }
 {}

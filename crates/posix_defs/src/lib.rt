@@ -36,7 +36,8 @@ pub use disk_laws::{
 };
 pub use disk_tree_laws::{
     a_change_of_one_node_stands_for_the_changed_tree, a_new_disk_stands_for_the_new_tree,
-    free_blocks_of_the_disk_are_those_of_the_tree, names_of_the_disk_are_those_of_the_tree,
+    free_blocks_of_the_disk_are_those_of_the_tree, free_nodes_of_the_disk_are_those_of_the_tree,
+    names_of_the_disk_are_those_of_the_tree,
 };
 pub use generator::{choice_of, next_state};
 pub use laws::{
