@@ -1,8 +1,8 @@
 -- The machine's own choice among weights by rising pid is the victim.
-use Rattle.std.proofs.Common.{◌≡◌, ◌≢◌, ◌==◌, ◌⊎◌, ℕ, ◌+◌, ◌<◌, ◌≤◌, Bool, true, false, not, cond, leb, filter, List, [], ◌∷◌, ◌++◌, length, get_or, Option, None, Some, refl, sym, ap, ◌∙◌, subst, inl, inr, ⊎_elim, arith}
+use Rattle.std.proofs.Common.{◌≡◌, ◌≢◌, ◌==◌, ◌⊎◌, ℕ, ◌<◌, ◌≤◌, Bool, true, not, cond, leb, filter, List, [], ◌∷◌, Some, refl, sym, ap, ◌∙◌, subst, inl, inr, ⊎_elim, arith}
 use Rattle.std.specs.List.{All, Contains}
 use Rattle.std.proofs.lemmas.List.Elements.{All-head, All-tail, All-cons, All-nil, All-filter, All-weaker, All-contains, All-contains_itself, Contains-append_left, Contains-append_right, Contains-append_cases, filter_passes}
-use Rattle.std.proofs.lemmas.Bool.{cond_both, leb-true, leb-false, eqb-true, eq-eqb, both_ways, not-true, ne_eqb, not_from_false, cases_lt, true≢false, false≢true}
+use Rattle.std.proofs.lemmas.Bool.{cond_both, leb-true, leb-false, eq-eqb, both_ways, not-true, ne_eqb, not_from_false, cases_lt}
 use Rattle.kabi_types.specs.declared.classes.Weight.{Weight}
 use Rattle.kabi_types.specs.declared.scripts.Policy.{Policy}
 use Rattle.posix_defs.specs.Victim.{score_of, greatest, pid_of_greatest}

@@ -1,6 +1,6 @@
 -- One weight more is looked at.
-use Rattle.std.proofs.Common.{◌≡◌, ◌≢◌, ◌==◌, ◌&&◌, ◌∙◌, ◌⊎◌, ◌↔◌, cond, ltb, is_some, IsNone, ℕ, ◌<◌, ◌≤◌, Bool, true, false, List, [], ◌∷◌, ◌++◌, Option, None, Some, refl, sym, inl, inr, ⊎_elim, arith}
-use Rattle.std.specs.List.{All, Contains}
+use Rattle.std.proofs.Common.{◌≡◌, ◌≢◌, ◌==◌, ◌&&◌, ◌∙◌, ◌↔◌, cond, ltb, is_some, IsNone, ℕ, List, [], ◌∷◌, ◌++◌, Option, None, Some, refl, sym, inl, inr, ⊎_elim, arith}
+use Rattle.std.specs.List.{All}
 use Rattle.std.proofs.lemmas.List.Elements.{All-push, All-weaker, All-contains, Contains-push, Contains-append_left}
 use Rattle.std.proofs.lemmas.Bool.{true≢false, false≢true, cond_both, ltb-true, ltb-false, eqb-true, eqb-false, and_parts, and_cases, cases_eq}
 use Rattle.kabi_types.specs.declared.classes.Weight.{Weight}
