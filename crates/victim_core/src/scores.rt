@@ -8,6 +8,9 @@ use crate::Scorer;
 use crate::best::{Best, better};
 use kabi_types::{Policy, Weight};
 
+/// The pid of the process that is never killed.
+const FIRST_PROCESS: u32 = 1;
+
 /// How processes are scored: a closure for each policy.
 ///
 /// The closures stand beside the fact that each may be called with every weight in range and then answers the score of
@@ -50,7 +53,7 @@ impl<F: Scorer, G: Scorer> Score<F, G> {
     {
         let mut best: Option<Best> = None;
         for weight in weights {
-            if weight.pid != 1 {
+            if weight.pid != FIRST_PROCESS {
                 let next = Best {
                     score: self.score(policy, *weight),
                     pid: weight.pid,

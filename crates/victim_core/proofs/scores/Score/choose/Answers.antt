@@ -3,7 +3,7 @@ use Rattle.std.proofs.lemmas.List.{take_more, take_all}
 use Rattle.kabi_types.specs.declared.classes.Weight.{Weight}
 use Rattle.victim_core.proofs.JudgingLemmas.{judged_past_first, judged_past, none_judged}
 use Rattle.victim_core.proofs.scores.Score.choose.Goals as goal
-use Rattle.victim_core.proofs.scores.Score.choose.Goals.{then-weight-ne1, else-weight-ne1}
+use Rattle.victim_core.proofs.scores.Score.choose.Goals.{then-weight-ne-FIRST_PROCESS, else-weight-ne-FIRST_PROCESS}
 
 no_weight : Weight
 no_weight = record { pid = 0; frames = 0; nodes = 0; descs = 0 }
@@ -14,11 +14,11 @@ loop-weight-preserved g c =
     let weights = c.args.weights.now in
     let at = c.loop-weight.weight-index in
     let more = take_more weights at no_weight c.loop-weight-test.true in
-    elim c.if-weight-ne1.branch [
-      | then-weight-ne1 w ↦ rw (more, w.best-is, w.better.ensures)
-          (judged_past c.args.policy (take at weights) (get_or weights at no_weight) w.if-weight-ne1.true c.loop-weight.best _ w.score.ensures refl c.loop-weight.invariant)
-      | else-weight-ne1 w ↦ rw (more, w.best-is)
-          (judged_past_first c.args.policy (take at weights) (get_or weights at no_weight) c.loop-weight.best w.if-weight-ne1.false c.loop-weight.invariant)
+    elim c.if-weight-ne-FIRST_PROCESS.branch [
+      | then-weight-ne-FIRST_PROCESS w ↦ rw (more, w.best-is, w.better.ensures)
+          (judged_past c.args.policy (take at weights) (get_or weights at no_weight) w.if-weight-ne-FIRST_PROCESS.true c.loop-weight.best _ w.score.ensures refl c.loop-weight.invariant)
+      | else-weight-ne-FIRST_PROCESS w ↦ rw (more, w.best-is)
+          (judged_past_first c.args.policy (take at weights) (get_or weights at no_weight) c.loop-weight.best w.if-weight-ne-FIRST_PROCESS.false c.loop-weight.invariant)
     ]
 
 pub returns-clause-none : goal.returns-clause-none
