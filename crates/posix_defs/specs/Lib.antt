@@ -13,6 +13,7 @@ pub mod Pipe
 pub mod QueueRuns
 pub mod Process
 pub mod Made
+pub mod Memory
 pub mod Control
 pub mod Plain
 pub mod Answer

@@ -1,0 +1,153 @@
+-- Pages of a space that are unmapped one after another, and the space that has none left.
+use Rattle.std.proofs.Common.{◌≡◌, ◌≢◌, ◌⊎◌, ℕ, zero, suc, ◌+◌, ◌-◌, ◌*◌, ◌/◌, ◌%◌, ◌<◌, ◌≤◌, Bool, true, false, cond, is_some, List, [], ◌∷◌, ◌++◌, Option, None, Some, length, get_or, take, drop, replicate, count_by, refl, sym, ap, ◌∙◌, subst, inl, inr, ⊎_elim, arith}
+use Rattle.std.specs.List.{Contains}
+use Rattle.std.proofs.lemmas.List.{get_or_append_left, get_or-take, get_or-drop, get_or-append_right, get_or-append-add, get_or-replicate, length-replicate, length-take, length-append}
+use Rattle.std.proofs.lemmas.List.Elements.{Contains-append_cases}
+use Rattle.std.proofs.lemmas.Bool.{cases_lt, cases_eq}
+use Rattle.posix_defs.specs.Memory.{Memory, with_range, page_at, without_pages}
+use Rattle.kheap_slabs.specs.Heap.{Heap}
+use Rattle.kheap_slabs.specs.Objects.{object, InUse}
+use Rattle.kheap_slabs.specs.Owners.{Owners, with_space, IsOwned}
+use Rattle.kheap_slabs.specs.Purse.{TakesNothing}
+use Rattle.kheap_slabs.specs.Spaces.{is_mapped, mapped_count, keys_in, OwnsNodes}
+use Rattle.kheap_slabs.specs.declared.objects.Node.{Node}
+use Rattle.kheap_slabs.specs.declared.objects.PageEntry.{PageEntry}
+use Rattle.kheap_slabs.specs.declared.objects.PageEntry.TheVariants as entry
+use Rattle.kheap_slabs.proofs.ObjectLemmas.{object_of}
+use Rattle.kheap_slabs.proofs.OwnerLemmas.{IsOwned-space, IsOwned-space_leaves}
+use Rattle.kheap_slabs.proofs.PaidLemmas.{TakesNothing-refl, TakesNothing-trans}
+use Rattle.page_space.specs.Entries.{key_of, entry_at}
+use Rattle.page_space.specs.Contents.{content_of, content_at, StandsFor, SpaceMoves, IsCleared, SpaceLeaves}
+use Rattle.page_space.proofs.TurnLemmas.{entry_known}
+use Rattle.page_space.proofs.MoveLemmas.{SpaceMoves-refl, SpaceMoves-trans}
+
+-- none is unmapped yet
+pub IsCleared-none : (h : Heap) (space : List (Option ℕ)) (first : ℕ) → IsCleared h h space space first first
+IsCleared-none h space first = record {
+  moves = SpaceMoves-refl h space;
+  gone = λ page from below. absurd (omega arith);
+  stays = λ page outside. refl;
+  takes = TakesNothing-refl h;
+}
+
+-- one page more is unmapped
+pub IsCleared-more : (old mid new : Heap) (space now then : List (Option ℕ)) (first page : ℕ) → IsCleared old mid space now first page
+    → entry_at new.nodes then page ≡ entry.Unmapped
+    → ((other : ℕ) → other ≢ page → entry_at new.nodes then other ≡ entry_at mid.nodes now other)
+    → ((other : ℕ) → other ≢ page → content_at new then other ≡ content_at mid now other)
+    → SpaceMoves mid new now then → TakesNothing mid new → first ≤ page
+    → IsCleared old new space then first (page + 1)
+IsCleared-more old mid new space now then first page cleared gone entries stays moves takes from = record {
+  moves = SpaceMoves-trans old mid new space now then cleared.moves moves;
+  gone = λ other above below. ⊎_elim
+      (λ same. subst (λ p. entry_at new.nodes then p ≡ entry.Unmapped) (sym same) gone)
+      (λ apart. entries other apart ∙ cleared.gone other above (omega arith))
+      (cases_eq other page);
+  stays = λ other outside.
+      let apart : other ≢ page = λ same. ⊎_elim (λ below. omega arith) (λ above. omega arith) outside in
+      stays other apart ∙ cleared.stays other (⊎_elim inl (λ above. inr (omega arith)) outside);
+  takes = TakesNothing-trans old mid new cleared.takes takes;
+}
+
+-- a range of a memory that gets another content
+module _ (memory : Memory) (first count : ℕ) (x : Option (List ℕ)) (within : first + count ≤ length memory) where
+  front_length : length (take first memory ++ replicate count x) ≡ first + count
+  front_length = omega (arith, length-append (take first memory) (replicate count x), length-take first memory, length-replicate count x)
+
+  pub page_at-inside : (page : ℕ) → first ≤ page → page < first + count → page_at (with_range memory first count x) page ≡ x
+  page_at-inside page from below =
+      get_or_append_left (take first memory ++ replicate count x) (drop (first + count) memory) None page (omega (arith, front_length))
+      ∙ (get_or-append_right (take first memory) (replicate count x) first page None (omega (arith, length-take first memory)) from
+      ∙ get_or-replicate count (page - first) x None (omega arith))
+
+  pub page_at-below : (page : ℕ) → page < first → page_at (with_range memory first count x) page ≡ page_at memory page
+  page_at-below page below =
+      get_or_append_left (take first memory ++ replicate count x) (drop (first + count) memory) None page (omega (arith, front_length))
+      ∙ (get_or_append_left (take first memory) (replicate count x) None page (omega (arith, length-take first memory))
+      ∙ get_or-take first memory page None below)
+
+  pub page_at-above : (page : ℕ) → first + count ≤ page → page_at (with_range memory first count x) page ≡ page_at memory page
+  page_at-above page above =
+      get_or-append_right (take first memory ++ replicate count x) (drop (first + count) memory) (first + count) page None front_length above
+      ∙ (get_or-drop (first + count) memory (page - (first + count)) None
+      ∙ ap (λ at. get_or memory at None) (omega arith))
+
+-- the memory of a space whose pages were unmapped
+pub StandsFor-cleared : (old new : Heap) (space now : List (Option ℕ)) (first count : ℕ) (memory : Memory)
+    → first + count ≤ 256 → length memory ≡ 256 → IsCleared old new space now first (first + count)
+    → StandsFor old space memory → StandsFor new now (without_pages memory first count)
+StandsFor-cleared old new space now first count memory within len cleared stands page below =
+    ⊎_elim
+    (λ under. cleared.stays page (inl under) ∙ (stands page below ∙ sym (page_at-below memory first count None (omega arith) page under)))
+    (λ from. ⊎_elim
+    (λ inside. ap (content_of new.pages) (cleared.gone page from inside) ∙ sym (page_at-inside memory first count None (omega arith) page from inside))
+    (λ above. cleared.stays page (inr above) ∙ (stands page below ∙ sym (page_at-above memory first count None (omega arith) page above)))
+    (cases_lt page (first + count)))
+    (cases_lt page first)
+
+-- a key of the space stands at some group
+key_placed : (space : List (Option ℕ)) (key : ℕ) → Contains (keys_in space) key → (group : ℕ) × (group < length space) × (get_or space group None ≡ Some key)
+key_placed [] key there = absurd (omega (arith, there.1))
+key_placed (None ∷ space) key there =
+    let placed = key_placed space key there in (suc placed.0, omega (arith, placed.1), placed.2)
+key_placed (Some first ∷ space) key there =
+    ⊎_elim
+    (λ here. (0, omega arith, ap Some (only here)))
+    (λ behind. let placed = key_placed space key behind in (suc placed.0, omega (arith, placed.1), placed.2))
+    (Contains-append_cases (first ∷ []) (keys_in space) key there)
+  where
+    only : Contains (first ∷ []) key → first ≡ key
+    only (zero, within, is) = is
+    only (suc at, within, is) = absurd (omega arith)
+
+-- where each entry is unmapped, none is counted
+none_counted : (entries : List PageEntry) → ((at : ℕ) → at < length entries → get_or entries at entry.Unmapped ≡ entry.Unmapped) → count_by is_mapped entries ≡ 0
+none_counted [] none = refl
+none_counted (entry.Unmapped ∷ entries) none = none_counted entries (λ at within. none (suc at) (omega arith))
+none_counted (entry.Zero ∷ entries) none = absurd (unequal (none 0 (omega arith)))
+  where
+    unequal : entry.Zero ≡ entry.Unmapped → ⊥
+    unequal same = cc
+none_counted (entry.Frame key ∷ entries) none = absurd (unequal (none 0 (omega arith)))
+  where
+    unequal : entry.Frame key ≡ entry.Unmapped → ⊥
+    unequal same = cc
+
+-- a space without a mapped page has no node
+no_nodes : (nodes : List (Option Node)) (space : List (Option ℕ)) → OwnsNodes nodes space → length space ≡ 4
+    → ((key : ℕ) (node : Node) → object nodes key ≡ Some node → length node.entries ≡ 64)
+    → ((page : ℕ) → page < 256 → entry_at nodes space page ≡ entry.Unmapped) → (key : ℕ) → Contains (keys_in space) key → ⊥
+no_nodes nodes space owns groups long gone key there =
+    let placed = key_placed space key there in
+    let group = placed.0 in
+    let found = object_of nodes key (owns.used key there) in
+    let node = found.0 in
+    let some : 0 < count_by is_mapped node.entries = owns.mapped key node there found.1 in
+    let none : count_by is_mapped node.entries ≡ 0 = none_counted node.entries (λ at within.
+    let small : at < 64 = omega (arith, long key node found.1) in
+    let inside : group < 4 = omega (arith, placed.1) in
+    let page : ℕ = group * 64 + at in
+    let by : page / 64 ≡ group = omega arith in
+    let place : page % 64 ≡ at = omega arith in
+    let named : key_of space page ≡ Some key = ap (λ g. get_or space g None) by ∙ placed.2 in
+    ap (λ a. get_or node.entries a entry.Unmapped) (sym place)
+    ∙ (sym (entry_known nodes space page key node named found.1) ∙ gone page (omega arith))) in
+    omega arith
+
+no_keys : (keys : List ℕ) → ((key : ℕ) → Contains keys key → ⊥) → keys ≡ []
+no_keys [] none = refl
+no_keys (key ∷ keys) none = absurd (none key (0, omega arith, refl))
+
+-- a space that was cleared leaves the owners
+pub SpaceLeaves-cleared : (old new : Heap) (space now : List (Option ℕ)) → IsCleared old new space now 0 256 → length now ≡ 4
+    → ((key : ℕ) (node : Node) → object new.nodes key ≡ Some node → length node.entries ≡ 64)
+    → SpaceLeaves old new space
+SpaceLeaves-cleared old new space now cleared groups long = record {
+  owners = λ others owned.
+      let after : IsOwned new (with_space now others) = cleared.moves.owners others owned in
+      IsOwned-space_leaves new others now
+      (no_keys (keys_in now) (no_nodes new.nodes now (IsOwned-space new others now after) groups long (λ page below. cleared.gone page (omega arith) below)))
+      after;
+  others = cleared.moves.others;
+  kept = cleared.moves.kept;
+}

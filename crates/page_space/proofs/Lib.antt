@@ -1,0 +1,7 @@
+pub mod ClearLemmas
+pub mod FrameLemmas
+pub mod KeyPlaces
+pub mod MapLemmas
+pub mod MoveLemmas
+pub mod RunLemmas
+pub mod TurnLemmas

@@ -1,0 +1,41 @@
+//! The frames that page entries name.
+
+ghost use Rattle.std.specs.Prelude.{◌≡◌, ◌+◌, ◌-◌, ◌<◌, ◌≤◌, None, Some};
+ghost use Rattle.kabi_types.specs.declared.classes.Class.TheVariants as class;
+ghost use Rattle.kheap_slabs.specs.Counts.{with_count};
+ghost use Rattle.kheap_slabs.specs.Objects.{object, InUse, put};
+ghost use Rattle.kheap_slabs.specs.Purse.{CanPay, IsPaid, TakesNothing};
+ghost use Rattle.kheap_slabs.specs.Spaces.{names_page, count_at, CountRises, CountFalls};
+ghost use Rattle.page_space.specs.Frames.{IsNamed, AllNamed, FramesStay};
+
+use kheap_slabs::{KHeap, PageEntry};
+
+// One entry fewer names the page; with the last one it goes.
+pub(crate) fn drop_page(heap: &mut KHeap, key: u32)
+    requires { 0 < count_at heap.old.pages key }
+    ensures falls { CountFalls heap.old.pages heap.new.pages key }
+    ensures bytes { FramesStay heap.old.pages heap.new.pages }
+    ensures kept { heap.new ≡ record heap.old { pages = heap.new.pages } }
+    ensures takes { TakesNothing heap.old heap.new }
+{
+    let count = heap.get_page(key).count;
+    if count == 1 {
+        let _ = heap.free_page(key);
+    } else {
+        heap.set_page_count(key, count - 1);
+    }
+}
+
+// An entry says this no more.
+pub(crate) fn drop_entry(heap: &mut KHeap, entry: PageEntry)
+    requires { IsNamed heap.old.pages entry }
+    ensures counts { (page : _) → count_at heap.new.pages page + names_page page entry ≡ count_at heap.old.pages page }
+    ensures named { AllNamed heap.old.pages → AllNamed heap.new.pages }
+    ensures bytes { FramesStay heap.old.pages heap.new.pages }
+    ensures kept { heap.new ≡ record heap.old { pages = heap.new.pages } }
+    ensures takes { TakesNothing heap.old heap.new }
+{
+    if let PageEntry::Frame(key) = entry {
+        drop_page(heap, key);
+    }
+}

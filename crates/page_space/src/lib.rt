@@ -1,0 +1,9 @@
+//! The address space of a process: its pages, whose frames are shared after a fork and copied before a write.
+#![tactic(auto)]
+
+mod frames;
+mod spaces;
+#[cfg(test)]
+mod tests;
+
+pub use spaces::Space;
