@@ -1,6 +1,7 @@
 -- What a command ends with, from what was read, answered and put.
-use Rattle.std.proofs.Common.{◌≡◌, ℕ, List, [], ◌∷◌, length, Result, Ok, Err, IfOk, refl, sym, ap, ◌∙◌, subst, arith}
-use Rattle.std.specs.Prelude.{String, string_bytes}
+use Rattle.std.proofs.Common.{◌≡◌, ℕ, ◌≤◌, List, [], ◌∷◌, Result, Ok, Err, IfOk, refl, sym, ap, ◌∙◌, subst, arith}
+use Rattle.std.specs.Prelude.{String}
+use Rattle.std.proofs.lemmas.Fmt.{decimal_injective}
 use Rattle.kabi_types.specs.declared.entries.End.{End}
 use Rattle.kabi_types.specs.declared.entries.End.TheVariants as end
 use Rattle.kabi_types.specs.declared.scripts.Script.{Script}
@@ -9,61 +10,94 @@ use Rattle.script_parse.specs.Reading.{Outcome}
 use Rattle.script_parse.specs.declared.parse_error.ParseError.{ParseError}
 use Rattle.script_parse.specs.declared.parse_error.ParseError.TheVariants as error
 use Rattle.kres_cli.specs.declared.commands.Command.{Command}
-use Rattle.kres_cli.specs.declared.commands.Command.TheVariants as command
+use Rattle.kres_cli.specs.declared.commands.Command.TheVariants.{OnScript, Table, Gen}
+use Rattle.kres_cli.specs.declared.commands.Task.{Task}
+use Rattle.kres_cli.specs.declared.commands.Task.TheVariants as task
 use Rattle.kres_cli.specs.declared.statuses.Status.{Status}
 use Rattle.kres_cli.specs.declared.statuses.Status.TheVariants as status
 use Rattle.kres_cli.specs.Status.{status_of}
-use Rattle.kres_cli.specs.Tool.{Streams, AnswersText, refuses, makes, AnswersSource, Asks, Makes, Wrote, HasPut, whole_text, beginning, CommandEnds, OthersEnd, TellsError, usage_line, word_of}
+use Rattle.kres_cli.specs.Tool.{Streams, AnswersText, refuses, makes, AnswersSource, Makes, Wrote, HasPut, whole_text, beginning, OthersEnd, TaskEnds, TellsError, TextEnds, usage_line}
+use Rattle.kres_cli.specs.Words.{Asks, IsAllowed, most_rounds, words_of}
 
 -- a run's report was written
-reported : (s : Streams) (asked : Command) (whole : List ℕ) (e : End) → AnswersSource s asked (status_of e) whole → Wrote s whole → CommandEnds s asked (status_of e)
+reported : (s : Streams) (asked : Task) (whole : List ℕ) (e : End) → AnswersSource s asked (status_of e) whole → Wrote s whole → TaskEnds s asked (status_of e)
 reported s asked whole end.Finished source wrote = (whole, source, wrote)
 reported s asked whole (end.Starved _ _) source wrote = (whole, source, wrote)
 reported s asked whole end.AllAsleep source wrote = (whole, source, wrote)
 reported s asked whole end.Spent source wrote = (whole, source, wrote)
 
-made : (s : Streams) (asked : Command) (script : Script) (whole : List ℕ) (st : Status) → Makes asked script whole st → AnswersSource s asked st whole
-    → Wrote s whole → CommandEnds s asked st
-made s command.Sim script whole st ran source wrote =
-    subst (CommandEnds s command.Sim) (sym ran.status_is)
-    (reported s command.Sim whole ran.end (subst (λ t. AnswersSource s command.Sim t whole) ran.status_is source) wrote)
-made s command.Print script whole st printed source wrote =
-    subst (CommandEnds s command.Print) (sym printed.1)
-    (whole, subst (λ t. AnswersSource s command.Print t whole) printed.1 source, wrote)
+made : (s : Streams) (asked : Task) (script : Script) (whole : List ℕ) (st : Status) → Makes asked script whole st → AnswersSource s asked st whole
+    → Wrote s whole → TaskEnds s asked st
+made s task.Sim script whole st ran source wrote =
+    subst (TaskEnds s task.Sim) (sym ran.status_is)
+    (reported s task.Sim whole ran.end (subst (λ t. AnswersSource s task.Sim t whole) ran.status_is source) wrote)
+made s task.Print script whole st printed source wrote =
+    subst (TaskEnds s task.Print) (sym printed.1)
+    (whole, subst (λ t. AnswersSource s task.Print t whole) printed.1 source, wrote)
 
-written : (s : Streams) (asked : Command) (text whole : List ℕ) (st : Status) → AnswersText text whole asked st → AnswersSource s asked st whole → Wrote s whole
-    → CommandEnds s asked st
+written : (s : Streams) (asked : Task) (text whole : List ℕ) (st : Status) → AnswersText text whole asked st → AnswersSource s asked st whole → Wrote s whole
+    → TaskEnds s asked st
 written s asked text whole _ (refuses fault said is) source wrote = (whole, source, wrote)
 written s asked text whole _ (makes script st said made_so) source wrote = made s asked script whole st made_so source wrote
 
 -- a text that isn't read is answered by the line of its fault
-pub refused : (text whole : List ℕ) (asked : Command) (st : Status) (why : ParseError) → Outcome (λ script. script) (Err why) (ReadsText text)
+pub refused : (text whole : List ℕ) (asked : Task) (st : Status) (why : ParseError) → Outcome (λ script. script) (Err why) (ReadsText text)
     → TellsError why whole st → AnswersText text whole asked st
 refused text whole asked st (error.Bad fault) said told = subst (AnswersText text whole asked) (sym told.1) (refuses fault said told.0)
 refused text whole asked st error.Memory said told = absurd told
 
 -- what was read is answered, whole or in part
-pub command_put : (s : Streams) (asked : Command) (whole : List ℕ) (st told : Status) → AnswersSource s asked st whole → HasPut s whole st told
-    → CommandEnds s asked told
-command_put s asked whole st _ source (whole_text wrote) = written s asked source.text whole st source.answers source wrote
-command_put s asked whole st _ source (beginning broke) = (st, whole, source, broke)
+pub task_put : (s : Streams) (asked : Task) (whole : List ℕ) (st told : Status) → AnswersSource s asked st whole → HasPut s whole st told
+    → TaskEnds s asked told
+task_put s asked whole st _ source (whole_text wrote) = written s asked source.text whole st source.answers source wrote
+task_put s asked whole st _ source (beginning broke) = (st, whole, source, broke)
 
 pub usage_put : (s : Streams) (told : Status) → HasPut s usage_line status.Usage told → OthersEnd s told
 usage_put s _ (whole_text wrote) = wrote
 usage_put s _ (beginning broke) = broke
 
--- a word is one command at most
-one_word : (word : List ℕ) (first second : Command) → word ≡ word_of first → word ≡ word_of second → first ≡ second
-one_word word command.Sim command.Sim is is_too = refl
-one_word word command.Print command.Print is is_too = refl
-one_word word command.Sim command.Print is is_too = absurd (let wrong : 3 ≡ 5 = ap length (sym is ∙ is_too) in omega (arith, wrong))
-one_word word command.Print command.Sim is is_too = absurd (let wrong : 5 ≡ 3 = ap length (sym is ∙ is_too) in omega (arith, wrong))
+-- a text that needs no script is written whole or in part
+pub text_put : (s : Streams) (whole : List ℕ) (told : Status) → HasPut s whole status.Finished told → TextEnds s whole told
+text_put s whole _ (whole_text wrote) = wrote
+text_put s whole _ (beginning broke) = broke
+
+-- the first byte of the first of some words
+first_byte : List (List ℕ) → ℕ
+first_byte [] = 0
+first_byte ([] ∷ words) = 0
+first_byte ((byte ∷ bytes) ∷ words) = byte
+
+second_word : List (List ℕ) → List ℕ
+second_word (_ ∷ word ∷ words) = word
+second_word _ = []
+
+-- two numbers of rounds whose digits are the same
+same_rounds : (rounds rounds' : ℕ) → rounds ≤ most_rounds → rounds' ≤ most_rounds → words_of (Gen rounds) ≡ words_of (Gen rounds') → Gen rounds ≡ Gen rounds'
+unfolding second_word
+same_rounds rounds rounds' few few' same = ap Gen (decimal_injective rounds rounds' (omega arith) (omega arith) (ap second_word same))
 
 -- words are one command at most
+one_command : (first second : Command) → IsAllowed first → IsAllowed second → words_of first ≡ words_of second → first ≡ second
+unfolding first_byte
+one_command (OnScript task.Sim) (OnScript task.Sim) _ _ same = refl
+one_command (OnScript task.Sim) (OnScript task.Print) _ _ same = absurd (let wrong : 115 ≡ 112 = ap first_byte same in omega (arith, wrong))
+one_command (OnScript task.Sim) Table _ _ same = absurd (let wrong : 115 ≡ 116 = ap first_byte same in omega (arith, wrong))
+one_command (OnScript task.Sim) (Gen rounds) _ _ same = absurd (let wrong : 115 ≡ 103 = ap first_byte same in omega (arith, wrong))
+one_command (OnScript task.Print) (OnScript task.Sim) _ _ same = absurd (let wrong : 112 ≡ 115 = ap first_byte same in omega (arith, wrong))
+one_command (OnScript task.Print) (OnScript task.Print) _ _ same = refl
+one_command (OnScript task.Print) Table _ _ same = absurd (let wrong : 112 ≡ 116 = ap first_byte same in omega (arith, wrong))
+one_command (OnScript task.Print) (Gen rounds) _ _ same = absurd (let wrong : 112 ≡ 103 = ap first_byte same in omega (arith, wrong))
+one_command Table (OnScript task.Sim) _ _ same = absurd (let wrong : 116 ≡ 115 = ap first_byte same in omega (arith, wrong))
+one_command Table (OnScript task.Print) _ _ same = absurd (let wrong : 116 ≡ 112 = ap first_byte same in omega (arith, wrong))
+one_command Table Table _ _ same = refl
+one_command Table (Gen rounds) _ _ same = absurd (let wrong : 116 ≡ 103 = ap first_byte same in omega (arith, wrong))
+one_command (Gen rounds) (OnScript task.Sim) _ _ same = absurd (let wrong : 103 ≡ 115 = ap first_byte same in omega (arith, wrong))
+one_command (Gen rounds) (OnScript task.Print) _ _ same = absurd (let wrong : 103 ≡ 112 = ap first_byte same in omega (arith, wrong))
+one_command (Gen rounds) Table _ _ same = absurd (let wrong : 103 ≡ 116 = ap first_byte same in omega (arith, wrong))
+one_command (Gen rounds) (Gen rounds') few few' same = same_rounds rounds rounds' few few' same
+
 pub asks_once : {A : Type 0} (words : List (String A)) (first second : Command) → Asks words first → Asks words second → first ≡ second
-asks_once [] first second asks asks_too = absurd asks
-asks_once (word ∷ []) first second asks asks_too = one_word (string_bytes word) first second asks asks_too
-asks_once (word ∷ other ∷ words) first second asks asks_too = absurd asks
+asks_once words first second asks asks_too = one_command first second asks.1 asks_too.1 (sym asks.0 ∙ asks_too.0)
 
 -- a fact of what is in an `Ok` follows from another
 pub IfOk-map : {X E : Type 0} {P Q : X → Type 0} (r : Result X E) → ((x : X) → P x → Q x) → IfOk r P → IfOk r Q

@@ -1,28 +1,91 @@
-ghost use Rattle.std.specs.Prelude.{MatchOption};
+ghost use Rattle.std.specs.Prelude.{◌≡◌, ℕ, ◌≤◌, [], ◌∷◌, IfNone, IfSome, MatchOption, decimal};
 ghost use Rattle.kres_cli.specs.declared.commands.Command.{Command};
-ghost use Rattle.kres_cli.specs.Tool.{Asks};
+ghost use Rattle.kres_cli.specs.Words.{Asks, IsAllowed, most_rounds, words_of};
+
+/// What is done with a script that is read from the source.
+#[derive(Clone, Copy, Debug, PartialEq, Eq)]
+pub enum Task {
+    /// It is run, and its events are reported.
+    Sim,
+    /// It is printed in its canonical form.
+    Print,
+}
 
 /// What the words after the program's name ask for.
 #[derive(Clone, Copy, Debug, PartialEq, Eq)]
 pub enum Command {
-    /// Runs a script, and reports its events.
-    Sim,
-    /// Prints a script in its canonical form.
-    Print,
+    /// Reads a script.
+    OnScript(Task),
+    /// Prints the price list.
+    Table,
+    /// Prints the generated script of so many rounds.
+    Gen(u32),
 }
+
+/// The most rounds of a generated script.
+const MOST_ROUNDS: u32 = 1000;
 
 /// The command that the words are; None where they are none.
 pub fn command_of(words: &[String]) -> Option<Command>
     ensures { MatchOption result ((command : Command) → Asks words.now command → ⊥) (Asks words.now) }
 {
-    let [word] = words else {
-        return None;
-    };
-    if word.as_str() == "sim" {
-        return Some(Command::Sim);
+    match words {
+        [word] => alone(word.as_str()),
+        [word, number] => with_number(word.as_str(), number.as_str()),
+        _ => None,
     }
-    if word.as_str() == "print" {
-        return Some(Command::Print);
+}
+
+/// The command that is one word.
+fn alone(word: &str) -> Option<Command>
+    ensures { MatchOption result ((command : Command) → word.now ∷ [] ≡ words_of command → ⊥)
+        (λ command. (word.now ∷ [] ≡ words_of command) × IsAllowed command) }
+{
+    if word == "sim" {
+        return Some(Command::OnScript(Task::Sim));
+    }
+    if word == "print" {
+        return Some(Command::OnScript(Task::Print));
+    }
+    if word == "table" {
+        return Some(Command::Table);
     }
     None
+}
+
+/// The command that is a word and a number.
+fn with_number(word: &str, number: &str) -> Option<Command>
+    ensures { MatchOption result ((command : Command) → word.now ∷ number.now ∷ [] ≡ words_of command → IsAllowed command → ⊥)
+        (λ command. (word.now ∷ number.now ∷ [] ≡ words_of command) × IsAllowed command) }
+{
+    if word != "gen" {
+        return None;
+    }
+    Some(Command::Gen(rounds_of(number)?))
+}
+
+/// A number of rounds: decimal digits without a sign, and no zero before others.
+fn rounds_of(number: &str) -> Option<u32>
+    ensures some { IfSome result (λ n. (number.now ≡ decimal n) × (n ≤ most_rounds)) }
+    ensures none { IfNone result ((n : ℕ) → n ≤ most_rounds → number.now ≡ decimal n → ⊥) }
+{
+    if number == "0" {
+        return Some(0);
+    }
+    let digits = number.as_bytes();
+    if digits.is_empty() {
+        return None;
+    }
+    // A sign or a zero stands first.
+    if digits[0] < b'1' {
+        return None;
+    }
+    let Ok(rounds) = number.parse::<u32>() else {
+        return None;
+    };
+    if rounds <= MOST_ROUNDS {
+        Some(rounds)
+    } else {
+        None
+    }
 }

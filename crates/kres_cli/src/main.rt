@@ -15,6 +15,8 @@ mod statuses;
 mod tests;
 #[cfg(test)]
 mod tests_print;
+#[cfg(test)]
+mod tests_words;
 mod text;
 mod tool;
 mod writing;

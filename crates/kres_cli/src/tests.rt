@@ -284,6 +284,24 @@ const OTHER_WORDS: &[&str] = &[
     "Sim",
     "print sim",
     "print print",
+    "table x",
+    "tables",
+    "gen",
+    "gen 01",
+    "gen 00",
+    "gen +1",
+    "gen -1",
+    "gen 1001",
+    "gen 4294967296",
+    "gen 18446744073709551617",
+    "gen 1x",
+    "gen x",
+    "gen 1 2",
+    "Gen 1",
+    "1 gen",
+    // These come later.
+    "threads 4",
+    "load 1",
 ];
 
 #[test]

@@ -1,13 +1,17 @@
-ghost use Rattle.std.specs.Prelude.{◌≡◌, ℕ, List, Option, IfOk, string_bytes};
+ghost use Rattle.std.specs.Prelude.{◌≡◌, ◌≢◌, ℕ, ◌≤◌, List, Option, IfOk, string_bytes};
 ghost use Rattle.kio_ports.specs.Offers.{PutsAll};
 ghost use Rattle.posix_defs.specs.ValidScript.{IsValid};
 ghost use Rattle.kres_cli.specs.Run.{IsReport};
-ghost use Rattle.kres_cli.specs.Tool.{AnswersText, Asks, CommandEnds, HasPut, Makes, OthersEnd, TellsError};
+ghost use Rattle.kres_cli.specs.Tool.{AnswersText, CommandEnds, HasPut, Makes, OthersEnd, TaskEnds, TellsError, TextEnds};
+ghost use Rattle.kres_cli.specs.Words.{Asks, IsAllowed, most_rounds};
 ghost use Rattle.kres_cli.specs.declared.commands.Command.{Command};
+ghost use Rattle.kres_cli.specs.declared.commands.Command.TheVariants.{OnScript};
+ghost use Rattle.kres_cli.specs.declared.commands.Task.{Task};
 ghost use Rattle.kres_cli.specs.declared.statuses.Status.TheVariants.{Finished};
 ghost use Rattle.posix_defs.specs.Canonical.{canonical};
+ghost use Rattle.posix_defs.specs.Generated.{generated};
 
-use crate::commands::{Command, command_of};
+use crate::commands::{Command, Task, command_of};
 use crate::lines::{fault_line, report};
 use crate::plain_store::PlainStore;
 use crate::reading::read_text;
@@ -17,6 +21,8 @@ use crate::writing::write_text;
 use kabi_types::{Memory, Script};
 use kern_core::{Core, run_to_end};
 use kio_ports::{Sink, Source};
+use load_gen::generate;
+use need_table::table;
 use script_parse::{ParseError, parse, print};
 use std::alloc::Global;
 
@@ -61,7 +67,8 @@ pub fn run_tool<R, S: Source, K: Sink>(
       puts' = K.faults sink.new;
       offered = λ text whole. PutsAll K.put_gives sink.old text whole sink.new;
     }) result }
-    ensures untouched { ((command : Command) → Asks words.now command → ⊥) → source.new ≡ source.old }
+    // Only what reads a script touches the source.
+    ensures untouched { ((task : Task) → Asks words.now (OnScript task) → ⊥) → source.new ≡ source.old }
 {
     match command_of(words) {
         Some(command) => obey(alloc, command, source, sink),
@@ -89,9 +96,39 @@ fn put<K: Sink>(sink: &mut K, text: &str, status: Status) -> Status
     }
 }
 
-/// Reads a script from the source, does what the command asks for, and writes the answer.
+/// Writes a text that needs no script, where the host had the memory to make it.
+fn tell<K: Sink>(sink: &mut K, made: Result<String, Memory>) -> Status
+    ensures { (left left' : Option (List ℕ)) (takes takes' : ℕ) (whole : List ℕ) → IfOk made (λ text. string_bytes text ≡ whole) → TextEnds (record {
+      left = left;
+      left' = left';
+      held = K.held sink.old;
+      held' = K.held sink.new;
+      takes = takes;
+      takes' = takes';
+      puts = K.faults sink.old;
+      puts' = K.faults sink.new;
+      offered = λ text whole. PutsAll K.put_gives sink.old text whole sink.new;
+    }) whole result }
+{
+    match made {
+        Ok(text) => put(sink, text.as_str(), Status::Finished),
+        Err(Memory) => Status::Memory,
+    }
+}
+
+/// The generated script of so many rounds, in its canonical form.
+fn generated_text(alloc: Global, rounds: u32) -> Result<String, Memory>
+    requires { rounds ≤ most_rounds }
+    ensures { IfOk result (λ text. string_bytes text ≡ canonical (generated rounds)) }
+{
+    let script = generate(alloc, rounds)?;
+    print(alloc, &script)
+}
+
+/// Does what a command asks for.
 fn obey<S: Source, K: Sink>(alloc: Global, command: Command, source: &mut S, sink: &mut K) -> Status
-    ensures { CommandEnds (record {
+    requires { IsAllowed command }
+    ensures ends { CommandEnds (record {
       left = S.left source.old;
       left' = S.left source.new;
       held = K.held sink.old;
@@ -102,24 +139,51 @@ fn obey<S: Source, K: Sink>(alloc: Global, command: Command, source: &mut S, sin
       puts' = K.faults sink.new;
       offered = λ text whole. PutsAll K.put_gives sink.old text whole sink.new;
     }) command result }
+    ensures untouched { ((task : Task) → command ≢ OnScript task) → source.new ≡ source.old }
+{
+    match command {
+        Command::OnScript(task) => answer_script(alloc, task, source, sink),
+        Command::Table => tell(sink, table(alloc)),
+        Command::Gen(rounds) => tell(sink, generated_text(alloc, rounds)),
+    }
+}
+
+/// Reads a script from the source, does the task with it, and writes the answer.
+fn answer_script<S: Source, K: Sink>(
+    alloc: Global,
+    task: Task,
+    source: &mut S,
+    sink: &mut K,
+) -> Status
+    ensures { TaskEnds (record {
+      left = S.left source.old;
+      left' = S.left source.new;
+      held = K.held sink.old;
+      held' = K.held sink.new;
+      takes = S.faults source.old;
+      takes' = S.faults source.new;
+      puts = K.faults sink.old;
+      puts' = K.faults sink.new;
+      offered = λ text whole. PutsAll K.put_gives sink.old text whole sink.new;
+    }) task result }
 {
     let text = match read_text(alloc, source) {
         Ok(Text::Read(text)) => text,
         Ok(Text::Fault) => return Status::ReadFault,
         Err(Memory) => return Status::Memory,
     };
-    match answer_to(alloc, command, text.as_slice()) {
+    match answer_to(alloc, task, text.as_slice()) {
         Ok(answer) => put(sink, answer.text.as_str(), answer.status),
         Err(Memory) => Status::Memory,
     }
 }
 
 /// What is written in answer to a text, and with which status.
-fn answer_to(alloc: Global, command: Command, text: &[u8]) -> Result<Answer, Memory>
-    ensures { IfOk result (λ answer. AnswersText text.now (string_bytes answer.text) command answer.status) }
+fn answer_to(alloc: Global, task: Task, text: &[u8]) -> Result<Answer, Memory>
+    ensures { IfOk result (λ answer. AnswersText text.now (string_bytes answer.text) task answer.status) }
 {
     match parse(alloc, text) {
-        Ok(script) => obey_script(alloc, command, &script),
+        Ok(script) => obey_script(alloc, task, &script),
         Err(error) => refuse(alloc, error),
     }
 }
@@ -137,14 +201,14 @@ fn refuse(alloc: Global, error: ParseError) -> Result<Answer, Memory>
     }
 }
 
-/// What the command makes of a script.
-fn obey_script(alloc: Global, command: Command, script: &Script) -> Result<Answer, Memory>
+/// What the task makes of a script.
+fn obey_script(alloc: Global, task: Task, script: &Script) -> Result<Answer, Memory>
     requires { IsValid script.now }
-    ensures { IfOk result (λ answer. Makes command script.now (string_bytes answer.text) answer.status) }
+    ensures { IfOk result (λ answer. Makes task script.now (string_bytes answer.text) answer.status) }
 {
-    match command {
-        Command::Sim => run_script(alloc, script),
-        Command::Print => print_script(alloc, script),
+    match task {
+        Task::Sim => run_script(alloc, script),
+        Task::Print => print_script(alloc, script),
     }
 }
 

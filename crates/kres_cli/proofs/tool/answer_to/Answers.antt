@@ -12,4 +12,4 @@ returns-in-Ok c = IfOk-map c.obey_script.result (λ answer made. makes c.in-Ok.s
 pub returns-in-Err : goal.returns-in-Err
 returns-in-Err c =
     IfOk-map c.refuse.result
-    (λ answer told. refused c.args.text.now (string_bytes answer.text) c.args.command answer.status c.in-Err.error c.in-Err.ensures.reads told) c.refuse.ensures
+    (λ answer told. refused c.args.text.now (string_bytes answer.text) c.args.task answer.status c.in-Err.error c.in-Err.ensures.reads told) c.refuse.ensures

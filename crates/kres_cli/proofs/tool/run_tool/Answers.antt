@@ -1,6 +1,7 @@
 use Rattle.std.proofs.Common.{subst}
 use Rattle.kio_ports.specs.Offers.{PutsAll}
 use Rattle.kres_cli.specs.Tool.{CommandEnds, Streams}
+use Rattle.kres_cli.specs.Words.{Asks}
 use Rattle.kres_cli.proofs.Outcomes.{asks_once, usage_put}
 use Rattle.kres_cli.proofs.tool.run_tool.Goals as goal
 
@@ -19,13 +20,14 @@ returns-in-Some-clause-commands g c = λ command asks.
       puts' = g.K.Sink.faults c.obey.new.sink;
       offered = λ text whole. PutsAll g.K.Sink.put_gives c.args.sink.now text whole c.obey.new.sink;
     } in
-    subst (λ asked. CommandEnds streams asked c.obey.result) (asks_once c.args.words.now c.in-Some.command command c.in-Some.ensures asks) c.obey.ensures
+    subst (λ asked. CommandEnds streams asked c.obey.result) (asks_once c.args.words.now c.in-Some.command command c.in-Some.ensures asks) c.obey.ensures.ends
 
 pub returns-in-Some-clause-others : goal.returns-in-Some-clause-others
 returns-in-Some-clause-others g c = λ none. absurd (none c.in-Some.command c.in-Some.ensures)
 
 pub returns-in-Some-clause-untouched : goal.returns-in-Some-clause-untouched
-returns-in-Some-clause-untouched g c = λ none. absurd (none c.in-Some.command c.in-Some.ensures)
+returns-in-Some-clause-untouched g c = λ none.
+    c.obey.ensures.untouched (λ task is. none task (subst (Asks c.args.words.now) is c.in-Some.ensures))
 
 pub returns-in-None-clause-commands : goal.returns-in-None-clause-commands
 returns-in-None-clause-commands g c = λ command asks. absurd (c.in-None.ensures command asks)

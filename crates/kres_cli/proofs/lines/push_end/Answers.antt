@@ -1,6 +1,0 @@
-use Rattle.std.proofs.Common.{append_assoc}
-use Rattle.std.proofs.lemmas.Result.{IfOk-equal}
-use Rattle.kres_cli.proofs.lines.push_end.Goals as goal
-
-pub returns : goal.returns
-returns c = IfOk-equal _ _ _ _ c.write.ensures.bytes (simp (c.in_ok-push_end_word.ensures, c.in_ok-push_str.ensures.bytes, append_assoc))

@@ -1,0 +1,26 @@
+-- The words of the command line.
+use Rattle.std.specs.Prelude.{ℕ, ⊤, ◌≡◌, ◌≤◌, List, [], ◌∷◌, map, String, string_bytes, codes, decimal}
+use Rattle.kres_cli.specs.declared.commands.Command.{Command}
+use Rattle.kres_cli.specs.declared.commands.Command.TheVariants.{OnScript, Table, Gen}
+use Rattle.kres_cli.specs.declared.commands.Task.TheVariants.{Sim, Print}
+
+-- the words of a command; a number is its digits, with no sign and no zero before others
+abbrev pub words_of : Command → List (List ℕ)
+words_of (OnScript Sim) = codes "sim" ∷ []
+words_of (OnScript Print) = codes "print" ∷ []
+words_of Table = codes "table" ∷ []
+words_of (Gen rounds) = codes "gen" ∷ decimal rounds ∷ []
+
+-- the most rounds of a generated script
+abbrev pub most_rounds : ℕ
+most_rounds = 1000
+
+abbrev pub IsAllowed : Command → Type 0
+IsAllowed (OnScript _) = ⊤
+IsAllowed Table = ⊤
+IsAllowed (Gen rounds) = rounds ≤ most_rounds
+
+module _ {A : Type 0} where
+  -- the words are this command
+  abbrev pub Asks : List (String A) → Command → Type 0
+  Asks words asked = (map string_bytes words ≡ words_of asked) × IsAllowed asked
