@@ -3,6 +3,7 @@ pub mod Charged
 pub mod EnabledEvents
 pub mod TablePlaces
 pub mod LivingVictim
+pub mod Sleepers
 pub mod Families
 pub mod Errors
 pub mod Picking

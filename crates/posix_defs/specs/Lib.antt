@@ -36,6 +36,8 @@ pub mod Choice
 pub mod CoreRun
 pub mod Victim
 pub mod History
+pub mod Sleeping
+pub mod WorkedFamily
 pub mod Lines
 pub use Rattle.kabi_types.specs.Words
 pub mod PriceText

@@ -10,6 +10,7 @@ mod dirs;
 mod disk_laws;
 mod disk_tree_laws;
 mod generator;
+mod history_laws;
 mod laws;
 mod nodes;
 mod path_laws;
@@ -40,6 +41,11 @@ pub use disk_tree_laws::{
     names_of_the_disk_are_those_of_the_tree,
 };
 pub use generator::{choice_of, next_state};
+pub use history_laws::{
+    a_call_is_given_up_once, orphans_get_the_first_process, sleepers_have_blocked_ever_since,
+    the_heaviest_or_the_youngest_is_the_victim, the_living_pin_their_directories,
+    what_is_evicted_was_cached,
+};
 pub use laws::{
     a_picked_run_is_a_run, charged_stays_within_the_heap, entries_are_a_legal_history,
     events_are_listed_where_they_may_be_taken, no_reply_wants_memory, nothing_else_is_its_run,
