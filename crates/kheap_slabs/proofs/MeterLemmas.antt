@@ -1,11 +1,11 @@
 -- What the heap keeps: at boot, and where a page is changed in its place.
-use Rattle.std.proofs.Common.{◌≡◌, ℕ, ◌+◌, ◌/◌, ◌≤◌, List, ◌++◌, Option, Some, None, length, take, drop, replicate, min, refl, sym, ap, ◌∙◌, inl, inr, arith, length-append, length-drop}
+use Rattle.std.proofs.Common.{◌≡◌, ℕ, ◌+◌, ◌/◌, ◌≤◌, List, Option, Some, None, length, replicate, refl, sym, ◌∙◌, inl, inr, arith, length-append, length-drop}
 use Rattle.std.proofs.lemmas.Bool.{cases_eq}
 use Rattle.std.proofs.lemmas.List.{length-replicate, length-set, length-take}
 use Rattle.kabi_types.specs.Class.{size}
 use Rattle.kabi_types.specs.declared.classes.Class.TheVariants as class
-use Rattle.kheap_slabs.specs.Heap.{Heap, empty_heap, live_bytes, counts_of, IsWellFormed}
-use Rattle.kheap_slabs.specs.Metered.{keys_of, fitting, IsMetered}
+use Rattle.kheap_slabs.specs.Heap.{Heap, empty_heap, live_bytes}
+use Rattle.kheap_slabs.specs.Metered.{IsMetered}
 use Rattle.kheap_slabs.specs.Objects.{object, count, put}
 use Rattle.kheap_slabs.specs.Spaces.{with_bytes}
 use Rattle.kheap_slabs.specs.declared.objects.Page.{Page}

@@ -10,10 +10,10 @@ use Rattle.kabi_types.specs.Class.{size}
 use Rattle.kabi_types.specs.declared.classes.Class.TheVariants as class
 use Rattle.kheap_slabs.specs.Heap.{Heap, empty_heap}
 use Rattle.kheap_slabs.specs.Objects.{object, InUse, put, without}
-use Rattle.kheap_slabs.specs.Keys.{IsOnce, Apart, AreKeysOf, ChangesKeys, Splits}
-use Rattle.kheap_slabs.specs.Queues.{OwnedQueue, OwnsChunks, fresh_queue}
+use Rattle.kheap_slabs.specs.Keys.{IsOnce, Apart, AreKeysOf, Splits}
+use Rattle.kheap_slabs.specs.Queues.{OwnedQueue, fresh_queue}
 use Rattle.kheap_slabs.specs.Spaces.{mapped_count, keys_in, OwnsNodes, names_in, page_count, IsCounted}
-use Rattle.kheap_slabs.specs.Owners.{Owners, with_space, with_queue, node_keys, chunk_keys, IsOwned, SpaceChanges, QueueChanges, AreOwnersOf, OwnsItsObjects, spaces_of, pipe_queues, sock_queues}
+use Rattle.kheap_slabs.specs.Owners.{Owners, with_space, with_queue, node_keys, chunk_keys, IsOwned, SpaceChanges, QueueChanges, OwnsItsObjects, spaces_of, pipe_queues, sock_queues}
 use Rattle.kheap_slabs.specs.declared.objects.Chunk.{Chunk}
 use Rattle.kheap_slabs.specs.declared.objects.Node.{Node}
 use Rattle.kheap_slabs.proofs.ObjectLemmas.{InUse-within, InUse-put, put-within, object-put, object-put_other, object-without, object-without_other}

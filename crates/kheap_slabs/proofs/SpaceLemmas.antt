@@ -1,15 +1,15 @@
 -- How many entries name a page, after a change of the nodes, and what the pages' counts must then be.
-use Rattle.std.proofs.Common.{◌≡◌, ◌≢◌, ℕ, ◌+◌, ◌*◌, ◌<◌, ◌≤◌, ◌/◌, List, [], ◌∷◌, Option, Some, None, length, get_or, set, cond, is_some, refl, sym, ap, ◌∙◌, ◌++◌, suc, inl, inr, arith, Contains}
+use Rattle.std.proofs.Common.{◌≡◌, ◌≢◌, ℕ, ◌+◌, ◌*◌, ◌<◌, ◌≤◌, ◌/◌, List, [], ◌∷◌, Option, Some, None, length, set, cond, is_some, refl, sym, ap, ◌∙◌, ◌++◌, suc, inl, inr, arith}
 use Rattle.std.proofs.lemmas.Bool.{cases_eq}
 use Rattle.std.specs.Option.{option_map}
 use Rattle.std.specs.List.{sum_by}
 use Rattle.std.proofs.lemmas.List.Elements.{Contains-append_left, Contains-append_right}
 use Rattle.std.proofs.lemmas.List.Sums.{sum_by-cons, sum_by-set}
-use Rattle.kheap_slabs.specs.Heap.{Heap, live_bytes, IsWellFormed}
+use Rattle.kheap_slabs.specs.Heap.{Heap, IsWellFormed}
 use Rattle.kheap_slabs.specs.Objects.{object, InUse, count, put, without}
 use Rattle.kheap_slabs.specs.Outside.{KeepsOutside}
 use Rattle.kheap_slabs.specs.Keys.{Apart}
-use Rattle.kheap_slabs.specs.Spaces.{is_mapped, mapped_count, keys_in, OwnsNodes, NamesNone, names_page, names_in, names_of, page_count, count_at, IsCounted, EntryChanges, CountRises, CountFalls, bytes_at, KeepsBytes}
+use Rattle.kheap_slabs.specs.Spaces.{is_mapped, mapped_count, keys_in, OwnsNodes, NamesNone, names_page, names_in, names_of, page_count, count_at, IsCounted, EntryChanges, CountRises, CountFalls, KeepsBytes}
 use Rattle.kheap_slabs.specs.declared.objects.Node.{Node}
 use Rattle.kheap_slabs.specs.declared.objects.Page.{Page}
 use Rattle.kheap_slabs.specs.declared.objects.PageEntry.{PageEntry}

@@ -1,11 +1,11 @@
 -- The owners of a heap after one process, pipe or socket is put in or taken out.
-use Rattle.std.proofs.Common.{◌≡◌, ℕ, zero, suc, ◌<◌, List, [], ◌∷◌, ◌++◌, Option, Some, None, map, refl, sym, ap, ◌∙◌, append_assoc, arith}
+use Rattle.std.proofs.Common.{◌≡◌, ℕ, zero, suc, List, [], ◌∷◌, ◌++◌, Option, Some, None, map, refl, sym, ap, ◌∙◌, append_assoc}
 use Rattle.std.proofs.lemmas.List.{set-set, set-get_or, map-append}
 use Rattle.kheap_slabs.specs.Heap.{Heap}
 use Rattle.kheap_slabs.specs.Objects.{object, put, without}
 use Rattle.kheap_slabs.specs.Keys.{Splits}
 use Rattle.kheap_slabs.specs.Queues.{OwnedQueue, empty_queue, fresh_queue}
-use Rattle.kheap_slabs.specs.Owners.{Owners, with_space, with_queue, IsOwned, each_of, AreOwnersOf, SameOwners, HasSpaceOut, HasQueueOut, OwnsItsObjects, spaces_of, pipe_queues, sock_queues}
+use Rattle.kheap_slabs.specs.Owners.{Owners, each_of, AreOwnersOf, SameOwners, HasSpaceOut, HasQueueOut, OwnsItsObjects, spaces_of, pipe_queues, sock_queues}
 use Rattle.kheap_slabs.specs.Spaces.{keys_in}
 use Rattle.kheap_slabs.specs.declared.objects.Pipe.{Pipe}
 use Rattle.kheap_slabs.specs.declared.objects.Proc.{Proc}

@@ -1,4 +1,3 @@
-use Rattle.std.proofs.Common.{refl}
 use Rattle.kheap_slabs.proofs.MeterLemmas.{IsMetered-boot}
 use Rattle.kheap_slabs.proofs.kheap.KHeap.boot.Goals as goal
 
