@@ -1,5 +1,6 @@
-ghost use Rattle.std.specs.Prelude.{◌≡◌, ◌*◌, ◌<◌, ◌≤◌, ◌^◌};
+ghost use Rattle.std.specs.Prelude.{◌≡◌, ◌*◌, ◌<◌, ◌≤◌, ◌^◌, max};
 ghost use Rattle.kabi_types.specs.Class.{size};
+ghost use Rattle.kabi_types.specs.declared.classes.Class.TheVariants.{Block, Chunk};
 ghost use Rattle.posix_defs.specs.Needs.{bound, is_write};
 ghost use Rattle.posix_defs.specs.Sizes.{bytes_of};
 
@@ -29,6 +30,13 @@ fn total(need: &Need) -> u64
         + taken(Class::Sock, need.sock)
 }
 
+/// What the blocks of a need take, or its chunks, whichever is more.
+fn greater_part(need: &Need) -> u64
+    ensures { result ≡ max (need.now.block * size Block) (need.now.chunk * size Chunk) }
+{
+    taken(Class::Block, need.block).max(taken(Class::Chunk, need.chunk))
+}
+
 /// A write needs room for a file or for a queue, and never for both.
 fn is_write(kind: CallKind) -> bool
     ensures { result ≡ is_write kind }
@@ -44,7 +52,7 @@ pub fn bound(call: &Call) -> u64
 {
     let need = need(call);
     if is_write(call.kind()) {
-        taken(Class::Block, need.block).max(taken(Class::Chunk, need.chunk))
+        greater_part(&need)
     } else {
         total(&need)
     }

@@ -1,4 +1,4 @@
-use Rattle.std.proofs.Common.{◌≡◌, ◌≤◌, ◌∷◌, length, decimal, ◌∙◌, sym, ap, subst}
+use Rattle.std.proofs.Common.{◌≡◌, ◌≤◌, ◌∷◌, length, decimal, ◌∙◌, sym, subst}
 use Rattle.load_gen.proofs.Labels.{label_fits}
 use Rattle.load_gen.proofs.statements.child_label.Goals as goal
 

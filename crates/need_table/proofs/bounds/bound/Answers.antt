@@ -15,12 +15,11 @@ greater_part need = max (need.block * size Block) (need.chunk * size Chunk)
 pub returns-then-is_write-clause-value : goal.returns-then-is_write-clause-value
 returns-then-is_write-clause-value c =
     let writes : is_write (kind_of c.args.call.now) ≡ true = sym (c.is_write.ensures ∙ ap is_write c.kind.ensures) ∙ c.if-is_write.true in
-    let parts : c.max.result ≡ greater_part c.need-need.result = c.max.ensures ∙ ap (max c.taken.result) c.taken-then-is_write.ensures.value ∙ ap (λ n. max n (c.need-need.result.chunk * size Chunk)) c.taken.ensures.value in
-    parts ∙ ap greater_part c.need-need.ensures.objects ∙ sym (greater c.args.call.now writes)
+    c.greater_part.ensures ∙ ap greater_part c.need-need.ensures.objects ∙ sym (greater c.args.call.now writes)
 
 pub returns-then-is_write-clause-most : goal.returns-then-is_write-clause-most
 returns-then-is_write-clause-most c =
-    let value : c.max.result ≡ bound c.args.call.now = returns-then-is_write-clause-value c in
+    let value : c.greater_part.result ≡ bound c.args.call.now = returns-then-is_write-clause-value c in
     subst (λ n. n ≤ 39040) (sym value) (most_of_right c.args.call.now c.need-need.ensures.stored)
 
 pub returns-else-is_write-clause-value : goal.returns-else-is_write-clause-value
