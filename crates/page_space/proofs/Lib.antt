@@ -1,4 +1,5 @@
 pub mod ClearLemmas
+pub mod ForkLemmas
 pub mod FrameLemmas
 pub mod KeyPlaces
 pub mod MapLemmas

@@ -98,7 +98,7 @@ space_used (first ∷ spaces) one key among its =
     only (suc at, within, is) = absurd (omega arith)
 
 -- the entries of another space
-other_entries : (old new : Heap) (space now : List (Option ℕ)) (others : Owners) (other : List (Option ℕ))
+pub other_entries : (old new : Heap) (space now : List (Option ℕ)) (others : Owners) (other : List (Option ℕ))
     → ChangesKeys old.nodes new.nodes (keys_in space) (keys_in now)
     → IsOwned old (with_space space others) → Contains others.spaces other
     → (page : ℕ) → entry_at new.nodes other page ≡ entry_at old.nodes other page

@@ -1,5 +1,5 @@
 -- What stands in the pages of an address space, by its nodes and pages in the heap, and what a change leaves to others.
-use Rattle.std.specs.Prelude.{◌≡◌, ◌⊎◌, ℕ, ◌<◌, ◌≤◌, List, Option, None, Some}
+use Rattle.std.specs.Prelude.{◌≡◌, ◌⊎◌, ℕ, ◌<◌, ◌≤◌, List, ◌∷◌, Option, None, Some}
 use Rattle.std.specs.List.{Contains}
 use Rattle.posix_defs.specs.Memory.{Memory, zero_page, page_at}
 use Rattle.kheap_slabs.specs.Heap.{Heap}
@@ -61,5 +61,17 @@ pub record IsFilled (old : Heap) (before : Purse) (new : Heap) (after : Purse) (
   pub zeros : (page : ℕ) → first ≤ page → page < end → content_at new now page ≡ Some zero_page
   pub stays : (page : ℕ) → (page < first) ⊎ (end ≤ page) → content_at new now page ≡ content_at old space page
   pub entries : (page : ℕ) → end ≤ page → entry_at new.nodes now page ≡ entry_at old.nodes space page
+  pub paid : IsPaid old before new after
+  pub spent : after ≡ record before { left = with_count before.left class.Node after.left.node }
+
+-- A new space has what another has in its pages up to one, and none behind it is mapped. Both own what they own beside
+-- whoever else did, all other spaces have in their pages what they had, and nodes alone are paid for.
+pub record IsForked (old : Heap) (before : Purse) (new : Heap) (after : Purse) (of now : List (Option ℕ)) (end : ℕ) : Type 0 where
+  pub owners : (others : Owners) → IsOwned old (with_space of others) → IsOwned new (with_space now (with_space of others))
+  pub others : (others : Owners) (other : List (Option ℕ)) → IsOwned old (with_space of others) → Contains (of ∷ others.spaces) other
+      → (page : ℕ) → content_at new other page ≡ content_at old other page
+  pub same : (page : ℕ) → page < end → content_at new now page ≡ content_at old of page
+  pub rest : (page : ℕ) → end ≤ page → entry_at new.nodes now page ≡ entry.Unmapped
+  pub kept : new ≡ record old { nodes = new.nodes; pages = new.pages; high = new.high }
   pub paid : IsPaid old before new after
   pub spent : after ≡ record before { left = with_count before.left class.Node after.left.node }

@@ -26,6 +26,19 @@ pub(crate) fn drop_page(heap: &mut KHeap, key: u32)
     }
 }
 
+// One entry more names the page.
+pub(crate) fn share_page(heap: &mut KHeap, key: u32)
+    requires there { 0 < count_at heap.old.pages key }
+    requires small { count_at heap.old.pages key < 4294967295 }
+    ensures rises { CountRises heap.old.pages heap.new.pages key }
+    ensures bytes { FramesStay heap.old.pages heap.new.pages }
+    ensures kept { heap.new ≡ record heap.old { pages = heap.new.pages } }
+    ensures takes { TakesNothing heap.old heap.new }
+{
+    let count = heap.get_page(key).count;
+    heap.set_page_count(key, count + 1);
+}
+
 // An entry says this no more.
 pub(crate) fn drop_entry(heap: &mut KHeap, entry: PageEntry)
     requires { IsNamed heap.old.pages entry }
@@ -37,5 +50,20 @@ pub(crate) fn drop_entry(heap: &mut KHeap, entry: PageEntry)
 {
     if let PageEntry::Frame(key) = entry {
         drop_page(heap, key);
+    }
+}
+
+// One entry more says this.
+pub(crate) fn share_entry(heap: &mut KHeap, entry: PageEntry)
+    requires named { IsNamed heap.old.pages entry }
+    requires small { (page : _) → count_at heap.old.pages page < 4294967295 }
+    ensures counts { (page : _) → count_at heap.new.pages page ≡ count_at heap.old.pages page + names_page page entry }
+    ensures kept_named { AllNamed heap.old.pages → AllNamed heap.new.pages }
+    ensures bytes { FramesStay heap.old.pages heap.new.pages }
+    ensures kept { heap.new ≡ record heap.old { pages = heap.new.pages } }
+    ensures takes { TakesNothing heap.old heap.new }
+{
+    if let PageEntry::Frame(key) = entry {
+        share_page(heap, key);
     }
 }

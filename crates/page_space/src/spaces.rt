@@ -4,13 +4,13 @@ ghost use Rattle.kheap_slabs.specs.Counts.{counted, with_count};
 ghost use Rattle.kheap_slabs.specs.Purse.{CanPay, IsPaid, TakesNothing};
 ghost use Rattle.kheap_slabs.specs.Spaces.{is_mapped, mapped_count, OwnsNodes};
 ghost use Rattle.page_space.specs.Entries.{key_of, entry_at, is_mapped_at, PageTurns};
-ghost use Rattle.page_space.specs.Contents.{content_at, StandsFor, IsOwnedWith, SpaceMoves, IsCleared, SpaceLeaves, IsFilled};
+ghost use Rattle.page_space.specs.Contents.{content_at, StandsFor, IsOwnedWith, SpaceMoves, IsCleared, SpaceLeaves, IsFilled, IsForked};
 ghost use Rattle.posix_defs.specs.Memory.{Memory, is_mapped_range, lowest_free_run, lowest_run, with_pages, without_pages};
 ghost use Rattle.posix_defs.specs.Needs.{nodes_for};
 ghost use Rattle.page_space.specs.Runs.{IsFreeFrom, IsMappedRun, HasUnmapped};
 ghost use Rattle.kabi_types.specs.declared.errnos.Errno.TheVariants.{EMFILE};
 
-use crate::frames::drop_entry;
+use crate::frames::{drop_entry, share_entry};
 use kabi_types::{Class, Errno};
 use kheap_slabs::{KHeap, Node, PageEntry, Purse};
 use std::marker::Model;
@@ -293,6 +293,26 @@ impl Space {
         ensures takes { TakesNothing heap.old heap.new }
     {
         self.unmap_run(heap, page, page + count);
+    }
+
+    /// A second space with the same memory, as a child of a fork has it. No frame is made: both name the same ones.
+    pub fn fork_from(heap: &mut KHeap, purse: &mut Purse, of: &Space) -> Space
+        requires owned { IsOwnedWith heap.old of.now }
+        requires room { CanPay heap.old purse.old }
+        requires left { 4 ≤ purse.old.left.node }
+        ensures { IsForked heap.old purse.old heap.new purse.new of.now result 256 }
+    {
+        let mut space = Space { nodes: [None; 4] };
+        for page in 0..PAGES {
+            let entry = of.entry(heap, page);
+            if is_mapped_entry(entry) {
+                // the heap knows that no page is named more often than it can count
+                let _ = heap.heap();
+                share_entry(heap, entry);
+                space.map_page(heap, purse, page, entry);
+            }
+        }
+        space
     }
 
     /// Unmaps all pages. The space is gone then, and its Nodes with it.
