@@ -76,12 +76,15 @@ unmapped_is entry.Unmapped none = refl
 unmapped_is entry.Zero none = absurd (true≢false none)
 unmapped_is (entry.Frame key) none = absurd (true≢false none)
 
--- the space behind the one in front owns what it says too
+-- the space behind the one in front may stand there itself
+pub IsOwned-second_to_front : (h : Heap) (one other : List (Option ℕ)) (others : Owners) → IsOwned h (with_space one (with_space other others)) → IsOwned h (with_space other (with_space one others))
+IsOwned-second_to_front h one other others owned =
+    IsOwned-space_to_front h (with_space one (with_space other others)) other (one ∷ others.spaces)
+    (record { before = one ∷ []; after = others.spaces; whole_is = refl; rest_is = refl }) owned
+
 pub OwnsNodes-second : (h : Heap) (one other : List (Option ℕ)) (others : Owners) → IsOwned h (with_space one (with_space other others)) → OwnsNodes h.nodes other
 OwnsNodes-second h one other others owned =
-    IsOwned-space h (with_space one others) other
-    (IsOwned-space_to_front h (with_space one (with_space other others)) other (one ∷ others.spaces)
-    (record { before = one ∷ []; after = others.spaces; whole_is = refl; rest_is = refl }) owned)
+    IsOwned-space h (with_space one others) other (IsOwned-second_to_front h one other others owned)
 
 -- there is a node left for the next page
 pub fork_left : (old : Heap) (before : Purse) (mid : Heap) (between : Purse) (of now : List (Option ℕ)) (page : ℕ) → IsForking old before mid between of now page

@@ -300,7 +300,9 @@ impl Space {
         requires owned { IsOwnedWith heap.old of.now }
         requires room { CanPay heap.old purse.old }
         requires left { 4 ≤ purse.old.left.node }
-        ensures { IsForked heap.old purse.old heap.new purse.new of.now result 256 }
+        ensures forked { IsForked heap.old purse.old heap.new purse.new of.now result 256 }
+        ensures child { IsOwnedWith heap.new result }
+        ensures parent { IsOwnedWith heap.new of.now }
     {
         let mut space = Space { nodes: [None; 4] };
         for page in 0..PAGES {

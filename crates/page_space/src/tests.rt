@@ -124,3 +124,18 @@ fn a_range_is_mapped_where_each_page_is(rt: HostRuntime) -> Result<(), Fail> {
     space.release(&mut heap);
     Ok(())
 }
+
+#[test]
+fn a_child_has_nodes_of_its_own(rt: HostRuntime) -> Result<(), Fail> {
+    let (mut heap, mut space) = booted(rt.alloc())?;
+    let mut pay = purse(&rt, &heap);
+    assert!(rt; space.map(&mut heap, &mut pay, 65) == Ok(1));
+    assert!(rt; heap.live() == 1024);
+    let mut pay = purse(&rt, &heap);
+    let child = Space::fork_from(&mut heap, &mut pay, &space);
+    assert!(rt; heap.live() == 2048);
+    assert!(rt; child.mapped(&heap, 4096, 266240) && !child.mapped(&heap, 4096, 266241));
+    child.release(&mut heap);
+    assert!(rt; heap.live() == 1024);
+    Ok(())
+}

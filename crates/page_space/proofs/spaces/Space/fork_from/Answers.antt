@@ -4,7 +4,7 @@ use Rattle.kheap_slabs.specs.Spaces.{OwnsNodes}
 use Rattle.kheap_slabs.proofs.OwnerLemmas.{IsOwned-space}
 use Rattle.kheap_slabs.proofs.PaidLemmas.{CanPay-kept, IsPaid-nothing}
 use Rattle.kheap_slabs.proofs.SpaceLemmas.{IsCounted-most}
-use Rattle.page_space.proofs.ForkLemmas.{IsForking-more, IsForking-unmapped, OwnsNodes-second, fork_left, unmapped_is}
+use Rattle.page_space.proofs.ForkLemmas.{IsOwned-second_to_front, IsForking-more, IsForking-unmapped, OwnsNodes-second, fork_left, unmapped_is}
 use Rattle.page_space.proofs.MoveLemmas.{IsNamed-entry}
 use Rattle.page_space.proofs.spaces.Space.fork_from.Goals as goal
 use Rattle.page_space.proofs.spaces.Space.fork_from.Goals.{then-is_mapped_entry, else-is_mapped_entry}
@@ -49,3 +49,14 @@ loop-page-preserved c =
           c.loop-page.invariant c.requires.owned.1
           (sym c.entry-entry.ensures ∙ unmapped_is c.entry-entry.result (sym c.is_mapped_entry.ensures ∙ w.if-is_mapped_entry.false)))
     ]
+
+pub returns-clause-child : goal.returns-clause-child
+returns-clause-child c =
+    (with_space c.args.of.now c.requires.owned.0, c.loop-page.invariant.forked.owners c.requires.owned.0 c.requires.owned.1)
+
+pub returns-clause-parent : goal.returns-clause-parent
+returns-clause-parent c = (
+  with_space c.loop-page.space c.requires.owned.0,
+  IsOwned-second_to_front c.loop-page.heap c.loop-page.space c.args.of.now c.requires.owned.0
+      (c.loop-page.invariant.forked.owners c.requires.owned.0 c.requires.owned.1),
+)
