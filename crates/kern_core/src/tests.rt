@@ -1,4 +1,4 @@
-ghost use Rattle.std.specs.Prelude.{◌≡◌};
+ghost use Rattle.std.specs.Prelude.{◌≡◌, true, false};
 ghost use Rattle.kern_core.specs.Sample.{sample, sample_world};
 
 use crate::{Choosing, Core, run_to_end};
@@ -57,7 +57,9 @@ impl Turner for OnePid {
 }
 
 /// The process at its start.
-fn at_boot() -> OnePid {
+fn at_boot() -> OnePid
+    ensures { (result.asked ≡ false) × (result.lives ≡ true) }
+{
     OnePid {
         asked: false,
         lives: true,
