@@ -1,3 +1,12 @@
+pub mod TablePlaces
+pub mod LivingVictim
+pub mod Families
+pub mod Errors
+pub mod TwoRun
+pub mod Nexts
+pub mod Tasks
+pub mod BuriedTasks
+pub mod Sounds
 pub mod MadePids
 pub mod Charged
 pub mod EnabledEvents

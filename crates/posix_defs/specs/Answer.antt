@@ -1,7 +1,10 @@
 -- What the machine answers to one call.
 use Rattle.std.specs.Prelude.{ℕ}
+use Rattle.kabi_types.specs.declared.errnos.Errno.{Errno}
 use Rattle.kabi_types.specs.declared.replies.Reply.{Reply}
-use Rattle.posix_defs.specs.Plain.{Plain}
+use Rattle.kabi_types.specs.declared.replies.Reply.TheVariants as reply
+use Rattle.kabi_types.specs.declared.scripts.Script.{Script}
+use Rattle.posix_defs.specs.Plain.{Plain, answered}
 
 pub data Answer : Type 0 where
   -- the call would block, and nothing changes
@@ -12,3 +15,11 @@ pub data Answer : Type 0 where
   Part : ℕ → Plain → Answer
   -- the process has ended with a wait status
   Ended : ℕ → Plain → Answer
+
+-- a call that is over: its caller goes on behind it
+abbrev pub replied : Script → Plain → ℕ → Reply → Answer
+replied script plain pid reply = Done reply (answered script plain pid reply)
+
+-- a call that fails changes nothing but its caller's control
+abbrev pub failed : Script → Plain → ℕ → Errno → Answer
+failed script plain pid errno = replied script plain pid (reply.Fail errno)

@@ -14,10 +14,18 @@ pub mod Control
 pub mod Plain
 pub mod Answer
 pub mod Ending
+pub mod Family
+pub mod Forking
+pub mod Waiting
+pub mod Killing
 pub mod Posix
 pub mod World
 pub mod Turn
+pub mod Relief
+pub mod Victim
 pub mod CoreState
+pub mod Licence
+pub mod SoundTasks
 pub mod Enabled
 pub mod CoreEvent
 pub mod Ends
@@ -25,7 +33,6 @@ pub mod Generator
 pub mod Generated
 pub mod Choice
 pub mod CoreRun
-pub mod Victim
 pub mod History
 pub mod Lines
 pub use Rattle.kabi_types.specs.Words
@@ -54,3 +61,4 @@ pub mod ScriptFaults
 pub mod ScriptText
 pub mod ValidScript
 pub mod Canonical
+pub mod TwoProcesses

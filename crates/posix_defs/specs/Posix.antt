@@ -1,27 +1,46 @@
 -- The machine of POSIX.1-2017: what one call answers, for a process that is alive. No heap and no cache occur in it.
-use Rattle.std.specs.Prelude.{ℕ, pos}
+use Rattle.std.specs.Prelude.{ℕ, pos, Bool, true, false, Option, None, Some}
+use Rattle.kabi_types.specs.Arguments.{argument_fault}
 use Rattle.kabi_types.specs.declared.calls.Call.{Call}
 use Rattle.kabi_types.specs.declared.calls.Call.TheVariants as call
+use Rattle.kabi_types.specs.declared.errnos.Errno.{Errno}
 use Rattle.kabi_types.specs.declared.errnos.Errno.TheVariants.{EINVAL}
-use Rattle.kabi_types.specs.declared.replies.Reply.{Reply}
 use Rattle.kabi_types.specs.declared.replies.Reply.TheVariants as reply
 use Rattle.kabi_types.specs.declared.scripts.Script.{Script}
 use Rattle.posix_defs.specs.Process.{parent_of}
-use Rattle.posix_defs.specs.Plain.{Plain, answered}
-use Rattle.posix_defs.specs.Answer.{Answer, Done, Ended}
+use Rattle.posix_defs.specs.Plain.{Plain, call_of}
+use Rattle.posix_defs.specs.Answer.{Answer, Blocked, Ended, failed, replied}
 use Rattle.posix_defs.specs.Ending.{die, exit_status}
+use Rattle.posix_defs.specs.Forking.{fork}
+use Rattle.posix_defs.specs.Waiting.{waitpid}
+use Rattle.posix_defs.specs.Killing.{kill}
 
--- a call that is over and changes nothing but its caller's control
-abbrev pub replied : Script → Plain → ℕ → Reply → Answer
-replied script plain pid reply = Done reply (answered script plain pid reply)
+-- what is answered where no operand is wrong: one case for each call that is built; one that isn't is answered EINVAL, and no
+-- script that is read makes one
+abbrev pub answer_to : Script → Plain → ℕ → Call → Answer
+answer_to script plain pid call.Getpid = replied script plain pid (reply.Val (pos pid))
+answer_to script plain pid call.Getppid = replied script plain pid (reply.Val (pos (parent_of plain.table pid)))
+answer_to script plain pid call.SchedYield = replied script plain pid (reply.Val (pos 0))
+answer_to script plain pid call.Fork = fork script plain pid
+answer_to script plain pid (call.Exit status) = Ended (exit_status status) (die plain pid (exit_status status))
+answer_to script plain pid (call.Waitpid which options) = waitpid script plain pid which options
+answer_to script plain pid (call.Kill target signal) = kill script plain pid target signal
+answer_to script plain pid _ = failed script plain pid EINVAL
 
-abbrev pub ended_with : Plain → ℕ → ℕ → Answer
-ended_with plain pid status = Ended status (die plain pid status)
+-- a wrong operand is told before anything else is looked at
+abbrev pub unless_wrong : Script → Plain → ℕ → Option Errno → Answer → Answer
+unless_wrong script plain pid None answer = answer
+unless_wrong script plain pid (Some errno) answer = failed script plain pid errno
 
--- one case for each call that is built; one that isn't is answered EINVAL, and no script that is read makes one
+-- what a live process's call is answered
 abbrev pub posix : Script → Plain → ℕ → Call → Answer
-posix script plain pid call.Getpid = replied script plain pid (reply.Val (pos pid))
-posix script plain pid call.Getppid = replied script plain pid (reply.Val (pos (parent_of plain.table pid)))
-posix script plain pid call.SchedYield = replied script plain pid (reply.Val (pos 0))
-posix script plain pid (call.Exit status) = ended_with plain pid (exit_status status)
-posix script plain pid _ = replied script plain pid (reply.Fail EINVAL)
+posix script plain pid call = unless_wrong script plain pid (argument_fault call) (answer_to script plain pid call)
+
+-- the answer is that the call would block
+abbrev pub blocks : Answer → Bool
+blocks Blocked = true
+blocks _ = false
+
+-- the process's next call would block
+abbrev pub would_block : Script → Plain → ℕ → Bool
+would_block script plain pid = blocks (posix script plain pid (call_of script plain pid))

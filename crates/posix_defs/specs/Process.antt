@@ -1,5 +1,5 @@
 -- The processes of the plain machine: who is there, and whose child is whose.
-use Rattle.std.specs.Prelude.{ℕ, Bool, true, false, List, count_by, Option, None, Some}
+use Rattle.std.specs.Prelude.{ℕ, Bool, true, false, List, count_by, Option, None, Some, unwrap_or}
 use Rattle.posix_defs.specs.ByPid.{at_pid}
 
 -- whether a process runs, or has ended with a wait status and waits for its parent
@@ -18,11 +18,7 @@ abbrev pub Table : Type 0
 Table = List (Option Process)
 
 abbrev pub process_at : Table → ℕ → Option Process
-process_at table pid = known (at_pid table pid)
-  where
-    known : Option (Option Process) → Option Process
-    known None = None
-    known (Some there) = there
+process_at table pid = unwrap_or (at_pid table pid) None
 
 abbrev pub runs : Status → Bool
 runs Alive = true

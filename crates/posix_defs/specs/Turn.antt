@@ -4,7 +4,7 @@ use Rattle.kabi_types.specs.declared.calls.Call.{Call}
 use Rattle.kabi_types.specs.declared.scripts.Script.{Script}
 use Rattle.posix_defs.specs.declared.turner.Turned.{Turned}
 use Rattle.posix_defs.specs.declared.turner.Turned.TheVariants as turned
-use Rattle.posix_defs.specs.Sizes.{bound, need_of}
+use Rattle.posix_defs.specs.Needs.{bound, need_of}
 use Rattle.posix_defs.specs.Process.{is_alive}
 use Rattle.posix_defs.specs.Plain.{Plain}
 use Rattle.posix_defs.specs.Answer.{Answer, Blocked, Done, Part, Ended}

@@ -1,8 +1,10 @@
 -- What the core knows of a store: the plain machine, its account, what the caches keep, and the count of reads.
-use Rattle.std.specs.Prelude.{ℕ, ◌+◌, ◌*◌, ◌==◌, ◌≡◌, if◌then◌else◌, List, [], ◌∷◌, length, None, Some}
+use Rattle.std.specs.Prelude.{ℕ, ◌+◌, ◌*◌, ◌==◌, ◌≡◌, Bool, not, if◌then◌else◌, List, [], ◌∷◌, length, None, Some}
 use Rattle.std.specs.List.{list_any}
 use Rattle.kabi_types.specs.Class.{size}
 use Rattle.kabi_types.specs.declared.classes.Class.TheVariants as class
+use Rattle.kabi_types.specs.declared.entries.Cached.{Cached}
+use Rattle.kabi_types.specs.declared.entries.Cached.TheVariants.{Name, Block, Vnode}
 use Rattle.kabi_types.specs.declared.scripts.Script.{Script}
 use Rattle.posix_defs.specs.Process.{Table, runs, how_many}
 use Rattle.posix_defs.specs.Plain.{Plain, root, boot_plain}
@@ -49,9 +51,19 @@ abbrev pub distinct : List ℕ → List ℕ
 distinct [] = []
 distinct (n ∷ ns) = if list_any (λ m. m == n) ns then distinct ns else n ∷ distinct ns
 
--- how many nodes have to stay cached
+-- the nodes that have to stay cached
+abbrev pub pinned_nodes : Plain → List ℕ
+pinned_nodes plain = distinct (root ∷ directories_of plain.table)
+
+-- how many these are
 abbrev pub pins : Plain → ℕ
-pins plain = length (distinct (root ∷ directories_of plain.table))
+pins plain = length (pinned_nodes plain)
+
+-- a cache keeps something that isn't pinned; names and blocks never are
+abbrev pub can_evict : Plain → Kept → Cached → Bool
+can_evict plain kept Name = not (length kept.names == 0)
+can_evict plain kept Block = not (length kept.blocks == 0)
+can_evict plain kept Vnode = list_any (λ node. not (list_any (λ pinned. pinned == node) (pinned_nodes plain))) kept.vnodes
 
 -- the heap that the caches take
 abbrev pub cached : Kept → ℕ

@@ -15,6 +15,7 @@ mod path_laws;
 mod phases;
 mod price_laws;
 mod prices;
+mod process_laws;
 mod said;
 #[cfg(test)]
 mod tests;
@@ -37,7 +38,7 @@ pub use disk_tree_laws::{
 pub use generator::{choice_of, next_state};
 pub use laws::{
     a_picked_run_is_a_run, charged_stays_within_the_heap, entries_are_a_legal_history,
-    events_are_listed_where_they_may_be_taken, no_reply_wants_memory, nothing_else_is_its_run,
+    events_are_listed_where_they_may_be_taken, every_state_is_sound, no_reply_wants_memory, nothing_else_is_its_run,
     refusals_stand_above_the_room, something_can_be_taken, the_first_script_runs,
     the_generator_is_this_one, what_is_picked_is_enabled,
 };
@@ -46,12 +47,16 @@ pub use path_laws::{
     a_last_name_may_be_an_entrys, a_path_leads_to_what_is_there, dots_lead_to_directories,
     ways_up_end_at_the_root,
 };
-pub use phases::Phase;
+pub use phases::{Asked, Phase, Task};
 pub use price_laws::{
     a_bound_is_that_of_the_price_list, a_bound_is_the_sum_of_its_need,
     a_write_costs_less_as_it_goes_on, a_wrong_operand_costs_nothing, no_bound_is_above_39040,
 };
 pub use prices::Price;
+pub use process_laws::{
+    a_pid_is_never_used_again, an_error_changes_the_control_alone,
+    nobody_outlives_the_first_process, processes_are_a_family, two_processes_run,
+};
 pub use said::{AtTop, InProgram, Setting, Shape, Spoken, Stated, Word};
 pub use tree_laws::{
     a_changed_file_leaves_a_tree, a_further_name_leaves_a_tree, a_new_root_is_a_tree,

@@ -1,0 +1,19 @@
+-- The worked example of two processes is a legal history.
+use Rattle.std.proofs.Common.{◌≡◌, ℕ, ◌≤◌, [], ◌∷◌, List, None, refl, arith}
+use Rattle.kabi_types.specs.declared.calls.CallKind.TheVariants as kind
+use Rattle.kabi_types.specs.declared.entries.Entry.{Entry}
+use Rattle.kabi_types.specs.declared.entries.Entry.TheVariants as entry
+use Rattle.posix_defs.specs.History.{Past, IsRun, boots, goes_on}
+use Rattle.posix_defs.specs.TwoProcesses.{two_entries, two_script}
+
+pub two_run : (past : Past) × IsRun two_script two_entries past × (past.plain.table ≡ None ∷ None ∷ [])
+two_run = (
+  _,
+  goes_on _ _ _ _ (goes_on _ _ _ _ (goes_on _ _ _ _ (goes_on _ _ _ _ (goes_on [] _ _ _ boots
+      (record { may_run = record { alive = refl; of_kind = refl; fits_ever = omega arith }; plain = _; answers = refl; leads = refl }))
+      (record { may_run = record { alive = refl; of_kind = refl; fits_ever = omega arith }; up = refl; blocked = refl; leads = refl }))
+      (record { may_run = record { alive = refl; of_kind = refl; fits_ever = omega arith }; plain = _; answers = refl; leads = refl }))
+      (record { may_run = record { alive = refl; of_kind = refl; fits_ever = omega arith }; plain = _; answers = refl; leads = refl }))
+      (record { may_run = record { alive = refl; of_kind = refl; fits_ever = omega arith }; plain = _; answers = refl; leads = refl }),
+  refl,
+)
