@@ -3,17 +3,26 @@ use Rattle.std.proofs.Common.{◌≡◌, ℕ, ◌≤◌, [], ◌∷◌, List, No
 use Rattle.kabi_types.specs.declared.calls.CallKind.TheVariants as kind
 use Rattle.kabi_types.specs.declared.entries.Entry.{Entry}
 use Rattle.kabi_types.specs.declared.entries.Entry.TheVariants as entry
+use Rattle.posix_defs.specs.Needs.{bound}
 use Rattle.posix_defs.specs.History.{Past, IsRun, boots, goes_on}
 use Rattle.posix_defs.specs.TwoProcesses.{two_entries, two_script}
 
+-- the bounds of a fork, and of calls that cost nothing, are within the room
+fork_fits : 2560 ≤ 62720
+fork_fits = omega arith
+
+always_fits : 0 ≤ 62720
+always_fits = omega arith
+
 pub two_run : (past : Past) × IsRun two_script two_entries past × (past.plain.table ≡ None ∷ None ∷ [])
+unfolding bound
 two_run = (
   _,
   goes_on _ _ _ _ (goes_on _ _ _ _ (goes_on _ _ _ _ (goes_on _ _ _ _ (goes_on [] _ _ _ boots
-      (record { may_run = record { alive = refl; of_kind = refl; fits_ever = omega arith }; plain = _; answers = refl; leads = refl }))
-      (record { may_run = record { alive = refl; of_kind = refl; fits_ever = omega arith }; up = refl; blocked = refl; leads = refl }))
-      (record { may_run = record { alive = refl; of_kind = refl; fits_ever = omega arith }; plain = _; answers = refl; leads = refl }))
-      (record { may_run = record { alive = refl; of_kind = refl; fits_ever = omega arith }; plain = _; answers = refl; leads = refl }))
-      (record { may_run = record { alive = refl; of_kind = refl; fits_ever = omega arith }; plain = _; answers = refl; leads = refl }),
+      (record { may_run = record { alive = refl; of_kind = refl; fits_ever = fork_fits }; plain = _; answers = refl; leads = refl }))
+      (record { may_run = record { alive = refl; of_kind = refl; fits_ever = always_fits }; up = refl; blocked = refl; leads = refl }))
+      (record { may_run = record { alive = refl; of_kind = refl; fits_ever = always_fits }; plain = _; answers = refl; leads = refl }))
+      (record { may_run = record { alive = refl; of_kind = refl; fits_ever = always_fits }; plain = _; answers = refl; leads = refl }))
+      (record { may_run = record { alive = refl; of_kind = refl; fits_ever = always_fits }; plain = _; answers = refl; leads = refl }),
   refl,
 )
