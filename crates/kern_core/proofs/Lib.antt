@@ -1,3 +1,4 @@
 pub mod NextRun
 pub mod EnabledLoop
 pub mod PickedRuns
+pub mod TaskPlaces

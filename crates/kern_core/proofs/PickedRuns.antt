@@ -11,6 +11,7 @@ use Rattle.posix_defs.specs.Choice.{chosen, named_by}
 use Rattle.posix_defs.specs.Generator.{next_state, state_after}
 use Rattle.posix_defs.specs.CoreRun.{IsPickedRun, boots, goes_on}
 use Rattle.posix_defs.proofs.Picking.{named_is_enabled}
+use Rattle.posix_defs.proofs.Sounds.{is_sound}
 use Rattle.kern_core.specs.View.{CoreView, IsAt, HasBooted, HasPicked, Took}
 use Rattle.kern_core.specs.declared.choosing.Choosing.{Choosing}
 use Rattle.kern_core.specs.Choosing.{given}
@@ -50,7 +51,8 @@ pub picked_more : {T : Type 0} (stands_for : T → World → Type 0) (script : S
     → Took stands_for script old event noted new → HasPicked stands_for script new
 picked_more stands_for script old new event noted number before chooses no_end names took =
     let named = names before.state before.is_at in
-    let led = took.leads before.state before.is_at (named_is_enabled script before.state event number named) in
+    let sound = is_sound before.runs in
+    let led = took.leads before.state before.is_at (named_is_enabled script before.state event number sound named) sound in
     let picked = ap (λ n. named_by n script before.state) (sym chooses) ∙ named ∙ ap Some (sym took.taken) in
     record {
       state = led.0;

@@ -1,13 +1,13 @@
 //! The core: which events may be taken, what each does, and when a run ends, over any store of processes.
 #![tactic(auto)]
 
-mod bounds;
 mod choosing;
 mod cores;
+mod phases;
 mod picks;
+mod tasks;
 #[cfg(test)]
 mod tests;
-mod turns;
 
 pub use choosing::Choosing;
 pub use cores::Core;

@@ -35,7 +35,7 @@ phase_within old pid heap before phase is other same within =
     omega arith
 
 -- a turn leaves nothing in reserve for its call
-nothing_held : (asked : Asked) (told : Turned) → held (phase_after asked told) ≡ 0
+pub nothing_held : (asked : Asked) (told : Turned) → held (phase_after asked told) ≡ 0
 nothing_held asked (turned.Done _) = refl
 nothing_held asked (turned.Part _) = refl
 nothing_held asked turned.Sleep = refl

@@ -1,0 +1,126 @@
+//! The tasks of a core: the processes that are alive, and those that have ended with their call admitted still, by
+//! rising pid.
+
+ghost use Rattle.std.specs.Prelude.{◌≡◌, ◌≤◌, ◌<◌, ◌+◌, ◌-◌, ◌++◌, ◌^◌, IfSome, filter, map, length, not, slice_get, vec_len, vec_capacity};
+ghost use Rattle.posix_defs.specs.World.{World};
+ghost use Rattle.posix_defs.specs.CoreState.{phase_in, waiting_in, with_phase_in};
+ghost use Rattle.posix_defs.specs.CoreEvent as event;
+ghost use Rattle.kern_core.specs.Places.{place_from};
+
+use posix_defs::{Phase, Task, Turner};
+
+/// The phase of a pid; dead where there is no task of it.
+pub fn phase_of(tasks: &[Task], pid: u32) -> Phase
+    ensures { result ≡ phase_in tasks.now pid }
+{
+    for task in tasks {
+        if task.pid == pid {
+            return task.phase;
+        }
+    }
+    Phase::Dead
+}
+
+/// The place of a pid's task.
+fn place_of(tasks: &[Task], pid: u32) -> Option<usize>
+    ensures place { result ≡ place_from 0 tasks.now pid }
+    ensures within { IfSome result (λ place. place < length tasks.now) }
+{
+    for (place, task) in tasks.iter().enumerate() {
+        if task.pid == pid {
+            return Some(place);
+        }
+    }
+    None
+}
+
+/// Puts the task of a pid into another phase.
+pub fn set_phase(tasks: &mut Vec<Task>, pid: u32, phase: Phase)
+    ensures items { tasks.new.items ≡ with_phase_in tasks.old.items pid phase }
+    ensures room { vec_capacity tasks.new ≡ vec_capacity tasks.old }
+{
+    if let Some(place) = place_of(tasks.as_slice(), pid) {
+        tasks[place].phase = phase;
+    }
+}
+
+/// The task of the lowest pid whose call waits.
+pub fn first_waiting(tasks: &[Task]) -> Option<Task>
+    ensures { result ≡ slice_get (waiting_in tasks.now) 0 }
+{
+    for task in tasks {
+        if matches!(task.phase, Phase::Waiting(_)) {
+            return Some(*task);
+        }
+    }
+    None
+}
+
+/// What the end of its process leaves of a phase.
+fn stranded(phase: Phase) -> Phase
+    ensures { result ≡ event.stranded phase }
+{
+    match phase {
+        Phase::Admitted(asked) | Phase::Stranded(asked) => Phase::Stranded(asked),
+        Phase::User | Phase::Waiting(_) | Phase::Asleep(_) | Phase::Dead => Phase::Dead,
+    }
+}
+
+/// Marks the tasks whose processes have ended.
+fn mark_dead<T: Turner>(store: &T, tasks: &mut [Task])
+    ensures { (world : World) → T.stands store.now world → tasks.new ≡ map (event.bury world.plain) tasks.old }
+{
+    for task in tasks.iter_mut() {
+        if !store.alive(task.pid) {
+            task.phase = stranded(task.phase);
+        }
+    }
+}
+
+/// Drops the tasks that are dead.
+fn drop_dead(tasks: &mut Vec<Task>)
+    ensures items { tasks.new.items ≡ filter (λ task. not (event.is_dead task.phase)) tasks.old.items }
+    ensures room { vec_capacity tasks.new ≡ vec_capacity tasks.old }
+{
+    tasks.retain(|task| !is_dead(task.phase));
+}
+
+fn is_dead(phase: Phase) -> bool
+    ensures { result ≡ event.is_dead phase }
+{
+    matches!(phase, Phase::Dead)
+}
+
+/// Drops the tasks whose processes have ended, but for calls that are admitted still.
+pub fn bury<T: Turner>(store: &T, tasks: &mut Vec<Task>)
+    ensures items { (world : World) → T.stands store.now world → tasks.new.items ≡ event.buried world.plain tasks.old.items }
+    ensures room { vec_capacity tasks.new ≡ vec_capacity tasks.old }
+{
+    mark_dead(store, tasks.as_mut_slice());
+    drop_dead(tasks);
+}
+
+/// Adds the task of a process that was made, where the last pid has risen.
+pub fn add_born(tasks: &mut Vec<Task>, before: u32, after: u32)
+    requires one { after ≤ before + 1 }
+    requires room { vec_len tasks.old < vec_capacity tasks.old }
+    ensures items { tasks.new.items ≡ tasks.old.items ++ event.born (before + 1) (after - before) }
+    ensures room { vec_capacity tasks.new ≡ vec_capacity tasks.old }
+{
+    if after > before {
+        tasks.push_reserved(Task {
+            pid: after,
+            phase: Phase::User,
+        });
+    }
+}
+
+/// Drops the task of a pid.
+pub fn remove(tasks: &mut Vec<Task>, pid: u32)
+    ensures items { tasks.new.items ≡ event.tasks_without tasks.old.items pid }
+    ensures room { vec_capacity tasks.new ≡ vec_capacity tasks.old }
+{
+    if let Some(place) = place_of(tasks.as_slice(), pid) {
+        let _ = tasks.remove(place);
+    }
+}
