@@ -23,7 +23,7 @@ use Rattle.posix_defs.specs.Plain.{last_pid}
 use Rattle.posix_defs.specs.World.{World, live_of}
 use Rattle.posix_defs.specs.Turn.{Answers, TurnsTo, TurnsWhere}
 use Rattle.posix_defs.specs.Relief.{Kills, refused_in}
-use Rattle.posix_defs.specs.CoreState.{CoreState, asked_by, charged_in, held, lives, next_call, phase_of, reserved_in, waiting_in, with_phase, with_phase_in}
+use Rattle.posix_defs.specs.CoreState.{CoreState, asked_by, charged_in, held, lives, next_call, phase_in, phase_of, reserved_in, waiting_in, with_phase, with_phase_in}
 use Rattle.posix_defs.specs.CoreEvent.{Steps, born, buried, entry_of, phase_after, refusal, tasks_after, tasks_without}
 use Rattle.posix_defs.specs.Ends.{all_asleep, end_of, has_finished, starved_or, starves_for}
 use Rattle.posix_defs.specs.Enabled.{HasRoom, IsEnabled, IsIn, IsReady}
@@ -155,6 +155,28 @@ took_all stands_for script_of inside old new event told noted same same_noted ta
       run = run ∙ ap (λ n. inside.run ++ n ∷ []) (sym same_noted);
       leads = λ s at enabled sound. subst (λ n. (t : CoreState) × IsAt stands_for new t × Steps (script_of inside.store) s n t) (sym same_noted) (leads s at enabled sound);
     })
+
+-- what a task holds is a part of what is reserved
+pub held_back : {T : Type 0} (stands_for : T → World → Type 0) (script : Script) (core : CoreView T) (heap run_room task_room : ℕ) (pid : ℕ) (phase : Phase)
+    → IsKept stands_for script core heap run_room task_room → phase_in core.tasks pid ≡ phase → Dead ≢ phase → held phase ≤ core.reserved
+held_back stands_for script core heap run_room task_room pid phase kept found other =
+    let rest : reserved_in (tasks_without core.tasks pid) + held phase ≡ reserved_in core.tasks = reserved_without core.tasks pid phase found other in
+    let same : reserved_in core.tasks ≡ core.reserved = ap reserved_in (sym kept.has_run.is_at.tasks) ∙ kept.has_run.is_at.reserved in
+    omega arith
+
+-- and what is reserved a part of what is charged
+pub reserved_charged : {T : Type 0} (stands_for : T → World → Type 0) (script : Script) (core : CoreView T) (heap run_room task_room : ℕ)
+    → IsKept stands_for script core heap run_room task_room → core.reserved ≤ core.charged
+reserved_charged stands_for script core heap run_room task_room kept =
+    let same : reserved_in kept.has_run.state.tasks ≡ core.reserved = kept.has_run.is_at.reserved in
+    let charged : charged_in kept.has_run.state ≡ core.charged = kept.has_run.is_at.charged in
+    omega arith
+
+-- two lists that are the same have the same call of a process
+pub same_asked : (tasks others : List Task) (pid : ℕ) (a b : Asked) (phase : Asked → Phase) → ((x y : Asked) → phase x ≡ phase y → x ≡ y)
+    → tasks ≡ others → phase_in tasks pid ≡ phase a → phase_in others pid ≡ phase b → a ≡ b
+same_asked tasks others pid a b phase apart same one other =
+    apart a b (sym one ∙ ap (λ ts. phase_in ts pid) same ∙ other)
 
 -- what is noted of a process's event
 abbrev pub said : Event → Asked → Option Entry → ℕ → Noted

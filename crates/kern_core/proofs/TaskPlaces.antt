@@ -1,5 +1,5 @@
 -- The place of a pid's task in a list, and what is written there.
-use Rattle.std.proofs.Common.{◌≡◌, ℕ, zero, suc, ◌+◌, ◌<◌, ◌==◌, Bool, true, false, cond, if◌then◌else◌, List, [], ◌∷◌, ◌++◌, length, take, drop, Option, None, Some, slice_set, slice_index_or, remove, refl, ap, sym, ◌∙◌, subst, arith}
+use Rattle.std.proofs.Common.{◌≡◌, ℕ, zero, suc, ◌+◌, ◌<◌, ◌≤◌, ◌==◌, Bool, true, false, cond, if◌then◌else◌, List, [], ◌∷◌, ◌++◌, length, take, drop, Option, None, Some, slice_set, slice_index_or, remove, refl, ap, sym, ◌∙◌, subst, arith}
 use Rattle.posix_defs.specs.declared.phases.Phase.{Phase}
 use Rattle.posix_defs.specs.declared.phases.Task.{Task}
 use Rattle.posix_defs.specs.CoreState.{with_phase_in}
@@ -58,3 +58,11 @@ no_place (task ∷ tasks) pid from phase e = go (λ f. no_place tasks pid (from 
         × (task ∷ tasks ≡ (if b then tasks else task ∷ tasks_without tasks pid))
     go later true f = cc
     go later false f = (ap (λ rest. task ∷ rest) (later f).0, ap (λ rest. task ∷ rest) (later f).1)
+
+pub length-without : (tasks : List Task) (pid : ℕ) → length (tasks_without tasks pid) ≤ length tasks
+length-without [] pid = omega arith
+length-without (task ∷ tasks) pid = go (task.pid == pid) (length-without tasks pid)
+  where
+    go : (b : Bool) → length (tasks_without tasks pid) ≤ length tasks → length (if b then tasks else task ∷ tasks_without tasks pid) ≤ length (task ∷ tasks)
+    go true less = omega arith
+    go false less = omega arith
