@@ -2,3 +2,4 @@ pub mod NextRun
 pub mod EnabledLoop
 pub mod PickedRuns
 pub mod TaskPlaces
+pub mod TurnLeads
