@@ -3,3 +3,4 @@ pub mod EnabledLoop
 pub mod PickedRuns
 pub mod TaskPlaces
 pub mod TurnLeads
+pub mod Victims

@@ -480,11 +480,10 @@ impl<T: Turner + Drop> Core<T> {
         ensures script { T.script self.new.store ≡ T.script self.old.store }
         ensures took { Took T.stands (T.script self.old.store) self.old (Kill pid) result self.new }
     {
-        let Some(Task {
-            pid: waiter,
-            phase: Phase::Waiting(asked),
-        }) = first_waiting(self.tasks.as_slice())
-        else {
+        let Some(first) = first_waiting(self.tasks.as_slice()) else {
+            unreachable!()
+        };
+        let Phase::Waiting(asked) = first.phase else {
             unreachable!()
         };
         let live = self.store.live();
@@ -496,7 +495,7 @@ impl<T: Turner + Drop> Core<T> {
             kind: None,
             entry: Some(Entry::Killed {
                 pid,
-                waiter,
+                waiter: first.pid,
                 need: asked.bound,
                 live,
             }),
