@@ -1,6 +1,6 @@
 pub mod NextRun
-pub mod EnabledLoop
 pub mod PickedRuns
 pub mod TaskPlaces
 pub mod TurnLeads
 pub mod Victims
+pub mod RoomFits

@@ -1,5 +1,5 @@
 -- What contracts see of a core, and the state that it is in.
-use Rattle.std.specs.Prelude.{ℕ, ◌≡◌, true, ◌+◌, ◌<◌, ◌≤◌, List, [], ◌∷◌, ◌++◌, length, None, Some, IsSome}
+use Rattle.std.specs.Prelude.{ℕ, ◌≡◌, true, ◌+◌, ◌<◌, ◌≤◌, List, [], ◌∷◌, ◌++◌, length, None, Some, IsSome, slice_get}
 use Rattle.kabi_types.specs.declared.entries.End.{End}
 use Rattle.kabi_types.specs.declared.entries.Event.{Event}
 use Rattle.kabi_types.specs.declared.entries.Noted.{Noted}
@@ -12,7 +12,7 @@ use Rattle.posix_defs.specs.declared.phases.Task.{Task}
 use Rattle.posix_defs.specs.Sizes.{fixed}
 use Rattle.posix_defs.specs.World.{World}
 use Rattle.posix_defs.specs.CoreState.{CoreState, asked_by, charged_in, boot_state, reserved_in}
-use Rattle.posix_defs.specs.SoundTasks.{IsSound, PhaseFits}
+use Rattle.posix_defs.specs.SoundTasks.{IsSound}
 use Rattle.posix_defs.specs.CoreEvent.{Steps}
 use Rattle.posix_defs.specs.Ends.{end_of}
 use Rattle.posix_defs.specs.Enabled.{IsEnabled}
@@ -105,11 +105,10 @@ IsSleep (turned.Part _) = Unit {0}
 IsSleep turned.Sleep = Unit {0}
 IsSleep _ = ⊥
 
--- The core is in a state in which the process is this far with its call.
-pub record HasTask {T : Type 0} (stands_for : T → World → Type 0) (script : Script) (core : CoreView T) (task : Task) : Type 0 where
-  pub state : CoreState
-  pub is_at : IsAt stands_for core state
-  pub fits : PhaseFits script state.world.plain task.pid task.phase
+-- The task is one of these.
+pub record Has (tasks : List Task) (task : Task) : Type 0 where
+  pub place : ℕ
+  pub is : slice_get tasks place ≡ Some task
 
 -- What a core keeps beside what contracts see: its room for events and tasks, and the limits of its numbers.
 pub record IsKept {T : Type 0} (stands_for : T → World → Type 0) (script : Script) (core : CoreView T) (heap run_room task_room : ℕ) : Type 0 where

@@ -8,14 +8,17 @@ ghost use Rattle.posix_defs.specs.Sizes.{room};
 ghost use Rattle.posix_defs.specs.World.{World, boot_world};
 ghost use Rattle.posix_defs.specs.Process.{is_alive};
 ghost use Rattle.posix_defs.specs.CoreState.{CoreState, asked_by, boot_state, is_admitted, phase_in, some_fits, some_wait_in_vain};
+ghost use Rattle.posix_defs.specs.SoundTasks.{IsSound};
 ghost use Rattle.posix_defs.specs.CoreEvent.{phase_after};
 ghost use Rattle.posix_defs.specs.Licence.{can_evict_any, is_licensed};
 ghost use Rattle.posix_defs.specs.Ends.{all_asleep, end_of, starves_for, sleeps_on};
 ghost use Rattle.posix_defs.specs.Choice.{asks_nothing, events_of, enabled_in, default_in, kills_in};
-ghost use Rattle.kern_core.specs.View.{IsAt, IsAskedFor, IsSleep, HasRun, HasBooted, HasTask, CanTake, GoesOn, MayTake, Took};
+ghost use Rattle.kern_core.specs.View.{IsAt, IsAskedFor, IsSleep, HasRun, HasBooted, Has, CanTake, GoesOn, MayTake, Took};
 
-use crate::phases::{entry_of, is_admitted, note, waits_within, waits_without};
-use crate::tasks::{add_born, bury, first_waiting, phase_of, remove, set_phase};
+use crate::phases::{entry_of, is_admitted, note};
+use crate::tasks::{
+    add_born, bury, first_waiting, is_alone, phase_of, remove, set_phase, some_within, some_without,
+};
 use kabi_types::{Cached, Call, End, Entry, Event, Memory, Noted};
 use need_table::{bound, need};
 use posix_defs::{Asked, Phase, Task, Turned, Turner};
@@ -146,18 +149,14 @@ impl<T: Turner + Drop> Core<T> {
     fn some_wait_in_vain(&self) -> bool
         ensures { (s : CoreState) → IsAt T.stands self.now s → result ≡ some_wait_in_vain (T.script self.now.store) s }
     {
-        let room = self.room();
-        self.tasks
-            .iter()
-            .any(|task| waits_without(task.phase, room))
+        some_without(self.tasks.as_slice(), self.room())
     }
 
     /// Whether some call waits for which there is room now.
     fn some_fit(&self) -> bool
         ensures { (s : CoreState) → IsAt T.stands self.now s → result ≡ some_fits (T.script self.now.store) s }
     {
-        let room = self.room();
-        self.tasks.iter().any(|task| waits_within(task.phase, room))
+        some_within(self.tasks.as_slice(), self.room())
     }
 
     fn can_evict_any(&self) -> bool
@@ -172,8 +171,7 @@ impl<T: Turner + Drop> Core<T> {
     fn starves_for(&self) -> Option<u64>
         ensures { (s : CoreState) → IsAt T.stands self.now s → result ≡ starves_for (T.script self.now.store) s }
     {
-        let alone = self.tasks.iter().all(|task| task.pid == 1);
-        if !alone || self.admits_any() || self.can_evict_any() {
+        if !is_alone(self.tasks.as_slice()) || self.admits_any() || self.can_evict_any() {
             return None;
         }
         match phase_of(self.tasks.as_slice(), 1) {
@@ -184,8 +182,8 @@ impl<T: Turner + Drop> Core<T> {
 
     /// Whether a process sleeps on a call that would still block.
     fn sleeps_on(&self, task: Task) -> bool
-        requires { HasTask T.stands (T.script self.now.store) self.now task }
-        ensures { (s : CoreState) → IsAt T.stands self.now s
+        requires { Has self.now.tasks task }
+        ensures { (s : CoreState) → IsAt T.stands self.now s → IsSound (T.script self.now.store) s
             → result ≡ sleeps_on (T.script self.now.store) s task.pid task.phase }
     {
         match task.phase {
@@ -196,7 +194,7 @@ impl<T: Turner + Drop> Core<T> {
 
     /// Whether every process that is alive sleeps on a call that would still block, and none is admitted.
     fn all_asleep(&self) -> bool
-        ensures { (s : CoreState) → IsAt T.stands self.now s → result ≡ all_asleep (T.script self.now.store) s }
+        ensures { (s : CoreState) → IsAt T.stands self.now s → IsSound (T.script self.now.store) s → result ≡ all_asleep (T.script self.now.store) s }
     {
         for task in self.tasks.iter() {
             if !self.sleeps_on(*task) {
@@ -208,7 +206,7 @@ impl<T: Turner + Drop> Core<T> {
 
     /// The end that stands now, the first that holds; None where the run goes on, and then some event may be taken.
     pub fn ended(&self) -> Option<End>
-        ensures end { (s : CoreState) → IsAt T.stands self.now s → result ≡ end_of (T.script self.now.store) self.now.steps (length self.now.run) s }
+        ensures end { (s : CoreState) → IsAt T.stands self.now s → IsSound (T.script self.now.store) s → result ≡ end_of (T.script self.now.store) self.now.steps (length self.now.run) s }
         ensures goes_on { IsNone result → GoesOn T.stands (T.script self.now.store) self.now }
     {
         if !self.store.alive(1) && !self.admits_any() {
@@ -228,8 +226,8 @@ impl<T: Turner + Drop> Core<T> {
 
     /// The event of a task, if it may be taken.
     fn event_of(&self, task: Task) -> Option<Event>
-        requires { HasTask T.stands (T.script self.now.store) self.now task }
-        ensures { (s : CoreState) → IsAt T.stands self.now s
+        requires { Has self.now.tasks task }
+        ensures { (s : CoreState) → IsAt T.stands self.now s → IsSound (T.script self.now.store) s
             → option_to_list result ≡ events_of (T.script self.now.store) s task.pid task.phase }
     {
         let pid = task.pid;
@@ -281,7 +279,7 @@ impl<T: Turner + Drop> Core<T> {
 
     /// How many events may be taken now, whether or not an end stands.
     pub fn count(&self) -> u32
-        ensures { (s : CoreState) → IsAt T.stands self.now s → result ≡ length (enabled_in (T.script self.now.store) s) }
+        ensures { (s : CoreState) → IsAt T.stands self.now s → IsSound (T.script self.now.store) s → result ≡ length (enabled_in (T.script self.now.store) s) }
     {
         let mut count = 0;
         for task in self.tasks.iter() {
@@ -298,7 +296,7 @@ impl<T: Turner + Drop> Core<T> {
     /// The event at place `i`, from 0, among those that may be taken now: those of processes by rising pid, and then a
     /// kill. None exactly where no more than `i` may be taken. Whether an end stands is not looked at.
     pub fn enabled(&self, i: u32) -> Option<Event>
-        ensures listed { (s : CoreState) → IsAt T.stands self.now s → result ≡ slice_get (enabled_in (T.script self.now.store) s) i }
+        ensures listed { (s : CoreState) → IsAt T.stands self.now s → IsSound (T.script self.now.store) s → result ≡ slice_get (enabled_in (T.script self.now.store) s) i }
         ensures may { IfSome result (λ event. CanTake T.stands (T.script self.now.store) self.now event) }
     {
         let mut before = 0;
@@ -315,7 +313,7 @@ impl<T: Turner + Drop> Core<T> {
 
     /// The first event that may be taken and asks for no more heap.
     fn first_that_frees(&self) -> Option<Event>
-        ensures { (s : CoreState) → IsAt T.stands self.now s
+        ensures { (s : CoreState) → IsAt T.stands self.now s → IsSound (T.script self.now.store) s
             → result ≡ slice_get (filter asks_nothing (enabled_in (T.script self.now.store) s)) 0 }
     {
         for task in self.tasks.iter() {
@@ -331,11 +329,11 @@ impl<T: Turner + Drop> Core<T> {
     /// The event that is taken where nothing else is chosen: the first that may be, or where a call waits in vain the first
     /// that asks for no more heap. None exactly where `ended` answers an end.
     pub fn default_event(&self) -> Option<Event>
-        ensures picked { (s : CoreState) → IsAt T.stands self.now s
+        ensures picked { (s : CoreState) → IsAt T.stands self.now s → IsSound (T.script self.now.store) s
             → result ≡ default_in (T.script self.now.store) self.now.steps (length self.now.run) s }
         ensures may { IfSome result (λ event. MayTake T.stands (T.script self.now.store) self.now event) }
         ensures room { IfSome result (λ _. length self.now.run < self.now.steps) }
-        ensures none { (s : CoreState) → IsAt T.stands self.now s → IsNone result
+        ensures none { (s : CoreState) → IsAt T.stands self.now s → IsSound (T.script self.now.store) s → IsNone result
             → IsSome (end_of (T.script self.now.store) self.now.steps (length self.now.run) s) }
     {
         if self.ended().is_some() {

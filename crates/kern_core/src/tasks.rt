@@ -1,12 +1,15 @@
 //! The tasks of a core: the processes that are alive, and those that have ended with their call admitted still, by
 //! rising pid.
 
-ghost use Rattle.std.specs.Prelude.{◌≡◌, ◌≤◌, ◌<◌, ◌+◌, ◌-◌, ◌++◌, ◌^◌, IfSome, filter, map, length, not, slice_get, vec_len, vec_capacity};
+ghost use Rattle.std.specs.Prelude.{◌≡◌, ◌≤◌, ◌<◌, ◌+◌, ◌-◌, ◌++◌, ◌^◌, ◌==◌, IfSome, filter, map, length, not, slice_get, vec_len, vec_capacity};
 ghost use Rattle.posix_defs.specs.World.{World};
 ghost use Rattle.posix_defs.specs.CoreState.{phase_in, waiting_in, with_phase_in};
 ghost use Rattle.posix_defs.specs.CoreEvent as event;
+ghost use Rattle.std.specs.List.{list_all, list_any};
 ghost use Rattle.kern_core.specs.Places.{place_from};
+ghost use Rattle.kern_core.specs.Room.{waits_within, waits_without};
 
+use crate::phases::{waits_within, waits_without};
 use posix_defs::{Phase, Task, Turner};
 
 /// The phase of a pid; dead where there is no task of it.
@@ -54,6 +57,27 @@ pub fn first_waiting(tasks: &[Task]) -> Option<Task>
         }
     }
     None
+}
+
+/// Whether some call waits for which so much room is enough.
+pub fn some_within(tasks: &[Task], room: u64) -> bool
+    ensures { result ≡ list_any (λ task. waits_within room task.phase) tasks.now }
+{
+    tasks.iter().any(|task| waits_within(task.phase, room))
+}
+
+/// Whether some call waits for which so much room isn't enough.
+pub fn some_without(tasks: &[Task], room: u64) -> bool
+    ensures { result ≡ list_any (λ task. waits_without room task.phase) tasks.now }
+{
+    tasks.iter().any(|task| waits_without(task.phase, room))
+}
+
+/// Whether there is no task but the first process's.
+pub fn is_alone(tasks: &[Task]) -> bool
+    ensures { result ≡ list_all (λ task. task.pid == 1) tasks.now }
+{
+    tasks.iter().all(|task| task.pid == 1)
 }
 
 /// What the end of its process leaves of a phase.
