@@ -73,3 +73,10 @@ sleeper_is_alive script s tasks task asked sound are has sleeps =
     go (Admitted _) e fits = absurd (cc)
     go (Stranded _) e fits = absurd (cc)
     go Dead e fits = absurd (cc)
+
+pub not_not : (b : Bool) → not (not b) ≡ b
+not_not true = refl
+not_not false = refl
+
+pub opposite : (r b : Bool) → r ≡ not b → b ≡ not r
+opposite r b e = sym (not_not b) ∙ ap not (sym e)
