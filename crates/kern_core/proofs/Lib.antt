@@ -4,3 +4,4 @@ pub mod TaskPlaces
 pub mod TurnLeads
 pub mod Victims
 pub mod RoomFits
+pub mod TaskLoops
