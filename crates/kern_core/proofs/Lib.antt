@@ -5,3 +5,4 @@ pub mod TurnLeads
 pub mod Victims
 pub mod RoomFits
 pub mod TaskLoops
+pub mod Defaults

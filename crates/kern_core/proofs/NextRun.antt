@@ -97,18 +97,19 @@ kept_next stands_for script script' old new event noted heap run_room run_room' 
 -- where no end holds, some event may be taken
 pub may_go_on : {T : Type 0} (stands_for : T → World → Type 0) (script_of : T → Script) (inside core : CoreView T) (heap run_room task_room : ℕ)
     → inside ≡ core → IsKept stands_for (script_of inside.store) inside heap run_room task_room
-    → ((s : CoreState) → IsAt stands_for core s → None ≡ end_of (script_of core.store) core.steps (length core.run) s) → GoesOn stands_for (script_of core.store) core
+    → ((s : CoreState) → IsAt stands_for core s → IsSound (script_of core.store) s → None ≡ end_of (script_of core.store) core.steps (length core.run) s) → GoesOn stands_for (script_of core.store) core
 may_go_on stands_for script_of inside core heap run_room task_room same kept none =
     let at : IsAt stands_for core kept.has_run.state = subst (λ c. IsAt stands_for c kept.has_run.state) same kept.has_run.is_at in
+    let sound : IsSound (script_of core.store) kept.has_run.state = subst (λ c. IsSound (script_of c.store) kept.has_run.state) same (is_sound kept.has_run.runs) in
     let runs : IsCoreRun (script_of core.store) core.steps core.run kept.has_run.state =
     subst (λ c. IsCoreRun (script_of c.store) c.steps c.run kept.has_run.state) same kept.has_run.runs in
     record {
       state = kept.has_run.state;
       is_at = at;
       runs = runs;
-      some = progress runs (sym (none kept.has_run.state at));
+      some = progress runs (sym (none kept.has_run.state at sound));
       room =
-          let more : length core.run ≢ core.steps = not_spent (script_of core.store) core.steps (length core.run) kept.has_run.state (sym (none kept.has_run.state at)) in
+          let more : length core.run ≢ core.steps = not_spent (script_of core.store) core.steps (length core.run) kept.has_run.state (sym (none kept.has_run.state at sound)) in
           let within : length core.run ≤ core.steps = subst (λ c. length c.run ≤ c.steps) same kept.has_run.within in
           omega arith;
     }
