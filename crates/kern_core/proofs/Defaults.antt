@@ -1,7 +1,6 @@
 -- The default is an event that may be taken, and there is one where no end stands.
-use Rattle.std.proofs.Common.{◌≡◌, ℕ, Bool, true, false, length, Option, None, Some, IfSome, IsSome, IsNone, refl, sym, ◌∙◌, subst}
+use Rattle.std.proofs.Common.{◌≡◌, ℕ, false, length, Option, None, Some, IfSome, IsSome, IsNone, refl, sym, subst}
 use Rattle.std.specs.Option.{is_some}
-use Rattle.kabi_types.specs.declared.entries.End.{End}
 use Rattle.kabi_types.specs.declared.entries.Event.{Event}
 use Rattle.kabi_types.specs.declared.scripts.Script.{Script}
 use Rattle.posix_defs.specs.World.{World}

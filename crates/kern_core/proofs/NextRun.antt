@@ -1,9 +1,6 @@
 -- A core that took an event has run one event further.
-use Rattle.std.proofs.Common.{◌≡◌, ◌≢◌, ℕ, ◌+◌, ◌-◌, ◌≤◌, ◌<◌, ◌==◌, eq-eqb, max, Bool, true, false, cond, List, [], ◌∷◌, ◌++◌, length, Option, None, Some, slice_get, refl, ap, sym, ◌∙◌, subst, arith, append-nil, length-append, ◌⊎◌, inl, inr}
-use Rattle.std.proofs.lemmas.Bool.Decides.{nat_tests}
+use Rattle.std.proofs.Common.{◌≡◌, ◌≢◌, ℕ, ◌+◌, ◌-◌, ◌≤◌, ◌<◌, ◌==◌, eq-eqb, max, Bool, true, false, cond, List, [], ◌∷◌, ◌++◌, length, Option, None, Some, slice_get, refl, ap, sym, ◌∙◌, subst, arith, length-append, inl, inr}
 use Rattle.kabi_types.specs.declared.calls.Call.{Call}
-use Rattle.kabi_types.specs.declared.calls.CallKind.{CallKind}
-use Rattle.kabi_types.specs.declared.entries.End.{End}
 use Rattle.kabi_types.specs.declared.entries.End.TheVariants.{Finished, AllAsleep, Spent}
 use Rattle.kabi_types.specs.declared.entries.Entry.{Entry}
 use Rattle.kabi_types.specs.declared.entries.Entry.TheVariants as entry
@@ -16,15 +13,13 @@ use Rattle.posix_defs.specs.declared.phases.Phase.{Phase}
 use Rattle.posix_defs.specs.declared.phases.Phase.TheVariants.{User, Waiting, Admitted, Asleep, Stranded, Dead}
 use Rattle.posix_defs.specs.declared.phases.Task.{Task}
 use Rattle.posix_defs.specs.declared.turner.Turned.{Turned}
-use Rattle.posix_defs.specs.Needs.{bound}
-use Rattle.posix_defs.specs.Sizes.{fixed, reserve, room}
-use Rattle.posix_defs.specs.Process.{is_alive}
+use Rattle.posix_defs.specs.Sizes.{fixed, room}
 use Rattle.posix_defs.specs.Plain.{last_pid}
 use Rattle.posix_defs.specs.World.{World, live_of}
-use Rattle.posix_defs.specs.Turn.{Answers, TurnsTo, TurnsWhere}
+use Rattle.posix_defs.specs.Turn.{TurnsTo, TurnsWhere}
 use Rattle.posix_defs.specs.Relief.{Kills, refused_in}
-use Rattle.posix_defs.specs.CoreState.{CoreState, asked_by, charged_in, held, lives, next_call, phase_in, phase_of, reserved_in, waiting_in, with_phase, with_phase_in}
-use Rattle.posix_defs.specs.CoreEvent.{Steps, born, buried, entry_of, phase_after, refusal, tasks_after, tasks_without}
+use Rattle.posix_defs.specs.CoreState.{CoreState, asked_by, charged_in, held, next_call, phase_in, phase_of, reserved_in, waiting_in, with_phase, with_phase_in}
+use Rattle.posix_defs.specs.CoreEvent.{Steps, buried, entry_of, phase_after, refusal, tasks_after, tasks_without}
 use Rattle.posix_defs.specs.Ends.{all_asleep, end_of, has_finished, starved_or, starves_for}
 use Rattle.posix_defs.specs.Enabled.{HasRoom, IsEnabled, IsIn, IsReady}
 use Rattle.posix_defs.specs.SoundTasks.{IsSound}
@@ -32,8 +27,8 @@ use Rattle.posix_defs.specs.CoreRun.{IsCoreRun, goes_on, peak_of}
 use Rattle.posix_defs.proofs.Charged.{charged_within, nothing_held}
 use Rattle.posix_defs.proofs.Progress.{progress}
 use Rattle.posix_defs.proofs.Sounds.{is_sound}
-use Rattle.posix_defs.proofs.Tasks.{found_fits, length-with, reserved_with, reserved_without}
-use Rattle.posix_defs.proofs.BuriedTasks.{length-born, length-buried, reserved_born, reserved_buried}
+use Rattle.posix_defs.proofs.Tasks.{found_fits, reserved_with, reserved_without}
+use Rattle.posix_defs.proofs.BuriedTasks.{reserved_born, reserved_buried}
 use Rattle.kern_core.specs.View.{CoreView, IsAt, GoesOn, MayTake, Took, IsKept}
 
 -- the greatest charge, one event further

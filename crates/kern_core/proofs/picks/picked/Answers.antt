@@ -1,4 +1,4 @@
-use Rattle.std.proofs.Common.{◌≡◌, ◌<◌, ◌%◌, length, Some, IfSome, IsSome, slice_get, sym, subst, ap, ◌∙◌}
+use Rattle.std.proofs.Common.{◌<◌, ◌%◌, Some, IfSome, IsSome, slice_get, sym, subst, ap, ◌∙◌}
 use Rattle.posix_defs.specs.Choice.{enabled_in}
 use Rattle.posix_defs.proofs.Picking.{some_is_named}
 use Rattle.posix_defs.proofs.Sounds.{is_sound}

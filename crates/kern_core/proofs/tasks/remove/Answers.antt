@@ -1,4 +1,4 @@
-use Rattle.std.proofs.Common.{◌≡◌, ◌<◌, length, sym, ap, ◌∙◌, subst, arith}
+use Rattle.std.proofs.Common.{◌<◌, length, sym, ap, ◌∙◌, subst, arith}
 use Rattle.posix_defs.specs.declared.phases.Phase.TheVariants.{Dead}
 use Rattle.kern_core.specs.Places.{place_from}
 use Rattle.kern_core.proofs.TaskPlaces.{IsPlace, found_place, no_place}

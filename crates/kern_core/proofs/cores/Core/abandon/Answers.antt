@@ -1,4 +1,4 @@
-use Rattle.std.proofs.Common.{◌≡◌, ◌<◌, ◌≤◌, ◌+◌, ◌++◌, ◌∷◌, [], max, length, vec_capacity, vec_len, refl, sym, subst, ap, ◌∙◌, arith}
+use Rattle.std.proofs.Common.{◌≡◌, ◌<◌, ◌≤◌, ◌++◌, ◌∷◌, [], max, length, vec_capacity, refl, sym, subst, ap, ◌∙◌, arith}
 use Rattle.kabi_types.specs.declared.entries.Event.TheVariants.{Abandon}
 use Rattle.posix_defs.specs.declared.phases.Phase.TheVariants.{Stranded}
 use Rattle.posix_defs.specs.CoreState.{phase_in}

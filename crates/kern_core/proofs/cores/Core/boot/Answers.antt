@@ -1,7 +1,7 @@
 use Rattle.std.proofs.Common.{◌≡◌, ◌≤◌, ◌+◌, ◌++◌, ◌∷◌, [], length, vec_capacity, refl, sym, ap, ◌∙◌, subst, arith}
 use Rattle.posix_defs.specs.declared.phases.Phase.TheVariants.{User}
 use Rattle.posix_defs.specs.declared.phases.Task.{Task}
-use Rattle.posix_defs.specs.CoreState.{boot_state, charged_in, reserved_in}
+use Rattle.posix_defs.specs.CoreState.{boot_state}
 use Rattle.posix_defs.specs.CoreRun.{IsCoreRun, boots, peak_of}
 use Rattle.kern_core.proofs.cores.Core.boot.Goals as goal
 

@@ -1,4 +1,4 @@
-use Rattle.std.proofs.Common.{◌≡◌, ◌≤◌, ◌+◌, length, drop}
+use Rattle.std.proofs.Common.{◌≡◌, ◌≤◌}
 use Rattle.posix_defs.specs.CoreState.{CoreState}
 use Rattle.posix_defs.specs.SoundTasks.{IsSound}
 use Rattle.kern_core.specs.View.{IsAt}

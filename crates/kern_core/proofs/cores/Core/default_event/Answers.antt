@@ -1,6 +1,5 @@
-use Rattle.std.proofs.Common.{◌≡◌, length, None, slice_get, filter, if◌then◌else◌, sym, ap, ◌∙◌}
-use Rattle.posix_defs.specs.CoreState.{CoreState}
-use Rattle.posix_defs.specs.Choice.{asks_nothing, default_of, enabled_in}
+use Rattle.std.proofs.Common.{slice_get, filter, if◌then◌else◌, sym, ap, ◌∙◌}
+use Rattle.posix_defs.specs.Choice.{asks_nothing, enabled_in}
 use Rattle.kern_core.proofs.Defaults.{default_may, default_some, is_none}
 use Rattle.kern_core.proofs.cores.Core.default_event.Goals as goal
 

@@ -1,6 +1,5 @@
 use Rattle.std.proofs.Common.{◌≡◌, ◌∷◌, [], if◌then◌else◌, not, sym, subst, ap, ◌∙◌}
 use Rattle.kabi_types.specs.declared.entries.Event.TheVariants.{Wake}
-use Rattle.posix_defs.specs.Posix.{would_block}
 use Rattle.posix_defs.specs.CoreState.{CoreState}
 use Rattle.posix_defs.specs.SoundTasks.{IsSound}
 use Rattle.posix_defs.specs.Choice.{events_of}

@@ -1,4 +1,4 @@
-use Rattle.std.proofs.Common.{◌≡◌, ◌<◌, ◌≤◌, ◌+◌, ◌-◌, ◌++◌, ◌∷◌, [], max, length, true, Some, slice_get, vec_capacity, vec_len, refl, sym, subst, ap, ◌∙◌, arith}
+use Rattle.std.proofs.Common.{◌≡◌, ◌<◌, ◌≤◌, ◌+◌, length, Some, slice_get, vec_capacity, refl, sym, subst, ap, ◌∙◌, arith}
 use Rattle.kabi_types.specs.declared.entries.Event.TheVariants.{Kill}
 use Rattle.posix_defs.specs.declared.phases.Phase.TheVariants.{Waiting}
 use Rattle.posix_defs.specs.CoreState.{waiting_in}

@@ -1,8 +1,7 @@
-use Rattle.std.proofs.Common.{◌≡◌, ◌<◌, ◌≤◌, ◌+◌, ◌++◌, ◌∷◌, [], max, length, vec_capacity, vec_len, refl, sym, subst, ap, ◌∙◌, arith}
+use Rattle.std.proofs.Common.{◌≡◌, ◌<◌, ◌++◌, ◌∷◌, [], max, length, vec_capacity, refl, sym, subst, ap, ◌∙◌, arith}
 use Rattle.kabi_types.specs.declared.entries.Event.TheVariants.{Wake}
 use Rattle.posix_defs.specs.declared.phases.Phase.TheVariants.{Asleep, Waiting}
 use Rattle.posix_defs.specs.CoreState.{phase_in}
-use Rattle.posix_defs.specs.Enabled.{IsReady}
 use Rattle.posix_defs.proofs.Tasks.{length-with}
 use Rattle.kern_core.specs.View.{MayTake}
 use Rattle.kern_core.proofs.NextRun.{wakes, has_room, kept_next, same_asked, took_all}
