@@ -183,6 +183,12 @@ left_alive pid old alive = go (old.parent == pid) refl
     go true e = child_alive old.status alive ∙ ap runs alive
     go false e = ap runs alive
 
+-- who is alive stays so where another ends that isn't the first
+pub others_live : (table : Table) (pid other status : ℕ) → is_alive table other ≡ true → other ≢ pid → is_alive (leaves table pid status) other ≡ true
+others_live table pid other status lives apart = let was = alive_there table other lives in
+    ap is_alive_in (with_other (map (left_behind pid) table) pid other (ended_as status (process_at table pid)) apart
+    ∙ each_changed (left_behind pid) table other refl ∙ ap (left_behind pid) was.1) ∙ left_alive pid was.0 was.2
+
 -- a process other than the first ends
 left_family : (table : Table) (pid status : ℕ) → IsFamily table → is_alive table pid ≡ true → pid ≢ 1 → IsFamily (leaves table pid status)
 left_family table pid status family alive apart_first = record { first = first; younger = younger; parents = parents; nobody = nobody }
@@ -206,8 +212,7 @@ left_family table pid status family alive apart_first = record { first = first; 
         ∙ ap (ended_as status) there.1
 
     stays : (other : ℕ) → is_alive table other ≡ true → other ≢ pid → is_alive new other ≡ true
-    stays other lives apart = let was = alive_there table other lives in
-        ap is_alive_in (at_other other apart ∙ ap (left_behind pid) was.1) ∙ left_alive pid was.0 was.2
+    stays other lives apart = others_live table pid other status lives apart
 
     first_stays : is_alive new 1 ≡ true
     first_stays = stays 1 (first_lives table pid there.0 family there.1) (λ e. apart_first (sym e))

@@ -9,23 +9,23 @@ use Rattle.posix_defs.specs.Process.{Process, Table, process_at, is_alive, is_al
 use Rattle.posix_defs.proofs.EnabledEvents.{get_behind}
 
 -- one number is less than another, or it isn't
-below_or_not : (i n : ℕ) → (i < n) ⊎ (n ≤ i)
+pub below_or_not : (i n : ℕ) → (i < n) ⊎ (n ≤ i)
 below_or_not i zero = inr (omega arith)
 below_or_not zero (suc n) = inl (omega arith)
 below_or_not (suc i) (suc n) = elim (below_or_not i n) [ inl h ↦ inl (omega arith) | inr h ↦ inr (omega arith) ]
 
-get_set_same : {X : Type 0} (xs : List X) (i : ℕ) (y : X) → i < length xs → slice_get (slice_set xs i y) i ≡ Some y
+pub get_set_same : {X : Type 0} (xs : List X) (i : ℕ) (y : X) → i < length xs → slice_get (slice_set xs i y) i ≡ Some y
 get_set_same xs i y h =
     slice_get-get_or (slice_set xs i y) i y (subst (λ n. i < n) (sym (length-set xs i y)) h) ∙ ap Some (get_or-set_same xs i y y h)
 
-get_set_other : {X : Type 0} (xs : List X) (i j : ℕ) (y : X) → j ≢ i → slice_get (slice_set xs i y) j ≡ slice_get xs j
+pub get_set_other : {X : Type 0} (xs : List X) (i j : ℕ) (y : X) → j ≢ i → slice_get (slice_set xs i y) j ≡ slice_get xs j
 get_set_other xs i j y other = elim (below_or_not j (length xs)) [
   | inl h ↦ slice_get-get_or (slice_set xs i y) j y (subst (λ n. j < n) (sym (length-set xs i y)) h)
       ∙ ap Some (get_or-set_other xs i j y y other) ∙ sym (slice_get-get_or xs j y h)
   | inr h ↦ slice_get_past (slice_set xs i y) j (subst (λ n. n ≤ j) (sym (length-set xs i y)) h) ∙ sym (slice_get_past xs j h)
 ]
 
-get_front : {X : Type 0} (xs ys : List X) (i : ℕ) → i < length xs → slice_get (xs ++ ys) i ≡ slice_get xs i
+pub get_front : {X : Type 0} (xs ys : List X) (i : ℕ) → i < length xs → slice_get (xs ++ ys) i ≡ slice_get xs i
 get_front [] ys i h = absurd (omega arith)
 get_front (x ∷ xs) ys zero h = refl
 get_front (x ∷ xs) ys (suc i) h = get_front xs ys i (omega arith)

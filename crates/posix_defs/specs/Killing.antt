@@ -17,12 +17,15 @@ abbrev pub is_asking : ℤ → Bool
 is_asking (pos signal) = signal == 0
 is_asking (negsuc _) = false
 
--- a process other than the first is to end: itself, or another, which may have ended already
+-- a live process other than the first ends, the caller itself or another
+abbrev pub struck : Script → Plain → ℕ → ℕ → Answer
+struck script plain pid target =
+    if target == pid then Ended sigkill (die plain pid sigkill) else replied script (die plain target sigkill) pid (Val (pos 0))
+
+-- a process that has ended already stays as it is
 abbrev pub ends : Script → Plain → ℕ → ℕ → Process → Answer
 ends script plain pid target process =
-    if runs process.status
-    then (if target == pid then Ended sigkill (die plain pid sigkill) else replied script (die plain target sigkill) pid (Val (pos 0)))
-    else replied script plain pid (Val (pos 0))
+    if runs process.status then struck script plain pid target else replied script plain pid (Val (pos 0))
 
 -- a process that is there is sent a signal; none ends the first one
 abbrev pub signalled : Script → Plain → ℕ → ℕ → ℤ → Process → Answer
