@@ -245,7 +245,10 @@ pub fn run(script: &Script, tasks: &mut Tasks, task: &Task, call: &Call) -> Turn
 fn would_sleep(tasks: &Tasks, pid: u32, which: i64, options: i64) -> bool
     ensures { (script : Script) (plain : Plain) → StandFor script tasks.now plain → result ≡ blocks (waitpid script plain pid which options) }
 {
-    if tasks.told(pid, which).is_some() || !tasks.has_wanted(pid, which) {
+    if tasks.told(pid, which).is_some() {
+        return false;
+    }
+    if !tasks.has_wanted(pid, which) {
         return false;
     }
     !is_nohang(options)
