@@ -7,6 +7,7 @@
 mod counts;
 mod found;
 mod growing;
+mod laws;
 mod locating;
 mod naming;
 mod settling;
@@ -15,5 +16,6 @@ mod shrinking;
 mod tests;
 
 pub use growing::grow;
+pub use laws::growing_and_shrinking_back_changes_nothing;
 pub use locating::block_at;
 pub use shrinking::shrink;
