@@ -4,5 +4,6 @@ pub mod FrameLemmas
 pub mod KeyPlaces
 pub mod MapLemmas
 pub mod MoveLemmas
+pub mod OwnLemmas
 pub mod RunLemmas
 pub mod TurnLemmas

@@ -2,7 +2,7 @@ ghost use Rattle.std.specs.Prelude.{IfOk, IfSome, OnErr, ok_or, ◌≡◌, ◌�
 ghost use Rattle.kabi_types.specs.declared.classes.Class.TheVariants as class;
 ghost use Rattle.kheap_slabs.specs.Counts.{counted, with_count};
 ghost use Rattle.kheap_slabs.specs.Purse.{CanPay, IsPaid, TakesNothing};
-ghost use Rattle.kheap_slabs.specs.Spaces.{is_mapped, mapped_count, OwnsNodes};
+ghost use Rattle.kheap_slabs.specs.Spaces.{is_mapped, mapped_count, count_at, OwnsNodes};
 ghost use Rattle.page_space.specs.Entries.{key_of, entry_at, is_mapped_at, PageTurns};
 ghost use Rattle.page_space.specs.Contents.{content_at, StandsFor, IsOwnedWith, SpaceMoves, IsCleared, SpaceLeaves, IsFilled, IsForked};
 ghost use Rattle.posix_defs.specs.Memory.{Memory, is_mapped_range, lowest_free_run, lowest_run, with_pages, without_pages};
@@ -10,10 +10,13 @@ ghost use Rattle.posix_defs.specs.Needs.{nodes_for};
 ghost use Rattle.page_space.specs.Runs.{IsFreeFrom, IsMappedRun, HasUnmapped};
 ghost use Rattle.kabi_types.specs.declared.errnos.Errno.TheVariants.{EMFILE};
 
-use crate::frames::{drop_entry, share_entry};
+use crate::frames::{drop_entry, make_page, share_entry};
 use kabi_types::{Class, Errno};
 use kheap_slabs::{KHeap, Node, PageEntry, Purse};
 use std::marker::Model;
+
+/// How many bytes a page has.
+const PAGE: usize = 4096;
 
 /// How many pages one Node has entries of.
 const GROUP: u32 = 64;
@@ -174,6 +177,57 @@ impl Space {
         }
     }
 
+    // Gives a mapped page a frame of its own with its bytes, in place of what it had.
+    fn give_frame(&self, heap: &mut KHeap, purse: &mut Purse, page: u32, bytes: [u8; PAGE]) -> u32
+        requires within { page < 256 }
+        requires owned { IsOwnedWith heap.old self.now }
+        requires mapped { is_mapped_at heap.old.nodes self.now page ≡ true }
+        requires content { content_at heap.old self.now page ≡ Some bytes }
+        requires room { CanPay heap.old purse.old }
+        requires left { 0 < purse.old.left.page }
+        ensures named { entry_at heap.new.nodes self.now page ≡ PageEntry.Frame result }
+        ensures alone { count_at heap.new.pages result ≡ 1 }
+        ensures stays { (other : _) → content_at heap.new self.now other ≡ content_at heap.old self.now other }
+        ensures moves { SpaceMoves heap.old heap.new self.now self.now }
+        ensures paid { IsPaid heap.old purse.old heap.new purse.new }
+        ensures spent { purse.new ≡ record purse.old { left = with_count purse.old.left class.Page (purse.old.left.page - 1) } }
+    {
+        let was = self.entry(heap, page);
+        let key = make_page(heap, purse, bytes);
+        self.set_entry(heap, page, PageEntry::Frame(key));
+        drop_entry(heap, was);
+        key
+    }
+
+    // Lets a mapped page have a frame that no other page names: a new one where it has none, and a copy of a shared one.
+    // Answers the frame's key.
+    fn own_frame(&self, heap: &mut KHeap, purse: &mut Purse, page: u32) -> u32
+        requires within { page < 256 }
+        requires owned { IsOwnedWith heap.old self.now }
+        requires mapped { is_mapped_at heap.old.nodes self.now page ≡ true }
+        requires room { CanPay heap.old purse.old }
+        requires left { 0 < purse.old.left.page }
+        ensures named { entry_at heap.new.nodes self.now page ≡ PageEntry.Frame result }
+        ensures alone { count_at heap.new.pages result ≡ 1 }
+        ensures stays { (other : _) → content_at heap.new self.now other ≡ content_at heap.old self.now other }
+        ensures moves { SpaceMoves heap.old heap.new self.now self.now }
+        ensures paid { IsPaid heap.old purse.old heap.new purse.new }
+        ensures spent { purse.new ≡ record purse.old { left = with_count purse.old.left class.Page purse.new.left.page } }
+        ensures at_most { purse.old.left.page ≤ purse.new.left.page + 1 }
+    {
+        match self.entry(heap, page) {
+            PageEntry::Unmapped => unreachable!(),
+            PageEntry::Zero => self.give_frame(heap, purse, page, [0; PAGE]),
+            PageEntry::Frame(key) => {
+                if heap.get_page(key).count == 1 {
+                    return key;
+                }
+                let bytes = heap.get_page(key).bytes;
+                self.give_frame(heap, purse, page, bytes)
+            }
+        }
+    }
+
     // Whether a page is mapped.
     fn is_mapped(&self, heap: &KHeap, page: u32) -> bool
         requires within { page < 256 }
@@ -293,6 +347,39 @@ impl Space {
         ensures takes { TakesNothing heap.old heap.new }
     {
         self.unmap_run(heap, page, page + count);
+    }
+
+    /// Puts bytes in memory from an address on. Each page that they touch is mapped.
+    ///
+    /// A page without a frame gets one; a frame that another page names too is copied first.
+    pub fn copy_in(&mut self, heap: &mut KHeap, purse: &mut Purse, addr: u32, bytes: &[u8]) {
+        let mut done = 0;
+        while done < bytes.len() {
+            let at = addr as usize + done;
+            let place = at % PAGE;
+            let count = (PAGE - place).min(bytes.len() - done);
+            let key = self.own_frame(heap, purse, (at / PAGE) as u32);
+            heap.write_page(key, place as u32, &bytes[done..done + count]);
+            done += count;
+        }
+    }
+
+    /// The bytes of memory from an address on, as many as there is room for. Each page that they touch is mapped.
+    pub fn copy_out(&self, heap: &KHeap, addr: u32, out: &mut [u8]) {
+        let mut done = 0;
+        while done < out.len() {
+            let at = addr as usize + done;
+            let place = at % PAGE;
+            let count = (PAGE - place).min(out.len() - done);
+            let piece = &mut out[done..done + count];
+            match self.entry(heap, (at / PAGE) as u32) {
+                PageEntry::Frame(key) => piece.copy_from_slice(
+                    &heap.get_page(key).bytes[place..place + count],
+                ),
+                _ => piece.fill(0),
+            }
+            done += count;
+        }
     }
 
     /// A second space with the same memory, as a child of a fork has it. No frame is made: both name the same ones.
