@@ -1,5 +1,5 @@
 -- The last item of a list, seen through what its items stand for.
-use Rattle.std.proofs.Common.{◌≡◌, List, [], ◌∷◌, map, Option, None, Some, refl}
+use Rattle.std.proofs.Common.{◌≡◌, List, [], ◌∷◌, map, Option, Some, refl}
 use Rattle.std.specs.List.{last_or}
 use Rattle.std.specs.Option.{option_map}
 

@@ -1,8 +1,8 @@
 -- What follows for a call's bound from the price list and from the call's need.
-use Rattle.std.proofs.Common.{◌≡◌, ℕ, zero, suc, ◌+◌, ◌-◌, ◌*◌, ◌/◌, ◌≤◌, ◌==◌, nat_le, min, max, ℤ, pos, negsuc, Bool, true, false, cond, ◌&&◌, length, Option, None, Some, is_some, refl, sym, ap, ◌∙◌, subst, arith}
+use Rattle.std.proofs.Common.{◌≡◌, ℕ, ◌+◌, ◌-◌, ◌*◌, ◌/◌, ◌≤◌, ◌==◌, max, ℤ, pos, negsuc, Bool, true, false, cond, ◌&&◌, length, Option, None, Some, is_some, refl, ap, ◌∙◌, arith}
 use Rattle.std.specs.Option.{option_or}
 use Rattle.std.proofs.lemmas.Bool.Decides.{nat_tests}
-use Rattle.kabi_types.specs.Arguments.{argument_fault, count_of, invalid_unless, moved_fault, placed_fault, range_fault, is_within, is_from}
+use Rattle.kabi_types.specs.Arguments.{argument_fault, count_of, invalid_unless, moved_fault, range_fault, is_within, is_from}
 use Rattle.kabi_types.specs.Call.{kind_of}
 use Rattle.kabi_types.specs.Class.{size}
 use Rattle.kabi_types.specs.declared.calls.Call.{Call}
@@ -11,9 +11,8 @@ use Rattle.kabi_types.specs.declared.classes.Class.TheVariants as class
 use Rattle.kabi_types.specs.declared.classes.Need.{Need}
 use Rattle.kabi_types.specs.declared.errnos.Errno.{Errno}
 use Rattle.posix_defs.specs.PriceList.{price_of}
-use Rattle.posix_defs.specs.Needs.{bound, chunks_for, cost, is_write, need_of, nodes_for, objects_of, pages_in, pages_touched, read_need, stored_bytes, write_need}
+use Rattle.posix_defs.specs.Needs.{bound, chunks_for, cost, is_write, need_of, nodes_for, objects_of, pages_in, pages_touched, read_need, stored_bytes}
 use Rattle.posix_defs.specs.Sizes.{bytes_of, no_need}
-use Rattle.posix_defs.specs.declared.prices.Price.{Price}
 use Rattle.posix_defs.specs.declared.prices.Price.TheVariants.{Always}
 
 -- a wrong operand

@@ -1,4 +1,4 @@
-use Rattle.std.proofs.Common.{◌≡◌, refl, lit<}
+use Rattle.std.proofs.Common.{refl, lit<}
 use Rattle.std.specs.List.{Contains}
 use Rattle.kabi_types.specs.Call.{all_kinds}
 use Rattle.kabi_types.specs.declared.calls.CallKind.{CallKind}

@@ -1,4 +1,4 @@
-use Rattle.std.proofs.Common.{◌≡◌, Bool, false, List, ℕ, Option, None, Some, Bor, map, ap, sym, ◌∙◌, refl, rules, tests}
+use Rattle.std.proofs.Common.{◌≡◌, Bool, false, List, ℕ, Option, None, Some, Bor, map, ap, sym, ◌∙◌, rules, tests}
 use Rattle.std.specs.List.{last_or}
 use Rattle.std.specs.Option.{option_map, option_map_or, MatchOption}
 use Rattle.std.proofs.lemmas.Iterator.{items_from_drains}
