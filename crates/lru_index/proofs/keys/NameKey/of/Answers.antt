@@ -1,4 +1,4 @@
-use Rattle.std.proofs.Common.{◌≡◌, ℕ, List, ◌++◌, length, ap}
+use Rattle.std.proofs.Common.{ℕ, List, ◌++◌, length, ap}
 use Rattle.std.proofs.lemmas.List.{drop-replicate}
 use Rattle.lru_index.specs.declared.keys.NameKey.{NameKey}
 use Rattle.lru_index.proofs.keys.NameKey.of.Goals as goal
