@@ -58,7 +58,13 @@ impl CallKind {
         ensures { result ≡ is_built self }
     {
         match self {
-            CallKind::Getpid | CallKind::Getppid | CallKind::SchedYield | CallKind::Exit => true,
+            CallKind::Getpid
+            | CallKind::Getppid
+            | CallKind::SchedYield
+            | CallKind::Fork
+            | CallKind::Exit
+            | CallKind::Waitpid
+            | CallKind::Kill => true,
             _ => false,
         }
     }
