@@ -1,5 +1,5 @@
 -- A call that fails changes its caller's control alone.
-use Rattle.std.proofs.Common.{◌≡◌, ◌≢◌, ℕ, ◌+◌, ◌==◌, ◌&&◌, ◌||◌, not, ℤ, pos, negsuc, Bool, true, false, cond, if◌then◌else◌, List, length, Option, None, Some, refl, subst, ap, sym, ◌∙◌}
+use Rattle.std.proofs.Common.{◌≡◌, ◌≢◌, ℕ, ◌+◌, ◌==◌, ◌&&◌, ◌||◌, not, ℤ, pos, negsuc, Bool, true, false, cond, if◌then◌else◌, List, length, Option, None, Some, refl, subst, ap, ◌∙◌}
 use Rattle.std.specs.List.{list_any}
 use Rattle.std.specs.Option.{option_or}
 use Rattle.kabi_types.specs.Arguments.{argument_fault, count_of, invalid_unless, is_from, is_minus_one, is_number, is_page_range, is_within, lie_in_space, moved_fault, path_fault, paths_fault, placed_fault, range_fault, truncates_unwritten}
@@ -14,12 +14,12 @@ use Rattle.kabi_types.specs.declared.replies.Reply.TheVariants.{Fail, Val}
 use Rattle.kabi_types.specs.declared.scripts.Script.{Script}
 use Rattle.posix_defs.specs.Process.{Process, process_at, runs}
 use Rattle.posix_defs.specs.Plain.{Plain, answered, last_pid}
-use Rattle.posix_defs.specs.Answer.{Answer, Blocked, Done, Ended, Part, failed, replied}
+use Rattle.posix_defs.specs.Answer.{Answer, Blocked, Done, Ended, failed, replied}
 use Rattle.posix_defs.specs.Ending.{die}
 use Rattle.posix_defs.specs.Forking.{is_full, with_child}
-use Rattle.posix_defs.specs.Killing.{ends, is_asking, kill, sent_to}
+use Rattle.posix_defs.specs.Killing.{ends, is_asking, sent_to}
 use Rattle.posix_defs.specs.Machine.{answer_to, machine, unless_wrong}
-use Rattle.posix_defs.specs.Waiting.{Exited, any_from, exited_from, is_nohang, not_yet, waited_for, waitpid}
+use Rattle.posix_defs.specs.Waiting.{Exited, any_from, exited_from, is_nohang, not_yet, waited_for}
 
 -- an answer that is an errno leaves the machine as it was but for that, and isn't ENOMEM
 abbrev FailsAlone : Script → Plain → ℕ → Answer → Type 0
@@ -158,3 +158,9 @@ fails_alone script plain pid which errno next e = let is = subst (FailsAlone scr
 pub wants_no_memory : (script : Script) (plain : Plain) (pid : ℕ) (which : Call) (errno : Errno) (next : Plain)
     → machine script plain pid which ≡ Done (Fail errno) next → errno ≢ ENOMEM
 wants_no_memory script plain pid which errno next e = let is = subst (FailsAlone script plain pid) e (each_alone script plain pid which) in is.1
+
+-- no answer of the machine is ENOMEM
+pub never_wants : (script : Script) (plain next : Plain) (pid : ℕ) (which : Call) (reply : Reply)
+    → machine script plain pid which ≡ Done reply next → reply ≢ Fail ENOMEM
+never_wants script plain next pid which reply e wants =
+    let is = subst (FailsAlone script plain pid) (e ∙ ap (λ r. Done r next) wants) (each_alone script plain pid which) in is.1 refl

@@ -19,17 +19,16 @@ use Rattle.posix_defs.specs.Process.{Process, Table, Alive, Ended, Status, proce
 use Rattle.posix_defs.specs.Plain.{Plain, answered, call_of, first_process, with_table, last_pid}
 use Rattle.posix_defs.specs.Answer as answer
 use Rattle.posix_defs.specs.Answer.{Answer, failed, replied}
-use Rattle.posix_defs.specs.Ending.{die, exit_status, die_in, leaves, left_behind, left_child, ended_as}
+use Rattle.posix_defs.specs.Ending.{die, exit_status, leaves, left_behind, left_child, ended_as}
 use Rattle.posix_defs.specs.Family.{IsFamily, IsKept, GoesOn, KeepsOn, LeadsOn}
 use Rattle.posix_defs.specs.Forking.{with_child, child_of, is_full}
 use Rattle.posix_defs.specs.History as history
 use Rattle.posix_defs.specs.History.{Past, IsAnswered, IsRun, MayFollow, boot_past}
 use Rattle.posix_defs.specs.Killing.{kill, ends, is_asking, sent_to}
 use Rattle.posix_defs.specs.Machine.{answer_to, machine, unless_wrong}
-use Rattle.posix_defs.specs.Posix.{posix}
 use Rattle.posix_defs.specs.Waiting.{Exited, any_from, exited_from, exited_in, has_ended, is_nohang, not_yet, matches, wait_status, waited_for, waitpid}
 use Rattle.posix_defs.proofs.LivingVictim.{victim_lives}
-use Rattle.posix_defs.proofs.TablePlaces.{was_made, same_in_front, at_end, in_longer, with_other, with_same, is_gone, each_changed}
+use Rattle.posix_defs.proofs.TablePlaces.{was_made, same_in_front, in_longer, with_other, with_same, is_gone, each_changed}
 
 -- who is alive is there
 pub alive_there : (table : Table) (pid : ℕ) → is_alive table pid ≡ true → (process : Process) × (process_at table pid ≡ Some process) × (process.status ≡ Alive)
@@ -490,15 +489,6 @@ answers_on script plain pid which kept alive = go (argument_fault which)
     go None = right_on script plain pid which kept alive
     go (Some errno) = replied_leads script plain plain pid (Fail errno) (stays_put plain kept)
 
--- and so does what the core's machine answers
-posix_on : (script : Script) (plain : Plain) (pid : ℕ) (which : Call) → IsKept plain → is_alive plain.table pid ≡ true
-    → KeepsOn plain (posix script plain pid which)
-posix_on script plain pid call.Getpid kept alive = replied_leads script plain plain pid (Val (pos pid)) (stays_put plain kept)
-posix_on script plain pid call.Getppid kept alive = replied_leads script plain plain pid (Val (pos (parent_of plain.table pid))) (stays_put plain kept)
-posix_on script plain pid call.SchedYield kept alive = replied_leads script plain plain pid (Val (pos 0)) (stays_put plain kept)
-posix_on script plain pid (call.Exit status) kept alive = dies_on plain pid (exit_status status) kept alive
-posix_on script plain pid _ kept alive = replied_leads script plain plain pid (Fail EINVAL) (stays_put plain kept)
-
 -- the first machine
 boots_kept : (script : Script) → IsKept (boot_past script).plain
 boots_kept script = record {
@@ -529,7 +519,7 @@ answered_on : (script : Script) (past next : Past) (pid : ℕ) (of_kind : CallKi
     → IsKept past.plain → IsAnswered script past pid of_kind given sleepers next → LeadsOn past.plain next.plain
 answered_on script past next pid of_kind given sleepers plain_of kept is =
     subst (λ p. LeadsOn past.plain p) (sym (ap (λ n. n.plain) is.leads))
-    (plain_of is.plain (subst (KeepsOn past.plain) is.answers (posix_on script past.plain pid (call_of script past.plain pid) kept is.may_run.alive)))
+    (plain_of is.plain (subst (KeepsOn past.plain) is.answers (answers_on script past.plain pid (call_of script past.plain pid) kept is.may_run.alive)))
 
 -- whatever may come next leads on
 pub follows_on : (script : Script) (past : Past) (added : Entry) (next : Past) → IsKept past.plain → MayFollow script past added next → LeadsOn past.plain next.plain

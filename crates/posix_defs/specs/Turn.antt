@@ -4,11 +4,11 @@ use Rattle.kabi_types.specs.declared.calls.Call.{Call}
 use Rattle.kabi_types.specs.declared.scripts.Script.{Script}
 use Rattle.posix_defs.specs.declared.turner.Turned.{Turned}
 use Rattle.posix_defs.specs.declared.turner.Turned.TheVariants as turned
-use Rattle.posix_defs.specs.Sizes.{bound, need_of}
+use Rattle.posix_defs.specs.Needs.{bound, need_of}
 use Rattle.posix_defs.specs.Process.{is_alive}
 use Rattle.posix_defs.specs.Plain.{Plain}
 use Rattle.posix_defs.specs.Answer.{Answer, Blocked, Done, Part, Ended}
-use Rattle.posix_defs.specs.Posix.{posix}
+use Rattle.posix_defs.specs.Machine.{machine}
 use Rattle.posix_defs.specs.World.{World, Account, MayKeep, forget_dead, live_of}
 
 -- what is told, and the plain machine after it, where POSIX gives this answer
@@ -31,8 +31,8 @@ account_after account plain pid call (Ended status next) = forget_dead next acco
 
 -- A call of a live process is answered as POSIX answers it. It may change what is kept, by no more than its need has.
 pub record Answers (script : Script) (old : World) (pid : ℕ) (call : Call) (told : Turned) (new : World) : Type 0 where
-  pub answer : Tells (posix script old.plain pid call) old.plain told new.plain
-  pub account : new.account ≡ account_after old.account old.plain pid call (posix script old.plain pid call)
+  pub answer : Tells (machine script old.plain pid call) old.plain told new.plain
+  pub account : new.account ≡ account_after old.account old.plain pid call (machine script old.plain pid call)
   pub may_keep : MayKeep new.plain new.kept
   pub live : live_of new ≤ live_of old + bound call
   pub names : length new.kept.names ≤ length old.kept.names + (need_of call).name

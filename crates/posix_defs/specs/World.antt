@@ -1,8 +1,10 @@
 -- What the core knows of a store: the plain machine, its account, what the caches keep, and the count of reads.
-use Rattle.std.specs.Prelude.{ℕ, ◌+◌, ◌*◌, ◌==◌, ◌≡◌, if◌then◌else◌, List, [], ◌∷◌, length, None, Some}
-use Rattle.std.specs.List.{list_any}
+use Rattle.std.specs.Prelude.{ℕ, ◌+◌, ◌*◌, ◌==◌, ◌≡◌, ◌≢◌, Bool, true, not, if◌then◌else◌, List, [], ◌∷◌, length, None, Some}
+use Rattle.std.specs.List.{AllByRecursion, list_any}
 use Rattle.kabi_types.specs.Class.{size}
 use Rattle.kabi_types.specs.declared.classes.Class.TheVariants as class
+use Rattle.kabi_types.specs.declared.entries.Cached.{Cached}
+use Rattle.kabi_types.specs.declared.entries.Cached.TheVariants.{Name, Block, Vnode}
 use Rattle.kabi_types.specs.declared.scripts.Script.{Script}
 use Rattle.posix_defs.specs.Process.{Table, runs, how_many}
 use Rattle.posix_defs.specs.Plain.{Plain, root, boot_plain}
@@ -49,9 +51,19 @@ abbrev pub distinct : List ℕ → List ℕ
 distinct [] = []
 distinct (n ∷ ns) = if list_any (λ m. m == n) ns then distinct ns else n ∷ distinct ns
 
--- how many nodes have to stay cached
+-- the nodes that have to stay cached
+abbrev pub pinned_nodes : Plain → List ℕ
+pinned_nodes plain = distinct (root ∷ directories_of plain.table)
+
+-- how many these are
 abbrev pub pins : Plain → ℕ
-pins plain = length (distinct (root ∷ directories_of plain.table))
+pins plain = length (pinned_nodes plain)
+
+-- a cache keeps something that isn't pinned; names and blocks never are
+abbrev pub can_evict : Plain → Kept → Cached → Bool
+can_evict plain kept Name = not (length kept.names == 0)
+can_evict plain kept Block = not (length kept.blocks == 0)
+can_evict plain kept Vnode = list_any (λ node. not (list_any (λ pinned. pinned == node) (pinned_nodes plain))) kept.vnodes
 
 -- the heap that the caches take
 abbrev pub cached : Kept → ℕ
@@ -61,11 +73,21 @@ cached kept = length kept.names * size class.Name + length kept.blocks * size cl
 abbrev pub live_of : World → ℕ
 live_of world = base world.plain world.account + cached world.kept
 
--- what may be kept: until there are files, the root's node alone
+-- no element stands there twice
+abbrev pub AreOnce : {X : Type 0} → List X → Type 0
+AreOnce [] = Unit {0}
+AreOnce (x ∷ xs) = AllByRecursion (λ y. x ≢ y) xs × AreOnce xs
+
+-- the number is one of these
+abbrev pub is_in : ℕ → List ℕ → Bool
+is_in n ns = list_any (λ m. m == n) ns
+
+-- What caches may keep: nothing twice, and every node that is pinned.
 pub record MayKeep (plain : Plain) (kept : Kept) : Type 0 where
-  pub names : kept.names ≡ []
-  pub blocks : kept.blocks ≡ []
-  pub vnodes : kept.vnodes ≡ root ∷ []
+  pub names : AreOnce kept.names
+  pub blocks : AreOnce kept.blocks
+  pub vnodes : AreOnce kept.vnodes
+  pub pinned : (node : ℕ) → is_in node (pinned_nodes plain) ≡ true → is_in node kept.vnodes ≡ true
 
 -- only the root's node is kept
 abbrev pub boot_kept : Kept
