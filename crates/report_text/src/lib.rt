@@ -3,6 +3,7 @@
 //! Each line can be had by itself, or added to a text that grows.
 #![tactic(auto)]
 
+mod fields;
 mod lines;
 #[cfg(test)]
 mod tests;

@@ -1,6 +1,7 @@
 ghost use Rattle.std.specs.Prelude.{◌≡◌, ◌+◌, ◌^◌, ◌<◌, ◌++◌, length, IfOk, OnOk, string_bytes};
 ghost use Rattle.posix_defs.specs.Lines.{event_line, event_lines, entry_line, end_text, end_line, end_line_threads};
 
+use crate::fields::{push_field, push_number};
 use crate::words::{push_entry, push_plain};
 use kabi_types::{End, Entry, Memory, Noted};
 use std::alloc::{AllocError, Global};
@@ -73,20 +74,22 @@ pub fn push_events(out: &mut String, run: &[Noted]) -> Result<(), AllocError>
 pub fn push_event(out: &mut String, j: u32, noted: &Noted) -> Result<(), AllocError>
     ensures { OnOk result (string_bytes out.new ≡ string_bytes out.old ++ event_line j noted.now) }
 {
-    write!(out, "{j} ")?;
+    push_number(out, j)?;
+    out.push_str(" ")?;
     match &noted.entry {
         Some(entry) => push_entry(out, entry)?,
         None => push_plain(out, noted)?,
     }
-    let charged = noted.charged;
-    write!(out, " charged {charged}\n")
+    push_field(out, " charged ", noted.charged)?;
+    out.push_str("\n")
 }
 
 /// Adds the line of an entry, the `j`-th from 1. Where memory is wanting, a part of it may have been added.
 pub fn push_entry_line(out: &mut String, j: u32, entry: &Entry) -> Result<(), AllocError>
     ensures { OnOk result (string_bytes out.new ≡ string_bytes out.old ++ entry_line j entry.now) }
 {
-    write!(out, "{j} ")?;
+    push_number(out, j)?;
+    out.push_str(" ")?;
     push_entry(out, entry)?;
     out.push_str("\n")
 }

@@ -1,6 +1,7 @@
 ghost use Rattle.std.specs.Prelude.{◌≡◌, ◌++◌, OnOk, string_bytes};
 ghost use Rattle.posix_defs.specs.Lines.{status_text, reply_text, cache_text, entry_text, kind_text, node_text, event_text};
 
+use crate::fields::{push_call, push_field, push_number};
 use kabi_types::{Cached, CallKind, Entry, Event, NodeKind, Noted, PollHits, Reply, StatInfo};
 use std::alloc::AllocError;
 
@@ -10,12 +11,20 @@ pub(crate) fn push_plain(out: &mut String, noted: &Noted) -> Result<(), AllocErr
         string_bytes out.old ++ event_text noted.now.event (kind_text noted.now.kind) noted.now.bound) }
 {
     let word = kind_word(noted.kind);
-    let bound = noted.bound;
     match noted.event {
-        Event::Ask(pid) => write!(out, "p{pid} ask {word} bound {bound}"),
-        Event::Admit(pid) => write!(out, "p{pid} admit {word} bound {bound}"),
-        Event::Wake(pid) => write!(out, "p{pid} wake {word} bound {bound}"),
-        Event::Abandon(pid) => write!(out, "p{pid} abandon {word}"),
+        Event::Ask(pid) => {
+            push_call(out, pid, " ask ", word)?;
+            push_field(out, " bound ", noted.bound)
+        }
+        Event::Admit(pid) => {
+            push_call(out, pid, " admit ", word)?;
+            push_field(out, " bound ", noted.bound)
+        }
+        Event::Wake(pid) => {
+            push_call(out, pid, " wake ", word)?;
+            push_field(out, " bound ", noted.bound)
+        }
+        Event::Abandon(pid) => push_call(out, pid, " abandon ", word),
         // These always add an entry, which is what their lines say.
         Event::Turn(_) | Event::Evict(_) | Event::Kill(_) => Ok(()),
     }
@@ -36,19 +45,26 @@ pub(crate) fn push_entry(out: &mut String, entry: &Entry) -> Result<(), AllocErr
 {
     match entry {
         Entry::Done { pid, kind, reply } => {
-            write!(out, "p{pid} done {} = ", kind.word())?;
+            push_call(out, *pid, " done ", kind.word())?;
+            out.push_str(" = ")?;
             push_reply(out, reply)
         }
-        Entry::Part { pid, kind, moved } => write!(out, "p{pid} part {} {moved}", kind.word()),
-        Entry::Refused { pid, kind, bound } => {
-            write!(out, "p{pid} refused {} bound {bound} = ENOMEM", kind.word())
+        Entry::Part { pid, kind, moved } => {
+            push_call(out, *pid, " part ", kind.word())?;
+            push_field(out, " ", *moved)
         }
-        Entry::Slept { pid, kind } => write!(out, "p{pid} sleep {}", kind.word()),
+        Entry::Refused { pid, kind, bound } => {
+            push_call(out, *pid, " refused ", kind.word())?;
+            push_field(out, " bound ", *bound)?;
+            out.push_str(" = ENOMEM")
+        }
+        Entry::Slept { pid, kind } => push_call(out, *pid, " sleep ", kind.word()),
         Entry::Ended { pid, status, .. } => {
-            write!(out, "p{pid} ended ")?;
+            push_field(out, "p", *pid)?;
+            out.push_str(" ended ")?;
             push_status(out, *status)
         }
-        Entry::Gone { pid, kind } => write!(out, "p{pid} gone {}", kind.word()),
+        Entry::Gone { pid, kind } => push_call(out, *pid, " gone ", kind.word()),
         Entry::Killed {
             pid,
             waiter,
@@ -74,11 +90,15 @@ fn push_reply(out: &mut String, reply: &Reply) -> Result<(), AllocError>
     ensures { OnOk result (string_bytes out.new ≡ string_bytes out.old ++ reply_text reply.now) }
 {
     match reply {
-        Reply::Val(value) => write!(out, "{value}"),
-        Reply::Pair(first, second) => write!(out, "{first} {second}"),
+        Reply::Val(value) => push_number(out, *value),
+        Reply::Pair(first, second) => {
+            push_number(out, *first)?;
+            push_field(out, " ", *second)
+        }
         Reply::Stat(info) => push_stat(out, *info),
         Reply::Waited(pid, status) => {
-            write!(out, "{pid} ")?;
+            push_number(out, *pid)?;
+            out.push_str(" ")?;
             push_status(out, *status)
         }
         Reply::Polled(polled) => push_polled(out, polled),

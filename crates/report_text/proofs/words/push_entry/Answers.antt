@@ -8,4 +8,4 @@ pub returns-in-Killed : goal.returns-in-Killed
 returns-in-Killed c =
     let k = c.in-Killed in
     let joined = pieces_joined (pid_text k.pid) (codes " killed for ") (pid_text k.waiter) (codes " need ") (decimal k.need) (codes " live ") (decimal k.live) in
-    IfOk-equal _ _ _ _ c.write-in-Killed.ensures.bytes (rw k.is (ap (λ text. string_bytes c.args.out.now ++ text) (sym joined)))
+    IfOk-equal _ _ _ _ c.write.ensures.bytes (rw k.is (ap (λ text. string_bytes c.args.out.now ++ text) (sym joined)))

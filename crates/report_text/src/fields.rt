@@ -1,0 +1,36 @@
+//! The pieces of a line. A line that each event adds is put together from its words and numbers, with no format between.
+
+ghost use Rattle.std.specs.Prelude.{◌≡◌, ◌++◌, OnOk, string_bytes};
+ghost use Rattle.posix_defs.specs.Lines.{pid_text};
+
+use itoa::{Buffer, Integer};
+use std::alloc::AllocError;
+
+/// A number in decimal digits, behind a sign where it is below 0.
+pub(crate) fn push_number<N: Integer>(out: &mut String, number: N) -> Result<(), AllocError>
+    ensures { OnOk result (string_bytes out.new ≡ string_bytes out.old ++ N.text number) }
+{
+    let mut digits = Buffer::new();
+    out.push_str(digits.format(number))
+}
+
+/// A number behind a word that says what it is.
+pub(crate) fn push_field<N: Integer>(
+    out: &mut String,
+    word: &str,
+    number: N,
+) -> Result<(), AllocError>
+    ensures { OnOk result (string_bytes out.new ≡ string_bytes out.old ++ word.now ++ N.text number) }
+{
+    out.push_str(word)?;
+    push_number(out, number)
+}
+
+/// Who did what of which call.
+pub(crate) fn push_call(out: &mut String, pid: u32, did: &str, word: &str) -> Result<(), AllocError>
+    ensures { OnOk result (string_bytes out.new ≡ string_bytes out.old ++ pid_text pid ++ did.now ++ word.now) }
+{
+    push_field(out, "p", pid)?;
+    out.push_str(did)?;
+    out.push_str(word)
+}
