@@ -1,20 +1,22 @@
 -- Who is waited for and who would be killed, among the tasks as in the table.
-use Rattle.std.proofs.Common.{◌≡◌, ℕ, suc, ◌+◌, ◌<◌, ◌≤◌, ◌==◌, ◌&&◌, ◌||◌, not, ℤ, Bool, true, false, cond, List, ◌∷◌, Option, None, Some, is_some, unwrap_or, refl, ap, sym, ◌∙◌, arith, inl, inr}
-use Rattle.std.specs.Prelude.{nat_le}
-use Rattle.std.specs.List.{list_any}
+use Rattle.std.proofs.Common.{◌≡◌, ℕ, suc, ◌+◌, ◌<◌, ◌==◌, ◌&&◌, ◌||◌, not, ℤ, true, false, Bool, cond, filter, List, [], ◌∷◌, Option, None, Some, is_some, refl, ap, sym, ◌∙◌, arith}
+use Rattle.std.specs.Prelude.{IfSome, IsNone}
+use Rattle.std.specs.List.{All, list_any}
+use Rattle.std.proofs.lemmas.List.Elements.{All-cons, All-head, All-nil, All-tail, All-weaker}
 use Rattle.std.specs.Option.{option_map, option_or}
-use Rattle.std.proofs.lemmas.Bool.Decides.{leb_tells}
 use Rattle.kabi_types.specs.declared.classes.Weight.{Weight}
 use Rattle.kabi_types.specs.declared.scripts.Policy.{Policy}
-use Rattle.kabi_types.specs.declared.scripts.Policy.TheVariants.{Heaviest, Youngest}
 use Rattle.posix_defs.specs.Process.{Table, runs}
 use Rattle.posix_defs.specs.Plain.{Plain}
-use Rattle.posix_defs.specs.Victim.{greatest, pid_of_greatest, score_of, weights_from}
+use Rattle.posix_defs.specs.Victim.{pid_of_greatest, weights_from}
+use Rattle.victim_core.proofs.GreatestLemmas.{victim-named}
+use Rattle.victim_core.specs.Victims.{IsVictim, RisesByPid}
 use Rattle.posix_defs.specs.Waiting.{Exited, any_from, exited_from, has_ended, is_asked_for, wait_status}
 use Rattle.posix_defs.specs.World.{Account}
 use Rattle.call_run.specs.declared.tasks.Task.{Task}
 use Rattle.call_run.specs.declared.tasks.Told.{Told}
-use Rattle.call_run.specs.Tasks.{AreFrom, nobody, gone, there, exited_as, is_wanted, last_running, status_of, told_of}
+use Rattle.call_run.specs.Tasks.{AreFrom, nobody, gone, there, AreRising, exited_as, is_wanted, light, status_of, told_of, weights_in}
+use Rattle.call_run.proofs.Present.{eqb_same}
 
 -- some child is asked for
 pub any_is : {first : ℕ} {table : Table} {tasks : List Task} → AreFrom first table tasks → (parent : ℕ) (which : ℤ)
@@ -53,81 +55,50 @@ told_is (there first task table tasks e rest) parent which =
     mine : Option Told
     mine = cond (is_wanted parent which task) (option_map (λ status. record { pid = task.pid; status = status }) task.status) None
 
--- a process that holds nothing but itself
-abbrev light : ℕ → Weight
-light pid = record { pid = pid; frames = 0; nodes = 0; descs = 0 }
+-- the weights of a machine's processes but the first are those of the tasks
+weighed : (told : Option ℕ) (pid : ℕ) (others rest : List Weight) → others ≡ filter (λ w. not (w.pid == 1)) rest
+    → cond (runs (status_of told) && not (pid == 1)) (light pid ∷ others) others ≡ filter (λ w. not (w.pid == 1)) (cond (is_some told) rest (light pid ∷ rest))
+weighed None pid others rest e = ap (λ ws. cond (not (pid == 1)) (light pid ∷ ws) ws) e
+weighed (Some status) pid others rest e = e
 
--- of two such the younger weighs as much, or more
-heavier : (policy : Policy) (a b : ℕ) → a ≤ b → nat_le (score_of policy (light a)) (score_of policy (light b)) ≡ true
-heavier Heaviest a b h = refl
-heavier Youngest a b h = elim (leb_tells a b) [ inl is ↦ is.0 | inr is ↦ absurd (let k = is.1 in omega arith) ]
+weights_are : {first : ℕ} {table : Table} {tasks : List Task} → AreFrom first table tasks → (plain : Plain) (account : Account) (n : ℕ) → n ≡ first
+    → weights_from plain account n table ≡ filter (λ w. not (w.pid == 1)) (weights_in tasks)
+weights_are (nobody first) plain account n e = refl
+weights_are (gone first table tasks rest) plain account n e = weights_are rest plain account (n + 1) (omega arith)
+weights_are (there first task table tasks p rest) plain account n e =
+    ap (λ k. cond (runs (status_of task.status) && not (k == 1)) (light k ∷ weights_from plain account (n + 1) table) (weights_from plain account (n + 1) table)) (e ∙ sym p)
+    ∙ weighed task.status task.pid (weights_from plain account (n + 1) table) (weights_in tasks) (weights_are rest plain account (n + 1) (omega arith))
 
-runs_or_not : (told : Option ℕ) → runs (status_of told) ≡ not (is_some told)
-runs_or_not None = refl
-runs_or_not (Some status) = refl
-
-younger_chosen : (one : Option ℕ) (n m pid : ℕ) → n ≡ m → unwrap_or one n ≡ unwrap_or (option_or one (Some m)) pid
-younger_chosen None n m pid e = e
-younger_chosen (Some k) n m pid e = refl
-
-nobody_chosen : (one : Option ℕ) (pid : ℕ) → unwrap_or one pid ≡ unwrap_or (option_or one None) pid
-nobody_chosen None pid = refl
-nobody_chosen (Some k) pid = refl
-
-some_chosen : (one : Option ℕ) (n m : ℕ) → n ≡ m → Some (unwrap_or one n) ≡ option_or one (Some m)
-some_chosen None n m e = ap Some e
-some_chosen (Some k) n m e = refl
-
-none_chosen : (one : Option ℕ) → one ≡ option_or one None
-none_chosen None = refl
-none_chosen (Some k) = refl
-
-abbrev pid_in : Weight → ℕ
-pid_in weight = weight.pid
-
--- the test of the weights is that of the tasks
-same_test : (task : Task) (n : ℕ) → task.pid ≡ n → (runs (status_of task.status) && not (n == 1)) ≡ (not (is_some task.status) && not (task.pid == 1))
-same_test task n e = ap (λ b. b && not (n == 1)) (runs_or_not task.status) ∙ ap (λ k. not (is_some task.status) && not (k == 1)) (sym e)
-
--- of processes by rising pid the last is chosen
-last_chosen : {first : ℕ} {table : Table} {tasks : List Task} → AreFrom first table tasks → (policy : Policy) (plain : Plain) (account : Account) (pid : ℕ) → pid < first
-    → (n : ℕ) → n ≡ first → pid_in (greatest policy (light pid) (weights_from plain account n table)) ≡ unwrap_or (last_running tasks) pid
-last_chosen (nobody first) policy plain account pid h n e = refl
-last_chosen (gone first table tasks rest) policy plain account pid h n e = last_chosen rest policy plain account pid (omega arith) (n + 1) (omega arith)
-last_chosen (there first task table tasks p rest) policy plain account pid h n e =
-    step (runs (status_of task.status) && not (n == 1))
-    (ap (λ b. pid_in (greatest policy (cond b (light n) (light pid)) (weights_from plain account (n + 1) table))) (heavier policy pid n (omega arith))
-    ∙ last_chosen rest policy plain account n (omega arith) (n + 1) (omega arith))
-    (last_chosen rest policy plain account pid (omega arith) (n + 1) (omega arith))
-    ∙ ap (λ b. unwrap_or (option_or (last_running tasks) (cond b (Some task.pid) None)) pid) (same_test task n (omega arith))
+-- weights of tasks that rise by pid rise so too
+rises_above : (below : ℕ) (tasks : List Task) → AreRising below tasks → All (λ w. below < w.pid) (weights_in tasks)
+rises_above below [] all = All-nil (λ w. below < w.pid)
+rises_above below (task ∷ tasks) all = go task.status
+    (All-weaker (λ w. task.pid < w.pid) (λ w. below < w.pid) (λ w h. let k : below < task.pid = all.0 in omega arith) (weights_in tasks) (rises_above task.pid tasks all.1))
   where
-    step : (b : Bool)
-        → pid_in (greatest policy (light pid) (light n ∷ weights_from plain account (n + 1) table)) ≡ unwrap_or (last_running tasks) n
-        → pid_in (greatest policy (light pid) (weights_from plain account (n + 1) table)) ≡ unwrap_or (last_running tasks) pid
-        → pid_in (greatest policy (light pid) (cond b (light n ∷ weights_from plain account (n + 1) table) (weights_from plain account (n + 1) table)))
-        ≡ unwrap_or (option_or (last_running tasks) (cond b (Some task.pid) None)) pid
-    step true one other = one ∙ younger_chosen (last_running tasks) n task.pid pid (omega arith)
-    step false one other = other ∙ nobody_chosen (last_running tasks) pid
+    go : (told : Option ℕ) → All (λ w. below < w.pid) (weights_in tasks) → All (λ w. below < w.pid) (cond (is_some told) (weights_in tasks) (light task.pid ∷ weights_in tasks))
+    go None rest = All-cons (λ w. below < w.pid) (light task.pid) (weights_in tasks) all.0 rest
+    go (Some status) rest = rest
 
--- the process to kill, from this pid on
-chosen_from : {first : ℕ} {table : Table} {tasks : List Task} → AreFrom first table tasks → (policy : Policy) (plain : Plain) (account : Account) (n : ℕ) → n ≡ first
-    → pid_of_greatest policy (weights_from plain account n table) ≡ last_running tasks
-chosen_from (nobody first) policy plain account n e = refl
-chosen_from (gone first table tasks rest) policy plain account n e = chosen_from rest policy plain account (n + 1) (omega arith)
-chosen_from (there first task table tasks p rest) policy plain account n e =
-    step (runs (status_of task.status) && not (n == 1)) (last_chosen rest policy plain account n (omega arith) (n + 1) (omega arith))
-    (chosen_from rest policy plain account (n + 1) (omega arith))
-    ∙ ap (λ b. option_or (last_running tasks) (cond b (Some task.pid) None)) (same_test task n (omega arith))
+rises_by_pid : (below : ℕ) (tasks : List Task) → AreRising below tasks → RisesByPid (weights_in tasks)
+rises_by_pid below [] all = tt
+rises_by_pid below (task ∷ tasks) all = go task.status (rises_by_pid task.pid tasks all.1)
   where
-    step : (b : Bool)
-        → pid_in (greatest policy (light n) (weights_from plain account (n + 1) table)) ≡ unwrap_or (last_running tasks) n
-        → pid_of_greatest policy (weights_from plain account (n + 1) table) ≡ last_running tasks
-        → pid_of_greatest policy (cond b (light n ∷ weights_from plain account (n + 1) table) (weights_from plain account (n + 1) table))
-        ≡ option_or (last_running tasks) (cond b (Some task.pid) None)
-    step true one other = ap Some one ∙ some_chosen (last_running tasks) n task.pid (omega arith)
-    step false one other = other ∙ none_chosen (last_running tasks)
+    go : (told : Option ℕ) → RisesByPid (weights_in tasks) → RisesByPid (cond (is_some told) (weights_in tasks) (light task.pid ∷ weights_in tasks))
+    go None rest = (rises_above task.pid tasks all.1, rest)
+    go (Some status) rest = rest
 
--- the process to kill is the last that runs, under either policy
-pub victim_is : (table : Table) (tasks : List Task) → AreFrom 1 table tasks → (policy : Policy) (plain : Plain) (account : Account)
-    → pid_of_greatest policy (weights_from plain account 1 table) ≡ last_running tasks
-victim_is table tasks are policy plain account = chosen_from are policy plain account 1 refl
+-- the first process alone leaves no weight
+none_but_first : (weights : List Weight) → All (λ w. w.pid ≡ 1) weights → filter (λ w. not (w.pid == 1)) weights ≡ []
+none_but_first [] all = refl
+none_but_first (w ∷ weights) all =
+    ap (λ b. cond (not b) (w ∷ filter (λ v. not (v.pid == 1)) weights) (filter (λ v. not (v.pid == 1)) weights)) (eqb_same w.pid 1 (All-head (λ v. v.pid ≡ 1) w weights all))
+    ∙ none_but_first weights (All-tail (λ v. v.pid ≡ 1) w weights all)
+
+-- Whom the scores choose among the tasks is the machine's victim.
+pub victim_is : (table : Table) (tasks : List Task) (policy : Policy) (plain : Plain) (account : Account) (chosen : Option ℕ) → AreFrom 1 table tasks → AreRising 0 tasks
+    → (IsNone chosen → All (λ w. w.pid ≡ 1) (weights_in tasks)) → IfSome chosen (IsVictim policy (weights_in tasks))
+    → chosen ≡ pid_of_greatest policy (weights_from plain account 1 table)
+victim_is table tasks policy plain account None are rising none victim =
+    sym (ap (pid_of_greatest policy) (weights_are are plain account 1 refl ∙ none_but_first (weights_in tasks) (none refl)))
+victim_is table tasks policy plain account (Some pid) are rising none victim =
+    sym (ap (pid_of_greatest policy) (weights_are are plain account 1 refl) ∙ victim-named policy (weights_in tasks) pid (rises_by_pid 0 tasks rising) victim)

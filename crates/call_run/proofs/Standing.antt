@@ -1,5 +1,5 @@
 -- The machines that the tasks stand for, before and after a task goes on, is made, goes or ends.
-use Rattle.std.proofs.Common.{◌≡◌, ◌≢◌, ℕ, zero, suc, ◌+◌, ◌<◌, ◌≤◌, ◌==◌, ◌&&◌, ◌||◌, not, ℤ, negsuc, Bool, true, false, cond, List, [], ◌∷◌, ◌++◌, length, filter, map, Option, None, Some, is_some, unwrap_or, pos, refl, ap, sym, ◌∙◌, subst, arith, ◌⊎◌, inl, inr, length-append}
+use Rattle.std.proofs.Common.{◌≡◌, ◌≢◌, ℕ, zero, suc, ◌+◌, ◌*◌, ◌<◌, ◌≤◌, ◌==◌, ◌&&◌, ◌||◌, not, ℤ, negsuc, Bool, true, false, cond, List, [], ◌∷◌, ◌++◌, length, filter, map, Option, None, Some, is_some, unwrap_or, pos, refl, ap, sym, ◌∙◌, subst, arith, ◌⊎◌, inl, inr, length-append}
 use Rattle.std.specs.Prelude.{nat_le}
 use Rattle.std.specs.List.{AllByRecursion, list_any}
 use Rattle.std.specs.Option.{option_map}
@@ -11,23 +11,30 @@ use Rattle.kabi_types.specs.declared.replies.Reply.TheVariants.{Fail, Val, Waite
 use Rattle.kabi_types.specs.declared.scripts.Control.{Control}
 use Rattle.kabi_types.specs.declared.scripts.Script.{Script}
 use Rattle.posix_defs.specs.ByPid.{at_pid, with_pid}
-use Rattle.posix_defs.specs.Control.{after, settled}
+use Rattle.posix_defs.specs.Control.{after, call_at, settled, statement_of}
+use Rattle.posix_defs.specs.Control as program
 use Rattle.posix_defs.specs.Ending.{die, ended_as, left_behind}
 use Rattle.posix_defs.specs.Forking.{child_of, fork, is_full, with_child}
 use Rattle.posix_defs.specs.Killing.{ends, is_asking, kill, sent_to, signalled, struck}
-use Rattle.posix_defs.specs.Plain.{Plain, answered, at_start, control_of, last_pid}
+use Rattle.posix_defs.specs.Plain.{Plain, answered, at_start, call_of, control_of, last_pid, root}
 use Rattle.posix_defs.specs.Process.{Process, Table, how_many, is_alive, is_alive_in, parent_in, parent_of, process_at, runs}
 use Rattle.posix_defs.specs.Answer.{Blocked, Ended, failed, replied}
+use Rattle.posix_defs.specs.Machine.{blocks}
+use Rattle.posix_defs.specs.Relief.{Kills}
+use Rattle.posix_defs.specs.SoundTasks.{AllAtHome}
+use Rattle.posix_defs.proofs.Caches.{root_may_keep}
 use Rattle.posix_defs.specs.Turn.{Tells}
+use Rattle.posix_defs.specs.World.{MayKeep, World, base, cached, live_of, no_account}
 use Rattle.posix_defs.specs.Waiting.{any_from, exited_from, is_nohang, not_yet, reaped, waited_for, waitpid}
 use Rattle.posix_defs.specs.declared.turner.Turned.{Turned}
 use Rattle.posix_defs.specs.declared.turner.Turned.TheVariants as turned
 use Rattle.posix_defs.proofs.TablePlaces.{get_front, get_set_other, get_set_same, was_made, with_other}
 use Rattle.posix_defs.proofs.Families.{exited_has_ended, others_live, still_alive}
 use Rattle.posix_defs.proofs.EnabledEvents.{get_behind}
+use Rattle.prog_ctl.proofs.Settling.{rests_settled}
 use Rattle.prog_ctl.specs.Runnable.{Rests, Stands}
 use Rattle.call_run.specs.declared.tasks.Task.{Task}
-use Rattle.call_run.specs.Standing.{AreAtCalls, Does, IsAtCall, Runs, StandFor}
+use Rattle.call_run.specs.Standing.{AreAtCalls, Does, IsAtCall, Runs, StandFor, StandsFor}
 use Rattle.call_run.specs.Tasks.{AreFrom, nobody, gone, there, TasksView, exited_as, is_wanted, leave, left, moved_on, process_of, status_of, stays, target_of, task_of, told_of}
 use Rattle.call_run.proofs.Present.{as_many, eqb_other, eqb_same, none_below, one_more, process_is, without}
 use Rattle.call_run.specs.declared.tasks.Told.{Told}
@@ -71,7 +78,7 @@ running script kept plain pid stands alive = go (task_of kept.tasks pid) refl (s
     go None is e = cc
     go (Some task) is e = (task, is, runs_still task.status e)
 
--- and the other way round
+-- who is alive is a task that runs
 pub alive_is : (script : Script) (kept : TasksView) (plain : Plain) (pid : ℕ) → StandFor script kept plain
     → is_alive plain.table pid ≡ is_alive_in (option_map process_of (task_of kept.tasks pid))
 alive_is script kept plain pid stands = ap is_alive_in (process_is plain.table kept.tasks pid stands.present)
@@ -80,10 +87,10 @@ alive_is script kept plain pid stands = ap is_alive_in (process_is plain.table k
 abbrev status_in : Task → Option ℕ
 status_in task = task.status
 
-abbrev pid_in : Task → ℕ
+abbrev pub pid_in : Task → ℕ
 pid_in task = task.pid
 
-moved_pid : (pid : ℕ) (control : Control) (task : Task) → pid_in (moved_on pid control task) ≡ task.pid
+pub moved_pid : (pid : ℕ) (control : Control) (task : Task) → pid_in (moved_on pid control task) ≡ task.pid
 moved_pid pid control task = go (task.pid == pid)
   where
     go : (b : Bool) → pid_in (cond b (record task { control = control }) task) ≡ task.pid
@@ -282,7 +289,7 @@ reaps_on script kept plain child stands = record {
     long table (suc i) = length-set table i None
 
 -- who is left behind was there before, and runs as it did
-left_pid : (pid status : ℕ) (task : Task) → pid_in (left pid status task) ≡ task.pid
+pub left_pid : (pid status : ℕ) (task : Task) → pid_in (left pid status task) ≡ task.pid
 left_pid pid status task = go (task.pid == pid) ((task.parent == pid) && not (is_some task.status))
   where
     go : (a b : Bool) → pid_in (cond a (record task { status = Some status }) (cond b (record task { parent = 1 }) task)) ≡ task.pid
@@ -620,7 +627,7 @@ pub alive_there : (script : Script) (kept : TasksView) (plain : Plain) (pid : �
     → is_alive plain.table pid ≡ true
 alive_there script kept plain pid task stands is up = alive_is script kept plain pid stands ∙ ap (λ o. is_alive_in (option_map process_of o)) is ∙ ap (λ told. runs (status_of told)) up
 
-not_zero : (script : Script) (kept : TasksView) (plain : Plain) (pid : ℕ) → StandFor script kept plain → is_alive plain.table pid ≡ true → pid ≢ 0
+pub not_zero : (script : Script) (kept : TasksView) (plain : Plain) (pid : ℕ) → StandFor script kept plain → is_alive plain.table pid ≡ true → pid ≢ 0
 not_zero script kept plain pid stands alive e = let dead : is_alive plain.table pid ≡ false = ap (is_alive plain.table) e in let f = alive in cc
 
 die_others : (plain : Plain) (target pid status : ℕ) → target ≢ 1 → target ≢ 0 → pid ≢ target → is_alive plain.table pid ≡ true → is_alive (die plain target status).table pid ≡ true
@@ -818,3 +825,123 @@ does_getppid script kept now pid task number said is e tells goes plain stands a
       subst (λ z. StandFor script now (answered script plain pid (Val z))) same (goes plain stands alive),
       (tells ∙ ap (λ z. turned.Done (Val z)) same, refl),
     )
+
+-- Whether a wait would sleep.
+blocked_by : (script : Script) (plain : Plain) (pid : ℕ) (options : ℤ) (any : Bool)
+    → blocks (cond any (not_yet script plain pid options) (failed script plain pid ECHILD)) ≡ (any && not (is_nohang options))
+blocked_by script plain pid options true = go (is_nohang options)
+  where
+    go : (b : Bool) → blocks (cond b (replied script plain pid (Val (pos 0))) Blocked) ≡ not b
+    go true = refl
+    go false = refl
+blocked_by script plain pid options false = refl
+
+pub sleeps_is : (script : Script) (kept : TasksView) (plain : Plain) (pid : ℕ) (which options : ℤ) → StandFor script kept plain → told_of pid which kept.tasks ≡ None
+    → blocks (waitpid script plain pid which options) ≡ (list_any (is_wanted pid which) kept.tasks && not (is_nohang options))
+sleeps_is script kept plain pid which options stands none =
+    ap (λ o. blocks (waited_for script plain pid which options o)) (told_is stands.present pid which ∙ ap (option_map exited_as) none)
+    ∙ blocked_by script plain pid options (any_from pid which 1 plain.table)
+    ∙ ap (λ b. b && not (is_nohang options)) (any_is stands.present pid which)
+
+pub told_doesnt : (script : Script) (kept : TasksView) (plain : Plain) (pid : ℕ) (which options : ℤ) → StandFor script kept plain → is_some (told_of pid which kept.tasks) ≡ true
+    → blocks (waitpid script plain pid which options) ≡ false
+told_doesnt script kept plain pid which options stands some =
+    ap (λ o. blocks (waited_for script plain pid which options o)) (told_is stands.present pid which) ∙ go (told_of pid which kept.tasks) some
+  where
+    go : (o : Option Told) → is_some o ≡ true → blocks (waited_for script plain pid which options (option_map exited_as o)) ≡ false
+    go None e = cc
+    go (Some told) e = refl
+
+pub not_told : (o : Option Told) → is_some o ≡ false → o ≡ None
+not_told None e = refl
+not_told (Some told) e = cc
+
+-- the task of a live process runs
+pub is_up : (script : Script) (kept : TasksView) (plain : Plain) (pid : ℕ) (task : Task) → StandFor script kept plain → is_alive plain.table pid ≡ true → task_of kept.tasks pid ≡ Some task
+    → task.status ≡ None
+is_up script kept plain pid task stands alive is =
+    let found = running script kept plain pid stands alive in
+    ap (λ t. t.status) (some_same (task_of kept.tasks pid) task found.0 is found.1) ∙ found.2
+
+-- a live process has a task
+pub has_task : (script : Script) (kept : TasksView) (plain : Plain) (pid : ℕ) → StandFor script kept plain → is_alive plain.table pid ≡ true → task_of kept.tasks pid ≡ None → ⊥
+has_task script kept plain pid stands alive none = let found = running script kept plain pid stands alive in none_is_not_some (task_of kept.tasks pid) none found.1
+
+-- it runs at its control
+pub runs_at : (script : Script) (kept : TasksView) (plain : Plain) (pid : ℕ) (task : Task) → StandFor script kept plain → is_alive plain.table pid ≡ true → task_of kept.tasks pid ≡ Some task
+    → Runs script kept pid task.control
+runs_at script kept plain pid task stands alive is = record {
+  plain = plain;
+  stands = stands;
+  alive = alive;
+  task = task;
+  found = is;
+  up = is_up script kept plain pid task stands alive is;
+  at_call = refl;
+}
+
+-- a process whose task runs is alive, and one whose task has ended, or that has none, isn't
+pub is_dead : (script : Script) (kept : TasksView) (plain : Plain) (pid : ℕ) (task : Task) → StandFor script kept plain → task_of kept.tasks pid ≡ Some task → is_some task.status ≡ true
+    → is_alive plain.table pid ≡ false
+is_dead script kept plain pid task stands is ended =
+    alive_is script kept plain pid stands ∙ ap (λ o. is_alive_in (option_map process_of o)) is ∙ over task.status ended
+  where
+    over : (told : Option ℕ) → is_some told ≡ true → runs (status_of told) ≡ false
+    over None e = cc
+    over (Some status) e = refl
+
+pub is_nobody : (script : Script) (kept : TasksView) (plain : Plain) (pid : ℕ) → StandFor script kept plain → task_of kept.tasks pid ≡ None → is_alive plain.table pid ≡ false
+is_nobody script kept plain pid stands none = alive_is script kept plain pid stands ∙ ap (λ o. is_alive_in (option_map process_of o)) none
+
+-- the call at which it stands is its process's next
+pub next_is : (script : Script) (kept : TasksView) (plain : Plain) (pid : ℕ) (task : Task) → StandFor script kept plain → is_alive plain.table pid ≡ true → task_of kept.tasks pid ≡ Some task
+    → Rests script task.control → program.call_of script task.control ≡ call_of script plain pid
+next_is script kept plain pid task stands alive is rests =
+    let leads = stands.controls pid task is (is_up script kept plain pid task stands alive is) in
+    ap (λ here. call_at here (statement_of script here)) (rests_settled script task.control rests ∙ sym leads)
+
+-- What the heap holds: the tasks and the root's node.
+pub live_is : (script : Script) (kept : TasksView) (world : World) → StandsFor script kept world → live_of world ≡ length kept.tasks * 512 + 128
+live_is script kept world stands =
+    ap (λ account. base world.plain account + cached world.kept) stands.account
+    ∙ ap (λ lists. base world.plain no_account + cached lists) stands.cached
+    ∙ (let many : length kept.tasks ≡ how_many world.plain.table = as_many stands.plain.present in omega arith)
+
+-- everybody works in the root
+pub at_home : (table : Table) (tasks : List Task) → AreFrom 1 table tasks → AllAtHome table
+at_home table tasks are pid process is = go (task_of tasks pid) (sym is ∙ process_is table tasks pid are)
+  where
+    directory_in : Option Process → ℕ
+    directory_in None = root
+    directory_in (Some other) = other.directory
+
+    worked : (o : Option Task) → directory_in (option_map process_of o) ≡ root
+    worked None = refl
+    worked (Some task) = refl
+
+    go : (o : Option Task) → Some process ≡ option_map process_of o → process.directory ≡ root
+    go o e = ap directory_in e ∙ worked o
+
+-- the root's node alone may be kept
+pub may_keep_still : (script : Script) (kept now : TasksView) (world : World) (plain : Plain) → StandsFor script kept world → StandFor script now plain → MayKeep plain world.kept
+may_keep_still script kept now world plain stands goes = subst (MayKeep plain) (sym stands.cached) (root_may_keep plain (at_home plain.table now.tasks goes.present))
+
+-- another machine in the same world
+pub in_world : (script : Script) (kept now : TasksView) (world : World) (plain : Plain) → StandsFor script kept world → StandFor script now plain
+    → StandsFor script now (record world { plain = plain })
+in_world script kept now world plain stands goes = record { plain = goes; account = stands.account; cached = stands.cached; reads = stands.reads }
+
+pub kills_in : (script : Script) (kept now : TasksView) (world : World) (pid : ℕ) → StandsFor script kept world → StandFor script now (die world.plain pid 9)
+    → length now.tasks ≤ length kept.tasks → Kills world pid (record world { plain = die world.plain pid 9 })
+kills_in script kept now world pid stands goes fewer = record {
+  plain = refl;
+  account = refl;
+  may_keep = may_keep_still script kept now world (die world.plain pid 9) stands goes;
+  live = let after_it : live_of (record world { plain = die world.plain pid 9 }) ≡ length now.tasks * 512 + 128 =
+      live_is script now (record world { plain = die world.plain pid 9 }) (in_world script kept now world (die world.plain pid 9) stands goes) in
+      let before : live_of world ≡ length kept.tasks * 512 + 128 = live_is script kept world stands in omega arith;
+  names = omega arith;
+  blocks = omega arith;
+  vnodes = omega arith;
+  reads = omega arith;
+}

@@ -1,8 +1,10 @@
 -- The tasks that a store keeps: the processes that are there.
-use Rattle.std.specs.Prelude.{ℕ, suc, ◌≡◌, ◌==◌, ◌&&◌, ◌||◌, not, ℤ, pos, negsuc, Bool, if◌then◌else◌, List, [], ◌∷◌, filter, map, Option, None, Some, is_some}
+use Rattle.std.specs.Prelude.{ℕ, suc, ◌≡◌, ◌<◌, ◌≤◌, ◌==◌, ◌&&◌, ◌||◌, not, ℤ, pos, negsuc, Bool, false, if◌then◌else◌, List, [], ◌∷◌, filter, map, Option, None, Some, is_some}
+use Rattle.std.specs.List.{AllByRecursion}
 use Rattle.std.specs.Option.{option_map, option_or}
 use Rattle.kabi_types.specs.declared.calls.Call.{Call}
 use Rattle.kabi_types.specs.declared.calls.Call.TheVariants as call
+use Rattle.kabi_types.specs.declared.classes.Weight.{Weight}
 use Rattle.kabi_types.specs.declared.scripts.Control.{Control}
 use Rattle.posix_defs.specs.Process.{Table, Process, Status, Alive, Ended}
 use Rattle.posix_defs.specs.Plain.{root}
@@ -31,6 +33,16 @@ pub data AreFrom : ℕ → Table → List Task → Type 0 where
   there : (first : ℕ) (task : Task) (table : Table) (tasks : List Task) → task.pid ≡ first → AreFrom (suc first) table tasks
       → AreFrom first (Some (process_of task) ∷ table) (task ∷ tasks)
 
+-- pids rise, and are above this one
+abbrev pub AreRising : ℕ → List Task → Type 0
+AreRising below [] = Unit {0}
+AreRising below (task ∷ tasks) = (below < task.pid) × AreRising task.pid tasks
+
+-- The tasks stand by rising pid, and none has a pid above the last that was given.
+pub record AreNumbered (last : ℕ) (tasks : List Task) : Type 0 where
+  pub rising : AreRising 0 tasks
+  pub given : AllByRecursion (λ task. task.pid ≤ last) tasks
+
 -- the first task of that pid
 abbrev pub task_of : List Task → ℕ → Option Task
 task_of [] pid = None
@@ -40,6 +52,11 @@ task_of (task ∷ tasks) pid = if task.pid == pid then Some task else task_of ta
 abbrev pub target_of : List Task → ℤ → Option Task
 target_of tasks (pos pid) = task_of tasks pid
 target_of tasks (negsuc _) = None
+
+-- the first task of that pid hasn't ended
+abbrev pub is_running : List Task → ℕ → Bool
+is_running [] pid = false
+is_running (task ∷ tasks) pid = if task.pid == pid then not (is_some task.status) else is_running tasks pid
 
 -- the task of that pid goes on at another control
 abbrev pub moved_on : ℕ → Control → Task → Task
@@ -73,11 +90,14 @@ stays pid task = (task.pid == pid) || not ((task.parent == pid) && is_some task.
 abbrev pub leave : ℕ → ℕ → List Task → List Task
 leave pid status tasks = filter (stays pid) (map (left pid status) tasks)
 
--- the pid of the last task that runs, but the first process
-abbrev pub last_running : List Task → Option ℕ
-last_running [] = None
-last_running (task ∷ tasks) =
-    option_or (last_running tasks) (if not (is_some task.status) && not (task.pid == 1) then Some task.pid else None)
+-- what a process weighs that holds nothing but itself
+abbrev pub light : ℕ → Weight
+light pid = record { pid = pid; frames = 0; nodes = 0; descs = 0 }
+
+-- the weights of the processes that are alive
+abbrev pub weights_in : List Task → List Weight
+weights_in [] = []
+weights_in (task ∷ tasks) = if is_some task.status then weights_in tasks else light task.pid ∷ weights_in tasks
 
 -- how many processes a call may make
 abbrev pub forks : Call → ℕ

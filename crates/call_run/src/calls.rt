@@ -8,7 +8,7 @@ ghost use Rattle.posix_defs.specs.Ending.{die, exit_status};
 ghost use Rattle.posix_defs.specs.Forking.{fork, is_full};
 ghost use Rattle.posix_defs.specs.Killing.{is_asking, kill, struck};
 ghost use Rattle.posix_defs.specs.Plain.{Plain, answered};
-ghost use Rattle.posix_defs.specs.Machine.{answer_to, machine};
+ghost use Rattle.posix_defs.specs.Machine.{answer_to, blocks, machine};
 ghost use Rattle.posix_defs.specs.Process.{is_alive};
 ghost use Rattle.posix_defs.specs.Waiting.{is_nohang, waitpid};
 ghost use Rattle.posix_defs.specs.declared.turner.Turned.TheVariants as turned;
@@ -39,7 +39,7 @@ fn behind(script: &Script, control: Control, reply: &Reply) -> Control
 {
     let mut next = control;
     prog_ctl::answer(script, &mut next, reply);
-    let _ = prog_ctl::next_call(script, &mut next);
+    prog_ctl::go_to_call(script, &mut next);
     next
 }
 
@@ -238,5 +238,31 @@ pub fn run(script: &Script, tasks: &mut Tasks, task: &Task, call: &Call) -> Turn
     match call.checked() {
         Ok(()) => run_right(script, tasks, task, call),
         Err(errno) => go_on(script, tasks, task.pid, task.control, Reply::Fail(errno)),
+    }
+}
+
+/// Whether a wait for a child would sleep: one that is asked for is there, none has ended, and the caller wants to wait.
+fn would_sleep(tasks: &Tasks, pid: u32, which: i64, options: i64) -> bool
+    ensures { (script : Script) (plain : Plain) → StandFor script tasks.now plain → result ≡ blocks (waitpid script plain pid which options) }
+{
+    if tasks.told(pid, which).is_some() {
+        return false;
+    }
+    if !tasks.has_wanted(pid, which) {
+        return false;
+    }
+    !is_nohang(options)
+}
+
+/// Whether a process's call would block now.
+pub fn would_block(tasks: &Tasks, pid: u32, call: &Call) -> bool
+    ensures { (script : Script) (plain : Plain) → StandFor script tasks.now plain → result ≡ blocks (machine script plain pid call.now) }
+{
+    match call {
+        Call::Waitpid {
+            pid: which,
+            options,
+        } => call.checked().is_ok() && would_sleep(tasks, pid, *which, *options),
+        _ => false,
     }
 }

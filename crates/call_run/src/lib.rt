@@ -3,9 +3,13 @@
 #![tactic(auto)]
 
 mod calls;
+mod store;
 mod tasks;
 #[cfg(test)]
 mod tests;
+mod turns;
+mod victims;
 
-pub use calls::{go_on, run};
+pub use calls::{go_on, run, would_block};
+pub use store::Store;
 pub use tasks::{MOST_TASKS, Task, Tasks, Told};

@@ -1,10 +1,12 @@
 //! The table of tasks: plain code over the processes that are there, at most 64.
 
-ghost use Rattle.std.specs.Prelude.{◌≡◌, ◌≢◌, ◌==◌, ◌+◌, ◌<◌, ◌≤◌, Bool, [], ◌∷◌, ◌++◌, List, None, Some, filter, map, not, length, IfOk, IfSome, is_some, vec_capacity, vec_len};
-ghost use Rattle.std.specs.List.{list_any};
-ghost use Rattle.call_run.specs.Tasks.{TasksView, is_wanted, last_running, leave, left, moved_on, stays, target_of, task_of, told_of};
+ghost use Rattle.std.specs.Prelude.{◌≡◌, ◌≢◌, ◌↔◌, ◌==◌, ◌+◌, ◌<◌, ◌≤◌, Bool, [], ◌∷◌, ◌++◌, List, None, Some, filter, map, not, length, option_copied, IfOk, IfSome, IsNone, is_some, vec_capacity, vec_len};
+ghost use Rattle.std.specs.List.{All, list_any};
+ghost use Rattle.victim_core.specs.Victims.{IsVictim};
+ghost use Rattle.call_run.specs.Tasks.{AreRising, TasksView, is_running, is_wanted, leave, left, moved_on, stays, target_of, task_of, told_of, weights_in};
 
-use kabi_types::{Control, Memory};
+use crate::victims;
+use kabi_types::{Control, Memory, Policy};
 use std::alloc::Global;
 use std::marker::Model;
 
@@ -42,13 +44,13 @@ pub struct Tasks {
 
 impl Model for Tasks {
     ghost use Rattle.std.specs.Prelude.{◌≤◌, length, vec_capacity};
-    ghost use Rattle.call_run.specs.Tasks.{TasksView};
+    ghost use Rattle.call_run.specs.Tasks.{AreNumbered, TasksView};
 
     ghost Value = { TasksView };
 
     ghost view = { λ kept. record { tasks = kept.tasks.items; last = kept.last } };
 
-    ghost invariant = { λ kept. (length kept.tasks.items ≤ 64) × (64 ≤ vec_capacity kept.tasks) };
+    ghost invariant = { λ kept. (length kept.tasks.items ≤ 64) × (64 ≤ vec_capacity kept.tasks) × AreNumbered kept.last kept.tasks.items };
 }
 
 /// Whether the caller of `waitpid`, which may ask for one pid or by -1 for all its children, asks for this task.
@@ -101,13 +103,22 @@ fn leave_all(tasks: &mut Vec<Task>, pid: u32, status: u16)
     }
 }
 
-fn find(tasks: &[Task], pid: u32) -> Option<Task>
-    ensures { result ≡ task_of tasks.now pid }
+/// The task of a pid. Pids rise from 1, so none stands behind the place that its pid numbers, and the search goes down from
+/// there.
+fn find(tasks: &[Task], pid: u32) -> Option<&Task>
+    requires { AreRising 0 tasks.now }
+    ensures { option_copied result ≡ task_of tasks.now pid }
 {
-    for task in tasks {
+    let mut places = tasks.len().min(pid as usize);
+    while places > 0 {
+        let task = &tasks[places - 1];
         if task.pid == pid {
-            return Some(*task);
+            return Some(task);
         }
+        if task.pid < pid {
+            return None;
+        }
+        places -= 1;
     }
     None
 }
@@ -174,10 +185,27 @@ impl Tasks {
     }
 
     /// The process of that pid; None exactly where none is there.
+    pub fn get(&self, pid: u32) -> Option<&Task>
+        ensures { option_copied result ≡ task_of self.now.tasks pid }
+    {
+        find(self.tasks.as_slice(), pid)
+    }
+
+    /// A copy of the process of that pid; None exactly where none is there.
     pub fn find(&self, pid: u32) -> Option<Task>
         ensures { result ≡ task_of self.now.tasks pid }
     {
-        find(self.tasks.as_slice(), pid)
+        self.get(pid).copied()
+    }
+
+    /// Whether the process of that pid is there and has not ended.
+    pub fn runs(&self, pid: u32) -> bool
+        ensures { result ≡ is_running self.now.tasks pid }
+    {
+        match self.get(pid) {
+            Some(task) => task.status.is_none(),
+            None => false,
+        }
     }
 
     /// The process that a call names; None exactly where none is there.
@@ -259,17 +287,12 @@ impl Tasks {
         None
     }
 
-    /// The pid of the youngest process that runs, but the first; all processes weigh the same as long as they hold nothing
-    /// but themselves.
-    pub fn youngest(&self) -> Option<u32>
-        ensures { result ≡ last_running self.now.tasks }
+    /// The process that is killed under this policy, where heap has to be freed; None exactly where none but the first is alive.
+    pub fn victim(&self, policy: Policy) -> Option<u32>
+        ensures none { IsNone result ↔ All (λ w. w.pid ≡ 1) (weights_in self.now.tasks) }
+        ensures victim { IfSome result (IsVictim policy (weights_in self.now.tasks)) }
+        ensures rising { AreRising 0 self.now.tasks }
     {
-        let mut youngest = None;
-        for task in &self.tasks {
-            if task.status.is_none() && task.pid != 1 {
-                youngest = Some(task.pid);
-            }
-        }
-        youngest
+        victims::victim(policy, self.tasks.as_slice())
     }
 }

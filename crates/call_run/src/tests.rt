@@ -1,7 +1,7 @@
 ghost use Rattle.std.specs.Prelude.{◌≡◌, length, IfOk};
 
 use crate::tasks::{Task, Tasks};
-use kabi_types::{Control, Memory};
+use kabi_types::{Control, Memory, Policy};
 use std::alloc::Global;
 use std::test::Fail;
 
@@ -78,11 +78,13 @@ fn the_lowest_ended_child_is_told(rt: HostRuntime) -> Result<(), Fail> {
 #[test]
 fn with_the_first_process_all_end(rt: HostRuntime) -> Result<(), Fail> {
     let mut tasks = three_tasks(rt.alloc())?;
-    assert!(rt; tasks.youngest() == Some(3));
+    assert!(rt; tasks.victim(Policy::Heaviest) == Some(3));
     tasks.end(3, 9);
-    assert!(rt; tasks.youngest() == Some(2));
+    assert!(rt; tasks.victim(Policy::Heaviest) == Some(2));
     tasks.end(1, 0);
-    assert!(rt; tasks.count() == 0 && tasks.last() == 3 && tasks.youngest().is_none());
+    assert!(rt;
+        tasks.count() == 0 && tasks.last() == 3 && tasks.victim(Policy::Heaviest).is_none()
+    );
     Ok(())
 }
 

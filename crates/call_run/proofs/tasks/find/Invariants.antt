@@ -1,7 +1,10 @@
-use Rattle.std.proofs.Common.{◌≡◌, drop}
-use Rattle.call_run.specs.Tasks.{task_of}
+use Rattle.std.proofs.Common.{◌≤◌, length}
+use Rattle.call_run.proofs.Rising.{AllAbove}
 use Rattle.call_run.proofs.tasks.find.Given as goal
 
--- it isn't before the place
-abbrev pub invariant-loop-task : goal.invariant-loop-task
-invariant-loop-task l = task_of (drop l.task-index l.tasks) l.pid ≡ task_of l.tasks l.pid
+-- pids are above it behind these places
+abbrev pub invariant-loop-places : goal.invariant-loop-places
+invariant-loop-places l = (l.places ≤ length l.tasks) × AllAbove l.tasks l.pid l.places
+
+abbrev pub decreases-loop-places : goal.decreases-loop-places
+decreases-loop-places l = l.places

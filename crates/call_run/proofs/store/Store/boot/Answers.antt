@@ -1,0 +1,15 @@
+use Rattle.std.proofs.Common.{◌∙◌, ap, refl, subst, sym}
+use Rattle.std.specs.Prelude.{codes}
+use Rattle.posix_defs.specs.Plain.{place_of}
+use Rattle.posix_defs.specs.ValidScript.{IsValid}
+use Rattle.call_run.proofs.Booting.{boot_stands, booted}
+use Rattle.call_run.proofs.store.Store.boot.Goals as goal
+
+pub go_to_call-requires : goal.go_to_call-requires
+go_to_call-requires c =
+    boot_stands c.in_ok-script.script _ (subst IsValid (sym c.in_ok-script.ensures) c.requires) (c.place_of.ensures ∙ ap (place_of (codes "init")) c.items.ensures) refl
+
+pub returns-clause-booted : goal.returns-clause-booted
+returns-clause-booted c =
+    booted c.args.script.now c.in_ok-script.script c.in_ok-tasks.tasks c.place_of.result c.go_to_call.new.control c.in_ok-script.ensures
+    (c.place_of.ensures ∙ ap (place_of (codes "init")) c.items.ensures) c.go_to_call.ensures.settled c.in_ok-tasks.ensures
