@@ -1,15 +1,13 @@
 -- A space that gets the pages of another one after another.
-use Rattle.std.proofs.Common.{◌≡◌, ◌≢◌, ◌⊎◌, ℕ, zero, suc, ◌+◌, ◌-◌, ◌/◌, ◌%◌, ◌<◌, ◌≤◌, Bool, true, false, cond, is_some, IsSome, List, [], ◌∷◌, ◌++◌, Option, None, Some, length, get_or, refl, sym, ap, ◌∙◌, subst, inl, inr, ⊎_elim, arith}
-use Rattle.std.specs.List.{Contains}
-use Rattle.std.proofs.lemmas.Bool.{cases_lt, cases_eq, eq-eqb, ne_eqb, false≢true, true≢false}
+use Rattle.std.proofs.Common.{◌≡◌, ◌≢◌, ℕ, zero, suc, ◌+◌, ◌-◌, ◌/◌, ◌<◌, ◌≤◌, Bool, true, false, cond, is_some, IsSome, List, [], ◌∷◌, Option, None, Some, get_or, replicate, refl, sym, ap, ◌∙◌, subst, ⊎_elim, arith}
+use Rattle.std.proofs.lemmas.Bool.{cases_eq, false≢true, true≢false}
 use Rattle.kabi_types.specs.declared.classes.Class.TheVariants as class
 use Rattle.kheap_slabs.specs.Counts.{with_count}
-use Rattle.kheap_slabs.specs.Heap.{Heap, IsWellFormed}
-use Rattle.kheap_slabs.specs.Objects.{object}
+use Rattle.kheap_slabs.specs.Heap.{Heap}
+use Rattle.kheap_slabs.specs.Objects.{object, InUse}
 use Rattle.kheap_slabs.specs.Owners.{Owners, with_space, IsOwned}
-use Rattle.kheap_slabs.specs.Purse.{Purse, CanPay, IsPaid, TakesNothing}
-use Rattle.kheap_slabs.specs.Spaces.{is_mapped, keys_in, OwnsNodes, IsCounted, count_at, names_page}
-use Rattle.kheap_slabs.specs.declared.objects.Node.{Node}
+use Rattle.kheap_slabs.specs.Purse.{Purse, IsPaid, TakesNothing}
+use Rattle.kheap_slabs.specs.Spaces.{is_mapped, keys_in, OwnsNodes, count_at, names_page}
 use Rattle.kheap_slabs.specs.declared.objects.Page.{Page}
 use Rattle.kheap_slabs.specs.declared.objects.PageEntry.{PageEntry}
 use Rattle.kheap_slabs.specs.declared.objects.PageEntry.TheVariants as entry
@@ -18,13 +16,25 @@ use Rattle.kheap_slabs.proofs.PaidLemmas.{IsPaid-refl, IsPaid-trans, IsPaid-noth
 use Rattle.page_space.specs.Entries.{key_of, entry_at, PageTurns}
 use Rattle.page_space.specs.Contents.{content_of, content_at, SpaceMoves, IsForked}
 use Rattle.page_space.specs.Frames.{AllNamed, FramesStay}
-use Rattle.page_space.proofs.MoveLemmas.{other_entries, SpaceMoves-turned, content_others}
+use Rattle.page_space.specs.Changes.{OwnForks}
+use Rattle.page_space.proofs.ChangeLemmas.{OwnForks-none, OwnForks-more}
+use Rattle.page_space.proofs.ForkAccount.{AccountForksTo, AccountForksTo-none, AccountForksTo-unmapped, AccountForksTo-more}
+use Rattle.page_space.proofs.MoveLemmas.{counted_used, IsNamed-entry, other_entries, SpaceMoves-turned, content_others}
 use Rattle.page_space.proofs.TurnLemmas.{entry_none}
 
 -- So far the pages up to this one are in the new space, and of its nodes no more are paid for than groups were entered.
 pub record IsForking (old : Heap) (before : Purse) (new : Heap) (after : Purse) (of now : List (Option ℕ)) (page : ℕ) : Type 0 where
   pub forked : IsForked old before new after of now page
   pub left : before.left.node ≤ after.left.node + page / 64 + cond (is_some (key_of now page)) 1 0
+  pub account : AccountForksTo old new of now page
+  pub own : OwnForks old new of now
+
+-- where there is nothing there is nothing at any place
+pub none_there : (n at : ℕ) → get_or {A = Option ℕ} (replicate n None) at None ≡ None
+none_there zero zero = refl
+none_there zero (suc at) = refl
+none_there (suc n) zero = refl
+none_there (suc n) (suc at) = none_there n at
 
 -- nothing is in it yet
 pub IsForking-none : (h : Heap) (purse : Purse) (of empty : List (Option ℕ)) → keys_in empty ≡ [] → ((page : ℕ) → key_of empty page ≡ None)
@@ -40,12 +50,14 @@ IsForking-none h purse of empty none free = record {
     spent = refl;
   };
   left = omega arith;
+  account = AccountForksTo-none h of empty (λ page. entry_none h.nodes empty page (free page));
+  own = OwnForks-none h of empty none;
 }
 
 -- a page that isn't mapped
 pub IsForking-unmapped : (old : Heap) (before : Purse) (mid : Heap) (between : Purse) (of now : List (Option ℕ)) (others : Owners) (page : ℕ) → IsForking old before mid between of now page
-    → IsOwned old (with_space of others) → entry_at mid.nodes of page ≡ entry.Unmapped → IsForking old before mid between of now (page + 1)
-IsForking-unmapped old before mid between of now others page forking owned unmapped = record {
+    → IsOwned old (with_space of others) → page < 256 → entry_at mid.nodes of page ≡ entry.Unmapped → IsForking old before mid between of now (page + 1)
+IsForking-unmapped old before mid between of now others page forking owned low unmapped = record {
   forked = record {
     owners = forking.forked.owners;
     others = forking.forked.others;
@@ -65,6 +77,8 @@ IsForking-unmapped old before mid between of now others page forking owned unmap
       (λ same. omega (arith, forking.left, ap {B = ℕ} (λ g. cond (is_some (get_or now g None)) 1 0) same))
       (λ next. omega (arith, forking.left, at_most (key_of now page)))
       (cases_eq ((page + 1) / 64) (page / 64));
+  account = AccountForksTo-unmapped old mid of now page forking.account low unmapped;
+  own = forking.own;
 }
   where
     at_most : (key : Option ℕ) → cond (is_some key) 1 0 ≤ 1
@@ -99,6 +113,7 @@ module _ (old mid between_heap new : Heap) (before between after : Purse) (of no
     (is : e ≡ entry_at mid.nodes of page) (mapped : is_mapped e ≡ true)
     (counts : (frame : ℕ) → count_at between_heap.pages frame ≡ count_at mid.pages frame + names_page frame e)
     (named : AllNamed mid.pages → AllNamed between_heap.pages) (stay : FramesStay mid.pages between_heap.pages)
+    (rest : (key : ℕ) → names_page key e ≡ 0 → object between_heap.pages key ≡ object mid.pages key)
     (shared : between_heap ≡ record mid { pages = between_heap.pages }) (takes : TakesNothing mid between_heap)
     (turns : PageTurns between_heap.nodes new.nodes now then page entry.Unmapped e)
     (kept : new ≡ record between_heap { nodes = new.nodes; high = new.high }) (paid : IsPaid between_heap between new after)
@@ -150,6 +165,14 @@ module _ (old mid between_heap new : Heap) (before between after : Purse) (of no
       by None none = absurd (false≢true (ap is_mapped (sym (entry_none new.nodes then page none) ∙ turned.after) ∙ mapped))
       by (Some key) some = ap is_some some
 
+  -- the shared page was there and is there
+  named_used : (key : ℕ) → e ≡ entry.Frame key → InUse mid.pages key
+  named_used key same = counted_used mid.pages key (IsNamed-entry mid.nodes mid.pages of page (entry.Frame key) owned_now.pages (sym is ∙ same))
+
+  still_used : (key : ℕ) → e ≡ entry.Frame key → InUse new.pages key
+  still_used key same = counted_used new.pages key
+      (omega (arith, IsNamed-entry mid.nodes mid.pages of page (entry.Frame key) owned_now.pages (sym is ∙ same), counts key, ap (λ pages. count_at pages key) pages_same))
+
   node_count : after.left.node ≡ between.left.node - cond (is_some (key_of now page)) 0 1
   node_count = ap (λ p. p.left.node) spent
 
@@ -188,4 +211,11 @@ module _ (old mid between_heap new : Heap) (before between after : Purse) (of no
         omega (arith, key_there, left_by some (key_of now page) refl))
         (λ next. omega (arith, left_by some (key_of now page) refl))
         (cases_eq ((page + 1) / 64) (page / 64));
+    account = AccountForksTo-more old mid new of now then others page e forking.account below forking.forked.owners owned is turned
+        (λ frame. omega (arith, counts frame, ap (λ pages. count_at pages frame) pages_same))
+        owned_now.pages (let after_moves = moves.owners with_of owned_now in after_moves.pages)
+        (IsNamed-entry mid.nodes mid.pages of page e owned_now.pages (sym is));
+    own = OwnForks-more old mid new of now then page e forking.own (IsOwned-space old others of owned) below turned.keys is
+        (λ key none. ap (λ pages. object pages key) pages_same ∙ rest key none)
+        (λ key same. stays key (named_used key same) (still_used key same));
   }
