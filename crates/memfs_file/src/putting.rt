@@ -1,0 +1,51 @@
+//! Bytes that are written within a node's size.
+
+ghost use Rattle.std.specs.Prelude.{◌≡◌, ℕ, ◌+◌, ◌-◌, ◌*◌, ◌/◌, ◌%◌, ◌^◌, ◌<◌, ◌≤◌, ◌⊎◌, List, length, slice_index, slice_set};
+ghost use Rattle.posix_defs.specs.DiskFormat.{block_size};
+ghost use Rattle.posix_defs.specs.SoundDisk.{block_bytes, HasNode, Sound};
+ghost use Rattle.memfs_file.specs.FileChange.{IsInUse, Puts};
+
+use crate::counts::BLOCK_SIZE;
+use crate::ranges::{block_named, copy_in, covers, pointers_behind};
+use blk_map::data_count;
+use kabi_types::Inode;
+use posix_defs::Blocks;
+
+/// Writes a range of a node's bytes, all of it within the node's size.
+pub fn put_bytes<B: Blocks>(b: &mut B, inode: &Inode, at: u32, bytes: &[u8])
+    requires sound { Sound (B.blocks b.old) }
+    requires node { IsInUse (B.blocks b.old) inode.now }
+    requires some { 0 < length bytes.now }
+    requires within { at + length bytes.now ≤ inode.now.size }
+    ensures puts { (number : ℕ) → HasNode (B.blocks b.old) number inode.now → Puts number (B.blocks b.old) inode.now at bytes.now (B.blocks b.new) }
+    ensures follows { B.follows b.old b.new }
+{
+    let end = data_count(at + bytes.len() as u32);
+    let behind = pointers_behind(b, inode, end);
+    for index in at / BLOCK_SIZE..end {
+        let block = block_named(&inode.direct, &behind, index);
+        put_part(b, block, index, at, bytes);
+    }
+}
+
+/// Writes what a block has of a range of bytes. A block that the range covers is not read.
+fn put_part<B: Blocks>(b: &mut B, number: u32, index: u32, at: u32, bytes: &[u8])
+    requires on_disk { number < length (B.blocks b.old) }
+    requires block { block_size * (index + 1) < 2 ^ 32 }
+    requires before { block_size * index < at + length bytes.now }
+    requires behind { at < block_size * (index + 1) }
+    ensures set { (block : List ℕ) × (B.blocks b.new ≡ slice_set (B.blocks b.old) number block) }
+    ensures here { (place : ℕ) → at ≤ place → place < at + length bytes.now → place / block_size ≡ index
+        → slice_index (block_bytes (B.blocks b.new) number) (place % block_size) ≡ slice_index bytes.now (place - at) }
+    ensures rest { (place : ℕ) → place / block_size ≡ index → (place < at) ⊎ (at + length bytes.now ≤ place)
+        → slice_index (block_bytes (B.blocks b.new) number) (place % block_size) ≡ slice_index (block_bytes (B.blocks b.old) number) (place % block_size) }
+    ensures follows { B.follows b.old b.new }
+{
+    let mut block = if covers(index, at, bytes.len()) {
+        [0; 1024]
+    } else {
+        b.get(number)
+    };
+    copy_in(&mut block, index, at, bytes);
+    b.set(number, &block);
+}
