@@ -1,7 +1,7 @@
 -- How many blocks a node is given that grows.
 use Rattle.std.proofs.Common.{◌≡◌, ℕ, ◌+◌, ◌-◌, ◌<◌, ◌≤◌, ◌⊎◌, inl, inr, arith}
 use Rattle.std.proofs.lemmas.Bool.{cases_lt}
-use Rattle.posix_defs.specs.DiskFormat.{data_blocks, pointer_blocks, blocks_of}
+use Rattle.posix_defs.specs.DiskFormat.{data_blocks, blocks_of}
 use Rattle.posix_defs.proofs.FreeBlocks.{one_for_pointers, none_for_pointers}
 
 -- a block of pointers more, where it has none and needs one

@@ -1,7 +1,6 @@
 -- Free blocks that are found one after another.
-use Rattle.std.proofs.Common.{◌≡◌, ◌≢◌, ℕ, zero, suc, ◌+◌, ◌-◌, ◌<◌, ◌≤◌, Bool, true, false, not, cond, eqb, ◌⊎◌, inl, inr, List, length, get_or, set, count_by, refl, sym, ap, subst, ◌∙◌, arith}
-use Rattle.std.specs.List.{range_with_len}
-use Rattle.std.proofs.lemmas.Bool.{cases_lt, cases_eq, eq-eqb, ne_eqb}
+use Rattle.std.proofs.Common.{◌≡◌, ◌≢◌, ℕ, zero, suc, ◌+◌, ◌-◌, ◌<◌, ◌≤◌, Bool, not, eqb, ◌⊎◌, inl, inr, List, length, get_or, set, refl, sym, ap, subst, ◌∙◌, arith}
+use Rattle.std.proofs.lemmas.Bool.{cases_eq, eq-eqb, ne_eqb}
 use Rattle.std.proofs.lemmas.List.{get_or-set_same, get_or-set_other}
 use Rattle.posix_defs.specs.SoundDisk.{bit_of}
 use Rattle.posix_defs.proofs.FreeBlocks.{numbers, one, numbers-suc}
@@ -26,7 +25,8 @@ numbers_grow p n (suc m) =
     let same : numbers p 0 (n + suc m) ≡ numbers p 0 (suc (n + m)) = ap (λ (k : ℕ). numbers p 0 k) at in
     omega (arith, same, numbers_end p 0 (n + m), numbers_grow p n m)
 
-free_end : (map : List ℕ) (n : ℕ) → free_below map (n + 1) ≡ free_below map n + one (not (eqb (bit_of map n) 1))
+-- one number more is one free block more, or none
+pub free_end : (map : List ℕ) (n : ℕ) → free_below map (n + 1) ≡ free_below map n + one (not (eqb (bit_of map n) 1))
 free_end map n =
     let at : n + 1 ≡ suc n = omega arith in
     let here : 0 + n ≡ n = omega arith in

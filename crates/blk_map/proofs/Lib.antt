@@ -1,3 +1,4 @@
+pub mod AndBack
 pub mod Blocks
 pub mod Counted
 pub mod Finding

@@ -1,12 +1,12 @@
 -- A free node that is made an empty file.
-use Rattle.std.proofs.Common.{◌≡◌, ◌≢◌, ℕ, ◌+◌, ◌*◌, ◌/◌, ◌<◌, ◌≤◌, inl, inr, List, length, get_or, replicate, refl, sym, ap, ◌∙◌, arith}
+use Rattle.std.proofs.Common.{◌≡◌, ◌≢◌, ℕ, ◌-◌, ◌*◌, ◌<◌, ◌≤◌, inl, inr, List, length, get_or, replicate, refl, sym, ap, ◌∙◌, arith}
 use Rattle.std.proofs.lemmas.Bool.{cases_lt}
 use Rattle.std.proofs.lemmas.List.{get_or-replicate, get_or_past, length-replicate}
 use Rattle.kabi_types.specs.declared.inodes.Inode.{Inode}
-use Rattle.posix_defs.specs.DiskFormat.{block_size, table_end, IsInode, inode_bytes}
-use Rattle.posix_defs.specs.SoundDisk.{block_bytes, table_block, slot_bytes, table_bytes, HasInode, Place, Data, Pointers, HasPlace, bit_of, IsMarked, Sound}
-use Rattle.posix_defs.specs.NodeChange.{Names, Replaces}
-use Rattle.posix_defs.proofs.OneNode.{stays_sound, this_has}
+use Rattle.posix_defs.specs.DiskFormat.{block_size, IsInode, inode_bytes}
+use Rattle.posix_defs.specs.SoundDisk.{block_bytes, table_block, table_slot, slot_bytes, table_bytes, HasInode, Place, Data, Pointers, HasPlace, bit_of, Sound}
+use Rattle.posix_defs.specs.NodeChange.{Replaces}
+use Rattle.posix_defs.proofs.OneNode.{stays_sound, this_has, changes_node}
 use Rattle.blk_map.proofs.Blocks.{in_table}
 use Rattle.blk_map.proofs.Inodes.{pointer_is}
 
@@ -34,7 +34,7 @@ takes_none : (size : ℕ) → size ≡ 0 → (place : Place) → ¬ (HasPlace si
 takes_none size e (Data index) = λ lt. omega (arith, e, lt)
 takes_none size e Pointers = λ lt. omega (arith, e, lt)
 
-replaces : (number : ℕ) (before after : List (List ℕ)) (old : Inode) → Sound before → HasInode before number old → old.size ≡ 0 → length after ≡ length before → table_bytes after number ≡ inode_bytes empty_file
+pub replaces : (number : ℕ) (before after : List (List ℕ)) (old : Inode) → Sound before → HasInode before number old → old.size ≡ 0 → length after ≡ length before → table_bytes after number ≡ inode_bytes empty_file
     → ((node : ℕ) → 0 < node → node ≢ number → table_bytes after node ≡ table_bytes before node) → ((block : ℕ) → block ≢ table_block number → block_bytes after block ≡ block_bytes before block)
     → Replaces number before old after empty_file
 replaces number before after old sound had empty count slot slots others =
@@ -59,13 +59,20 @@ replaces number before after old sound had empty count slot slots others =
 
 pub new_file : (number : ℕ) (before after : List (List ℕ)) (old : Inode) → Sound before → HasInode before number old → old.size ≡ 0 → length after ≡ length before → table_bytes after number ≡ inode_bytes empty_file
     → ((node : ℕ) → 0 < node → node ≢ number → table_bytes after node ≡ table_bytes before node) → ((block : ℕ) → block ≢ table_block number → block_bytes after block ≡ block_bytes before block)
-    → Sound after × HasInode after number empty_file
+    → Sound after × HasInode after number empty_file × ((node : ℕ) (other : Inode) → node ≢ number → HasInode before node other → HasInode after node other)
 new_file number before after old sound had empty count slot slots others =
     let change = replaces number before after old sound had empty count slot slots others in
-    (stays_sound number before old after empty_file sound change, this_has number before old after empty_file change)
+    (stays_sound number before old after empty_file sound change, this_has number before old after empty_file change, (changes_node number before old after empty_file sound change).inodes)
 
--- what the second slot of the table has is the inode of node 2
-pub in_slot : (disk : List (List ℕ)) (inode : Inode) (block : List ℕ) → Sound disk → IsInode (length disk) inode → block_bytes disk 1 ≡ block → slot_bytes block 1 ≡ inode_bytes inode → HasInode disk 2 inode
+-- what a slot of the first block of the table has is the inode of its node
+pub in_slot : (disk : List (List ℕ)) (number : ℕ) (inode : Inode) (block : List ℕ) → Sound disk → 0 < number → number ≤ 16 → IsInode (length disk) inode → block_bytes disk 1 ≡ block
+    → slot_bytes block (number - 1) ≡ inode_bytes inode → HasInode disk number inode
 unfolding table_bytes
-in_slot disk inode block sound valid is bytes =
-    record { number = (omega arith, omega (arith, sound.size.0)); valid = valid; bytes = ap (λ (b : List ℕ). slot_bytes b 1) is ∙ bytes }
+in_slot disk number inode block sound pos low valid is bytes =
+    let first : table_block number ≡ 1 = omega (arith, pos, low) in
+    let slot : table_slot number ≡ number - 1 = omega (arith, pos, low) in
+    record {
+      number = (pos, omega (arith, low, sound.size.0));
+      valid = valid;
+      bytes = ap (λ (n : ℕ). slot_bytes (block_bytes disk n) (table_slot number)) first ∙ ap (λ (b : List ℕ). slot_bytes b (table_slot number)) is ∙ ap (λ (n : ℕ). slot_bytes block n) slot ∙ bytes;
+    }

@@ -1,15 +1,12 @@
 -- The blocks of a node as the calls have them in hand: the pointers of its inode, and those of its block of pointers.
-use Rattle.std.specs.Prelude.{ℕ, ◌-◌, ◌<◌, ◌≡◌, ◌⊎◌, ◌%◌, List, [], ◌∷◌, slice_index, nat_lt, cond}
+use Rattle.std.specs.Prelude.{ℕ, ◌-◌, ◌≡◌, ◌⊎◌, ◌%◌, List, [], ◌∷◌, slice_index, nat_lt, cond}
 use Rattle.kabi_types.specs.declared.inodes.Inode.{Inode}
 use Rattle.posix_defs.specs.DiskFormat.{direct_pointers}
+use Rattle.posix_defs.specs.Tree.{directory}
 
 -- the kind of a file
 abbrev pub file : ℕ
 file = 1
-
--- the kind of a directory
-abbrev pub directory : ℕ
-directory = 2
 
 -- what may grow and shrink: a file, and a directory by whole entries
 abbrev pub MayHaveSize : ℕ → ℕ → Type 0

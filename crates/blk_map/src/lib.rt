@@ -7,6 +7,7 @@
 mod counts;
 mod found;
 mod growing;
+mod laws;
 mod locating;
 mod naming;
 mod settling;
@@ -14,6 +15,8 @@ mod shrinking;
 #[cfg(test)]
 mod tests;
 
+pub use counts::{DIRECT_POINTERS, block_count, data_count};
 pub use growing::grow;
+pub use laws::growing_and_shrinking_back_changes_nothing;
 pub use locating::block_at;
 pub use shrinking::shrink;

@@ -1,5 +1,6 @@
-ghost use Rattle.std.specs.Prelude.{◌≡◌, IfSome};
-ghost use Rattle.posix_defs.specs.SoundDisk.{HasNode, Sound};
+ghost use Rattle.std.specs.Prelude.{◌≡◌, ◌≢◌, ℕ, ◌<◌, ◌≤◌, IfSome};
+ghost use Rattle.kabi_types.specs.declared.inodes.Inode.{Inode};
+ghost use Rattle.posix_defs.specs.SoundDisk.{HasInode, HasNode, Sound};
 
 use crate::counts::data_count;
 use crate::settling::put_in_table;
@@ -42,13 +43,15 @@ impl Blocks for Counting {
     }
 }
 
-/// An empty file as node 2, where that is free.
-fn make_file(b: &mut Counting) -> Option<Inode>
-    requires { Sound b.old.disk.blocks }
-    ensures { IfSome result (λ inode. Sound b.new.disk.blocks × HasNode b.new.disk.blocks 2 inode × (inode.kind ≡ 1)) }
+/// An empty file as a node of the first block of the table, where that is free.
+fn make_file(b: &mut Counting, number: u32) -> Option<Inode>
+    requires sound { Sound b.old.disk.blocks }
+    requires first { (0 < number) × (number ≤ 16) }
+    ensures made { IfSome result (λ inode. Sound b.new.disk.blocks × HasNode b.new.disk.blocks number inode × (inode.kind ≡ 1)) }
+    ensures others { (node : ℕ) (other : Inode) → node ≢ number → HasInode b.old.disk.blocks node other → HasInode b.new.disk.blocks node other }
 {
     let table = b.get(1);
-    let Ok(free) = inode_in(&table, 1, b.count()) else {
+    let Ok(free) = inode_in(&table, number - 1, b.count()) else {
         return None;
     };
     if free.kind != 0 {
@@ -61,23 +64,24 @@ fn make_file(b: &mut Counting) -> Option<Inode>
         direct: [0; 10],
         indirect: 0,
     };
-    put_in_table(b, 2, &file);
+    put_in_table(b, number, &file);
     Some(file)
 }
 
-/// Gives node 2 another size, whichever way that is.
-fn resize(b: &mut Counting, inode: &mut Inode, size: u32) -> Result<(), Errno>
+/// Gives a file another size, whichever way that is.
+fn resize(b: &mut Counting, number: u32, inode: &mut Inode, size: u32) -> Result<(), Errno>
     requires sound { Sound b.old.disk.blocks }
-    requires node { HasNode b.old.disk.blocks 2 inode.old }
+    requires node { HasNode b.old.disk.blocks number inode.old }
     requires kind { inode.old.kind ≡ 1 }
     ensures sound { Sound b.new.disk.blocks }
-    ensures node { HasNode b.new.disk.blocks 2 inode.new }
+    ensures node { HasNode b.new.disk.blocks number inode.new }
     ensures kind { inode.new.kind ≡ 1 }
+    ensures others { (node : ℕ) (other : Inode) → node ≢ number → HasInode b.old.disk.blocks node other → HasInode b.new.disk.blocks node other }
 {
     if size >= inode.size {
-        return grow(b, 2, inode, size);
+        return grow(b, number, inode, size);
     }
-    shrink(b, 2, inode, size);
+    shrink(b, number, inode, size);
     Ok(())
 }
 
@@ -97,9 +101,9 @@ fn free_count(b: &mut Counting) -> u32
 }
 
 /// The block that has the bytes from `index` blocks on; None behind the node's end.
-fn look(b: &mut Counting, inode: &Inode, index: u32) -> Option<u32>
+fn look(b: &mut Counting, number: u32, inode: &Inode, index: u32) -> Option<u32>
     requires sound { Sound b.old.disk.blocks }
-    requires node { HasNode b.old.disk.blocks 2 inode.now }
+    requires node { HasNode b.old.disk.blocks number inode.now }
     ensures { b.new.disk.blocks ≡ b.old.disk.blocks }
 {
     if index >= data_count(inode.size) {
@@ -108,20 +112,22 @@ fn look(b: &mut Counting, inode: &Inode, index: u32) -> Option<u32>
     Some(block_at(b, inode, index))
 }
 
-/// A size for the file, what is answered, how many blocks were read and written for it, and how many are free then.
+/// A size for a file, what is answered, how many blocks were read and written for it, and how many are free then.
 type Row = (u32, Result<(), Errno>, u64, u64, u32);
 
 /// Whether each row is as it says, one after another.
-fn check_sizes(rt: &impl Abort, b: &mut Counting, inode: &mut Inode, rows: &[Row])
+fn check_sizes(rt: &impl Abort, b: &mut Counting, number: u32, inode: &mut Inode, rows: &[Row])
     requires sound { Sound b.old.disk.blocks }
-    requires node { HasNode b.old.disk.blocks 2 inode.old }
+    requires node { HasNode b.old.disk.blocks number inode.old }
     requires kind { inode.old.kind ≡ 1 }
     ensures sound { Sound b.new.disk.blocks }
-    ensures node { HasNode b.new.disk.blocks 2 inode.new }
+    ensures node { HasNode b.new.disk.blocks number inode.new }
+    ensures kind { inode.new.kind ≡ 1 }
+    ensures others { (node : ℕ) (other : Inode) → node ≢ number → HasInode b.old.disk.blocks node other → HasInode b.new.disk.blocks node other }
 {
     for (size, answer, gets, sets, free) in rows {
         let (got, put) = (b.disk.reads(), b.sets);
-        assert!(rt; resize(b, inode, *size) == *answer, "size {size}");
+        assert!(rt; resize(b, number, inode, *size) == *answer, "size {size}");
         assert!(rt;
             b.disk.reads().saturating_sub(got) == *gets,
             "gets for size {size}"
@@ -151,8 +157,8 @@ const ON_16_BLOCKS: &[Row] = &[
 fn sizes_on_16_blocks(rt: HostRuntime) -> Result<(), Fail> {
     let disk = RamDisk::boot(rt.alloc(), 16)?;
     let mut b = Counting { disk, sets: 0 };
-    let mut inode = make_file(&mut b).ok_or("node 2 is free")?;
-    check_sizes(&rt, &mut b, &mut inode, ON_16_BLOCKS);
+    let mut inode = make_file(&mut b, 2).ok_or("node 2 is free")?;
+    check_sizes(&rt, &mut b, 2, &mut inode, ON_16_BLOCKS);
     Ok(())
 }
 
@@ -172,8 +178,8 @@ const ON_4096_BLOCKS: &[Row] = &[
 fn sizes_on_4096_blocks(rt: HostRuntime) -> Result<(), Fail> {
     let disk = RamDisk::boot(rt.alloc(), 4096)?;
     let mut b = Counting { disk, sets: 0 };
-    let mut inode = make_file(&mut b).ok_or("node 2 is free")?;
-    check_sizes(&rt, &mut b, &mut inode, ON_4096_BLOCKS);
+    let mut inode = make_file(&mut b, 2).ok_or("node 2 is free")?;
+    check_sizes(&rt, &mut b, 2, &mut inode, ON_4096_BLOCKS);
     Ok(())
 }
 
@@ -184,19 +190,50 @@ const TWELVE_BLOCKS: &[Row] = &[(12288, Ok(()), 2, 15, 0)];
 fn blocks_of_a_file(rt: HostRuntime) -> Result<(), Fail> {
     let disk = RamDisk::boot(rt.alloc(), 16)?;
     let mut b = Counting { disk, sets: 0 };
-    let mut inode = make_file(&mut b).ok_or("node 2 is free")?;
-    check_sizes(&rt, &mut b, &mut inode, TWELVE_BLOCKS);
+    let mut inode = make_file(&mut b, 2).ok_or("node 2 is free")?;
+    check_sizes(&rt, &mut b, 2, &mut inode, TWELVE_BLOCKS);
     let before = b.disk.reads();
-    assert!(rt; look(&mut b, &inode, 0) == Some(3));
-    assert!(rt; look(&mut b, &inode, 9) == Some(12));
+    assert!(rt; look(&mut b, 2, &inode, 0) == Some(3));
+    assert!(rt; look(&mut b, 2, &inode, 9) == Some(12));
     assert!(rt; b.disk.reads() == before, "the first ten cost nothing");
-    assert!(rt; look(&mut b, &inode, 10) == Some(13));
-    assert!(rt; look(&mut b, &inode, 11) == Some(14));
+    assert!(rt; look(&mut b, 2, &inode, 10) == Some(13));
+    assert!(rt; look(&mut b, 2, &inode, 11) == Some(14));
     assert!(rt;
         b.disk.reads().saturating_sub(before) == 2,
         "each other one a get"
     );
-    assert!(rt; look(&mut b, &inode, 12).is_none());
+    assert!(rt; look(&mut b, 2, &inode, 12).is_none());
     assert!(rt; inode.indirect == 15);
+    Ok(())
+}
+
+const ONE_BLOCK_OF_13: &[Row] = &[(1024, Ok(()), 2, 3, 12)];
+
+const ONE_BLOCK_OF_12: &[Row] = &[(1024, Ok(()), 2, 3, 11)];
+
+const THE_OTHER_ELEVEN: &[Row] = &[(11264, Ok(()), 2, 13, 0)];
+
+const NO_BLOCK: &[Row] = &[(0, Ok(()), 2, 2, 1)];
+
+const THE_LAST_FREE_BLOCK: &[Row] = &[
+    (13312, Err(Errno::ENOSPC), 1, 0, 1),
+    (12288, Ok(()), 3, 4, 0),
+];
+
+/// The second file has block 4 between the blocks of the first one, gives it up, and the first one takes it.
+#[test]
+fn a_block_is_free_in_the_middle(rt: HostRuntime) -> Result<(), Fail> {
+    let disk = RamDisk::boot(rt.alloc(), 16)?;
+    let mut b = Counting { disk, sets: 0 };
+    let mut first = make_file(&mut b, 2).ok_or("node 2 is free")?;
+    let mut second = make_file(&mut b, 3).ok_or("node 3 is free")?;
+    check_sizes(&rt, &mut b, 2, &mut first, ONE_BLOCK_OF_13);
+    check_sizes(&rt, &mut b, 3, &mut second, ONE_BLOCK_OF_12);
+    check_sizes(&rt, &mut b, 2, &mut first, THE_OTHER_ELEVEN);
+    check_sizes(&rt, &mut b, 3, &mut second, NO_BLOCK);
+    check_sizes(&rt, &mut b, 2, &mut first, THE_LAST_FREE_BLOCK);
+    assert!(rt; look(&mut b, 2, &first, 0) == Some(3));
+    assert!(rt; look(&mut b, 2, &first, 1) == Some(5));
+    assert!(rt; look(&mut b, 2, &first, 11) == Some(4));
     Ok(())
 }

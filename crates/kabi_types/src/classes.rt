@@ -61,7 +61,7 @@ pub struct Need {
 }
 
 /// What a process weighs where a victim is chosen.
-#[derive(Clone, Copy, Debug, PartialEq, Eq)]
+#[derive(Clone, Copy, Debug, Default, PartialEq, Eq)]
 pub struct Weight {
     pub pid: u32,
     /// How many of its page entries name a frame.

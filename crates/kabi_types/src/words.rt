@@ -58,7 +58,17 @@ impl CallKind {
         ensures { result ≡ is_built self }
     {
         match self {
-            CallKind::Getpid | CallKind::Getppid | CallKind::SchedYield | CallKind::Exit => true,
+            CallKind::Getpid
+            | CallKind::Getppid
+            | CallKind::SchedYield
+            | CallKind::Fork
+            | CallKind::Exit
+            | CallKind::Waitpid
+            | CallKind::Kill
+            | CallKind::Mmap
+            | CallKind::Munmap
+            | CallKind::Store
+            | CallKind::Load => true,
             _ => false,
         }
     }

@@ -1,3 +1,13 @@
 pub mod NextRun
-pub mod EnabledLoop
 pub mod PickedRuns
+pub mod TaskPlaces
+pub mod TurnLeads
+pub mod Victims
+pub mod RoomFits
+pub mod OtherEvents
+pub mod TaskLoops
+pub mod Defaults
+pub mod ReliefSteps
+pub mod SampleSteps
+pub mod CalmTurns
+pub mod HeapBounds

@@ -1,17 +1,20 @@
 -- A run that goes by the rule of choice.
-use Rattle.std.proofs.Common.{◌≡◌, ℕ, zero, suc, ◌+◌, List, [], ◌∷◌, ◌++◌, length, Option, None, Some, refl, ap, sym, ◌∙◌, subst, arith, length-append}
+use Rattle.std.proofs.Common.{◌≡◌, ℕ, zero, suc, ◌+◌, ◌<◌, if◌then◌else◌, Bool, true, false, List, [], ◌∷◌, ◌++◌, filter, length, Option, None, Some, IsSome, IsNone, slice_get, refl, ap, sym, ◌∙◌, subst, arith, length-append}
+use Rattle.kabi_types.specs.declared.entries.End.{End}
 use Rattle.kabi_types.specs.declared.entries.Event.{Event}
 use Rattle.kabi_types.specs.declared.entries.Noted.{Noted}
 use Rattle.kabi_types.specs.declared.scripts.Chooser.{Chooser}
 use Rattle.kabi_types.specs.declared.scripts.Script.{Script}
 use Rattle.posix_defs.specs.World.{World}
-use Rattle.posix_defs.specs.CoreState.{CoreState, boot_state}
+use Rattle.posix_defs.specs.CoreState.{CoreState, boot_state, some_wait_in_vain}
+use Rattle.posix_defs.specs.SoundTasks.{IsSound}
 use Rattle.posix_defs.specs.Ends.{end_of}
-use Rattle.posix_defs.specs.Choice.{chosen, named_by}
+use Rattle.posix_defs.specs.Choice.{asks_nothing, chosen, default_of, enabled_in, named_by}
 use Rattle.posix_defs.specs.Generator.{next_state, state_after}
 use Rattle.posix_defs.specs.CoreRun.{IsPickedRun, boots, goes_on}
 use Rattle.posix_defs.proofs.Picking.{named_is_enabled}
-use Rattle.kern_core.specs.View.{CoreView, IsAt, HasBooted, HasPicked, Took}
+use Rattle.posix_defs.proofs.Sounds.{is_sound}
+use Rattle.kern_core.specs.View.{CoreView, IsAt, CanTake, HasBooted, HasEnded, HasPicked, MayTake, Took}
 use Rattle.kern_core.specs.declared.choosing.Choosing.{Choosing}
 use Rattle.kern_core.specs.Choosing.{given}
 
@@ -45,17 +48,53 @@ picked_boot stands_for script core booted = record {
 -- the run is one event longer
 pub picked_more : {T : Type 0} (stands_for : T → World → Type 0) (script : Script) (old new : CoreView T) (event : Event) (noted : Noted) (number : Option ℕ)
     → HasPicked stands_for script old → number ≡ chosen script.chooser (length old.run + 1)
-    → ((s : CoreState) → IsAt stands_for old s → end_of script old.steps (length old.run) s ≡ None)
-    → ((s : CoreState) → IsAt stands_for old s → named_by number script s ≡ Some event)
+    → ((s : CoreState) → IsAt stands_for old s → IsSound script s → end_of script old.steps (length old.run) s ≡ None)
+    → ((s : CoreState) → IsAt stands_for old s → IsSound script s → named_by number script s ≡ Some event)
     → Took stands_for script old event noted new → HasPicked stands_for script new
 picked_more stands_for script old new event noted number before chooses no_end names took =
-    let named = names before.state before.is_at in
-    let led = took.leads before.state before.is_at (named_is_enabled script before.state event number named) in
+    let sound = is_sound before.runs in
+    let named = names before.state before.is_at sound in
+    let led = took.leads before.state before.is_at (named_is_enabled script before.state event number sound named) sound in
     let picked = ap (λ n. named_by n script before.state) (sym chooses) ∙ named ∙ ap Some (sym took.taken) in
     record {
       state = led.0;
       is_at = led.1;
       runs = subst (λ run. IsPickedRun script new.steps run led.0) (sym took.run)
           (subst (λ steps. IsPickedRun script steps (old.run ++ noted ∷ []) led.0) (sym took.steps)
-          (goes_on old.run before.state led.0 noted before.runs (no_end before.state before.is_at) picked led.2));
+          (goes_on old.run before.state led.0 noted before.runs (no_end before.state before.is_at sound) picked led.2));
     }
+
+first_of : (events : List Event) (frees : Bool) → IsSome (slice_get (if frees then filter asks_nothing events else events) 0) → 0 < length events
+first_of [] true some = absurd (cc)
+first_of [] false some = absurd (cc)
+first_of (event ∷ events) frees some = omega arith
+
+-- where there is a default some event is enabled
+pub has_some : (script : Script) (s : CoreState) → IsSome (default_of script s) → 0 < length (enabled_in script s)
+has_some script s some = first_of (enabled_in script s) (some_wait_in_vain script s) some
+
+-- where no end stands an answer that needs one is an event
+pub not_none : (answer : Option Event) {end : Option End} → end ≡ None → (IsNone answer → IsSome end) → IsSome answer
+not_none (Some event) none ends = refl
+not_none None none ends = let some = ends refl in let same = subst IsSome none some in cc
+
+-- an event that can be taken may be, where no end stands
+pub may_take : {T : Type 0} (stands_for : T → World → Type 0) (script : Script) (core : CoreView T) (event : Event) → CanTake stands_for script core event
+    → ((s : CoreState) → IsAt stands_for core s → IsSound script s → end_of script core.steps (length core.run) s ≡ None) → MayTake stands_for script core event
+may_take stands_for script core event can no_end = record {
+  state = can.state;
+  is_at = can.is_at;
+  runs = can.runs;
+  enabled = can.enabled;
+  no_end = no_end can.state can.is_at (is_sound can.runs);
+}
+
+-- the run has ended, and went by the rule of choice
+pub has_ended : {T : Type 0} (stands_for : T → World → Type 0) (script : Script) (core : CoreView T) (end : End) → HasPicked stands_for script core
+    → ((s : CoreState) → IsAt stands_for core s → IsSound script s → Some end ≡ end_of script core.steps (length core.run) s) → HasEnded stands_for script core end
+has_ended stands_for script core end picked ends = record {
+  state = picked.state;
+  is_at = picked.is_at;
+  runs = picked.runs;
+  ends = sym (ends picked.state picked.is_at (is_sound picked.runs));
+}

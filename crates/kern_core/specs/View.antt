@@ -1,26 +1,32 @@
 -- What contracts see of a core, and the state that it is in.
-use Rattle.std.specs.Prelude.{ℕ, ◌≡◌, ◌+◌, ◌<◌, ◌≤◌, List, [], ◌∷◌, ◌++◌, length, None, Some, IsSome}
+use Rattle.std.specs.Prelude.{ℕ, ◌≡◌, true, ◌+◌, ◌<◌, ◌≤◌, List, [], ◌∷◌, ◌++◌, length, None, Some, IsSome, slice_get}
 use Rattle.kabi_types.specs.declared.entries.End.{End}
 use Rattle.kabi_types.specs.declared.entries.Event.{Event}
+use Rattle.kabi_types.specs.declared.entries.Event.TheVariants.{Turn, Evict, Kill}
 use Rattle.kabi_types.specs.declared.entries.Noted.{Noted}
 use Rattle.kabi_types.specs.declared.scripts.Script.{Script}
-use Rattle.posix_defs.specs.declared.phases.Phase.{Phase}
+use Rattle.posix_defs.specs.declared.phases.Asked.{Asked}
+use Rattle.posix_defs.specs.declared.turner.Turned.{Turned}
+use Rattle.posix_defs.specs.declared.turner.Turned.TheVariants as turned
+use Rattle.posix_defs.specs.Process.{is_alive}
+use Rattle.posix_defs.specs.declared.phases.Task.{Task}
 use Rattle.posix_defs.specs.Sizes.{fixed}
 use Rattle.posix_defs.specs.World.{World}
-use Rattle.posix_defs.specs.CoreState.{CoreState, charged_in, boot_state}
+use Rattle.posix_defs.specs.CoreState.{CoreState, asked_by, charged_in, boot_state, reserved_in}
+use Rattle.posix_defs.specs.SoundTasks.{IsSound}
 use Rattle.posix_defs.specs.CoreEvent.{Steps}
 use Rattle.posix_defs.specs.Ends.{end_of}
 use Rattle.posix_defs.specs.Enabled.{IsEnabled}
 use Rattle.posix_defs.specs.Choice.{default_of}
 use Rattle.posix_defs.specs.CoreRun.{IsCoreRun, IsPickedRun, peak_of}
 
--- a core: its store, the number of events that it may take, the events taken, the phases of all processes ever made,
--- what is reserved, charged and was charged at most, in bytes
+-- a core: its store, the number of events that it may take, the events taken, the tasks, what is reserved, charged and was
+-- charged at most, in bytes
 pub record CoreView (T : Type 0) : Type 0 where
   pub store : T
   pub steps : ℕ
   pub run : List Noted
-  pub phases : List Phase
+  pub tasks : List Task
   pub reserved : ℕ
   pub charged : ℕ
   pub peak : ℕ
@@ -28,8 +34,8 @@ pub record CoreView (T : Type 0) : Type 0 where
 -- The core is in this state: its store stands for the state's world, and its numbers are the state's.
 pub record IsAt {T : Type 0} (stands_for : T → World → Type 0) (core : CoreView T) (s : CoreState) : Type 0 where
   pub stands : stands_for core.store s.world
-  pub phases : s.phases ≡ core.phases
-  pub reserved : s.reserved ≡ core.reserved
+  pub tasks : s.tasks ≡ core.tasks
+  pub reserved : reserved_in s.tasks ≡ core.reserved
   pub charged : charged_in s ≡ core.charged
 
 -- A run of the script, from boot, has led to the state that the core is in, and the greatest charge of it is kept.
@@ -63,13 +69,21 @@ pub record MayTake {T : Type 0} (stands_for : T → World → Type 0) (script : 
   pub enabled : IsEnabled script state event
   pub no_end : end_of script core.steps (length core.run) state ≡ None
 
--- The event was taken: from each state in which it was enabled and no end held, to a state that it leads to.
+-- The event was taken: from each sound state in which it was enabled and no end held, to a state that it leads to.
 pub record Took {T : Type 0} (stands_for : T → World → Type 0) (script : Script) (old : CoreView T) (event : Event) (noted : Noted) (new : CoreView T) : Type 0 where
   pub steps : new.steps ≡ old.steps
   pub taken : noted.event ≡ event
   pub run : new.run ≡ old.run ++ noted ∷ []
-  pub leads : (s : CoreState) → IsAt stands_for old s → IsEnabled script s event
+  pub leads : (s : CoreState) → IsAt stands_for old s → IsEnabled script s event → IsSound script s
       → (t : CoreState) × IsAt stands_for new t × Steps script s noted t
+
+-- At no moment of a turn, of an eviction or of a kill did the heap in use and what is reserved for all other calls together
+-- pass the heap.
+abbrev pub StaysInside : Event → ℕ → ℕ → ℕ → Type 0
+StaysInside (Turn pid) high reserved heap = high + reserved ≤ heap
+StaysInside (Evict what) high reserved heap = high + reserved ≤ heap
+StaysInside (Kill pid) high reserved heap = high + reserved ≤ heap
+StaysInside _ high reserved heap = Unit {0}
 
 -- nothing has happened yet
 pub record HasBooted {T : Type 0} (stands_for : T → World → Type 0) (script : Script) (core : CoreView T) : Type 0 where
@@ -89,12 +103,29 @@ pub record HasPicked {T : Type 0} (stands_for : T → World → Type 0) (script 
   pub is_at : IsAt stands_for core state
   pub runs : IsPickedRun script core.steps core.run state
 
--- What a core keeps beside what contracts see: its room for events, and the limits of its numbers.
-pub record IsKept {T : Type 0} (stands_for : T → World → Type 0) (script : Script) (core : CoreView T) (heap run_room : ℕ) : Type 0 where
+-- In every state that the core may be in this is what the process asks for next.
+abbrev pub IsAskedFor : {T : Type 0} → (T → World → Type 0) → Script → CoreView T → ℕ → Asked → Type 0
+IsAskedFor stands_for script core pid asked =
+    (s : CoreState) → IsAt stands_for core s → is_alive s.world.plain.table pid ≡ true → asked ≡ asked_by script s.world.plain pid
+
+-- the turn leaves its call asleep
+abbrev pub IsSleep : Turned → Type 0
+IsSleep (turned.Part _) = Unit {0}
+IsSleep turned.Sleep = Unit {0}
+IsSleep _ = ⊥
+
+-- The task is one of these.
+pub record Has (tasks : List Task) (task : Task) : Type 0 where
+  pub place : ℕ
+  pub is : slice_get tasks place ≡ Some task
+
+-- What a core keeps beside what contracts see: its room for events and tasks, and the limits of its numbers.
+pub record IsKept {T : Type 0} (stands_for : T → World → Type 0) (script : Script) (core : CoreView T) (heap run_room task_room : ℕ) : Type 0 where
   pub has_run : HasRun stands_for script core
   pub same_heap : heap ≡ script.heap
   pub least_heap : fixed ≤ heap
   pub most_heap : heap ≤ 8388608
   pub room : core.steps ≤ run_room
   pub most_steps : core.steps ≤ 100000
-  pub phases : length core.phases ≤ core.steps + 1
+  pub few : length core.tasks ≤ length core.run + 1
+  pub tasks_fit : core.steps + 1 ≤ task_room

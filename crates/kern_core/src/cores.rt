@@ -1,18 +1,32 @@
-ghost use Rattle.std.specs.Prelude.{◌≡◌, ℕ, ◌≤◌, ◌<◌, [], length, Some, None, IfOk, IfSome, IsSome, IsNone, slice_get, true};
+ghost use Rattle.std.specs.Prelude.{◌≡◌, ℕ, ◌+◌, ◌-◌, ◌≤◌, ◌<◌, [], length, filter, Some, None, IfOk, IfSome, IsSome, IsNone, slice_get, true};
 ghost use Rattle.std.specs.Option.{option_to_list};
-ghost use Rattle.std.specs.List.{list_any};
-ghost use Rattle.kabi_types.specs.declared.entries.Event.TheVariants.{Ask, Admit, Turn};
-ghost use Rattle.posix_defs.specs.Sizes.{fixed};
-ghost use Rattle.posix_defs.specs.World.{World, boot_world};
-ghost use Rattle.posix_defs.specs.CoreState.{CoreState, boot_state, fits, is_admitted, lives};
-ghost use Rattle.posix_defs.specs.Ends.{end_of};
-ghost use Rattle.posix_defs.specs.Choice.{events_of, enabled_in, default_in};
-ghost use Rattle.kern_core.specs.View.{IsAt, HasRun, HasBooted, CanTake, GoesOn, MayTake, Took};
+ghost use Rattle.std.specs.List.{list_any, list_all};
+ghost use Rattle.kabi_types.specs.declared.entries.Event.TheVariants.{Ask, Admit, Turn, Wake, Abandon, Kill, Evict};
+ghost use Rattle.kabi_types.specs.Call.{kind_of};
+ghost use Rattle.posix_defs.specs.Needs.{bound};
+ghost use Rattle.posix_defs.specs.Sizes.{room};
+ghost use Rattle.posix_defs.specs.World.{World, boot_world, can_evict};
+ghost use Rattle.posix_defs.specs.Process.{is_alive};
+ghost use Rattle.posix_defs.specs.CoreState.{CoreState, asked_by, boot_state, is_admitted, phase_in, some_fits, some_wait_in_vain, is_waiting, lives};
+ghost use Rattle.posix_defs.specs.SoundTasks.{IsSound};
+ghost use Rattle.posix_defs.specs.CoreEvent.{phase_after};
+ghost use Rattle.posix_defs.specs.Licence.{can_evict_any, is_licensed};
+ghost use Rattle.posix_defs.specs.Ends.{all_asleep, end_of, starves_for, sleeps_on};
+ghost use Rattle.posix_defs.specs.Choice.{asks_nothing, default_of, events_of, enabled_in, default_in, kills_in, others_in};
+ghost use Rattle.kern_core.specs.View.{IsAt, IsAskedFor, IsSleep, HasRun, HasBooted, Has, CanTake, GoesOn, MayTake, StaysInside, Took};
+ghost use Rattle.kern_core.specs.Others.{eviction, present};
+ghost use Rattle.kern_core.specs.Reliefs.{NeverStarves, Relieves, first_evictable, relief_of};
 
-use crate::bounds::{bound_of, need};
-use crate::turns::{bury, entry_of, note, phase_after};
-use kabi_types::{End, Event, Memory, Noted};
-use posix_defs::{Phase, Turner};
+use crate::others::{count_present, present_at};
+use crate::phases::{entry_of, is_admitted, may_end, note};
+use crate::reliefs::Relief;
+use crate::tasks::{
+    add_born, bury, bury_ended, first_going, first_waiting, is_alone, phase_of, remove, set_phase,
+    some_within, some_without,
+};
+use kabi_types::{Cached, Call, End, Entry, Event, Memory, Noted};
+use need_table::{bound, need};
+use posix_defs::{Asked, Phase, Task, Turned, Turner};
 use std::alloc::Global;
 use std::marker::Model;
 
@@ -29,7 +43,7 @@ pub struct Core<T: Turner + Drop> {
     steps: u32,
     heap: u64,
     run: Vec<Noted>,
-    phases: Vec<Phase>,
+    tasks: Vec<Task>,
     reserved: u64,
     charged: u64,
     peak: u64,
@@ -45,7 +59,7 @@ impl<T: Turner + Drop> Model for Core<T> {
       store = core.store;
       steps = core.steps;
       run = core.run.items;
-      phases = core.phases.items;
+      tasks = core.tasks.items;
       reserved = core.reserved;
       charged = core.charged;
       peak = core.peak;
@@ -55,11 +69,11 @@ impl<T: Turner + Drop> Model for Core<T> {
       store = core.store;
       steps = core.steps;
       run = core.run.items;
-      phases = core.phases.items;
+      tasks = core.tasks.items;
       reserved = core.reserved;
       charged = core.charged;
       peak = core.peak;
-    }) core.heap (vec_capacity core.run) };
+    }) core.heap (vec_capacity core.run) (vec_capacity core.tasks) };
 }
 
 impl<T: Turner + Drop> Core<T> {
@@ -76,14 +90,17 @@ impl<T: Turner + Drop> Core<T> {
         ensures steps { IfOk result (λ core. core.steps ≡ steps) }
     {
         let run = Vec::with_capacity(alloc, steps as usize)?;
-        let mut phases = Vec::with_capacity(alloc, steps as usize + 1)?;
-        phases.push_reserved(Phase::User);
+        let mut tasks = Vec::with_capacity(alloc, steps as usize + 1)?;
+        tasks.push_reserved(Task {
+            pid: 1,
+            phase: Phase::User,
+        });
         Ok(Core {
             store,
             steps,
             heap,
             run,
-            phases,
+            tasks,
             reserved: 0,
             charged: FIXED,
             peak: FIXED,
@@ -120,13 +137,91 @@ impl<T: Turner + Drop> Core<T> {
         self.run.as_slice()
     }
 
+    /// How much of the heap isn't charged, in bytes.
+    fn room(&self) -> u64
+        ensures { result + self.now.charged ≡ (T.script self.now.store).heap }
+    {
+        self.heap - self.charged
+    }
+
+    fn admits_any(&self) -> bool
+        ensures { result ≡ list_any (λ task. is_admitted task.phase) self.now.tasks }
+    {
+        self.tasks.iter().any(|task| is_admitted(task.phase))
+    }
+
+    /// Whether some call waits for which there is no room now.
+    fn some_wait_in_vain(&self) -> bool
+        ensures { (s : CoreState) → IsAt T.stands self.now s → result ≡ some_wait_in_vain (T.script self.now.store) s }
+    {
+        some_without(self.tasks.as_slice(), self.room())
+    }
+
+    /// Whether some call waits for which there is room now.
+    fn some_fit(&self) -> bool
+        ensures { (s : CoreState) → IsAt T.stands self.now s → result ≡ some_fits (T.script self.now.store) s }
+    {
+        some_within(self.tasks.as_slice(), self.room())
+    }
+
+    fn can_evict_any(&self) -> bool
+        ensures { (s : CoreState) → IsAt T.stands self.now s → result ≡ can_evict_any s.world }
+    {
+        self.store.evictable(Cached::Name)
+            || self.store.evictable(Cached::Block)
+            || self.store.evictable(Cached::Vnode)
+    }
+
+    /// What the first process's call needs, where it waits in vain and nothing can help it.
+    fn starves_for(&self) -> Option<u64>
+        ensures { (s : CoreState) → IsAt T.stands self.now s → result ≡ starves_for (T.script self.now.store) s }
+    {
+        if !is_alone(self.tasks.as_slice()) || self.admits_any() || self.can_evict_any() {
+            return None;
+        }
+        match phase_of(self.tasks.as_slice(), 1) {
+            Phase::Waiting(asked) if asked.bound > self.room() => Some(asked.bound),
+            _ => None,
+        }
+    }
+
+    /// Whether a process sleeps on a call that would still block.
+    fn sleeps_on(&self, task: Task) -> bool
+        requires { Has self.now.tasks task }
+        ensures { (s : CoreState) → IsAt T.stands self.now s → IsSound (T.script self.now.store) s
+            → result ≡ sleeps_on (T.script self.now.store) s task.pid task.phase }
+    {
+        match task.phase {
+            Phase::Asleep(_) => !self.store.ready(task.pid),
+            _ => false,
+        }
+    }
+
+    /// Whether every process that is alive sleeps on a call that would still block, and none is admitted.
+    fn all_asleep(&self) -> bool
+        ensures { (s : CoreState) → IsAt T.stands self.now s → IsSound (T.script self.now.store) s → result ≡ all_asleep (T.script self.now.store) s }
+    {
+        for task in self.tasks.iter() {
+            if !self.sleeps_on(*task) {
+                return false;
+            }
+        }
+        true
+    }
+
     /// The end that stands now, the first that holds; None where the run goes on, and then some event may be taken.
     pub fn ended(&self) -> Option<End>
-        ensures end { (s : CoreState) → IsAt T.stands self.now s → result ≡ end_of (T.script self.now.store) self.now.steps (length self.now.run) s }
+        ensures end { (s : CoreState) → IsAt T.stands self.now s → IsSound (T.script self.now.store) s → result ≡ end_of (T.script self.now.store) self.now.steps (length self.now.run) s }
         ensures goes_on { IsNone result → GoesOn T.stands (T.script self.now.store) self.now }
     {
         if !self.store.alive(1) && !self.admits_any() {
             return Some(End::Finished);
+        }
+        if let Some(need) = self.starves_for() {
+            return Some(End::Starved { pid: 1, need });
+        }
+        if self.all_asleep() {
+            return Some(End::AllAsleep);
         }
         if self.run.len() == self.steps as usize {
             return Some(End::Spent);
@@ -134,90 +229,154 @@ impl<T: Turner + Drop> Core<T> {
         None
     }
 
-    fn admits_any(&self) -> bool
-        ensures { result ≡ list_any is_admitted self.now.phases }
+    /// The event of a task, if it may be taken.
+    fn event_of(&self, task: Task) -> Option<Event>
+        requires { Has self.now.tasks task }
+        ensures { (s : CoreState) → IsAt T.stands self.now s → IsSound (T.script self.now.store) s
+            → option_to_list result ≡ events_of (T.script self.now.store) s task.pid task.phase }
     {
-        self.phases
-            .iter()
-            .any(|phase| matches!(phase, Phase::Admitted))
-    }
-
-    /// Whether the heap has room for the bound of a live process's next call.
-    fn fits(&self, pid: u32) -> bool
-        requires { (s : CoreState) × IsAt T.stands self.now s × (lives s pid ≡ true) }
-        ensures { (s : CoreState) → IsAt T.stands self.now s → lives s pid ≡ true → result ≡ fits (T.script self.now.store) s pid }
-    {
-        self.charged + bound_of(&self.store.next(pid)) <= self.heap
-    }
-
-    /// The event of a process in this phase, if it may be taken.
-    fn event_of(&self, pid: u32, phase: Phase) -> Option<Event>
-        ensures { (s : CoreState) → IsAt T.stands self.now s
-            → option_to_list result ≡ events_of (T.script self.now.store) s pid phase }
-    {
-        if !self.store.alive(pid) {
-            return None;
-        }
-        match phase {
+        let pid = task.pid;
+        match task.phase {
             Phase::User => Some(Event::Ask(pid)),
-            Phase::Waiting => {
-                if self.fits(pid) {
+            Phase::Waiting(asked) => {
+                if asked.bound <= self.room() {
                     Some(Event::Admit(pid))
                 } else {
                     None
                 }
             }
-            Phase::Admitted => Some(Event::Turn(pid)),
-            Phase::Asleep | Phase::Dead => None,
+            Phase::Admitted(_) => Some(Event::Turn(pid)),
+            Phase::Asleep(_) => {
+                if self.store.ready(pid) {
+                    Some(Event::Wake(pid))
+                } else {
+                    None
+                }
+            }
+            Phase::Stranded(_) => Some(Event::Abandon(pid)),
+            Phase::Dead => None,
         }
+    }
+
+    /// Whether a process may be killed, so that a call that waits may fit.
+    fn is_licensed(&self) -> bool
+        ensures { (s : CoreState) → IsAt T.stands self.now s → result ≡ is_licensed (T.script self.now.store) s }
+    {
+        !self.admits_any()
+            && self.some_wait_in_vain()
+            && !self.can_evict_any()
+            && !self.some_fit()
+            && self.store.victim().is_some()
+    }
+
+    /// The kill of the victim, if it may be taken.
+    fn kill_event(&self) -> Option<Event>
+        ensures { (s : CoreState) → IsAt T.stands self.now s → option_to_list result ≡ kills_in (T.script self.now.store) s }
+    {
+        if !self.is_licensed() {
+            return None;
+        }
+        match self.store.victim() {
+            Some(pid) => Some(Event::Kill(pid)),
+            None => None,
+        }
+    }
+
+    /// The eviction from a cache, if it may be taken.
+    fn evict_event(&self, what: Cached) -> Option<Event>
+        ensures { (s : CoreState) → IsAt T.stands self.now s → result ≡ eviction (lives s 1) (can_evict s.world.plain s.world.kept what) what }
+    {
+        if self.store.alive(1) && self.store.evictable(what) {
+            Some(Event::Evict(what))
+        } else {
+            None
+        }
+    }
+
+    /// The events that are of no process, each if it may be taken: the evictions, and then the kill.
+    fn others(&self) -> [Option<Event>; 4]
+        ensures { (s : CoreState) → IsAt T.stands self.now s → present result ≡ others_in (T.script self.now.store) s }
+    {
+        [
+            self.evict_event(Cached::Name),
+            self.evict_event(Cached::Block),
+            self.evict_event(Cached::Vnode),
+            self.kill_event(),
+        ]
     }
 
     /// How many events may be taken now, whether or not an end stands.
     pub fn count(&self) -> u32
-        ensures { (s : CoreState) → IsAt T.stands self.now s → result ≡ length (enabled_in (T.script self.now.store) s) }
+        ensures { (s : CoreState) → IsAt T.stands self.now s → IsSound (T.script self.now.store) s → result ≡ length (enabled_in (T.script self.now.store) s) }
     {
         let mut count = 0;
-        for (place, phase) in self.phases.iter().enumerate() {
-            if self.event_of(place as u32 + 1, *phase).is_some() {
+        for task in self.tasks.iter() {
+            if self.event_of(*task).is_some() {
                 count += 1;
             }
         }
-        count
+        count + count_present(&self.others())
     }
 
-    /// The event at place `i`, from 0, among those that may be taken now: by rising pid. None exactly where no more than
-    /// `i` may be taken. Whether an end stands is not looked at.
+    /// The event at place `i`, from 0, among those that may be taken now: those of processes by rising pid, evictions, and
+    /// then a kill. None exactly where no more than `i` may be taken. Whether an end stands is not looked at.
     pub fn enabled(&self, i: u32) -> Option<Event>
-        ensures listed { (s : CoreState) → IsAt T.stands self.now s → result ≡ slice_get (enabled_in (T.script self.now.store) s) i }
+        ensures listed { (s : CoreState) → IsAt T.stands self.now s → IsSound (T.script self.now.store) s → result ≡ slice_get (enabled_in (T.script self.now.store) s) i }
         ensures may { IfSome result (λ event. CanTake T.stands (T.script self.now.store) self.now event) }
     {
         let mut before = 0;
-        for (place, phase) in self.phases.iter().enumerate() {
-            if let Some(event) = self.event_of(place as u32 + 1, *phase) {
+        for task in self.tasks.iter() {
+            if let Some(event) = self.event_of(*task) {
                 if before == i {
                     return Some(event);
                 }
                 before += 1;
             }
         }
-        None
+        present_at(&self.others(), i - before)
     }
 
-    /// The event that is taken where nothing else is chosen: the first that may be. None exactly where `ended` answers
-    /// an end.
-    pub fn default_event(&self) -> Option<Event>
-        ensures picked { (s : CoreState) → IsAt T.stands self.now s
-            → result ≡ default_in (T.script self.now.store) self.now.steps (length self.now.run) s }
-        ensures may { IfSome result (λ event. MayTake T.stands (T.script self.now.store) self.now event) }
-        ensures room { IfSome result (λ _. length self.now.run < self.now.steps) }
-        ensures none { (s : CoreState) → IsAt T.stands self.now s → IsNone result
-            → IsSome (end_of (T.script self.now.store) self.now.steps (length self.now.run) s) }
+    /// The first event that may be taken and asks for no more heap.
+    fn first_that_frees(&self) -> Option<Event>
+        ensures { (s : CoreState) → IsAt T.stands self.now s → IsSound (T.script self.now.store) s
+            → result ≡ slice_get (filter asks_nothing (enabled_in (T.script self.now.store) s)) 0 }
     {
-        if self.ended().is_some() {
-            None
+        for task in self.tasks.iter() {
+            if let Some(event) = self.event_of(*task) {
+                if !matches!(event, Event::Ask(_) | Event::Wake(_)) {
+                    return Some(event);
+                }
+            }
+        }
+        present_at(&self.others(), 0)
+    }
+
+    /// The first event that may be taken, or where a call waits in vain the first that asks for no more heap. Whether an end
+    /// stands is not looked at.
+    pub(crate) fn first_choice(&self) -> Option<Event>
+        ensures { (s : CoreState) → IsAt T.stands self.now s → IsSound (T.script self.now.store) s → result ≡ default_of (T.script self.now.store) s }
+    {
+        if self.some_wait_in_vain() {
+            self.first_that_frees()
         } else {
             self.enabled(0)
         }
+    }
+
+    /// The event that is taken where nothing else is chosen: the first that may be, or where a call waits in vain the first
+    /// that asks for no more heap. None exactly where `ended` answers an end.
+    pub fn default_event(&self) -> Option<Event>
+        ensures picked { (s : CoreState) → IsAt T.stands self.now s → IsSound (T.script self.now.store) s
+            → result ≡ default_in (T.script self.now.store) self.now.steps (length self.now.run) s }
+        ensures may { IfSome result (λ event. MayTake T.stands (T.script self.now.store) self.now event) }
+        ensures room { IfSome result (λ _. length self.now.run < self.now.steps) }
+        ensures none { (s : CoreState) → IsAt T.stands self.now s → IsSound (T.script self.now.store) s → IsNone result
+            → IsSome (end_of (T.script self.now.store) self.now.steps (length self.now.run) s) }
+    {
+        if self.ended().is_some() {
+            return None;
+        }
+        self.first_choice()
     }
 
     /// Takes an event that is enabled, while no end holds, and tells what is noted of it.
@@ -225,12 +384,16 @@ impl<T: Turner + Drop> Core<T> {
         requires { MayTake T.stands (T.script self.old.store) self.old event }
         ensures script { T.script self.new.store ≡ T.script self.old.store }
         ensures took { Took T.stands (T.script self.old.store) self.old event result self.new }
+        ensures inside { StaysInside event (T.high self.new.store) self.new.reserved (T.script self.old.store).heap }
     {
         match event {
             Event::Ask(pid) => self.ask(pid),
             Event::Admit(pid) => self.admit(pid),
             Event::Turn(pid) => self.turn(pid),
-            Event::Wake(_) | Event::Abandon(_) | Event::Evict(_) | Event::Kill(_) => unreachable!(),
+            Event::Wake(pid) => self.wake(pid),
+            Event::Abandon(pid) => self.abandon(pid),
+            Event::Kill(pid) => self.kill(pid),
+            Event::Evict(what) => self.evict(what),
         }
     }
 
@@ -239,15 +402,43 @@ impl<T: Turner + Drop> Core<T> {
         ensures script { T.script self.new.store ≡ T.script self.old.store }
         ensures took { Took T.stands (T.script self.old.store) self.old (Ask pid) result self.new }
     {
-        let call = self.store.next(pid);
-        self.phases[pid as usize - 1] = Phase::Waiting;
-        let noted = Noted {
-            event: Event::Ask(pid),
-            kind: Some(call.kind()),
-            entry: None,
-            bound: bound_of(&call),
-            charged: self.charged,
+        let asked = asked_of(&self.store.next(pid));
+        if asked.bound > self.heap - FIXED {
+            self.refuse(pid, asked)
+        } else {
+            self.wait_for_room(pid, asked)
+        }
+    }
+
+    /// A process asks for a call whose bound is above what the heap can ever give.
+    fn refuse(&mut self, pid: u32, asked: Asked) -> Noted
+        requires may { MayTake T.stands (T.script self.old.store) self.old (Ask pid) }
+        requires asked { IsAskedFor T.stands (T.script self.old.store) self.old pid asked }
+        requires never { room (T.script self.old.store).heap < asked.bound }
+        ensures script { T.script self.new.store ≡ T.script self.old.store }
+        ensures took { Took T.stands (T.script self.old.store) self.old (Ask pid) result self.new }
+    {
+        self.store.refuse(pid);
+        set_phase(&mut self.tasks, pid, Phase::User);
+        let entry = Entry::Refused {
+            pid,
+            kind: asked.kind,
+            bound: asked.bound,
         };
+        let noted = noted_of(Event::Ask(pid), asked, Some(entry), self.charged);
+        note(&mut self.run, &mut self.peak, noted)
+    }
+
+    /// A process asks for its call, and waits for room.
+    fn wait_for_room(&mut self, pid: u32, asked: Asked) -> Noted
+        requires may { MayTake T.stands (T.script self.old.store) self.old (Ask pid) }
+        requires asked { IsAskedFor T.stands (T.script self.old.store) self.old pid asked }
+        requires ever { asked.bound ≤ room (T.script self.old.store).heap }
+        ensures script { T.script self.new.store ≡ T.script self.old.store }
+        ensures took { Took T.stands (T.script self.old.store) self.old (Ask pid) result self.new }
+    {
+        set_phase(&mut self.tasks, pid, Phase::Waiting(asked));
+        let noted = noted_of(Event::Ask(pid), asked, None, self.charged);
         note(&mut self.run, &mut self.peak, noted)
     }
 
@@ -256,18 +447,13 @@ impl<T: Turner + Drop> Core<T> {
         ensures script { T.script self.new.store ≡ T.script self.old.store }
         ensures took { Took T.stands (T.script self.old.store) self.old (Admit pid) result self.new }
     {
-        let call = self.store.next(pid);
-        let bound = bound_of(&call);
-        self.phases[pid as usize - 1] = Phase::Admitted;
-        self.reserved += bound;
-        self.charged += bound;
-        let noted = Noted {
-            event: Event::Admit(pid),
-            kind: Some(call.kind()),
-            entry: None,
-            bound,
-            charged: self.charged,
+        let Phase::Waiting(asked) = phase_of(self.tasks.as_slice(), pid) else {
+            unreachable!()
         };
+        set_phase(&mut self.tasks, pid, Phase::Admitted(asked));
+        self.reserved += asked.bound;
+        self.charged += asked.bound;
+        let noted = noted_of(Event::Admit(pid), asked, None, self.charged);
         note(&mut self.run, &mut self.peak, noted)
     }
 
@@ -275,23 +461,158 @@ impl<T: Turner + Drop> Core<T> {
         requires { MayTake T.stands (T.script self.old.store) self.old (Turn pid) }
         ensures script { T.script self.new.store ≡ T.script self.old.store }
         ensures took { Took T.stands (T.script self.old.store) self.old (Turn pid) result self.new }
+        ensures inside { T.high self.new.store + self.new.reserved ≤ (T.script self.old.store).heap }
     {
+        let Phase::Admitted(asked) = phase_of(self.tasks.as_slice(), pid) else {
+            unreachable!()
+        };
+        let before = self.store.last_pid();
         let call = self.store.next(pid);
-        let kind = call.kind();
-        let bound = bound_of(&call);
         let turned = self.store.turn(pid, &call, need(&call));
-        self.phases[pid as usize - 1] = phase_after(&turned);
-        bury(&self.store, self.phases.as_mut_slice());
-        self.reserved -= bound;
+        let phase = phase_after(&self.store, pid, &turned);
+        set_phase(&mut self.tasks, pid, phase);
+        let ends = may_end(asked.kind, &turned);
+        bury_ended(&self.store, &mut self.tasks, ends);
+        add_born(&mut self.tasks, before, self.store.last_pid());
+        self.reserved -= asked.bound;
+        self.charged = self.store.live() + RESERVE + self.reserved;
+        let entry = entry_of(pid, asked.kind, turned);
+        let noted = noted_of(Event::Turn(pid), asked, Some(entry), self.charged);
+        note(&mut self.run, &mut self.peak, noted)
+    }
+
+    fn wake(&mut self, pid: u32) -> Noted
+        requires { MayTake T.stands (T.script self.old.store) self.old (Wake pid) }
+        ensures script { T.script self.new.store ≡ T.script self.old.store }
+        ensures took { Took T.stands (T.script self.old.store) self.old (Wake pid) result self.new }
+    {
+        let Phase::Asleep(asked) = phase_of(self.tasks.as_slice(), pid) else {
+            unreachable!()
+        };
+        set_phase(&mut self.tasks, pid, Phase::Waiting(asked));
+        let noted = noted_of(Event::Wake(pid), asked, None, self.charged);
+        note(&mut self.run, &mut self.peak, noted)
+    }
+
+    fn abandon(&mut self, pid: u32) -> Noted
+        requires { MayTake T.stands (T.script self.old.store) self.old (Abandon pid) }
+        ensures script { T.script self.new.store ≡ T.script self.old.store }
+        ensures took { Took T.stands (T.script self.old.store) self.old (Abandon pid) result self.new }
+    {
+        let Phase::Stranded(asked) = phase_of(self.tasks.as_slice(), pid) else {
+            unreachable!()
+        };
+        remove(&mut self.tasks, pid);
+        self.reserved -= asked.bound;
+        self.charged -= asked.bound;
+        let noted = noted_of(Event::Abandon(pid), asked, None, self.charged);
+        note(&mut self.run, &mut self.peak, noted)
+    }
+
+    fn kill(&mut self, pid: u32) -> Noted
+        requires { MayTake T.stands (T.script self.old.store) self.old (Kill pid) }
+        ensures script { T.script self.new.store ≡ T.script self.old.store }
+        ensures took { Took T.stands (T.script self.old.store) self.old (Kill pid) result self.new }
+        ensures inside { T.high self.new.store + self.new.reserved ≤ (T.script self.old.store).heap }
+    {
+        let Some(first) = first_waiting(self.tasks.as_slice()) else {
+            unreachable!()
+        };
+        let Phase::Waiting(asked) = first.phase else {
+            unreachable!()
+        };
+        let live = self.store.live();
+        self.store.kill(pid);
+        bury(&self.store, &mut self.tasks);
         self.charged = self.store.live() + RESERVE + self.reserved;
         let noted = Noted {
-            event: Event::Turn(pid),
-            kind: Some(kind),
-            entry: Some(entry_of(pid, kind, turned)),
-            bound,
+            event: Event::Kill(pid),
+            kind: None,
+            entry: Some(Entry::Killed {
+                pid,
+                waiter: first.pid,
+                need: asked.bound,
+                live,
+            }),
+            bound: 0,
             charged: self.charged,
         };
         note(&mut self.run, &mut self.peak, noted)
+    }
+
+    fn evict(&mut self, what: Cached) -> Noted
+        requires { MayTake T.stands (T.script self.old.store) self.old (Evict what) }
+        ensures script { T.script self.new.store ≡ T.script self.old.store }
+        ensures took { Took T.stands (T.script self.old.store) self.old (Evict what) result self.new }
+        ensures inside { T.high self.new.store + self.new.reserved ≤ (T.script self.old.store).heap }
+    {
+        self.store.evict(what);
+        self.charged = self.store.live() + RESERVE + self.reserved;
+        let noted = Noted {
+            event: Event::Evict(what),
+            kind: None,
+            entry: Some(Entry::Evicted { what }),
+            bound: 0,
+            charged: self.charged,
+        };
+        note(&mut self.run, &mut self.peak, noted)
+    }
+
+    /// The first cache, of names, of blocks and of nodes, that keeps something that isn't pinned.
+    fn first_evictable(&self) -> Option<Cached>
+        ensures { (s : CoreState) → IsAt T.stands self.now s → result ≡ first_evictable s.world }
+    {
+        if self.store.evictable(Cached::Name) {
+            Some(Cached::Name)
+        } else if self.store.evictable(Cached::Block) {
+            Some(Cached::Block)
+        } else if self.store.evictable(Cached::Vnode) {
+            Some(Cached::Vnode)
+        } else {
+            None
+        }
+    }
+
+    /// Whether some call waits.
+    fn some_wait(&self) -> bool
+        ensures { result ≡ list_any (λ task. is_waiting task.phase) self.now.tasks }
+    {
+        self.tasks
+            .iter()
+            .any(|task| matches!(task.phase, Phase::Waiting(_)))
+    }
+
+    /// Helps the calls that wait, where no end holds, and tells how: the first case that holds. Nothing changes but by an
+    /// eviction or a kill, which is one event.
+    pub fn relief(&mut self) -> Relief
+        requires goes_on { GoesOn T.stands (T.script self.old.store) self.old }
+        requires no_end { (s : CoreState) → IsAt T.stands self.old s → IsSound (T.script self.old.store) s → end_of (T.script self.old.store) self.old.steps (length self.old.run) s ≡ None }
+        ensures script { T.script self.new.store ≡ T.script self.old.store }
+        ensures told { (s : CoreState) → IsAt T.stands self.old s → IsSound (T.script self.old.store) s → result ≡ relief_of (T.script self.old.store) s }
+        ensures leads { Relieves T.stands (T.script self.old.store) self.old result self.new }
+        ensures never { NeverStarves result }
+    {
+        if !self.some_wait() {
+            return Relief::NoneWaiting;
+        }
+        if let Some(pid) = first_going(self.tasks.as_slice(), self.room()) {
+            return Relief::Fits(pid);
+        }
+        if self.reserved != 0 {
+            return Relief::Outstanding {
+                charged: self.charged,
+                live: self.store.live(),
+            };
+        }
+        if let Some(what) = self.first_evictable() {
+            let _ = self.evict(what);
+            return Relief::Evicted(what);
+        }
+        let Some(pid) = self.store.victim() else {
+            unreachable!()
+        };
+        let _ = self.kill(pid);
+        Relief::Killed(pid)
     }
 
     /// The store as it is.
@@ -299,5 +620,41 @@ impl<T: Turner + Drop> Core<T> {
         ensures { result ≡ self.store }
     {
         self.store
+    }
+}
+
+/// What a process asks for with this call.
+fn asked_of(call: &Call) -> Asked
+    ensures { result ≡ record { kind = kind_of call.now; bound = bound call.now } }
+{
+    Asked {
+        kind: call.kind(),
+        bound: bound(call),
+    }
+}
+
+/// What is noted of an event of a process.
+fn noted_of(event: Event, asked: Asked, entry: Option<Entry>, charged: u64) -> Noted
+    ensures { result ≡ record { event = event; kind = Some asked.kind; entry = entry; bound = asked.bound; charged = charged } }
+{
+    Noted {
+        event,
+        kind: Some(asked.kind),
+        entry,
+        bound: asked.bound,
+        charged,
+    }
+}
+
+/// The phase that a turn leaves its process in. A call that sleeps is asked for anew, since a part of it may be done.
+fn phase_after<T: Turner>(store: &T, pid: u32, turned: &Turned) -> Phase
+    requires { IsSleep turned.now → (world : World) × T.stands store.now world × (is_alive world.plain.table pid ≡ true) }
+    ensures { (world : World) → T.stands store.now world → (IsSleep turned.now → is_alive world.plain.table pid ≡ true)
+        → result ≡ phase_after (asked_by (T.script store.now) world.plain pid) turned.now }
+{
+    match turned {
+        Turned::Done(_) => Phase::User,
+        Turned::Part(_) | Turned::Sleep => Phase::Asleep(asked_of(&store.next(pid))),
+        Turned::Ended(_) | Turned::Gone => Phase::Dead,
     }
 }

@@ -2,6 +2,7 @@ ghost use Rattle.std.specs.Prelude.{◌≡◌, None, Some, length};
 ghost use Rattle.kern_core.specs.View.{GoesOn, HasBooted, HasEnded, IsAt, MayTake};
 ghost use Rattle.posix_defs.specs.Choice.{named_by};
 ghost use Rattle.posix_defs.specs.CoreState.{CoreState};
+ghost use Rattle.posix_defs.specs.SoundTasks.{IsSound};
 ghost use Rattle.posix_defs.specs.Ends.{end_of};
 
 use crate::choosing::Choosing;
@@ -10,17 +11,16 @@ use kabi_types::{Chooser, End, Event};
 use posix_defs::Turner;
 
 /// The event that a number names, or the default without a number, where some event may be taken.
-fn picked<T: Turner + Drop>(core: &Core<T>, number: Option<u32>) -> Event
+pub(crate) fn picked<T: Turner + Drop>(core: &Core<T>, number: Option<u32>) -> Event
     requires goes_on { GoesOn T.stands (T.script core.now.store) core.now }
-    requires no_end { (s : CoreState) → IsAt T.stands core.now s → end_of (T.script core.now.store) core.now.steps (length core.now.run) s ≡ None }
-    ensures named { (s : CoreState) → IsAt T.stands core.now s → named_by number (T.script core.now.store) s ≡ Some result }
+    requires no_end { (s : CoreState) → IsAt T.stands core.now s → IsSound (T.script core.now.store) s → end_of (T.script core.now.store) core.now.steps (length core.now.run) s ≡ None }
+    ensures named { (s : CoreState) → IsAt T.stands core.now s → IsSound (T.script core.now.store) s → named_by number (T.script core.now.store) s ≡ Some result }
     ensures may { MayTake T.stands (T.script core.now.store) core.now result }
 {
-    let place = match number {
-        Some(number) => number % core.count(),
-        None => 0,
-    };
-    core.enabled(place).unwrap()
+    match number {
+        Some(number) => core.enabled(number % core.count()).unwrap(),
+        None => core.first_choice().unwrap(),
+    }
 }
 
 /// Takes the events that the chooser of the script picks until the run ends, and answers how.

@@ -1,28 +1,32 @@
-ghost use Rattle.std.specs.Prelude.{◌≡◌, true, false};
-ghost use Rattle.kern_core.specs.Sample.{sample, sample_world};
+ghost use Rattle.std.specs.Prelude.{◌≡◌, ◌≤◌, true};
+ghost use Rattle.posix_defs.specs.World.{boot_kept};
+ghost use Rattle.kern_core.specs.Sample.{live_at, sample, world_at};
 
-use crate::{Choosing, Core, run_to_end};
-use kabi_types::{Call, CallKind, Chooser, End, Entry, Event, Need, Noted, Numbers, Reply};
+use crate::{Choosing, Core, Relief, run_to_end};
+use kabi_types::{Cached, Call, CallKind, Chooser, End, Entry, Event, Need, Noted, Numbers, Reply};
 use posix_defs::{Turned, Turner};
 use std::test::Fail;
 
-/// A store of one process, which asks for its pid and exits: how far it is.
+/// A store of one process, which asks for its pid and exits: how many calls are behind it, and whether it lives.
 #[derive(Drop)]
 struct OnePid {
-    asked: bool,
+    place: u32,
     lives: bool,
+    ghost few: { place ≤ 2 },
 }
 
 impl Turner for OnePid {
     ghost script = { λ _. sample };
 
-    ghost stands = { λ store world. world ≡ sample_world store.asked store.lives };
+    ghost stands = { λ store world. world ≡ world_at store.place store.lives boot_kept };
+
+    ghost high = { λ store. live_at store.lives };
 
     fn next(&self, _pid: u32) -> Call {
-        if self.asked {
-            Call::Exit { status: 0 }
-        } else {
+        if self.place == 0 {
             Call::Getpid
+        } else {
+            Call::Exit { status: 0 }
         }
     }
 
@@ -30,14 +34,36 @@ impl Turner for OnePid {
         if !self.alive(pid) {
             return Turned::Gone;
         }
-        if self.asked {
+        if self.place == 0 {
+            self.place = 1;
+            Turned::Done(Reply::Val(1))
+        } else {
             self.lives = false;
             Turned::Ended(0)
-        } else {
-            self.asked = true;
-            Turned::Done(Reply::Val(1))
         }
     }
+
+    fn refuse(&mut self, _pid: u32) {
+        if self.place < 2 {
+            self.place += 1;
+        }
+    }
+
+    fn ready(&self, _pid: u32) -> bool {
+        true
+    }
+
+    fn evictable(&self, _what: Cached) -> bool {
+        false
+    }
+
+    fn evict(&mut self, _what: Cached) {}
+
+    fn victim(&self) -> Option<u32> {
+        None
+    }
+
+    fn kill(&mut self, _pid: u32) {}
 
     fn alive(&self, pid: u32) -> bool {
         pid == 1 && self.lives
@@ -58,10 +84,10 @@ impl Turner for OnePid {
 
 /// The process at its start.
 fn at_boot() -> OnePid
-    ensures { (result.asked ≡ false) × (result.lives ≡ true) }
+    ensures { (result.place ≡ 0) × (result.lives ≡ true) }
 {
     OnePid {
-        asked: false,
+        place: 0,
         lives: true,
     }
 }
@@ -155,7 +181,7 @@ fn offers_one_event_at_a_time(rt: HostRuntime) -> Result<(), Fail> {
         assert!(rt; core.step(next).event == *event);
     }
     let store = core.close();
-    assert!(rt; store.asked && store.lives);
+    assert!(rt; store.place == 1 && store.lives);
     Ok(())
 }
 

@@ -8,13 +8,14 @@ ghost use Rattle.kres_cli.specs.Status.{number_of};
 
 mod commands;
 mod lines;
-mod plain_store;
 mod reading;
 mod statuses;
 #[cfg(test)]
 mod tests;
 #[cfg(test)]
 mod tests_print;
+#[cfg(test)]
+mod tests_processes;
 #[cfg(test)]
 mod tests_words;
 mod text;

@@ -13,11 +13,11 @@ ghost use Rattle.posix_defs.specs.Generated.{generated};
 
 use crate::commands::{Command, Task, command_of};
 use crate::lines::{fault_line, report};
-use crate::plain_store::PlainStore;
 use crate::reading::read_text;
 use crate::statuses::Status;
 use crate::text::Text;
 use crate::writing::write_text;
+use call_run::Store;
 use kabi_types::{Memory, Script};
 use kern_core::{Core, run_to_end};
 use kio_ports::{Sink, Source};
@@ -227,7 +227,7 @@ fn run_script(alloc: Global, script: &Script) -> Result<Answer, Memory>
     requires { IsValid script.now }
     ensures { IfOk result (λ answer. IsReport script.now (string_bytes answer.text) answer.status) }
 {
-    let store = PlainStore::boot(script);
+    let store = Store::boot(alloc, script)?;
     let mut core = Core::boot(alloc, store, script.steps, script.heap)?;
     let end = run_to_end(&mut core, &script.chooser);
     let text = report(

@@ -1,23 +1,28 @@
 -- Pages of a space that are unmapped one after another, and the space that has none left.
-use Rattle.std.proofs.Common.{◌≡◌, ◌≢◌, ◌⊎◌, ℕ, zero, suc, ◌+◌, ◌-◌, ◌*◌, ◌/◌, ◌%◌, ◌<◌, ◌≤◌, Bool, true, false, cond, is_some, List, [], ◌∷◌, ◌++◌, Option, None, Some, length, get_or, take, drop, replicate, count_by, refl, sym, ap, ◌∙◌, subst, inl, inr, ⊎_elim, arith}
+use Rattle.std.proofs.Common.{◌≡◌, ◌≢◌, ℕ, zero, suc, ◌+◌, ◌-◌, ◌*◌, ◌/◌, ◌%◌, ◌<◌, ◌≤◌, List, [], ◌∷◌, ◌++◌, Option, None, Some, length, get_or, take, drop, replicate, count_by, refl, sym, ap, ◌∙◌, subst, inl, inr, ⊎_elim, arith}
 use Rattle.std.specs.List.{Contains}
-use Rattle.std.proofs.lemmas.List.{get_or_append_left, get_or-take, get_or-drop, get_or-append_right, get_or-append-add, get_or-replicate, length-replicate, length-take, length-append}
+use Rattle.std.proofs.lemmas.List.{get_or_append_left, get_or-take, get_or-drop, get_or-append_right, get_or-replicate, length-replicate, length-take, length-append}
 use Rattle.std.proofs.lemmas.List.Elements.{Contains-append_cases}
 use Rattle.std.proofs.lemmas.Bool.{cases_lt, cases_eq}
-use Rattle.posix_defs.specs.Memory.{Memory, with_range, page_at, without_pages}
+use Rattle.posix_defs.specs.Memory.{Memory, with_range, page_at, without_pages, Unmapped, places_of, with_places, after_clear, after_unmap}
 use Rattle.kheap_slabs.specs.Heap.{Heap}
-use Rattle.kheap_slabs.specs.Objects.{object, InUse}
+use Rattle.kheap_slabs.specs.Objects.{object}
 use Rattle.kheap_slabs.specs.Owners.{Owners, with_space, IsOwned}
 use Rattle.kheap_slabs.specs.Purse.{TakesNothing}
-use Rattle.kheap_slabs.specs.Spaces.{is_mapped, mapped_count, keys_in, OwnsNodes}
+use Rattle.kheap_slabs.specs.Spaces.{is_mapped, keys_in, OwnsNodes}
 use Rattle.kheap_slabs.specs.declared.objects.Node.{Node}
 use Rattle.kheap_slabs.specs.declared.objects.PageEntry.{PageEntry}
 use Rattle.kheap_slabs.specs.declared.objects.PageEntry.TheVariants as entry
 use Rattle.kheap_slabs.proofs.ObjectLemmas.{object_of}
 use Rattle.kheap_slabs.proofs.OwnerLemmas.{IsOwned-space, IsOwned-space_leaves}
 use Rattle.kheap_slabs.proofs.PaidLemmas.{TakesNothing-refl, TakesNothing-trans}
+use Rattle.page_space.specs.Accounts.{turned_at, AccountFollows, AccountLeaves}
+use Rattle.page_space.specs.Changes.{OwnChanges}
 use Rattle.page_space.specs.Entries.{key_of, entry_at}
-use Rattle.page_space.specs.Contents.{content_of, content_at, StandsFor, SpaceMoves, IsCleared, SpaceLeaves}
+use Rattle.page_space.specs.Contents.{content_of, content_at, StandsFor, IsOwnedWith, SpaceMoves, IsCleared, SpaceLeaves}
+use Rattle.page_space.proofs.AccountLemmas.{AccountFollows-unranged, AccountFollows-ranged}
+use Rattle.page_space.proofs.ChangeLemmas.{OwnChanges-refl, OwnChanges-trans}
+use Rattle.page_space.proofs.PlaceLemmas.{with_range-all, no_places_are}
 use Rattle.page_space.proofs.TurnLemmas.{entry_known}
 use Rattle.page_space.proofs.MoveLemmas.{SpaceMoves-refl, SpaceMoves-trans}
 
@@ -27,6 +32,8 @@ IsCleared-none h space first = record {
   moves = SpaceMoves-refl h space;
   gone = λ page from below. absurd (omega arith);
   stays = λ page outside. refl;
+  own = OwnChanges-refl h space;
+  account = AccountFollows-unranged h space first Unmapped;
   takes = TakesNothing-refl h;
 }
 
@@ -35,9 +42,10 @@ pub IsCleared-more : (old mid new : Heap) (space now then : List (Option ℕ)) (
     → entry_at new.nodes then page ≡ entry.Unmapped
     → ((other : ℕ) → other ≢ page → entry_at new.nodes then other ≡ entry_at mid.nodes now other)
     → ((other : ℕ) → other ≢ page → content_at new then other ≡ content_at mid now other)
-    → SpaceMoves mid new now then → TakesNothing mid new → first ≤ page
+    → SpaceMoves mid new now then → OwnChanges mid new now then → AccountFollows mid new now then (λ frames pid. turned_at frames pid page Unmapped)
+    → TakesNothing mid new → first ≤ page → page < 256
     → IsCleared old new space then first (page + 1)
-IsCleared-more old mid new space now then first page cleared gone entries stays moves takes from = record {
+IsCleared-more old mid new space now then first page cleared gone entries stays moves own account takes from below = record {
   moves = SpaceMoves-trans old mid new space now then cleared.moves moves;
   gone = λ other above below. ⊎_elim
       (λ same. subst (λ p. entry_at new.nodes then p ≡ entry.Unmapped) (sym same) gone)
@@ -46,6 +54,8 @@ IsCleared-more old mid new space now then first page cleared gone entries stays 
   stays = λ other outside.
       let apart : other ≢ page = λ same. ⊎_elim (λ below. omega arith) (λ above. omega arith) outside in
       stays other apart ∙ cleared.stays other (⊎_elim inl (λ above. inr (omega arith)) outside);
+  own = OwnChanges-trans old mid new space now then cleared.own own;
+  account = AccountFollows-ranged old mid new space now then first page Unmapped cleared.moves cleared.account account from below;
   takes = TakesNothing-trans old mid new cleared.takes takes;
 }
 
@@ -139,15 +149,33 @@ no_keys [] none = refl
 no_keys (key ∷ keys) none = absurd (none key (0, omega arith, refl))
 
 -- a space that was cleared leaves the owners
-pub SpaceLeaves-cleared : (old new : Heap) (space now : List (Option ℕ)) → IsCleared old new space now 0 256 → length now ≡ 4
+pub SpaceLeaves-cleared : (old new : Heap) (space now : List (Option ℕ)) → IsOwnedWith old space → IsCleared old new space now 0 256 → length now ≡ 4
     → ((key : ℕ) (node : Node) → object new.nodes key ≡ Some node → length node.entries ≡ 64)
     → SpaceLeaves old new space
-SpaceLeaves-cleared old new space now cleared groups long = record {
+SpaceLeaves-cleared old new space now given cleared groups long = record {
   owners = λ others owned.
       let after : IsOwned new (with_space now others) = cleared.moves.owners others owned in
-      IsOwned-space_leaves new others now
-      (no_keys (keys_in now) (no_nodes new.nodes now (IsOwned-space new others now after) groups long (λ page below. cleared.gone page (omega arith) below)))
-      after;
+      IsOwned-space_leaves new others now (no_keys (keys_in now) (none_left others after)) after;
   others = cleared.moves.others;
+  own = record {
+    nodes = λ key outside.
+        let nodes = cleared.own.nodes in
+        nodes.outside key (λ named. ⊎_elim outside (none_left given.0 (cleared.moves.owners given.0 given.1) key) (Contains-append_cases (keys_in space) (keys_in now) key named));
+    pages = cleared.own.stay;
+  };
+  account = λ number before pid accounted.
+      let moved = cleared.account number before pid accounted in
+      let cleared_all : after_unmap before pid 0 256 ≡ after_clear before pid =
+      ap (with_places before pid) (with_range-all (places_of before pid) 256 Unmapped accounted.whole ∙ sym no_places_are) in
+      subst (λ after. AccountLeaves old new space number before after pid) cleared_all (record {
+        renumbered = moved.renumbered;
+        numbers = moved.accounted.numbers;
+        others = moved.others;
+        kept = moved.kept;
+        pids = moved.pids;
+      });
   kept = cleared.moves.kept;
 }
+  where
+    none_left : (others : Owners) → IsOwned new (with_space now others) → (key : ℕ) → Contains (keys_in now) key → ⊥
+    none_left others after = no_nodes new.nodes now (IsOwned-space new others now after) groups long (λ page below. cleared.gone page (omega arith) below)

@@ -1,15 +1,12 @@
 -- A space that gets the pages of another one after another.
-use Rattle.std.proofs.Common.{◌≡◌, ◌≢◌, ◌⊎◌, ℕ, zero, suc, ◌+◌, ◌-◌, ◌/◌, ◌%◌, ◌<◌, ◌≤◌, Bool, true, false, cond, is_some, IsSome, List, [], ◌∷◌, ◌++◌, Option, None, Some, length, get_or, refl, sym, ap, ◌∙◌, subst, inl, inr, ⊎_elim, arith}
-use Rattle.std.specs.List.{Contains}
-use Rattle.std.proofs.lemmas.Bool.{cases_lt, cases_eq, eq-eqb, ne_eqb, false≢true, true≢false}
+use Rattle.std.proofs.Common.{◌≡◌, ◌≢◌, ℕ, zero, suc, ◌+◌, ◌-◌, ◌/◌, ◌<◌, ◌≤◌, Bool, true, false, cond, is_some, IsSome, List, [], ◌∷◌, Option, None, Some, get_or, replicate, refl, sym, ap, ◌∙◌, subst, ⊎_elim, arith}
+use Rattle.std.proofs.lemmas.Bool.{cases_eq, false≢true, true≢false}
 use Rattle.kabi_types.specs.declared.classes.Class.TheVariants as class
 use Rattle.kheap_slabs.specs.Counts.{with_count}
-use Rattle.kheap_slabs.specs.Heap.{Heap, IsWellFormed}
-use Rattle.kheap_slabs.specs.Objects.{object}
+use Rattle.kheap_slabs.specs.Heap.{Heap}
 use Rattle.kheap_slabs.specs.Owners.{Owners, with_space, IsOwned}
-use Rattle.kheap_slabs.specs.Purse.{Purse, CanPay, IsPaid, TakesNothing}
-use Rattle.kheap_slabs.specs.Spaces.{is_mapped, keys_in, OwnsNodes, IsCounted, count_at, names_page}
-use Rattle.kheap_slabs.specs.declared.objects.Node.{Node}
+use Rattle.kheap_slabs.specs.Purse.{Purse, IsPaid, TakesNothing}
+use Rattle.kheap_slabs.specs.Spaces.{is_mapped, keys_in, OwnsNodes, count_at, names_page}
 use Rattle.kheap_slabs.specs.declared.objects.Page.{Page}
 use Rattle.kheap_slabs.specs.declared.objects.PageEntry.{PageEntry}
 use Rattle.kheap_slabs.specs.declared.objects.PageEntry.TheVariants as entry
@@ -18,13 +15,22 @@ use Rattle.kheap_slabs.proofs.PaidLemmas.{IsPaid-refl, IsPaid-trans, IsPaid-noth
 use Rattle.page_space.specs.Entries.{key_of, entry_at, PageTurns}
 use Rattle.page_space.specs.Contents.{content_of, content_at, SpaceMoves, IsForked}
 use Rattle.page_space.specs.Frames.{AllNamed, FramesStay}
-use Rattle.page_space.proofs.MoveLemmas.{other_entries, SpaceMoves-turned, content_others}
+use Rattle.page_space.proofs.ForkAccount.{AccountForksTo, AccountForksTo-none, AccountForksTo-unmapped, AccountForksTo-more}
+use Rattle.page_space.proofs.MoveLemmas.{IsNamed-entry, other_entries, SpaceMoves-turned, content_others}
 use Rattle.page_space.proofs.TurnLemmas.{entry_none}
 
 -- So far the pages up to this one are in the new space, and of its nodes no more are paid for than groups were entered.
 pub record IsForking (old : Heap) (before : Purse) (new : Heap) (after : Purse) (of now : List (Option ℕ)) (page : ℕ) : Type 0 where
   pub forked : IsForked old before new after of now page
   pub left : before.left.node ≤ after.left.node + page / 64 + cond (is_some (key_of now page)) 1 0
+  pub account : AccountForksTo old new of now page
+
+-- where there is nothing there is nothing at any place
+pub none_there : (n at : ℕ) → get_or {A = Option ℕ} (replicate n None) at None ≡ None
+none_there zero zero = refl
+none_there zero (suc at) = refl
+none_there (suc n) zero = refl
+none_there (suc n) (suc at) = none_there n at
 
 -- nothing is in it yet
 pub IsForking-none : (h : Heap) (purse : Purse) (of empty : List (Option ℕ)) → keys_in empty ≡ [] → ((page : ℕ) → key_of empty page ≡ None)
@@ -40,12 +46,13 @@ IsForking-none h purse of empty none free = record {
     spent = refl;
   };
   left = omega arith;
+  account = AccountForksTo-none h of empty (λ page. entry_none h.nodes empty page (free page));
 }
 
 -- a page that isn't mapped
 pub IsForking-unmapped : (old : Heap) (before : Purse) (mid : Heap) (between : Purse) (of now : List (Option ℕ)) (others : Owners) (page : ℕ) → IsForking old before mid between of now page
-    → IsOwned old (with_space of others) → entry_at mid.nodes of page ≡ entry.Unmapped → IsForking old before mid between of now (page + 1)
-IsForking-unmapped old before mid between of now others page forking owned unmapped = record {
+    → IsOwned old (with_space of others) → page < 256 → entry_at mid.nodes of page ≡ entry.Unmapped → IsForking old before mid between of now (page + 1)
+IsForking-unmapped old before mid between of now others page forking owned low unmapped = record {
   forked = record {
     owners = forking.forked.owners;
     others = forking.forked.others;
@@ -65,6 +72,7 @@ IsForking-unmapped old before mid between of now others page forking owned unmap
       (λ same. omega (arith, forking.left, ap {B = ℕ} (λ g. cond (is_some (get_or now g None)) 1 0) same))
       (λ next. omega (arith, forking.left, at_most (key_of now page)))
       (cases_eq ((page + 1) / 64) (page / 64));
+  account = AccountForksTo-unmapped old mid of now page forking.account low unmapped;
 }
   where
     at_most : (key : Option ℕ) → cond (is_some key) 1 0 ≤ 1
@@ -188,4 +196,8 @@ module _ (old mid between_heap new : Heap) (before between after : Purse) (of no
         omega (arith, key_there, left_by some (key_of now page) refl))
         (λ next. omega (arith, left_by some (key_of now page) refl))
         (cases_eq ((page + 1) / 64) (page / 64));
+    account = AccountForksTo-more old mid new of now then others page e forking.account below forking.forked.owners owned is turned
+        (λ frame. omega (arith, counts frame, ap (λ pages. count_at pages frame) pages_same))
+        owned_now.pages (let after_moves = moves.owners with_of owned_now in after_moves.pages)
+        (IsNamed-entry mid.nodes mid.pages of page e owned_now.pages (sym is));
   }

@@ -1,24 +1,28 @@
 -- Which pages of a space are mapped, and pages that are mapped one after another.
-use Rattle.std.proofs.Common.{◌≡◌, ◌≢◌, ◌==◌, ◌⊎◌, ℕ, zero, suc, ◌+◌, ◌-◌, ◌*◌, ◌/◌, ◌%◌, ◌<◌, ◌≤◌, Bool, true, false, cond, min, is_some, IsSome, MatchBool, List, [], ◌∷◌, ◌++◌, Option, None, Some, length, get_or, refl, sym, ap, ◌∙◌, subst, inl, inr, ⊎_elim, arith}
+use Rattle.std.proofs.Common.{◌≡◌, ◌≢◌, ◌==◌, ℕ, ◌+◌, ◌-◌, ◌/◌, ◌<◌, ◌≤◌, Bool, true, false, cond, is_some, IsSome, MatchBool, List, Option, None, Some, length, get_or, refl, sym, ap, ◌∙◌, subst, inl, inr, ⊎_elim, arith}
 use Rattle.std.specs.Option.{option_map}
 use Rattle.std.proofs.lemmas.Bool.{cases_lt, cases_eq, cond-false, ne_eqb, false≢true}
 use Rattle.kabi_types.specs.declared.classes.Class.TheVariants as class
-use Rattle.posix_defs.specs.Memory.{Memory, zero_page, page_at, with_pages, is_mapped as is_mapped_in, is_mapped_range, lowest_free_run, lowest_run}
+use Rattle.posix_defs.specs.Memory.{Memory, zero_page, with_pages, Zero, is_mapped as is_mapped_in, is_mapped_range, lowest_free_run, lowest_run}
 use Rattle.posix_defs.specs.Needs.{pages_touched, nodes_for}
 use Rattle.kheap_slabs.specs.Counts.{with_count}
 use Rattle.kheap_slabs.specs.Heap.{Heap}
-use Rattle.kheap_slabs.specs.Owners.{Owners, with_space, IsOwned}
+use Rattle.kheap_slabs.specs.Owners.{with_space, IsOwned}
 use Rattle.kheap_slabs.specs.Purse.{Purse, IsPaid}
-use Rattle.kheap_slabs.specs.Spaces.{is_mapped, IsCounted, count_at, names_page, bytes_at}
+use Rattle.kheap_slabs.specs.Spaces.{is_mapped, IsCounted, count_at, bytes_at}
 use Rattle.kheap_slabs.specs.declared.objects.Page.{Page}
 use Rattle.kheap_slabs.specs.declared.objects.PageEntry.{PageEntry}
 use Rattle.kheap_slabs.specs.declared.objects.PageEntry.TheVariants as entry
 use Rattle.kheap_slabs.specs.Objects.{object}
 use Rattle.kheap_slabs.proofs.PaidLemmas.{IsPaid-refl, IsPaid-trans}
+use Rattle.page_space.specs.Accounts.{turned_at, AccountFollows}
+use Rattle.page_space.specs.Changes.{OwnChanges}
 use Rattle.page_space.specs.Entries.{key_of, entry_at, is_mapped_at, PageTurns}
 use Rattle.page_space.specs.Contents.{content_of, content_at, StandsFor, IsOwnedWith, SpaceMoves, IsFilled}
 use Rattle.page_space.specs.Frames.{FramesStay}
-use Rattle.page_space.specs.Runs.{IsFreeFrom, IsMappedRun, HasUnmapped}
+use Rattle.page_space.specs.Runs.{IsMappedRun, HasUnmapped}
+use Rattle.page_space.proofs.AccountLemmas.{account-known, AccountFollows-unranged, AccountFollows-ranged}
+use Rattle.page_space.proofs.ChangeLemmas.{OwnChanges-refl, OwnChanges-trans, OwnChanges-turned}
 use Rattle.page_space.proofs.ClearLemmas.{page_at-inside, page_at-below, page_at-above}
 use Rattle.page_space.proofs.MoveLemmas.{named_once, counted_used, SpaceMoves-turned, SpaceMoves-refl, SpaceMoves-trans, content_others}
 use Rattle.page_space.proofs.RunLemmas.{all_pass, one_fails, lowest_free_run-same}
@@ -79,6 +83,8 @@ IsFilling-none h purse space first = record {
     zeros = λ page from below. absurd (omega arith);
     stays = λ page outside. refl;
     entries = λ page from. refl;
+    own = OwnChanges-refl h space;
+    account = AccountFollows-unranged h space first Zero;
     paid = IsPaid-refl h purse;
     spent = refl;
   };
@@ -102,7 +108,7 @@ node_left old before mid between space now first page end filling from below wit
 
 -- one page more
 module _ (old mid new : Heap) (before between after : Purse) (space now then : List (Option ℕ)) (first page : ℕ)
-    (filling : IsFilling old before mid between space now first page) (from : first ≤ page) (owned : IsOwnedWith old space)
+    (filling : IsFilling old before mid between space now first page) (from : first ≤ page) (below : page < 256) (owned : IsOwnedWith old space)
     (turns : PageTurns mid.nodes new.nodes now then page entry.Unmapped entry.Zero)
     (kept : new ≡ record mid { nodes = new.nodes; high = new.high }) (paid : IsPaid mid between new after)
     (spent : after ≡ record between { left = with_count between.left class.Node (between.left.node - cond (is_some (key_of now page)) 0 1) }) where
@@ -118,6 +124,20 @@ module _ (old mid new : Heap) (before between after : Purse) (space now then : L
       (λ named key used. subst (λ pages. 0 < count_at pages key) (sym pages_same) (named key (subst (λ pages. is_some (object pages key) ≡ true) pages_same used)))
       stay
       (kept ∙ ap (λ (pages : List (Option Page)). record mid { nodes = new.nodes; pages = pages; high = new.high }) (sym pages_same))
+
+  owned_mid : IsOwned mid (with_space now owned.0)
+  owned_mid = let before_moves = filling.filled.moves in before_moves.owners owned.0 owned.1
+
+  account : AccountFollows mid new now then (λ frames pid. turned_at frames pid page Zero)
+  account = account-known mid new now then page entry.Unmapped entry.Zero turns below
+      (λ frame. omega (arith, ap (λ pages. count_at pages frame) pages_same)) owned_mid.pages (let after_moves = moves.owners owned.0 owned_mid in after_moves.pages) tt
+
+  own : OwnChanges mid new now then
+  own = OwnChanges-turned mid new now then page entry.Unmapped entry.Zero below turns
+      (λ key none used. ap (λ pages. object pages key) pages_same) (λ key same. absurd (not_frame key same))
+    where
+      not_frame : (key : ℕ) → entry.Zero ≡ entry.Frame key → ⊥
+      not_frame key same = cc
 
   others_stay : (at : ℕ) → at ≢ page → content_at new then at ≡ content_at mid now at
   others_stay = content_others mid new now then page entry.Unmapped entry.Zero owned.0 turns moves stay (let before_moves = filling.filled.moves in before_moves.owners owned.0 owned.1)
@@ -165,6 +185,8 @@ module _ (old mid new : Heap) (before between after : Purse) (space now then : L
           let apart : at ≢ page = λ same. ⊎_elim (λ below. omega arith) (λ above. omega arith) outside in
           others_stay at apart ∙ filling.filled.stays at (⊎_elim inl (λ above. inr (omega arith)) outside);
       entries = λ at above. turns.others at (λ same. omega arith) ∙ filling.filled.entries at (omega arith);
+      own = OwnChanges-trans old mid new space now then filling.filled.own own;
+      account = AccountFollows-ranged old mid new space now then first page Zero filling.filled.moves filling.filled.account account from below;
       paid = IsPaid-trans old before mid between new after filling.filled.paid paid;
       spent = spent
           ∙ (ap (λ (p : Purse). record p { left = with_count p.left class.Node (between.left.node - cond (is_some (key_of now page)) 0 1) }) filling.filled.spent

@@ -1,7 +1,7 @@
 -- What stands in the pages of an address space, by its nodes and pages in the heap, and what a change leaves to others.
-use Rattle.std.specs.Prelude.{◌≡◌, ◌⊎◌, ℕ, ◌<◌, ◌≤◌, List, ◌∷◌, Option, None, Some}
+use Rattle.std.specs.Prelude.{◌≡◌, ◌⊎◌, ℕ, ◌-◌, ◌<◌, ◌≤◌, List, ◌∷◌, Option, None, Some}
 use Rattle.std.specs.List.{Contains}
-use Rattle.posix_defs.specs.Memory.{Memory, zero_page, page_at}
+use Rattle.posix_defs.specs.Memory.{Memory, zero_page, page_at, Frames, after_map, after_unmap, after_clear}
 use Rattle.kheap_slabs.specs.Heap.{Heap}
 use Rattle.kheap_slabs.specs.Owners.{Owners, with_space, IsOwned}
 use Rattle.kabi_types.specs.declared.classes.Class.TheVariants as class
@@ -11,6 +11,8 @@ use Rattle.kheap_slabs.specs.Spaces.{bytes_at}
 use Rattle.kheap_slabs.specs.declared.objects.Page.{Page}
 use Rattle.kheap_slabs.specs.declared.objects.PageEntry.{PageEntry}
 use Rattle.kheap_slabs.specs.declared.objects.PageEntry.TheVariants as entry
+use Rattle.page_space.specs.Accounts.{IsAccounted, AccountFollows, AccountLeaves}
+use Rattle.page_space.specs.Changes.{OwnChanges, OwnGoes}
 use Rattle.page_space.specs.Entries.{entry_at}
 
 -- the bytes that an entry stands for, if its page is mapped
@@ -44,6 +46,8 @@ pub record IsCleared (old new : Heap) (space now : List (Option ℕ)) (first end
   pub moves : SpaceMoves old new space now
   pub gone : (page : ℕ) → first ≤ page → page < end → entry_at new.nodes now page ≡ entry.Unmapped
   pub stays : (page : ℕ) → (page < first) ⊎ (end ≤ page) → content_at new now page ≡ content_at old space page
+  pub own : OwnChanges old new space now
+  pub account : AccountFollows old new space now (λ frames pid. after_unmap frames pid first (end - first))
   pub takes : TakesNothing old new
 
 -- The space is no owner any more, and nothing but nodes and pages is other than before. Whoever else owned a part of the
@@ -52,6 +56,9 @@ pub record SpaceLeaves (old new : Heap) (space : List (Option ℕ)) : Type 0 whe
   pub owners : (others : Owners) → IsOwned old (with_space space others) → IsOwned new others
   pub others : (others : Owners) (other : List (Option ℕ)) → IsOwned old (with_space space others) → Contains others.spaces other
       → (page : ℕ) → content_at new other page ≡ content_at old other page
+  pub own : OwnGoes old new space
+  pub account : (number : ℕ → ℕ) (before : Frames) (pid : ℕ) → IsAccounted old number before pid space
+      → AccountLeaves old new space number before (after_clear before pid) pid
   pub kept : new ≡ record old { nodes = new.nodes; pages = new.pages; high = new.high }
 
 -- The pages of the space from one up to below another are mapped now and zero, its other pages have what they had, and
@@ -61,6 +68,8 @@ pub record IsFilled (old : Heap) (before : Purse) (new : Heap) (after : Purse) (
   pub zeros : (page : ℕ) → first ≤ page → page < end → content_at new now page ≡ Some zero_page
   pub stays : (page : ℕ) → (page < first) ⊎ (end ≤ page) → content_at new now page ≡ content_at old space page
   pub entries : (page : ℕ) → end ≤ page → entry_at new.nodes now page ≡ entry_at old.nodes space page
+  pub own : OwnChanges old new space now
+  pub account : AccountFollows old new space now (λ frames pid. after_map frames pid first (end - first))
   pub paid : IsPaid old before new after
   pub spent : after ≡ record before { left = with_count before.left class.Node after.left.node }
 

@@ -1,5 +1,5 @@
 -- What an address space has at its pages, by its nodes in the heap.
-use Rattle.std.specs.Prelude.{◌≡◌, ◌≢◌, ℕ, ◌+◌, ◌/◌, ◌%◌, ◌<◌, Bool, List, [], Option, None, Some, slice_index_or}
+use Rattle.std.specs.Prelude.{◌≡◌, ◌≢◌, ℕ, ◌+◌, ◌/◌, ◌%◌, ◌<◌, ◌≤◌, Bool, true, List, Option, None, Some, slice_index_or}
 use Rattle.kheap_slabs.specs.Keys.{ChangesKeys}
 use Rattle.kheap_slabs.specs.Objects.{object}
 use Rattle.kheap_slabs.specs.Spaces.{is_mapped, keys_in, OwnsNodes, names_page, names_of}
@@ -37,3 +37,7 @@ pub record PageTurns (old new : List (Option Node)) (space now : List (Option �
   pub keys : ChangesKeys old new (keys_in space) (keys_in now)
   pub owns : OwnsNodes new now
   pub names : (frame : ℕ) → names_of new frame + names_page frame was ≡ names_of old frame + names_page frame is
+
+-- each page that the n bytes from an address touch is mapped
+abbrev pub IsMappedRange : List (Option Node) → List (Option ℕ) → ℕ → ℕ → Type 0
+IsMappedRange nodes space addr n = (byte : ℕ) → addr ≤ byte → byte < addr + n → is_mapped_at nodes space (byte / 4096) ≡ true

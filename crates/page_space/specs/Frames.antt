@@ -1,5 +1,5 @@
 -- The frames that page entries name, by their pages in the heap.
-use Rattle.std.specs.Prelude.{◌≡◌, ℕ, ◌<◌, List, Option, None, Some}
+use Rattle.std.specs.Prelude.{◌≡◌, ℕ, ◌<◌, List, Option}
 use Rattle.kheap_slabs.specs.Objects.{InUse}
 use Rattle.kheap_slabs.specs.Spaces.{count_at, bytes_at}
 use Rattle.kheap_slabs.specs.declared.objects.Page.{Page}

@@ -1,4 +1,9 @@
+pub mod Accounts
+pub mod Changes
 pub mod Contents
 pub mod Entries
 pub mod Frames
+pub mod Putting
 pub mod Runs
+pub mod Sequences
+pub mod Standing

@@ -8,7 +8,8 @@ ghost use Rattle.kheap_slabs.specs.Purse.{CanPay, IsPaid, TakesNothing};
 ghost use Rattle.kheap_slabs.specs.Spaces.{names_page, count_at, CountRises, CountFalls};
 ghost use Rattle.page_space.specs.Frames.{IsNamed, AllNamed, FramesStay};
 
-use kheap_slabs::{KHeap, PageEntry};
+use kabi_types::Class;
+use kheap_slabs::{KHeap, Page, PageEntry, Purse};
 
 // One entry fewer names the page; with the last one it goes.
 pub(crate) fn drop_page(heap: &mut KHeap, key: u32)
@@ -39,11 +40,26 @@ pub(crate) fn share_page(heap: &mut KHeap, key: u32)
     heap.set_page_count(key, count + 1);
 }
 
+// A page with these bytes, which one entry is to name.
+pub(crate) fn make_page(heap: &mut KHeap, purse: &mut Purse, bytes: [u8; 4096]) -> u32
+    requires room { CanPay heap.old purse.old }
+    requires left { 0 < purse.old.left.page }
+    ensures vacant { object heap.old.pages result ≡ None }
+    ensures stored { object heap.new.pages result ≡ Some (record { bytes = bytes; count = 1 }) }
+    ensures kept { heap.new ≡ record heap.old { pages = put heap.old.pages result (record { bytes = bytes; count = 1 }); high = heap.new.high } }
+    ensures paid { IsPaid heap.old purse.old heap.new purse.new }
+    ensures spent { purse.new ≡ record purse.old { left = with_count purse.old.left class.Page (purse.old.left.page - 1) } }
+{
+    purse.spend(Class::Page);
+    heap.insert_page(Page { bytes, count: 1 })
+}
+
 // An entry says this no more.
 pub(crate) fn drop_entry(heap: &mut KHeap, entry: PageEntry)
     requires { IsNamed heap.old.pages entry }
     ensures counts { (page : _) → count_at heap.new.pages page + names_page page entry ≡ count_at heap.old.pages page }
     ensures named { AllNamed heap.old.pages → AllNamed heap.new.pages }
+    ensures others { (page : _) → names_page page entry ≡ 0 → object heap.new.pages page ≡ object heap.old.pages page }
     ensures bytes { FramesStay heap.old.pages heap.new.pages }
     ensures kept { heap.new ≡ record heap.old { pages = heap.new.pages } }
     ensures takes { TakesNothing heap.old heap.new }

@@ -1,11 +1,14 @@
-ghost use Rattle.std.specs.Prelude.{IfOk, IfSome, OnErr, ok_or, ◌≡◌, ◌≢◌, ◌+◌, ◌-◌, ◌/◌, ◌%◌, ◌<◌, ◌≤◌, IsSome, MatchBool, None, Some, length, true, is_some, if◌then◌else◌, slice_set};
+ghost use Rattle.std.specs.Prelude.{IfOk, IfSome, OnErr, ok_or, ◌≡◌, ◌≢◌, ℕ, ◌+◌, ◌-◌, ◌/◌, ◌%◌, ◌<◌, ◌≤◌, IsSome, MatchBool, None, Some, length, true, is_some, if◌then◌else◌, slice_set};
 ghost use Rattle.kabi_types.specs.declared.classes.Class.TheVariants as class;
 ghost use Rattle.kheap_slabs.specs.Counts.{counted, with_count};
 ghost use Rattle.kheap_slabs.specs.Purse.{CanPay, IsPaid, TakesNothing};
 ghost use Rattle.kheap_slabs.specs.Spaces.{is_mapped, mapped_count, OwnsNodes};
-ghost use Rattle.page_space.specs.Entries.{key_of, entry_at, is_mapped_at, PageTurns};
+ghost use Rattle.page_space.specs.Accounts.{turned_at, IsAccounted, AccountFollows, AccountForks};
+ghost use Rattle.page_space.specs.Changes.{OwnChanges};
+ghost use Rattle.page_space.specs.Entries.{key_of, entry_at, is_mapped_at, PageTurns, IsMappedRange};
 ghost use Rattle.page_space.specs.Contents.{content_at, StandsFor, IsOwnedWith, SpaceMoves, IsCleared, SpaceLeaves, IsFilled, IsForked};
-ghost use Rattle.posix_defs.specs.Memory.{Memory, is_mapped_range, lowest_free_run, lowest_run, with_pages, without_pages};
+ghost use Rattle.posix_defs.specs.Memory.{Memory, is_mapped_range, lowest_free_run, lowest_run, with_pages, without_pages, Frames, after_map, after_unmap, after_fork};
+ghost use Rattle.posix_defs.specs.Memory as account;
 ghost use Rattle.posix_defs.specs.Needs.{nodes_for};
 ghost use Rattle.page_space.specs.Runs.{IsFreeFrom, IsMappedRun, HasUnmapped};
 ghost use Rattle.kabi_types.specs.declared.errnos.Errno.TheVariants.{EMFILE};
@@ -58,7 +61,7 @@ impl Space {
     }
 
     // What the space has at a page.
-    fn entry(&self, heap: &KHeap, page: u32) -> PageEntry
+    pub(crate) fn entry(&self, heap: &KHeap, page: u32) -> PageEntry
         requires within { page < 256 }
         requires owns { OwnsNodes heap.now.nodes self.now }
         ensures { result ≡ entry_at heap.now.nodes self.now page }
@@ -89,7 +92,7 @@ impl Space {
     }
 
     // Gives a page whose group has a Node another entry.
-    fn set_entry(&self, heap: &mut KHeap, page: u32, entry: PageEntry)
+    pub(crate) fn set_entry(&self, heap: &mut KHeap, page: u32, entry: PageEntry)
         requires within { page < 256 }
         requires owns { OwnsNodes heap.old.nodes self.now }
         requires there { IsSome (key_of self.now page) }
@@ -165,6 +168,8 @@ impl Space {
         ensures entries { (other : _) → other ≢ page → entry_at heap.new.nodes self.new other ≡ entry_at heap.old.nodes self.old other }
         ensures stays { (other : _) → other ≢ page → content_at heap.new self.new other ≡ content_at heap.old self.old other }
         ensures moves { SpaceMoves heap.old heap.new self.old self.new }
+        ensures own { OwnChanges heap.old heap.new self.old self.new }
+        ensures account { AccountFollows heap.old heap.new self.old self.new (λ frames pid. turned_at frames pid page account.Unmapped) }
         ensures takes { TakesNothing heap.old heap.new }
     {
         let entry = self.entry(heap, page);
@@ -202,7 +207,8 @@ impl Space {
     pub fn mapped(&self, heap: &KHeap, addr: u32, n: u32) -> bool
         requires within { addr + n ≤ 1048576 }
         requires owned { IsOwnedWith heap.now self.now }
-        ensures { (memory : Memory) → StandsFor heap.now self.now memory → result ≡ is_mapped_range memory addr n }
+        ensures memory { (memory : Memory) → StandsFor heap.now self.now memory → result ≡ is_mapped_range memory addr n }
+        ensures pages { result ≡ true → IsMappedRange heap.now.nodes self.now addr n }
     {
         n == 0 || self.is_mapped_run(heap, addr / 4096, (addr + n - 1) / 4096 + 1)
     }
@@ -257,7 +263,9 @@ impl Space {
             → StandsFor heap.new self.new (with_pages memory first pages)) }
         ensures unchanged { OnErr result ((heap.new ≡ heap.old) × (self.new ≡ self.old) × (purse.new ≡ purse.old)) }
         ensures owned { IsOwnedWith heap.new self.new }
+        ensures account { IfOk result (λ first. AccountFollows heap.old heap.new self.old self.new (λ frames pid. after_map frames pid first pages)) }
         ensures moves { SpaceMoves heap.old heap.new self.old self.new }
+        ensures own { OwnChanges heap.old heap.new self.old self.new }
         ensures paid { IsPaid heap.old purse.old heap.new purse.new }
         ensures spent { purse.new ≡ record purse.old { left = with_count purse.old.left class.Node purse.new.left.node } }
     {
@@ -289,7 +297,9 @@ impl Space {
         ensures memory { (memory : Memory) → length memory ≡ 256 → StandsFor heap.old self.old memory
             → StandsFor heap.new self.new (without_pages memory page count) }
         ensures owned { IsOwnedWith heap.new self.new }
+        ensures account { AccountFollows heap.old heap.new self.old self.new (λ frames pid. after_unmap frames pid page count) }
         ensures moves { SpaceMoves heap.old heap.new self.old self.new }
+        ensures own { OwnChanges heap.old heap.new self.old self.new }
         ensures takes { TakesNothing heap.old heap.new }
     {
         self.unmap_run(heap, page, page + count);
@@ -300,6 +310,8 @@ impl Space {
         requires owned { IsOwnedWith heap.old of.now }
         requires room { CanPay heap.old purse.old }
         requires left { 4 ≤ purse.old.left.node }
+        ensures account { (number : ℕ → ℕ) (before : Frames) (parent : ℕ) → IsAccounted heap.old number before parent of.now
+            → AccountForks heap.old heap.new of.now result number before (after_fork before parent) parent }
         ensures forked { IsForked heap.old purse.old heap.new purse.new of.now result 256 }
         ensures child { IsOwnedWith heap.new result }
         ensures parent { IsOwnedWith heap.new of.now }

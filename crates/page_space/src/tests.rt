@@ -4,6 +4,8 @@ ghost use Rattle.std.specs.Prelude.{◌≡◌, IfOk};
 ghost use Rattle.kheap_slabs.specs.Purse.{CanPay};
 ghost use Rattle.page_space.specs.Contents.{IsOwnedWith};
 
+mod sharing;
+
 use crate::Space;
 use kabi_types::{Memory, Need};
 use kheap_slabs::{KHeap, Purse};

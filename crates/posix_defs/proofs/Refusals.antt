@@ -1,24 +1,12 @@
 -- ENOMEM is answered as a refusal alone.
-use Rattle.std.proofs.Common.{◌≡◌, ◌≢◌, ℕ, List, [], ◌∷◌, ◌++◌}
+use Rattle.std.proofs.Common.{List, [], ◌∷◌, ◌++◌}
 use Rattle.std.specs.List.{AllByRecursion}
-use Rattle.kabi_types.specs.declared.calls.Call.{Call}
-use Rattle.kabi_types.specs.declared.calls.Call.TheVariants as call
 use Rattle.kabi_types.specs.declared.entries.Entry.{Entry}
 use Rattle.kabi_types.specs.declared.entries.Entry.TheVariants as entry
-use Rattle.kabi_types.specs.declared.errnos.Errno.TheVariants.{ENOMEM}
-use Rattle.kabi_types.specs.declared.replies.Reply.{Reply}
-use Rattle.kabi_types.specs.declared.replies.Reply.TheVariants.{Fail}
 use Rattle.kabi_types.specs.declared.scripts.Script.{Script}
-use Rattle.posix_defs.specs.Plain.{Plain, call_of}
-use Rattle.posix_defs.specs.Answer.{Done}
-use Rattle.posix_defs.specs.Posix.{posix}
+use Rattle.posix_defs.specs.Plain.{call_of}
+use Rattle.posix_defs.proofs.Errors.{never_wants}
 use Rattle.posix_defs.specs.History.{Past, IsRun, boots, goes_on, MayFollow, WantsNothing}
-
--- the plain machine has unlimited memory
-never_wants : (script : Script) (plain next : Plain) (pid : ℕ) (which : Call) (reply : Reply) → posix script plain pid which ≡ Done reply next → reply ≢ Fail ENOMEM
-never_wants script plain next pid call.Getpid reply e = λ want. cc
-never_wants script plain next pid (call.Exit status) reply e = λ want. cc
-never_wants script plain next pid _ reply e = λ want. cc
 
 entry_wants_nothing : (script : Script) (past next : Past) (added : Entry) → MayFollow script past added next → WantsNothing added
 entry_wants_nothing script past next (entry.Done pid _ reply) follows = never_wants script past.plain follows.plain pid (call_of script past.plain pid) reply follows.answers

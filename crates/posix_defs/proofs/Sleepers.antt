@@ -7,9 +7,10 @@ use Rattle.kabi_types.specs.declared.classes.Need.{Need}
 use Rattle.kabi_types.specs.declared.entries.Entry.{Entry}
 use Rattle.kabi_types.specs.declared.entries.Entry.TheVariants as entry
 use Rattle.kabi_types.specs.declared.scripts.Script.{Script}
-use Rattle.posix_defs.specs.Sizes.{need_of}
+use Rattle.posix_defs.specs.Needs.{need_of}
 use Rattle.posix_defs.specs.Plain.{Plain, call_of}
-use Rattle.posix_defs.specs.History.{AreCovered, Fills, Past, IsRun, MayFollow, boots, goes_on, fills_after, is_among, is_up, others, still_asleep, would_block}
+use Rattle.posix_defs.specs.Machine.{would_block}
+use Rattle.posix_defs.specs.History.{AreCovered, Fills, Past, IsRun, MayFollow, boots, goes_on, fills_after, is_among, is_up, others, still_asleep}
 use Rattle.posix_defs.specs.Sleeping.{is_of, sleeps_by}
 
 -- the test for a number tells whether it is that number

@@ -1,61 +1,103 @@
--- The core's state: a world, how far each process is with its call, and what the admitted calls have in reserve.
-use Rattle.std.specs.Prelude.{ℕ, ◌+◌, Bool, true, false, not, List, [], ◌∷◌, unwrap_or, nat_le}
-use Rattle.std.specs.List.{list_any}
+-- The core's state: a world, and how far each process is with its call.
+use Rattle.std.specs.Prelude.{ℕ, ◌+◌, ◌==◌, Bool, true, false, not, if◌then◌else◌, List, [], ◌∷◌, filter, nat_le}
+use Rattle.std.specs.List.{list_any, sum_by}
 use Rattle.kabi_types.specs.Call.{kind_of}
 use Rattle.kabi_types.specs.declared.calls.Call.{Call}
-use Rattle.kabi_types.specs.declared.calls.CallKind.{CallKind}
 use Rattle.kabi_types.specs.declared.scripts.Script.{Script}
+use Rattle.posix_defs.specs.declared.phases.Asked.{Asked}
 use Rattle.posix_defs.specs.declared.phases.Phase.{Phase}
-use Rattle.posix_defs.specs.declared.phases.Phase.TheVariants.{User, Admitted, Dead}
-use Rattle.posix_defs.specs.Sizes.{bound, reserve}
-use Rattle.posix_defs.specs.ByPid.{at_pid, with_pid}
+use Rattle.posix_defs.specs.declared.phases.Phase.TheVariants.{User, Waiting, Admitted, Stranded, Dead}
+use Rattle.posix_defs.specs.declared.phases.Task.{Task}
+use Rattle.posix_defs.specs.Needs.{bound}
+use Rattle.posix_defs.specs.Sizes.{reserve}
 use Rattle.posix_defs.specs.Process.{is_alive}
-use Rattle.posix_defs.specs.Plain.{call_of}
+use Rattle.posix_defs.specs.Plain.{Plain, call_of}
 use Rattle.posix_defs.specs.World.{World, live_of, boot_world}
 
 pub record CoreState : Type 0 where
   pub world : World
-  -- of each process ever made
-  pub phases : List Phase
-  -- the sum of the bounds of the admitted calls, in bytes
-  pub reserved : ℕ
+  -- the processes that are alive, and those that have ended with their call admitted still, by rising pid
+  pub tasks : List Task
+
+-- the phase of a pid; Dead where there is no task of it
+abbrev pub phase_in : List Task → ℕ → Phase
+phase_in [] pid = Dead
+phase_in (task ∷ tasks) pid = if task.pid == pid then task.phase else phase_in tasks pid
+
+abbrev pub phase_of : CoreState → ℕ → Phase
+phase_of s pid = phase_in s.tasks pid
+
+-- the same tasks, where that of a pid is in another phase
+abbrev pub with_phase_in : List Task → ℕ → Phase → List Task
+with_phase_in [] pid phase = []
+with_phase_in (task ∷ tasks) pid phase =
+    if task.pid == pid then record task { phase = phase } ∷ tasks else task ∷ with_phase_in tasks pid phase
+
+abbrev pub with_phase : CoreState → ℕ → Phase → CoreState
+with_phase s pid phase = record s { tasks = with_phase_in s.tasks pid phase }
+
+-- what an admitted call has in reserve, in bytes
+abbrev pub held : Phase → ℕ
+held (Admitted asked) = asked.bound
+held (Stranded asked) = asked.bound
+held _ = 0
+
+-- the bounds of all admitted calls together
+abbrev pub reserved_in : List Task → ℕ
+reserved_in tasks = sum_by (λ task. held task.phase) tasks
 
 -- live bytes, the reserve that closing and ending may use, and what is reserved for admitted calls
 abbrev pub charged_in : CoreState → ℕ
-charged_in s = live_of s.world + reserve + s.reserved
-
-abbrev pub phase_of : CoreState → ℕ → Phase
-phase_of s pid = unwrap_or (at_pid s.phases pid) Dead
-
-abbrev pub with_phase : CoreState → ℕ → Phase → CoreState
-with_phase s pid phase = record s { phases = with_pid s.phases pid phase }
+charged_in s = live_of s.world + reserve + reserved_in s.tasks
 
 -- the call that a process makes next
 abbrev pub next_call : Script → CoreState → ℕ → Call
 next_call script s pid = call_of script s.world.plain pid
 
-abbrev pub next_kind : Script → CoreState → ℕ → CallKind
-next_kind script s pid = kind_of (next_call script s pid)
-
--- the bound of that call
-abbrev pub next_bound : Script → CoreState → ℕ → ℕ
-next_bound script s pid = bound (next_call script s pid)
+-- what a process asks for with its next call
+abbrev pub asked_by : Script → Plain → ℕ → Asked
+asked_by script plain pid = record { kind = kind_of (call_of script plain pid); bound = bound (call_of script plain pid) }
 
 abbrev pub lives : CoreState → ℕ → Bool
 lives s pid = is_alive s.world.plain.table pid
 
--- charged with the process's call stays within the heap
-abbrev pub fits : Script → CoreState → ℕ → Bool
-fits script s pid = nat_le (charged_in s + next_bound script s pid) script.heap
+-- charged with what is asked for stays within the heap
+abbrev pub fits : Script → CoreState → Asked → Bool
+fits script s asked = nat_le (charged_in s + asked.bound) script.heap
 
 abbrev pub is_admitted : Phase → Bool
-is_admitted Admitted = true
+is_admitted (Admitted _) = true
+is_admitted (Stranded _) = true
 is_admitted _ = false
 
 -- no call is admitted, of a live process or of one that has ended
 abbrev pub none_admitted : CoreState → Bool
-none_admitted s = not (list_any is_admitted s.phases)
+none_admitted s = not (list_any (λ task. is_admitted task.phase) s.tasks)
+
+abbrev pub is_waiting : Phase → Bool
+is_waiting (Waiting _) = true
+is_waiting _ = false
+
+-- the tasks whose calls wait for room, by rising pid
+abbrev pub waiting_in : List Task → List Task
+waiting_in tasks = filter (λ task. is_waiting task.phase) tasks
+
+-- the task's call waits, and there is room for it; and the same where there is none
+abbrev pub waits_and_fits : Script → CoreState → Phase → Bool
+waits_and_fits script s (Waiting asked) = fits script s asked
+waits_and_fits script s _ = false
+
+abbrev pub waits_in_vain : Script → CoreState → Phase → Bool
+waits_in_vain script s (Waiting asked) = not (fits script s asked)
+waits_in_vain script s _ = false
+
+-- there is room for some call that waits; and for some there is none
+abbrev pub some_fits : Script → CoreState → Bool
+some_fits script s = list_any (λ task. waits_and_fits script s task.phase) s.tasks
+
+abbrev pub some_wait_in_vain : Script → CoreState → Bool
+some_wait_in_vain script s = list_any (λ task. waits_in_vain script s task.phase) s.tasks
 
 -- one process, which has made no call
 abbrev pub boot_state : Script → CoreState
-boot_state script = record { world = boot_world script; phases = User ∷ []; reserved = 0 }
+boot_state script = record { world = boot_world script; tasks = record { pid = 1; phase = User } ∷ [] }

@@ -1,5 +1,5 @@
 -- The script that `gen` writes: rounds of calls on a few files, pipes and children, as the generator chooses them.
-use Rattle.std.specs.Prelude.{ℕ, zero, suc, ◌+◌, ◌%◌, ◌==◌, pos, if◌then◌else◌, List, [], ◌∷◌, ◌++◌, length, Option, None, Some, codes, decimal}
+use Rattle.std.specs.Prelude.{ℕ, zero, suc, ◌+◌, ◌%◌, ◌==◌, pos, if◌then◌else◌, List, [], ◌∷◌, ◌++◌, length, None, Some, codes, decimal}
 use Rattle.kabi_types.specs.declared.calls.CallKind.{CallKind}
 use Rattle.kabi_types.specs.declared.calls.CallKind.TheVariants as kind
 use Rattle.kabi_types.specs.declared.scripts.Chooser.TheVariants.{Plain}

@@ -14,12 +14,14 @@ use Rattle.kabi_types.specs.declared.entries.Entry.TheVariants as entry
 use Rattle.kabi_types.specs.declared.errnos.Errno.TheVariants.{ENOMEM}
 use Rattle.kabi_types.specs.declared.replies.Reply.TheVariants.{Fail}
 use Rattle.kabi_types.specs.declared.scripts.Script.{Script}
-use Rattle.posix_defs.specs.Sizes.{bound, need_of, reserve, room}
+use Rattle.posix_defs.specs.Needs.{bound, need_of}
+use Rattle.posix_defs.specs.Sizes.{reserve, room}
 use Rattle.posix_defs.specs.Process.{is_alive}
 use Rattle.posix_defs.specs.Plain.{Plain, answered, boot_plain, call_of, last_pid}
 use Rattle.posix_defs.specs.Answer.{Answer, Blocked, Done, Part, Ended}
 use Rattle.posix_defs.specs.Ending.{die}
-use Rattle.posix_defs.specs.Posix.{posix}
+use Rattle.posix_defs.specs.Killing.{sigkill}
+use Rattle.posix_defs.specs.Machine.{machine, would_block}
 use Rattle.posix_defs.specs.World.{Account, base, forget_dead, no_account, pins}
 use Rattle.posix_defs.specs.Turn.{account_after}
 use Rattle.posix_defs.specs.Victim.{victim_of}
@@ -55,14 +57,6 @@ is_among pid pids = list_any (λ other. other == pid) pids
 -- the process doesn't sleep
 abbrev pub is_up : Past → ℕ → Bool
 is_up past pid = not (is_among pid past.asleep)
-
-abbrev pub blocks : Answer → Bool
-blocks Blocked = true
-blocks _ = false
-
--- the process's next call would block
-abbrev pub would_block : Script → Plain → ℕ → Bool
-would_block script plain pid = blocks (posix script plain pid (call_of script plain pid))
 
 abbrev pub others : ℕ → List ℕ → List ℕ
 others pid pids = filter (λ other. not (other == pid)) pids
@@ -105,14 +99,14 @@ pub record MayRun (script : Script) (past : Past) (pid : ℕ) (kind : CallKind) 
 pub record IsAnswered (script : Script) (past : Past) (pid : ℕ) (kind : CallKind) (answer : Plain → Answer) (sleepers : List ℕ) (next : Past) : Type 0 where
   pub may_run : MayRun script past pid kind
   pub plain : Plain
-  pub answers : posix script past.plain pid (call_of script past.plain pid) ≡ answer plain
+  pub answers : machine script past.plain pid (call_of script past.plain pid) ≡ answer plain
   pub leads : next ≡ moves_on script (had_turn past (call_of script past.plain pid)) plain (account_after past.account past.plain pid (call_of script past.plain pid) (answer plain)) sleepers
 
 -- A call would block, and its process sleeps from now on.
 pub record FallsAsleep (script : Script) (past : Past) (pid : ℕ) (kind : CallKind) (next : Past) : Type 0 where
   pub may_run : MayRun script past pid kind
   pub up : is_up past pid ≡ true
-  pub blocked : posix script past.plain pid (call_of script past.plain pid) ≡ Blocked
+  pub blocked : machine script past.plain pid (call_of script past.plain pid) ≡ Blocked
   pub leads : next ≡ moves_on script (had_turn past (call_of script past.plain pid)) past.plain past.account (pid ∷ past.asleep)
 
 -- A call's bound is above what the heap can ever give, and it is answered ENOMEM.
@@ -140,7 +134,7 @@ pub record IsKilled (script : Script) (past : Past) (pid waiter need live : ℕ)
   pub fits_ever : need ≤ room script.heap
   pub all_pinned : live ≡ base past.plain past.account + size class.Vnode * pins past.plain
   pub too_much : script.heap < live + reserve + need
-  pub leads : next ≡ moves_on script past (die past.plain pid 9) (forget_dead (die past.plain pid 9) past.account) (others pid past.asleep)
+  pub leads : next ≡ moves_on script past (die past.plain pid sigkill) (forget_dead (die past.plain pid sigkill) past.account) (others pid past.asleep)
 
 -- An object that a call has put into a cache goes.
 pub record IsEvicted (script : Script) (past : Past) (what : Cached) (next : Past) : Type 0 where

@@ -11,6 +11,11 @@ pub mod ByPid
 pub mod QueuePlace
 pub mod Pipe
 pub mod QueueRuns
+pub mod Socket
+pub mod Sockets
+pub mod SocketLinks
+pub mod SocketRuns
+pub mod WorkedSockets
 pub mod Process
 pub mod Made
 pub mod Memory
@@ -22,11 +27,15 @@ pub mod Family
 pub mod Forking
 pub mod Waiting
 pub mod Killing
+pub mod MemoryCalls
 pub mod Machine
-pub mod Posix
 pub mod World
 pub mod Turn
+pub mod Relief
+pub mod Victim
 pub mod CoreState
+pub mod Licence
+pub mod SoundTasks
 pub mod Enabled
 pub mod CoreEvent
 pub mod Ends
@@ -34,7 +43,6 @@ pub mod Generator
 pub mod Generated
 pub mod Choice
 pub mod CoreRun
-pub mod Victim
 pub mod History
 pub mod Sleeping
 pub mod WorkedFamily

@@ -1,5 +1,5 @@
 -- The memory of processes: address spaces of 256 pages of 4096 bytes, and the account of the frames that hold their bytes.
-use Rattle.std.specs.Prelude.{ℕ, zero, suc, ◌+◌, ◌-◌, ◌*◌, ◌/◌, ◌%◌, ◌==◌, ◌&&◌, Bool, true, false, not, nat_lt, nat_le, if◌then◌else◌, List, [], ◌∷◌, ◌++◌, map, take, drop, replicate, find, count_by, sum_by, slice_index, slice_index_or, slice_set, Option, None, Some, is_some, option_map, unwrap_or}
+use Rattle.std.specs.Prelude.{ℕ, zero, suc, ◌+◌, ◌*◌, ◌/◌, ◌%◌, ◌==◌, ◌&&◌, Bool, true, false, not, nat_lt, nat_le, if◌then◌else◌, List, [], ◌∷◌, ◌++◌, map, take, drop, replicate, find, count_by, sum_by, slice_index, slice_index_or, slice_set, Option, None, Some, is_some, option_map, unwrap_or}
 use Rattle.std.specs.List.{list_all, list_any, range_with_len}
 use Rattle.posix_defs.specs.ByPid.{with_pid}
 use Rattle.posix_defs.specs.Needs.{pages_touched}

@@ -45,3 +45,12 @@ pub record Grows (number : ℕ) (before : List (List ℕ)) (old : Inode) (size :
   pub resizes : Resizes number before old size after new
   pub zero : (index : ℕ) → data_blocks old.size ≤ index → index < data_blocks size → block_bytes after (data_block after new index) ≡ zeros block_size
   pub lowest : (block other : ℕ) → IsFreeBlock before block → IsMarked after block → IsFreeBlock after other → block < other
+
+-- a node alone changes, and of it the bytes of one block: it has the inode that it had, and names the blocks that it named
+pub record WritesBlock (number : ℕ) (before : List (List ℕ)) (inode : Inode) (index : ℕ) (bytes : List ℕ) (after : List (List ℕ)) : Type 0 where
+  pub changes : ChangesNode before after number
+  pub has : HasInode after number inode
+  pub names : (other : ℕ) → other < data_blocks inode.size → data_block after inode other ≡ data_block before inode other
+  pub this : block_bytes after (data_block before inode index) ≡ bytes
+  pub others : (other : ℕ) → other < data_blocks inode.size → other ≢ index → block_bytes after (data_block before inode other) ≡ block_bytes before (data_block before inode other)
+  pub free : free_in_map after ≡ free_in_map before

@@ -1,5 +1,5 @@
 -- What a line of a script says, by its words.
-use Rattle.std.specs.Prelude.{ℕ, ◌+◌, ◌%◌, ℤ, pos, unsigned_abs, Bool, true, false, ◌==◌, nat_le, if◌then◌else◌, List, [], ◌∷◌, length, Option, None, Some, Result, Ok, Err, codes}
+use Rattle.std.specs.Prelude.{ℕ, ◌%◌, pos, unsigned_abs, ◌==◌, nat_le, if◌then◌else◌, List, [], ◌∷◌, length, Option, None, Some, Result, Ok, Err, codes}
 use Rattle.kabi_types.specs.Call.{all_kinds}
 use Rattle.kabi_types.specs.Words.{word_of, is_built}
 use Rattle.kabi_types.specs.declared.calls.CallKind.{CallKind}
@@ -17,7 +17,6 @@ use Rattle.posix_defs.specs.declared.said.AtTop.{AtTop}
 use Rattle.posix_defs.specs.declared.said.AtTop.TheVariants as top
 use Rattle.posix_defs.specs.declared.said.InProgram.{InProgram}
 use Rattle.posix_defs.specs.declared.said.InProgram.TheVariants as inside
-use Rattle.posix_defs.specs.declared.said.Setting.{Setting}
 use Rattle.posix_defs.specs.declared.said.Setting.TheVariants as setting
 use Rattle.posix_defs.specs.declared.said.Shape.{Shape}
 use Rattle.posix_defs.specs.declared.said.Shape.TheVariants as shape

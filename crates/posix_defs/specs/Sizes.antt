@@ -3,7 +3,6 @@ use Rattle.std.specs.Prelude.{ℕ, ◌+◌, ◌-◌, ◌*◌}
 use Rattle.kabi_types.specs.Class.{size}
 use Rattle.kabi_types.specs.declared.classes.Class.TheVariants as class
 use Rattle.kabi_types.specs.declared.classes.Need.{Need}
-use Rattle.kabi_types.specs.declared.calls.Call.{Call}
 
 -- two blocks, which closing and ending may always use
 abbrev pub reserve : ℕ
@@ -26,11 +25,3 @@ bytes_of n = n.proc * size class.Proc + n.node * size class.Node + n.page * size
 -- no objects
 abbrev pub no_need : Need
 no_need = record { proc = 0; node = 0; page = 0; desc = 0; vnode = 0; name = 0; block = 0; pipe = 0; chunk = 0; sock = 0 }
-
--- the objects that the core lets a call make: it runs calls that make none so far, and no other is ever made
-abbrev pub need_of : Call → Need
-need_of _ = no_need
-
--- the heap that the core lets a call use, in bytes
-abbrev pub bound : Call → ℕ
-bound call = bytes_of (need_of call)

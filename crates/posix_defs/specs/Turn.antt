@@ -4,11 +4,12 @@ use Rattle.kabi_types.specs.declared.calls.Call.{Call}
 use Rattle.kabi_types.specs.declared.scripts.Script.{Script}
 use Rattle.posix_defs.specs.declared.turner.Turned.{Turned}
 use Rattle.posix_defs.specs.declared.turner.Turned.TheVariants as turned
-use Rattle.posix_defs.specs.Sizes.{bound, need_of}
+use Rattle.posix_defs.specs.Needs.{bound, need_of}
 use Rattle.posix_defs.specs.Process.{is_alive}
 use Rattle.posix_defs.specs.Plain.{Plain}
 use Rattle.posix_defs.specs.Answer.{Answer, Blocked, Done, Part, Ended}
-use Rattle.posix_defs.specs.Posix.{posix}
+use Rattle.posix_defs.specs.Machine.{machine}
+use Rattle.posix_defs.specs.MemoryCalls.{frames_after}
 use Rattle.posix_defs.specs.World.{World, Account, MayKeep, forget_dead, live_of}
 
 -- what is told, and the plain machine after it, where POSIX gives this answer
@@ -18,9 +19,10 @@ Tells (Done reply next) old told new = (told ≡ turned.Done reply) × (new ≡ 
 Tells (Part moved next) old told new = (told ≡ turned.Part moved) × (new ≡ next)
 Tells (Ended status next) old told new = (told ≡ turned.Ended status) × (new ≡ next)
 
--- what a process's call that is over, or did a part, did to the account: no call that is built touches memory or a queue
+-- what a process's call that is over, or did a part, did to the account
 abbrev pub touched : Account → Plain → ℕ → Call → Answer → Account
-touched account plain pid call answer = account
+touched account plain pid call (Done reply next) = frames_after account pid call reply
+touched account plain pid call _ = account
 
 -- the account after an answer: a call that would block leaves it, and what belonged to processes that have ended is forgotten
 abbrev pub account_after : Account → Plain → ℕ → Call → Answer → Account
@@ -31,8 +33,8 @@ account_after account plain pid call (Ended status next) = forget_dead next acco
 
 -- A call of a live process is answered as POSIX answers it. It may change what is kept, by no more than its need has.
 pub record Answers (script : Script) (old : World) (pid : ℕ) (call : Call) (told : Turned) (new : World) : Type 0 where
-  pub answer : Tells (posix script old.plain pid call) old.plain told new.plain
-  pub account : new.account ≡ account_after old.account old.plain pid call (posix script old.plain pid call)
+  pub answer : Tells (machine script old.plain pid call) old.plain told new.plain
+  pub account : new.account ≡ account_after old.account old.plain pid call (machine script old.plain pid call)
   pub may_keep : MayKeep new.plain new.kept
   pub live : live_of new ≤ live_of old + bound call
   pub names : length new.kept.names ≤ length old.kept.names + (need_of call).name

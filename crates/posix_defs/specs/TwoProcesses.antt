@@ -1,6 +1,9 @@
 -- A worked example: a process makes another, sleeps until that one ends, and is told its status.
 use Rattle.std.specs.Prelude.{ℕ, pos, List, [], ◌∷◌, None, Some, codes}
 use Rattle.kabi_types.specs.declared.calls.CallKind.TheVariants as kind
+use Rattle.kabi_types.specs.declared.entries.Entry.{Entry}
+use Rattle.kabi_types.specs.declared.entries.Entry.TheVariants as entry
+use Rattle.kabi_types.specs.declared.replies.Reply.TheVariants.{Val, Waited}
 use Rattle.kabi_types.specs.declared.scripts.Chooser.TheVariants as chooser
 use Rattle.kabi_types.specs.declared.scripts.Operand.TheVariants.{Number, Reg}
 use Rattle.kabi_types.specs.declared.scripts.Policy.TheVariants.{Heaviest}
@@ -32,6 +35,16 @@ two_script = record {
   chooser = chooser.Plain;
   programs = record { name = codes "init"; body = two_body } ∷ [];
 }
+
+-- the parent waits before its child ends, and is told 7 as 256 times the status
+abbrev pub two_entries : List Entry
+two_entries =
+    entry.Done 1 kind.Fork (Val (pos 2))
+    ∷ entry.Slept 1 kind.Waitpid
+    ∷ entry.Ended 2 kind.Exit 1792
+    ∷ entry.Done 1 kind.Waitpid (Waited 2 1792)
+    ∷ entry.Ended 1 kind.Exit 0
+    ∷ []
 
 -- what a process's next call is answered
 abbrev pub next_answer : Plain → ℕ → Answer

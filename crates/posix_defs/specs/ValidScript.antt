@@ -1,6 +1,6 @@
 -- What every script that some text says promises: its numbers are in their ranges, its registers are there, its jumps go
 -- to labels, its calls have the operands that they need.
-use Rattle.std.specs.Prelude.{ℕ, suc, zero, ⊤, ℤ, ◌≡◌, ◌≢◌, ◌<◌, ◌≤◌, ◌%◌, int_le, true, List, [], ◌∷◌, length, Option, None, Some, slice_get, IfSome, IsSome, codes}
+use Rattle.std.specs.Prelude.{ℕ, ⊤, ◌≡◌, ◌≢◌, ◌<◌, ◌≤◌, ◌%◌, int_le, true, List, [], ◌∷◌, length, Option, None, Some, slice_get, IfSome, IsSome, codes}
 use Rattle.std.specs.List.{AllByRecursion}
 use Rattle.kabi_types.specs.Words.{is_built}
 use Rattle.kabi_types.specs.declared.scripts.Chooser.{Chooser}

@@ -1,5 +1,5 @@
 -- `waitpid`: an ended child is told, and goes from the table.
-use Rattle.std.specs.Prelude.{ℕ, ◌+◌, ◌==◌, ◌&&◌, ◌||◌, ℤ, pos, negsuc, Bool, true, false, if◌then◌else◌, List, [], ◌∷◌, Option, None, Some}
+use Rattle.std.specs.Prelude.{ℕ, ◌+◌, ◌==◌, ◌&&◌, ◌||◌, ℤ, pos, negsuc, Bool, true, false, if◌then◌else◌, [], ◌∷◌, Option, None, Some}
 use Rattle.std.specs.Option.{option_or}
 use Rattle.kabi_types.specs.declared.errnos.Errno.TheVariants.{ECHILD}
 use Rattle.kabi_types.specs.declared.replies.Reply.TheVariants.{Val, Waited}

@@ -1,14 +1,14 @@
 //! Laws of a disk's format. Each is the contract of a function that does nothing.
 
-ghost use Rattle.std.specs.Prelude.{◌≡◌, ℕ, ◌+◌, ◌*◌, ◌<◌, ◌≤◌, ◌↔◌, List, [], length};
+ghost use Rattle.std.specs.Prelude.{◌≡◌, ℕ, ◌+◌, ◌*◌, ◌<◌, ◌≤◌, ◌↔◌, List, [], length, slice_set};
 ghost use Rattle.kabi_types.specs.declared.inodes.DirEntry.{DirEntry};
 ghost use Rattle.kabi_types.specs.declared.inodes.Inode.{Inode};
-ghost use Rattle.posix_defs.specs.DiskFormat.{IsForFiles, IsEntry, blocks_of, entry_bytes};
+ghost use Rattle.posix_defs.specs.DiskFormat.{IsForFiles, IsEntry, blocks_of, data_blocks, entry_bytes};
 ghost use Rattle.posix_defs.specs.SoundDisk.{HasInode, IsNamed, Sound, IsTable, IsFreeBlock, IsFreeNode, free_in_map, free_blocks, free_inodes};
 ghost use Rattle.posix_defs.specs.TrueCaches.{HasName};
-ghost use Rattle.posix_defs.specs.NodeChange.{Replaces};
+ghost use Rattle.posix_defs.specs.NodeChange.{Replaces, WritesBlock};
 ghost use Rattle.posix_defs.specs.DiskTree.{ChangesNode};
-ghost use Rattle.posix_defs.specs.DiskContents.{HasEntries, IsDirectoryOf, IsFormatted};
+ghost use Rattle.posix_defs.specs.DiskContents.{HasEntries, IsDirectoryOf, IsFormatted, data_block};
 
 /// A new disk is sound, and its root is a directory without entries but `.` and `..`, which both name the root.
 pub fn a_formatted_disk_is_sound()
@@ -60,4 +60,11 @@ pub fn one_node_is_replaced()
     ensures changes { (number : ℕ) (before : List (List ℕ)) (old : Inode) (after : List (List ℕ)) (new : Inode) → Sound before → Replaces number before old after new → ChangesNode before after number }
     ensures free { (number : ℕ) (before : List (List ℕ)) (old : Inode) (after : List (List ℕ)) (new : Inode) → Sound before → Replaces number before old after new
         → free_in_map after + blocks_of new.size ≡ free_in_map before + blocks_of old.size }
+{}
+
+/// Where a block of a node's bytes is written, nothing else of the disk changes: not the node's inode nor the blocks that
+/// it names, no other block of its bytes, no other node, and not how many blocks are free.
+pub fn a_block_of_a_node_is_written()
+    ensures { (disk : List (List ℕ)) (number : ℕ) (inode : Inode) (index : ℕ) (bytes : List ℕ) → Sound disk → HasInode disk number inode → index < data_blocks inode.size
+        → WritesBlock number disk inode index bytes (slice_set disk (data_block disk inode index) bytes) }
 {}

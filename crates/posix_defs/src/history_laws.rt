@@ -9,9 +9,10 @@ ghost use Rattle.kabi_types.specs.declared.scripts.Policy.TheVariants.{Heaviest,
 ghost use Rattle.kabi_types.specs.declared.scripts.Script.{Script};
 ghost use Rattle.posix_defs.specs.Process.{Alive, Ended, how_many, parent_of};
 ghost use Rattle.posix_defs.specs.Ending.{die_in};
+ghost use Rattle.posix_defs.specs.Machine.{would_block};
 ghost use Rattle.posix_defs.specs.Victim.{pid_of_greatest, score_of, victim_of};
 ghost use Rattle.posix_defs.specs.World.{no_account, pins};
-ghost use Rattle.posix_defs.specs.History.{AreCovered, Past, IsRun, MayFollow, boot_past, is_among, is_up, would_block};
+ghost use Rattle.posix_defs.specs.History.{AreCovered, Past, IsRun, MayFollow, boot_past, is_among, is_up};
 ghost use Rattle.posix_defs.specs.Sleeping.{is_of, sleeps_by};
 ghost use Rattle.posix_defs.specs.WorkedFamily.{alone, as_plain, family, member, weight, weights};
 

@@ -10,9 +10,13 @@ ghost use Rattle.kabi_types.specs.declared.entries.Event.{Event};
 ghost use Rattle.kabi_types.specs.declared.entries.Noted.{Noted};
 ghost use Rattle.kabi_types.specs.declared.scripts.Script.{Script};
 ghost use Rattle.kabi_types.specs.declared.replies.Reply.{Reply};
-ghost use Rattle.posix_defs.specs.Sizes.{bound, fixed, room};
+ghost use Rattle.posix_defs.specs.Needs.{bound};
+ghost use Rattle.posix_defs.specs.Sizes.{fixed, room};
+ghost use Rattle.posix_defs.specs.declared.phases.Asked.{Asked};
+ghost use Rattle.posix_defs.specs.declared.phases.Phase.TheVariants.{Admitted, Asleep};
 ghost use Rattle.posix_defs.specs.Plain.{call_of};
-ghost use Rattle.posix_defs.specs.CoreState.{CoreState, charged_in};
+ghost use Rattle.posix_defs.specs.CoreState.{CoreState, charged_in, held};
+ghost use Rattle.posix_defs.specs.SoundTasks.{IsSound};
 ghost use Rattle.posix_defs.specs.Ends.{end_of};
 ghost use Rattle.posix_defs.specs.Generator.{next_state, state_after, choice_of};
 ghost use Rattle.posix_defs.specs.Enabled.{IsEnabled};
@@ -28,27 +32,36 @@ pub fn charged_stays_within_the_heap()
         → IsCoreRun script steps run s → fixed ≤ script.heap → charged_in s ≤ script.heap }
 {}
 
+/// Every state that a run of the core leads to is sound: its tasks are those of the processes that are alive, and of those
+/// that have ended while their call was admitted, by rising pid; and what a task has asked for is its process's next call,
+/// which the heap can give. So no call that sleeps holds anything in reserve, and nothing is held for anybody else.
+pub fn every_state_is_sound()
+    ensures sound { (script : Script) (steps : ℕ) (run : List Noted) (s : CoreState) → IsCoreRun script steps run s → IsSound script s }
+    ensures asleep { (asked : Asked) → held (Asleep asked) ≡ 0 }
+    ensures admitted { (asked : Asked) → held (Admitted asked) ≡ asked.bound }
+{}
+
 /// In every state that a run of the core leads to and in which no end stands, some event may be taken.
 pub fn something_can_be_taken()
     ensures { (script : Script) (steps : ℕ) (run : List Noted) (s : CoreState)
-        → IsCoreRun script steps run s → fixed ≤ script.heap → end_of script steps (length run) s ≡ None → IsSome (default_of script s) }
+        → IsCoreRun script steps run s → end_of script steps (length run) s ≡ None → IsSome (default_of script s) }
 {}
 
 /// Where one event is enabled it is picked, whoever chooses. Whatever is picked is enabled, and where some event is
 /// enabled one is picked.
 pub fn what_is_picked_is_enabled()
     ensures one { (script : Script) (j : ℕ) (s : CoreState) (event : Event)
-        → enabled_in script s ≡ event ∷ [] → picked_of script j s ≡ Some event }
+        → enabled_in script s ≡ event ∷ [] → IsSome (default_of script s) → picked_of script j s ≡ Some event }
     ensures enabled { (script : Script) (j : ℕ) (s : CoreState) (event : Event)
-        → picked_of script j s ≡ Some event → IsEnabled script s event }
+        → IsSound script s → picked_of script j s ≡ Some event → IsEnabled script s event }
     ensures some { (script : Script) (j : ℕ) (s : CoreState)
         → IsSome (default_of script s) → IsSome (picked_of script j s) }
 {}
 
-/// The events that are listed are those that may be taken, and no others.
+/// In a sound state the events that are listed are those that may be taken, and no others.
 pub fn events_are_listed_where_they_may_be_taken()
     ensures listed { (script : Script) (s : CoreState) (i : ℕ) (event : Event)
-        → slice_get (enabled_in script s) i ≡ Some event → IsEnabled script s event }
+        → IsSound script s → slice_get (enabled_in script s) i ≡ Some event → IsEnabled script s event }
     ensures all { (script : Script) (s : CoreState) (event : Event)
         → IsEnabled script s event → (i : ℕ) × (slice_get (enabled_in script s) i ≡ Some event) }
 {}

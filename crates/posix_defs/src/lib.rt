@@ -19,7 +19,9 @@ mod pipe_laws;
 mod price_laws;
 mod prices;
 mod process_laws;
+mod relief_laws;
 mod said;
+mod socket_laws;
 #[cfg(test)]
 mod tests;
 mod tree_laws;
@@ -31,9 +33,10 @@ pub use blocks::{BlockList, Blocks};
 pub use call_laws::calls_on_paths_leave_a_tree;
 pub use dirs::Dirs;
 pub use disk_laws::{
-    a_directory_has_32_bytes_for_each_entry, a_formatted_disk_is_sound, a_name_leads_to_one_node,
-    a_sound_disk_has_a_table, bytes_of_a_disk_say_one_thing,
-    free_blocks_are_those_that_no_node_names, one_node_is_replaced, what_is_free_is_counted,
+    a_block_of_a_node_is_written, a_directory_has_32_bytes_for_each_entry,
+    a_formatted_disk_is_sound, a_name_leads_to_one_node, a_sound_disk_has_a_table,
+    bytes_of_a_disk_say_one_thing, free_blocks_are_those_that_no_node_names, one_node_is_replaced,
+    what_is_free_is_counted,
 };
 pub use disk_tree_laws::{
     a_change_of_one_node_stands_for_the_changed_tree, a_new_disk_stands_for_the_new_tree,
@@ -48,16 +51,16 @@ pub use history_laws::{
 };
 pub use laws::{
     a_picked_run_is_a_run, charged_stays_within_the_heap, entries_are_a_legal_history,
-    events_are_listed_where_they_may_be_taken, no_reply_wants_memory, nothing_else_is_its_run,
-    refusals_stand_above_the_room, something_can_be_taken, the_first_script_runs,
-    the_generator_is_this_one, what_is_picked_is_enabled,
+    events_are_listed_where_they_may_be_taken, every_state_is_sound, no_reply_wants_memory,
+    nothing_else_is_its_run, refusals_stand_above_the_room, something_can_be_taken,
+    the_first_script_runs, the_generator_is_this_one, what_is_picked_is_enabled,
 };
 pub use nodes::{Listed, ListedNode, NodeList};
 pub use path_laws::{
     a_last_name_may_be_an_entrys, a_path_leads_to_what_is_there, dots_lead_to_directories,
     ways_up_end_at_the_root,
 };
-pub use phases::Phase;
+pub use phases::{Asked, Phase, Task};
 pub use pipe_laws::{bytes_keep_their_order, chunks_follow_the_bytes, writes_keep_to_their_room};
 pub use price_laws::{
     a_bound_is_that_of_the_price_list, a_bound_is_the_sum_of_its_need,
@@ -66,9 +69,19 @@ pub use price_laws::{
 pub use prices::Price;
 pub use process_laws::{
     a_pid_is_never_used_again, an_error_changes_the_control_alone, answers_keep_a_family,
-    nobody_outlives_the_first_process, processes_are_a_family, two_processes_run,
+    nobody_outlives_the_first_process, processes_are_a_family, two_processes_have_a_history,
+    two_processes_run,
+};
+pub use relief_laws::{
+    a_call_that_waits_is_helped, a_kill_is_the_last_resort, a_turn_leaves_the_calls_of_others,
+    relief_goes_on, the_live_of_a_kill_tells_that_nothing_is_left,
 };
 pub use said::{AtTop, InProgram, Setting, Shape, Spoken, Stated, Word};
+pub use socket_laws::{
+    a_shut_side_is_read_to_its_end, a_socket_stays_connected_after_its_peer,
+    each_direction_keeps_its_order, every_socket_has_its_owner, sockets_stand_where_they_stood,
+    sockets_stay_linked, the_backlog_is_in_order, these_sockets_answer_so,
+};
 pub use tree_laws::{
     a_changed_file_leaves_a_tree, a_further_name_leaves_a_tree, a_new_root_is_a_tree,
     a_removed_name_is_free, a_rename_over_a_name_moves_the_node,

@@ -13,7 +13,7 @@ ghost use Rattle.posix_defs.specs.Plain.{Plain, answered, boot_plain, last_pid};
 ghost use Rattle.posix_defs.specs.Answer.{Blocked, Done, Ended};
 ghost use Rattle.posix_defs.specs.Family.{IsFamily, IsKept, GoesOn, KeepsOn};
 ghost use Rattle.posix_defs.specs.Machine.{machine};
-ghost use Rattle.posix_defs.specs.TwoProcesses.{next_answer, two_script};
+ghost use Rattle.posix_defs.specs.TwoProcesses.{next_answer, two_entries, two_script};
 ghost use Rattle.posix_defs.specs.History.{Past, IsRun, MayFollow};
 
 /// In every machine that a history leads to, each process that is there, but the first, has a live parent that is older
@@ -62,4 +62,9 @@ pub fn two_processes_run()
         × (next_answer ended 1 ≡ Done (Waited 2 1792) told)
         × (next_answer told 1 ≡ Ended 0 over)
         × (over.table ≡ None ∷ None ∷ []) }
+{}
+
+/// The same as a legal history: the first process sleeps on `waitpid` until its child has ended, and nobody is there at the end.
+pub fn two_processes_have_a_history()
+    ensures { (past : Past) × IsRun two_script two_entries past × (past.plain.table ≡ None ∷ None ∷ []) }
 {}

@@ -1,12 +1,16 @@
-ghost use Rattle.std.specs.Prelude.{◌≡◌, ◌≢◌, ℕ, ◌+◌, ◌≤◌, true, false};
+ghost use Rattle.std.specs.Prelude.{◌≡◌, ◌≢◌, ℕ, ◌+◌, ◌≤◌, true, false, not};
 ghost use Rattle.kabi_types.specs.declared.scripts.Script.{Script};
-ghost use Rattle.posix_defs.specs.Sizes.{bound, need_of, reserve};
+ghost use Rattle.posix_defs.specs.Needs.{bound, need_of, slack};
+ghost use Rattle.posix_defs.specs.Sizes.{reserve};
 ghost use Rattle.posix_defs.specs.Process.{is_alive};
 ghost use Rattle.posix_defs.specs.Plain.{call_of, last_pid};
-ghost use Rattle.posix_defs.specs.World.{World, live_of};
+ghost use Rattle.posix_defs.specs.Machine.{would_block};
+ghost use Rattle.posix_defs.specs.Relief.{Evicts, Kills, refused_in};
+ghost use Rattle.posix_defs.specs.Victim.{victim_of};
+ghost use Rattle.posix_defs.specs.World.{World, can_evict, live_of};
 ghost use Rattle.posix_defs.specs.Turn.{TurnsTo};
 
-use kabi_types::{Call, Need, Reply};
+use kabi_types::{Cached, Call, Need, Reply};
 
 /// What a turn of a call came to.
 #[derive(Debug, Drop, PartialEq, Eq)]
@@ -34,6 +38,9 @@ pub trait Turner {
     /// The store stands for this world.
     ghost stands: { Self → World → Type 0 };
 
+    /// The most bytes of kernel heap that were in use at a moment since the last call that may change them began.
+    ghost high: { Self → ℕ };
+
     /// The call that a live process makes next.
     fn next(&self, pid: u32) -> Call
         requires { (world : World) × stands self.now world × (is_alive world.plain.table pid ≡ true) }
@@ -49,7 +56,47 @@ pub trait Turner {
             × (live_of world + bound call.now + reserve ≤ (script self.old).heap) }
         ensures script { script self.new ≡ script self.old }
         ensures turned { (world : World) → stands self.old world
-            → (after : World) × stands self.new after × TurnsTo (script self.old) world pid call.now result after };
+            → (after : World) × stands self.new after × TurnsTo (script self.old) world pid call.now result after }
+        ensures high { (world : World) → stands self.old world → high self.new ≤ live_of world + bound call.now + slack call.now };
+
+    /// Answers a live process's next call ENOMEM: its bound is above what the heap can ever give.
+    fn refuse(&mut self, pid: u32)
+        requires { (world : World) × stands self.old world × (is_alive world.plain.table pid ≡ true) }
+        ensures script { script self.new ≡ script self.old }
+        ensures refused { (world : World) → stands self.old world → is_alive world.plain.table pid ≡ true
+            → stands self.new (refused_in (script self.old) world pid) }
+        ensures high { (world : World) → stands self.old world → high self.new ≤ live_of world };
+
+    /// Whether a live process's next call wouldn't block now.
+    fn ready(&self, pid: u32) -> bool
+        requires { (world : World) × stands self.now world × (is_alive world.plain.table pid ≡ true) }
+        ensures { (world : World) → stands self.now world → is_alive world.plain.table pid ≡ true
+            → result ≡ not (would_block (script self.now) world.plain pid) };
+
+    /// Whether a cache keeps something that isn't pinned.
+    fn evictable(&self, what: Cached) -> bool
+        ensures { (world : World) → stands self.now world → result ≡ can_evict world.plain world.kept what };
+
+    /// Drops an object that isn't pinned from a cache.
+    fn evict(&mut self, what: Cached)
+        requires { (world : World) × stands self.old world × (can_evict world.plain world.kept what ≡ true) }
+        ensures script { script self.new ≡ script self.old }
+        ensures evicted { (world : World) → stands self.old world → can_evict world.plain world.kept what ≡ true
+            → (after : World) × stands self.new after × Evicts world what after }
+        ensures high { (world : World) → stands self.old world → high self.new ≤ live_of world };
+
+    /// The process that is to be killed where heap has to be freed; None exactly where none but the first is alive.
+    fn victim(&self) -> Option<u32>
+        ensures { (world : World) → stands self.now world
+            → result ≡ victim_of (script self.now).policy world.plain world.account };
+
+    /// Ends a live process other than the first, by signal 9.
+    fn kill(&mut self, pid: u32)
+        requires { (world : World) × stands self.old world × (is_alive world.plain.table pid ≡ true) × (pid ≢ 1) }
+        ensures script { script self.new ≡ script self.old }
+        ensures killed { (world : World) → stands self.old world → is_alive world.plain.table pid ≡ true → pid ≢ 1
+            → (after : World) × stands self.new after × Kills world pid after }
+        ensures high { (world : World) → stands self.old world → high self.new ≤ live_of world + reserve };
 
     /// Whether a process is there and has not ended.
     fn alive(&self, pid: u32) -> bool
@@ -61,7 +108,8 @@ pub trait Turner {
 
     /// How many bytes of kernel heap are in use.
     fn live(&self) -> u64
-        ensures { (world : World) → stands self.now world → result ≡ live_of world };
+        ensures bytes { (world : World) → stands self.now world → result ≡ live_of world }
+        ensures below { result ≤ high self.now };
 
     /// How many blocks were read from the disk since boot; it stands still at its type's end.
     fn reads(&self) -> u64

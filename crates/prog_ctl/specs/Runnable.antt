@@ -1,6 +1,8 @@
 -- Where a control may stand, and what running its program needs.
 use Rattle.std.specs.Prelude.{ℕ, ⊤, Bool, true, false, ◌<◌, ◌≤◌, ◌≡◌, List, length, Option, None, Some, slice_get, IfSome}
 use Rattle.std.specs.List.{AllByRecursion}
+use Rattle.kabi_types.specs.declared.calls.CallKind.{CallKind}
+use Rattle.kabi_types.specs.declared.calls.CallKind.TheVariants as kind
 use Rattle.kabi_types.specs.declared.scripts.Operand.{Operand}
 use Rattle.kabi_types.specs.declared.scripts.Operand.TheVariants.{Reg, Number}
 use Rattle.kabi_types.specs.declared.scripts.Statement.{Statement}
@@ -21,6 +23,23 @@ IsOperand (Number value) = ⊤
 abbrev pub most_text : Shape → ℕ
 most_text shape.ValueBytes = 64
 most_text _ = 255
+
+-- the calls of this kind take texts, or a list of entries
+abbrev pub TakesMore : CallKind → Type 0
+TakesMore kind.Exec = ⊤
+TakesMore kind.Store = ⊤
+TakesMore kind.OpenFile = ⊤
+TakesMore kind.Stat = ⊤
+TakesMore kind.Chdir = ⊤
+TakesMore kind.Mkdir = ⊤
+TakesMore kind.Rmdir = ⊤
+TakesMore kind.Unlink = ⊤
+TakesMore kind.Link = ⊤
+TakesMore kind.Rename = ⊤
+TakesMore kind.Bind = ⊤
+TakesMore kind.Connect = ⊤
+TakesMore kind.Poll = ⊤
+TakesMore _ = ⊥
 
 -- a later place
 abbrev pub IsLater : ℕ → ℕ → Type 0

@@ -55,6 +55,28 @@ pub fn next_call(script: &Script, control: &mut Control) -> Call
     call_at(control, statement_at(body, control.place))
 }
 
+/// Does the local statements before the process's next call, at which it stands then.
+pub fn go_to_call(script: &Script, control: &mut Control)
+    requires { Stands script.now control.old }
+    ensures settled { control.new ≡ spec.settled script.now control.old }
+    ensures stands { Stands script.now control.new }
+    ensures rests { Rests script.now control.new }
+{
+    settle(body_of(script, control), control);
+}
+
+/// The next call of a process that stands at it.
+pub fn call_here(script: &Script, control: &Control) -> Call
+    requires stands { Stands script.now control.now }
+    requires rests { Rests script.now control.now }
+    ensures { result ≡ spec.call_of script.now control.now }
+{
+    call_at(
+        control,
+        statement_at(body_of(script, control), control.place),
+    )
+}
+
 /// What a call's statement does with the reply. A loop's register falls, and it goes back.
 fn take_answer(control: &mut Control, statement: Option<&Statement>, reply: &Reply)
     requires calls { spec.local_at control.old (option_copied statement) ≡ None }

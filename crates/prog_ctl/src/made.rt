@@ -1,11 +1,11 @@
 //! The call that a statement makes of its operands.
 
-ghost use Rattle.std.specs.Prelude.{◌≡◌, ◌≤◌, drop, length, map, IfSome, option_copied};
+ghost use Rattle.std.specs.Prelude.{◌≡◌, ℕ, ◌≤◌, drop, length, map, IfSome, option_copied};
 ghost use Rattle.std.specs.List.{AllByRecursion};
 ghost use Rattle.posix_defs.specs.Control.{call_at, value_of};
 ghost use Rattle.posix_defs.specs.Made as spec;
 ghost use Rattle.posix_defs.specs.ScriptLines.{shape_of};
-ghost use Rattle.prog_ctl.specs.Runnable.{IsOperand, IsRunnableAt, most_text};
+ghost use Rattle.prog_ctl.specs.Runnable.{IsOperand, IsRunnableAt, TakesMore, most_text};
 
 use crate::statements::value_of;
 use arrayvec::ArrayVec;
@@ -85,6 +85,65 @@ fn numbers_of(control: &Control, operands: &[Operand]) -> ArrayVec<i64, 17>
     numbers
 }
 
+/// The call of a kind that takes texts or a list, with these numbers and texts in the order of its fields. It stands by
+/// itself, since a function pays for the room of all its locals whenever it is entered.
+#[inline(never)]
+fn made_with_texts(kind: CallKind, numbers: &[i64], texts: &[Text]) -> Call
+    requires count { length numbers.now ≤ 17 }
+    requires texts { AllByRecursion (λ text. length text ≤ most_text (shape_of kind)) texts.now }
+    ensures { (done : ℕ) → TakesMore kind → result ≡ spec.made kind numbers.now texts.now done }
+{
+    match kind {
+        CallKind::Exec => Call::Exec {
+            path: path_at(texts, 0),
+        },
+        CallKind::Store => Call::Store {
+            addr: number_at(numbers, 0),
+            bytes: bytes_at(texts, 0),
+        },
+        CallKind::OpenFile => Call::OpenFile {
+            path: path_at(texts, 0),
+            flags: number_at(numbers, 0),
+        },
+        CallKind::Stat => Call::Stat {
+            path: path_at(texts, 0),
+        },
+        CallKind::Chdir => Call::Chdir {
+            path: path_at(texts, 0),
+        },
+        CallKind::Mkdir => Call::Mkdir {
+            path: path_at(texts, 0),
+        },
+        CallKind::Rmdir => Call::Rmdir {
+            path: path_at(texts, 0),
+        },
+        CallKind::Unlink => Call::Unlink {
+            path: path_at(texts, 0),
+        },
+        CallKind::Link => Call::Link {
+            old: path_at(texts, 0),
+            new: path_at(texts, 1),
+        },
+        CallKind::Rename => Call::Rename {
+            old: path_at(texts, 0),
+            new: path_at(texts, 1),
+        },
+        CallKind::Bind => Call::Bind {
+            fd: number_at(numbers, 0),
+            path: path_at(texts, 0),
+        },
+        CallKind::Connect => Call::Connect {
+            fd: number_at(numbers, 0),
+            path: path_at(texts, 0),
+        },
+        CallKind::Poll => Call::Poll {
+            timeout: number_at(numbers, 0),
+            entries: entries_of(numbers),
+        },
+        _ => Call::SchedYield,
+    }
+}
+
 /// The call of this kind, with these numbers and texts in the order of its fields, behind what is done of it.
 fn made(kind: CallKind, numbers: &[i64], texts: &[Text], done: u32) -> Call
     requires count { length numbers.now ≤ 17 }
@@ -96,9 +155,7 @@ fn made(kind: CallKind, numbers: &[i64], texts: &[Text], done: u32) -> Call
         CallKind::Getppid => Call::Getppid,
         CallKind::SchedYield => Call::SchedYield,
         CallKind::Fork => Call::Fork,
-        CallKind::Exec => Call::Exec {
-            path: path_at(texts, 0),
-        },
+        CallKind::Exec => made_with_texts(kind, numbers, texts),
         CallKind::Exit => Call::Exit {
             status: number_at(numbers, 0),
         },
@@ -117,18 +174,12 @@ fn made(kind: CallKind, numbers: &[i64], texts: &[Text], done: u32) -> Call
             addr: number_at(numbers, 0),
             length: number_at(numbers, 1),
         },
-        CallKind::Store => Call::Store {
-            addr: number_at(numbers, 0),
-            bytes: bytes_at(texts, 0),
-        },
+        CallKind::Store => made_with_texts(kind, numbers, texts),
         CallKind::Load => Call::Load {
             addr: number_at(numbers, 0),
             n: number_at(numbers, 1),
         },
-        CallKind::OpenFile => Call::OpenFile {
-            path: path_at(texts, 0),
-            flags: number_at(numbers, 0),
-        },
+        CallKind::OpenFile => made_with_texts(kind, numbers, texts),
         CallKind::Close => Call::Close {
             fd: number_at(numbers, 0),
         },
@@ -184,43 +235,21 @@ fn made(kind: CallKind, numbers: &[i64], texts: &[Text], done: u32) -> Call
         CallKind::Fstat => Call::Fstat {
             fd: number_at(numbers, 0),
         },
-        CallKind::Stat => Call::Stat {
-            path: path_at(texts, 0),
-        },
-        CallKind::Chdir => Call::Chdir {
-            path: path_at(texts, 0),
-        },
-        CallKind::Mkdir => Call::Mkdir {
-            path: path_at(texts, 0),
-        },
-        CallKind::Rmdir => Call::Rmdir {
-            path: path_at(texts, 0),
-        },
-        CallKind::Unlink => Call::Unlink {
-            path: path_at(texts, 0),
-        },
-        CallKind::Link => Call::Link {
-            old: path_at(texts, 0),
-            new: path_at(texts, 1),
-        },
-        CallKind::Rename => Call::Rename {
-            old: path_at(texts, 0),
-            new: path_at(texts, 1),
-        },
+        CallKind::Stat => made_with_texts(kind, numbers, texts),
+        CallKind::Chdir => made_with_texts(kind, numbers, texts),
+        CallKind::Mkdir => made_with_texts(kind, numbers, texts),
+        CallKind::Rmdir => made_with_texts(kind, numbers, texts),
+        CallKind::Unlink => made_with_texts(kind, numbers, texts),
+        CallKind::Link => made_with_texts(kind, numbers, texts),
+        CallKind::Rename => made_with_texts(kind, numbers, texts),
         CallKind::Pipe => Call::Pipe,
         CallKind::Socket => Call::Socket,
         CallKind::Socketpair => Call::Socketpair,
-        CallKind::Bind => Call::Bind {
-            fd: number_at(numbers, 0),
-            path: path_at(texts, 0),
-        },
+        CallKind::Bind => made_with_texts(kind, numbers, texts),
         CallKind::Listen => Call::Listen {
             fd: number_at(numbers, 0),
         },
-        CallKind::Connect => Call::Connect {
-            fd: number_at(numbers, 0),
-            path: path_at(texts, 0),
-        },
+        CallKind::Connect => made_with_texts(kind, numbers, texts),
         CallKind::Accept => Call::Accept {
             fd: number_at(numbers, 0),
         },
@@ -228,10 +257,7 @@ fn made(kind: CallKind, numbers: &[i64], texts: &[Text], done: u32) -> Call
             fd: number_at(numbers, 0),
             how: number_at(numbers, 1),
         },
-        CallKind::Poll => Call::Poll {
-            timeout: number_at(numbers, 0),
-            entries: entries_of(numbers),
-        },
+        CallKind::Poll => made_with_texts(kind, numbers, texts),
     }
 }
 

@@ -1,6 +1,6 @@
-use Rattle.std.proofs.Common.{◌≡◌, ◌≢◌, ℕ, ◌<◌, ◌≤◌, ◌-◌, min, inl, inr, List, length, get_or, take, sym, ap, subst, ◌∙◌, arith}
+use Rattle.std.proofs.Common.{◌≡◌, ◌≢◌, ℕ, ◌<◌, ◌-◌, inl, inr, List, length, get_or, take, sym, ap, ◌∙◌, arith}
 use Rattle.std.proofs.lemmas.List.{get_or-take}
-use Rattle.posix_defs.specs.DiskFormat.{data_blocks, blocks_of}
+use Rattle.posix_defs.specs.DiskFormat.{blocks_of}
 use Rattle.posix_defs.specs.SoundDisk.{bit_of, block_bytes, free_in_map}
 use Rattle.blk_map.specs.Found.{free_below}
 use Rattle.blk_map.proofs.Blocks.{got}

@@ -2,7 +2,7 @@ use Rattle.std.proofs.Common.{◌≡◌, ℕ, ◌+◌, ◌-◌, ◌<◌, ◌≤�
 use Rattle.posix_defs.specs.DiskFormat.{data_blocks}
 use Rattle.posix_defs.specs.SoundDisk.{pointer_at, bit_of, block_bytes}
 use Rattle.blk_map.specs.Named.{pointer_to}
-use Rattle.blk_map.proofs.Taking.{Taking, taken_grows}
+use Rattle.blk_map.proofs.Taking.{taken_grows}
 use Rattle.blk_map.proofs.growing.take_blocks.Goals as goal
 
 pub returns-clause-grows : goal.returns-clause-grows

@@ -1,6 +1,6 @@
-use Rattle.std.proofs.Common.{◌≡◌, ℕ, List, sym, ap, ◌∙◌, arith}
+use Rattle.std.proofs.Common.{ℕ, List, sym, ap, ◌∙◌}
 use Rattle.std.proofs.lemmas.List.{get_or-replicate}
-use Rattle.posix_defs.specs.SoundDisk.{block_bytes, pointer_at}
+use Rattle.posix_defs.specs.SoundDisk.{pointer_at}
 use Rattle.blk_map.proofs.Blocks.{got}
 use Rattle.blk_map.proofs.naming.behind_of.Goals as goal
 

@@ -1,4 +1,4 @@
-use Rattle.std.proofs.Common.{◌≡◌, ◌≢◌, ℕ, ◌<◌, List, length, set, sym, ap, ◌∙◌, arith}
+use Rattle.std.proofs.Common.{◌≡◌, ◌≢◌, ℕ, List, set, sym, ap, ◌∙◌, arith}
 use Rattle.posix_defs.specs.SoundDisk.{block_bytes, table_block, table_slot, slot_bytes}
 use Rattle.blk_map.proofs.Blocks.{got, slot_put, slots_stay}
 use Rattle.blk_map.proofs.settling.put_in_table.Goals as goal

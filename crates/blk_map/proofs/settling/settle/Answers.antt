@@ -1,4 +1,4 @@
-use Rattle.std.proofs.Common.{◌≡◌, ℕ, ◌<◌, List, length, sym, ap, ◌∙◌, arith}
+use Rattle.std.proofs.Common.{ℕ, List, length, ◌∙◌, arith}
 use Rattle.posix_defs.specs.SoundDisk.{table_block}
 use Rattle.blk_map.proofs.Blocks.{in_table, same_table}
 use Rattle.blk_map.proofs.settling.settle.Goals as goal

@@ -1,4 +1,4 @@
-use Rattle.std.proofs.Common.{◌≡◌, ℕ, ◌<◌, ◌≤◌, ◌⊎◌, inl, inr, List, length, set, sym, ap, ◌∙◌, arith}
+use Rattle.std.proofs.Common.{◌≡◌, ℕ, inl, inr, List, set, sym, ap, ◌∙◌, arith}
 use Rattle.posix_defs.specs.DiskFormat.{data_blocks}
 use Rattle.posix_defs.specs.SoundDisk.{block_bytes, bit_of}
 use Rattle.posix_defs.proofs.FreeBlocks.{named_is_for_files}

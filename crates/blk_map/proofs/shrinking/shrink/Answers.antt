@@ -1,5 +1,5 @@
 use Rattle.std.proofs.Common.{◌≡◌, ◌-◌, sym, arith}
-use Rattle.posix_defs.specs.DiskFormat.{data_blocks, blocks_of}
+use Rattle.posix_defs.specs.DiskFormat.{blocks_of}
 use Rattle.blk_map.proofs.Counted.{given_none}
 use Rattle.blk_map.proofs.SameBlocks.{same_resizes}
 use Rattle.blk_map.proofs.shrinking.shrink.Goals as goal

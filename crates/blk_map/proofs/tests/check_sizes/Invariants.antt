@@ -1,6 +1,12 @@
-use Rattle.std.proofs.Common.{◌≡◌}
-use Rattle.posix_defs.specs.SoundDisk.{HasNode, Sound}
+use Rattle.std.proofs.Common.{◌≡◌, ◌≢◌, ℕ}
+use Rattle.kabi_types.specs.declared.inodes.Inode.{Inode}
+use Rattle.posix_defs.specs.SoundDisk.{HasInode, HasNode, Sound}
 use Rattle.blk_map.proofs.tests.check_sizes.Given as goal
 
 abbrev pub invariant-loop-size : goal.invariant-loop-size
-invariant-loop-size g l = record { sound : Sound l.b.disk.blocks; node : HasNode l.b.disk.blocks 2 l.inode; kind : l.inode.kind ≡ 1 }
+invariant-loop-size g l = record {
+  sound : Sound l.b.disk.blocks;
+  node : HasNode l.b.disk.blocks l.number l.inode;
+  kind : l.inode.kind ≡ 1;
+  others : (node : ℕ) (other : Inode) → node ≢ l.number → HasInode l.initial.b.disk.blocks node other → HasInode l.b.disk.blocks node other;
+}

@@ -11,4 +11,4 @@ returns-clause-leads c = λ before leads.
     ap (settled script)
     (sym (ap (λ here. afresh (after_at here reply (statement_of script here))) (rests_settled script (settled script before) (subst (Rests script) (sym leads) c.requires.rests)))
     ∙ ap (λ control. after script control reply) leads ∙ sym c.answer.ensures.after)
-    ∙ sym c.next_call.ensures.settled
+    ∙ sym c.go_to_call.ensures.settled

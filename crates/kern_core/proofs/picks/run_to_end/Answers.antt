@@ -1,7 +1,9 @@
-use Rattle.std.proofs.Common.{◌≡◌, ◌∙◌, ap, subst, sym, refl, length, suc, ◌+◌, Some, arith}
+use Rattle.std.proofs.Common.{◌≡◌, ◌∙◌, ap, subst, sym, refl, length, suc, ◌+◌, None, Some, arith}
 use Rattle.posix_defs.specs.Choice.{chosen, named_by}
+use Rattle.posix_defs.specs.SoundTasks.{IsSound}
+use Rattle.posix_defs.specs.Ends.{end_of}
 use Rattle.kern_core.specs.View.{Took}
-use Rattle.kern_core.proofs.PickedRuns.{chooses_more, chooses_next, picked_boot, picked_more}
+use Rattle.kern_core.proofs.PickedRuns.{chooses_more, chooses_next, has_ended, picked_boot, picked_more}
 use Rattle.kern_core.proofs.picks.run_to_end.Goals as goal
 
 pub loop-end-init : goal.loop-end-init
@@ -29,9 +31,19 @@ loop-end-preserved g c =
       picked = picked_more stands (script c.args.core.now.store) old c.step.new.self c.picked-event.result c.step.result c.next-number.result.0
           c.loop-end.invariant.picked
           (c.next-number.ensures.number ∙ chooses_next c.loop-end.choosing chooser (length old.run) c.loop-end.invariant.chooses)
-          (λ s at. sym (c.in_default.ensures.end s at))
-          (λ s at. subst (λ sc. named_by c.next-number.result.0 sc s ≡ Some c.picked-event.result) same (c.picked-event.ensures.named s at))
+          (λ s at sound. subst (λ sc. end_of sc old.steps (length old.run) s ≡ None) same (sym (c.in_default.ensures.end s at (subst (λ sc. IsSound sc s) (sym same) sound))))
+          (λ s at sound. subst (λ sc. named_by c.next-number.result.0 sc s ≡ Some c.picked-event.result) same
+          (c.picked-event.ensures.named s at (subst (λ sc. IsSound sc s) (sym same) sound)))
           (subst (λ sc. Took stands sc old c.picked-event.result c.step.result c.step.new.self) same c.step.ensures.took);
       chooses = chooses_more c.loop-end.choosing c.next-number.result.1 chooser old.run c.step.new.self.run c.step.result
           c.loop-end.invariant.chooses c.next-number.ensures.rest c.step.ensures.took.run;
     }
+
+pub returns-in-Some-clause-ended : goal.returns-in-Some-clause-ended
+returns-in-Some-clause-ended g c =
+    let script = g.T.Turner.script in
+    let same = c.loop-end.invariant.script in
+    let core = c.loop-end.core in
+    has_ended g.T.Turner.stands (script c.args.core.now.store) core c.in-Some.end c.loop-end.invariant.picked
+    (λ s at sound. subst (λ sc. Some c.in-Some.end ≡ end_of sc core.steps (length core.run) s) same
+    (c.in-Some.ensures.end s at (subst (λ sc. IsSound sc s) (sym same) sound)))

@@ -1,8 +1,8 @@
-use Rattle.std.proofs.Common.{◌≡◌, ◌+◌, ◌-◌, ◌<◌, sym, ap, subst, refl, arith}
-use Rattle.kheap_slabs.specs.Spaces.{CountFalls, CountRises}
-use Rattle.kheap_slabs.proofs.SpaceLemmas.{CountFalls-set, CountRises-set, KeepsBytes-count}
+use Rattle.std.proofs.Common.{◌+◌, sym, ap, subst, refl}
+use Rattle.kheap_slabs.specs.Spaces.{CountRises}
+use Rattle.kheap_slabs.proofs.SpaceLemmas.{CountRises-set, KeepsBytes-count}
 use Rattle.page_space.specs.Frames.{FramesStay}
-use Rattle.page_space.proofs.FrameLemmas.{kept_pages, FramesStay-all, count_known}
+use Rattle.page_space.proofs.FrameLemmas.{kept_pages, FramesStay-all}
 use Rattle.page_space.proofs.frames.share_page.Goals as goal
 
 pub returns-clause-rises : goal.returns-clause-rises

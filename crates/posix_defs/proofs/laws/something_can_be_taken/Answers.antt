@@ -2,4 +2,4 @@ use Rattle.posix_defs.proofs.Progress.{progress}
 use Rattle.posix_defs.proofs.laws.something_can_be_taken.Goals as goal
 
 pub returns : goal.returns
-returns c = λ script steps run s is_run enough no_end. progress is_run enough no_end
+returns c = λ script steps run s is_run no_end. progress is_run no_end

@@ -1,9 +1,9 @@
-use Rattle.std.proofs.Common.{◌≡◌, ℕ, ◌+◌, pos, Bool, true, false, cond, ap}
+use Rattle.std.proofs.Common.{◌≡◌, ℕ, ◌+◌, pos, Bool, true, false, cond}
 use Rattle.kabi_types.specs.declared.errnos.Errno.TheVariants.{EAGAIN}
 use Rattle.kabi_types.specs.declared.replies.Reply.TheVariants.{Val}
 use Rattle.kabi_types.specs.declared.scripts.Script.{Script}
 use Rattle.posix_defs.specs.Plain.{Plain, last_pid}
-use Rattle.posix_defs.specs.Answer.{Answer, Done, failed, replied}
+use Rattle.posix_defs.specs.Answer.{Done, failed, replied}
 use Rattle.posix_defs.specs.Forking.{is_full, with_child}
 use Rattle.posix_defs.proofs.Families.{follows_on, reached_kept}
 use Rattle.posix_defs.proofs.process_laws.a_pid_is_never_used_again.Goals as goal

@@ -1,16 +1,16 @@
-use Rattle.std.proofs.Common.{◌≡◌, ◌≤◌, ◌+◌, length, drop}
+use Rattle.std.proofs.Common.{◌≡◌, ◌≤◌}
 use Rattle.posix_defs.specs.CoreState.{CoreState}
-use Rattle.posix_defs.specs.Choice.{events_from, enabled_in}
+use Rattle.posix_defs.specs.SoundTasks.{IsSound}
 use Rattle.kern_core.specs.View.{IsAt}
+use Rattle.kern_core.proofs.TaskLoops.{Passed}
 use Rattle.kern_core.proofs.cores.Core.count.Given as goal
 
--- what was counted and what is behind the place are all enabled events
-abbrev pub invariant-loop-place : goal.invariant-loop-place
-invariant-loop-place g l =
+-- so many events were passed
+abbrev pub invariant-loop-task : goal.invariant-loop-task
+invariant-loop-task g l =
     let script = g.T.Turner.script l.self.store in
     record {
-      items : l.phase-items ≡ l.self.phases;
-      few : l.count ≤ l.place;
-      counted : (s : CoreState) → IsAt g.T.Turner.stands l.self s
-          → l.count + length (events_from script s (l.place + 1) (drop l.place l.self.phases)) ≡ length (enabled_in script s);
+      items : l.task-items ≡ l.self.tasks;
+      few : l.count ≤ l.task-index;
+      passed : (s : CoreState) → IsAt g.T.Turner.stands l.self s → IsSound script s → Passed script s l.task-items l.task-index l.count;
     }

@@ -1,6 +1,6 @@
-use Rattle.std.proofs.Common.{◌≡◌, ◌+◌, ◌/◌, ◌%◌, ◌<◌, ℕ, List, Option, length, replicate, get_or, set, None, Some, refl, sym, ap, subst, arith}
+use Rattle.std.proofs.Common.{◌≡◌, ◌/◌, ◌%◌, ◌<◌, ℕ, List, Option, length, replicate, get_or, set, None, Some, refl, sym, ap, subst, arith}
 use Rattle.std.proofs.lemmas.List.{length-replicate}
-use Rattle.kheap_slabs.specs.Objects.{object, put}
+use Rattle.kheap_slabs.specs.Objects.{object}
 use Rattle.kheap_slabs.specs.Spaces.{OwnsNodes}
 use Rattle.kheap_slabs.specs.declared.objects.Node.{Node}
 use Rattle.kheap_slabs.specs.declared.objects.PageEntry.{PageEntry}

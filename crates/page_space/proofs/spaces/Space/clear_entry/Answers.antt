@@ -1,6 +1,6 @@
-use Rattle.std.proofs.Common.{◌≡◌, ◌+◌, ◌/◌, ◌%◌, ◌<◌, ℕ, List, Option, length, get_or, set, None, Some, sym, ap, subst, count_by, arith}
+use Rattle.std.proofs.Common.{◌≡◌, ◌/◌, ◌<◌, ℕ, List, Option, get_or, set, None, Some, sym, ap, subst, arith}
 use Rattle.std.proofs.lemmas.Bool.{MatchBool-at_true, MatchBool-at_false}
-use Rattle.kheap_slabs.specs.Spaces.{is_mapped, mapped_count, OwnsNodes}
+use Rattle.kheap_slabs.specs.Spaces.{mapped_count, OwnsNodes}
 use Rattle.kheap_slabs.specs.declared.objects.PageEntry.TheVariants as entry
 use Rattle.page_space.specs.Entries.{entry_at, PageTurns}
 use Rattle.page_space.proofs.TurnLemmas.{turn-set, turn-clear}

@@ -1,10 +1,11 @@
-use Rattle.std.proofs.Common.{◌≡◌, ◌<◌, ℕ, List, Option, refl, sym, ap, ◌∙◌, subst, arith}
+use Rattle.std.proofs.Common.{◌≡◌, ◌/◌, ℕ, None, replicate, refl, sym, ap, ◌∙◌, subst, arith}
 use Rattle.kheap_slabs.specs.Owners.{with_space}
 use Rattle.kheap_slabs.specs.Spaces.{OwnsNodes}
 use Rattle.kheap_slabs.proofs.OwnerLemmas.{IsOwned-space}
 use Rattle.kheap_slabs.proofs.PaidLemmas.{CanPay-kept, IsPaid-nothing}
 use Rattle.kheap_slabs.proofs.SpaceLemmas.{IsCounted-most}
-use Rattle.page_space.proofs.ForkLemmas.{IsOwned-second_to_front, IsForking-more, IsForking-unmapped, OwnsNodes-second, fork_left, unmapped_is}
+use Rattle.page_space.proofs.ForkAccount.{AccountForksTo, AccountForks-all}
+use Rattle.page_space.proofs.ForkLemmas.{IsForking-none, IsOwned-second_to_front, IsForking-more, IsForking-unmapped, OwnsNodes-second, none_there, fork_left, unmapped_is}
 use Rattle.page_space.proofs.MoveLemmas.{IsNamed-entry}
 use Rattle.page_space.proofs.spaces.Space.fork_from.Goals as goal
 use Rattle.page_space.proofs.spaces.Space.fork_from.Goals.{then-is_mapped_entry, else-is_mapped_entry}
@@ -46,7 +47,7 @@ loop-page-preserved c =
           (fork_left c.args.heap.now c.args.purse.now c.loop-page.heap c.loop-page.purse c.args.of.now c.loop-page.space c.loop-page.page c.loop-page.invariant c.loop-page-test.true c.requires.left))
       | else-is_mapped_entry w ↦ rw (w.heap-is, w.purse-is, w.space-is)
           (IsForking-unmapped c.args.heap.now c.args.purse.now c.loop-page.heap c.loop-page.purse c.args.of.now c.loop-page.space c.requires.owned.0 c.loop-page.page
-          c.loop-page.invariant c.requires.owned.1
+          c.loop-page.invariant c.requires.owned.1 c.loop-page-test.true
           (sym c.entry-entry.ensures ∙ unmapped_is c.entry-entry.result (sym c.is_mapped_entry.ensures ∙ w.if-is_mapped_entry.false)))
     ]
 
@@ -60,3 +61,12 @@ returns-clause-parent c = (
   IsOwned-second_to_front c.loop-page.heap c.loop-page.space c.args.of.now c.requires.owned.0
       (c.loop-page.invariant.forked.owners c.requires.owned.0 c.requires.owned.1),
 )
+
+pub returns-clause-account : goal.returns-clause-account
+returns-clause-account c =
+    let last : c.loop-page.page ≡ 256 = omega arith in
+    AccountForks-all c.args.heap.now c.loop-page.heap c.args.of.now c.loop-page.space
+    (subst (λ (page : ℕ). AccountForksTo c.args.heap.now c.loop-page.heap c.args.of.now c.loop-page.space page) last c.loop-page.invariant.account)
+
+pub loop-page-init : goal.loop-page-init
+loop-page-init c = IsForking-none c.args.heap.now c.args.purse.now c.args.of.now (replicate 4 None) refl (λ page. none_there 4 (page / 64))

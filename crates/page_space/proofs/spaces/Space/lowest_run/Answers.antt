@@ -1,4 +1,4 @@
-use Rattle.std.proofs.Common.{◌≡◌, ◌+◌, ◌-◌, ℕ, Bool, sym, ◌∙◌, subst, arith}
+use Rattle.std.proofs.Common.{◌≡◌, ℕ, Bool, sym, ◌∙◌, subst, arith}
 use Rattle.page_space.specs.Entries.{is_mapped_at}
 use Rattle.page_space.proofs.RunLemmas.{IsSearched, IsSearched-mapped, IsSearched-unmapped, run_found, run_missing}
 use Rattle.page_space.proofs.spaces.Space.lowest_run.Goals as goal

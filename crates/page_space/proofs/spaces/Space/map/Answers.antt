@@ -1,5 +1,6 @@
-use Rattle.std.proofs.Common.{◌≡◌, ℕ, Option, Some, None, refl, sym, ◌∙◌}
-use Rattle.posix_defs.specs.Memory.{lowest_run}
+use Rattle.std.proofs.Common.{◌≡◌, ◌+◌, ◌-◌, ℕ, Some, None, refl, sym, ◌∙◌, subst, arith}
+use Rattle.page_space.specs.Accounts.{AccountMoves}
+use Rattle.posix_defs.specs.Memory.{lowest_run, after_map}
 use Rattle.page_space.proofs.MapLemmas.{run_same, StandsFor-filled}
 use Rattle.page_space.proofs.spaces.Space.map.Goals as goal
 
@@ -23,3 +24,9 @@ returns-in-Some-clause-memory c = λ memory len stands.
 pub returns-in-Some-clause-owned : goal.returns-in-Some-clause-owned
 returns-in-Some-clause-owned c =
     let moves = c.map_run.ensures.moves in (c.requires.owned.0, moves.owners c.requires.owned.0 c.requires.owned.1)
+
+pub returns-in-Some-clause-account : goal.returns-in-Some-clause-account
+returns-in-Some-clause-account c = λ number before pid accounted.
+    let count : c.in-Some.first + c.args.pages - c.in-Some.first ≡ c.args.pages = omega arith in
+    subst (λ (n : ℕ). AccountMoves c.args.heap.now c.map_run.new.heap c.args.self.now c.map_run.new.self number before (after_map before pid c.in-Some.first n) pid) count
+    (c.map_run.ensures.account number before pid accounted)

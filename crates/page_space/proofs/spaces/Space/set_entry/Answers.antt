@@ -1,4 +1,4 @@
-use Rattle.std.proofs.Common.{◌≡◌, ◌+◌, ◌/◌, ◌%◌, ◌<◌, ℕ, List, Option, get_or, set, None, Some, sym, ap, subst, count_by, arith}
+use Rattle.std.proofs.Common.{◌≡◌, ◌/◌, ◌%◌, ◌<◌, ℕ, List, Option, get_or, None, Some, sym, ap, subst, count_by, arith}
 use Rattle.kheap_slabs.specs.Spaces.{is_mapped}
 use Rattle.page_space.specs.Entries.{entry_at, PageTurns}
 use Rattle.page_space.proofs.KeyPlaces.{key_there}

@@ -13,5 +13,5 @@ unmap_page-requires-clause-owned c =
 pub loop-page-preserved : goal.loop-page-preserved
 loop-page-preserved c =
     IsCleared-more c.args.heap.now c.loop-page.heap c.unmap_page.new.heap c.args.self.now c.loop-page.self c.unmap_page.new.self c.args.first c.loop-page.page
-    c.loop-page.invariant c.unmap_page.ensures.gone c.unmap_page.ensures.entries c.unmap_page.ensures.stays c.unmap_page.ensures.moves c.unmap_page.ensures.takes
-    (omega arith)
+    c.loop-page.invariant c.unmap_page.ensures.gone c.unmap_page.ensures.entries c.unmap_page.ensures.stays c.unmap_page.ensures.moves c.unmap_page.ensures.own c.unmap_page.ensures.account
+    c.unmap_page.ensures.takes (omega arith) (omega arith)

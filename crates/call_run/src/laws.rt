@@ -1,0 +1,15 @@
+//! Laws of stores. Each is the contract of a function that does nothing.
+
+ghost use Rattle.std.specs.Prelude.{◌≡◌};
+ghost use Rattle.kabi_types.specs.declared.scripts.Script.{Script};
+ghost use Rattle.kheap_slabs.specs.Heap.{IsWellFormed, live_bytes};
+ghost use Rattle.posix_defs.specs.World.{World, live_of};
+ghost use Rattle.call_run.specs.Standing.{StandsFor};
+ghost use Rattle.call_run.specs.declared.objects.Objects.{Objects};
+
+/// What a store's heap has in use is what the world that it stands for takes: 512 bytes for each process that is there and for
+/// each group of 64 pages with a mapped one, 4096 for each frame that a page names, and the root's vnode.
+pub fn the_heap_is_the_worlds()
+    ensures { (script : Script) (objects : Objects) (world : World) → StandsFor script objects world → IsWellFormed objects.heap
+        → live_bytes objects.heap ≡ live_of world }
+{}

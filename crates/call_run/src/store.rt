@@ -1,0 +1,172 @@
+//! The store that the core runs: the script, and the heap with the processes of the script in it.
+
+ghost use Rattle.std.specs.Prelude.{◌≡◌, ◌≤◌, IfOk, length, true};
+ghost use Rattle.kabi_types.specs.declared.scripts.Script.{Script};
+ghost use Rattle.posix_defs.specs.Plain as plain;
+ghost use Rattle.posix_defs.specs.ValidScript.{IsValid};
+ghost use Rattle.posix_defs.specs.World.{World, boot_world};
+ghost use Rattle.kabi_types.specs.declared.scripts.Control.{Control};
+ghost use Rattle.call_run.specs.Booting.{HasBooted};
+ghost use Rattle.call_run.specs.Standing.{StandsFor};
+
+use crate::calls::would_block;
+use crate::objects::Objects;
+use crate::turns;
+use crate::victims;
+use kabi_types::{Cached, Call, Control, Inode, Memory, Need, Program, Script};
+use kheap_slabs::{KHeap, Vnode};
+use posix_defs::{Turned, Turner};
+use proc_table::ProcTable;
+use std::alloc::Global;
+use std::marker::Model;
+
+/// The root's node.
+const ROOT: u32 = 1;
+
+/// A store of the processes of a script, in a heap whose room is reserved at boot.
+#[derive(Drop)]
+pub struct Store {
+    script: Script,
+    objects: Objects,
+}
+
+impl Model for Store {
+    ghost use Rattle.call_run.specs.Objects.{AreKept};
+    ghost use Rattle.call_run.specs.Standing.{StoreView};
+
+    ghost Value = { StoreView };
+
+    ghost view = { λ store. record { script = store.script; objects = store.objects } };
+
+    ghost invariant = { λ store. AreKept store.script store.objects };
+}
+
+/// The root as a cache keeps it: pinned for good, as a working directory. Until there are files nothing reads more of it than
+/// its number.
+fn root() -> Vnode
+    ensures { result.number ≡ 1 }
+{
+    Vnode {
+        number: ROOT,
+        inode: Inode {
+            kind: 2,
+            nlink: 2,
+            size: 64,
+            direct: [0; 10],
+            indirect: 0,
+        },
+        pins: 1,
+    }
+}
+
+/// A heap of so many bytes, with the root's vnode and the first process, which stands at this control.
+fn booted(alloc: Global, heap: u64, control: Control) -> Result<Objects, Memory>
+    requires least { 8192 ≤ heap }
+    requires most { heap ≤ 8388608 }
+    ensures { IfOk result (λ objects. HasBooted objects heap control) }
+{
+    let mut heap = KHeap::boot(alloc, heap)?;
+    let _ = heap.insert_vnode(root());
+    let procs = ProcTable::boot(&mut heap);
+    let mut objects = Objects { heap, procs };
+    objects.move_on(1, control);
+    Ok(objects)
+}
+
+impl Store {
+    /// The first process alone, at the start of the program `init` of the script, of which the store keeps a copy. `Memory`
+    /// comes where the host has no memory left, and nothing else.
+    pub fn boot(alloc: Global, script: &Script) -> Result<Store, Memory>
+        requires { IsValid script.now }
+        ensures script { IfOk result (λ store. store.script ≡ script.now) }
+        ensures booted { IfOk result (λ store. StandsFor script.now store.objects (boot_world script.now)) }
+    {
+        let script = script.copy(alloc)?;
+        let mut control = Control {
+            program: place_of(script.programs.items(), b"init"),
+            place: 0,
+            regs: [0; 16],
+            done: 0,
+        };
+        prog_ctl::go_to_call(&script, &mut control);
+        let objects = booted(alloc, script.heap, control)?;
+        Ok(Store { script, objects })
+    }
+}
+
+/// The place of the first program of this name; the number of programs where there is none.
+fn place_of(programs: &[Program], name: &[u8]) -> u32
+    requires { length programs.now ≤ 64 }
+    ensures { result ≡ plain.place_of name.now programs.now }
+{
+    let mut place = 0;
+    let mut rest = programs;
+    while let Some((program, next)) = rest.split_first() {
+        if program.name.items() == name {
+            break;
+        }
+        place += 1;
+        rest = next;
+    }
+    place
+}
+
+impl Turner for Store {
+    ghost script = { λ store. store.script };
+
+    ghost stands = { λ store world. StandsFor store.script store.objects world };
+
+    ghost high = { λ store. store.objects.heap.high };
+
+    fn next(&self, pid: u32) -> Call {
+        turns::next(&self.script, &self.objects, pid)
+    }
+
+    fn turn(&mut self, pid: u32, call: &Call, need: Need) -> Turned {
+        turns::turn(&self.script, &mut self.objects, pid, call, need)
+    }
+
+    fn refuse(&mut self, pid: u32) {
+        turns::refuse(&self.script, &mut self.objects, pid);
+    }
+
+    fn ready(&self, pid: u32) -> bool {
+        !would_block(
+            &self.objects,
+            pid,
+            &turns::next(&self.script, &self.objects, pid),
+        )
+    }
+
+    fn evictable(&self, _what: Cached) -> bool {
+        false
+    }
+
+    fn evict(&mut self, _what: Cached) {}
+
+    fn victim(&self) -> Option<u32> {
+        victims::victim(self.script.policy, &self.objects)
+    }
+
+    fn kill(&mut self, pid: u32) {
+        turns::kill(&mut self.objects, pid);
+    }
+
+    fn alive(&self, pid: u32) -> bool {
+        self.objects.runs(pid)
+    }
+
+    fn last_pid(&self) -> u32 {
+        self.objects.procs.last_pid()
+    }
+
+    fn live(&self) -> u64 {
+        // the heap knows how long the rows of its objects are
+        let _ = self.objects.heap.heap();
+        self.objects.heap.live()
+    }
+
+    fn reads(&self) -> u64 {
+        0
+    }
+}

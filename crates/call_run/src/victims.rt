@@ -1,0 +1,117 @@
+//! Who is killed where heap has to be freed.
+
+ghost use Rattle.std.specs.Prelude.{◌≡◌, ◌↔◌, ◌≤◌, IfSome, IsNone, count_by};
+ghost use Rattle.std.specs.List.{All};
+ghost use Rattle.kabi_types.specs.declared.scripts.Script.{Script};
+ghost use Rattle.kabi_types.specs.declared.scripts.Policy.TheVariants.{Heaviest, Youngest};
+ghost use Rattle.kheap_slabs.specs.Spaces.{OwnsNodes};
+ghost use Rattle.posix_defs.specs.Plain.{Plain};
+ghost use Rattle.posix_defs.specs.Victim.{score_of, victim_of};
+ghost use Rattle.posix_defs.specs.World.{Account};
+ghost use Rattle.proc_table.specs.Table.{Holds};
+ghost use Rattle.victim_core.specs.Victims.{IsInRange, IsVictim};
+ghost use Rattle.call_run.specs.Objects.{AreKept, procs_of};
+ghost use Rattle.call_run.specs.Standing.{StandFor};
+ghost use Rattle.call_run.specs.Weights.{has_frame, weight_in, weights_in};
+
+use crate::objects::Objects;
+use arrayvec::ArrayVec;
+use kabi_types::{Policy, Weight};
+use kheap_slabs::{KHeap, Node, PageEntry, Proc};
+use victim_core::{Score, Scorer};
+
+/// How many processes may be there, alive or ended and not waited for.
+const MOST: usize = 64;
+
+/// Whether a page has a frame.
+fn has_frame(entry: PageEntry) -> bool
+    ensures { result ≡ has_frame entry }
+{
+    matches!(entry, PageEntry::Frame(_))
+}
+
+/// How many of 64 pages have a frame.
+fn frames_in(node: &Node) -> u32
+    ensures frames { result ≡ count_by has_frame node.now.entries }
+    ensures few { result ≤ 64 }
+{
+    let mut frames = 0;
+    for entry in &node.entries {
+        if has_frame(*entry) {
+            frames += 1;
+        }
+    }
+    frames
+}
+
+/// What a process weighs: until it can open files, beside itself its memory.
+fn weight_of(heap: &KHeap, proc: &Proc) -> Weight
+    requires { OwnsNodes heap.now.nodes proc.now.nodes }
+    ensures weight { result ≡ weight_in heap.now proc.now }
+    ensures in_range { IsInRange result }
+{
+    let mut weight = Weight {
+        pid: proc.pid,
+        frames: 0,
+        nodes: 0,
+        descs: 0,
+    };
+    for group in &proc.nodes {
+        if let Some(key) = group {
+            weight.nodes += 1;
+            weight.frames += frames_in(heap.get_node(*key));
+        }
+    }
+    weight
+}
+
+/// The weights of the processes that are alive.
+fn weights_of(objects: &Objects) -> ArrayVec<Weight, MOST>
+    requires { Holds objects.now.heap objects.now.procs }
+    ensures weights { result.items ≡ weights_in objects.now.heap (procs_of objects.now) }
+    ensures in_range { All IsInRange result.items }
+{
+    let mut weights = ArrayVec::new();
+    for place in objects.procs.listed() {
+        let proc = objects.heap.get_proc(place.key);
+        if proc.status.is_none() {
+            weights.push(weight_of(&objects.heap, proc));
+        }
+    }
+    weights
+}
+
+/// Whom these scores choose.
+fn chosen<F: Scorer, G: Scorer>(
+    heaviest: F,
+    youngest: G,
+    policy: Policy,
+    weights: &[Weight],
+) -> Option<u32>
+    requires by_weight { F.scores heaviest Heaviest }
+    requires by_age { G.scores youngest Youngest }
+    requires in_range { All IsInRange weights.now }
+    ensures none { IsNone result ↔ All (λ w. w.pid ≡ 1) weights.now }
+    ensures victim { IfSome result (IsVictim policy weights.now) }
+{
+    Score::new(heaviest, youngest).choose(policy, weights)
+}
+
+/// The process that is killed under this policy; None exactly where none but the first is alive.
+pub fn victim(policy: Policy, objects: &Objects) -> Option<u32>
+    requires kept { (script : Script) × AreKept script objects.now }
+    ensures { (script : Script) (plain : Plain) (account : Account) → StandFor script objects.now plain account
+        → result ≡ victim_of policy plain account }
+{
+    let weights = weights_of(objects);
+    chosen(
+        |w: Weight| -> u64
+            ensures { result ≡ score_of Heaviest w }
+        { 512 + 4096 * u64::from(w.frames) + 512 * u64::from(w.nodes) + 64 * u64::from(w.descs) },
+        |w: Weight| -> u64
+            ensures { result ≡ score_of Youngest w }
+        { u64::from(w.pid) },
+        policy,
+        weights.as_slice(),
+    )
+}

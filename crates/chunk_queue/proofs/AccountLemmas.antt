@@ -1,0 +1,64 @@
+-- How many chunks a queue has, and the bytes that they take of the heap.
+use Rattle.std.proofs.Common.{◌≡◌, ◌≢◌, ◌⊎◌, inl, inr, ℕ, zero, suc, ◌+◌, ◌-◌, ◌*◌, ◌/◌, ◌<◌, ◌≤◌, List, [], ◌∷◌, ◌++◌, Option, None, Some, length, refl, sym, ap, ◌∙◌, arith, Contains, length-append}
+use Rattle.std.proofs.lemmas.Bool.{cases_eq}
+use Rattle.kheap_slabs.specs.Heap.{Heap, live_bytes, counts_of}
+use Rattle.kheap_slabs.specs.Keys.{AreKeysOf}
+use Rattle.kheap_slabs.specs.Objects.{object, InUse, count, without}
+use Rattle.kheap_slabs.specs.Owners.{Owners, with_queue, chunk_keys, IsOwned}
+use Rattle.kheap_slabs.specs.Queues.{OwnsChunks}
+use Rattle.kheap_slabs.specs.declared.objects.QueueParts.{QueueParts}
+use Rattle.kheap_slabs.proofs.ObjectLemmas.{object-without_other, count-without}
+use Rattle.kheap_slabs.proofs.OnceLemmas.{IsOnce-head, IsOnce-tail}
+use Rattle.posix_defs.specs.QueuePlace.{chunks_of}
+use Rattle.chunk_queue.specs.Chained.{owned, OnlyChunks, place_of}
+use Rattle.chunk_queue.proofs.JoinedLemmas.{Contains-cons, Contains-cons_cases}
+use Rattle.chunk_queue.proofs.StepLemmas.{owns, gone_is_free, chunks_some}
+
+module _ {X : Type 0} where
+  count-unused : (objects : List (Option X)) → ((key : ℕ) → InUse objects key → ⊥) → count objects ≡ 0
+  count-unused [] none = refl
+  count-unused (None ∷ rest) none = count-unused rest (λ key used. none (suc key) used)
+  count-unused (Some x ∷ rest) none = absurd (none 0 refl)
+
+  -- a list of all keys in use has as many as there are objects
+  pub count-keys : (objects : List (Option X)) (keys : List ℕ) → AreKeysOf objects keys → count objects ≡ length keys
+  count-keys objects [] all = count-unused objects (λ key used. omega (arith, (all.listed key used).1))
+  count-keys objects (key ∷ rest) all =
+      let used = all.used key (0, omega arith, refl) in
+      let fewer = count-keys (without objects key) rest (record {
+        used = λ other there. rw (object-without_other objects key other (λ same. IsOnce-head key rest all.once (rw same at there))) (all.used other (Contains-cons key other rest there));
+        listed = λ other there. listed_still used other there (cases_eq other key);
+        once = IsOnce-tail key rest all.once;
+      }) in
+      omega (arith, fewer, count-without objects key used)
+    where
+      behind : (other : ℕ) → other ≢ key → (key ≡ other) ⊎ Contains rest other → Contains rest other
+      behind other differs (inl same) = absurd (differs (sym same))
+      behind other differs (inr there) = there
+
+      listed_still : InUse objects key → (other : ℕ) → InUse (without objects key) other → (other ≡ key) ⊎ (other ≢ key) → Contains rest other
+      listed_still used other there (inl same) = absurd (gone_is_free objects key used (rw same at there))
+      listed_still used other there (inr differs) = behind other differs (Contains-cons_cases key other rest (all.listed other (rw (object-without_other objects key other differs) at there)))
+
+-- a queue has as many chunks as its place and its bytes ask for
+pub chunks_are : (h : Heap) (keys : List ℕ) (parts : QueueParts) (owners : Owners) → IsOwned h (with_queue (owned parts keys) owners) → length keys ≡ chunks_of (place_of parts)
+chunks_are h keys parts owners is = by_len (cases_eq parts.len 0)
+  where
+    mine : OwnsChunks h.chunks (owned parts keys)
+    mine = owns h keys parts owners is
+
+    by_len : (parts.len ≡ 0) ⊎ (parts.len ≢ 0) → length keys ≡ chunks_of (place_of parts)
+    by_len (inl none) = let front = mine.empty none in rw none (omega (arith, front, none, mine.needed, mine.enough))
+    by_len (inr some) =
+        let whole : (parts.place + parts.len + 511) / 512 ≡ length keys = omega (arith, mine.enough, mine.needed) in
+        sym (chunks_some parts.place parts.len (omega arith) ∙ whole)
+
+-- where one queue is another one now, live differs by their chunks
+pub live_of_queue : (old new : Heap) (keys now_keys : List ℕ) (queue now : QueueParts) (owners : Owners) → IsOwned old (with_queue (owned queue keys) owners) → IsOwned new (with_queue (owned now now_keys) owners) → OnlyChunks old new → live_bytes new + 576 * chunks_of (place_of queue) ≡ live_bytes old + 576 * chunks_of (place_of now)
+live_of_queue old new keys now_keys queue now owners before after only =
+    let was = count-keys old.chunks (chunk_keys (with_queue (owned queue keys) owners).queues) before.chunks ∙ length-append keys (chunk_keys owners.queues) in
+    let is = count-keys new.chunks (chunk_keys (with_queue (owned now now_keys) owners).queues) after.chunks ∙ length-append now_keys (chunk_keys owners.queues) in
+    let had = chunks_are old keys queue owners before in
+    let has = chunks_are new now_keys now owners after in
+    let live = ap live_bytes only in
+    omega (arith, was, is, had, has, live)

@@ -1,0 +1,4 @@
+pub mod AccountLemmas
+pub mod HeldLemmas
+pub mod JoinedLemmas
+pub mod StepLemmas

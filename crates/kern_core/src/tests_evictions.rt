@@ -1,0 +1,261 @@
+//! A run over a store that has something to evict.
+
+ghost use Rattle.std.specs.Prelude.{◌≡◌, ◌≤◌, ◌-◌, ◌+◌, ◌*◌};
+ghost use Rattle.kern_core.specs.Sample.{caching, caching_at, next_blocks, next_place};
+
+use crate::picks::picked;
+use crate::{Choosing, Core, Relief};
+use kabi_types::{Cached, Call, Chooser, Entry, Errno, Event, Need, Reply};
+use posix_defs::{Turned, Turner};
+use std::test::Fail;
+
+/// A store of one process, which cuts a file, writes much and reads a byte, over and over: no call that it makes is built, so
+/// each is answered EINVAL. To cut the file two blocks are cached. It has the place behind the call that the process made last,
+/// and how many blocks are cached.
+#[derive(Drop)]
+struct Caching {
+    place: u32,
+    blocks: u32,
+    ghost places: { place ≤ 3 },
+    ghost few: { blocks ≤ 2 },
+}
+
+impl Caching {
+    /// The turn of a call fills the cache.
+    fn fill(&mut self)
+        ensures place { self.new.place ≡ self.old.place }
+        ensures blocks { self.new.blocks ≡ next_blocks self.old.place self.old.blocks }
+    {
+        self.blocks = match self.place {
+            1 | 2 => self.blocks,
+            _ => 2,
+        };
+    }
+
+    /// The call is over.
+    fn go_on(&mut self)
+        ensures place { self.new.place ≡ next_place self.old.place }
+        ensures blocks { self.new.blocks ≡ self.old.blocks }
+    {
+        self.place = match self.place {
+            1 => 2,
+            2 => 3,
+            _ => 1,
+        };
+    }
+}
+
+impl Turner for Caching {
+    ghost script = { λ _. caching };
+
+    ghost stands = { λ store world. world ≡ caching_at store.place store.blocks };
+
+    ghost high = { λ store. 640 + 1088 * store.blocks };
+
+    fn next(&self, _pid: u32) -> Call {
+        match self.place {
+            1 => Call::Write {
+                fd: 3,
+                addr: 0,
+                n: 4096,
+                done: 0,
+            },
+            2 => Call::Read {
+                fd: 3,
+                addr: 0,
+                n: 1,
+            },
+            _ => Call::Ftruncate { fd: 3, length: 0 },
+        }
+    }
+
+    fn turn(&mut self, pid: u32, _call: &Call, _need: Need) -> Turned {
+        if pid != 1 {
+            return Turned::Gone;
+        }
+        self.fill();
+        self.go_on();
+        Turned::Done(Reply::Fail(Errno::EINVAL))
+    }
+
+    fn refuse(&mut self, _pid: u32) {
+        self.go_on();
+    }
+
+    fn ready(&self, _pid: u32) -> bool {
+        true
+    }
+
+    fn evictable(&self, what: Cached) -> bool {
+        what == Cached::Block && self.blocks > 0
+    }
+
+    fn evict(&mut self, _what: Cached) {
+        if self.blocks > 0 {
+            self.blocks -= 1;
+        }
+    }
+
+    fn victim(&self) -> Option<u32> {
+        None
+    }
+
+    fn kill(&mut self, _pid: u32) {}
+
+    fn alive(&self, pid: u32) -> bool {
+        pid == 1
+    }
+
+    fn last_pid(&self) -> u32 {
+        1
+    }
+
+    fn live(&self) -> u64 {
+        640 + 1088 * u64::from(self.blocks)
+    }
+
+    fn reads(&self) -> u64 {
+        0
+    }
+}
+
+/// The process at its start, with nothing cached.
+fn at_boot() -> Caching
+    ensures { (result.place ≡ 0) × (result.blocks ≡ 0) }
+{
+    Caching {
+        place: 0,
+        blocks: 0,
+    }
+}
+
+/// What the events so far say: how many of its calls the process has behind it, how far it is with the next one, and how many
+/// blocks are cached. By hand from the prices: 2176 bytes to cut, 4608 to write, and to read more than the heap can give.
+#[derive(Clone, Copy, Debug, PartialEq, Eq)]
+struct Told {
+    call: u32,
+    phase: u32,
+    blocks: u64,
+}
+
+impl Told {
+    /// The process's own event, if it may be taken.
+    fn own(self) -> Option<Event> {
+        let bound: u64 = if self.call == 0 { 2176 } else { 4608 };
+        match self.phase {
+            0 => Some(Event::Ask(1)),
+            1 if self.blocks < 3 && 2816 + 1088 * self.blocks + bound <= 8192 => {
+                Some(Event::Admit(1))
+            }
+            1 => None,
+            _ => Some(Event::Turn(1)),
+        }
+    }
+
+    /// The event at a place among those that may be taken.
+    fn at(self, place: u32) -> Option<Event> {
+        let evict = if self.blocks > 0 {
+            Some(Event::Evict(Cached::Block))
+        } else {
+            None
+        };
+        match (self.own(), place) {
+            (Some(event), 0) => Some(event),
+            (Some(_), 1) => evict,
+            (None, 0) => evict,
+            _ => None,
+        }
+    }
+
+    fn after(self, event: Event) -> Told {
+        let Told {
+            call,
+            phase,
+            blocks,
+        } = self;
+        match event {
+            Event::Ask(_) if call == 2 => Told {
+                call: 0,
+                phase: 0,
+                blocks,
+            },
+            Event::Ask(_) => Told {
+                call,
+                phase: 1,
+                blocks,
+            },
+            Event::Admit(_) => Told {
+                call,
+                phase: 2,
+                blocks,
+            },
+            Event::Turn(_) => Told {
+                call: if call == 0 { 1 } else { 2 },
+                phase: 0,
+                blocks: if call == 0 { 2 } else { blocks },
+            },
+            _ => Told {
+                call,
+                phase,
+                blocks: blocks.saturating_sub(1),
+            },
+        }
+    }
+}
+
+/// Whether the core offers what was told, and nothing more.
+fn offers(core: &Core<Caching>, told: Told) -> bool {
+    core.enabled(0) == told.at(0) && core.enabled(1) == told.at(1) && core.enabled(2) == None
+}
+
+#[test]
+fn offers_evictions_over_a_thousand_events(rt: HostRuntime) -> Result<(), Fail> {
+    let mut core = Core::boot(rt.alloc(), at_boot(), 1000, 8192)?;
+    let mut choosing = Choosing::of(&Chooser::Seed(7));
+    let mut told = Told {
+        call: 0,
+        phase: 0,
+        blocks: 0,
+    };
+    while core.ended() == None {
+        assert!(rt; offers(&core, told), "at {told:?}");
+        let (number, rest) = choosing.next();
+        let event = picked(&core, number);
+        let _ = core.step(event);
+        told = told.after(event);
+        choosing = rest;
+    }
+    let evicted = core
+        .run()
+        .iter()
+        .filter(|noted| matches!(noted.entry, Some(Entry::Evicted { .. })))
+        .count();
+    assert!(rt; core.run().len() == 1000 && evicted > 100);
+    Ok(())
+}
+
+#[test]
+fn relief_evicts_until_a_call_fits(rt: HostRuntime) -> Result<(), Fail> {
+    let mut core = Core::boot(rt.alloc(), at_boot(), 1000, 8192)?;
+    for relief in RELIEFS {
+        if core.ended() == None {
+            assert!(rt; core.relief() == *relief);
+        }
+        if core.ended() == None {
+            let event = picked(&core, None);
+            let _ = core.step(event);
+        }
+    }
+    Ok(())
+}
+
+/// The default takes `Ask`, `Admit`, `Turn` and `Ask`; then the write waits for which both blocks have to go.
+const RELIEFS: &[Relief] = &[
+    Relief::NoneWaiting,
+    Relief::Fits(1),
+    Relief::NoneWaiting,
+    Relief::NoneWaiting,
+    Relief::Evicted(Cached::Block),
+    Relief::Fits(1),
+    Relief::NoneWaiting,
+];

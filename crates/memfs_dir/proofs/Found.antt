@@ -1,0 +1,108 @@
+-- A look through the entries of a directory, block by block.
+use Rattle.std.proofs.Common.{◌≡◌, ◌≢◌, ℕ, suc, ◌+◌, ◌-◌, ◌*◌, ◌/◌, ◌%◌, ◌<◌, ◌≤◌, Bool, true, false, cond, ltb, eqb, List, [], ◌∷◌, ◌++◌, map, length, get_or, inl, inr, Some, None, refl, sym, ap, subst, ◌∙◌, arith}
+use Rattle.std.specs.List.{position_or_len}
+use Rattle.std.proofs.lemmas.Bool.{cases_lt, lt-ltb, le-ltb, cond-true, cond-false, false_from_ne_true}
+use Rattle.std.proofs.lemmas.List.Sums.{position_or_len_is}
+use Rattle.std.proofs.lemmas.Slice.Eq.{bytes_eq-Decides}
+use Rattle.kabi_types.specs.declared.inodes.Inode.{Inode}
+use Rattle.kabi_types.specs.declared.inodes.DirEntry.{DirEntry}
+use Rattle.posix_defs.specs.Asking.{AskedInTurn}
+use Rattle.posix_defs.specs.SoundDisk.{block_bytes, Place, Data, Pointers, named_at}
+use Rattle.posix_defs.specs.DiskContents.{data_block, HasEntries}
+use Rattle.posix_defs.specs.Tree.{has_name}
+use Rattle.posix_defs.specs.TreeChanges.{no_entry}
+use Rattle.memfs_dir.specs.Slots.{Spells, IsCalled}
+use Rattle.memfs_dir.specs.Looking.{looked_at, looked_through}
+use Rattle.memfs_dir.specs.Listed.{place_called}
+use Rattle.memfs_dir.proofs.SlotBytes.{one_entry}
+use Rattle.memfs_dir.proofs.DirectoryBytes.{spelled}
+
+-- ---- where a name stands
+
+pub called : (entry : DirEntry) (name : List ℕ) → entry.name ≡ name → has_name name entry ≡ true
+called entry name is = (bytes_eq-Decides entry.name name).1 is
+
+pub not_called : (entry : DirEntry) (name : List ℕ) → entry.name ≢ name → has_name name entry ≡ false
+not_called entry name other = false_from_ne_true (has_name name entry) (λ is. other ((bytes_eq-Decides entry.name name).0 is))
+
+pub first_called : (entries : List DirEntry) (name : List ℕ) (place : ℕ) → place < length entries → (get_or entries place no_entry).name ≡ name
+    → ((k : ℕ) → k < place → (get_or entries k no_entry).name ≢ name) → place_called name entries ≡ Some place
+first_called entries name place lt here before =
+    let at = position_or_len_is (has_name name) entries place no_entry (omega (arith, lt)) (λ k k_lt. not_called (get_or entries k no_entry) name (before k k_lt)) (λ _. called (get_or entries place no_entry) name here) in
+    cond-true (ltb (position_or_len (has_name name) entries) (length entries)) (Some (position_or_len (has_name name) entries)) None (lt-ltb (position_or_len (has_name name) entries) (length entries) (omega (arith, at, lt)))
+    ∙ ap (λ (n : ℕ). Some n) at
+
+pub none_called : (entries : List DirEntry) (name : List ℕ) → ((k : ℕ) → k < length entries → (get_or entries k no_entry).name ≢ name) → place_called name entries ≡ None
+none_called entries name nowhere =
+    let at = position_or_len_is (has_name name) entries (length entries) no_entry (omega arith) (λ k lt. not_called (get_or entries k no_entry) name (nowhere k lt)) (λ past. absurd (omega (arith, past))) in
+    cond-false (ltb (position_or_len (has_name name) entries) (length entries)) (Some (position_or_len (has_name name) entries)) None (le-ltb (position_or_len (has_name name) entries) (length entries) (omega (arith, at)))
+
+-- ---- one block
+
+in_block : (index slot : ℕ) → slot < 32 → (32 * index + slot) / 32 ≡ index
+in_block index slot lt = omega (arith, lt)
+
+at_slot : (index slot : ℕ) → slot < 32 → (32 * index + slot) % 32 ≡ slot
+at_slot index slot lt = omega (arith, lt)
+
+-- the entries of a block, each in its slot
+pub spelled_in : (disk : List (List ℕ)) (inode : Inode) (entries : List DirEntry) (index slot : ℕ) (block : List ℕ) → HasEntries disk inode entries → slot < 32 → 32 * index + slot < length entries
+    → block_bytes disk (data_block disk inode index) ≡ block → Spells block slot (get_or entries (32 * index + slot) no_entry)
+spelled_in disk inode entries index slot block has lt within is =
+    let there : block_bytes disk (data_block disk inode ((32 * index + slot) / 32)) ≡ block = ap (λ (n : ℕ). block_bytes disk (data_block disk inode n)) (in_block index slot lt) ∙ is in
+    subst (λ (n : ℕ). Spells block n (get_or entries (32 * index + slot) no_entry)) (at_slot index slot lt) (spelled disk inode entries (32 * index + slot) block has within there)
+
+-- no entry up to a block, and none of the first of its slots, has the name
+pub missing_on : (disk : List (List ℕ)) (inode : Inode) (entries : List DirEntry) (index slots : ℕ) (block name : List ℕ) → HasEntries disk inode entries → slots ≤ 32
+    → block_bytes disk (data_block disk inode index) ≡ block → ((k : ℕ) → k < length entries → k < 32 * index → (get_or entries k no_entry).name ≢ name)
+    → ((slot : ℕ) → slot < slots → ¬ (IsCalled block slot name)) → (k : ℕ) → k < length entries → k < 32 * index + slots → (get_or entries k no_entry).name ≢ name
+missing_on disk inode entries index slots block name has few is before none k within lt = elim (cases_lt k (32 * index)) [
+  | inl lower ↦ before k within lower
+  | inr higher ↦
+      let slot : ℕ = k - 32 * index in
+      let at : 32 * index + slot ≡ k = omega (arith, higher) in
+      let slot_lt : slot < slots = omega (arith, lt, higher) in
+      let spells = spelled_in disk inode entries index slot block has (omega (arith, slot_lt, few)) (omega (arith, at, within)) is in
+      λ same. none slot slot_lt (record { entry = get_or entries (32 * index + slot) no_entry; spells = spells; called = ap (λ (n : ℕ). (get_or entries n no_entry).name) at ∙ same })
+]
+
+pub found_in : (disk : List (List ℕ)) (inode : Inode) (entries : List DirEntry) (index slot : ℕ) (block name : List ℕ) → HasEntries disk inode entries → slot < 32 → 32 * index + slot < length entries
+    → block_bytes disk (data_block disk inode index) ≡ block → ((k : ℕ) → k < length entries → k < 32 * index → (get_or entries k no_entry).name ≢ name)
+    → ((before : ℕ) → before < slot → ¬ (IsCalled block before name)) → IsCalled block slot name → place_called name entries ≡ Some (32 * index + slot)
+found_in disk inode entries index slot block name has lt within is before first here =
+    let spells = spelled_in disk inode entries index slot block has lt within is in
+    let same : get_or entries (32 * index + slot) no_entry ≡ here.entry = one_entry block slot (get_or entries (32 * index + slot) no_entry) here.entry spells here.spells in
+    first_called entries name (32 * index + slot) within (ap (λ (entry : DirEntry). entry.name) same ∙ here.called)
+    (λ k k_lt. missing_on disk inode entries index slot block name has (omega (arith, lt)) is before first k (omega (arith, k_lt, within)) k_lt)
+
+-- ---- what was asked for
+
+asked_append : {Thing Question : Type 0} (asked : Thing → Question → Thing → Type 0) (first second third : Thing) (xs ys : List Question) → AskedInTurn asked first xs second → AskedInTurn asked second ys third
+    → AskedInTurn asked first (xs ++ ys) third
+asked_append {Thing} {Question} asked first second third [] ys one other = subst (λ (thing : Thing). AskedInTurn asked thing ys third) one other
+asked_append {Thing} {Question} asked first second third (x ∷ xs) ys one other = (one.0, one.1, asked_append asked one.0 second third xs ys one.2 other)
+
+map_both : (f : Place → ℕ) (xs ys : List Place) → map f (xs ++ ys) ≡ map f xs ++ map f ys
+map_both f [] ys = refl
+map_both f (x ∷ xs) ys = ap (λ (rest : List ℕ). f x ∷ rest) (map_both f xs ys)
+
+abbrev pub blocks_at : List (List ℕ) → Inode → List Place → List ℕ
+blocks_at disk inode places = map (λ there. named_at disk inode there) places
+
+-- one block more
+asked_one : {Thing : Type 0} (asked : Thing → ℕ → Thing → Type 0) (disk : List (List ℕ)) (inode : Inode) (index number : ℕ) (far : Bool) (first second third : Thing) → number ≡ data_block disk inode index
+    → AskedInTurn asked first (cond far (inode.indirect ∷ []) []) second → asked second number third
+    → AskedInTurn asked first (blocks_at disk inode (cond far (Pointers ∷ Data index ∷ []) (Data index ∷ []))) third
+asked_one {Thing} asked disk inode index number true first second third is pointers block =
+    (pointers.0, pointers.1, (third, subst (λ (thing : Thing). asked thing (data_block disk inode index) third) pointers.2 (subst (λ (n : ℕ). asked second n third) is block), refl))
+asked_one {Thing} asked disk inode index number false first second third is none block =
+    (third, subst (λ (thing : Thing). asked thing (data_block disk inode index) third) none (subst (λ (n : ℕ). asked second n third) is block), refl)
+
+pub asked_further : {Thing : Type 0} (asked : Thing → ℕ → Thing → Type 0) (disk : List (List ℕ)) (inode : Inode) (index number count : ℕ) (start first second third : Thing) → number ≡ data_block disk inode index → count ≡ suc index
+    → AskedInTurn asked start (blocks_at disk inode (looked_through index)) first → AskedInTurn asked first (cond (eqb index 10) (inode.indirect ∷ []) []) second → asked second number third
+    → AskedInTurn asked start (blocks_at disk inode (looked_through count)) third
+asked_further {Thing} asked disk inode index number count start first second third is next before pointers block =
+    subst (λ (n : ℕ). AskedInTurn asked start (blocks_at disk inode (looked_through n)) third) (sym next) (
+    subst (λ (numbers : List ℕ). AskedInTurn asked start numbers third) (sym (map_both (λ there. named_at disk inode there) (looked_through index) (looked_at index)))
+    (asked_append asked start first third (blocks_at disk inode (looked_through index)) (blocks_at disk inode (looked_at index)) before (asked_one asked disk inode index number (eqb index 10) first second third is pointers block))
+    )

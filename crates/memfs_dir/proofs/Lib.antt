@@ -1,0 +1,11 @@
+pub mod SlotBytes
+pub mod DirectoryBytes
+pub mod Written
+pub mod Resized
+pub mod Found
+pub mod Kept
+pub mod Names
+pub mod Places
+pub mod Dots
+pub mod Room
+pub mod Once

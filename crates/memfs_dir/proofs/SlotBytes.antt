@@ -1,0 +1,57 @@
+-- The bytes of a slot, one by one and as a piece of the block.
+use Rattle.std.proofs.Common.{◌≡◌, ℕ, ◌+◌, ◌-◌, ◌*◌, ◌<◌, ◌≤◌, ◌⊎◌, inl, inr, List, ◌++◌, length, get_or, take, drop, sym, ap, ◌∙◌, arith}
+use Rattle.std.proofs.lemmas.List.{ext_get_or, get_or-take, get_or-drop, length-take-le, get_or_append_left, get_or-append_right}
+use Rattle.std.proofs.Common.{length-drop}
+use borrow.Rule.Slice.PartMut.{put_mid}
+use Rattle.kabi_types.specs.declared.inodes.DirEntry.{DirEntry}
+use Rattle.posix_defs.specs.DiskFormat.{IsEntry, entry_bytes}
+use Rattle.posix_defs.proofs.DiskSpelling.{length-entry_bytes, same_entry_bytes}
+use Rattle.memfs_dir.specs.Slots.{Spells}
+
+abbrev pub piece : List ℕ → ℕ → List ℕ
+piece block slot = take 32 (drop (32 * slot) block)
+
+length-piece : (block : List ℕ) (slot : ℕ) → length block ≡ 1024 → slot < 32 → length (piece block slot) ≡ 32
+length-piece block slot len lt = length-take-le 32 (drop (32 * slot) block) (omega (arith, length-drop (32 * slot) block, len, lt))
+
+get_or-piece : (block : List ℕ) (slot j : ℕ) → j < 32 → get_or (piece block slot) j 0 ≡ get_or block (32 * slot + j) 0
+get_or-piece block slot j lt = get_or-take 32 (drop (32 * slot) block) j 0 lt ∙ get_or-drop (32 * slot) block j 0
+
+pub piece_of : (block : List ℕ) (slot : ℕ) (entry : DirEntry) → length block ≡ 1024 → slot < 32 → Spells block slot entry → piece block slot ≡ entry_bytes entry
+piece_of block slot entry len lt spells =
+    ext_get_or 0 (piece block slot) (entry_bytes entry) (length-piece block slot len lt ∙ sym (length-entry_bytes entry spells.valid))
+    (λ j within. let at : j < 32 = omega (arith, within, length-piece block slot len lt) in get_or-piece block slot j at ∙ spells.bytes j at)
+
+pub spells_piece : (block : List ℕ) (slot : ℕ) (entry : DirEntry) → IsEntry entry → piece block slot ≡ entry_bytes entry → Spells block slot entry
+spells_piece block slot entry valid e = record {
+  valid = valid;
+  bytes = λ j lt. sym (get_or-piece block slot j lt) ∙ ap (λ (bytes : List ℕ). get_or bytes j 0) e;
+}
+
+-- a slot has one entry
+pub one_entry : (block : List ℕ) (slot : ℕ) (one other : DirEntry) → Spells block slot one → Spells block slot other → one ≡ other
+one_entry block slot one other first second =
+    same_entry_bytes one other first.valid second.valid (ext_get_or 0 (entry_bytes one) (entry_bytes other) (length-entry_bytes one first.valid ∙ sym (length-entry_bytes other second.valid))
+    (λ j within. let at : j < 32 = omega (arith, within, length-entry_bytes one first.valid) in sym (first.bytes j at) ∙ second.bytes j at))
+
+-- ---- bytes put into a row
+
+pub put_here : (old bytes : List ℕ) (at n j : ℕ) → length bytes ≡ n → at ≤ length old → j < n → get_or (put_mid at n old bytes) (at + j) 0 ≡ get_or bytes j 0
+put_here old bytes at n j len within lt =
+    let front : length (take at old) ≡ at = length-take-le at old within in
+    let back : at + j - at ≡ j = omega arith in
+    get_or-append_right (take at old) (bytes ++ drop n (drop at old)) at (at + j) 0 front (omega arith)
+    ∙ ap (λ (k : ℕ). get_or (bytes ++ drop n (drop at old)) k 0) back
+    ∙ get_or_append_left bytes (drop n (drop at old)) 0 j (omega (arith, len, lt))
+
+pub put_elsewhere : (old bytes : List ℕ) (at n k : ℕ) → length bytes ≡ n → at ≤ length old → (k < at) ⊎ (at + n ≤ k) → get_or (put_mid at n old bytes) k 0 ≡ get_or old k 0
+put_elsewhere old bytes at n k len within (inl before) =
+    get_or_append_left (take at old) (bytes ++ drop n (drop at old)) 0 k (omega (arith, length-take-le at old within, before)) ∙ get_or-take at old k 0 before
+put_elsewhere old bytes at n k len within (inr behind) =
+    let front : length (take at old) ≡ at = length-take-le at old within in
+    let where_ : at + (n + (k - at - n)) ≡ k = omega (arith, behind) in
+    get_or-append_right (take at old) (bytes ++ drop n (drop at old)) at k 0 front (omega (arith, behind))
+    ∙ get_or-append_right bytes (drop n (drop at old)) n (k - at) 0 len (omega (arith, behind))
+    ∙ get_or-drop n (drop at old) (k - at - n) 0
+    ∙ get_or-drop at old (n + (k - at - n)) 0
+    ∙ ap (λ (i : ℕ). get_or old i 0) where_

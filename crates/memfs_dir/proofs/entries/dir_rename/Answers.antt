@@ -1,0 +1,6 @@
+use Rattle.memfs_dir.proofs.Written.{renamed}
+use Rattle.memfs_dir.proofs.entries.dir_rename.Goals as goal
+
+pub returns-clause-puts : goal.returns-clause-puts
+returns-clause-puts g c = λ number node.
+    renamed number (g.B.Blocks.blocks c.args.b.now) c.args.dir.now c.args.place c.args.entry.now (g.B.Blocks.blocks c.replace_entry.new.b) (c.replace_entry.ensures.puts number node) c.requires.entry c.requires.within

@@ -1,0 +1,3 @@
+pub mod Slots
+pub mod Looking
+pub mod Listed

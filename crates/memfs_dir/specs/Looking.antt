@@ -1,0 +1,24 @@
+-- Which blocks of a directory a look for a name asks for.
+use Rattle.std.specs.Prelude.{ℕ, zero, suc, ◌+◌, ◌/◌, ◌==◌, if◌then◌else◌, List, [], ◌∷◌, ◌++◌, map, Option, None, Some}
+use Rattle.kabi_types.specs.declared.inodes.Inode.{Inode}
+use Rattle.posix_defs.specs.DiskFormat.{direct_pointers, data_blocks}
+use Rattle.posix_defs.specs.SoundDisk.{Place, Data, Pointers, named_at}
+use Rattle.memfs_dir.specs.Slots.{entries_in_block}
+
+-- a block of its entries; the first one that the inode doesn't name itself is behind the block of pointers
+abbrev pub looked_at : ℕ → List Place
+looked_at index = if index == direct_pointers then Pointers ∷ Data index ∷ [] else Data index ∷ []
+
+-- its first blocks of entries, one after another
+abbrev pub looked_through : ℕ → List Place
+looked_through zero = []
+looked_through (suc count) = looked_through count ++ looked_at count
+
+-- a look goes up to the block that has the name, else through all
+abbrev pub blocks_to : ℕ → Option ℕ → ℕ
+blocks_to size (Some place) = place / entries_in_block + 1
+blocks_to size None = data_blocks size
+
+-- the blocks that a look asks for which ends at this place, or finds none
+abbrev pub asked_to_find : List (List ℕ) → Inode → Option ℕ → List ℕ
+asked_to_find disk inode place = map (λ there. named_at disk inode there) (looked_through (blocks_to inode.size place))

@@ -1,0 +1,26 @@
+//! A directory as the list of its entries, of which the first two are `.` and `..`.
+//!
+//! Every call works over any `Blocks`, keeps one block's bytes in hand, and copies out the entry or the pointers that it
+//! needs of it. A place is counted from 0, that of `.`; which entry may go or change is for the caller to say.
+#![tactic(auto)]
+
+mod adding;
+mod entries;
+mod finding;
+mod laws;
+mod removing;
+mod slots;
+#[cfg(test)]
+mod tests;
+
+pub use adding::dir_add;
+pub use entries::{dir_entry, dir_rename};
+pub use finding::dir_find;
+pub use laws::{
+    a_full_directory_is_one_of_the_tree, a_look_asks_for_each_block_once,
+    a_look_finds_what_the_name_leads_to, a_removed_entry_is_not_found,
+    adding_and_removing_undo_each_other, an_added_entry_is_found_at_the_end,
+    an_entry_put_in_place_changes_no_other_name, calls_change_the_entries_behind_the_dots,
+    other_directories_keep_their_entries,
+};
+pub use removing::dir_remove;

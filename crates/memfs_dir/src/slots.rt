@@ -1,0 +1,71 @@
+//! A block of a directory: 32 slots, each with the bytes of one entry.
+
+ghost use Rattle.std.specs.Prelude.{◌≡◌, ℕ, ◌+◌, ◌*◌, ◌<◌, ◌≤◌, ◌⊎◌, ◌↔◌, IsTrue, IfSome, None, take, drop, slice_index};
+ghost use Rattle.kabi_types.specs.declared.inodes.DirEntry.{DirEntry};
+ghost use Rattle.posix_defs.specs.DiskFormat.{IsEntry};
+ghost use Rattle.memfs_dir.specs.Slots.{entry_size, entries_in_block, HasBytesOf, Spells, IsCalled};
+
+use disk_layout::{bytes_of_entry, entry_of};
+use kabi_types::DirEntry;
+
+/// The bytes of an entry.
+pub const ENTRY_SIZE: u32 = 32;
+
+/// How many entries a block has.
+pub const ENTRIES_IN_BLOCK: u32 = 32;
+
+fn slot_in(block: &[u8; 1024], slot: u32) -> [u8; 32]
+    requires { slot < entries_in_block }
+    ensures { result ≡ take entry_size (drop (entry_size * slot) block.now) }
+{
+    let start = 32 * slot as usize;
+    let mut bytes = [0; 32];
+    bytes.copy_from_slice(&block[start..start + 32]);
+    bytes
+}
+
+/// The entry that a slot has.
+pub fn entry_in(block: &[u8; 1024], slot: u32) -> DirEntry
+    requires slot { slot < entries_in_block }
+    requires spelled { (entry : DirEntry) × Spells block.now slot entry }
+    ensures { Spells block.now slot result }
+{
+    entry_of(&slot_in(block, slot)).unwrap()
+}
+
+/// Writes an entry into a slot, and leaves all other bytes.
+pub fn put_entry(block: &mut [u8; 1024], slot: u32, entry: &DirEntry)
+    requires slot { slot < entries_in_block }
+    requires entry { IsEntry entry.now }
+    ensures this { HasBytesOf block.new slot entry.now }
+    ensures others { (k : ℕ) → (k < entry_size * slot) ⊎ (entry_size * slot + entry_size ≤ k) → slice_index block.new k ≡ slice_index block.old k }
+{
+    let start = 32 * slot as usize;
+    block[start..start + 32].copy_from_slice(&bytes_of_entry(entry));
+}
+
+/// Whether a slot has an entry of this name.
+fn is_called(block: &[u8; 1024], slot: u32, name: &[u8]) -> bool
+    requires { slot < entries_in_block }
+    ensures { IsTrue result ↔ IsCalled block.now slot name.now }
+{
+    match entry_of(&slot_in(block, slot)) {
+        Ok(entry) => entry.name.items() == name,
+        Err(_) => false,
+    }
+}
+
+/// The first of so many slots that has an entry of this name.
+pub fn slot_called(block: &[u8; 1024], count: u32, name: &[u8]) -> Option<u32>
+    requires { count ≤ entries_in_block }
+    ensures found { IfSome result (λ slot. (slot < count) × IsCalled block.now slot name.now) }
+    ensures first { IfSome result (λ slot. (before : ℕ) → before < slot → ¬ (IsCalled block.now before name.now)) }
+    ensures none { result ≡ None → (slot : ℕ) → slot < count → ¬ (IsCalled block.now slot name.now) }
+{
+    for slot in 0..count {
+        if is_called(block, slot, name) {
+            return Some(slot);
+        }
+    }
+    None
+}

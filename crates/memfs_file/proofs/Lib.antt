@@ -1,0 +1,9 @@
+pub mod Asking
+pub mod Bytes
+pub mod Clearing
+pub mod Fitting
+pub mod OnTree
+pub mod Parts
+pub mod Pointers
+pub mod Putting
+pub mod Rewriting

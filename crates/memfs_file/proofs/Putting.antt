@@ -1,0 +1,123 @@
+-- Blocks of a node that are written one after another.
+use Rattle.std.proofs.Common.{◌≡◌, ◌≢◌, ℕ, ◌+◌, ◌-◌, ◌/◌, ◌%◌, ◌<◌, ◌≤◌, ◌⊎◌, inl, inr, List, length, get_or, set, refl, sym, ap, subst, ◌∙◌, arith}
+use Rattle.std.proofs.lemmas.Bool.{cases_eq}
+use Rattle.kabi_types.specs.declared.inodes.Inode.{Inode}
+use Rattle.posix_defs.specs.DiskFormat.{block_size, data_blocks}
+use Rattle.posix_defs.specs.SoundDisk.{block_bytes, HasInode, Sound, free_in_map}
+use Rattle.posix_defs.specs.DiskContents.{data_block, byte_at}
+use Rattle.posix_defs.specs.DiskTree.{ChangesNode}
+use Rattle.posix_defs.specs.NodeChange.{WritesBlock}
+use Rattle.posix_defs.proofs.BlockWritten.{block_written}
+use Rattle.blk_map.proofs.AndBack.{changes_follow}
+use Rattle.memfs_file.specs.FileChange.{Puts}
+
+pub nothing_changes : (disk : List (List ℕ)) (number : ℕ) → Sound disk → ChangesNode disk disk number
+nothing_changes disk number sound = record { sound = sound; blocks = refl; inodes = λ other inode apart has. has; bytes = λ other inode apart has. refl }
+
+-- of a range of bytes those are written that lie before a block
+pub record PutBefore (number : ℕ) (before : List (List ℕ)) (inode : Inode) (at : ℕ) (bytes : List ℕ) (index : ℕ) (now : List (List ℕ)) : Type 0 where
+  pub changes : ChangesNode before now number
+  pub has : HasInode now number inode
+  pub names : (other : ℕ) → other < data_blocks inode.size → data_block now inode other ≡ data_block before inode other
+  pub free : free_in_map now ≡ free_in_map before
+  pub new : (place : ℕ) → at ≤ place → place < at + length bytes → place / block_size < index → byte_at now inode place ≡ get_or bytes (place - at) 0
+  pub rest : (place : ℕ) → place < inode.size → (place < at) ⊎ ((at + length bytes ≤ place) ⊎ (index ≤ place / block_size)) → byte_at now inode place ≡ byte_at before inode place
+
+pub none_put : (number : ℕ) (disk : List (List ℕ)) (inode : Inode) (at : ℕ) (bytes : List ℕ) → Sound disk → HasInode disk number inode → PutBefore number disk inode at bytes (at / block_size) disk
+none_put number disk inode at bytes sound has =
+    record {
+      changes = nothing_changes disk number sound;
+      has = has;
+      names = λ other lt. refl;
+      free = refl;
+      new = λ place le lt before. absurd (omega (arith, le, before));
+      rest = λ place lt off. refl;
+    }
+
+-- a byte of another block stays
+other_byte : {number : ℕ} {now : List (List ℕ)} {inode : Inode} {index : ℕ} {block : List ℕ} {after : List (List ℕ)} → WritesBlock number now inode index block after
+    → (place : ℕ) → place < inode.size → place / block_size ≢ index → byte_at after inode place ≡ byte_at now inode place
+other_byte {number} {now} {inode} {index} {block} {after} w place lt apart =
+    let within : place / block_size < data_blocks inode.size = omega (arith, lt) in
+    ap (λ (n : ℕ). get_or (block_bytes after n) (place % block_size) 0) (w.names (place / block_size) within) ∙ ap (λ (bytes : List ℕ). get_or bytes (place % block_size) 0) (w.others (place / block_size) within apart)
+
+-- a byte of the block is the block's
+this_byte : {number : ℕ} {now : List (List ℕ)} {inode : Inode} {index : ℕ} {block : List ℕ} {after : List (List ℕ)} → WritesBlock number now inode index block after
+    → (place : ℕ) → index < data_blocks inode.size → place / block_size ≡ index → byte_at after inode place ≡ get_or (block_bytes after (data_block now inode index)) (place % block_size) 0
+this_byte {number} {now} {inode} {index} {block} {after} w place within e =
+    ap (λ (n : ℕ). get_or (block_bytes after (data_block after inode n)) (place % block_size) 0) e ∙ ap (λ (n : ℕ). get_or (block_bytes after n) (place % block_size) 0) (w.names index within)
+
+pub record PutOne (number : ℕ) (before : List (List ℕ)) (inode : Inode) (at : ℕ) (bytes : List ℕ) (index : ℕ) (now after : List (List ℕ)) : Type 0 where
+  pub sofar : PutBefore number before inode at bytes index now
+  pub fits : at + length bytes ≤ inode.size
+  pub within : index < data_blocks inode.size
+  pub block : List ℕ
+  pub is_set : after ≡ set now (data_block before inode index) block
+  pub here : (place : ℕ) → at ≤ place → place < at + length bytes → place / block_size ≡ index → get_or (block_bytes after (data_block before inode index)) (place % block_size) 0 ≡ get_or bytes (place - at) 0
+  pub off : (place : ℕ) → place / block_size ≡ index → (place < at) ⊎ (at + length bytes ≤ place)
+      → get_or (block_bytes after (data_block before inode index)) (place % block_size) 0 ≡ get_or (block_bytes now (data_block before inode index)) (place % block_size) 0
+
+module _ (number : ℕ) (before : List (List ℕ)) (inode : Inode) (at : ℕ) (bytes : List ℕ) (index : ℕ) (now after : List (List ℕ)) (p : PutOne number before inode at bytes index now after) where
+  name : data_block now inode index ≡ data_block before inode index
+  name = p.sofar.names index p.within
+
+  written : WritesBlock number now inode index p.block after
+  written =
+      let is : after ≡ set now (data_block now inode index) p.block = p.is_set ∙ ap (λ (n : ℕ). set now n p.block) (sym name) in
+      subst (λ (disk : List (List ℕ)). WritesBlock number now inode index p.block disk) (sym is) (block_written now number inode index p.block p.sofar.changes.sound p.sofar.has p.within)
+
+  this : (place : ℕ) → place / block_size ≡ index → byte_at after inode place ≡ get_or (block_bytes after (data_block before inode index)) (place % block_size) 0
+  this place e = this_byte written place p.within e ∙ ap (λ (n : ℕ). get_or (block_bytes after n) (place % block_size) 0) name
+
+  was : (place : ℕ) → place / block_size ≡ index → get_or (block_bytes now (data_block before inode index)) (place % block_size) 0 ≡ byte_at now inode place
+  was place e = ap (λ (n : ℕ). get_or (block_bytes now n) (place % block_size) 0) (sym name) ∙ ap (λ (n : ℕ). get_or (block_bytes now (data_block now inode n)) (place % block_size) 0) (sym e)
+
+  new_byte : (place : ℕ) → at ≤ place → place < at + length bytes → place / block_size < index + 1 → byte_at after inode place ≡ get_or bytes (place - at) 0
+  new_byte place le lt before' = elim (cases_eq (place / block_size) index) [
+    | inl e ↦ this place e ∙ p.here place le lt e
+    | inr apart ↦ other_byte written place (omega (arith, lt, p.fits)) apart ∙ p.sofar.new place le lt (omega (arith, before', apart))
+  ]
+
+  rest_byte : (place : ℕ) → place < inode.size → (place < at) ⊎ ((at + length bytes ≤ place) ⊎ (index + 1 ≤ place / block_size)) → byte_at after inode place ≡ byte_at before inode place
+  rest_byte place lt off = elim (cases_eq (place / block_size) index) [
+    | inl e ↦
+        let outside : (place < at) ⊎ (at + length bytes ≤ place) = elim off [
+          | inl low ↦ inl low
+          | inr high ↦ elim high [
+            | inl past ↦ inr past
+            | inr later ↦ absurd (omega (arith, later, e))
+          ]
+        ] in
+        this place e ∙ p.off place e outside ∙ was place e ∙ p.sofar.rest place lt (inr (inr (omega (arith, e))))
+    | inr apart ↦
+        let outside : (place < at) ⊎ ((at + length bytes ≤ place) ⊎ (index ≤ place / block_size)) = elim off [
+          | inl low ↦ inl low
+          | inr high ↦ elim high [
+            | inl past ↦ inr (inl past)
+            | inr later ↦ inr (inr (omega (arith, later)))
+          ]
+        ] in
+        other_byte written place lt apart ∙ p.sofar.rest place lt outside
+  ]
+
+  pub put_more : PutBefore number before inode at bytes (index + 1) after
+  put_more =
+      record {
+        changes = changes_follow number before now after p.sofar.changes written.changes;
+        has = written.has;
+        names = λ other lt. written.names other lt ∙ p.sofar.names other lt;
+        free = written.free ∙ p.sofar.free;
+        new = new_byte;
+        rest = rest_byte;
+      }
+
+pub all_put : (number : ℕ) (before : List (List ℕ)) (inode : Inode) (at : ℕ) (bytes : List ℕ) (index : ℕ) (now : List (List ℕ)) → data_blocks (at + length bytes) ≤ index
+    → PutBefore number before inode at bytes index now → Puts number before inode at bytes now
+all_put number before inode at bytes index now all p =
+    record {
+      changes = p.changes;
+      has = p.has;
+      free = p.free;
+      new = λ place le lt. p.new place le lt (omega (arith, lt, all));
+      rest = λ place lt off. p.rest place lt (elim off [ inl low ↦ inl low | inr past ↦ inr (inl past) ]);
+    }

@@ -1,0 +1,14 @@
+use Rattle.std.proofs.Common.{◌≢◌, refl, sym, ◌∙◌}
+use Rattle.memfs_file.proofs.Rewriting.{cut, stretched}
+use Rattle.memfs_file.proofs.sizing.set_size.Goals as goal
+
+pub returns-then-size-old-clause-ok : goal.returns-then-size-old-clause-ok
+returns-then-size-old-clause-ok g c =
+    cut c.args.number (g.B.Blocks.blocks c.args.b.now) c.args.inode.now c.args.size (g.B.Blocks.blocks c.shrink.new.b) c.shrink.new.inode c.if-size-old.true c.shrink.ensures.resizes
+
+pub returns-clause-ok : goal.returns-clause-ok
+returns-clause-ok g c =
+    let grows = c.in_ok-grow.ensures.ok in
+    let kind : c.grow.new.inode.kind ≢ 0 = λ e. c.requires.node.1 (sym grows.resizes.fields.0 ∙ e) in
+    stretched c.args.number (g.B.Blocks.blocks c.args.b.now) c.args.inode.now c.args.size (g.B.Blocks.blocks c.grow.new.b) c.grow.new.inode c.args.size (g.B.Blocks.blocks c.zero_gap.new.b)
+    (record { grows = grows; clears = c.zero_gap.ensures.clears c.args.number (grows.resizes.has, kind) }) refl

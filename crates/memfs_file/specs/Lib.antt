@@ -1,0 +1,2 @@
+pub mod FileChange
+pub mod Ranges

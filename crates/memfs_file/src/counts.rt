@@ -1,0 +1,25 @@
+//! How many bytes so many blocks hold.
+
+ghost use Rattle.std.specs.Prelude.{◌≡◌, ◌<◌, ◌^◌};
+ghost use Rattle.posix_defs.specs.FileBytes.{capacity};
+
+use blk_map::DIRECT_POINTERS;
+
+/// The bytes of a block.
+pub const BLOCK_SIZE: u32 = 1024;
+
+/// The greatest size of a file: 266 blocks of bytes.
+pub const GREATEST_SIZE: u32 = 272_384;
+
+/// The greatest size of a file that takes so many blocks.
+pub fn most_bytes(blocks: u32) -> u32
+    requires { blocks < 2 ^ 20 }
+    ensures { result ≡ capacity blocks }
+{
+    let data = if blocks > DIRECT_POINTERS {
+        blocks - 1
+    } else {
+        blocks
+    };
+    (BLOCK_SIZE * data).min(GREATEST_SIZE)
+}

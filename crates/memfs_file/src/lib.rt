@@ -1,0 +1,23 @@
+//! The bytes of a file: reading, writing and another size, over any `Blocks`.
+//!
+//! Every call keeps at most one block of bytes in hand beside the file's pointers, which it copies out once, and writes a
+//! block that it changes whole without reading it.
+#![tactic(auto)]
+
+mod counts;
+mod laws;
+mod ranges;
+mod reading;
+mod room;
+mod sizing;
+#[cfg(test)]
+mod tests;
+mod writing;
+
+pub use laws::{
+    a_write_is_that_of_the_tree, another_size_is_that_of_the_tree,
+    bytes_of_the_disk_are_those_of_the_tree,
+};
+pub use reading::read_at;
+pub use sizing::set_size;
+pub use writing::write_at;

@@ -1,0 +1,106 @@
+//! A range of bytes, of which a block has a part.
+
+ghost use Rattle.std.specs.Prelude.{◌≡◌, ◌≢◌, ℕ, ◌+◌, ◌-◌, ◌*◌, ◌/◌, ◌%◌, ◌^◌, ◌<◌, ◌≤◌, ◌⊎◌, ◌↔◌, IsTrue, length, slice_index};
+ghost use Rattle.posix_defs.specs.Asking.{AskedInTurn};
+ghost use Rattle.posix_defs.specs.DiskFormat.{block_size, direct_pointers, block_pointers};
+ghost use Rattle.posix_defs.specs.SoundDisk.{block_bytes, pointer_at};
+ghost use Rattle.blk_map.specs.Named.{pointer_to};
+ghost use Rattle.memfs_file.specs.Ranges.{shared, pointers_for};
+
+use crate::counts::BLOCK_SIZE;
+use blk_map::DIRECT_POINTERS;
+use disk_layout::pointers_in;
+use kabi_types::Inode;
+use posix_defs::Blocks;
+
+/// What a block and a range of bytes have in common.
+#[derive(Clone, Copy)]
+struct Part {
+    /// Where it begins in the range.
+    from: usize,
+    /// Where it begins in the block.
+    start: usize,
+    /// How many bytes it has.
+    count: usize,
+}
+
+/// What the block from `index` blocks on and a range of so many bytes have in common.
+fn part_of(index: u32, at: u32, len: usize) -> Part
+    requires block { block_size * (index + 1) < 2 ^ 32 }
+    requires before { block_size * index < at + len }
+    requires behind { at < block_size * (index + 1) }
+    ensures from { result.from ≡ block_size * index - at }
+    ensures start { result.start ≡ at - block_size * index }
+    ensures count { result.count ≡ shared index at len }
+{
+    let first = BLOCK_SIZE * index;
+    let from = first.saturating_sub(at) as usize;
+    let start = at.saturating_sub(first) as usize;
+    Part {
+        from,
+        start,
+        count: (BLOCK_SIZE as usize - start).min(len - from),
+    }
+}
+
+/// Copies out of a block what it has of a range, and leaves all other bytes.
+pub fn copy_out(block: &[u8; 1024], index: u32, at: u32, out: &mut [u8])
+    requires block { block_size * (index + 1) < 2 ^ 32 }
+    requires before { block_size * index < at + length out.old }
+    requires behind { at < block_size * (index + 1) }
+    ensures here { (k : ℕ) → k < length out.old → (at + k) / block_size ≡ index → slice_index out.new k ≡ slice_index block.now ((at + k) % block_size) }
+    ensures others { (k : ℕ) → (at + k) / block_size ≢ index → slice_index out.new k ≡ slice_index out.old k }
+{
+    let part = part_of(index, at, out.len());
+    let bytes = &block[part.start..part.start + part.count];
+    out[part.from..part.from + part.count].copy_from_slice(bytes);
+}
+
+/// Copies into a block what it has of a range, and leaves all other bytes.
+pub fn copy_in(block: &mut [u8; 1024], index: u32, at: u32, bytes: &[u8])
+    requires block { block_size * (index + 1) < 2 ^ 32 }
+    requires before { block_size * index < at + length bytes.now }
+    requires behind { at < block_size * (index + 1) }
+    ensures here { (place : ℕ) → at ≤ place → place < at + length bytes.now → place / block_size ≡ index → slice_index block.new (place % block_size) ≡ slice_index bytes.now (place - at) }
+    ensures others { (place : ℕ) → place / block_size ≡ index → (place < at) ⊎ (at + length bytes.now ≤ place) → slice_index block.new (place % block_size) ≡ slice_index block.old (place % block_size) }
+{
+    let part = part_of(index, at, bytes.len());
+    let part_bytes = &bytes[part.from..part.from + part.count];
+    block[part.start..part.start + part.count].copy_from_slice(part_bytes);
+}
+
+/// The range has all bytes of the block from `index` blocks on.
+pub fn covers(index: u32, at: u32, len: usize) -> bool
+    requires block { block_size * (index + 1) < 2 ^ 32 }
+    ensures { IsTrue result ↔ ((at ≤ block_size * index) × (block_size * (index + 1) ≤ at + len)) }
+{
+    at <= BLOCK_SIZE * index && (BLOCK_SIZE * (index + 1) - at) as usize <= len
+}
+
+/// The pointers of a node's block of pointers, copied out where one of the first blocks of bytes is named there; else
+/// zeros.
+pub fn pointers_behind<B: Blocks>(b: &mut B, inode: &Inode, blocks: u32) -> [u32; 256]
+    requires { direct_pointers < blocks → inode.now.indirect < length (B.blocks b.old) }
+    ensures pointers { direct_pointers < blocks → (k : ℕ) → k < block_pointers → slice_index result k ≡ pointer_at (block_bytes (B.blocks b.old) inode.now.indirect) k }
+    ensures kept { B.blocks b.new ≡ B.blocks b.old }
+    ensures asked { AskedInTurn B.asked b.old (pointers_for inode.now blocks) b.new }
+    ensures follows { B.follows b.old b.new }
+{
+    if blocks <= DIRECT_POINTERS {
+        return [0; 256];
+    }
+    let block = b.get(inode.indirect);
+    pointers_in(&block)
+}
+
+/// The block that these pointers name for the bytes from `index` blocks on.
+pub fn block_named(direct: &[u32; 10], behind: &[u32; 256], index: u32) -> u32
+    requires { index < 266 }
+    ensures { result ≡ pointer_to direct.now behind.now index }
+{
+    if index < DIRECT_POINTERS {
+        direct[index as usize]
+    } else {
+        behind[(index - DIRECT_POINTERS) as usize]
+    }
+}

@@ -1,0 +1,119 @@
+//! Room for bytes that are to be written: how many of them fit, and the growth that they take.
+
+ghost use Rattle.std.specs.Prelude.{◌≡◌, ◌≢◌, ℕ, ◌+◌, ◌-◌, ◌*◌, ◌/◌, ◌<◌, ◌≤◌, ◌⊎◌, ◌↔◌, Err, IfErr, IfOk, length, max, slice_index};
+ghost use Rattle.kabi_types.specs.declared.errnos.Errno.TheVariants.{ENOSPC};
+ghost use Rattle.posix_defs.specs.DiskFormat.{block_size, greatest_size, blocks_of};
+ghost use Rattle.posix_defs.specs.FileBytes.{capacity, fitting};
+ghost use Rattle.posix_defs.specs.SoundDisk.{HasNode, Sound, free_in_map};
+ghost use Rattle.posix_defs.specs.NodeChange.{Grows};
+ghost use Rattle.posix_defs.specs.DiskContents.{byte_at};
+ghost use Rattle.blk_map.specs.Found.{free_below};
+ghost use Rattle.memfs_file.specs.FileChange.{file, blocks_for, IsInUse, Clears};
+
+use crate::counts::{BLOCK_SIZE, most_bytes};
+use crate::writing::put_bytes;
+use blk_map::{block_count, grow};
+use disk_layout::is_marked;
+use kabi_types::{Errno, Inode};
+use posix_defs::Blocks;
+
+/// How many of the first blocks a map has as free.
+fn free_in(map: &[u8; 1024], blocks: u32) -> u32
+    requires { blocks ≤ 8 * block_size }
+    ensures { result ≡ free_below map.now blocks }
+{
+    let mut free = 0;
+    for number in 0..blocks {
+        if !is_marked(map, number) {
+            free += 1;
+        }
+    }
+    free
+}
+
+/// How many blocks of a disk are free.
+pub fn free_count<B: Blocks>(b: &mut B) -> u32
+    requires { Sound (B.blocks b.old) }
+    ensures value { result ≡ free_in_map (B.blocks b.old) }
+    ensures kept { B.blocks b.new ≡ B.blocks b.old }
+    ensures follows { B.follows b.old b.new }
+{
+    let map = b.get(0);
+    free_in(&map, b.count())
+}
+
+/// Gives a file the size that so many bytes at a place take, or as many of them as there is room for, and answers how
+/// many; it stays as it is where they lie within its size. The new bytes up to the end of its last block are those that
+/// the block has there, and all others are zeros.
+///
+/// ENOSPC exactly where not one of them has room; nothing is written then.
+pub fn make_room<B: Blocks>(
+    b: &mut B,
+    number: u32,
+    inode: &mut Inode,
+    at: u32,
+    wanted: u32,
+) -> Result<u32, Errno>
+    requires sound { Sound (B.blocks b.old) }
+    requires node { HasNode (B.blocks b.old) number inode.old }
+    requires kind { inode.old.kind ≡ file }
+    requires some { 0 < wanted }
+    requires most { at + wanted ≤ greatest_size }
+    ensures count { IfOk result (λ count. (count ≡ fitting (blocks_for (B.blocks b.old) inode.old) at wanted) × (0 < count)) }
+    ensures ok { IfOk result (λ count. Grows number (B.blocks b.old) inode.old (max inode.old.size (at + count)) (B.blocks b.new) inode.new) }
+    ensures err { IfErr result (λ fault. (fault ≡ ENOSPC) × (fitting (blocks_for (B.blocks b.old) inode.old) at wanted ≡ 0) × (B.blocks b.new ≡ B.blocks b.old) × (inode.new ≡ inode.old)) }
+    ensures follows { B.follows b.old b.new }
+{
+    let end = at + wanted;
+    if end <= inode.size {
+        return Ok(wanted);
+    }
+    match grow(b, number, inode, end) {
+        Ok(()) => Ok(wanted),
+        Err(_) => grow_to_most(b, number, inode, at, wanted),
+    }
+}
+
+/// Gives a file the greatest size that there is room for, and answers how many bytes at a place that leaves; fewer than
+/// are wanted.
+fn grow_to_most<B: Blocks>(
+    b: &mut B,
+    number: u32,
+    inode: &mut Inode,
+    at: u32,
+    wanted: u32,
+) -> Result<u32, Errno>
+    requires sound { Sound (B.blocks b.old) }
+    requires node { HasNode (B.blocks b.old) number inode.old }
+    requires kind { inode.old.kind ≡ file }
+    requires most { at + wanted ≤ greatest_size }
+    requires full { blocks_for (B.blocks b.old) inode.old < blocks_of (at + wanted) }
+    ensures count { IfOk result (λ count. (count ≡ fitting (blocks_for (B.blocks b.old) inode.old) at wanted) × (0 < count)) }
+    ensures ok { IfOk result (λ count. Grows number (B.blocks b.old) inode.old (max inode.old.size (at + count)) (B.blocks b.new) inode.new) }
+    ensures err { IfErr result (λ fault. (fault ≡ ENOSPC) × (fitting (blocks_for (B.blocks b.old) inode.old) at wanted ≡ 0) × (B.blocks b.new ≡ B.blocks b.old) × (inode.new ≡ inode.old)) }
+    ensures follows { B.follows b.old b.new }
+{
+    let most = most_bytes(block_count(inode.size) + free_count(b));
+    if most <= at {
+        return Err(Errno::ENOSPC);
+    }
+    grow(b, number, inode, most)?;
+    Ok(most - at)
+}
+
+/// Writes zeros behind the bytes that a node had before it grew, up to a place or the end of the block that has the last
+/// of them.
+pub fn zero_gap<B: Blocks>(b: &mut B, inode: &Inode, from: u32, to: u32)
+    requires sound { Sound (B.blocks b.old) }
+    requires node { IsInUse (B.blocks b.old) inode.now }
+    requires within { (from < to → to ≤ inode.now.size) × (to ≤ greatest_size) }
+    ensures clears { (number : ℕ) → HasNode (B.blocks b.old) number inode.now → Clears number (B.blocks b.old) inode.now from to (B.blocks b.new) }
+    ensures follows { B.follows b.old b.new }
+{
+    let start = from % BLOCK_SIZE;
+    if start == 0 || to <= from {
+        return;
+    }
+    let count = (BLOCK_SIZE - start).min(to - from);
+    put_bytes(b, inode, from, &[0; 1024][..count as usize]);
+}

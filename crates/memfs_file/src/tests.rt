@@ -1,0 +1,436 @@
+ghost use Rattle.std.specs.Prelude.{◌≡◌, ◌≢◌, ℕ, ◌<◌, ◌≤◌, IfSome, vec_len};
+ghost use Rattle.kabi_types.specs.declared.inodes.Inode.{Inode};
+ghost use Rattle.posix_defs.specs.SoundDisk.{HasInode, HasNode, Sound};
+
+use crate::room::free_count;
+use crate::{read_at, set_size, write_at};
+use disk_layout::{RamDisk, inode_in, put_inode};
+use kabi_types::{Errno, Inode};
+use posix_defs::Blocks;
+use std::alloc::Global;
+use std::process::Abort;
+use std::test::Fail;
+
+/// A disk that counts its reads, and here its writes too.
+#[derive(Drop)]
+struct Counting {
+    disk: RamDisk,
+    sets: u64,
+}
+
+impl Blocks for Counting {
+    ghost blocks = { λ counting. counting.disk.blocks };
+
+    ghost follows = { λ _ _. Unit {0} };
+
+    ghost asked = { λ before _ after. after.disk.blocks ≡ before.disk.blocks };
+
+    ghost follows_refl = { λ _. tt };
+
+    ghost follows_trans = { λ _ _ _ _ _. tt };
+
+    fn count(&self) -> u32 {
+        self.disk.count()
+    }
+
+    fn get(&mut self, number: u32) -> [u8; 1024] {
+        self.disk.read(number)
+    }
+
+    fn set(&mut self, number: u32, bytes: &[u8; 1024]) {
+        self.sets = self.sets.saturating_add(1);
+        self.disk.write(number, bytes);
+    }
+}
+
+/// An empty file as a node of the first block of the table, where that is free.
+fn make_file(b: &mut Counting, number: u32) -> Option<Inode>
+    requires sound { Sound b.old.disk.blocks }
+    requires first { (0 < number) × (number ≤ 16) }
+    ensures made { IfSome result (λ inode. Sound b.new.disk.blocks × HasNode b.new.disk.blocks number inode × (inode.kind ≡ 1)) }
+    ensures others { (node : ℕ) (other : Inode) → node ≢ number → HasInode b.old.disk.blocks node other → HasInode b.new.disk.blocks node other }
+{
+    let mut table = b.get(1);
+    let Ok(free) = inode_in(&table, number - 1, b.count()) else {
+        return None;
+    };
+    if free.kind != 0 {
+        return None;
+    }
+    let file = Inode {
+        kind: 1,
+        nlink: 1,
+        size: 0,
+        direct: [0; 10],
+        indirect: 0,
+    };
+    put_inode(&mut table, number - 1, &file);
+    b.set(1, &table);
+    Some(file)
+}
+
+/// A change of a file: so many bytes written at a place, or another size.
+#[derive(Drop)]
+enum Change {
+    Write(u32, usize),
+    Size(u32),
+}
+
+/// Makes a change of a file, with the first of these bytes; answers how many were written.
+fn change_file(
+    b: &mut Counting,
+    number: u32,
+    inode: &mut Inode,
+    change: &Change,
+    bytes: &[u8],
+) -> Result<u32, Errno>
+    requires sound { Sound b.old.disk.blocks }
+    requires node { HasNode b.old.disk.blocks number inode.old }
+    requires kind { inode.old.kind ≡ 1 }
+    ensures sound { Sound b.new.disk.blocks }
+    ensures node { HasNode b.new.disk.blocks number inode.new }
+    ensures kind { inode.new.kind ≡ 1 }
+    ensures others { (node : ℕ) (other : Inode) → node ≢ number → HasInode b.old.disk.blocks node other → HasInode b.new.disk.blocks node other }
+{
+    match change {
+        Change::Write(_, 0) => Ok(0),
+        Change::Write(at, len) if *len <= bytes.len() => {
+            write_at(b, number, inode, *at, &bytes[..*len])
+        }
+        Change::Write(_, _) => Ok(0),
+        Change::Size(size) => {
+            set_size(b, number, inode, *size)?;
+            Ok(0)
+        }
+    }
+}
+
+/// A change, what is answered, how many blocks were read and written for it, and how many are free then.
+type Row = (Change, Result<u32, Errno>, u64, u64, u32);
+
+/// Whether each row is as it says, one after another.
+fn check_changes(
+    rt: &impl Abort,
+    b: &mut Counting,
+    number: u32,
+    inode: &mut Inode,
+    bytes: &[u8],
+    rows: &[Row],
+)
+    requires sound { Sound b.old.disk.blocks }
+    requires node { HasNode b.old.disk.blocks number inode.old }
+    requires kind { inode.old.kind ≡ 1 }
+    ensures sound { Sound b.new.disk.blocks }
+    ensures node { HasNode b.new.disk.blocks number inode.new }
+    ensures kind { inode.new.kind ≡ 1 }
+    ensures others { (node : ℕ) (other : Inode) → node ≢ number → HasInode b.old.disk.blocks node other → HasInode b.new.disk.blocks node other }
+{
+    for (k, (change, answer, gets, sets, free)) in rows.iter().enumerate() {
+        let (got, put) = (b.disk.reads(), b.sets);
+        let answered = change_file(b, number, inode, change, bytes);
+        assert!(rt; answered == *answer, "answer {k}");
+        assert!(rt; b.disk.reads().saturating_sub(got) == *gets, "gets {k}");
+        assert!(rt; b.sets.saturating_sub(put) == *sets, "sets {k}");
+        assert!(rt; free_count(b) == *free, "free {k}");
+    }
+}
+
+/// A place, what is read from there with room for 8 bytes, and how many blocks are read for it.
+type Seen = (u32, &'static [u8], u64);
+
+/// Whether what is read is as each row says.
+fn check_bytes(rt: &impl Abort, b: &mut Counting, number: u32, inode: &Inode, rows: &[Seen])
+    requires sound { Sound b.old.disk.blocks }
+    requires node { HasNode b.old.disk.blocks number inode.now }
+    ensures { b.new.disk.blocks ≡ b.old.disk.blocks }
+{
+    for (at, bytes, gets) in rows {
+        let mut out = [9; 8];
+        let got = b.disk.reads();
+        let count = read_at(b, inode, *at, &mut out) as usize;
+        assert!(rt; count == bytes.len(), "count at {at}");
+        assert!(rt; &out[..count.min(8)] == *bytes, "bytes at {at}");
+        assert!(rt; b.disk.reads().saturating_sub(got) == *gets, "gets at {at}");
+    }
+}
+
+/// Makes the changes on an empty file of a new disk of so many blocks, and then reads.
+fn check_on(
+    rt: &impl Abort,
+    alloc: Global,
+    blocks: u32,
+    rows: &[Row],
+    seen: &[Seen],
+) -> Result<(), Fail>
+    requires { (16 ≤ blocks) × (blocks ≤ 4096) }
+{
+    let disk = RamDisk::boot(alloc, blocks)?;
+    let mut b = Counting { disk, sets: 0 };
+    let mut inode = make_file(&mut b, 2).ok_or("node 2 is free")?;
+    let bytes = vec![in alloc; 7_u8; 32767]?;
+    check_changes(rt, &mut b, 2, &mut inode, &bytes, rows);
+    check_bytes(rt, &mut b, 2, &inode, seen);
+    Ok(())
+}
+
+/// Makes the changes on an empty file of a new disk of 16 blocks, on which another file has so many bytes.
+fn check_beside(rt: &impl Abort, alloc: Global, size: u32, rows: &[Row]) -> Result<(), Fail> {
+    let disk = RamDisk::boot(alloc, 16)?;
+    let mut b = Counting { disk, sets: 0 };
+    let mut inode = make_file(&mut b, 2).ok_or("node 2 is free")?;
+    let mut other = make_file(&mut b, 3).ok_or("node 3 is free")?;
+    let bytes = vec![in alloc; 7_u8; 32767]?;
+    let grown = change_file(&mut b, 3, &mut other, &Change::Size(size), &bytes);
+    assert!(rt; grown == Ok(0));
+    check_changes(rt, &mut b, 2, &mut inode, &bytes, rows);
+    Ok(())
+}
+
+/// A new disk of 16 blocks has 14 for files, and the root in one of them. Each change is made on the file that the row
+/// before left.
+const ON_16_BLOCKS: &[Row] = &[
+    (Change::Write(0, 1), Ok(1), 3, 4, 12),
+    (Change::Write(1, 1023), Ok(1023), 2, 2, 12),
+    (Change::Write(1024, 1024), Ok(1024), 2, 4, 11),
+    (Change::Write(1000, 48), Ok(48), 2, 2, 11),
+    (Change::Write(0, 2048), Ok(2048), 0, 2, 11),
+    (Change::Write(5000, 10), Ok(10), 3, 6, 8),
+    (Change::Write(6000, 1), Ok(1), 4, 5, 7),
+    (Change::Write(6001, 32767), Ok(6287), 6, 16, 0),
+    (Change::Write(12288, 1), Err(Errno::ENOSPC), 2, 0, 0),
+    (Change::Write(12287, 2), Ok(1), 5, 2, 0),
+    (Change::Write(272_384, 1), Err(Errno::EFBIG), 0, 0, 0),
+    (Change::Size(12288), Ok(0), 1, 1, 0),
+];
+
+/// The gaps are zeros.
+const SEEN_ON_16_BLOCKS: &[Seen] = &[
+    (0, &[7, 7, 7, 7, 7, 7, 7, 7], 1),
+    (2040, &[7, 7, 7, 7, 7, 7, 7, 7], 1),
+    (2044, &[7, 7, 7, 7, 0, 0, 0, 0], 2),
+    (4996, &[0, 0, 0, 0, 7, 7, 7, 7], 1),
+    (5006, &[7, 7, 7, 7, 0, 0, 0, 0], 1),
+    (5116, &[0, 0, 0, 0, 0, 0, 0, 0], 2),
+    (5996, &[0, 0, 0, 0, 7, 7, 7, 7], 1),
+    (10236, &[7, 7, 7, 7, 7, 7, 7, 7], 3),
+    (12286, &[7, 7], 2),
+    (12288, &[], 0),
+    (u32::MAX, &[], 0),
+];
+
+#[test]
+fn a_file_on_16_blocks(rt: HostRuntime) -> Result<(), Fail> {
+    check_on(&rt, rt.alloc(), 16, ON_16_BLOCKS, SEEN_ON_16_BLOCKS)
+}
+
+/// Twelve blocks of bytes take a thirteenth for their pointers.
+const ALL_OF_16_BLOCKS: &[Row] = &[
+    (Change::Size(12288), Ok(0), 2, 15, 0),
+    (Change::Write(12288, 1), Err(Errno::ENOSPC), 2, 0, 0),
+    (Change::Size(0), Ok(0), 3, 2, 13),
+    (Change::Size(272_385), Err(Errno::EFBIG), 0, 0, 13),
+];
+
+#[test]
+fn all_of_16_blocks(rt: HostRuntime) -> Result<(), Fail> {
+    check_on(&rt, rt.alloc(), 16, ALL_OF_16_BLOCKS, &[])
+}
+
+/// At the border of a block, where no block is free, or one.
+const BLOCK_WITH_0: &[Row] = &[
+    (Change::Write(0, 1023), Ok(1023), 3, 4, 0),
+    (Change::Write(1023, 2), Ok(1), 4, 2, 0),
+    (Change::Write(1024, 1), Err(Errno::ENOSPC), 2, 0, 0),
+    (Change::Size(1025), Err(Errno::ENOSPC), 1, 0, 0),
+];
+
+const BLOCK_WITH_1: &[Row] = &[
+    (Change::Write(0, 2047), Ok(2047), 3, 6, 1),
+    (Change::Write(2047, 2), Ok(2), 4, 5, 0),
+    (Change::Size(2048), Ok(0), 2, 2, 1),
+    (Change::Write(2048, 1025), Ok(1024), 4, 4, 0),
+];
+
+/// At the border of ten blocks, where so many blocks are free: the eleventh takes one for its pointer too.
+const TEN_BLOCKS_WITH_0: &[Row] = &[
+    (Change::Write(0, 10239), Ok(10239), 3, 22, 0),
+    (Change::Write(10239, 2), Ok(1), 4, 2, 0),
+    (Change::Size(10240), Ok(0), 1, 1, 0),
+    (Change::Size(10241), Err(Errno::ENOSPC), 1, 0, 0),
+    (Change::Write(10240, 1025), Err(Errno::ENOSPC), 2, 0, 0),
+];
+
+const TEN_BLOCKS_WITH_1: &[Row] = &[
+    (Change::Write(0, 10239), Ok(10239), 3, 22, 1),
+    (Change::Write(10239, 2), Ok(1), 4, 2, 1),
+    (Change::Size(10240), Ok(0), 1, 1, 1),
+    (Change::Size(10241), Err(Errno::ENOSPC), 1, 0, 1),
+    (Change::Write(10240, 1025), Err(Errno::ENOSPC), 2, 0, 1),
+];
+
+const TEN_BLOCKS_WITH_2: &[Row] = &[
+    (Change::Write(0, 10239), Ok(10239), 3, 22, 2),
+    (Change::Write(10239, 2), Ok(2), 5, 6, 0),
+    (Change::Size(10240), Ok(0), 3, 2, 2),
+    (Change::Size(10241), Ok(0), 2, 4, 0),
+    (Change::Write(10240, 1025), Ok(1024), 4, 2, 0),
+];
+
+const TEN_BLOCKS_WITH_3: &[Row] = &[
+    (Change::Write(0, 10239), Ok(10239), 3, 22, 3),
+    (Change::Write(10239, 2), Ok(2), 5, 6, 1),
+    (Change::Size(10240), Ok(0), 3, 2, 3),
+    (Change::Size(10241), Ok(0), 2, 4, 1),
+    (Change::Write(10240, 1025), Ok(1025), 5, 6, 0),
+];
+
+#[test]
+fn borders_of_blocks(rt: HostRuntime) -> Result<(), Fail> {
+    check_beside(&rt, rt.alloc(), 11264, BLOCK_WITH_0)?;
+    check_beside(&rt, rt.alloc(), 10240, BLOCK_WITH_1)?;
+    check_beside(&rt, rt.alloc(), 3072, TEN_BLOCKS_WITH_0)?;
+    check_beside(&rt, rt.alloc(), 2048, TEN_BLOCKS_WITH_1)?;
+    check_beside(&rt, rt.alloc(), 1024, TEN_BLOCKS_WITH_2)?;
+    check_beside(&rt, rt.alloc(), 0, TEN_BLOCKS_WITH_3)
+}
+
+/// At the greatest size, where 265 blocks have bytes and so many more are free.
+const GREATEST_WITH_0: &[Row] = &[
+    (Change::Write(272_383, 1), Err(Errno::ENOSPC), 2, 0, 266),
+    (Change::Size(271_360), Ok(0), 2, 268, 0),
+    (Change::Write(271_359, 1), Ok(1), 2, 1, 0),
+    (Change::Write(271_360, 2000), Err(Errno::ENOSPC), 2, 0, 0),
+    (Change::Write(272_383, 2), Err(Errno::ENOSPC), 2, 0, 0),
+    (Change::Write(272_384, 1), Err(Errno::EFBIG), 0, 0, 0),
+    (Change::Size(272_384), Err(Errno::ENOSPC), 1, 0, 0),
+    (Change::Size(272_385), Err(Errno::EFBIG), 0, 0, 0),
+];
+
+const GREATEST_WITH_1: &[Row] = &[
+    (Change::Size(271_360), Ok(0), 2, 268, 1),
+    (Change::Write(271_360, 2000), Ok(1024), 4, 5, 0),
+    (Change::Write(272_383, 2), Ok(1), 2, 1, 0),
+    (Change::Write(272_384, 1), Err(Errno::EFBIG), 0, 0, 0),
+    (Change::Size(272_384), Ok(0), 1, 1, 0),
+    (Change::Size(272_385), Err(Errno::EFBIG), 0, 0, 0),
+];
+
+const GREATEST_WITH_2: &[Row] = &[
+    (Change::Size(271_360), Ok(0), 2, 268, 2),
+    (Change::Write(272_383, 2), Ok(1), 5, 5, 1),
+    (Change::Write(272_384, 1), Err(Errno::EFBIG), 0, 0, 1),
+    (Change::Size(272_385), Err(Errno::EFBIG), 0, 0, 1),
+];
+
+const GREATEST_WITH_3: &[Row] = &[
+    (Change::Size(271_360), Ok(0), 2, 268, 3),
+    (Change::Size(272_384), Ok(0), 3, 4, 2),
+    (Change::Write(272_384, 1), Err(Errno::EFBIG), 0, 0, 2),
+    (Change::Size(272_383), Ok(0), 1, 1, 2),
+];
+
+#[test]
+fn borders_of_the_greatest_size(rt: HostRuntime) -> Result<(), Fail> {
+    check_on(&rt, rt.alloc(), 285, GREATEST_WITH_0, &[])?;
+    check_on(&rt, rt.alloc(), 286, GREATEST_WITH_1, &[])?;
+    check_on(&rt, rt.alloc(), 287, GREATEST_WITH_2, &[])?;
+    check_on(&rt, rt.alloc(), 289, GREATEST_WITH_3, &[])
+}
+
+/// Far behind the end of an empty file.
+const FAR_BEHIND: &[Row] = &[(Change::Write(272_383, 1), Ok(1), 4, 270, 0)];
+
+const SEEN_FAR_BEHIND: &[Seen] = &[
+    (0, &[0, 0, 0, 0, 0, 0, 0, 0], 1),
+    (10_236, &[0, 0, 0, 0, 0, 0, 0, 0], 3),
+    (272_376, &[0, 0, 0, 0, 0, 0, 0, 7], 2),
+    (272_383, &[7], 2),
+];
+
+/// Bytes that were cut off are zeros when the file grows again.
+const CUT_AND_GROWN: &[Row] = &[
+    (Change::Size(272_384), Ok(0), 2, 269, 0),
+    (Change::Write(271_000, 1384), Ok(1384), 2, 2, 0),
+    (Change::Size(272_383), Ok(0), 1, 1, 0),
+    (Change::Size(272_384), Ok(0), 3, 2, 0),
+    (Change::Size(271_361), Ok(0), 1, 1, 0),
+    (Change::Write(272_380, 1), Ok(1), 5, 3, 0),
+    (Change::Size(271_360), Ok(0), 3, 3, 1),
+    (Change::Size(271_362), Ok(0), 3, 4, 0),
+];
+
+const SEEN_CUT_AND_GROWN: &[Seen] = &[
+    (270_998, &[0, 0, 7, 7, 7, 7, 7, 7], 2),
+    (271_356, &[7, 7, 7, 7, 0, 0], 3),
+];
+
+const GREAT_WRITE: &[Row] = &[(Change::Write(0, 32767), Ok(32767), 4, 67, 3805)];
+
+const SEEN_GREAT_WRITE: &[Seen] = &[(0, &[7, 7, 7, 7, 7, 7, 7, 7], 1), (32765, &[7, 7], 2)];
+
+#[test]
+fn great_files(rt: HostRuntime) -> Result<(), Fail> {
+    check_on(&rt, rt.alloc(), 286, FAR_BEHIND, SEEN_FAR_BEHIND)?;
+    check_on(&rt, rt.alloc(), 286, CUT_AND_GROWN, SEEN_CUT_AND_GROWN)?;
+    check_on(&rt, rt.alloc(), 4096, GREAT_WRITE, SEEN_GREAT_WRITE)
+}
+
+/// Fills a file of 11000 bytes with 7, cuts it and lets it grow again, by another size or a byte at its end.
+fn check_cut(
+    rt: &impl Abort,
+    b: &mut Counting,
+    inode: &mut Inode,
+    bytes: &[u8],
+    cut: u32,
+    growth: &Change,
+)
+    requires sound { Sound b.old.disk.blocks }
+    requires node { HasNode b.old.disk.blocks 2 inode.old }
+    requires kind { inode.old.kind ≡ 1 }
+    ensures sound { Sound b.new.disk.blocks }
+    ensures node { HasNode b.new.disk.blocks 2 inode.new }
+    ensures kind { inode.new.kind ≡ 1 }
+{
+    let mut out = [9; 11000];
+    assert!(rt; change_file(b, 2, inode, &Change::Write(0, 11000), bytes) == Ok(11000));
+    assert!(rt; change_file(b, 2, inode, &Change::Size(cut), bytes) == Ok(0));
+    assert!(rt; change_file(b, 2, inode, growth, bytes).is_ok());
+    assert!(rt; read_at(b, inode, 0, &mut out) == 11000, "cut at {cut}");
+    let last = if matches!(growth, Change::Size(_)) {
+        0
+    } else {
+        7
+    };
+    for (place, byte) in out.iter().enumerate() {
+        let wanted = if place < cut as usize {
+            7
+        } else if place == 10999 {
+            last
+        } else {
+            0
+        };
+        assert!(rt; *byte == wanted, "byte {place} after a cut at {cut}");
+    }
+}
+
+const CUTS: &[u32] = &[0, 1, 1023, 1024, 1025, 10239, 10240, 10241];
+
+#[test]
+fn bytes_that_were_cut_off_stay_away(rt: HostRuntime) -> Result<(), Fail> {
+    let disk = RamDisk::boot(rt.alloc(), 16)?;
+    let mut b = Counting { disk, sets: 0 };
+    let mut inode = make_file(&mut b, 2).ok_or("node 2 is free")?;
+    let bytes = vec![in rt.alloc(); 7_u8; 32767]?;
+    for cut in CUTS {
+        check_cut(&rt, &mut b, &mut inode, &bytes, *cut, &Change::Size(11000));
+        check_cut(
+            &rt,
+            &mut b,
+            &mut inode,
+            &bytes,
+            *cut,
+            &Change::Write(10999, 1),
+        );
+    }
+    Ok(())
+}

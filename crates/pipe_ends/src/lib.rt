@@ -1,0 +1,25 @@
+//! Pipes in the kernel's heap: made with both ends, read, written, polled, and gone with their last end.
+//!
+//! A read and a write answer what POSIX says of them at once; one that would have to wait says so and changes nothing.
+#![tactic(auto)]
+
+mod closing;
+pub mod laws;
+mod making;
+mod polling;
+mod reading;
+#[cfg(test)]
+mod tests;
+mod writing;
+
+pub use closing::close_end;
+pub use making::pipe_make;
+pub use polling::pipe_polled;
+pub use reading::pipe_read;
+pub use writing::pipe_write;
+
+/// How many bytes a pipe holds at most.
+const CAPACITY: u32 = 4096;
+
+/// How many bytes a write may have to go whole or not at all (PIPE_BUF).
+const WHOLE: u32 = 512;

@@ -1,0 +1,49 @@
+-- What every state of the core that is reached keeps.
+use Rattle.std.specs.Prelude.{ℕ, ◌≡◌, ◌<◌, ◌≤◌, true, false, List, [], ◌∷◌, length, ◌==◌, Some}
+use Rattle.std.specs.List.{AllByRecursion, list_any}
+use Rattle.kabi_types.specs.declared.scripts.Script.{Script}
+use Rattle.posix_defs.specs.declared.phases.Asked.{Asked}
+use Rattle.posix_defs.specs.declared.phases.Phase.{Phase}
+use Rattle.posix_defs.specs.declared.phases.Phase.TheVariants.{User, Waiting, Admitted, Asleep, Stranded, Dead}
+use Rattle.posix_defs.specs.declared.phases.Task.{Task}
+use Rattle.posix_defs.specs.Sizes.{room}
+use Rattle.posix_defs.specs.Process.{Process, Table, is_alive, process_at}
+use Rattle.posix_defs.specs.Plain.{Plain, last_pid, root}
+use Rattle.posix_defs.specs.World.{MayKeep}
+use Rattle.posix_defs.specs.CoreState.{CoreState, asked_by}
+
+-- What a process has asked for is its next call, and the heap can give it.
+pub record HasAsked (script : Script) (plain : Plain) (pid : ℕ) (asked : Asked) : Type 0 where
+  pub same : asked ≡ asked_by script plain pid
+  pub fits_ever : asked.bound ≤ room script.heap
+
+-- a task is of a live process, but where it is stranded; nothing is kept of the dead
+abbrev pub PhaseFits : Script → Plain → ℕ → Phase → Type 0
+PhaseFits script plain pid User = is_alive plain.table pid ≡ true
+PhaseFits script plain pid (Waiting asked) = (is_alive plain.table pid ≡ true) × HasAsked script plain pid asked
+PhaseFits script plain pid (Admitted asked) = (is_alive plain.table pid ≡ true) × HasAsked script plain pid asked
+PhaseFits script plain pid (Asleep asked) = (is_alive plain.table pid ≡ true) × HasAsked script plain pid asked
+PhaseFits script plain pid (Stranded asked) = (is_alive plain.table pid ≡ false) × HasAsked script plain pid asked
+PhaseFits script plain pid Dead = ⊥
+
+-- The task is of a process that was made, and its phase is as its process is.
+pub record TaskFits (script : Script) (plain : Plain) (task : Task) : Type 0 where
+  pub made : task.pid ≤ last_pid plain
+  pub phase : PhaseFits script plain task.pid task.phase
+
+-- pids rise, and are above this one
+abbrev pub AreRising : ℕ → List Task → Type 0
+AreRising below [] = Unit {0}
+AreRising below (task ∷ tasks) = (below < task.pid) × AreRising task.pid tasks
+
+-- every process works in the root, until a call changes where it works
+abbrev pub AllAtHome : Table → Type 0
+AllAtHome table = (pid : ℕ) (process : Process) → process_at table pid ≡ Some process → process.directory ≡ root
+
+pub record IsSound (script : Script) (s : CoreState) : Type 0 where
+  pub made : length s.world.plain.table ≡ last_pid s.world.plain
+  pub rising : AreRising 0 s.tasks
+  pub each : AllByRecursion (TaskFits script s.world.plain) s.tasks
+  pub all : (pid : ℕ) → is_alive s.world.plain.table pid ≡ true → list_any (λ task. task.pid == pid) s.tasks ≡ true
+  pub home : AllAtHome s.world.plain.table
+  pub may_keep : MayKeep s.world.plain s.world.kept

@@ -1,0 +1,5 @@
+pub mod StandingLemmas
+pub mod StepLemmas
+pub mod CallLemmas
+pub mod CloseLemmas
+pub mod ConnectLemmas
