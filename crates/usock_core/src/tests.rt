@@ -133,6 +133,21 @@ impl Net {
         }
     }
 
+    // So many clients, from a place on, that connect to the first socket, write their place and wait.
+    fn clients(&mut self, rt: &impl Abort, from: usize, to: usize) -> Result<(), Fail>
+        requires owned { OwnsItsObjects self.old.heap }
+        requires held { IsHeldIn self.old.heap self.old.named.items }
+        ensures owned { OnOk result (OwnsItsObjects self.new.heap) }
+        ensures held { OnOk result (IsHeldIn self.new.heap self.new.named.items) }
+    {
+        for at in from..to {
+            self.make(rt)?;
+            assert!(rt; self.connect(rt, at, 0) == Ok(()) && at < 256);
+            assert!(rt; self.write(rt, at, false, &[at as u8]) == Moved::Bytes(1));
+        }
+        Ok(())
+    }
+
     // What accept answers. A socket that was taken is named last.
     fn accept(
         &mut self,
@@ -283,4 +298,106 @@ fn read_to_the_end(rt: &impl Abort, net: &mut Net) -> Result<(), Fail>
     net.close(rt, 0);
     assert!(rt; net.heap.live() == 0);
     Ok(())
+}
+
+/// A listener with a name, a client that is accepted, writes and closes, and its peer that reads to the end.
+#[test]
+fn a_client_is_accepted(rt: HostRuntime) -> Result<(), Fail> {
+    let mut net = Net::boot(rt.alloc())?;
+    begin_to_listen(&rt, &mut net)?;
+    meet(&rt, &mut net)?;
+    read_to_the_end(&rt, &mut net)
+}
+
+// A ninth is refused, also once a client has closed; the first is accepted first, and makes room.
+fn take_two(rt: &impl Abort, net: &mut Net) -> Result<(), Fail>
+    requires owned { OwnsItsObjects net.old.heap }
+    requires held { IsHeldIn net.old.heap net.old.named.items }
+    ensures owned { OnOk result (OwnsItsObjects net.new.heap) }
+    ensures held { OnOk result (IsHeldIn net.new.heap net.new.named.items) }
+{
+    let mut out = [0; 8];
+    net.make(rt)?;
+    assert!(rt; net.connect(rt, 9, 0) == Err(Errno::ECONNREFUSED));
+    net.close(rt, 1);
+    assert!(rt; net.connect(rt, 8, 0) == Err(Errno::ECONNREFUSED));
+    let _took = net.accept(rt, 0, true, false)?;
+    assert!(rt; net.read(rt, 9, false, &mut out) == Moved::Bytes(1));
+    assert!(rt; net.connect(rt, 8, 0) == Ok(()));
+    let _took = net.accept(rt, 0, true, false)?;
+    assert!(rt; out[0] == 1);
+    assert!(rt; net.read(rt, 10, false, &mut out) == Moved::Bytes(1));
+    assert!(rt; out[0] == 2);
+    Ok(())
+}
+
+// Those that wait are closed with their listener.
+fn close_listener(rt: &impl Abort, net: &mut Net) -> Result<(), Fail>
+    requires owned { OwnsItsObjects net.old.heap }
+    requires held { IsHeldIn net.old.heap net.old.named.items }
+{
+    let mut out = [0; 8];
+    assert!(rt; net.read(rt, 2, true, &mut out) == Moved::Fault(Errno::EAGAIN));
+    net.close(rt, 0);
+    assert!(rt; net.read(rt, 1, false, &mut out) == Moved::Bytes(0));
+    assert!(rt; net.write(rt, 1, false, b"x") == Moved::Fault(Errno::EPIPE));
+    assert!(rt; net.polled(rt, 1, 5) == 17);
+    assert!(rt; net.write(rt, 0, false, b"x") == Moved::Bytes(1));
+    assert!(rt; net.heap.live() == 10 * 128 + 576);
+    Ok(())
+}
+
+/// Eight clients wait, in their order.
+#[test]
+fn eight_wait_in_order(rt: HostRuntime) -> Result<(), Fail> {
+    let mut net = Net::boot(rt.alloc())?;
+    begin_to_listen(&rt, &mut net)?;
+    net.clients(&rt, 1, 9)?;
+    take_two(&rt, &mut net)?;
+    close_listener(&rt, &mut net)
+}
+
+// What is read from a full queue makes room.
+fn fill(rt: &impl Abort, net: &mut Net, bytes: &[u8]) -> Result<(), Fail>
+    requires owned { OwnsItsObjects net.old.heap }
+    requires held { IsHeldIn net.old.heap net.old.named.items }
+    ensures owned { OnOk result (OwnsItsObjects net.new.heap) }
+    ensures held { OnOk result (IsHeldIn net.new.heap net.new.named.items) }
+{
+    let mut out = [0; 8];
+    net.pair(rt)?;
+    assert!(rt; net.read(rt, 0, false, &mut out) == Moved::Blocked);
+    assert!(rt; net.write(rt, 0, false, bytes) == Moved::Bytes(4096));
+    assert!(rt; net.write(rt, 0, false, b"x") == Moved::Blocked);
+    assert!(rt; net.write(rt, 0, true, b"x") == Moved::Fault(Errno::EAGAIN));
+    assert!(rt; net.polled(rt, 0, 4) == 0);
+    assert!(rt; net.read(rt, 1, false, &mut out) == Moved::Bytes(8));
+    assert!(rt; net.write(rt, 0, false, b"ten bytes.") == Moved::Bytes(8));
+    assert!(rt; net.write(rt, 0, false, b"") == Moved::Bytes(0));
+    Ok(())
+}
+
+// A reader that is shut drops what is there.
+fn drop_all(rt: &impl Abort, net: &mut Net) -> Result<(), Fail>
+    requires owned { OwnsItsObjects net.old.heap }
+    requires held { IsHeldIn net.old.heap net.old.named.items }
+{
+    let mut out = [0; 8];
+    assert!(rt; net.shut(rt, 1, 0) == Ok(()));
+    assert!(rt; net.heap.live() == 256);
+    assert!(rt; net.write(rt, 0, false, b"x") == Moved::Fault(Errno::EPIPE));
+    assert!(rt; net.polled(rt, 0, 4) == 4 && net.polled(rt, 1, 1) == 0);
+    assert!(rt; net.read(rt, 1, false, &mut out) == Moved::Bytes(0));
+    assert!(rt; net.shut(rt, 1, 2) == Ok(()));
+    assert!(rt; net.write(rt, 1, false, b"x") == Moved::Fault(Errno::EPIPE));
+    Ok(())
+}
+
+/// A queue of 4096 bytes is full.
+#[test]
+fn a_queue_is_full(rt: HostRuntime) -> Result<(), Fail> {
+    let mut net = Net::boot(rt.alloc())?;
+    let bytes = vec![in rt.alloc(); 7; 5000]?;
+    fill(&rt, &mut net, bytes.as_slice())?;
+    drop_all(&rt, &mut net)
 }
