@@ -58,6 +58,10 @@ is_built kind.Fork = true
 is_built kind.Exit = true
 is_built kind.Waitpid = true
 is_built kind.Kill = true
+is_built kind.Mmap = true
+is_built kind.Munmap = true
+is_built kind.Store = true
+is_built kind.Load = true
 is_built _ = false
 
 -- an errno's name

@@ -1,9 +1,11 @@
 //! The argument check: what is wrong with the operands of a call, before anything else is looked at.
 
-ghost use Rattle.std.specs.Prelude.{◌≡◌, ◌&&◌, not};
+ghost use Rattle.std.specs.Prelude.{◌≡◌, ◌&&◌, ◌||◌, not};
 ghost use Rattle.std.specs.Result.{result_err};
 ghost use Rattle.kabi_types.specs.Arguments.{
   is_from,
+  is_number,
+  is_minus_one,
   is_within,
   lie_in_space,
   is_page_range,
@@ -68,6 +70,20 @@ fn is_page_range(addr: i64, length: i64) -> bool
         return false;
     };
     first % PAGE_SIZE == 0 && first <= SPACE_SIZE && n <= SPACE_SIZE - first
+}
+
+/// Whether `waitpid` may ask for it: a pid, or -1 for any child.
+fn is_child(pid: i64) -> bool
+    ensures { result ≡ (is_minus_one pid || is_from 1 pid) }
+{
+    pid == -1 || is_from(1, pid)
+}
+
+/// Whether `fcntl` has the command, and command 0 a descriptor to begin at.
+fn is_command(cmd: i64, arg: i64) -> bool
+    ensures { result ≡ (is_within 1 4 cmd || (is_number 0 cmd && is_within 0 31 arg)) }
+{
+    is_within(1, 4, cmd) || (cmd == 0 && is_within(0, 31, arg))
 }
 
 fn invalid_unless(right: bool) -> Result<(), Errno>
@@ -148,9 +164,9 @@ impl Call {
         ensures { result_err result ≡ argument_fault self.now }
     {
         match self {
-            Call::Waitpid { pid, options } => invalid_unless(
-                (*pid == -1 || is_from(1, *pid)) && is_within(0, 1, *options),
-            ),
+            Call::Waitpid { pid, options } => {
+                invalid_unless(is_child(*pid) && is_within(0, 1, *options))
+            }
             Call::Kill { pid, signal } => {
                 invalid_unless(is_from(1, *pid) && matches!(*signal, 0 | 9))
             }
@@ -161,22 +177,14 @@ impl Call {
             Call::Store { addr, bytes } => check_range(*addr, bytes.items().len() as u64),
             Call::Load { addr, n } => check_loaded(*addr, *n),
             Call::OpenFile { path, flags } => check_open(path, *flags),
-            Call::Fcntl { cmd, arg, .. } => invalid_unless(
-                is_within(1, 4, *cmd) || (*cmd == 0 && is_within(0, 31, *arg)),
-            ),
+            Call::Fcntl { cmd, arg, .. } => invalid_unless(is_command(*cmd, *arg)),
             Call::Read { addr, n, .. } | Call::Write { addr, n, .. } => check_moved(0, *addr, *n),
             Call::Pread { addr, n, at, .. } | Call::Pwrite { addr, n, at, .. } => {
                 check_placed(*addr, *n, *at)
             }
             Call::Readdir { addr, n, .. } => check_moved(32, *addr, *n),
-            Call::Lseek {
-                whence: one_of_three,
-                ..
-            }
-            | Call::Shutdown {
-                how: one_of_three,
-                ..
-            } => { invalid_unless(is_within(0, 2, *one_of_three)) }
+            Call::Lseek { whence, .. } => invalid_unless(is_within(0, 2, *whence)),
+            Call::Shutdown { how, .. } => invalid_unless(is_within(0, 2, *how)),
             Call::Ftruncate { length, .. } => invalid_unless(is_from(0, *length)),
             Call::Poll { timeout, .. } => invalid_unless(matches!(*timeout, 0 | -1)),
             Call::Exec { path }
@@ -189,20 +197,8 @@ impl Call {
             | Call::Connect { path, .. } => check_path(path),
             Call::Link { old, new } => check_paths(old, new),
             Call::Rename { old, new } => check_renamed(old, new),
-            Call::Getpid
-            | Call::Getppid
-            | Call::SchedYield
-            | Call::Fork
-            | Call::Exit { .. }
-            | Call::Close { .. }
-            | Call::Dup { .. }
-            | Call::Dup2 { .. }
-            | Call::Fstat { .. }
-            | Call::Pipe
-            | Call::Socket
-            | Call::Socketpair
-            | Call::Listen { .. }
-            | Call::Accept { .. } => Ok(()),
+            // The others take any operands.
+            _ => Ok(()),
         }
     }
 }

@@ -4,6 +4,7 @@ use crate::{
     Reply, Revents, ScriptFault, StatInfo, Statement, Statements, Text, Texts,
 };
 use bitflags::Flags;
+use std::alloc::{AllocError, Global};
 use std::process::Abort;
 use std::test::Fail;
 
@@ -158,35 +159,42 @@ fn counted<const N: usize>() -> [u8; N] {
 }
 
 #[test]
-fn short_lists_take_their_capacity(rt: HostRuntime) {
+fn a_path_takes_255_bytes(rt: HostRuntime) {
     let bytes = counted::<255>();
     let path = Path::of(&bytes).expect(&rt, "255 bytes");
-    assert!(rt; path.items() == bytes.as_slice());
-    assert!(rt; path.copy() == path);
+    assert!(rt; path.items() == bytes.as_slice() && path.copy() == path);
     assert!(rt; Path::of(&counted::<256>()).is_none());
+}
 
+#[test]
+fn a_store_takes_64_bytes(rt: HostRuntime) {
     let bytes = counted::<64>();
     let stored = Bytes64::of(&bytes).expect(&rt, "64 bytes");
-    assert!(rt; stored.items() == bytes.as_slice());
-    assert!(rt; stored.copy() == stored);
+    assert!(rt; stored.items() == bytes.as_slice() && stored.copy() == stored);
     assert!(rt; Bytes64::of(&counted::<65>()).is_none());
+}
 
+#[test]
+fn a_name_takes_27_bytes(rt: HostRuntime) {
     let bytes = counted::<27>();
     let name = Name27::of(&bytes).expect(&rt, "27 bytes");
-    assert!(rt; name.items() == bytes.as_slice());
-    assert!(rt; name.copy() == name);
+    assert!(rt; name.items() == bytes.as_slice() && name.copy() == name);
     assert!(rt; Name27::of(&counted::<28>()).is_none());
+}
 
-    let bytes = counted::<8>();
-    let revents = Revents::of(&bytes).expect(&rt, "8 sets of events");
-    assert!(rt; revents.items() == bytes.as_slice());
-    assert!(rt; revents.copy() == revents);
+#[test]
+fn revents_are_8_sets(rt: HostRuntime) {
+    let sets = counted::<8>();
+    let revents = Revents::of(&sets).expect(&rt, "8 sets of events");
+    assert!(rt; revents.items() == sets.as_slice() && revents.copy() == revents);
     assert!(rt; Revents::of(&counted::<9>()).is_none());
+}
 
+#[test]
+fn poll_takes_8_entries(rt: HostRuntime) {
     let asked = counted::<8>().map(asks_about);
     let entries = PollList::of(&asked).expect(&rt, "8 entries");
-    assert!(rt; entries.items() == asked.as_slice());
-    assert!(rt; entries.copy() == entries);
+    assert!(rt; entries.items() == asked.as_slice() && entries.copy() == entries);
     assert!(rt; PollList::of(&counted::<9>().map(asks_about)).is_none());
 }
 
@@ -198,32 +206,58 @@ fn asks_about(fd: u8) -> PollEntry {
 }
 
 #[test]
-fn long_lists_keep_their_items(rt: HostRuntime) -> Result<(), Fail> {
-    let alloc = rt.alloc();
-    let numbers = Numbers::from_vec([3, 0, 4294967295].to_vec(alloc)?);
-    assert!(rt; numbers.items() == [3, 0, 4294967295].as_slice());
-    let given = [Operand::Reg(15), Operand::Number(-1)];
-    let operands = Operands::from_vec(given.to_vec(alloc)?);
-    assert!(rt; operands.items() == given.as_slice());
+fn numbers_keep_their_items(rt: HostRuntime) -> Result<(), Fail> {
+    let given = [3, 0, 4294967295];
+    let numbers = Numbers::from_vec(given.to_vec(rt.alloc())?);
+    assert!(rt; numbers.items() == given.as_slice());
+    Ok(())
+}
 
-    let mut written = Vec::new(alloc);
-    written.push(Text::from_vec(b"/a".to_vec(alloc)?))?;
+#[test]
+fn operands_keep_their_items(rt: HostRuntime) -> Result<(), Fail> {
+    let given = [Operand::Reg(15), Operand::Number(-1)];
+    let operands = Operands::from_vec(given.to_vec(rt.alloc())?);
+    assert!(rt; operands.items() == given.as_slice());
+    Ok(())
+}
+
+#[test]
+fn texts_keep_their_items(rt: HostRuntime) -> Result<(), Fail> {
+    let mut written = Vec::new(rt.alloc());
+    written.push(Text::from_vec(b"/a".to_vec(rt.alloc())?))?;
     let texts = Texts::from_vec(written);
     assert!(rt; matches!(texts.items(), [text] if text.items() == b"/a".as_slice()));
+    Ok(())
+}
 
+/// Two statements, 'set r3 7' and a jump to place 1.
+fn body(alloc: Global) -> Result<Statements, AllocError> {
     let mut said = Vec::new(alloc);
     said.push(Statement::Set(3, Operand::Number(7)))?;
     said.push(Statement::Jump(1))?;
-    let body = Statements::from_vec(said);
+    Ok(Statements::from_vec(said))
+}
+
+#[test]
+fn statements_keep_their_items(rt: HostRuntime) -> Result<(), Fail> {
+    let body = body(rt.alloc())?;
     assert!(rt;
         matches!(
             body.items(),
             [Statement::Set(3, Operand::Number(7)), Statement::Jump(1)]
         )
     );
+    Ok(())
+}
+
+#[test]
+fn programs_keep_their_items(rt: HostRuntime) -> Result<(), Fail> {
     let name = Name27::of(b"init").expect(&rt, "4 bytes");
-    let mut made = Vec::new(alloc);
-    made.push(Program { name, body })?;
+    let mut made = Vec::new(rt.alloc());
+    made.push(Program {
+        name,
+        body: body(rt.alloc())?,
+    })?;
     let programs = Programs::from_vec(made);
     assert!(rt;
         matches!(programs.items(), [program] if program.name.items() == b"init".as_slice() && program.body.items().len() == 2)
@@ -233,20 +267,11 @@ fn long_lists_keep_their_items(rt: HostRuntime) -> Result<(), Fail> {
 
 #[test]
 fn histories_keep_their_entries(rt: HostRuntime) -> Result<(), Fail> {
+    let kind = CallKind::Poll;
     let mut happened = Vec::new(rt.alloc());
-    happened.push(Entry::Slept {
-        pid: 2,
-        kind: CallKind::Poll,
-    })?;
+    happened.push(Entry::Slept { pid: 2, kind })?;
     let entries = Entries::from_vec(happened);
-    assert_eq!(rt;
-        entries.items(),
-        [Entry::Slept {
-            pid: 2,
-            kind: CallKind::Poll
-        }]
-        .as_slice()
-    );
+    assert!(rt; entries.items() == [Entry::Slept { pid: 2, kind }].as_slice());
     Ok(())
 }
 
@@ -254,16 +279,13 @@ fn histories_keep_their_entries(rt: HostRuntime) -> Result<(), Fail> {
 fn calls_and_events_keep_their_kind(rt: HostRuntime) {
     let path = Path::of(b"/etc").expect(&rt, "4 bytes");
     assert!(rt; Call::Chdir { path }.kind() == CallKind::Chdir);
-    assert_eq!(rt;
-        Call::Pwrite {
-            fd: 3,
-            addr: 4096,
-            n: 1,
-            at: 0
-        }
-        .kind(),
-        CallKind::Pwrite
-    );
+    let written = Call::Pwrite {
+        fd: 3,
+        addr: 4096,
+        n: 1,
+        at: 0,
+    };
+    assert!(rt; written.kind() == CallKind::Pwrite);
     let noted = Noted {
         event: Event::Turn(1),
         kind: Some(CallKind::Exit),

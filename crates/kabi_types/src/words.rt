@@ -64,7 +64,11 @@ impl CallKind {
             | CallKind::Fork
             | CallKind::Exit
             | CallKind::Waitpid
-            | CallKind::Kill => true,
+            | CallKind::Kill
+            | CallKind::Mmap
+            | CallKind::Munmap
+            | CallKind::Store
+            | CallKind::Load => true,
             _ => false,
         }
     }

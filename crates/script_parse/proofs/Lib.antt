@@ -1,6 +1,7 @@
 pub mod AsciiTexts
 pub mod Bodies
 pub mod Faults
+pub mod FewWords
 pub mod FirstFaults
 pub mod FirstParts
 pub mod Fronts

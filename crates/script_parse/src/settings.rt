@@ -92,13 +92,16 @@ fn top_said(alloc: Global, first: &Word, rest: &[Word]) -> Result<AtTop, Refused
         return Ok(AtTop::Sets(Setting::Heap(u64::from(bytes))));
     }
     if is_word(first, "disk") {
-        return Ok(AtTop::Sets(Setting::Disk(one_number(16, 4096, rest)?)));
+        let blocks = one_number(16, 4096, rest)?;
+        return Ok(AtTop::Sets(Setting::Disk(blocks)));
     }
     if is_word(first, "steps") {
-        return Ok(AtTop::Sets(Setting::Steps(one_number(1, 100000, rest)?)));
+        let events = one_number(1, 100000, rest)?;
+        return Ok(AtTop::Sets(Setting::Steps(events)));
     }
     if is_word(first, "policy") {
-        return Ok(AtTop::Sets(Setting::Victims(policy_said(rest)?)));
+        let policy = policy_said(rest)?;
+        return Ok(AtTop::Sets(Setting::Victims(policy)));
     }
     if is_word(first, "choices") {
         let numbers = choices_said(alloc, rest)?;
@@ -109,7 +112,8 @@ fn top_said(alloc: Global, first: &Word, rest: &[Word]) -> Result<AtTop, Refused
         return Ok(AtTop::Sets(Setting::Choosing(Chooser::Seed(seed))));
     }
     if is_word(first, "program") {
-        return Ok(AtTop::Begins(name_said(rest)?));
+        let name = name_said(rest)?;
+        return Ok(AtTop::Begins(name));
     }
     Err(Refused::Fault(FaultKind::UnknownWord))
 }

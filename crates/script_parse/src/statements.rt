@@ -45,7 +45,8 @@ fn set_said(words: &[Word]) -> Result<Spoken, Refused>
     match words {
         [target, amount] => {
             let target = register(target)?;
-            Ok(Spoken::Whole(Statement::Set(target, operand(amount)?)))
+            let amount = operand(amount)?;
+            Ok(Spoken::Whole(Statement::Set(target, amount)))
         }
         _ => Err(Refused::Fault(FaultKind::UnknownWord)),
     }
@@ -57,7 +58,8 @@ fn add_said(words: &[Word]) -> Result<Spoken, Refused>
     match words {
         [target, amount] => {
             let target = register(target)?;
-            Ok(Spoken::Whole(Statement::Add(target, operand(amount)?)))
+            let amount = operand(amount)?;
+            Ok(Spoken::Whole(Statement::Add(target, amount)))
         }
         _ => Err(Refused::Fault(FaultKind::UnknownWord)),
     }
@@ -122,7 +124,8 @@ fn loop_said(words: &[Word]) -> Result<Spoken, Refused>
     match words {
         [counter, label] => {
             let counter = register(counter)?;
-            Ok(Spoken::Loop(counter, name(label)?))
+            let label = name(label)?;
+            Ok(Spoken::Loop(counter, label))
         }
         _ => Err(Refused::Fault(FaultKind::UnknownWord)),
     }
@@ -206,5 +209,6 @@ pub fn said_in_program(alloc: Global, words: &[Word]) -> Result<InProgram, Refus
             Err(Refused::Fault(FaultKind::UnknownWord))
         };
     }
-    Ok(InProgram::Says(statement_said(alloc, first, rest, words)?))
+    let said = statement_said(alloc, first, rest, words)?;
+    Ok(InProgram::Says(said))
 }

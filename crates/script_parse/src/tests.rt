@@ -13,7 +13,7 @@ pub type Told = Option<(u32, FaultKind)>;
 /// A text with the line and the fault that it is to be told.
 pub type Row = (&'static str, u32, FaultKind);
 
-pub fn fault_of(alloc: Global, text: &[u8]) -> Result<Told, Memory> {
+fn fault_of(alloc: Global, text: &[u8]) -> Result<Told, Memory> {
     match parse(alloc, text) {
         Ok(_) => Ok(None),
         Err(ParseError::Bad(fault)) => Ok(Some((fault.line, fault.what))),
@@ -31,7 +31,7 @@ pub fn script_said(alloc: Global, text: &str) -> Result<Option<Script>, Memory> 
 }
 
 /// Whether a text says a script of which this is the canonical text.
-pub fn is_canonical(alloc: Global, text: &[u8], canonical: &[u8]) -> Result<bool, Memory> {
+fn is_canonical(alloc: Global, text: &[u8], canonical: &[u8]) -> Result<bool, Memory> {
     match parse(alloc, text) {
         Ok(script) => Ok(print(alloc, &script)?.as_bytes() == canonical),
         Err(ParseError::Bad(_)) => Ok(false),
@@ -53,23 +53,42 @@ pub fn joined(
     Ok(text)
 }
 
-/// What is told of a script whose only program has one line between `program init` at line 1 and `end` at line 3.
-pub fn fault_in_init(alloc: Global, line: &[u8]) -> Result<Told, Memory> {
-    let text = joined(alloc, b"program init\n", line, b"\nend\n")?;
-    fault_of(alloc, text.as_slice())
+/// The line that begins the first program.
+pub const OPENING: &[u8] = b"program init\n";
+
+/// The end of a line, and the line that ends a program.
+pub const CLOSING: &[u8] = b"\nend\n";
+
+/// The end of a line, and a program that does nothing.
+const WITH_PROGRAM: &[u8] = b"\nprogram init\nend\n";
+
+/// A text is told this.
+pub fn check_told(rt: &(impl Abort + AllocGlobal), text: &[u8], wanted: Told) -> Result<(), Fail> {
+    let told = fault_of(rt.alloc(), text)?;
+    assert!(rt; told == wanted, "{text:?}");
+    Ok(())
 }
 
-/// What is told of a script that begins with this line and goes on with a program.
-pub fn fault_at_top(alloc: Global, line: &[u8]) -> Result<Told, Memory> {
-    let text = joined(alloc, line, b"\nprogram init\n", b"end\n")?;
-    fault_of(alloc, text.as_slice())
+/// A line is told this where it stands alone between `program init` at line 1 and `end` at line 3.
+pub fn check_line(rt: &(impl Abort + AllocGlobal), line: &[u8], wanted: Told) -> Result<(), Fail> {
+    let text = joined(rt.alloc(), OPENING, line, CLOSING)?;
+    check_told(rt, text.as_slice(), wanted)
+}
+
+/// A line is told this where it begins a script that goes on with a program.
+pub fn check_first_line(
+    rt: &(impl Abort + AllocGlobal),
+    line: &[u8],
+    wanted: Told,
+) -> Result<(), Fail> {
+    let text = joined(rt.alloc(), line, WITH_PROGRAM, &[])?;
+    check_told(rt, text.as_slice(), wanted)
 }
 
 /// Each text is told its line and its fault.
 pub fn check_texts(rt: &(impl Abort + AllocGlobal), rows: &[Row]) -> Result<(), Fail> {
     for (text, line, what) in rows {
-        let told = fault_of(rt.alloc(), text.as_bytes())?;
-        assert!(rt; told == Some((*line, *what)), "{text:?}");
+        check_told(rt, text.as_bytes(), Some((*line, *what)))?;
     }
     Ok(())
 }
@@ -81,8 +100,7 @@ pub fn check_in_init(
     wanted: Told,
 ) -> Result<(), Fail> {
     for line in lines {
-        let told = fault_in_init(rt.alloc(), line.as_bytes())?;
-        assert!(rt; told == wanted, "{line:?}");
+        check_line(rt, line.as_bytes(), wanted)?;
     }
     Ok(())
 }
@@ -94,9 +112,18 @@ pub fn check_at_top(
     wanted: Told,
 ) -> Result<(), Fail> {
     for line in lines {
-        let told = fault_at_top(rt.alloc(), line.as_bytes())?;
-        assert!(rt; told == wanted, "{line:?}");
+        check_first_line(rt, line.as_bytes(), wanted)?;
     }
+    Ok(())
+}
+
+/// The first text says a script of which the second is the canonical text.
+pub fn check_canonical(
+    rt: &(impl Abort + AllocGlobal),
+    text: &[u8],
+    canonical: &[u8],
+) -> Result<(), Fail> {
+    assert!(rt; is_canonical(rt.alloc(), text, canonical)?, "{text:?}");
     Ok(())
 }
 
@@ -115,44 +142,51 @@ fn small_texts_are_told_their_fault(rt: HostRuntime) -> Result<(), Fail> {
     check_texts(&rt, SMALL)
 }
 
-/// A small program, and a comment that fills the text up to so many bytes.
+/// A small program of 18 bytes, the last of which begins a comment.
+const COMMENTED: &[u8] = b"program init\nend\n#";
+
+/// The small program, and a comment that fills the text up to so many bytes.
 fn filled_to(alloc: Global, length: usize) -> Result<Vec<u8>, AllocError> {
-    let mut text = Vec::new(alloc);
-    text.extend_from_slice(b"program init\nend\n#")?;
     let filling = vec![in alloc; b'x'; length.saturating_sub(18)]?;
-    text.extend_from_slice(filling.as_slice())?;
-    Ok(text)
+    joined(alloc, COMMENTED, filling.as_slice(), &[])
 }
 
 #[test]
 fn a_mebibyte_is_read_and_a_byte_more_is_not(rt: HostRuntime) -> Result<(), Fail> {
     let whole = filled_to(rt.alloc(), MOST_BYTES)?;
     assert!(rt; whole.len() == 1048576);
-    assert!(rt; fault_of(rt.alloc(), whole.as_slice())?.is_none());
+    check_told(&rt, whole.as_slice(), None)?;
     let more = filled_to(rt.alloc(), MOST_BYTES + 1)?;
     assert!(rt; more.len() == 1048577);
-    assert!(rt; fault_of(rt.alloc(), more.as_slice())? == Some((0, FaultKind::TooLong)));
-    Ok(())
+    check_told(&rt, more.as_slice(), Some((0, FaultKind::TooLong)))
 }
 
 #[test]
 fn too_long_is_told_before_all_else(rt: HostRuntime) -> Result<(), Fail> {
     let most = vec![in rt.alloc(); 255; MOST_BYTES]?;
-    assert!(rt; fault_of(rt.alloc(), most.as_slice())? == Some((1, FaultKind::NotUtf8)));
+    check_told(&rt, most.as_slice(), Some((1, FaultKind::NotUtf8)))?;
     let more = vec![in rt.alloc(); 255; MOST_BYTES + 1]?;
-    assert!(rt; fault_of(rt.alloc(), more.as_slice())? == Some((0, FaultKind::TooLong)));
-    Ok(())
+    check_told(&rt, more.as_slice(), Some((0, FaultKind::TooLong)))
 }
 
-/// `count` programs of two letters each, the first of which is `init`.
+/// A program that does nothing, and the word before the name of another.
+const FIRST_PROGRAM: &[u8] = b"program init\nend\n";
+
+const PROGRAM: &[u8] = b"program ";
+
+/// Adds a program whose name has two letters, which tell its number.
+fn push_numbered(text: &mut Vec<u8>, number: u8) -> Result<(), AllocError> {
+    text.extend_from_slice(PROGRAM)?;
+    text.push(b'a' + number / 10)?;
+    text.push(b'a' + number % 10)?;
+    text.extend_from_slice(CLOSING)
+}
+
+/// `count` programs, the first of which is `init`; the names of the others have two letters each.
 fn programs(alloc: Global, count: u8) -> Result<Vec<u8>, AllocError> {
-    let mut text = Vec::new(alloc);
-    text.extend_from_slice(b"program init\nend\n")?;
+    let mut text = joined(alloc, FIRST_PROGRAM, &[], &[])?;
     for number in 1..count {
-        text.extend_from_slice(b"program ")?;
-        text.push(b'a' + number / 10)?;
-        text.push(b'a' + number % 10)?;
-        text.extend_from_slice(b"\nend\n")?;
+        push_numbered(&mut text, number)?;
     }
     Ok(text)
 }
@@ -169,8 +203,8 @@ const BEHIND_64: &[(&[u8], Told)] = &[
 fn there_are_64_programs_at_most(rt: HostRuntime) -> Result<(), Fail> {
     let most = programs(rt.alloc(), 64)?;
     for (more, told) in BEHIND_64 {
-        let text = joined(rt.alloc(), most.as_slice(), more, b"")?;
-        assert!(rt; fault_of(rt.alloc(), text.as_slice())? == *told);
+        let text = joined(rt.alloc(), most.as_slice(), more, &[])?;
+        check_told(&rt, text.as_slice(), *told)?;
     }
     Ok(())
 }

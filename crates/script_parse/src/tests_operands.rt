@@ -2,9 +2,19 @@ use crate::Refused;
 use crate::calls::shape_of;
 use crate::operands::operands_said;
 use crate::words::line_words;
-use kabi_types::{CallKind, Memory, Operand, Operands, Texts};
+use kabi_types::{CallKind, Memory, Operand, Operands, Text, Texts};
 use std::alloc::Global;
 use std::test::Fail;
+
+/// Whether the texts have these bytes, in order.
+fn are(texts: &[Text], wanted: &[&[u8]]) -> bool {
+    for (text, bytes) in texts.iter().zip(wanted) {
+        if text.items() != *bytes {
+            return false;
+        }
+    }
+    texts.len() == wanted.len()
+}
 
 /// Whether the operands that a line says for a call are these values and texts, in order.
 fn says(
@@ -15,14 +25,7 @@ fn says(
     wanted: &[&[u8]],
 ) -> Result<bool, Memory> {
     match operands_in(alloc, kind, line) {
-        Ok((operands, texts)) => {
-            let texts = texts.items();
-            let equal = texts
-                .iter()
-                .zip(wanted.iter())
-                .all(|(text, bytes)| text.items() == *bytes);
-            Ok(operands.items() == values && texts.len() == wanted.len() && equal)
-        }
+        Ok((operands, texts)) => Ok(operands.items() == values && are(texts.items(), wanted)),
         Err(Refused::Fault(_)) => Ok(false),
         Err(Refused::Memory) => Err(Memory),
     }

@@ -1,6 +1,6 @@
-use crate::tests::{Row, Told, check_texts, fault_at_top, fault_in_init, fault_of, joined};
-use kabi_types::{FaultKind, Memory};
-use std::alloc::Global;
+use crate::tests::{CLOSING, Row, check_first_line, check_line, check_texts, check_told, joined};
+use kabi_types::FaultKind;
+use std::alloc::{AllocError, Global};
 use std::test::Fail;
 
 const MISSING_LABELS: &[Row] = &[
@@ -428,17 +428,22 @@ const BROKEN_IN_INIT: &[&[u8]] = &[
 
 const BROKEN_AT_TOP: &[&[u8]] = &[b"heap 1 \xff", b"program \xff"];
 
+const BROKEN_SCRIPTS: &[(&[u8], u32, FaultKind)] = &[
+    (b"seed 1\nseed 2\xff", 2, FaultKind::NotUtf8),
+    (b"program init\n\xff", 1, FaultKind::Unended),
+];
+
 #[test]
 fn bytes_that_are_no_text_come_before_other_faults(rt: HostRuntime) -> Result<(), Fail> {
-    let alloc = rt.alloc();
     for line in BROKEN_IN_INIT {
-        assert!(rt; fault_in_init(alloc, line)? == Some((2, FaultKind::NotUtf8)));
+        check_line(&rt, line, Some((2, FaultKind::NotUtf8)))?;
     }
     for line in BROKEN_AT_TOP {
-        assert!(rt; fault_at_top(alloc, line)? == Some((1, FaultKind::NotUtf8)));
+        check_first_line(&rt, line, Some((1, FaultKind::NotUtf8)))?;
     }
-    assert!(rt; fault_of(alloc, b"seed 1\nseed 2\xff")? == Some((2, FaultKind::NotUtf8)));
-    assert!(rt; fault_of(alloc, b"program init\n\xff")? == Some((1, FaultKind::Unended)));
+    for (text, line, what) in BROKEN_SCRIPTS {
+        check_told(&rt, text, Some((*line, *what)))?;
+    }
     Ok(())
 }
 
@@ -454,21 +459,25 @@ const FAULTY: &[(&[u8], FaultKind)] = &[
     (b"socket", FaultKind::NotBuilt),
 ];
 
-/// What is told of a program whose lines 3 and 4 are these.
-fn fault_of_two(alloc: Global, first: &[u8], second: &[u8], end: &[u8]) -> Result<Told, Memory> {
-    let before = joined(alloc, b"program init\nlabel top\n", first, b"\n")?;
-    let text = joined(alloc, before.as_slice(), second, end)?;
-    fault_of(alloc, text.as_slice())
+/// The first two lines of a program, and the end of a line.
+const LABELLED: &[u8] = b"program init\nlabel top\n";
+
+const NEWLINE: &[u8] = b"\n";
+
+/// A text whose program has these lines 3 and 4.
+fn with_two(alloc: Global, first: &[u8], second: &[u8], end: &[u8]) -> Result<Vec<u8>, AllocError> {
+    let before = joined(alloc, LABELLED, first, NEWLINE)?;
+    joined(alloc, before.as_slice(), second, end)
 }
 
 #[test]
 fn of_two_lines_the_first_is_told_whatever_its_fault(rt: HostRuntime) -> Result<(), Fail> {
     for (first, what) in FAULTY {
         for (second, _) in FAULTY {
-            let told = fault_of_two(rt.alloc(), first, second, b"\nend\n")?;
-            assert!(rt; told == Some((3, *what)));
-            let unended = fault_of_two(rt.alloc(), first, second, b"\n")?;
-            assert!(rt; unended == Some((1, FaultKind::Unended)));
+            let whole = with_two(rt.alloc(), first, second, CLOSING)?;
+            check_told(&rt, whole.as_slice(), Some((3, *what)))?;
+            let unended = with_two(rt.alloc(), first, second, NEWLINE)?;
+            check_told(&rt, unended.as_slice(), Some((1, FaultKind::Unended)))?;
         }
     }
     Ok(())

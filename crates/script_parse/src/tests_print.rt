@@ -1,10 +1,11 @@
 use crate::print;
-use crate::tests::{is_canonical, joined};
+use crate::tests::{CLOSING, check_canonical, joined};
 use kabi_types::{
     CallKind, Chooser, Memory, Name27, Numbers, Operand, Operands, Policy, Program, Programs,
     Script, Statement, Statements, Test, Text, Texts,
 };
-use std::alloc::{AllocError, Global};
+use std::alloc::{AllocError, AllocGlobal, Global};
+use std::process::Abort;
 use std::test::Fail;
 
 fn texts_of(alloc: Global, texts: &[&[u8]]) -> Result<Texts, AllocError> {
@@ -34,29 +35,56 @@ fn call(
     })
 }
 
-/// Whether a script that has this statement alone is printed as these settings, its program's first line, this line, and
-/// its end.
-fn is_printed_alone(alloc: Global, statement: Statement, line: &str) -> Result<bool, Memory> {
-    let Some(name) = Name27::of(b"init") else {
-        return Ok(false);
-    };
+/// The name of the first program.
+const INIT: &[u8] = b"init";
+
+/// A body of this statement alone.
+fn only(alloc: Global, statement: Statement) -> Result<Statements, AllocError> {
     let mut body = Vec::new(alloc);
     body.push(statement)?;
-    let body = Statements::from_vec(body);
+    Ok(Statements::from_vec(body))
+}
+
+/// Small settings, and one program of this name and body.
+fn small_script(alloc: Global, name: Name27, body: Statements) -> Result<Script, AllocError> {
     let mut programs = Vec::new(alloc);
     programs.push(Program { name, body })?;
-    let script = Script {
+    Ok(Script {
         heap: 8192,
         disk: 16,
         steps: 1,
         policy: Policy::Youngest,
         chooser: Chooser::Seed(2147483647),
         programs: Programs::from_vec(programs),
-    };
-    let before = b"heap 8192\ndisk 16\nsteps 1\npolicy youngest\nseed 2147483647\nprogram init\n";
-    let wanted = joined(alloc, before, line.as_bytes(), b"\nend\n")?;
-    let text = print(alloc, &script)?;
-    Ok(text.as_bytes() == wanted.as_slice())
+    })
+}
+
+/// The small settings and the beginning of the program, as they are printed.
+const SMALL: &[u8] =
+    b"heap 8192\ndisk 16\nsteps 1\npolicy youngest\nseed 2147483647\nprogram init\n";
+
+/// The script is printed as this text.
+fn check_printed(
+    rt: &(impl Abort + AllocGlobal),
+    script: &Script,
+    wanted: &[u8],
+) -> Result<(), Fail> {
+    let text = print(rt.alloc(), script)?;
+    assert!(rt; text.as_bytes() == wanted, "{text}");
+    Ok(())
+}
+
+/// A small script that has this statement alone is printed as its settings, its program's first line, this line, and its
+/// end.
+fn check_alone(
+    rt: &(impl Abort + AllocGlobal),
+    statement: Statement,
+    line: &str,
+) -> Result<(), Fail> {
+    let name = Name27::of(INIT).expect(rt, "a name");
+    let script = small_script(rt.alloc(), name, only(rt.alloc(), statement)?)?;
+    let wanted = joined(rt.alloc(), SMALL, line.as_bytes(), CLOSING)?;
+    check_printed(rt, &script, wanted.as_slice())
 }
 
 /// Texts and the canonical texts of what they say.
@@ -74,7 +102,7 @@ const PRINTED: &[(&str, &str)] = &[
 #[test]
 fn settings_go_first_and_constants_blanks_and_remarks_go(rt: HostRuntime) -> Result<(), Fail> {
     for (text, canonical) in PRINTED {
-        assert!(rt; is_canonical(rt.alloc(), text.as_bytes(), canonical.as_bytes())?);
+        check_canonical(&rt, text.as_bytes(), canonical.as_bytes())?;
     }
     Ok(())
 }
@@ -93,10 +121,7 @@ const CANONICAL: &[&str] = &[
 #[test]
 fn canonical_texts_are_printed_as_they_stand(rt: HostRuntime) -> Result<(), Fail> {
     for text in CANONICAL {
-        assert!(rt;
-            is_canonical(rt.alloc(), text.as_bytes(), text.as_bytes())?,
-            "{text:?}"
-        );
+        check_canonical(&rt, text.as_bytes(), text.as_bytes())?;
     }
     Ok(())
 }
@@ -181,7 +206,7 @@ const CALLS: &[(Called, Option<u8>, Option<u8>, &str)] = &[
 fn calls_are_printed_in_the_order_of_their_fields(rt: HostRuntime) -> Result<(), Fail> {
     for (called, first, second, line) in CALLS {
         let call = call(rt.alloc(), *called, *first, *second)?;
-        assert!(rt; is_printed_alone(rt.alloc(), call, line)?, "{line}");
+        check_alone(&rt, call, line)?;
     }
     Ok(())
 }
@@ -202,28 +227,37 @@ fn with_choices(alloc: Global, count: u32) -> Result<Script, Memory> {
     })
 }
 
-#[test]
-fn a_thousand_choices_are_printed(rt: HostRuntime) -> Result<(), Fail> {
-    let alloc = rt.alloc();
-    let text = print(alloc, &with_choices(alloc, 1000)?)?;
-    let mut wanted = String::from_str(
-        alloc,
-        "heap 65536\ndisk 64\nsteps 1000\npolicy heaviest\nchoices",
-    )?;
-    for _ in 0..1000 {
-        wanted.push_str(" 4294967295")?;
+/// The settings of that script up to its choices, one choice, and the end of the line.
+const CHOOSING: &[u8] = b"heap 65536\ndisk 64\nsteps 1000\npolicy heaviest\nchoices";
+
+const GREATEST: &[u8] = b" 4294967295";
+
+const NEWLINE: &[u8] = b"\n";
+
+/// That script as it is printed.
+fn printed_choices(alloc: Global, count: u32) -> Result<Vec<u8>, AllocError> {
+    let mut text = joined(alloc, CHOOSING, &[], &[])?;
+    for _ in 0..count {
+        text.extend_from_slice(GREATEST)?;
     }
-    wanted.push_str("\n")?;
-    assert!(rt; text == wanted);
-    Ok(())
+    text.extend_from_slice(NEWLINE)?;
+    Ok(text)
 }
 
 #[test]
-fn a_place_without_a_label_has_no_name(rt: HostRuntime) -> Result<(), Fail> {
+fn a_thousand_choices_are_printed(rt: HostRuntime) -> Result<(), Fail> {
     let alloc = rt.alloc();
-    let jump = Statement::Jump(0);
-    assert!(rt; is_printed_alone(alloc, jump, "jump ")?);
-    let back = Statement::Loop(3, 4294967295);
-    assert!(rt; is_printed_alone(alloc, back, "loop r3 ")?);
-    Ok(())
+    let wanted = printed_choices(alloc, 1000)?;
+    check_printed(&rt, &with_choices(alloc, 1000)?, wanted.as_slice())
+}
+
+/// A jump and a loop to places without a label, as they are printed.
+const NO_PLACE: &str = "jump ";
+
+const NO_PLACE_BACK: &str = "loop r3 ";
+
+#[test]
+fn a_place_without_a_label_has_no_name(rt: HostRuntime) -> Result<(), Fail> {
+    check_alone(&rt, Statement::Jump(0), NO_PLACE)?;
+    check_alone(&rt, Statement::Loop(3, 4294967295), NO_PLACE_BACK)
 }

@@ -1,4 +1,4 @@
-use crate::tests::{is_canonical, joined, script_said};
+use crate::tests::{CLOSING, check_canonical, joined, script_said};
 use kabi_types::{Chooser, Policy, Statement};
 use std::alloc::{AllocError, Global};
 use std::test::Fail;
@@ -6,16 +6,27 @@ use std::test::Fail;
 /// Settings that a text doesn't give, as they are printed.
 const DEFAULTS: &[u8] = b"heap 65536\ndisk 64\nsteps 1000\npolicy heaviest\n";
 
+/// All settings.
+const SETTINGS: &str =
+    "heap 008192\ndisk 4096\nsteps 100000\npolicy youngest\nchoices 3 -0 4294967295\nprogram init\nend";
+
+/// The choices of those settings.
+const CHOICES: &[u32] = &[3, 0, 4294967295];
+
+/// Whether the chooser takes these choices.
+fn takes(chooser: &Chooser, choices: &[u32]) -> bool {
+    match chooser {
+        Chooser::Choices(numbers) => numbers.items() == choices,
+        Chooser::Plain | Chooser::Seed(_) => false,
+    }
+}
+
 #[test]
 fn settings_are_read(rt: HostRuntime) -> Result<(), Fail> {
-    let text =
-        "heap 008192\ndisk 4096\nsteps 100000\npolicy youngest\nchoices 3 -0 4294967295\nprogram init\nend";
-    let script = script_said(rt.alloc(), text)?.expect(&rt, "a script");
-    assert!(rt; (script.heap, script.disk, script.steps) == (8192, 4096, 100000));
-    assert!(rt; script.policy == Policy::Youngest);
-    assert!(rt;
-        matches!(&script.chooser, Chooser::Choices(numbers) if numbers.items() == [3, 0, 4294967295].as_slice())
-    );
+    let script = script_said(rt.alloc(), SETTINGS)?.expect(&rt, "a script");
+    assert!(rt; script.heap == 8192 && script.disk == 4096 && script.steps == 100000);
+    assert!(rt; matches!(script.policy, Policy::Youngest));
+    assert!(rt; takes(&script.chooser, CHOICES));
     Ok(())
 }
 
@@ -38,6 +49,20 @@ loop r9 last
 end
 ";
 
+/// Statements of that program by their number, the register of a loop, and where they go.
+const JUMPS: &[(usize, Option<u8>, u32)] = &[(7, Some(3), 2), (8, None, 9), (10, Some(9), 9)];
+
+/// Whether a statement goes to this place: a loop by its register, a jump without one.
+fn goes_to(statement: Option<&Statement>, register: Option<u8>, place: u32) -> bool {
+    match (statement, register) {
+        (Some(Statement::Loop(counter, to)), Some(register)) => {
+            *counter == register && *to == place
+        }
+        (Some(Statement::Jump(to)), None) => *to == place,
+        _ => false,
+    }
+}
+
 #[test]
 fn jumps_go_to_places(rt: HostRuntime) -> Result<(), Fail> {
     let script = script_said(rt.alloc(), JUMPING)?.expect(&rt, "a script");
@@ -45,9 +70,9 @@ fn jumps_go_to_places(rt: HostRuntime) -> Result<(), Fail> {
     assert!(rt; programs.len() == 1);
     let body = programs[0].body.items();
     assert!(rt; body.len() == 11);
-    assert!(rt; matches!(&body[7], Statement::Loop(3, 2)));
-    assert!(rt; matches!(&body[8], Statement::Jump(9)));
-    assert!(rt; matches!(&body[10], Statement::Loop(9, 9)));
+    for (at, register, place) in JUMPS {
+        assert!(rt; goes_to(body.get(*at), *register, *place), "{at}");
+    }
     Ok(())
 }
 
@@ -87,10 +112,7 @@ const READ: &[(&str, &str)] = &[
 #[test]
 fn texts_are_read(rt: HostRuntime) -> Result<(), Fail> {
     for (text, canonical) in READ {
-        assert!(rt;
-            is_canonical(rt.alloc(), text.as_bytes(), canonical.as_bytes())?,
-            "{text}"
-        );
+        check_canonical(&rt, text.as_bytes(), canonical.as_bytes())?;
     }
     Ok(())
 }
@@ -146,14 +168,12 @@ const VALUES: &[(&str, &str)] = &[
     ("r15", "r15"),
 ];
 
+/// The beginning of a program that sets a register.
+const SETTING: &[u8] = b"program init\nset r3 ";
+
 /// A program that sets a register to this value.
 fn with_value(alloc: Global, value: &str) -> Result<Vec<u8>, AllocError> {
-    joined(
-        alloc,
-        b"program init\nset r3 ",
-        value.as_bytes(),
-        b"\nend\n",
-    )
+    joined(alloc, SETTING, value.as_bytes(), CLOSING)
 }
 
 #[test]
@@ -161,11 +181,8 @@ fn values_are_read(rt: HostRuntime) -> Result<(), Fail> {
     for (word, value) in VALUES {
         let text = with_value(rt.alloc(), word)?;
         let line = with_value(rt.alloc(), value)?;
-        let wanted = joined(rt.alloc(), DEFAULTS, line.as_slice(), b"")?;
-        assert!(rt;
-            is_canonical(rt.alloc(), text.as_slice(), wanted.as_slice())?,
-            "{word}"
-        );
+        let wanted = joined(rt.alloc(), DEFAULTS, line.as_slice(), &[])?;
+        check_canonical(&rt, text.as_slice(), wanted.as_slice())?;
     }
     Ok(())
 }

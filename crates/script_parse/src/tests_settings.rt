@@ -1,6 +1,6 @@
-use crate::tests::{Told, check_at_top, fault_at_top};
-use kabi_types::{FaultKind, Memory};
-use std::alloc::Global;
+use crate::tests::{check_at_top, check_first_line, joined};
+use kabi_types::FaultKind;
+use std::alloc::{AllocError, Global};
 use std::test::Fail;
 
 const UNKNOWN_SETTINGS: &[&str] = &[
@@ -152,19 +152,24 @@ fn lines_outside_programs_are_read(rt: HostRuntime) -> Result<(), Fail> {
     check_at_top(&rt, RIGHT_LINES, None)
 }
 
-/// What is told of a line with so many choices.
-fn fault_of_choices(alloc: Global, count: u32) -> Result<Told, Memory> {
-    let mut line = Vec::new(alloc);
-    line.extend_from_slice(b"choices")?;
+/// The word before choices, and one choice.
+const CHOICES: &[u8] = b"choices";
+
+const CHOICE: &[u8] = b" 7";
+
+/// A line with so many choices.
+fn with_choices(alloc: Global, count: u32) -> Result<Vec<u8>, AllocError> {
+    let mut line = joined(alloc, CHOICES, &[], &[])?;
     for _ in 0..count {
-        line.extend_from_slice(b" 7")?;
+        line.extend_from_slice(CHOICE)?;
     }
-    fault_at_top(alloc, line.as_slice())
+    Ok(line)
 }
 
 #[test]
 fn there_are_1000_choices_at_most(rt: HostRuntime) -> Result<(), Fail> {
-    assert!(rt; fault_of_choices(rt.alloc(), 1000)?.is_none());
-    assert!(rt; fault_of_choices(rt.alloc(), 1001)? == Some((1, FaultKind::OutOfRange)));
-    Ok(())
+    let most = with_choices(rt.alloc(), 1000)?;
+    check_first_line(&rt, most.as_slice(), None)?;
+    let more = with_choices(rt.alloc(), 1001)?;
+    check_first_line(&rt, more.as_slice(), Some((1, FaultKind::OutOfRange)))
 }

@@ -1,6 +1,6 @@
-use crate::tests::{Told, check_in_init, fault_in_init, joined};
-use kabi_types::{FaultKind, Memory};
-use std::alloc::Global;
+use crate::tests::{Told, check_in_init, check_line, joined};
+use kabi_types::FaultKind;
+use std::alloc::{AllocError, Global};
 use std::test::Fail;
 
 const UNKNOWN_IN_SET_AND_ADD: &[&str] = &[
@@ -318,12 +318,16 @@ fn statements_are_out_of_range(rt: HostRuntime) -> Result<(), Fail> {
     check_in_init(&rt, OUT_OF_RANGE, Some((2, FaultKind::OutOfRange)))
 }
 
-/// What is told of a line in a program: these words, and a text of so many bytes in quotes.
-fn fault_of_text(alloc: Global, words: &str, length: usize) -> Result<Told, Memory> {
+/// What stands before a text, and what ends it.
+const BEFORE_TEXT: &[u8] = b" \"";
+
+const QUOTE: &[u8] = b"\"";
+
+/// These words, and a text of so many bytes in quotes.
+fn with_text(alloc: Global, words: &str, length: usize) -> Result<Vec<u8>, AllocError> {
     let text = vec![in alloc; b'a'; length]?;
-    let opened = joined(alloc, words.as_bytes(), b" \"", text.as_slice())?;
-    let closed = joined(alloc, opened.as_slice(), b"\"", b"")?;
-    fault_in_init(alloc, closed.as_slice())
+    let opened = joined(alloc, words.as_bytes(), BEFORE_TEXT, text.as_slice())?;
+    joined(alloc, opened.as_slice(), QUOTE, &[])
 }
 
 /// Calls, the lengths of their text, and what is told of the line.
@@ -337,16 +341,16 @@ const LENGTHS: &[(&str, usize, Told)] = &[
     ("bind 3", 0, Some((2, FaultKind::NotBuilt))),
     ("bind 3", 255, Some((2, FaultKind::NotBuilt))),
     ("bind 3", 256, Some((2, FaultKind::OutOfRange))),
-    ("store r1", 0, Some((2, FaultKind::NotBuilt))),
-    ("store r1", 64, Some((2, FaultKind::NotBuilt))),
+    ("store r1", 0, None),
+    ("store r1", 64, None),
     ("store r1", 65, Some((2, FaultKind::OutOfRange))),
 ];
 
 #[test]
 fn paths_have_255_bytes_at_most_and_stores_64(rt: HostRuntime) -> Result<(), Fail> {
     for (words, length, wanted) in LENGTHS {
-        let told = fault_of_text(rt.alloc(), words, *length)?;
-        assert!(rt; told == *wanted, "{words} {length}");
+        let line = with_text(rt.alloc(), words, *length)?;
+        check_line(&rt, line.as_slice(), *wanted)?;
     }
     Ok(())
 }
@@ -361,6 +365,10 @@ const BUILT: &[&str] = &[
     "exit 0",
     "waitpid -1 WNOHANG",
     "kill 2 SIGKILL",
+    "mmap -0",
+    "munmap 4096 4096",
+    "store r1 \"\\x00\"",
+    "load 4096 64",
 ];
 
 /// Right calls that can't be run yet.
@@ -368,10 +376,6 @@ const NOT_BUILT: &[&str] = &[
     "exec \"\"",
     "exec \" a\\n\\\\\\\"\\x7F\\xff\"",
     "exec \"\u{1}\u{e9}\"",
-    "mmap -0",
-    "munmap 4096 4096",
-    "store r1 \"\\x00\"",
-    "load 4096 64",
     "open \"/a\" O_WRONLY|O_CREAT",
     "close 99",
     "dup -1",
@@ -418,11 +422,13 @@ const NOT_UTF_8: &[&[u8]] = &[
     b"set r1 1x\x80",
 ];
 
+/// A comment with a letter of two bytes.
+const ACCENTED: &[u8] = b"# \xc3\xa9";
+
 #[test]
 fn every_line_has_to_be_utf_8(rt: HostRuntime) -> Result<(), Fail> {
     for line in NOT_UTF_8 {
-        assert!(rt; fault_in_init(rt.alloc(), line)? == Some((2, FaultKind::NotUtf8)));
+        check_line(&rt, line, Some((2, FaultKind::NotUtf8)))?;
     }
-    assert!(rt; fault_in_init(rt.alloc(), b"# \xc3\xa9")?.is_none());
-    Ok(())
+    check_line(&rt, ACCENTED, None)
 }

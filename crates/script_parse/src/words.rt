@@ -57,11 +57,11 @@ fn hex_piece(bytes: &[u8]) -> Option<(Option<u8>, &[u8])>
 fn escape_piece(bytes: &[u8]) -> Option<(Option<u8>, &[u8])>
     ensures { option_map (λ p. (p.0, p.1.now)) result ≡ spec.escape_piece bytes.now }
 {
-    match bytes {
-        [b'n', rest @ ..] => Some((Some(b'\n'), rest)),
-        [b'\\', rest @ ..] => Some((Some(b'\\'), rest)),
-        [b'"', rest @ ..] => Some((Some(b'"'), rest)),
-        [b'x', rest @ ..] => hex_piece(rest),
+    let (code, rest) = bytes.split_first()?;
+    match *code {
+        b'n' => Some((Some(b'\n'), rest)),
+        b'\\' | b'"' => Some((Some(*code), rest)),
+        b'x' => hex_piece(rest),
         _ => None,
     }
 }
@@ -72,11 +72,11 @@ fn piece(bytes: &[u8]) -> Option<(Option<u8>, &[u8])>
     ensures first { option_map (λ p. (p.0, p.1.now)) result ≡ spec.piece bytes.now }
     ensures shorter { IsShorter bytes.now result }
 {
-    match bytes {
-        [b'"', rest @ ..] => Some((None, rest)),
-        [b'\\', rest @ ..] => escape_piece(rest),
-        [byte, rest @ ..] => Some((Some(*byte), rest)),
-        [] => None,
+    let (byte, rest) = bytes.split_first()?;
+    match *byte {
+        b'"' => Some((None, rest)),
+        b'\\' => escape_piece(rest),
+        _ => Some((Some(*byte), rest)),
     }
 }
 

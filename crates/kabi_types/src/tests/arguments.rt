@@ -317,70 +317,32 @@ const PATHS: &[(&[u8], Option<Errno>, Option<Errno>)] = &[
     (b"aaaaaaaaaaaaaaaaaaaaaaaaaaaa/..", TOO_LONG, TOO_LONG),
 ];
 
+/// Each call that takes one path, with this one.
+fn calls_with(rt: &impl Abort, named: &[u8]) -> [Call; 8] {
+    let path = path(rt, named);
+    [
+        Call::Exec { path: path.copy() },
+        Call::Stat { path: path.copy() },
+        Call::Chdir { path: path.copy() },
+        Call::Mkdir { path: path.copy() },
+        Call::Rmdir { path: path.copy() },
+        Call::Unlink { path: path.copy() },
+        Call::Bind {
+            fd: 99,
+            path: path.copy(),
+        },
+        Call::Connect { fd: 99, path },
+    ]
+}
+
 #[test]
 fn a_path_is_checked_everywhere(rt: HostRuntime) {
     for (named, fault, renamed) in PATHS {
-        let (fd, fault) = (99, *fault);
-        is_checked(
-            &rt,
-            &Call::Exec {
-                path: path(&rt, named),
-            },
-            fault,
-        );
-        is_checked(
-            &rt,
-            &Call::Stat {
-                path: path(&rt, named),
-            },
-            fault,
-        );
-        is_checked(
-            &rt,
-            &Call::Chdir {
-                path: path(&rt, named),
-            },
-            fault,
-        );
-        is_checked(
-            &rt,
-            &Call::Mkdir {
-                path: path(&rt, named),
-            },
-            fault,
-        );
-        is_checked(
-            &rt,
-            &Call::Rmdir {
-                path: path(&rt, named),
-            },
-            fault,
-        );
-        is_checked(
-            &rt,
-            &Call::Unlink {
-                path: path(&rt, named),
-            },
-            fault,
-        );
-        is_checked(
-            &rt,
-            &Call::Bind {
-                fd,
-                path: path(&rt, named),
-            },
-            fault,
-        );
-        is_checked(
-            &rt,
-            &Call::Connect {
-                fd,
-                path: path(&rt, named),
-            },
-            fault,
-        );
-        are_checked(&rt, named, b"b", fault, *renamed);
-        are_checked(&rt, b"b", named, fault, *renamed);
+        for call in &calls_with(&rt, named) {
+            is_checked(&rt, call, *fault);
+        }
+        are_checked(&rt, named, b"b", *fault, *renamed);
+        are_checked(&rt, b"b", named, *fault, *renamed);
     }
 }
 
