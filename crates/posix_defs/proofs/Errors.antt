@@ -8,16 +8,19 @@ use Rattle.kabi_types.specs.PathParts.{components, ends_in_dots, is_long}
 use Rattle.kabi_types.specs.declared.calls.Call.{Call}
 use Rattle.kabi_types.specs.declared.calls.Call.TheVariants as call
 use Rattle.kabi_types.specs.declared.errnos.Errno.{Errno}
-use Rattle.kabi_types.specs.declared.errnos.Errno.TheVariants.{EAGAIN, ECHILD, EFAULT, EINVAL, ENAMETOOLONG, ENOENT, ENOMEM, EPERM, ESRCH}
+use Rattle.kabi_types.specs.declared.errnos.Errno.TheVariants.{EAGAIN, ECHILD, EFAULT, EINVAL, EMFILE, ENAMETOOLONG, ENOENT, ENOMEM, EPERM, ESRCH}
 use Rattle.kabi_types.specs.declared.replies.Reply.{Reply}
-use Rattle.kabi_types.specs.declared.replies.Reply.TheVariants.{Fail, Val}
+use Rattle.kabi_types.specs.declared.replies.Reply.TheVariants.{Bytes, Fail, Val}
 use Rattle.kabi_types.specs.declared.scripts.Script.{Script}
-use Rattle.posix_defs.specs.Process.{Process, process_at, runs}
+use Rattle.posix_defs.specs.Process.{Process, memory_of, process_at, runs}
 use Rattle.posix_defs.specs.Plain.{Plain, answered, last_pid}
 use Rattle.posix_defs.specs.Answer.{Answer, Blocked, Done, Ended, failed, replied}
 use Rattle.posix_defs.specs.Ending.{die}
 use Rattle.posix_defs.specs.Forking.{is_full, with_child}
 use Rattle.posix_defs.specs.Killing.{ends, is_asking, sent_to}
+use Rattle.posix_defs.specs.Memory.{is_mapped_range, loaded, lowest_run, stored}
+use Rattle.posix_defs.specs.MemoryCalls.{mapped_from, remembered}
+use Rattle.posix_defs.specs.Needs.{pages_in}
 use Rattle.posix_defs.specs.Machine.{answer_to, machine, unless_wrong}
 use Rattle.posix_defs.specs.Waiting.{Exited, any_from, exited_from, is_nohang, not_yet, waited_for}
 
@@ -37,6 +40,12 @@ differs_perm e = cc
 
 differs_again : EAGAIN ≢ ENOMEM
 differs_again e = cc
+
+differs_address : EFAULT ≢ ENOMEM
+differs_address e = cc
+
+differs_files : EMFILE ≢ ENOMEM
+differs_files e = cc
 
 differs_inval : EINVAL ≢ ENOMEM
 differs_inval e = cc
@@ -60,6 +69,10 @@ sent_alone script plain pid target signal (Some process) =
     (either script plain pid (runs process.status) (if target == pid then Ended 9 (die plain pid 9) else replied script (die plain target 9) pid (Val (pos 0))) (replied script plain pid (Val (pos 0)))
     (either script plain pid (target == pid) (Ended 9 (die plain pid 9)) (replied script (die plain target 9) pid (Val (pos 0))) tt tt) tt))
 
+maps_alone : (script : Script) (plain : Plain) (pid count : ℕ) (first : Option ℕ) → FailsAlone script plain pid (mapped_from script plain pid count first)
+maps_alone script plain pid count None = (refl, differs_files)
+maps_alone script plain pid count (Some first) = tt
+
 right_alone : (script : Script) (plain : Plain) (pid : ℕ) (which : Call) → FailsAlone script plain pid (answer_to script plain pid which)
 right_alone script plain pid call.Getpid = tt
 right_alone script plain pid call.Getppid = tt
@@ -70,6 +83,16 @@ right_alone script plain pid (call.Exit status) = tt
 right_alone script plain pid (call.Waitpid which options) = waits_alone script plain pid which options (exited_from pid which 1 plain.table)
 right_alone script plain pid (call.Kill (pos target) signal) = sent_alone script plain pid target signal (process_at plain.table target)
 right_alone script plain pid (call.Kill (negsuc _) signal) = (refl, differs_search)
+right_alone script plain pid (call.Mmap size) = maps_alone script plain pid (pages_in (count_of size)) (lowest_run (memory_of plain.table pid) (pages_in (count_of size)))
+right_alone script plain pid (call.Munmap addr size) = tt
+right_alone script plain pid (call.Store addr bytes) =
+    either script plain pid (is_mapped_range (memory_of plain.table pid) (count_of addr) (length bytes))
+    (replied script (remembered plain pid (stored (memory_of plain.table pid) (count_of addr) bytes)) pid (Val (pos (length bytes)))) (failed script plain pid EFAULT)
+    tt (refl, differs_address)
+right_alone script plain pid (call.Load addr n) =
+    either script plain pid (is_mapped_range (memory_of plain.table pid) (count_of addr) (count_of n))
+    (replied script plain pid (Bytes (loaded (memory_of plain.table pid) (count_of addr) (count_of n)))) (failed script plain pid EFAULT)
+    tt (refl, differs_address)
 right_alone script plain pid _ = (refl, differs_inval)
 
 -- a fault of the operands isn't ENOMEM

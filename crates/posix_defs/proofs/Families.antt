@@ -1,21 +1,21 @@
 -- Every machine that is reached keeps what a table of processes keeps.
-use Rattle.std.proofs.Common.{◌≡◌, ◌≢◌, ℕ, zero, suc, ◌+◌, ◌<◌, ◌≤◌, ◌==◌, ℤ, pos, negsuc, Bool, true, false, cond, List, [], ◌∷◌, ◌++◌, length, map, if◌then◌else◌, Option, None, Some, refl, ap, sym, ◌∙◌, subst, arith, ◌⊎◌, inl, inr, length-append, slice_get, unwrap_or}
+use Rattle.std.proofs.Common.{◌≡◌, ◌≢◌, ℕ, zero, suc, ◌+◌, ◌*◌, ◌/◌, ◌<◌, ◌≤◌, ◌==◌, ℤ, pos, negsuc, Bool, true, false, cond, List, [], ◌∷◌, ◌++◌, length, map, if◌then◌else◌, Option, None, Some, refl, ap, sym, ◌∙◌, subst, arith, ◌⊎◌, inl, inr, length-append, slice_get, unwrap_or}
 use Rattle.std.specs.Option.{option_or}
 use Rattle.std.proofs.lemmas.Bool.Decides.{eqb_tells}
 use Rattle.std.proofs.lemmas.List.{length-set, length-map}
-use Rattle.kabi_types.specs.Arguments.{argument_fault}
+use Rattle.kabi_types.specs.Arguments.{argument_fault, count_of, page_size}
 use Rattle.kabi_types.specs.declared.calls.Call.{Call}
 use Rattle.kabi_types.specs.declared.calls.CallKind.{CallKind}
 use Rattle.kabi_types.specs.declared.calls.Call.TheVariants as call
 use Rattle.kabi_types.specs.declared.entries.Entry.{Entry}
 use Rattle.kabi_types.specs.declared.entries.Entry.TheVariants as entry
 use Rattle.kabi_types.specs.declared.errnos.Errno.{Errno}
-use Rattle.kabi_types.specs.declared.errnos.Errno.TheVariants.{EAGAIN, ECHILD, EINVAL, ENOMEM, EPERM, ESRCH}
+use Rattle.kabi_types.specs.declared.errnos.Errno.TheVariants.{EAGAIN, ECHILD, EFAULT, EINVAL, EMFILE, ENOMEM, EPERM, ESRCH}
 use Rattle.kabi_types.specs.declared.replies.Reply.{Reply}
-use Rattle.kabi_types.specs.declared.replies.Reply.TheVariants.{Fail, Val, Waited}
+use Rattle.kabi_types.specs.declared.replies.Reply.TheVariants.{Bytes, Fail, Val, Waited}
 use Rattle.kabi_types.specs.declared.scripts.Script.{Script}
 use Rattle.posix_defs.specs.ByPid.{with_pid}
-use Rattle.posix_defs.specs.Process.{Process, Table, Alive, Ended, Status, process_at, is_alive, is_alive_in, parent_of, runs}
+use Rattle.posix_defs.specs.Process.{Process, Table, Alive, Ended, Status, process_at, is_alive, is_alive_in, memory_of, parent_of, runs}
 use Rattle.posix_defs.specs.Plain.{Plain, answered, call_of, first_process, with_table, last_pid}
 use Rattle.posix_defs.specs.Answer as answer
 use Rattle.posix_defs.specs.Answer.{Answer, failed, replied}
@@ -25,9 +25,13 @@ use Rattle.posix_defs.specs.Forking.{with_child, child_of, is_full}
 use Rattle.posix_defs.specs.History as history
 use Rattle.posix_defs.specs.History.{Past, IsAnswered, IsRun, MayFollow, boot_past}
 use Rattle.posix_defs.specs.Killing.{kill, ends, is_asking, sent_to}
+use Rattle.posix_defs.specs.Memory.{Memory, is_mapped_range, loaded, lowest_run, no_memory, stored, with_pages, without_pages}
+use Rattle.posix_defs.specs.MemoryCalls.{mapped_from, remembered}
+use Rattle.posix_defs.specs.Needs.{pages_in, pages_touched}
 use Rattle.posix_defs.specs.Machine.{answer_to, machine, unless_wrong}
 use Rattle.posix_defs.specs.Waiting.{Exited, any_from, exited_from, exited_in, has_ended, is_nohang, not_yet, matches, wait_status, waited_for, waitpid}
 use Rattle.posix_defs.proofs.LivingVictim.{victim_lives}
+use Rattle.posix_defs.proofs.Remembering.{remembers_on}
 use Rattle.posix_defs.proofs.TablePlaces.{was_made, same_in_front, in_longer, with_other, with_same, is_gone, each_changed}
 
 -- who is alive is there
@@ -206,7 +210,7 @@ left_family table pid status family alive apart_first = record { first = first; 
     at_other other apart = with_other (map (left_behind pid) table) pid other (ended_as status (process_at table pid)) apart
         ∙ each_changed (left_behind pid) table other refl
 
-    at_pid : process_at new pid ≡ Some (record there.0 { status = Ended status })
+    at_pid : process_at new pid ≡ Some (record there.0 { status = Ended status; memory = no_memory })
     at_pid = with_same (map (left_behind pid) table) pid (ended_as status (process_at table pid)) made.0
         (subst (λ n. pid ≤ n) (sym (length-map table (left_behind pid))) made.1)
         ∙ ap (ended_as status) there.1
@@ -223,7 +227,7 @@ left_family table pid status family alive apart_first = record { first = first; 
     was other process is = elim (eqb_tells other pid) [
       | inl same ↦ inl (
         same.1,
-        ap (λ p. p.parent) (some_same (process_at new pid) process (record there.0 { status = Ended status })
+        ap (λ p. p.parent) (some_same (process_at new pid) process (record there.0 { status = Ended status; memory = no_memory })
             (subst (λ p. process_at new p ≡ Some process) same.1 is) at_pid),
       )
       | inr apart ↦ inr (go (process_at table other) refl apart.1)
@@ -465,6 +469,17 @@ kills_on script plain pid (pos target) signal kept alive = go (process_at plain.
         (λ lives. ending process (dies_on plain target 9 kept (ap is_alive_in e ∙ lives)))
         (λ _. unchanged (Val (pos 0)))))
 
+-- something is put in the caller's memory, and it is answered
+remembers : (script : Script) (plain : Plain) (pid : ℕ) (memory : Memory) (reply : Reply) → IsKept plain
+    → LeadsOn plain (answered script (remembered plain pid memory) pid reply)
+remembers script plain pid memory reply kept = replied_leads script plain (remembered plain pid memory) pid reply (remembers_on plain pid memory kept)
+
+-- `mmap` keeps what is kept
+maps_on : (script : Script) (plain : Plain) (pid count : ℕ) (first : Option ℕ) → IsKept plain → KeepsOn plain (mapped_from script plain pid count first)
+maps_on script plain pid count None kept = replied_leads script plain plain pid (Fail EMFILE) (stays_put plain kept)
+maps_on script plain pid count (Some first) kept =
+    remembers script plain pid (with_pages (memory_of plain.table pid) first count) (Val (pos (page_size * first))) kept
+
 -- whatever is answered to right operands keeps what is kept
 right_on : (script : Script) (plain : Plain) (pid : ℕ) (which : Call) → IsKept plain → is_alive plain.table pid ≡ true
     → KeepsOn plain (answer_to script plain pid which)
@@ -478,6 +493,18 @@ right_on script plain pid call.Fork kept alive =
 right_on script plain pid (call.Exit status) kept alive = dies_on plain pid (exit_status status) kept alive
 right_on script plain pid (call.Waitpid which options) kept alive = waits_on script plain pid which options kept
 right_on script plain pid (call.Kill target signal) kept alive = kills_on script plain pid target signal kept alive
+right_on script plain pid (call.Mmap size) kept alive = maps_on script plain pid (pages_in (count_of size)) (lowest_run (memory_of plain.table pid) (pages_in (count_of size))) kept
+right_on script plain pid (call.Munmap addr size) kept alive = remembers script plain pid (without_pages (memory_of plain.table pid) (count_of addr / page_size) (pages_touched (count_of addr) (count_of size))) (Val (pos 0)) kept
+right_on script plain pid (call.Store addr bytes) kept alive =
+    by_test plain (is_mapped_range (memory_of plain.table pid) (count_of addr) (length bytes))
+    (replied script (remembered plain pid (stored (memory_of plain.table pid) (count_of addr) bytes)) pid (Val (pos (length bytes)))) (failed script plain pid EFAULT)
+    (λ _. remembers script plain pid (stored (memory_of plain.table pid) (count_of addr) bytes) (Val (pos (length bytes))) kept)
+    (λ _. replied_leads script plain plain pid (Fail EFAULT) (stays_put plain kept))
+right_on script plain pid (call.Load addr n) kept alive =
+    by_test plain (is_mapped_range (memory_of plain.table pid) (count_of addr) (count_of n))
+    (replied script plain pid (Bytes (loaded (memory_of plain.table pid) (count_of addr) (count_of n)))) (failed script plain pid EFAULT)
+    (λ _. replied_leads script plain plain pid (Bytes (loaded (memory_of plain.table pid) (count_of addr) (count_of n))) (stays_put plain kept))
+    (λ _. replied_leads script plain plain pid (Fail EFAULT) (stays_put plain kept))
 right_on script plain pid _ kept alive = replied_leads script plain plain pid (Fail EINVAL) (stays_put plain kept)
 
 -- whatever the machine answers keeps what is kept

@@ -9,6 +9,7 @@ use Rattle.kabi_types.specs.declared.replies.Reply.TheVariants.{Val}
 use Rattle.posix_defs.specs.declared.phases.Asked.{Asked}
 use Rattle.posix_defs.specs.declared.phases.Phase.TheVariants.{User, Waiting, Admitted}
 use Rattle.posix_defs.specs.declared.turner.Turned.TheVariants as turned
+use Rattle.posix_defs.specs.Memory.{no_places}
 use Rattle.posix_defs.specs.Needs.{bound}
 use Rattle.posix_defs.specs.Plain.{answered, boot_plain, call_of}
 use Rattle.posix_defs.specs.Ending.{die}
@@ -58,13 +59,14 @@ always_fits : 0 ≤ 5376
 always_fits = omega arith
 
 asks_pid : Steps first_script (boot_state first_script) (noted (Ask 1) kind.Getpid None 2816) after_one
-unfolding bound
+unfolding bound no_places
 asks_pid = inl (record { enabled = refl; fits_ever = always_fits; after = refl; noted_so = refl })
 
 has_room : 2816 + 0 ≤ 8192
 has_room = omega arith
 
 admits_pid : Steps first_script after_one (noted (Admit 1) kind.Getpid None 2816) after_two
+unfolding no_places
 admits_pid = record { enabled = record { waits = record { asked = for_pid; is = refl }; room = has_room }; after = refl; noted_so = refl }
 
 grows_by : (n k : ℕ) → n ≤ n + k
@@ -74,6 +76,7 @@ falls_to : (n k : ℕ) → 128 ≤ 640 + k
 falls_to n k = omega arith
 
 tells_pid : Steps first_script after_two (noted (Turn 1) kind.Getpid (Some (entry.Done 1 kind.Getpid (Val (pos 1)))) 2816) after_three
+unfolding no_places
 tells_pid = record {
   enabled = record { asked = for_pid; is = refl };
   told = turned.Done (Val (pos 1));
@@ -83,13 +86,15 @@ tells_pid = record {
 }
 
 asks_exit : Steps first_script after_three (noted (Ask 1) kind.Exit None 2816) after_four
-unfolding bound
+unfolding bound no_places
 asks_exit = inl (record { enabled = refl; fits_ever = always_fits; after = refl; noted_so = refl })
 
 admits_exit : Steps first_script after_four (noted (Admit 1) kind.Exit None 2816) after_five
+unfolding no_places
 admits_exit = record { enabled = record { waits = record { asked = for_exit; is = refl }; room = has_room }; after = refl; noted_so = refl }
 
 exits : Steps first_script after_five (noted (Turn 1) kind.Exit (Some (entry.Ended 1 kind.Exit 0)) 2304) after_six
+unfolding no_places
 exits = record {
   enabled = record { asked = for_exit; is = refl };
   told = turned.Ended 0;
@@ -99,6 +104,7 @@ exits = record {
 }
 
 pub first_is_run : IsCoreRun first_script 1000 first_run after_six
+unfolding no_places
 first_is_run = goes_on _ _ _ _ (goes_on _ _ _ _ (goes_on _ _ _ _ (goes_on _ _ _ _ (goes_on _ _ _ _ (goes_on [] _ _ _ boots refl tt asks_pid) refl tt admits_pid) refl tt tells_pid) refl tt asks_exit) refl tt admits_exit) refl tt exits
 
 two_is_not_one : ◌≡◌ {A = ℕ} 2 1 → ⊥
@@ -136,6 +142,7 @@ no_other_pid s run =
     ∙ ap (λ told. value_in (Some (entry_of 1 third.2.enabled.asked.kind told))) tells.0)
 
 pub no_other_charge : (s : CoreState) → IsCoreRun first_script 1000 (pid_run 2817 (pos 1)) s → ⊥
+unfolding no_places
 no_other_charge s run =
     let third = last_step run (noted (Ask 1) kind.Getpid None 2817 ∷ noted (Admit 1) kind.Getpid None 2816 ∷ []) _ refl in
     let second = last_step third.1 (noted (Ask 1) kind.Getpid None 2817 ∷ []) _ refl in

@@ -1,5 +1,6 @@
 pub mod TablePlaces
 pub mod LivingVictim
+pub mod Remembering
 pub mod Families
 pub mod Errors
 pub mod TwoRun

@@ -1,27 +1,31 @@
 -- How the machine goes on behind a call: who is alive then, and whose control stays.
-use Rattle.std.proofs.Common.{◌≡◌, ◌≢◌, ℕ, zero, suc, ◌+◌, ◌<◌, ◌≤◌, ◌==◌, if◌then◌else◌, Bool, true, false, cond, ℤ, pos, negsuc, List, [], ◌∷◌, ◌++◌, length, map, Option, None, Some, slice_get, slice_set, unwrap_or, refl, ap, sym, ◌∙◌, subst, arith, inl, inr, length-append}
+use Rattle.std.proofs.Common.{◌≡◌, ◌≢◌, ℕ, zero, suc, ◌+◌, ◌*◌, ◌/◌, ◌<◌, ◌≤◌, ◌==◌, if◌then◌else◌, Bool, true, false, cond, ℤ, pos, negsuc, List, [], ◌∷◌, ◌++◌, length, map, Option, None, Some, slice_get, slice_set, unwrap_or, refl, ap, sym, ◌∙◌, subst, arith, inl, inr, length-append}
 use Rattle.std.proofs.lemmas.Bool.Decides.{eqb_tells}
 use Rattle.std.proofs.lemmas.List.{length-set, length-map}
 use Rattle.kabi_types.specs.declared.calls.Call.{Call}
 use Rattle.kabi_types.specs.declared.calls.Call.TheVariants as call
-use Rattle.kabi_types.specs.Arguments.{argument_fault}
+use Rattle.kabi_types.specs.Arguments.{argument_fault, count_of, page_size}
 use Rattle.kabi_types.specs.declared.errnos.Errno.{Errno}
-use Rattle.kabi_types.specs.declared.errnos.Errno.TheVariants.{EAGAIN, ECHILD, EINVAL, EPERM, ESRCH}
+use Rattle.kabi_types.specs.declared.errnos.Errno.TheVariants.{EAGAIN, ECHILD, EFAULT, EINVAL, EMFILE, EPERM, ESRCH}
 use Rattle.kabi_types.specs.declared.replies.Reply.{Reply}
-use Rattle.kabi_types.specs.declared.replies.Reply.TheVariants.{Val, Waited, Fail}
+use Rattle.kabi_types.specs.declared.replies.Reply.TheVariants.{Bytes, Val, Waited, Fail}
 use Rattle.kabi_types.specs.declared.scripts.Script.{Script}
 use Rattle.posix_defs.specs.ByPid.{at_pid, with_pid}
-use Rattle.posix_defs.specs.Process.{Process, Table, Status, Alive, Ended, parent_of, process_at, is_alive, is_alive_in, runs}
+use Rattle.posix_defs.specs.Process.{Process, Table, Status, Alive, Ended, memory_of, parent_of, process_at, is_alive, is_alive_in, runs}
 use Rattle.posix_defs.specs.Plain.{Plain, answered, control_of, last_pid, root, at_start}
 use Rattle.posix_defs.specs.Answer.{Answer, Blocked, Done, Part, failed, replied}
 use Rattle.posix_defs.specs.Answer as answer
 use Rattle.posix_defs.specs.Ending.{die, die_in, leaves, left_behind, left_child, ended_as, exit_status}
 use Rattle.posix_defs.specs.Forking.{child_of, is_full, with_child}
 use Rattle.posix_defs.specs.Killing.{ends, is_asking, kill, sent_to}
+use Rattle.posix_defs.specs.Memory.{Memory, is_mapped_range, loaded, lowest_run, no_memory, stored, without_pages}
+use Rattle.posix_defs.specs.MemoryCalls.{mapped_from, remembered}
+use Rattle.posix_defs.specs.Needs.{pages_in, pages_touched}
 use Rattle.posix_defs.specs.Machine.{answer_to, machine, unless_wrong}
 use Rattle.posix_defs.specs.Waiting.{Exited, any_from, exited_from, is_nohang, not_yet, reaped, waited_for, waitpid}
 use Rattle.posix_defs.specs.SoundTasks.{AllAtHome}
 use Rattle.posix_defs.proofs.Families.{exited_has_ended, still_alive}
+use Rattle.posix_defs.proofs.Remembering.{alive_still, found_before, length-with_memory}
 use Rattle.posix_defs.proofs.TablePlaces.{at_end, each_changed, in_longer, is_gone, same_in_front, was_made, with_other, with_same}
 
 -- The machine goes on behind a call of a process.
@@ -158,7 +162,7 @@ leaves_home table pid status home other process is = elim (eqb_tells other pid) 
 
     as_ended : (there : Option Process) → ended_as status there ≡ Some process → (old : Process) × (there ≡ Some old) × (process.directory ≡ old.directory)
     as_ended None e = cc
-    as_ended (Some old) e = (old, refl, (let same : process ≡ record old { status = Ended status } = (cc) in ap (λ p. p.directory) same))
+    as_ended (Some old) e = (old, refl, (let same : process ≡ record old { status = Ended status; memory = no_memory } = (cc) in ap (λ p. p.directory) same))
 
     at_end : other ≡ pid → process.directory ≡ root
     at_end same =
@@ -378,6 +382,29 @@ kills_goes script plain pid (pos target) signal made alive = go (process_at plai
         (die_keeps plain.table target pid 9 (not_equal target 1 first) (λ same. not_equal target pid apart (sym same)) alive)))
         (λ _. told_goes script plain pid (Val (pos 0)) made alive)))
 
+-- something is put in the caller's memory
+remembered_next : (plain : Plain) (pid : ℕ) (memory : Memory) → length plain.table ≡ last_pid plain → IsNext plain (remembered plain pid memory) pid
+remembered_next plain pid memory made = record {
+  more = omega arith;
+  one = omega arith;
+  made = length-with_memory plain.table pid memory ∙ made;
+  controls = λ other apart within. refl;
+  revived = λ other within alive. sym (alive_still plain.table pid other memory) ∙ alive;
+  born = λ other past within. absurd (omega arith);
+  home = λ home other process is. let old = found_before plain.table pid other memory process is in old.2.directory ∙ home other old.0 old.1;
+}
+
+-- a reply of a call that puts something in its caller's memory
+remembers_goes : (script : Script) (plain : Plain) (pid : ℕ) (memory : Memory) (reply : Reply) → length plain.table ≡ last_pid plain → is_alive plain.table pid ≡ true
+    → AnswerGoes plain pid (replied script (remembered plain pid memory) pid reply)
+remembers_goes script plain pid memory reply made alive =
+    replied_goes script plain (remembered plain pid memory) pid reply (remembered_next plain pid memory made) (alive_still plain.table pid pid memory ∙ alive)
+
+maps_goes : (script : Script) (plain : Plain) (pid count : ℕ) (first : Option ℕ) → length plain.table ≡ last_pid plain → is_alive plain.table pid ≡ true
+    → AnswerGoes plain pid (mapped_from script plain pid count first)
+maps_goes script plain pid count None made alive = told_goes script plain pid (Fail EMFILE) made alive
+maps_goes script plain pid count (Some first) made alive = remembers_goes script plain pid _ (Val (pos (page_size * first))) made alive
+
 -- every call that is built
 right_goes : (script : Script) (plain : Plain) (pid : ℕ) (which : Call) → length plain.table ≡ last_pid plain → is_alive plain.table pid ≡ true
     → AnswerGoes plain pid (answer_to script plain pid which)
@@ -393,6 +420,16 @@ right_goes script plain pid (call.Exit status) made alive =
     (die_next plain pid pid (exit_status status) made, die_ends plain.table pid (exit_status status))
 right_goes script plain pid (call.Waitpid which options) made alive = waits_goes script plain pid which options made alive
 right_goes script plain pid (call.Kill target signal) made alive = kills_goes script plain pid target signal made alive
+right_goes script plain pid (call.Mmap size) made alive = maps_goes script plain pid (pages_in (count_of size)) (lowest_run (memory_of plain.table pid) (pages_in (count_of size))) made alive
+right_goes script plain pid (call.Munmap addr size) made alive = remembers_goes script plain pid (without_pages (memory_of plain.table pid) (count_of addr / page_size) (pages_touched (count_of addr) (count_of size))) (Val (pos 0)) made alive
+right_goes script plain pid (call.Store addr bytes) made alive =
+    by_test plain pid (is_mapped_range (memory_of plain.table pid) (count_of addr) (length bytes))
+    (replied script (remembered plain pid (stored (memory_of plain.table pid) (count_of addr) bytes)) pid (Val (pos (length bytes)))) (failed script plain pid EFAULT)
+    (λ _. remembers_goes script plain pid (stored (memory_of plain.table pid) (count_of addr) bytes) (Val (pos (length bytes))) made alive) (λ _. told_goes script plain pid (Fail EFAULT) made alive)
+right_goes script plain pid (call.Load addr n) made alive =
+    by_test plain pid (is_mapped_range (memory_of plain.table pid) (count_of addr) (count_of n))
+    (replied script plain pid (Bytes (loaded (memory_of plain.table pid) (count_of addr) (count_of n)))) (failed script plain pid EFAULT)
+    (λ _. told_goes script plain pid (Bytes (loaded (memory_of plain.table pid) (count_of addr) (count_of n))) made alive) (λ _. told_goes script plain pid (Fail EFAULT) made alive)
 right_goes script plain pid _ made alive = told_goes script plain pid (Fail EINVAL) made alive
 
 pub posix_goes : (script : Script) (plain : Plain) (pid : ℕ) (which : Call) → length plain.table ≡ last_pid plain → is_alive plain.table pid ≡ true

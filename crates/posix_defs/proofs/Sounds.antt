@@ -7,11 +7,11 @@ use Rattle.kabi_types.specs.declared.calls.Call.TheVariants as call
 use Rattle.kabi_types.specs.declared.entries.Event.{Event}
 use Rattle.kabi_types.specs.declared.entries.Event.TheVariants.{Ask, Admit, Turn, Wake, Abandon, Evict, Kill}
 use Rattle.kabi_types.specs.declared.entries.Noted.{Noted}
-use Rattle.kabi_types.specs.Arguments.{argument_fault}
+use Rattle.kabi_types.specs.Arguments.{argument_fault, count_of}
 use Rattle.kabi_types.specs.declared.errnos.Errno.{Errno}
-use Rattle.kabi_types.specs.declared.errnos.Errno.TheVariants.{EAGAIN, ECHILD, ENOMEM, EPERM}
+use Rattle.kabi_types.specs.declared.errnos.Errno.TheVariants.{EAGAIN, ECHILD, EFAULT, ENOMEM, EPERM}
 use Rattle.kabi_types.specs.declared.replies.Reply.{Reply}
-use Rattle.kabi_types.specs.declared.replies.Reply.TheVariants.{Fail, Val}
+use Rattle.kabi_types.specs.declared.replies.Reply.TheVariants.{Bytes, Fail, Val}
 use Rattle.kabi_types.specs.declared.scripts.Control.{Control}
 use Rattle.kabi_types.specs.declared.scripts.Script.{Script}
 use Rattle.posix_defs.specs.declared.phases.Asked.{Asked}
@@ -19,9 +19,8 @@ use Rattle.posix_defs.specs.declared.phases.Phase.{Phase}
 use Rattle.posix_defs.specs.declared.phases.Phase.TheVariants.{User, Waiting, Admitted, Asleep, Stranded, Dead}
 use Rattle.posix_defs.specs.declared.phases.Task.{Task}
 use Rattle.posix_defs.specs.declared.turner.Turned.{Turned}
-use Rattle.posix_defs.specs.Needs.{bound}
 use Rattle.posix_defs.specs.Sizes.{room}
-use Rattle.posix_defs.specs.Process.{Process, is_alive, process_at, runs}
+use Rattle.posix_defs.specs.Process.{Process, is_alive, memory_of, process_at, runs}
 use Rattle.posix_defs.specs.Plain.{Plain, answered, call_of, control_of, first_process, last_pid, root}
 use Rattle.posix_defs.specs.Control as program
 use Rattle.posix_defs.specs.Answer.{Answer, Blocked, Done, Part, failed, replied}
@@ -29,6 +28,9 @@ use Rattle.posix_defs.specs.Answer as answer
 use Rattle.posix_defs.specs.Ending.{die}
 use Rattle.posix_defs.specs.Forking.{is_full, with_child}
 use Rattle.posix_defs.specs.Killing.{ends, is_asking, sent_to}
+use Rattle.posix_defs.specs.Memory.{is_mapped_range, loaded, lowest_run, stored}
+use Rattle.posix_defs.specs.MemoryCalls.{mapped_from, remembered}
+use Rattle.posix_defs.specs.Needs.{bound, pages_in}
 use Rattle.posix_defs.specs.Machine.{answer_to, machine, unless_wrong}
 use Rattle.posix_defs.specs.Waiting.{Exited, any_from, exited_from, is_nohang, not_yet, waited_for}
 use Rattle.posix_defs.specs.Turn.{Tells}
@@ -120,6 +122,11 @@ sent_moves script plain pid target signal (Some process) =
     (either_moves (runs process.status) (if target == pid then answer.Ended 9 (die plain pid 9) else replied script (die plain target 9) pid (Val (pos 0))) (replied script plain pid (Val (pos 0)))
     (either_moves (target == pid) (answer.Ended 9 (die plain pid 9)) (replied script (die plain target 9) pid (Val (pos 0))) tt tt) tt))
 
+maps_move : (script : Script) (plain : Plain) (pid count : ℕ) (first : Option ℕ) → NoPart (mapped_from script plain pid count first)
+unfolding NoPart
+maps_move script plain pid count None = tt
+maps_move script plain pid count (Some first) = tt
+
 right_moves : (script : Script) (plain : Plain) (pid : ℕ) (which : Call) → NoPart (answer_to script plain pid which)
 unfolding NoPart
 right_moves script plain pid call.Fork =
@@ -128,6 +135,13 @@ right_moves script plain pid (call.Exit status) = tt
 right_moves script plain pid (call.Waitpid which options) = waits_move script plain pid which options (exited_from pid which 1 plain.table)
 right_moves script plain pid (call.Kill (pos target) signal) = sent_moves script plain pid target signal (process_at plain.table target)
 right_moves script plain pid (call.Kill (negsuc n) signal) = tt
+right_moves script plain pid (call.Mmap size) = maps_move script plain pid (pages_in (count_of size)) (lowest_run (memory_of plain.table pid) (pages_in (count_of size)))
+right_moves script plain pid (call.Store addr bytes) =
+    either_moves (is_mapped_range (memory_of plain.table pid) (count_of addr) (length bytes))
+    (replied script (remembered plain pid (stored (memory_of plain.table pid) (count_of addr) bytes)) pid (Val (pos (length bytes)))) (failed script plain pid EFAULT) tt tt
+right_moves script plain pid (call.Load addr n) =
+    either_moves (is_mapped_range (memory_of plain.table pid) (count_of addr) (count_of n))
+    (replied script plain pid (Bytes (loaded (memory_of plain.table pid) (count_of addr) (count_of n)))) (failed script plain pid EFAULT) tt tt
 right_moves script plain pid _ = tt
 
 posix_moves : (script : Script) (plain : Plain) (pid : ℕ) (which : Call) → NoPart (machine script plain pid which)

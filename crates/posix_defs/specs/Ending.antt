@@ -2,6 +2,7 @@
 use Rattle.std.specs.Prelude.{ℕ, zero, suc, ◌==◌, ◌*◌, ◌%◌, ℤ, if◌then◌else◌, map, Option, None, Some}
 use Rattle.std.specs.Int.{w64, cast_unsigned}
 use Rattle.posix_defs.specs.ByPid.{with_pid}
+use Rattle.posix_defs.specs.Memory.{no_memory}
 use Rattle.posix_defs.specs.Process.{Table, Process, Status, Alive, Ended, process_at}
 use Rattle.posix_defs.specs.Plain.{Plain, with_table}
 
@@ -16,9 +17,9 @@ left_behind pid (Some process) = if process.parent == pid then left_child proces
 
 abbrev pub ended_as : ℕ → Option Process → Option Process
 ended_as status None = None
-ended_as status (Some process) = Some (record process { status = Ended status })
+ended_as status (Some process) = Some (record process { status = Ended status; memory = no_memory })
 
--- a process that ends leaves its children, and stays until its parent waits for it
+-- a process that ends leaves its children, and stays without its memory until its parent waits for it
 abbrev pub leaves : Table → ℕ → ℕ → Table
 leaves table pid status = with_pid (map (left_behind pid) table) pid (ended_as status (process_at table pid))
 

@@ -27,6 +27,7 @@ pub mod Family
 pub mod Forking
 pub mod Waiting
 pub mod Killing
+pub mod MemoryCalls
 pub mod Machine
 pub mod World
 pub mod Turn

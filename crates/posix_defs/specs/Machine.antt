@@ -15,6 +15,7 @@ use Rattle.posix_defs.specs.Ending.{die, exit_status}
 use Rattle.posix_defs.specs.Forking.{fork}
 use Rattle.posix_defs.specs.Waiting.{waitpid}
 use Rattle.posix_defs.specs.Killing.{kill}
+use Rattle.posix_defs.specs.MemoryCalls.{mmap, munmap, store, load}
 
 -- what is answered where no operand is wrong: one case for each call that is built; one that isn't is answered EINVAL, and no
 -- script that is read makes one
@@ -26,6 +27,10 @@ answer_to script plain pid call.Fork = fork script plain pid
 answer_to script plain pid (call.Exit status) = Ended (exit_status status) (die plain pid (exit_status status))
 answer_to script plain pid (call.Waitpid which options) = waitpid script plain pid which options
 answer_to script plain pid (call.Kill target signal) = kill script plain pid target signal
+answer_to script plain pid (call.Mmap length) = mmap script plain pid length
+answer_to script plain pid (call.Munmap addr length) = munmap script plain pid addr length
+answer_to script plain pid (call.Store addr bytes) = store script plain pid addr bytes
+answer_to script plain pid (call.Load addr n) = load script plain pid addr n
 answer_to script plain pid _ = failed script plain pid EINVAL
 
 -- a wrong operand is told before anything else is looked at

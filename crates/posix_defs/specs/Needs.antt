@@ -8,7 +8,7 @@ use Rattle.kabi_types.specs.declared.calls.CallKind.{CallKind}
 use Rattle.kabi_types.specs.declared.calls.CallKind.TheVariants as kind
 use Rattle.kabi_types.specs.declared.classes.Need.{Need}
 use Rattle.posix_defs.specs.PriceList.{price_of}
-use Rattle.posix_defs.specs.Sizes.{no_need}
+use Rattle.posix_defs.specs.Sizes.{no_need, reserve}
 use Rattle.posix_defs.specs.declared.prices.Price.{Price}
 use Rattle.posix_defs.specs.declared.prices.Price.TheVariants.{Always, Mapped, Touched, Moved}
 
@@ -27,6 +27,15 @@ nodes_for pages = min 4 ((pages + 62) / 64 + 1)
 -- how many chunks of 512 bytes a queue may need for so many bytes, of which it takes at most 4096
 abbrev pub chunks_for : ℕ → ℕ
 chunks_for n = (min n 4096 + 511) / 512
+
+-- what a call may use of the reserve, in bytes: those that close something or end a process may use all of it
+abbrev pub slack : Call → ℕ
+slack (call.Close _) = reserve
+slack (call.Dup2 _ _) = reserve
+slack (call.Exec _) = reserve
+slack (call.Exit _) = reserve
+slack (call.Kill _ _) = reserve
+slack _ = 0
 
 -- the pages that a call maps
 abbrev pub mapped_pages : Call → ℕ

@@ -7,6 +7,7 @@ use Rattle.kabi_types.specs.declared.scripts.Control.{Control}
 use Rattle.kabi_types.specs.declared.scripts.Program.{Program}
 use Rattle.kabi_types.specs.declared.scripts.Script.{Script}
 use Rattle.posix_defs.specs.ByPid.{at_pid, with_pid}
+use Rattle.posix_defs.specs.Memory.{no_memory}
 use Rattle.posix_defs.specs.Process.{Table, Process, Alive}
 use Rattle.posix_defs.specs.Control as program
 
@@ -52,7 +53,7 @@ root = 1
 
 -- the process that was not forked
 abbrev pub first_process : Process
-first_process = record { parent = 0; directory = root; status = Alive }
+first_process = record { parent = 0; directory = root; status = Alive; memory = no_memory }
 
 -- one process, at the beginning of the program `init`
 abbrev pub boot_plain : Script → Plain

@@ -1,6 +1,7 @@
 -- The processes of the plain machine: who is there, and whose child is whose.
 use Rattle.std.specs.Prelude.{ℕ, Bool, true, false, List, count_by, Option, None, Some, unwrap_or}
-use Rattle.posix_defs.specs.ByPid.{at_pid}
+use Rattle.posix_defs.specs.ByPid.{at_pid, with_pid}
+use Rattle.posix_defs.specs.Memory.{Memory, no_memory}
 
 -- whether a process runs, or has ended with a wait status and waits for its parent
 pub data Status : Type 0 where
@@ -12,6 +13,7 @@ pub record Process : Type 0 where
   pub parent : ℕ
   pub directory : ℕ
   pub status : Status
+  pub memory : Memory
 
 -- the table: what is there of each process ever made, None once it was waited for
 abbrev pub Table : Type 0
@@ -43,6 +45,22 @@ parent_of table pid = parent_in (process_at table pid)
 abbrev pub is_there : Option Process → Bool
 is_there None = false
 is_there (Some _) = true
+
+abbrev pub memory_in : Option Process → Memory
+memory_in None = no_memory
+memory_in (Some process) = process.memory
+
+-- what a process has in memory
+abbrev pub memory_of : Table → ℕ → Memory
+memory_of table pid = memory_in (process_at table pid)
+
+abbrev pub remembering : Memory → Option Process → Option Process
+remembering memory None = None
+remembering memory (Some process) = Some (record process { memory = memory })
+
+-- the table, where a process has something else in memory
+abbrev pub with_memory : Table → ℕ → Memory → Table
+with_memory table pid memory = with_pid table pid (remembering memory (process_at table pid))
 
 -- how many processes are there, alive or ended and not waited for
 abbrev pub how_many : Table → ℕ

@@ -9,6 +9,7 @@ use Rattle.posix_defs.specs.Process.{is_alive}
 use Rattle.posix_defs.specs.Plain.{Plain}
 use Rattle.posix_defs.specs.Answer.{Answer, Blocked, Done, Part, Ended}
 use Rattle.posix_defs.specs.Machine.{machine}
+use Rattle.posix_defs.specs.MemoryCalls.{frames_after}
 use Rattle.posix_defs.specs.World.{World, Account, MayKeep, forget_dead, live_of}
 
 -- what is told, and the plain machine after it, where POSIX gives this answer
@@ -18,9 +19,10 @@ Tells (Done reply next) old told new = (told ≡ turned.Done reply) × (new ≡ 
 Tells (Part moved next) old told new = (told ≡ turned.Part moved) × (new ≡ next)
 Tells (Ended status next) old told new = (told ≡ turned.Ended status) × (new ≡ next)
 
--- what a process's call that is over, or did a part, did to the account: no call that is built touches memory or a queue
+-- what a process's call that is over, or did a part, did to the account
 abbrev pub touched : Account → Plain → ℕ → Call → Answer → Account
-touched account plain pid call answer = account
+touched account plain pid call (Done reply next) = frames_after account pid call reply
+touched account plain pid call _ = account
 
 -- the account after an answer: a call that would block leaves it, and what belonged to processes that have ended is forgotten
 abbrev pub account_after : Account → Plain → ℕ → Call → Answer → Account

@@ -5,6 +5,7 @@ use Rattle.kabi_types.specs.declared.classes.Class.TheVariants as class
 use Rattle.kabi_types.specs.declared.classes.Weight.{Weight}
 use Rattle.kabi_types.specs.declared.scripts.Policy.{Policy}
 use Rattle.kabi_types.specs.declared.scripts.Policy.TheVariants.{Heaviest, Youngest}
+use Rattle.posix_defs.specs.Memory.{frames_in, nodes_in, places_of}
 use Rattle.posix_defs.specs.Process.{Table, is_alive_in}
 use Rattle.posix_defs.specs.Plain.{Plain}
 use Rattle.posix_defs.specs.World.{Account}
@@ -14,9 +15,14 @@ abbrev pub score_of : Policy → Weight → ℕ
 score_of Heaviest w = size class.Proc + size class.Page * w.frames + size class.Node * w.nodes + size class.Desc * w.descs
 score_of Youngest w = w.pid
 
--- what a process holds: until it can map memory or open files, nothing but itself
+-- what a process holds: beside itself its memory, until it can open files
 abbrev pub weight_of : Plain → Account → ℕ → Weight
-weight_of plain account pid = record { pid = pid; frames = 0; nodes = 0; descs = 0 }
+weight_of plain account pid = record {
+  pid = pid;
+  frames = frames_in (places_of account pid);
+  nodes = nodes_in (places_of account pid);
+  descs = 0;
+}
 
 -- the weights of the live processes from this pid on, but the first
 abbrev pub weights_from : Plain → Account → ℕ → Table → List Weight

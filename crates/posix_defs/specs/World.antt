@@ -6,12 +6,13 @@ use Rattle.kabi_types.specs.declared.classes.Class.TheVariants as class
 use Rattle.kabi_types.specs.declared.entries.Cached.{Cached}
 use Rattle.kabi_types.specs.declared.entries.Cached.TheVariants.{Name, Block, Vnode}
 use Rattle.kabi_types.specs.declared.scripts.Script.{Script}
-use Rattle.posix_defs.specs.Process.{Table, runs, how_many}
+use Rattle.posix_defs.specs.Memory.{Frames, boot_frames, frames_named, nodes_named, without_dead}
+use Rattle.posix_defs.specs.Process.{Table, is_alive, runs, how_many}
 use Rattle.posix_defs.specs.Plain.{Plain, root, boot_plain}
 
--- What memory and queues take, which the plain machine doesn't tell: how many frames are named.
-pub record Account : Type 0 where
-  pub frames : ℕ
+-- What memory and queues take, which the plain machine doesn't tell: so far the frames that its pages name.
+abbrev pub Account : Type 0
+Account = Frames
 
 -- what the three caches keep: directory entries, numbers of blocks, numbers of nodes
 pub record Kept : Type 0 where
@@ -25,20 +26,18 @@ pub record World : Type 0 where
   pub kept : Kept
   pub reads : ℕ
 
--- nothing is named yet
+-- the first process has mapped nothing yet
 abbrev pub no_account : Account
-no_account = record { frames = 0 }
+no_account = boot_frames
 
-abbrev pub frames_named : Account → ℕ
-frames_named account = account.frames
-
--- the account without what processes held that have ended: until they can map memory, it is theirs in nothing
+-- the account without what processes held that have ended
 abbrev pub forget_dead : Plain → Account → Account
-forget_dead plain account = account
+forget_dead plain account = without_dead (is_alive plain.table) account
 
--- the heap that processes, memory, descriptions, pipes, sockets and queues take: of these there are processes so far
+-- the heap that processes, memory, descriptions, pipes, sockets and queues take: of these there are processes and memory so far
 abbrev pub base : Plain → Account → ℕ
-base plain account = how_many plain.table * size class.Proc + frames_named account * size class.Page
+base plain account =
+    how_many plain.table * size class.Proc + nodes_named account * size class.Node + frames_named account * size class.Page
 
 -- the working directories of live processes, and before them the root
 abbrev pub directories_of : Table → List ℕ

@@ -1,6 +1,6 @@
 ghost use Rattle.std.specs.Prelude.{◌≡◌, ◌≢◌, ℕ, ◌+◌, ◌≤◌, true, false, not};
 ghost use Rattle.kabi_types.specs.declared.scripts.Script.{Script};
-ghost use Rattle.posix_defs.specs.Needs.{bound, need_of};
+ghost use Rattle.posix_defs.specs.Needs.{bound, need_of, slack};
 ghost use Rattle.posix_defs.specs.Sizes.{reserve};
 ghost use Rattle.posix_defs.specs.Process.{is_alive};
 ghost use Rattle.posix_defs.specs.Plain.{call_of, last_pid};
@@ -38,6 +38,9 @@ pub trait Turner {
     /// The store stands for this world.
     ghost stands: { Self → World → Type 0 };
 
+    /// The most bytes of kernel heap that were in use at a moment since the last call that may change them began.
+    ghost high: { Self → ℕ };
+
     /// The call that a live process makes next.
     fn next(&self, pid: u32) -> Call
         requires { (world : World) × stands self.now world × (is_alive world.plain.table pid ≡ true) }
@@ -53,14 +56,16 @@ pub trait Turner {
             × (live_of world + bound call.now + reserve ≤ (script self.old).heap) }
         ensures script { script self.new ≡ script self.old }
         ensures turned { (world : World) → stands self.old world
-            → (after : World) × stands self.new after × TurnsTo (script self.old) world pid call.now result after };
+            → (after : World) × stands self.new after × TurnsTo (script self.old) world pid call.now result after }
+        ensures high { (world : World) → stands self.old world → high self.new ≤ live_of world + bound call.now + slack call.now };
 
     /// Answers a live process's next call ENOMEM: its bound is above what the heap can ever give.
     fn refuse(&mut self, pid: u32)
         requires { (world : World) × stands self.old world × (is_alive world.plain.table pid ≡ true) }
         ensures script { script self.new ≡ script self.old }
         ensures refused { (world : World) → stands self.old world → is_alive world.plain.table pid ≡ true
-            → stands self.new (refused_in (script self.old) world pid) };
+            → stands self.new (refused_in (script self.old) world pid) }
+        ensures high { (world : World) → stands self.old world → high self.new ≤ live_of world };
 
     /// Whether a live process's next call wouldn't block now.
     fn ready(&self, pid: u32) -> bool
@@ -79,7 +84,8 @@ pub trait Turner {
         ensures evicted { (world : World) → stands self.old world → can_evict world.plain world.kept what ≡ true
             → (after : World) × stands self.new after × Evicts world what after }
         ensures kept { (world : World) → stands self.old world → can_evict world.plain world.kept what ≡ false
-            → stands self.new world };
+            → stands self.new world }
+        ensures high { (world : World) → stands self.old world → high self.new ≤ live_of world };
 
     /// The process that is to be killed where heap has to be freed; None exactly where none but the first is alive.
     fn victim(&self) -> Option<u32>
@@ -94,7 +100,8 @@ pub trait Turner {
             → (after : World) × stands self.new after × Kills world pid after }
         ensures gone { (world : World) → stands self.old world → is_alive world.plain.table pid ≡ false
             → stands self.new world }
-        ensures first { (world : World) → stands self.old world → pid ≡ 1 → stands self.new world };
+        ensures first { (world : World) → stands self.old world → pid ≡ 1 → stands self.new world }
+        ensures high { (world : World) → stands self.old world → high self.new ≤ live_of world + reserve };
 
     /// Whether a process is there and has not ended.
     fn alive(&self, pid: u32) -> bool
@@ -106,7 +113,8 @@ pub trait Turner {
 
     /// How many bytes of kernel heap are in use.
     fn live(&self) -> u64
-        ensures { (world : World) → stands self.now world → result ≡ live_of world };
+        ensures bytes { (world : World) → stands self.now world → result ≡ live_of world }
+        ensures below { result ≤ high self.now };
 
     /// How many blocks were read from the disk since boot; it stands still at its type's end.
     fn reads(&self) -> u64
