@@ -1,13 +1,13 @@
 -- A turn that ends nobody leaves all tasks.
-use Rattle.std.proofs.Common.{◌≡◌, ℕ, suc, ◌+◌, ℤ, pos, not, ◌||◌, Bool, true, false, cond, List, [], ◌∷◌, filter, map, Option, None, Some, refl, ap, sym, ◌∙◌, subst, arith}
+use Rattle.std.proofs.Common.{◌≡◌, ℕ, suc, ◌+◌, ℤ, pos, not, ◌||◌, Bool, true, false, cond, List, [], ◌∷◌, filter, map, length, Option, None, Some, refl, ap, sym, ◌∙◌, subst, arith}
 use Rattle.std.specs.List.{AllByRecursion}
-use Rattle.kabi_types.specs.Arguments.{argument_fault}
+use Rattle.kabi_types.specs.Arguments.{argument_fault, count_of}
 use Rattle.kabi_types.specs.Call.{kind_of}
 use Rattle.kabi_types.specs.declared.calls.Call.{Call}
 use Rattle.kabi_types.specs.declared.calls.Call.TheVariants as call
 use Rattle.kabi_types.specs.declared.errnos.Errno.{Errno}
-use Rattle.kabi_types.specs.declared.errnos.Errno.TheVariants.{EAGAIN, ECHILD}
-use Rattle.kabi_types.specs.declared.replies.Reply.TheVariants.{Val}
+use Rattle.kabi_types.specs.declared.errnos.Errno.TheVariants.{EAGAIN, ECHILD, EFAULT}
+use Rattle.kabi_types.specs.declared.replies.Reply.TheVariants.{Bytes, Val}
 use Rattle.kabi_types.specs.declared.scripts.Script.{Script}
 use Rattle.posix_defs.specs.declared.phases.Asked.{Asked}
 use Rattle.posix_defs.specs.declared.phases.Phase.{Phase}
@@ -15,7 +15,10 @@ use Rattle.posix_defs.specs.declared.phases.Phase.TheVariants.{User, Waiting, Ad
 use Rattle.posix_defs.specs.declared.phases.Task.{Task}
 use Rattle.posix_defs.specs.declared.turner.Turned.{Turned}
 use Rattle.posix_defs.specs.declared.turner.Turned.TheVariants as turned
-use Rattle.posix_defs.specs.Process.{is_alive, process_at}
+use Rattle.posix_defs.specs.Process.{is_alive, memory_of, process_at}
+use Rattle.posix_defs.specs.Memory.{is_mapped_range, loaded, lowest_run, stored}
+use Rattle.posix_defs.specs.MemoryCalls.{mapped_from, remembered}
+use Rattle.posix_defs.specs.Needs.{pages_in}
 use Rattle.posix_defs.specs.Plain.{Plain, last_pid}
 use Rattle.posix_defs.specs.Answer.{Answer, Blocked, Done, Part, failed, replied}
 use Rattle.posix_defs.specs.Answer as answer
@@ -30,6 +33,7 @@ use Rattle.posix_defs.specs.Enabled.{IsIn}
 use Rattle.posix_defs.specs.SoundTasks.{IsSound, PhaseFits, TaskFits}
 use Rattle.posix_defs.proofs.Families.{exited_has_ended, still_alive}
 use Rattle.posix_defs.proofs.Nexts.{reaped_keeps}
+use Rattle.posix_defs.proofs.Remembering.{alive_still}
 use Rattle.posix_defs.proofs.Tasks.{each_with, found_fits}
 use Rattle.kern_core.specs.Calm.{is_kill, is_over, may_end}
 
@@ -55,6 +59,10 @@ waits_stay script plain pid which options (Some exited) e =
     let ended : is_alive plain.table exited.pid ≡ false = ap (is_alive plain.table) place ∙ found.2 in
     λ other alive. reaped_keeps plain.table exited.pid other ended alive
 
+maps_stay : (script : Script) (plain : Plain) (pid count : ℕ) (first : Option ℕ) → Stays plain (mapped_from script plain pid count first)
+maps_stay script plain pid count None = λ other alive. alive
+maps_stay script plain pid count (Some first) = λ other alive. alive_still plain.table pid other _ ∙ alive
+
 -- a call that isn't `kill` ends nobody else
 right_stays : (script : Script) (plain : Plain) (pid : ℕ) (which : Call) → is_kill (kind_of which) ≡ false → Stays plain (answer_to script plain pid which)
 right_stays script plain pid call.Fork calm =
@@ -63,6 +71,17 @@ right_stays script plain pid call.Fork calm =
 right_stays script plain pid (call.Exit status) calm = tt
 right_stays script plain pid (call.Waitpid which options) calm = waits_stay script plain pid which options (exited_from pid which 1 plain.table) refl
 right_stays script plain pid (call.Kill target signal) calm = cc
+right_stays script plain pid (call.Mmap length) calm =
+    maps_stay script plain pid (pages_in (count_of length)) (lowest_run (memory_of plain.table pid) (pages_in (count_of length)))
+right_stays script plain pid (call.Munmap addr length) calm = λ other alive. alive_still plain.table pid other _ ∙ alive
+right_stays script plain pid (call.Store addr bytes) calm =
+    either_stays plain (is_mapped_range (memory_of plain.table pid) (count_of addr) (length bytes))
+    (replied script (remembered plain pid (stored (memory_of plain.table pid) (count_of addr) bytes)) pid (Val (pos (length bytes))))
+    (failed script plain pid EFAULT) (λ other alive. alive_still plain.table pid other _ ∙ alive) (λ other alive. alive)
+right_stays script plain pid (call.Load addr n) calm =
+    either_stays plain (is_mapped_range (memory_of plain.table pid) (count_of addr) (count_of n))
+    (replied script plain pid (Bytes (loaded (memory_of plain.table pid) (count_of addr) (count_of n))))
+    (failed script plain pid EFAULT) (λ other alive. alive) (λ other alive. alive)
 right_stays script plain pid _ calm = λ other alive. alive
 
 stays : (script : Script) (plain : Plain) (pid : ℕ) (which : Call) → is_kill (kind_of which) ≡ false → Stays plain (machine script plain pid which)

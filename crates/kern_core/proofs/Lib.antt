@@ -11,4 +11,5 @@ pub mod Defaults
 pub mod ReliefSteps
 pub mod SampleSteps
 pub mod CalmTurns
+pub mod HeapBounds
 pub mod AllEvents

@@ -19,7 +19,7 @@ use Rattle.posix_defs.proofs.Progress.{first_lives, helped, no_end, no_licence}
 use Rattle.kern_core.specs.Room.{first_going, goes_within}
 use Rattle.kern_core.specs.Reliefs.{evicted_or, first_evictable, fits_or, killed_or, relief_of}
 use Rattle.kern_core.specs.declared.reliefs.Relief.{Relief}
-use Rattle.kern_core.specs.declared.reliefs.Relief.TheVariants.{NoneWaiting, Outstanding, Killed}
+use Rattle.kern_core.specs.declared.reliefs.Relief.TheVariants.{NoneWaiting, Outstanding, Killed, Evicted}
 use Rattle.kern_core.proofs.RoomFits.{room_fits}
 use Rattle.kern_core.specs.View.{CoreView, IsAt}
 
@@ -178,3 +178,13 @@ kill_is_told script s pid waits stays empty lost licensed victim = sym (
     ∙ ap (λ o. evicted_or o (killed_or (cond (is_licensed script s) (victim_of script.policy s.world.plain s.world.account) None))) lost
     ∙ ap (λ b. killed_or (cond b (victim_of script.policy s.world.plain s.world.account) None)) licensed
     ∙ ap killed_or victim)
+
+-- what it is where a cache keeps something that isn't pinned
+pub evict_is_told : (script : Script) (s : CoreState) (what : Cached) → list_any (λ task. is_waiting task.phase) s.tasks ≡ true
+    → first_going (script.heap - charged_in s) s.tasks ≡ None → reserved_in s.tasks ≡ 0 → first_evictable s.world ≡ Some what
+    → Evicted what ≡ relief_of script s
+evict_is_told script s what waits stays empty can = sym (
+    ap (λ b. cond (not b) NoneWaiting (fits_or (first_going (script.heap - charged_in s) s.tasks) (reserved_or script s (reserved_in s.tasks)))) waits
+    ∙ ap (λ o. fits_or o (reserved_or script s (reserved_in s.tasks))) stays
+    ∙ ap (reserved_or script s) empty
+    ∙ ap (λ o. evicted_or o (killed_or (cond (is_licensed script s) (victim_of script.policy s.world.plain s.world.account) None))) can)

@@ -1,18 +1,19 @@
 -- What the processes of the tests do, by cases.
-use Rattle.std.proofs.Common.{◌≡◌, ◌≢◌, ℕ, zero, suc, ◌+◌, ◌-◌, ◌≤◌, Bool, true, false, [], ◌∷◌, lit≤, refl, sym, subst, arith}
+use Rattle.std.proofs.Common.{◌≡◌, ◌≢◌, ℕ, zero, suc, ◌+◌, ◌-◌, ◌*◌, ◌≤◌, pos, Bool, true, false, [], ◌∷◌, lit≤, refl, sym, subst, arith}
 use Rattle.kabi_types.specs.declared.calls.Call.{Call}
 use Rattle.kabi_types.specs.declared.entries.Cached.{Cached}
 use Rattle.kabi_types.specs.declared.entries.Cached.TheVariants.{Name, Block, Vnode}
 use Rattle.kabi_types.specs.declared.errnos.Errno.TheVariants.{EINVAL}
-use Rattle.kabi_types.specs.declared.replies.Reply.TheVariants.{Fail}
+use Rattle.kabi_types.specs.declared.replies.Reply.TheVariants.{Fail, Val}
 use Rattle.posix_defs.specs.declared.turner.Turned.TheVariants.{Done, Ended}
-use Rattle.posix_defs.specs.Needs.{bound, need_of}
+use Rattle.posix_defs.specs.Memory.{no_places}
+use Rattle.posix_defs.specs.Needs.{bound, need_of, slack}
 use Rattle.posix_defs.specs.Process.{is_alive}
 use Rattle.posix_defs.specs.Plain.{call_of}
-use Rattle.posix_defs.specs.World.{MayKeep, boot_kept, can_evict}
+use Rattle.posix_defs.specs.World.{MayKeep, boot_kept, can_evict, live_of}
 use Rattle.posix_defs.specs.Relief.{Evicts}
 use Rattle.posix_defs.specs.Turn.{Answers, TurnsTo}
-use Rattle.kern_core.specs.Sample.{caching, caching_at, next_blocks, next_place, sample, world_at}
+use Rattle.kern_core.specs.Sample.{caching, caching_at, next_blocks, next_place, sample, world_at, live_at}
 
 not_alike : ◌≡◌ {A = ℕ} 7 8 → ⊥
 not_alike e = omega (arith, e)
@@ -27,7 +28,7 @@ may_keep place (suc (suc n)) = record { names = tt; blocks = ((not_alike, tt), (
 answers_at : (place blocks : ℕ) → place ≤ 3 → blocks ≤ 2
     → Answers caching (caching_at place blocks) 1 (call_of caching (caching_at place blocks).plain 1) (Done (Fail EINVAL))
     (caching_at (next_place place) (next_blocks place blocks))
-unfolding bound need_of
+unfolding bound need_of no_places
 answers_at zero zero few less = record { answer = (refl, refl); account = refl; may_keep = may_keep 1 2; live = lit≤ tt; names = lit≤ tt; blocks = lit≤ tt; vnodes = lit≤ tt; reads = lit≤ tt }
 answers_at zero (suc zero) few less = record { answer = (refl, refl); account = refl; may_keep = may_keep 1 2; live = lit≤ tt; names = lit≤ tt; blocks = lit≤ tt; vnodes = lit≤ tt; reads = lit≤ tt }
 answers_at zero (suc (suc zero)) few less = record { answer = (refl, refl); account = refl; may_keep = may_keep 1 2; live = lit≤ tt; names = lit≤ tt; blocks = lit≤ tt; vnodes = lit≤ tt; reads = lit≤ tt }
@@ -80,6 +81,7 @@ some_more : (n k : ℕ) → n ≤ n + k
 some_more n k = omega arith
 
 ends_at : (place : ℕ) → place ≢ 0 → place ≤ 2 → Answers sample (world_at place true boot_kept) 1 (call_of sample (world_at place true boot_kept).plain 1) (Ended 0) (world_at place false boot_kept)
+unfolding no_places
 ends_at zero other few = absurd (other refl)
 ends_at (suc zero) other few = record { answer = (refl, refl); account = refl; may_keep = record { names = tt; blocks = tt; vnodes = (tt, tt); pinned = λ node e. e }; live = falls _; names = some_more 0 _; blocks = some_more 0 _; vnodes = some_more 1 _; reads = lit≤ tt }
 ends_at (suc (suc zero)) other few = record { answer = (refl, refl); account = refl; may_keep = record { names = tt; blocks = tt; vnodes = (tt, tt); pinned = λ node e. e }; live = falls _; names = some_more 0 _; blocks = some_more 0 _; vnodes = some_more 1 _; reads = lit≤ tt }
@@ -95,3 +97,54 @@ sample_ends place (suc zero) true which other few alive calls =
 sample_ends place (suc zero) false which other few alive calls = cc
 sample_ends place (suc (suc n)) true which other few alive calls = cc
 sample_ends place (suc (suc n)) false which other few alive calls = cc
+
+-- what the process that asks for its pid takes of the heap
+pub sample_live : (place : ℕ) (lives : Bool) → live_of (world_at place lives boot_kept) ≡ live_at lives
+unfolding no_places
+sample_live place true = refl
+sample_live place false = refl
+
+asks_at : Answers sample (world_at 0 true boot_kept) 1 (call_of sample (world_at 0 true boot_kept).plain 1) (Done (Val (pos 1))) (world_at 1 true boot_kept)
+unfolding bound need_of no_places
+asks_at = record { answer = (refl, refl); account = refl; may_keep = record { names = tt; blocks = tt; vnodes = (tt, tt); pinned = λ node e. e }; live = lit≤ tt; names = lit≤ tt; blocks = lit≤ tt; vnodes = lit≤ tt; reads = lit≤ tt }
+
+-- it asks for its pid
+pub sample_asks : (place pid : ℕ) (lives : Bool) (which : Call) → place ≡ 0 → is_alive (world_at place lives boot_kept).plain.table pid ≡ true
+    → (is_alive (world_at place lives boot_kept).plain.table pid ≡ true → which ≡ call_of sample (world_at place lives boot_kept).plain pid)
+    → TurnsTo sample (world_at place lives boot_kept) pid which (Done (Val (pos 1))) (world_at 1 lives boot_kept)
+sample_asks (suc n) pid lives which at alive calls = cc
+sample_asks zero zero true which at alive calls = cc
+sample_asks zero zero false which at alive calls = cc
+sample_asks zero (suc zero) true which at alive calls =
+    subst (λ w. Answers sample (world_at 0 true boot_kept) 1 w (Done (Val (pos 1))) (world_at 1 true boot_kept)) (sym (calls refl)) asks_at
+sample_asks zero (suc zero) false which at alive calls = cc
+sample_asks zero (suc (suc n)) true which at alive calls = cc
+sample_asks zero (suc (suc n)) false which at alive calls = cc
+
+-- what the process that caches takes of the heap
+pub caching_live : (place blocks : ℕ) → blocks ≤ 2 → live_of (caching_at place blocks) ≡ 640 + 1088 * blocks
+unfolding no_places
+caching_live place zero less = refl
+caching_live place (suc zero) less = refl
+caching_live place (suc (suc zero)) less = refl
+caching_live place (suc (suc (suc n))) less = absurd (let l : suc (suc (suc n)) ≤ 2 = less in omega arith)
+
+few_next : (place blocks : ℕ) → blocks ≤ 2 → next_blocks place blocks ≤ 2
+few_next zero blocks less = lit≤ tt
+few_next (suc zero) blocks less = less
+few_next (suc (suc zero)) blocks less = less
+few_next (suc (suc (suc n))) blocks less = lit≤ tt
+
+-- a turn of it takes no more than its call may
+pub caching_high : (place blocks after : ℕ) (which : Call) → place ≤ 3 → blocks ≤ 2 → after ≡ next_blocks place blocks
+    → which ≡ call_of caching (caching_at place blocks).plain 1 → 640 + 1088 * after ≤ live_of (caching_at place blocks) + bound which + slack which
+caching_high place blocks after which few less is call =
+    let turned : Answers caching (caching_at place blocks) 1 which (Done (Fail EINVAL)) (caching_at (next_place place) (next_blocks place blocks)) =
+    caching_turns place blocks which few less call in
+    let live : live_of (caching_at (next_place place) (next_blocks place blocks)) ≤ live_of (caching_at place blocks) + bound which = turned.live in
+    let here : live_of (caching_at (next_place place) (next_blocks place blocks)) ≡ 640 + 1088 * next_blocks place blocks =
+    caching_live (next_place place) (next_blocks place blocks) (few_next place blocks less) in
+    more after (next_blocks place blocks) (live_of (caching_at place blocks) + bound which) (slack which) is (subst (λ n. n ≤ live_of (caching_at place blocks) + bound which) here live)
+  where
+    more : (a b n m : ℕ) → a ≡ b → 640 + 1088 * b ≤ n → 640 + 1088 * a ≤ n + m
+    more a b n m e l = omega arith

@@ -51,6 +51,10 @@ world_at place lives kept = record {
   reads = 0;
 }
 
+-- what that takes of the heap
+abbrev pub live_at : Bool → ℕ
+live_at lives = if lives then 640 else 128
+
 -- the root's node and these blocks are kept
 abbrev pub with_blocks : List ℕ → Kept
 with_blocks blocks = record boot_kept { blocks = blocks }

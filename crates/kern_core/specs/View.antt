@@ -2,6 +2,7 @@
 use Rattle.std.specs.Prelude.{ℕ, ◌≡◌, true, ◌+◌, ◌<◌, ◌≤◌, List, [], ◌∷◌, ◌++◌, length, None, Some, IsSome, slice_get}
 use Rattle.kabi_types.specs.declared.entries.End.{End}
 use Rattle.kabi_types.specs.declared.entries.Event.{Event}
+use Rattle.kabi_types.specs.declared.entries.Event.TheVariants.{Turn, Evict, Kill}
 use Rattle.kabi_types.specs.declared.entries.Noted.{Noted}
 use Rattle.kabi_types.specs.declared.scripts.Script.{Script}
 use Rattle.posix_defs.specs.declared.phases.Asked.{Asked}
@@ -79,6 +80,19 @@ pub record Took {T : Type 0} (stands_for : T → World → Type 0) (script : Scr
 -- the event was taken, and something is noted of it
 abbrev pub Takes : {T : Type 0} → (T → World → Type 0) → Script → CoreView T → Event → CoreView T → Type 0
 Takes stands_for script old event new = (noted : Noted) × Took stands_for script old event noted new
+
+-- At no moment of a turn, of an eviction or of a kill did the heap in use and what is reserved for all other calls together
+-- pass the heap.
+abbrev pub StaysInside : Event → ℕ → ℕ → ℕ → Type 0
+StaysInside (Turn pid) high reserved heap = high + reserved ≤ heap
+StaysInside (Evict what) high reserved heap = high + reserved ≤ heap
+StaysInside (Kill pid) high reserved heap = high + reserved ≤ heap
+StaysInside _ high reserved heap = Unit {0}
+
+-- the same of the last event of a run
+abbrev pub LastStaysInside : List Noted → ℕ → ℕ → ℕ → Type 0
+LastStaysInside run high reserved heap =
+    (front : List Noted) (last : Noted) → run ≡ front ++ last ∷ [] → StaysInside last.event high reserved heap
 
 -- nothing has happened yet
 pub record HasBooted {T : Type 0} (stands_for : T → World → Type 0) (script : Script) (core : CoreView T) : Type 0 where

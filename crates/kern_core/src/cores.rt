@@ -13,9 +13,9 @@ ghost use Rattle.posix_defs.specs.CoreEvent.{phase_after};
 ghost use Rattle.posix_defs.specs.Licence.{can_evict_any, is_licensed};
 ghost use Rattle.posix_defs.specs.Ends.{all_asleep, end_of, starves_for, sleeps_on};
 ghost use Rattle.posix_defs.specs.Choice.{asks_nothing, default_of, events_of, enabled_in, default_in, kills_in, named_by, others_in};
-ghost use Rattle.kern_core.specs.View.{IsAt, IsAskedFor, IsSleep, HasRun, HasBooted, Has, CanTake, GoesOn, MayTake, Takes, Took};
+ghost use Rattle.kern_core.specs.View.{IsAt, IsAskedFor, IsSleep, HasRun, HasBooted, Has, CanTake, GoesOn, MayTake, StaysInside, Takes, Took};
 ghost use Rattle.kern_core.specs.Others.{eviction, present};
-ghost use Rattle.kern_core.specs.Reliefs.{NeverStarves, Relieves, first_evictable, relief_of};
+ghost use Rattle.kern_core.specs.Reliefs.{HelpsInside, NeverStarves, Relieves, first_evictable, relief_of};
 
 use crate::others::{count_present, present_at};
 use crate::phases::{entry_of, is_admitted, last_noted, may_end, note};
@@ -294,7 +294,8 @@ impl<T: Turner + Drop> Core<T> {
     fn evict_event(&self, what: Cached) -> Option<Event>
         ensures { (s : CoreState) → IsAt T.stands self.now s → result ≡ eviction (lives s 1) (can_evict s.world.plain s.world.kept what) what }
     {
-        if self.store.alive(1) && self.store.evictable(what) {
+        // Mostly nothing is cached, which is the cheaper question.
+        if self.store.evictable(what) && self.store.alive(1) {
             Some(Event::Evict(what))
         } else {
             None
@@ -411,6 +412,7 @@ impl<T: Turner + Drop> Core<T> {
         requires { MayTake T.stands (T.script self.old.store) self.old event }
         ensures script { T.script self.new.store ≡ T.script self.old.store }
         ensures took { Took T.stands (T.script self.old.store) self.old event result self.new }
+        ensures inside { StaysInside event (T.high self.new.store) self.new.reserved (T.script self.old.store).heap }
     {
         self.take(event);
         last_noted(self.run())
@@ -421,6 +423,7 @@ impl<T: Turner + Drop> Core<T> {
         requires { MayTake T.stands (T.script self.old.store) self.old event }
         ensures script { T.script self.new.store ≡ T.script self.old.store }
         ensures took { Takes T.stands (T.script self.old.store) self.old event self.new }
+        ensures inside { StaysInside event (T.high self.new.store) self.new.reserved (T.script self.old.store).heap }
     {
         match event {
             Event::Ask(pid) => self.ask(pid),
@@ -497,6 +500,7 @@ impl<T: Turner + Drop> Core<T> {
         requires { MayTake T.stands (T.script self.old.store) self.old (Turn pid) }
         ensures script { T.script self.new.store ≡ T.script self.old.store }
         ensures took { Takes T.stands (T.script self.old.store) self.old (Turn pid) self.new }
+        ensures inside { T.high self.new.store + self.new.reserved ≤ (T.script self.old.store).heap }
     {
         let Phase::Admitted(asked) = phase_of(self.tasks.as_slice(), pid) else {
             unreachable!()
@@ -538,8 +542,9 @@ impl<T: Turner + Drop> Core<T> {
             unreachable!()
         };
         remove(&mut self.tasks, pid);
-        self.reserved -= asked.bound;
-        self.charged -= asked.bound;
+        let held = asked.bound;
+        self.reserved -= held;
+        self.charged -= held;
         let noted = noted_of(Event::Abandon(pid), asked, None, self.charged);
         note(&mut self.run, &mut self.peak, noted);
     }
@@ -548,6 +553,7 @@ impl<T: Turner + Drop> Core<T> {
         requires { MayTake T.stands (T.script self.old.store) self.old (Kill pid) }
         ensures script { T.script self.new.store ≡ T.script self.old.store }
         ensures took { Takes T.stands (T.script self.old.store) self.old (Kill pid) self.new }
+        ensures inside { T.high self.new.store + self.new.reserved ≤ (T.script self.old.store).heap }
     {
         let Some(first) = first_waiting(self.tasks.as_slice()) else {
             unreachable!()
@@ -578,6 +584,7 @@ impl<T: Turner + Drop> Core<T> {
         requires { MayTake T.stands (T.script self.old.store) self.old (Evict what) }
         ensures script { T.script self.new.store ≡ T.script self.old.store }
         ensures took { Takes T.stands (T.script self.old.store) self.old (Evict what) self.new }
+        ensures inside { T.high self.new.store + self.new.reserved ≤ (T.script self.old.store).heap }
     {
         self.store.evict(what);
         self.charged = self.store.live() + RESERVE + self.reserved;
@@ -623,6 +630,7 @@ impl<T: Turner + Drop> Core<T> {
         ensures script { T.script self.new.store ≡ T.script self.old.store }
         ensures told { (s : CoreState) → IsAt T.stands self.old s → IsSound (T.script self.old.store) s → result ≡ relief_of (T.script self.old.store) s }
         ensures leads { Relieves T.stands (T.script self.old.store) self.old result self.new }
+        ensures inside { HelpsInside result (T.high self.new.store) self.new.reserved (T.script self.old.store).heap }
         ensures never { NeverStarves result }
     {
         if !self.some_wait() {

@@ -1,6 +1,6 @@
 ghost use Rattle.std.specs.Prelude.{◌≡◌, ◌≤◌, true};
 ghost use Rattle.posix_defs.specs.World.{boot_kept};
-ghost use Rattle.kern_core.specs.Sample.{sample, world_at};
+ghost use Rattle.kern_core.specs.Sample.{live_at, sample, world_at};
 
 use crate::{Choosing, Core, Relief, run_to_end};
 use kabi_types::{Cached, Call, CallKind, Chooser, End, Entry, Event, Need, Noted, Numbers, Reply};
@@ -19,6 +19,8 @@ impl Turner for OnePid {
     ghost script = { λ _. sample };
 
     ghost stands = { λ store world. world ≡ world_at store.place store.lives boot_kept };
+
+    ghost high = { λ store. live_at store.lives };
 
     fn next(&self, _pid: u32) -> Call {
         if self.place == 0 {

@@ -1,6 +1,6 @@
 //! A run over a store that has something to evict.
 
-ghost use Rattle.std.specs.Prelude.{◌≡◌, ◌≤◌, ◌-◌};
+ghost use Rattle.std.specs.Prelude.{◌≡◌, ◌≤◌, ◌-◌, ◌+◌, ◌*◌};
 ghost use Rattle.kern_core.specs.Sample.{caching, caching_at, next_blocks, next_place};
 
 use crate::picks::picked;
@@ -49,6 +49,8 @@ impl Turner for Caching {
     ghost script = { λ _. caching };
 
     ghost stands = { λ store world. world ≡ caching_at store.place store.blocks };
+
+    ghost high = { λ store. 640 + 1088 * store.blocks };
 
     fn next(&self, _pid: u32) -> Call {
         match self.place {

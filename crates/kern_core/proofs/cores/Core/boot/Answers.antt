@@ -2,10 +2,12 @@ use Rattle.std.proofs.Common.{◌≡◌, ◌≤◌, ◌+◌, ◌++◌, ◌∷◌
 use Rattle.posix_defs.specs.declared.phases.Phase.TheVariants.{User}
 use Rattle.posix_defs.specs.declared.phases.Task.{Task}
 use Rattle.posix_defs.specs.CoreState.{boot_state}
+use Rattle.posix_defs.specs.Memory.{no_places}
 use Rattle.posix_defs.specs.CoreRun.{IsCoreRun, boots, peak_of}
 use Rattle.kern_core.proofs.cores.Core.boot.Goals as goal
 
 pub invariant_of-result : goal.invariant_of-result
+unfolding no_places
 invariant_of-result g c =
     let script = g.T.Turner.script c.args.store in
     let first : Task = record { pid = 1; phase = User } in
@@ -30,4 +32,14 @@ invariant_of-result g c =
           let enough : c.args.steps + 1 ≤ vec_capacity c.in_ok-tasks.tasks = c.in_ok-tasks.ensures.capacity in
           let same : vec_capacity c.push_reserved.new.self ≡ vec_capacity c.in_ok-tasks.tasks = c.push_reserved.ensures.capacity in
           omega arith;
+    }
+
+pub returns-clause-booted : goal.returns-clause-booted
+unfolding no_places
+returns-clause-booted g c =
+    let first : Task = record { pid = 1; phase = User } in
+    let tasks : c.push_reserved.new.self.items ≡ first ∷ [] = c.push_reserved.ensures.items ∙ ap (λ before. before ++ first ∷ []) c.in_ok-tasks.ensures.items in
+    record {
+      is_at = record { stands = c.requires.booted; tasks = sym tasks; reserved = refl; charged = refl };
+      run = c.in_ok-run.ensures.items;
     }

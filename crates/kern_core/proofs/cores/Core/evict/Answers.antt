@@ -1,6 +1,7 @@
 use Rattle.std.proofs.Common.{◌≡◌, ◌<◌, ◌≤◌, ◌+◌, length, vec_capacity, refl, sym, subst, arith}
 use Rattle.kabi_types.specs.declared.entries.Event.TheVariants.{Evict}
 use Rattle.kern_core.specs.View.{MayTake}
+use Rattle.kern_core.proofs.HeapBounds.{inside}
 use Rattle.kern_core.proofs.NextRun.{evicted_charged, evicts, has_room, kept_next, takes_all}
 use Rattle.kern_core.proofs.cores.Core.evict.Goals as goal
 
@@ -20,7 +21,7 @@ overflow_add-self g c =
     let may = subst (λ core. MayTake g.T.Turner.stands (g.T.Turner.script core.store) core (Evict c.args.what)) (sym c.self.view_is) c.requires in
     let after = c.evict.ensures.evicted may.state.world may.is_at.stands may.enabled.unpinned in
     let fits : c.live.result + 2176 + c.self.inside.reserved ≤ (g.T.Turner.script c.self.inside.store).heap =
-    evicted_charged g.T.Turner.stands _ _ _ _ _ may.state c.args.what c.live.result after.0 c.self.invariant may.is_at after.2 (c.live.ensures after.0 after.1) in
+    evicted_charged g.T.Turner.stands _ _ _ _ _ may.state c.args.what c.live.result after.0 c.self.invariant may.is_at after.2 (c.live.ensures.bytes after.0 after.1) in
     let same : c.self.inside.heap ≡ (g.T.Turner.script c.self.inside.store).heap = c.self.invariant.same_heap in
     let most : c.self.inside.heap ≤ 8388608 = c.self.invariant.most_heap in
     omega arith
@@ -30,7 +31,7 @@ overflow_add-self-2 g c =
     let may = subst (λ core. MayTake g.T.Turner.stands (g.T.Turner.script core.store) core (Evict c.args.what)) (sym c.self.view_is) c.requires in
     let after = c.evict.ensures.evicted may.state.world may.is_at.stands may.enabled.unpinned in
     let fits : c.live.result + 2176 + c.self.inside.reserved ≤ (g.T.Turner.script c.self.inside.store).heap =
-    evicted_charged g.T.Turner.stands _ _ _ _ _ may.state c.args.what c.live.result after.0 c.self.invariant may.is_at after.2 (c.live.ensures after.0 after.1) in
+    evicted_charged g.T.Turner.stands _ _ _ _ _ may.state c.args.what c.live.result after.0 c.self.invariant may.is_at after.2 (c.live.ensures.bytes after.0 after.1) in
     let same : c.self.inside.heap ≡ (g.T.Turner.script c.self.inside.store).heap = c.self.invariant.same_heap in
     let most : c.self.inside.heap ≤ 8388608 = c.self.invariant.most_heap in
     omega arith
@@ -40,7 +41,7 @@ invariant_of-self g c =
     let may = subst (λ core. MayTake g.T.Turner.stands (g.T.Turner.script core.store) core (Evict c.args.what)) (sym c.self.view_is) c.requires in
     let after = c.evict.ensures.evicted may.state.world may.is_at.stands may.enabled.unpinned in
     kept_next g.T.Turner.stands _ _ _ _ (Evict c.args.what) _ _ _ _ _ _ c.self.invariant may
-    (evicts g.T.Turner.stands _ _ may.state c.args.what _ after.0 c.live.result _ _ may.is_at may.enabled after.1 after.2 (c.live.ensures after.0 after.1))
+    (evicts g.T.Turner.stands _ _ may.state c.args.what _ after.0 c.live.result _ _ may.is_at may.enabled after.1 after.2 (c.live.ensures.bytes after.0 after.1))
     c.note.ensures.run refl c.note.ensures.peak c.note.ensures.room refl (omega arith) c.evict.ensures.script
 
 pub returns-clause-took : goal.returns-clause-took
@@ -48,4 +49,11 @@ returns-clause-took g c =
     takes_all g.T.Turner.stands g.T.Turner.script _ _ _ (Evict c.args.what) _ c.self.view_is refl c.note.ensures.run refl
     (λ s at enabled sound.
     let after = c.evict.ensures.evicted s.world at.stands enabled.unpinned in
-    evicts g.T.Turner.stands _ _ s c.args.what _ after.0 c.live.result _ _ at enabled after.1 after.2 (c.live.ensures after.0 after.1))
+    evicts g.T.Turner.stands _ _ s c.args.what _ after.0 c.live.result _ _ at enabled after.1 after.2 (c.live.ensures.bytes after.0 after.1))
+
+pub returns-clause-inside : goal.returns-clause-inside
+returns-clause-inside g c =
+    let may = subst (λ core. MayTake g.T.Turner.stands (g.T.Turner.script core.store) core (Evict c.args.what)) (sym c.self.view_is) c.requires in
+    let fits = inside g.T.Turner.stands _ _ _ _ _ may.state c.self.invariant may.is_at in
+    let high = c.evict.ensures.high may.state.world may.is_at.stands in
+    rw (← c.self.view_is) (omega arith)

@@ -4,6 +4,7 @@ use Rattle.posix_defs.specs.declared.phases.Phase.TheVariants.{Waiting}
 use Rattle.posix_defs.specs.CoreState.{waiting_in}
 use Rattle.posix_defs.proofs.BuriedTasks.{length-buried}
 use Rattle.kern_core.specs.View.{MayTake}
+use Rattle.kern_core.proofs.HeapBounds.{inside}
 use Rattle.kern_core.proofs.NextRun.{has_room, kept_next, kills, takes_all}
 use Rattle.kern_core.proofs.Victims.{is_victim, less_charged, same_some, some_waiter}
 use Rattle.kern_core.proofs.cores.Core.kill.Goals as goal
@@ -39,7 +40,7 @@ overflow_add-self g c =
     let victim = is_victim _ may.state c.args.pid may.enabled in
     let after = c.kill.ensures.killed may.state.world may.is_at.stands victim.0 victim.1 in
     let fits : c.live.result + 2176 + c.self.inside.reserved ≤ (g.T.Turner.script c.self.inside.store).heap =
-    less_charged g.T.Turner.stands _ _ _ _ _ may.state c.args.pid c.live.result after.0 c.self.invariant may.is_at after.2 (c.live.ensures after.0 after.1) in
+    less_charged g.T.Turner.stands _ _ _ _ _ may.state c.args.pid c.live.result after.0 c.self.invariant may.is_at after.2 (c.live.ensures.bytes after.0 after.1) in
     let same : c.self.inside.heap ≡ (g.T.Turner.script c.self.inside.store).heap = c.self.invariant.same_heap in
     let most : c.self.inside.heap ≤ 8388608 = c.self.invariant.most_heap in
     omega arith
@@ -50,7 +51,7 @@ overflow_add-self-2 g c =
     let victim = is_victim _ may.state c.args.pid may.enabled in
     let after = c.kill.ensures.killed may.state.world may.is_at.stands victim.0 victim.1 in
     let fits : c.live.result + 2176 + c.self.inside.reserved ≤ (g.T.Turner.script c.self.inside.store).heap =
-    less_charged g.T.Turner.stands _ _ _ _ _ may.state c.args.pid c.live.result after.0 c.self.invariant may.is_at after.2 (c.live.ensures after.0 after.1) in
+    less_charged g.T.Turner.stands _ _ _ _ _ may.state c.args.pid c.live.result after.0 c.self.invariant may.is_at after.2 (c.live.ensures.bytes after.0 after.1) in
     let same : c.self.inside.heap ≡ (g.T.Turner.script c.self.inside.store).heap = c.self.invariant.same_heap in
     let most : c.self.inside.heap ≤ 8388608 = c.self.invariant.most_heap in
     omega arith
@@ -65,7 +66,7 @@ invariant_of-self g c =
     ∙ ap (λ p. Some (record { pid = c.in-Some.first.pid; phase = p })) c.in-Waiting.is in
     kept_next g.T.Turner.stands _ _ _ _ (Kill c.args.pid) _ _ _ _ _ _ c.self.invariant may
     (kills g.T.Turner.stands _ _ may.state c.args.pid c.in-Some.first.pid c.in-Waiting.asked _ after.0 _ c.live-live.result c.live.result _ _
-    may.is_at may.enabled lowest after.1 after.2 (c.bury.ensures.items after.0 after.1) (c.live-live.ensures may.state.world may.is_at.stands) (c.live.ensures after.0 after.1))
+    may.is_at may.enabled lowest after.1 after.2 (c.bury.ensures.items after.0 after.1) (c.live-live.ensures.bytes may.state.world may.is_at.stands) (c.live.ensures.bytes after.0 after.1))
     c.note.ensures.run refl c.note.ensures.peak c.note.ensures.room c.bury.ensures.room
     (let less : length c.bury.new.tasks.items ≤ length c.self.inside.tasks.items =
     subst (λ ts. length ts ≤ length c.self.inside.tasks.items) (sym (c.bury.ensures.items after.0 after.1)) (length-buried after.0.plain c.self.inside.tasks.items) in omega arith)
@@ -81,4 +82,11 @@ returns-clause-took g c =
     let victim = is_victim _ s c.args.pid enabled in
     let after = c.kill.ensures.killed s.world at.stands victim.0 victim.1 in
     kills g.T.Turner.stands _ _ s c.args.pid c.in-Some.first.pid c.in-Waiting.asked _ after.0 _ c.live-live.result c.live.result _ _
-    at enabled lowest after.1 after.2 (c.bury.ensures.items after.0 after.1) (c.live-live.ensures s.world at.stands) (c.live.ensures after.0 after.1))
+    at enabled lowest after.1 after.2 (c.bury.ensures.items after.0 after.1) (c.live-live.ensures.bytes s.world at.stands) (c.live.ensures.bytes after.0 after.1))
+
+pub returns-clause-inside : goal.returns-clause-inside
+returns-clause-inside g c =
+    let may = subst (λ core. MayTake g.T.Turner.stands (g.T.Turner.script core.store) core (Kill c.args.pid)) (sym c.self.view_is) c.requires in
+    let fits = inside g.T.Turner.stands _ _ _ _ _ may.state c.self.invariant may.is_at in
+    let high = c.kill.ensures.high may.state.world may.is_at.stands in
+    rw (← c.self.view_is) (omega arith)

@@ -2,7 +2,7 @@ use Rattle.std.proofs.Common.{◌≡◌, sym, subst, ap, ◌∙◌}
 use Rattle.posix_defs.specs.World.{World}
 use Rattle.posix_defs.specs.Victim.{victim_of}
 use Rattle.posix_defs.proofs.Sounds.{is_sound}
-use Rattle.kern_core.proofs.ReliefSteps.{can_lose, first_up, going_now, has_licence, kill_is_told, no_victim_no_licence, stuck}
+use Rattle.kern_core.proofs.ReliefSteps.{can_lose, evict_is_told, first_up, going_now, has_licence, kill_is_told, no_victim_no_licence, stuck}
 use Rattle.kern_core.proofs.cores.Core.relief.Goals as goal
 
 pub evict-requires : goal.evict-requires
@@ -63,3 +63,13 @@ returns-clause-told g c = λ s at sound.
     (going_now g.T.Turner.stands script _ c.args.self.now s _ _ c.self.view_is at c.as_slice.ensures.value c.room.ensures ∙ sym c.first_going.ensures ∙ c.in_default.is)
     (at.reserved ∙ sym (ap (λ v. v.reserved) c.self.view_is) ∙ c.if-self-ne0.false) lost (has_licence script _ _ s sound none is_stuck lost)
     (sym (victim s.world at.stands) ∙ c.in-Some-victim.is)
+
+pub returns-in-Some-first_evictable-clause-told : goal.returns-in-Some-first_evictable-clause-told
+returns-in-Some-first_evictable-clause-told g c = λ s at sound.
+    let script = g.T.Turner.script c.args.self.now.store in
+    let none = c.requires.no_end s at sound in
+    let is_stuck = stuck g.T.Turner.stands script _ c.args.self.now s _ _ _ c.self.view_is at c.as_slice.ensures.value c.some_wait.ensures c.if-not-some_wait.false c.room.ensures (sym c.first_going.ensures ∙ c.in_default.is) c.if-self-ne0.false in
+    evict_is_told script s _ is_stuck.waits
+    (going_now g.T.Turner.stands script _ c.args.self.now s _ _ c.self.view_is at c.as_slice.ensures.value c.room.ensures ∙ sym c.first_going.ensures ∙ c.in_default.is)
+    (at.reserved ∙ sym (ap (λ v. v.reserved) c.self.view_is) ∙ c.if-self-ne0.false)
+    (sym (c.first_evictable.ensures s at) ∙ c.in-Some-first_evictable.is)

@@ -7,7 +7,8 @@ use Rattle.posix_defs.specs.World.{live_of}
 use Rattle.posix_defs.specs.CoreState.{phase_in}
 use Rattle.posix_defs.proofs.Sounds.{is_sound}
 use Rattle.kern_core.specs.View.{MayTake}
-use Rattle.kern_core.proofs.NextRun.{has_room, has_task_room, held_back, kept_next, same_asked, takes_all, turns, rising_now}
+use Rattle.kern_core.proofs.HeapBounds.{little_slack}
+use Rattle.kern_core.proofs.NextRun.{has_room, has_task_room, held_back, kept_next, reserved_charged, same_asked, takes_all, turns, rising_now, within_heap}
 use Rattle.kern_core.proofs.TurnLeads.{few_kept, few_then, is_paid, is_there, led, tasks_then}
 use Rattle.kern_core.proofs.cores.Core.turn.Goals as goal
 use Rattle.kern_core.proofs.CalmTurns.{calm}
@@ -29,7 +30,7 @@ overflow_sub-self g c =
     let found : phase_in c.self.inside.tasks.items c.args.pid ≡ Admitted c.in-Admitted.asked =
     ap (λ ts. phase_in ts c.args.pid) (sym c.as_slice.ensures.value) ∙ sym c.phase_of.ensures ∙ c.in-Admitted.is in
     let held : c.in-Admitted.asked.bound ≤ c.self.inside.reserved = held_back g.T.Turner.stands _ _ _ _ _ c.args.pid (Admitted c.in-Admitted.asked) c.self.invariant found (λ e. (cc)) in
-    held
+    omega arith
 
 pub phase_after-phase-requires : goal.phase_after-phase-requires
 phase_after-phase-requires g c =
@@ -85,7 +86,7 @@ overflow_add-self g c =
     let found : phase_in c.self.inside.tasks.items c.args.pid ≡ Admitted c.in-Admitted.asked =
     ap (λ ts. phase_in ts c.args.pid) (sym c.as_slice.ensures.value) ∙ sym c.phase_of.ensures ∙ c.in-Admitted.is in
     let asked = same_asked _ _ c.args.pid may.enabled.asked c.in-Admitted.asked Admitted (λ x y e. (cc)) may.is_at.tasks may.enabled.is found in
-    let live : c.live.result ≡ live_of here.world = c.live.ensures here.world here.stands in
+    let live : c.live.result ≡ live_of here.world = c.live.ensures.bytes here.world here.stands in
     let paid = is_paid g.T.Turner.stands _ _ _ _ _ may.state c.args.pid c.live.result c.next-call.result c.in-Admitted.asked c.self.invariant may.is_at sound may.enabled asked call
     (subst (λ n. n ≤ live_of may.state.world + bound c.next-call.result) (sym live) here.live) in
     let fits : c.live.result + 2176 + (c.self.inside.reserved - c.in-Admitted.asked.bound) ≤ (g.T.Turner.script c.self.inside.store).heap = paid.after in
@@ -102,13 +103,29 @@ overflow_add-self-2 g c =
     let found : phase_in c.self.inside.tasks.items c.args.pid ≡ Admitted c.in-Admitted.asked =
     ap (λ ts. phase_in ts c.args.pid) (sym c.as_slice.ensures.value) ∙ sym c.phase_of.ensures ∙ c.in-Admitted.is in
     let asked = same_asked _ _ c.args.pid may.enabled.asked c.in-Admitted.asked Admitted (λ x y e. (cc)) may.is_at.tasks may.enabled.is found in
-    let live : c.live.result ≡ live_of here.world = c.live.ensures here.world here.stands in
+    let live : c.live.result ≡ live_of here.world = c.live.ensures.bytes here.world here.stands in
     let paid = is_paid g.T.Turner.stands _ _ _ _ _ may.state c.args.pid c.live.result c.next-call.result c.in-Admitted.asked c.self.invariant may.is_at sound may.enabled asked call
     (subst (λ n. n ≤ live_of may.state.world + bound c.next-call.result) (sym live) here.live) in
     let fits : c.live.result + 2176 + (c.self.inside.reserved - c.in-Admitted.asked.bound) ≤ (g.T.Turner.script c.self.inside.store).heap = paid.after in
     let same : c.self.inside.heap ≡ (g.T.Turner.script c.self.inside.store).heap = c.self.invariant.same_heap in
     let most : c.self.inside.heap ≤ 8388608 = c.self.invariant.most_heap in
+    let less : c.self.inside.reserved ≤ c.self.inside.charged = reserved_charged g.T.Turner.stands _ _ _ _ _ c.self.invariant in
+    let within : c.self.inside.charged ≤ (g.T.Turner.script c.self.inside.store).heap = within_heap g.T.Turner.stands _ _ _ _ _ c.self.invariant in
     omega arith
+
+pub returns-clause-inside : goal.returns-clause-inside
+returns-clause-inside g c =
+    let may = subst (λ core. MayTake g.T.Turner.stands (g.T.Turner.script core.store) core (Turn c.args.pid)) (sym c.self.view_is) c.requires in
+    let sound = is_sound may.runs in
+    let call = c.next-call.ensures may.state.world may.is_at.stands (is_there _ may.state c.args.pid sound may.enabled) in
+    let found : phase_in c.self.inside.tasks.items c.args.pid ≡ Admitted c.in-Admitted.asked =
+    ap (λ ts. phase_in ts c.args.pid) (sym c.as_slice.ensures.value) ∙ sym c.phase_of.ensures ∙ c.in-Admitted.is in
+    let asked = same_asked _ _ c.args.pid may.enabled.asked c.in-Admitted.asked Admitted (λ x y e. (cc)) may.is_at.tasks may.enabled.is found in
+    let paid = is_paid g.T.Turner.stands _ _ _ _ _ may.state c.args.pid (live_of may.state.world + bound c.next-call.result) c.next-call.result c.in-Admitted.asked c.self.invariant may.is_at sound may.enabled asked call (omega arith) in
+    let fits : live_of may.state.world + bound c.next-call.result + 2176 + (c.self.inside.reserved - c.in-Admitted.asked.bound) ≤ (g.T.Turner.script c.self.inside.store).heap = paid.after in
+    let high = c.turn-turned.ensures.high may.state.world may.is_at.stands in
+    let little = little_slack c.next-call.result in
+    rw (← c.self.view_is) (omega arith)
 
 pub invariant_of-self : goal.invariant_of-self
 invariant_of-self g c =
@@ -130,7 +147,7 @@ invariant_of-self g c =
     c.entry_of-entry.ensures call here.stands here.turned
     (tasks_then _ _ may.state.world.plain here.world.plain c.args.pid _ _ _ _ _ _ _ _ c.turn-turned.ensures.script
     (c.phase_after-phase.ensures here.world here.stands here.lives) c.set_phase.ensures.items (c.bury_ended.ensures.items here.world here.stands (calm _ _ may.state c.args.pid _ _ here.world c.in-Admitted.asked _ _ _ _ sound may.enabled asked call here.turned may.is_at.tasks c.turn-turned.ensures.script (c.phase_after-phase.ensures here.world here.stands here.lives) c.set_phase.ensures.items c.may_end-ends.ensures)) before after c.add_born.ensures.items)
-    (c.live.ensures here.world here.stands))
+    (c.live.ensures.bytes here.world here.stands))
     (c.note.ensures.run ∙ ap (λ n. c.self.inside.run.items ++ n ∷ []) c.noted_of-noted.ensures) refl
     (c.note.ensures.peak ∙ ap (λ n. max c.self.inside.peak n.charged) c.noted_of-noted.ensures) c.note.ensures.room
     (c.add_born.ensures.room ∙ c.bury_ended.ensures.room ∙ c.set_phase.ensures.room)
@@ -151,7 +168,7 @@ returns-clause-took g c =
     (tasks_then _ _ s.world.plain here.world.plain c.args.pid _ _ _ _ _ _ _ _ c.turn-turned.ensures.script
     (c.phase_after-phase.ensures here.world here.stands here.lives) c.set_phase.ensures.items (c.bury_ended.ensures.items here.world here.stands (calm _ _ s c.args.pid _ _ here.world c.in-Admitted.asked _ _ _ _ sound enabled asked call here.turned at.tasks c.turn-turned.ensures.script (c.phase_after-phase.ensures here.world here.stands here.lives) c.set_phase.ensures.items c.may_end-ends.ensures))
     (c.last_pid-before.ensures s.world at.stands) (c.last_pid.ensures here.world here.stands) c.add_born.ensures.items)
-    (c.live.ensures here.world here.stands))
+    (c.live.ensures.bytes here.world here.stands))
 
 pub phase_of-requires : goal.phase_of-requires
 phase_of-requires g c = subst (AreRising 0) (sym c.as_slice.ensures.value) (rising_now g.T.Turner.stands _ _ c.self.invariant.has_run)
