@@ -7,6 +7,7 @@ use Rattle.std.proofs.lemmas.List.Elements.{Contains-append_right}
 use Rattle.std.proofs.lemmas.List.Sums.{sum_by-cons}
 use Rattle.posix_defs.specs.Memory.{Places, Unmapped, is_place, nodes_in}
 use Rattle.kheap_slabs.specs.Heap.{Heap, IsWellFormed}
+use Rattle.kheap_slabs.specs.Keys.{AreKeysOf}
 use Rattle.kheap_slabs.specs.Objects.{object, InUse, count}
 use Rattle.kheap_slabs.specs.Owners.{Owners, node_keys, IsOwned}
 use Rattle.kheap_slabs.specs.Spaces.{is_mapped, keys_in, OwnsNodes}
@@ -107,18 +108,23 @@ nodes_by_places h space number places well owns four placed whole =
     (λ group above below. ap (λ b. cond {A = ℕ} b 1 0) (group_any h.nodes space number places owns well.entries placed whole group (omega arith)))
     ∙ (ap (λ n. count_by (λ group. is_some (get_or space group None)) (range_with_len 0 n)) (sym four) ∙ keys_counted space)
 
+-- as many objects are in use as there are keys of them
+module _ {X : Type 0} where
+  each_once : (objects : List (Option X)) (keys : List ℕ) → ((key : ℕ) → Contains keys key → InUse objects key)
+      → sum_by (λ key. cond {A = ℕ} (is_some (object objects key)) 1 0) keys ≡ length keys
+  each_once objects [] used = refl
+  each_once objects (key ∷ keys) used =
+      omega (
+        arith,
+        sum_by-cons (λ k. cond {A = ℕ} (is_some (object objects k)) 1 0) key keys,
+        cond-true {A = ℕ} (is_some (object objects key)) 1 0 (used key (0, omega arith, refl)),
+        each_once objects keys (λ k there. used k (Contains-append_right (key ∷ []) keys k there)),
+      )
+
+  pub count_of_keys : (objects : List (Option X)) (keys : List ℕ) → AreKeysOf objects keys → count objects ≡ length keys
+  count_of_keys objects keys are =
+      sum_of_keys (λ (o : Option X). cond {A = ℕ} (is_some o) 1 0) refl keys objects are ∙ each_once objects keys are.used
+
 -- and the heap has as many as all spaces
 pub nodes_of_spaces : (h : Heap) (owners : Owners) → IsOwned h owners → count h.nodes ≡ length (node_keys owners.spaces)
-nodes_of_spaces h owners owned =
-    sum_of_keys (λ (node : Option Node). cond {A = ℕ} (is_some node) 1 0) refl (node_keys owners.spaces) h.nodes owned.nodes
-    ∙ each_once (node_keys owners.spaces) owned.nodes.used
-  where
-    each_once : (keys : List ℕ) → ((key : ℕ) → Contains keys key → InUse h.nodes key) → sum_by (λ key. cond {A = ℕ} (is_some (object h.nodes key)) 1 0) keys ≡ length keys
-    each_once [] used = refl
-    each_once (key ∷ keys) used =
-        omega (
-          arith,
-          sum_by-cons (λ k. cond {A = ℕ} (is_some (object h.nodes k)) 1 0) key keys,
-          cond-true {A = ℕ} (is_some (object h.nodes key)) 1 0 (used key (0, omega arith, refl)),
-          each_once keys (λ k there. used k (Contains-append_right (key ∷ []) keys k there)),
-        )
+nodes_of_spaces h owners owned = count_of_keys h.nodes (node_keys owners.spaces) owned.nodes

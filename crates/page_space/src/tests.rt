@@ -64,6 +64,7 @@ fn go_through(rt: &impl Abort, alloc: Global, steps: &[Step]) -> Result<(), Memo
     }
     space.release(&mut heap);
     assert!(rt; heap.live() == 0);
+    drop(heap);
     Ok(())
 }
 
@@ -124,6 +125,7 @@ fn a_range_is_mapped_where_each_page_is(rt: HostRuntime) -> Result<(), Fail> {
             && !space.mapped(&heap, 0, 1)
     );
     space.release(&mut heap);
+    drop(heap);
     Ok(())
 }
 
@@ -139,5 +141,6 @@ fn a_child_has_nodes_of_its_own(rt: HostRuntime) -> Result<(), Fail> {
     assert!(rt; child.mapped(&heap, 4096, 266240) && !child.mapped(&heap, 4096, 266241));
     child.release(&mut heap);
     assert!(rt; heap.live() == 1024);
+    drop(heap);
     Ok(())
 }

@@ -158,6 +158,7 @@ fn go_through(rt: &impl Abort, alloc: Global, steps: &[(Step, u64)]) -> Result<(
         take_step(rt, &mut heap, &mut one, &mut two, &mut three, *step);
         assert!(rt; heap.live() == *live, "{} and not {live}", heap.live());
     }
+    drop(heap);
     Ok(())
 }
 
@@ -288,5 +289,6 @@ fn bytes_go_over_three_pages(rt: HostRuntime) -> Result<(), Fail> {
             && look(&rt, &heap, &space, 12288) == 7
             && look(&rt, &heap, &space, 12289) == 0
     );
+    drop(heap);
     Ok(())
 }
