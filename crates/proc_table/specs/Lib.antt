@@ -1,0 +1,7 @@
+pub mod Procs
+pub mod Changes
+pub mod Exits
+pub mod Table
+pub mod Moves
+pub mod Standing
+pub mod Accounting

@@ -1,0 +1,77 @@
+-- Processes as they stand in the heap, by rising pid.
+use Rattle.std.specs.Prelude.{ℕ, ◌≡◌, ◌==◌, ℤ, pos, negsuc, if◌then◌else◌, List, [], ◌∷◌, map, replicate, Option, None, Some}
+use Rattle.std.specs.List.{range_with_len}
+use Rattle.kheap_slabs.specs.Heap.{Heap}
+use Rattle.kheap_slabs.specs.declared.objects.Descriptor.{Descriptor}
+use Rattle.kheap_slabs.specs.declared.objects.Proc.{Proc}
+use Rattle.page_space.specs.Contents.{content_at}
+use Rattle.posix_defs.specs.Memory.{Memory}
+use Rattle.posix_defs.specs.Process.{Process, Status, Alive, Ended}
+use Rattle.posix_defs.specs.Plain.{at_start, root}
+use Rattle.kheap_slabs.specs.Spaces.{keys_in}
+
+-- a process without a wait status runs
+abbrev pub status_of : Option ℕ → Status
+status_of None = Alive
+status_of (Some status) = Ended status
+
+-- the bytes of each page of a space, by its number
+unfoldable pub memory_at : Heap → List (Option ℕ) → Memory
+memory_at h space = map (content_at h space) (range_with_len 0 256)
+
+-- the plain machine's process that one in the heap is
+abbrev pub process_of : Heap → Proc → Process
+process_of h proc = record { parent = proc.parent; directory = proc.cwd; status = status_of proc.status; memory = memory_at h proc.nodes }
+
+-- the first of that pid
+abbrev pub proc_of : List Proc → ℕ → Option Proc
+proc_of [] pid = None
+proc_of (proc ∷ procs) pid = if proc.pid == pid then Some proc else proc_of procs pid
+
+-- the same by a number as a call has it, which may be no pid
+abbrev pub target_of : List Proc → ℤ → Option Proc
+target_of procs (pos pid) = proc_of procs pid
+target_of procs (negsuc _) = None
+
+-- the process of that pid is there and has not ended
+pub record IsAlive (procs : List Proc) (pid : ℕ) : Type 0 where
+  pub proc : Proc
+  pub there : proc_of procs pid ≡ Some proc
+  pub runs : proc.status ≡ None
+
+-- the process of that pid is there, and has ended
+pub record HasEnded (procs : List Proc) (pid : ℕ) : Type 0 where
+  pub proc : Proc
+  pub status : ℕ
+  pub there : proc_of procs pid ≡ Some proc
+  pub over : proc.status ≡ Some status
+
+-- no page is mapped in any of the four groups
+abbrev pub no_nodes : List (Option ℕ)
+no_nodes = None ∷ None ∷ None ∷ None ∷ []
+
+-- no descriptor is open
+abbrev pub no_descriptors : List (Option Descriptor)
+no_descriptors = replicate 32 None
+
+-- the process that was not forked, as it is at boot: at the beginning of a program, without memory
+abbrev pub first_proc : Proc
+first_proc = record {
+  pid = 1;
+  parent = 0;
+  status = None;
+  cwd = root;
+  control = at_start 0;
+  descriptors = no_descriptors;
+  nodes = no_nodes;
+}
+
+-- the space is empty where the process has ended
+abbrev pub HasNoMemoryOnce : Option ℕ → List (Option ℕ) → Type 0
+HasNoMemoryOnce None nodes = Unit {0}
+HasNoMemoryOnce (Some status) nodes = keys_in nodes ≡ []
+
+-- a process that has ended has no memory, and none has a descriptor
+pub record IsLight (proc : Proc) : Type 0 where
+  pub memory : HasNoMemoryOnce proc.status proc.nodes
+  pub descriptors : proc.descriptors ≡ no_descriptors

@@ -1,0 +1,104 @@
+//! Laws of the table for a crate that changes memory, controls or other objects of the same heap. Each is the contract of a
+//! function that does nothing.
+
+ghost use Rattle.std.specs.Prelude.{◌≡◌, ◌≢◌, ◌+◌, ◌≤◌, ℕ, ℤ, true, List, filter, length, map, Option, None, Some};
+ghost use Rattle.kabi_types.specs.declared.scripts.Script.{Script};
+ghost use Rattle.kheap_slabs.specs.Heap.{Heap};
+ghost use Rattle.kheap_slabs.specs.Objects.{object};
+ghost use Rattle.kheap_slabs.specs.Owners.{Owners, IsOwned};
+ghost use Rattle.kheap_slabs.specs.declared.objects.Proc.{Proc};
+ghost use Rattle.page_space.specs.Accounts.{AccountMoves, IsAccounted};
+ghost use Rattle.page_space.specs.Contents.{IsOwnedWith, StandsFor};
+ghost use Rattle.posix_defs.specs.Ending.{die_in};
+ghost use Rattle.posix_defs.specs.Family.{IsFamily};
+ghost use Rattle.posix_defs.specs.Forking.{fork};
+ghost use Rattle.posix_defs.specs.Memory.{Frames, Memory};
+ghost use Rattle.posix_defs.specs.Plain.{Plain, last_pid};
+ghost use Rattle.posix_defs.specs.Process.{Table, is_there, process_at, with_memory};
+ghost use Rattle.posix_defs.specs.Waiting.{waitpid};
+ghost use Rattle.proc_table.specs.Accounting.{HasAccount};
+ghost use Rattle.proc_table.specs.Changes.{forked_as, is_other, replaced, with_nodes};
+ghost use Rattle.proc_table.specs.Moves.{MemoryStays, ProcTurns, SpaceTurns, TableMoves};
+ghost use Rattle.proc_table.specs.Procs.{memory_at, proc_of, process_of};
+ghost use Rattle.proc_table.specs.Standing.{IsTable, answered_fork, answered_wait, ends_from, ends_in, found_in};
+ghost use Rattle.proc_table.specs.Table.{Holds, TableView, key_of, processes, with_procs};
+
+/// A process that is there is under the key that the table has of it, is the plain machine's of that pid, and its space is one
+/// in hand, which stands for its memory; who has no key isn't there.
+pub fn a_process_is_in_hand()
+    ensures key { (h : Heap) (kept : TableView) (pid : ℕ) (key : ℕ) → Holds h kept → key_of kept.listed pid ≡ Some key
+        → (proc : Proc) × (object h.procs key ≡ Some proc) × (proc_of (processes h kept) pid ≡ Some proc) }
+    ensures none { (h : Heap) (kept : TableView) (pid : ℕ) → Holds h kept → key_of kept.listed pid ≡ None
+        → proc_of (processes h kept) pid ≡ None }
+    ensures there { (h : Heap) (kept : TableView) (table : Table) (pid : ℕ) (proc : Proc) → IsTable h kept table
+        → proc_of (processes h kept) pid ≡ Some proc → process_at table pid ≡ Some (process_of h proc) }
+    ensures gone { (h : Heap) (kept : TableView) (table : Table) (pid : ℕ) → IsTable h kept table
+        → proc_of (processes h kept) pid ≡ None → process_at table pid ≡ None }
+    ensures space { (h : Heap) (kept : TableView) (pid : ℕ) (proc : Proc) → Holds h kept
+        → proc_of (processes h kept) pid ≡ Some proc → IsOwnedWith h proc.nodes }
+    ensures stands { (h : Heap) (space : List (Option ℕ)) → StandsFor h space (memory_at h space) }
+    ensures whole { (h : Heap) (space : List (Option ℕ)) → length (memory_at h space) ≡ 256 }
+    ensures account { (h : Heap) (kept : TableView) (frames : Frames) (pid : ℕ) (proc : Proc) → Holds h kept
+        → (has : HasAccount h kept frames) → proc_of (processes h kept) pid ≡ Some proc
+        → IsAccounted h has.number frames pid proc.nodes }
+{}
+
+/// A live process's space may become another and be put back: the table holds, the process has the new memory, all others have
+/// what they had, and the account follows.
+pub fn a_space_comes_back()
+    ensures procs { (old : Heap) (mid : Heap) (new : Heap) (kept : TableView) (pid : ℕ) (key : ℕ) (proc : Proc) (now : List (Option ℕ))
+        → Holds old kept → SpaceTurns old mid new kept pid key proc now
+        → processes new kept ≡ map (with_nodes pid now) (processes old kept) }
+    ensures moves { (old : Heap) (mid : Heap) (new : Heap) (kept : TableView) (pid : ℕ) (key : ℕ) (proc : Proc) (now : List (Option ℕ))
+        → Holds old kept → SpaceTurns old mid new kept pid key proc now → TableMoves old kept new kept }
+    ensures others { (old : Heap) (mid : Heap) (new : Heap) (kept : TableView) (pid : ℕ) (key : ℕ) (proc : Proc) (now : List (Option ℕ))
+        → Holds old kept → SpaceTurns old mid new kept pid key proc now
+        → MemoryStays old new (filter (is_other pid) (processes old kept)) }
+    ensures table { (old : Heap) (mid : Heap) (new : Heap) (kept : TableView) (pid : ℕ) (key : ℕ) (proc : Proc) (now : List (Option ℕ))
+        (table : Table) (memory : Memory)
+        → Holds old kept → SpaceTurns old mid new kept pid key proc now → StandsFor mid now memory → length memory ≡ 256
+        → IsTable old kept table → IsTable new kept (with_memory table pid memory) }
+    ensures account { (old : Heap) (mid : Heap) (new : Heap) (kept : TableView) (pid : ℕ) (key : ℕ) (proc : Proc) (now : List (Option ℕ))
+        (before : Frames) (after : Frames)
+        → Holds old kept → SpaceTurns old mid new kept pid key proc now → (has : HasAccount old kept before)
+        → AccountMoves old mid proc.nodes now has.number before after pid → HasAccount new kept after }
+{}
+
+/// A process's control or working directory may become another: the table holds, all others are as they were, and memory and
+/// account are the same.
+pub fn a_process_goes_on()
+    ensures procs { (old : Heap) (new : Heap) (kept : TableView) (pid : ℕ) (key : ℕ) (proc : Proc) (now : Proc)
+        → Holds old kept → ProcTurns old new kept pid key proc now
+        → processes new kept ≡ map (replaced pid now) (processes old kept) }
+    ensures moves { (old : Heap) (new : Heap) (kept : TableView) (pid : ℕ) (key : ℕ) (proc : Proc) (now : Proc)
+        → Holds old kept → ProcTurns old new kept pid key proc now → TableMoves old kept new kept }
+    ensures table { (old : Heap) (new : Heap) (kept : TableView) (pid : ℕ) (key : ℕ) (proc : Proc) (now : Proc) (table : Table)
+        → Holds old kept → ProcTurns old new kept pid key proc now → now.cwd ≡ proc.cwd
+        → IsTable old kept table → IsTable new kept table }
+    ensures account { (old : Heap) (new : Heap) (kept : TableView) (pid : ℕ) (key : ℕ) (proc : Proc) (now : Proc) (frames : Frames)
+        → Holds old kept → ProcTurns old new kept pid key proc now → HasAccount old kept frames → HasAccount new kept frames }
+{}
+
+/// Where the heap changes elsewhere the table is what it was, as long as its spaces own what they owned.
+pub fn the_heap_changes_elsewhere()
+    ensures holds { (old : Heap) (new : Heap) (kept : TableView) (others : Owners)
+        → new.procs ≡ old.procs → IsOwned new (with_procs (processes old kept) others) → Holds old kept → Holds new kept }
+    ensures table { (old : Heap) (new : Heap) (kept : TableView) (table : Table)
+        → new.procs ≡ old.procs → new.nodes ≡ old.nodes → new.pages ≡ old.pages → IsTable old kept table → IsTable new kept table }
+    ensures account { (old : Heap) (new : Heap) (kept : TableView) (frames : Frames)
+        → new.procs ≡ old.procs → new.nodes ≡ old.nodes → new.pages ≡ old.pages → HasAccount old kept frames → HasAccount new kept frames }
+{}
+
+/// What the table answers is what the plain machine answers. With the first process all others end: where they do so one after
+/// another, by rising pid, nobody is left.
+pub fn the_table_answers_as_the_machine()
+    ensures forked { (script : Script) (plain : Plain) (h : Heap) (kept : TableView) (pid : ℕ)
+        → Holds h kept → IsTable h kept plain.table → last_pid plain ≡ kept.last
+        → fork script plain pid ≡ answered_fork script plain pid (forked_as (length kept.listed) kept.last) }
+    ensures waited { (script : Script) (plain : Plain) (pid : ℕ) (which : ℤ) (options : ℤ)
+        → waitpid script plain pid which options ≡ answered_wait script plain pid options (found_in plain.table pid which) }
+    ensures ended { (table : Table) (pid : ℕ) (status : ℕ) → pid ≢ 1 → is_there (process_at table 1) ≡ true
+        → die_in table pid status ≡ ends_in table pid status }
+    ensures all { (table : Table) (status : ℕ) (signal : ℕ) (more : ℕ) → IsFamily table → length table ≤ more + 1
+        → ends_from more 2 (ends_in table 1 status) signal ≡ die_in table 1 status }
+{}
