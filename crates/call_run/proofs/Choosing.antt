@@ -1,90 +1,85 @@
--- Who is waited for and who would be killed, among the tasks as in the table.
-use Rattle.std.proofs.Common.{◌≡◌, ℕ, suc, ◌+◌, ◌<◌, ◌==◌, ◌&&◌, ◌||◌, not, ℤ, true, false, Bool, cond, filter, List, [], ◌∷◌, Option, None, Some, is_some, refl, ap, sym, ◌∙◌, arith}
+-- Who would be killed, among the processes as in the heap.
+use Rattle.std.proofs.Common.{◌≡◌, ℕ, ◌+◌, ◌<◌, ◌==◌, ◌&&◌, not, cond, filter, List, [], ◌∷◌, length, Option, None, Some, is_some, refl, ap, sym, ◌∙◌, arith}
 use Rattle.std.specs.Prelude.{IfSome, IsNone}
-use Rattle.std.specs.List.{All, list_any}
+use Rattle.std.specs.List.{All, AllByRecursion}
 use Rattle.std.proofs.lemmas.List.Elements.{All-cons, All-head, All-nil, All-tail, All-weaker}
-use Rattle.std.specs.Option.{option_map, option_or}
 use Rattle.kabi_types.specs.declared.classes.Weight.{Weight}
 use Rattle.kabi_types.specs.declared.scripts.Policy.{Policy}
-use Rattle.posix_defs.specs.Process.{Table, runs}
+use Rattle.kabi_types.specs.declared.scripts.Script.{Script}
+use Rattle.kheap_slabs.specs.Heap.{Heap, IsWellFormed}
+use Rattle.kheap_slabs.specs.Spaces.{OwnsNodes}
+use Rattle.kheap_slabs.specs.declared.objects.Proc.{Proc}
+use Rattle.page_space.proofs.NodeCounts.{nodes_by_places}
+use Rattle.posix_defs.specs.Memory.{places_of}
 use Rattle.posix_defs.specs.Plain.{Plain}
-use Rattle.posix_defs.specs.Victim.{pid_of_greatest, weights_from}
+use Rattle.posix_defs.specs.Process.{Table, runs}
+use Rattle.posix_defs.specs.Victim.{pid_of_greatest, victim_of, weight_of, weights_from}
+use Rattle.posix_defs.specs.World.{Account}
+use Rattle.proc_table.specs.Accounting.{IsPlaced}
+use Rattle.proc_table.specs.Procs.{status_of}
+use Rattle.proc_table.specs.Standing.{AreFrom, nobody, gone, there}
+use Rattle.proc_table.proofs.AccountLemmas.{all_both}
+use Rattle.proc_table.proofs.OwnLemmas.{AreRising, all_weaker, rising_procs}
+use Rattle.proc_table.proofs.PlaceLemmas.{eqb_same}
 use Rattle.victim_core.proofs.GreatestLemmas.{victim-named}
 use Rattle.victim_core.specs.Victims.{IsVictim, RisesByPid}
-use Rattle.posix_defs.specs.Waiting.{Exited, any_from, exited_from, has_ended, is_asked_for, wait_status}
-use Rattle.posix_defs.specs.World.{Account}
-use Rattle.call_run.specs.declared.tasks.Task.{Task}
-use Rattle.call_run.specs.declared.tasks.Told.{Told}
-use Rattle.call_run.specs.Tasks.{AreFrom, nobody, gone, there, AreRising, exited_as, is_wanted, light, status_of, told_of, weights_in}
-use Rattle.call_run.proofs.Present.{eqb_same}
+use Rattle.call_run.specs.declared.objects.Objects.{Objects}
+use Rattle.call_run.specs.Objects.{AreKept, procs_of}
+use Rattle.call_run.specs.Standing.{StandFor}
+use Rattle.call_run.specs.Weights.{weight_in, weights_in}
+use Rattle.call_run.proofs.FrameCounts.{frames_are}
+use Rattle.call_run.proofs.Owning.{Owns, all_own}
 
--- some child is asked for
-pub any_is : {first : ℕ} {table : Table} {tasks : List Task} → AreFrom first table tasks → (parent : ℕ) (which : ℤ)
-    → any_from parent which first table ≡ list_any (is_wanted parent which) tasks
-any_is (nobody first) parent which = refl
-any_is (gone first table tasks rest) parent which = ap (λ n. any_from parent which n table) (let e : first + 1 ≡ suc first = omega arith in e) ∙ any_is rest parent which
-any_is (there first task table tasks e rest) parent which =
-    ap (λ n. ((task.parent == parent) && is_asked_for which n) || any_from parent which (first + 1) table) (sym e)
-    ∙ ap (λ b. is_wanted parent which task || b) (ap (λ n. any_from parent which n table) (let k : first + 1 ≡ suc first = omega arith in k) ∙ any_is rest parent which)
+-- the account's weight of a process is that of its nodes in the heap
+abbrev pub IsWeighed : Heap → Plain → Account → Proc → Type 0
+IsWeighed h plain account proc = weight_of plain account proc.pid ≡ weight_in h proc
 
--- a table's entry as it is told
-told_here : (wanted : Bool) (number parent : ℕ) (told : Option ℕ) → cond wanted (cond (has_ended (status_of told)) (Some (record { pid = number; status = wait_status (status_of told) })) None) None
-    ≡ option_map exited_as (cond wanted (option_map (λ status. record { pid = number; status = status }) told) None)
-told_here true number parent None = refl
-told_here true number parent (Some status) = refl
-told_here false number parent told = refl
+weight : ℕ → ℕ → ℕ → Weight
+weight pid frames nodes = record { pid = pid; frames = frames; nodes = nodes; descs = 0 }
 
-mapped_or : (one other : Option Told) → option_map exited_as (option_or one other) ≡ option_or (option_map exited_as one) (option_map exited_as other)
-mapped_or None other = refl
-mapped_or (Some told) other = refl
+same_weight : (pid frames other nodes more : ℕ) → frames ≡ other → nodes ≡ more → weight pid frames nodes ≡ weight pid other more
+same_weight pid frames other nodes more e f = ap (λ n. weight pid n nodes) e ∙ ap (λ n. weight pid other n) f
 
--- the ended child that is told
-pub told_is : {first : ℕ} {table : Table} {tasks : List Task} → AreFrom first table tasks → (parent : ℕ) (which : ℤ)
-    → exited_from parent which first table ≡ option_map exited_as (told_of parent which tasks)
-told_is (nobody first) parent which = refl
-told_is (gone first table tasks rest) parent which = ap (λ n. exited_from parent which n table) (let e : first + 1 ≡ suc first = omega arith in e) ∙ told_is rest parent which
-told_is (there first task table tasks e rest) parent which =
-    ap (λ n. option_or (here n) (exited_from parent which (first + 1) table)) (sym e)
-    ∙ ap (λ o. option_or o (exited_from parent which (first + 1) table)) (told_here (is_wanted parent which task) task.pid task.parent task.status)
-    ∙ ap (option_or (option_map exited_as mine)) (ap (λ n. exited_from parent which n table) (let k : first + 1 ≡ suc first = omega arith in k) ∙ told_is rest parent which)
-    ∙ sym (mapped_or mine (told_of parent which tasks))
+weighed_so : (h : Heap) (plain : Plain) (account : Account) (number : ℕ → ℕ) (proc : Proc) → IsWellFormed h → IsPlaced number h.nodes account proc → length proc.nodes ≡ 4
+    → OwnsNodes h.nodes proc.nodes → IsWeighed h plain account proc
+unfolding weight
+weighed_so h plain account number proc whole placed four owns =
+    same_weight proc.pid _ _ _ _
+    (frames_are number h.nodes proc.nodes (places_of account proc.pid) placed.whole placed.places owns whole.entries four)
+    (nodes_by_places h proc.nodes number (places_of account proc.pid) whole owns four placed.places placed.whole)
+
+-- a machine's weights but the first process's are those of the processes in the heap
+weighed : (told : Option ℕ) (pid : ℕ) (w : Weight) (others rest : List Weight) → w.pid ≡ pid → others ≡ filter (λ v. not (v.pid == 1)) rest
+    → cond (runs (status_of told) && not (pid == 1)) (w ∷ others) others ≡ filter (λ v. not (v.pid == 1)) (cond (is_some told) rest (w ∷ rest))
+weighed None pid w others rest same e =
+    ap (λ ws. cond (not (pid == 1)) (w ∷ ws) ws) e ∙ ap (λ k. cond (not (k == 1)) (w ∷ filter (λ v. not (v.pid == 1)) rest) (filter (λ v. not (v.pid == 1)) rest)) (sym same)
+weighed (Some status) pid w others rest same e = e
+
+weights_are : {h : Heap} {first : ℕ} {table : Table} {procs : List Proc} → AreFrom h first table procs → (plain : Plain) (account : Account) (n : ℕ) → n ≡ first
+    → AllByRecursion (IsWeighed h plain account) procs → weights_from plain account n table ≡ filter (λ w. not (w.pid == 1)) (weights_in h procs)
+weights_are (nobody h first) plain account n e all = refl
+weights_are (gone h first table procs rest) plain account n e all = weights_are rest plain account (n + 1) (omega arith) all
+weights_are (there h first proc table procs p rest) plain account n e all =
+    ap (λ k. cond (runs (status_of proc.status) && not (k == 1)) (weight_of plain account k ∷ weights_from plain account (n + 1) table) (weights_from plain account (n + 1) table)) (e ∙ sym p)
+    ∙ ap (λ w. cond (runs (status_of proc.status) && not (proc.pid == 1)) (w ∷ weights_from plain account (n + 1) table) (weights_from plain account (n + 1) table)) all.0
+    ∙ weighed proc.status proc.pid (weight_in h proc) (weights_from plain account (n + 1) table) (weights_in h procs) refl (weights_are rest plain account (n + 1) (omega arith) all.1)
+
+-- weights of processes that rise by pid rise so too
+rises_above : (h : Heap) (below : ℕ) (procs : List Proc) → AreRising below procs → All (λ w. below < w.pid) (weights_in h procs)
+rises_above h below [] all = All-nil (λ w. below < w.pid)
+rises_above h below (proc ∷ procs) all = go proc.status
+    (All-weaker (λ w. proc.pid < w.pid) (λ w. below < w.pid) (λ w more. let k : below < proc.pid = all.0 in omega arith) (weights_in h procs) (rises_above h proc.pid procs all.1))
   where
-    here : ℕ → Option Exited
-    here n = cond ((task.parent == parent) && is_asked_for which n) (cond (has_ended (status_of task.status)) (Some (record { pid = n; status = wait_status (status_of task.status) })) None) None
-
-    mine : Option Told
-    mine = cond (is_wanted parent which task) (option_map (λ status. record { pid = task.pid; status = status }) task.status) None
-
--- the weights of a machine's processes but the first are those of the tasks
-weighed : (told : Option ℕ) (pid : ℕ) (others rest : List Weight) → others ≡ filter (λ w. not (w.pid == 1)) rest
-    → cond (runs (status_of told) && not (pid == 1)) (light pid ∷ others) others ≡ filter (λ w. not (w.pid == 1)) (cond (is_some told) rest (light pid ∷ rest))
-weighed None pid others rest e = ap (λ ws. cond (not (pid == 1)) (light pid ∷ ws) ws) e
-weighed (Some status) pid others rest e = e
-
-weights_are : {first : ℕ} {table : Table} {tasks : List Task} → AreFrom first table tasks → (plain : Plain) (account : Account) (n : ℕ) → n ≡ first
-    → weights_from plain account n table ≡ filter (λ w. not (w.pid == 1)) (weights_in tasks)
-weights_are (nobody first) plain account n e = refl
-weights_are (gone first table tasks rest) plain account n e = weights_are rest plain account (n + 1) (omega arith)
-weights_are (there first task table tasks p rest) plain account n e =
-    ap (λ k. cond (runs (status_of task.status) && not (k == 1)) (light k ∷ weights_from plain account (n + 1) table) (weights_from plain account (n + 1) table)) (e ∙ sym p)
-    ∙ weighed task.status task.pid (weights_from plain account (n + 1) table) (weights_in tasks) (weights_are rest plain account (n + 1) (omega arith))
-
--- weights of tasks that rise by pid rise so too
-rises_above : (below : ℕ) (tasks : List Task) → AreRising below tasks → All (λ w. below < w.pid) (weights_in tasks)
-rises_above below [] all = All-nil (λ w. below < w.pid)
-rises_above below (task ∷ tasks) all = go task.status
-    (All-weaker (λ w. task.pid < w.pid) (λ w. below < w.pid) (λ w h. let k : below < task.pid = all.0 in omega arith) (weights_in tasks) (rises_above task.pid tasks all.1))
-  where
-    go : (told : Option ℕ) → All (λ w. below < w.pid) (weights_in tasks) → All (λ w. below < w.pid) (cond (is_some told) (weights_in tasks) (light task.pid ∷ weights_in tasks))
-    go None rest = All-cons (λ w. below < w.pid) (light task.pid) (weights_in tasks) all.0 rest
+    go : (told : Option ℕ) → All (λ w. below < w.pid) (weights_in h procs) → All (λ w. below < w.pid) (cond (is_some told) (weights_in h procs) (weight_in h proc ∷ weights_in h procs))
+    go None rest = All-cons (λ w. below < w.pid) (weight_in h proc) (weights_in h procs) all.0 rest
     go (Some status) rest = rest
 
-rises_by_pid : (below : ℕ) (tasks : List Task) → AreRising below tasks → RisesByPid (weights_in tasks)
-rises_by_pid below [] all = tt
-rises_by_pid below (task ∷ tasks) all = go task.status (rises_by_pid task.pid tasks all.1)
+rises_by_pid : (h : Heap) (below : ℕ) (procs : List Proc) → AreRising below procs → RisesByPid (weights_in h procs)
+rises_by_pid h below [] all = tt
+rises_by_pid h below (proc ∷ procs) all = go proc.status (rises_by_pid h proc.pid procs all.1)
   where
-    go : (told : Option ℕ) → RisesByPid (weights_in tasks) → RisesByPid (cond (is_some told) (weights_in tasks) (light task.pid ∷ weights_in tasks))
-    go None rest = (rises_above task.pid tasks all.1, rest)
+    go : (told : Option ℕ) → RisesByPid (weights_in h procs) → RisesByPid (cond (is_some told) (weights_in h procs) (weight_in h proc ∷ weights_in h procs))
+    go None rest = (rises_above h proc.pid procs all.1, rest)
     go (Some status) rest = rest
 
 -- the first process alone leaves no weight
@@ -94,11 +89,26 @@ none_but_first (w ∷ weights) all =
     ap (λ b. cond (not b) (w ∷ filter (λ v. not (v.pid == 1)) weights) (filter (λ v. not (v.pid == 1)) weights)) (eqb_same w.pid 1 (All-head (λ v. v.pid ≡ 1) w weights all))
     ∙ none_but_first weights (All-tail (λ v. v.pid ≡ 1) w weights all)
 
--- Whom the scores choose among the tasks is the machine's victim.
-pub victim_is : (table : Table) (tasks : List Task) (policy : Policy) (plain : Plain) (account : Account) (chosen : Option ℕ) → AreFrom 1 table tasks → AreRising 0 tasks
-    → (IsNone chosen → All (λ w. w.pid ≡ 1) (weights_in tasks)) → IfSome chosen (IsVictim policy (weights_in tasks))
+chosen_is : (h : Heap) (table : Table) (procs : List Proc) (policy : Policy) (plain : Plain) (account : Account) (chosen : Option ℕ) → AreFrom h 1 table procs → AreRising 0 procs
+    → AllByRecursion (IsWeighed h plain account) procs
+    → (IsNone chosen → All (λ w. w.pid ≡ 1) (weights_in h procs)) → IfSome chosen (IsVictim policy (weights_in h procs))
     → chosen ≡ pid_of_greatest policy (weights_from plain account 1 table)
-victim_is table tasks policy plain account None are rising none victim =
-    sym (ap (pid_of_greatest policy) (weights_are are plain account 1 refl ∙ none_but_first (weights_in tasks) (none refl)))
-victim_is table tasks policy plain account (Some pid) are rising none victim =
-    sym (ap (pid_of_greatest policy) (weights_are are plain account 1 refl) ∙ victim-named policy (weights_in tasks) pid (rises_by_pid 0 tasks rising) victim)
+chosen_is h table procs policy plain account None are rising all none victim =
+    sym (ap (pid_of_greatest policy) (weights_are are plain account 1 refl all ∙ none_but_first (weights_in h procs) (none refl)))
+chosen_is h table procs policy plain account (Some pid) are rising all none victim =
+    sym (ap (pid_of_greatest policy) (weights_are are plain account 1 refl all) ∙ victim-named policy (weights_in h procs) pid (rises_by_pid h 0 procs rising) victim)
+
+-- Whom the scores choose among the processes is the machine's victim.
+pub victim_is : (script other : Script) (objects : Objects) (policy : Policy) (plain : Plain) (account : Account) (chosen : Option ℕ) → AreKept other objects → IsWellFormed objects.heap
+    → StandFor script objects plain account
+    → (IsNone chosen → All (λ w. w.pid ≡ 1) (weights_in objects.heap (procs_of objects))) → IfSome chosen (IsVictim policy (weights_in objects.heap (procs_of objects)))
+    → chosen ≡ victim_of policy plain account
+victim_is script other objects policy plain account chosen kept whole stands none victim =
+    let has = stands.accounted in
+    let procs = procs_of objects in
+    let rising = rising_procs objects.heap.procs objects.procs.listed 0 objects.procs.last kept.holds.stored kept.holds.rising in
+    let all = all_weaker (λ (p : Proc). IsPlaced has.number objects.heap.nodes account p × ((length p.nodes ≡ 4) × Owns objects.heap.nodes p)) (IsWeighed objects.heap plain account) procs
+    (λ p known. weighed_so objects.heap plain account has.number p whole known.0 known.1.0 known.1.1)
+    (all_both (IsPlaced has.number objects.heap.nodes account) (λ p. (length p.nodes ≡ 4) × Owns objects.heap.nodes p) procs has.placed
+    (all_both (λ p. length p.nodes ≡ 4) (Owns objects.heap.nodes) procs kept.groups (all_own objects.heap objects.procs kept.holds))) in
+    chosen_is objects.heap plain.table procs policy plain account chosen stands.table.present rising all none victim

@@ -1,2 +1,6 @@
-pub mod Tasks
+pub mod Objects
 pub mod Standing
+pub mod Uses
+pub mod Endings
+pub mod Booting
+pub mod Weights

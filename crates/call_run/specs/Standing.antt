@@ -1,58 +1,71 @@
--- Which plain machines and worlds the tasks of a store stand for.
-use Rattle.std.specs.Prelude.{ℕ, ◌≡◌, true, List, length, None, Some}
-use Rattle.std.specs.List.{AllByRecursion}
-use Rattle.kabi_types.specs.declared.scripts.Control.{Control}
+-- Which plain machines and worlds the objects of a store stand for.
+use Rattle.std.specs.Prelude.{ℕ, ◌≡◌, true, List, None, Some}
+use Rattle.kabi_types.specs.declared.calls.Call.{Call}
+use Rattle.kabi_types.specs.declared.calls.Call.TheVariants as call
 use Rattle.kabi_types.specs.declared.scripts.Script.{Script}
+use Rattle.kheap_slabs.specs.declared.objects.Proc.{Proc}
 use Rattle.posix_defs.specs.declared.turner.Turned.{Turned}
 use Rattle.posix_defs.specs.Answer.{Answer}
 use Rattle.posix_defs.specs.Control.{settled}
+use Rattle.posix_defs.specs.Family.{IsFamily}
 use Rattle.posix_defs.specs.Plain.{Plain, control_of, last_pid}
 use Rattle.posix_defs.specs.Process.{is_alive}
-use Rattle.posix_defs.specs.Turn.{Tells}
-use Rattle.posix_defs.specs.World.{World, boot_kept, no_account}
-use Rattle.prog_ctl.specs.Runnable.{Rests, Stands}
-use Rattle.call_run.specs.declared.tasks.Task.{Task}
-use Rattle.call_run.specs.Tasks.{AreFrom, TasksView, task_of}
+use Rattle.posix_defs.specs.SoundTasks.{AllAtHome}
+use Rattle.posix_defs.specs.Turn.{Tells, account_after}
+use Rattle.posix_defs.specs.World.{Account, World, boot_kept}
+use Rattle.proc_table.specs.Accounting.{HasAccount}
+use Rattle.proc_table.specs.Procs.{proc_of}
+use Rattle.proc_table.specs.Standing.{IsTable}
+use Rattle.call_run.specs.declared.objects.Objects.{Objects}
+use Rattle.call_run.specs.Objects.{AreKept, procs_of}
 
--- A store: its script and its tasks.
+-- A store: its script, and its objects.
 pub record StoreView : Type 0 where
   pub script : Script
-  pub kept : TasksView
+  pub objects : Objects
 
--- A task that runs stands at its next call: the local statements before it are done.
-pub record IsAtCall (script : Script) (task : Task) : Type 0 where
-  pub stands : Stands script task.control
-  pub rests : Rests script task.control
+-- The processes in the heap are the machine's, with their memory, by the account; who runs has a control that the machine's
+-- leads to.
+pub record StandFor (script : Script) (objects : Objects) (plain : Plain) (account : Account) : Type 0 where
+  pub table : IsTable objects.heap objects.procs plain.table
+  pub last : objects.procs.last ≡ last_pid plain
+  pub family : IsFamily plain.table
+  pub home : AllAtHome plain.table
+  pub controls : (pid : ℕ) (proc : Proc) → proc_of (procs_of objects) pid ≡ Some proc → proc.status ≡ None → settled script (control_of plain pid) ≡ proc.control
+  pub accounted : HasAccount objects.heap objects.procs account
 
--- every task that runs does
-abbrev pub AreAtCalls : Script → List Task → Type 0
-AreAtCalls script tasks = AllByRecursion (λ task. task.status ≡ None → IsAtCall script task) tasks
+-- They stand for the machine and the account that this answer of a call leads to.
+pub record Led (script : Script) (new : Objects) (plain : Plain) (account : Account) (pid : ℕ) (call : Call) (answer : Answer) (told : Turned) : Type 0 where
+  pub next : Plain
+  pub stands : StandFor script new next (account_after account plain pid call answer)
+  pub tells : Tells answer plain told next
 
--- The tasks are the machine's processes that are there; who runs has a control that the machine's leads to.
-pub record StandFor (script : Script) (kept : TasksView) (plain : Plain) : Type 0 where
-  pub present : AreFrom 1 plain.table kept.tasks
-  pub last : kept.last ≡ last_pid plain
-  pub made : length plain.table ≡ last_pid plain
-  pub controls : (pid : ℕ) (task : Task) → task_of kept.tasks pid ≡ Some task → task.status ≡ None → settled script (control_of plain pid) ≡ task.control
+-- From each machine and account that the objects stood for and in which the process ran, they stand for those that the answer
+-- leads to.
+abbrev pub Does : Script → Objects → ℕ → Call → (Plain → Answer) → Turned → Objects → Type 0
+Does script old pid call answer told new =
+    (plain : Plain) (account : Account) → StandFor script old plain account → is_alive plain.table pid ≡ true
+    → Led script new plain account pid call (answer plain) told
 
--- In some machine that the tasks stand for the process runs, and its task stands at this control.
-pub record Runs (script : Script) (kept : TasksView) (pid : ℕ) (control : Control) : Type 0 where
-  pub plain : Plain
-  pub stands : StandFor script kept plain
-  pub alive : is_alive plain.table pid ≡ true
-  pub task : Task
-  pub found : task_of kept.tasks pid ≡ Some task
-  pub up : task.status ≡ None
-  pub at_call : task.control ≡ control
+-- a call makes no object
+abbrev pub MakesNothing : Call → Type 0
+MakesNothing call.Fork = ⊥
+MakesNothing (call.Mmap length) = ⊥
+MakesNothing (call.Store addr bytes) = ⊥
+MakesNothing _ = Unit {0}
 
--- From each machine that the tasks stood for and in which the process ran, they stand for the one that the answer leads to.
-abbrev pub Does : Script → TasksView → ℕ → (Plain → Answer) → Turned → TasksView → Type 0
-Does script old pid answer told new = (plain : Plain) → StandFor script old plain → is_alive plain.table pid ≡ true
-    → (next : Plain) × StandFor script new next × Tells (answer plain) plain told next
+-- a call leaves all memory
+abbrev pub TouchesNothing : Call → Type 0
+TouchesNothing call.Fork = ⊥
+TouchesNothing (call.Mmap length) = ⊥
+TouchesNothing (call.Munmap addr length) = ⊥
+TouchesNothing (call.Store addr bytes) = ⊥
+TouchesNothing _ = Unit {0}
 
--- Nothing is cached but the root's node, and nothing was read.
-pub record StandsFor (script : Script) (kept : TasksView) (world : World) : Type 0 where
-  pub plain : StandFor script kept world.plain
-  pub account : world.account ≡ no_account
+-- A store stands for a world: its objects are kept, and are the world's machine by its account. Nothing is cached but the
+-- root's node, and nothing was read.
+pub record StandsFor (script : Script) (objects : Objects) (world : World) : Type 0 where
+  pub kept : AreKept script objects
+  pub plain : StandFor script objects world.plain world.account
   pub cached : world.kept ≡ boot_kept
   pub reads : world.reads ≡ 0

@@ -1,29 +1,39 @@
-//! What each call does to the tasks. Every function here stands to the plain machine's definition of its call.
+//! What each call does to the heap and to the processes. Every function here stands to the plain machine's definition of its
+//! call.
 
-ghost use Rattle.std.specs.Prelude.{◌≡◌, ◌≢◌, ◌+◌, ◌<◌, ◌≤◌, true, false, None, length, Some};
+ghost use Rattle.std.specs.Prelude.{◌≡◌, ◌≢◌, ◌+◌, ◌<◌, ◌≤◌, true, None};
+ghost use Rattle.kabi_types.specs.Arguments.{argument_fault};
+ghost use Rattle.kabi_types.specs.declared.calls.Call.{Call};
 ghost use Rattle.kabi_types.specs.declared.scripts.Control.{Control};
-ghost use Rattle.posix_defs.specs.Answer.{Ended, replied};
+ghost use Rattle.kabi_types.specs.declared.scripts.Script.{Script};
+ghost use Rattle.kheap_slabs.specs.Heap.{live_bytes};
+ghost use Rattle.kheap_slabs.specs.Purse.{CanPay, IsPaid, TakesNothing};
+ghost use Rattle.posix_defs.specs.Answer.{Ended};
 ghost use Rattle.posix_defs.specs.Control.{after, settled};
 ghost use Rattle.posix_defs.specs.Ending.{die, exit_status};
-ghost use Rattle.posix_defs.specs.Forking.{fork, is_full};
-ghost use Rattle.posix_defs.specs.Killing.{is_asking, kill, struck};
-ghost use Rattle.posix_defs.specs.Plain.{Plain, answered};
+ghost use Rattle.posix_defs.specs.Forking.{fork};
+ghost use Rattle.posix_defs.specs.Killing.{kill, struck};
 ghost use Rattle.posix_defs.specs.Machine.{answer_to, blocks, machine};
+ghost use Rattle.posix_defs.specs.Needs.{bound, need_of};
+ghost use Rattle.posix_defs.specs.Plain.{Plain, answered};
 ghost use Rattle.posix_defs.specs.Process.{is_alive};
 ghost use Rattle.posix_defs.specs.Waiting.{is_nohang, waitpid};
+ghost use Rattle.posix_defs.specs.World.{Account};
 ghost use Rattle.posix_defs.specs.declared.turner.Turned.TheVariants as turned;
+ghost use Rattle.proc_table.specs.Procs.{IsAlive};
+ghost use Rattle.proc_table.specs.Table.{Holds};
 ghost use Rattle.prog_ctl.specs.Runnable.{Rests, Stands};
-ghost use Rattle.kabi_types.specs.declared.scripts.Script.{Script};
-ghost use Rattle.call_run.specs.declared.tasks.Task.{Task};
-ghost use Rattle.call_run.specs.Tasks.{forks, task_of};
-ghost use Rattle.call_run.specs.Standing.{AreAtCalls, Does, Runs, StandFor};
+ghost use Rattle.call_run.specs.Objects.{AreKept, IsCaller, Runs, procs_of};
+ghost use Rattle.call_run.specs.Standing.{Does, MakesNothing, StandFor, TouchesNothing};
+ghost use Rattle.call_run.specs.Uses.{UsesAtMost};
 
-use crate::tasks::{MOST_TASKS, Task, Tasks};
-use kabi_types::{Call, Control, Errno, Reply, Script};
+use crate::endings::{SIGKILL, end};
+use crate::memory_calls::{load, mmap, munmap, store};
+use crate::objects::{Caller, Objects};
+use kabi_types::{Call, Control, Errno, Need, Reply, Script};
+use kheap_slabs::Purse;
 use posix_defs::Turned;
-
-/// The signal that ends a process at once.
-const SIGKILL: u16 = 9;
+use proc_table::Reaped;
 
 /// The only option of `waitpid`: not to wait.
 const WNOHANG: i64 = 1;
@@ -44,40 +54,50 @@ fn behind(script: &Script, control: Control, reply: &Reply) -> Control
 }
 
 /// The process goes on behind its call, at which it stands, and which got this reply.
-pub fn go_on(script: &Script, tasks: &mut Tasks, pid: u32, control: Control, reply: Reply) -> Turned
-    requires runs { Runs script.now tasks.old pid control }
-    requires calls { AreAtCalls script.now tasks.old.tasks }
-    ensures calls { AreAtCalls script.now tasks.new.tasks }
-    ensures count { length tasks.new.tasks ≡ length tasks.old.tasks }
+pub fn go_on(
+    script: &Script,
+    objects: &mut Objects,
+    pid: u32,
+    control: Control,
+    reply: Reply,
+) -> Turned
+    requires kept { AreKept script.now objects.old }
+    requires runs { Runs objects.old pid control }
+    ensures kept { AreKept script.now objects.new }
     ensures told { result ≡ turned.Done reply }
-    ensures does { (plain : Plain) → StandFor script.now tasks.old plain → is_alive plain.table pid ≡ true
-        → StandFor script.now tasks.new (answered script.now plain pid reply) }
+    ensures takes { TakesNothing objects.old.heap objects.new.heap }
+    ensures does { (plain : Plain) (account : Account) → StandFor script.now objects.old plain account → is_alive plain.table pid ≡ true
+        → StandFor script.now objects.new (answered script.now plain pid reply) account }
 {
-    tasks.move_on(pid, behind(script, control, &reply));
+    objects.move_on(pid, behind(script, control, &reply));
     Turned::Done(reply)
 }
 
-/// Whether nobody more can be made: as many are there as may be, or all pids were given.
-fn is_full(tasks: &Tasks) -> bool
-    ensures full { (script : Script) (plain : Plain) → StandFor script tasks.now plain → result ≡ is_full plain }
-    ensures room { result ≡ false → (length tasks.now.tasks < 64) × (tasks.now.last < 4294967295) }
-{
-    tasks.count() == MOST_TASKS || tasks.last() == u32::MAX
-}
-
 /// Makes a child that goes on where its parent does, and is told 0; EAGAIN where nobody more can be made.
-fn fork(script: &Script, tasks: &mut Tasks, pid: u32, control: Control) -> Turned
-    requires runs { Runs script.now tasks.old pid control }
-    requires calls { AreAtCalls script.now tasks.old.tasks }
-    ensures calls { AreAtCalls script.now tasks.new.tasks }
-    ensures count { length tasks.new.tasks ≤ length tasks.old.tasks + 1 }
-    ensures does { Does script.now tasks.old pid (λ plain. fork script.now plain pid) result tasks.new }
+fn fork(
+    script: &Script,
+    objects: &mut Objects,
+    purse: &mut Purse,
+    pid: u32,
+    control: Control,
+) -> Turned
+    requires kept { AreKept script.now objects.old }
+    requires runs { Runs objects.old pid control }
+    requires room { CanPay objects.old.heap purse.old }
+    requires left_proc { 0 < purse.old.left.proc }
+    requires left_nodes { 4 ≤ purse.old.left.node }
+    ensures kept { AreKept script.now objects.new }
+    ensures paid { IsPaid objects.old.heap purse.old objects.new.heap purse.new }
+    ensures does { Does script.now objects.old pid Call.Fork (λ plain. fork script.now plain pid) result objects.new }
 {
-    if is_full(tasks) {
-        return go_on(script, tasks, pid, control, Reply::Fail(Errno::EAGAIN));
+    match objects.procs.fork(&mut objects.heap, purse, pid) {
+        Ok(child) => {
+            objects.move_on(child, behind(script, control, &Reply::Val(0)));
+            let reply = Reply::Val(i64::from(child));
+            go_on(script, objects, pid, control, reply)
+        }
+        Err(errno) => go_on(script, objects, pid, control, Reply::Fail(errno)),
     }
-    let child = tasks.add(pid, behind(script, control, &Reply::Val(0)));
-    go_on(script, tasks, pid, control, Reply::Val(i64::from(child)))
 }
 
 /// Whether the caller of `waitpid` doesn't want to wait.
@@ -91,96 +111,85 @@ fn is_nohang(options: i64) -> bool
 /// and answers ECHILD where none is.
 fn wait(
     script: &Script,
-    tasks: &mut Tasks,
+    objects: &mut Objects,
     pid: u32,
     control: Control,
     which: i64,
     options: i64,
 ) -> Turned
-    requires runs { Runs script.now tasks.old pid control }
-    requires calls { AreAtCalls script.now tasks.old.tasks }
-    ensures calls { AreAtCalls script.now tasks.new.tasks }
-    ensures count { length tasks.new.tasks ≤ length tasks.old.tasks }
-    ensures does { Does script.now tasks.old pid (λ plain. waitpid script.now plain pid which options) result tasks.new }
+    requires kept { AreKept script.now objects.old }
+    requires right { argument_fault (Call.Waitpid which options) ≡ None }
+    requires runs { Runs objects.old pid control }
+    ensures kept { AreKept script.now objects.new }
+    ensures takes { TakesNothing objects.old.heap objects.new.heap }
+    ensures does { Does script.now objects.old pid (Call.Waitpid which options) (λ plain. waitpid script.now plain pid which options) result objects.new }
 {
-    if let Some(told) = tasks.told(pid, which) {
-        let reply = Reply::Waited(told.pid, told.status);
-        tasks.reap(told.pid);
-        return go_on(script, tasks, pid, control, reply);
+    match objects.procs.wait(&mut objects.heap, pid, which) {
+        Reaped::Took { pid: child, status } => {
+            go_on(script, objects, pid, control, Reply::Waited(child, status))
+        }
+        Reaped::Nobody if is_nohang(options) => {
+            go_on(script, objects, pid, control, Reply::Val(0))
+        }
+        Reaped::Nobody => Turned::Sleep,
+        Reaped::NoChild => go_on(script, objects, pid, control, Reply::Fail(Errno::ECHILD)),
     }
-    if !tasks.has_wanted(pid, which) {
-        return go_on(script, tasks, pid, control, Reply::Fail(Errno::ECHILD));
-    }
-    if is_nohang(options) {
-        return go_on(script, tasks, pid, control, Reply::Val(0));
-    }
-    Turned::Sleep
 }
 
 /// Ends a process that isn't the first.
-fn strike(script: &Script, tasks: &mut Tasks, pid: u32, control: Control, target: u32) -> Turned
-    requires runs { Runs script.now tasks.old pid control }
+fn strike(script: &Script, objects: &mut Objects, pid: u32, control: Control, target: u32) -> Turned
+    requires kept { AreKept script.now objects.old }
+    requires runs { Runs objects.old pid control }
     requires other { target ≢ 1 }
-    requires there { (task : Task) × (task_of tasks.old.tasks target ≡ Some task) × (task.status ≡ None) }
-    requires calls { AreAtCalls script.now tasks.old.tasks }
-    ensures calls { AreAtCalls script.now tasks.new.tasks }
-    ensures count { length tasks.new.tasks ≤ length tasks.old.tasks }
-    ensures does { Does script.now tasks.old pid (λ plain. struck script.now plain pid target) result tasks.new }
+    requires there { IsAlive (procs_of objects.old) target }
+    ensures kept { AreKept script.now objects.new }
+    ensures takes { TakesNothing objects.old.heap objects.new.heap }
+    ensures does { (call : Call) → TouchesNothing call → Does script.now objects.old pid call (λ plain. struck script.now plain pid target) result objects.new }
 {
-    tasks.end(target, SIGKILL);
+    end(objects, target, SIGKILL);
     if target == pid {
         return Turned::Ended(SIGKILL);
     }
-    go_on(script, tasks, pid, control, Reply::Val(0))
-}
-
-/// Whether a signal asks only if the process is there.
-fn is_asking(signal: i64) -> bool
-    ensures { result ≡ is_asking signal }
-{
-    signal == 0
+    go_on(script, objects, pid, control, Reply::Val(0))
 }
 
 /// Ends a process, asks by the signal 0 whether it is there, or tells why neither can be.
 fn send(
     script: &Script,
-    tasks: &mut Tasks,
+    objects: &mut Objects,
     pid: u32,
     control: Control,
     target: i64,
     signal: i64,
 ) -> Turned
-    requires runs { Runs script.now tasks.old pid control }
-    requires calls { AreAtCalls script.now tasks.old.tasks }
-    ensures calls { AreAtCalls script.now tasks.new.tasks }
-    ensures count { length tasks.new.tasks ≤ length tasks.old.tasks }
-    ensures does { Does script.now tasks.old pid (λ plain. kill script.now plain pid target signal) result tasks.new }
+    requires kept { AreKept script.now objects.old }
+    requires runs { Runs objects.old pid control }
+    ensures kept { AreKept script.now objects.new }
+    ensures takes { TakesNothing objects.old.heap objects.new.heap }
+    ensures does { Does script.now objects.old pid (Call.Kill target signal) (λ plain. kill script.now plain pid target signal) result objects.new }
 {
-    let Some(found) = tasks.find_target(target) else {
-        return go_on(script, tasks, pid, control, Reply::Fail(Errno::ESRCH));
-    };
-    if is_asking(signal) {
-        return go_on(script, tasks, pid, control, Reply::Val(0));
+    match objects.procs.may_kill(&objects.heap, pid, target, signal) {
+        Err(errno) => go_on(script, objects, pid, control, Reply::Fail(errno)),
+        Ok(false) => go_on(script, objects, pid, control, Reply::Val(0)),
+        Ok(true) => {
+            // the table knows that no pid is above the last, which has 32 bits
+            let _ = objects.procs.last_pid();
+            strike(script, objects, pid, control, target.cast_unsigned() as u32)
+        }
     }
-    if found.pid == 1 {
-        return go_on(script, tasks, pid, control, Reply::Fail(Errno::EPERM));
-    }
-    if found.status.is_some() {
-        return go_on(script, tasks, pid, control, Reply::Val(0));
-    }
-    strike(script, tasks, pid, control, found.pid)
 }
 
 /// Ends the process by its own call.
-fn exit(script: &Script, tasks: &mut Tasks, pid: u32, status: i64) -> Turned
-    requires alive { (plain : Plain) × StandFor script.now tasks.old plain × (is_alive plain.table pid ≡ true) }
-    requires calls { AreAtCalls script.now tasks.old.tasks }
-    ensures calls { AreAtCalls script.now tasks.new.tasks }
-    ensures count { length tasks.new.tasks ≤ length tasks.old.tasks }
-    ensures does { Does script.now tasks.old pid (λ plain. Ended (exit_status status) (die plain pid (exit_status status))) result tasks.new }
+fn exit(objects: &mut Objects, pid: u32, status: i64) -> Turned
+    requires runs { IsAlive (procs_of objects.old) pid }
+    requires holds { Holds objects.old.heap objects.old.procs }
+    ensures kept { (script : Script) → AreKept script objects.old → AreKept script objects.new }
+    ensures takes { TakesNothing objects.old.heap objects.new.heap }
+    ensures does { (script : Script) → AreKept script objects.old
+        → Does script objects.old pid (Call.Exit status) (λ plain. Ended (exit_status status) (die plain pid (exit_status status))) result objects.new }
 {
     let status = exit_status(status);
-    tasks.end(pid, status);
+    end(objects, pid, status);
     Turned::Ended(status)
 }
 
@@ -191,78 +200,124 @@ fn exit_status(status: i64) -> u16
     256 * (status.cast_unsigned() % 256) as u16
 }
 
-/// Runs a call whose operands are right.
-fn run_right(script: &Script, tasks: &mut Tasks, task: &Task, call: &Call) -> Turned
-    requires runs { Runs script.now tasks.old task.now.pid task.now.control }
-    requires there { task_of tasks.old.tasks task.now.pid ≡ Some task.now }
-    requires calls { AreAtCalls script.now tasks.old.tasks }
-    ensures calls { AreAtCalls script.now tasks.new.tasks }
-    ensures count { length tasks.new.tasks ≤ length tasks.old.tasks + forks call.now }
-    ensures does { Does script.now tasks.old task.now.pid (λ plain. answer_to script.now plain task.now.pid call.now) result tasks.new }
+/// Runs a call that makes objects, whose operands are right, and pays for them; all others go to `run_free`.
+fn run_right(
+    script: &Script,
+    objects: &mut Objects,
+    caller: &Caller,
+    call: &Call,
+    need: Need,
+) -> Turned
+    requires kept { AreKept script.now objects.old }
+    requires caller { IsCaller objects.old caller.now.pid caller.now }
+    requires right { argument_fault call.now ≡ None }
+    requires needed { need ≡ need_of call.now }
+    requires room { live_bytes objects.old.heap + bound call.now ≤ objects.old.heap.heap }
+    ensures kept { AreKept script.now objects.new }
+    ensures uses { UsesAtMost objects.old.heap objects.new.heap (bound call.now) }
+    ensures does { Does script.now objects.old caller.now.pid call.now (λ plain. answer_to script.now plain caller.now.pid call.now) result objects.new }
 {
-    let pid = task.pid;
-    let control = task.control;
+    let pid = caller.pid;
+    let control = caller.control;
+    let mut purse = Purse::of(need);
     match call {
-        Call::Getpid => go_on(script, tasks, pid, control, Reply::Val(i64::from(pid))),
-        Call::Getppid => go_on(
-            script,
-            tasks,
-            pid,
-            control,
-            Reply::Val(i64::from(task.parent)),
-        ),
-        Call::SchedYield => go_on(script, tasks, pid, control, Reply::Val(0)),
-        Call::Fork => fork(script, tasks, pid, control),
-        Call::Exit { status } => exit(script, tasks, pid, *status),
+        Call::Fork => fork(script, objects, &mut purse, pid, control),
+        Call::Mmap { length } => mmap(script, objects, &mut purse, pid, control, *length),
+        Call::Store { addr, bytes } => {
+            store(script, objects, &mut purse, pid, control, *addr, bytes)
+        }
+        _ => run_free(script, objects, caller, call),
+    }
+}
+
+/// Runs a call that makes no object, whose operands are right.
+fn run_free(script: &Script, objects: &mut Objects, caller: &Caller, call: &Call) -> Turned
+    requires kept { AreKept script.now objects.old }
+    requires caller { IsCaller objects.old caller.now.pid caller.now }
+    requires right { argument_fault call.now ≡ None }
+    requires free { MakesNothing call.now }
+    ensures kept { AreKept script.now objects.new }
+    ensures takes { TakesNothing objects.old.heap objects.new.heap }
+    ensures does { Does script.now objects.old caller.now.pid call.now (λ plain. answer_to script.now plain caller.now.pid call.now) result objects.new }
+{
+    let pid = caller.pid;
+    let control = caller.control;
+    match call {
+        Call::Getpid => {
+            let reply = Reply::Val(i64::from(pid));
+            go_on(script, objects, pid, control, reply)
+        }
+        Call::Getppid => {
+            let reply = Reply::Val(i64::from(caller.parent));
+            go_on(script, objects, pid, control, reply)
+        }
+        Call::SchedYield => go_on(script, objects, pid, control, Reply::Val(0)),
+        Call::Exit { status } => exit(objects, pid, *status),
         Call::Waitpid {
             pid: which,
             options,
-        } => wait(script, tasks, pid, control, *which, *options),
+        } => wait(script, objects, pid, control, *which, *options),
         Call::Kill {
             pid: target,
             signal,
-        } => send(script, tasks, pid, control, *target, *signal),
-        _ => go_on(script, tasks, pid, control, Reply::Fail(Errno::EINVAL)),
+        } => send(script, objects, pid, control, *target, *signal),
+        Call::Munmap { addr, length } => munmap(script, objects, pid, control, *addr, *length),
+        Call::Load { addr, n } => load(script, objects, pid, control, *addr, *n),
+        _ => go_on(script, objects, pid, control, Reply::Fail(Errno::EINVAL)),
     }
 }
 
 /// Runs a call of a process that is alive. A wrong operand is told before anything else is looked at.
-pub fn run(script: &Script, tasks: &mut Tasks, task: &Task, call: &Call) -> Turned
-    requires runs { Runs script.now tasks.old task.now.pid task.now.control }
-    requires there { task_of tasks.old.tasks task.now.pid ≡ Some task.now }
-    requires calls { AreAtCalls script.now tasks.old.tasks }
-    ensures calls { AreAtCalls script.now tasks.new.tasks }
-    ensures count { length tasks.new.tasks ≤ length tasks.old.tasks + forks call.now }
-    ensures does { Does script.now tasks.old task.now.pid (λ plain. machine script.now plain task.now.pid call.now) result tasks.new }
+pub fn run(
+    script: &Script,
+    objects: &mut Objects,
+    caller: &Caller,
+    call: &Call,
+    need: Need,
+) -> Turned
+    requires kept { AreKept script.now objects.old }
+    requires caller { IsCaller objects.old caller.now.pid caller.now }
+    requires needed { need ≡ need_of call.now }
+    requires room { live_bytes objects.old.heap + bound call.now ≤ objects.old.heap.heap }
+    ensures kept { AreKept script.now objects.new }
+    ensures uses { UsesAtMost objects.old.heap objects.new.heap (bound call.now) }
+    ensures does { Does script.now objects.old caller.now.pid call.now (λ plain. machine script.now plain caller.now.pid call.now) result objects.new }
 {
     match call.checked() {
-        Ok(()) => run_right(script, tasks, task, call),
-        Err(errno) => go_on(script, tasks, task.pid, task.control, Reply::Fail(errno)),
+        Ok(()) => run_right(script, objects, caller, call, need),
+        Err(errno) => go_on(
+            script,
+            objects,
+            caller.pid,
+            caller.control,
+            Reply::Fail(errno),
+        ),
     }
 }
 
 /// Whether a wait for a child would sleep: one that is asked for is there, none has ended, and the caller wants to wait.
-fn would_sleep(tasks: &Tasks, pid: u32, which: i64, options: i64) -> bool
-    ensures { (script : Script) (plain : Plain) → StandFor script tasks.now plain → result ≡ blocks (waitpid script plain pid which options) }
+fn would_sleep(objects: &Objects, pid: u32, which: i64, options: i64) -> bool
+    requires { Holds objects.now.heap objects.now.procs }
+    ensures { (script : Script) (plain : Plain) (account : Account) → StandFor script objects.now plain account
+        → result ≡ blocks (waitpid script plain pid which options) }
 {
-    if tasks.told(pid, which).is_some() {
-        return false;
+    match objects.procs.answer(&objects.heap, pid, which) {
+        Reaped::Nobody => !is_nohang(options),
+        _ => false,
     }
-    if !tasks.has_wanted(pid, which) {
-        return false;
-    }
-    !is_nohang(options)
 }
 
 /// Whether a process's call would block now.
-pub fn would_block(tasks: &Tasks, pid: u32, call: &Call) -> bool
-    ensures { (script : Script) (plain : Plain) → StandFor script tasks.now plain → result ≡ blocks (machine script plain pid call.now) }
+pub fn would_block(objects: &Objects, pid: u32, call: &Call) -> bool
+    requires { Holds objects.now.heap objects.now.procs }
+    ensures { (script : Script) (plain : Plain) (account : Account) → StandFor script objects.now plain account
+        → result ≡ blocks (machine script plain pid call.now) }
 {
     match call {
         Call::Waitpid {
             pid: which,
             options,
-        } => call.checked().is_ok() && would_sleep(tasks, pid, *which, *options),
+        } => call.checked().is_ok() && would_sleep(objects, pid, *which, *options),
         _ => false,
     }
 }

@@ -1,15 +1,16 @@
-//! What a turn of each call does to the processes that are there. So far they are a plain table, and the calls are those of
-//! processes: `fork`, `waitpid`, `kill`, `exit`, `getpid`, `getppid` and `sched_yield`.
+//! What a turn of each call does to the heap and to the processes in it. So far the calls are those of processes and of their
+//! memory: `fork`, `waitpid`, `kill`, `exit`, `getpid`, `getppid`, `sched_yield`, `mmap`, `munmap`, `store` and `load`.
 #![tactic(auto)]
 
 mod calls;
+mod endings;
+pub mod laws;
+mod memory_calls;
+mod objects;
 mod store;
-mod tasks;
-#[cfg(test)]
-mod tests;
 mod turns;
 mod victims;
 
 pub use calls::{go_on, run, would_block};
+pub use objects::{Caller, Objects};
 pub use store::Store;
-pub use tasks::{MOST_TASKS, Task, Tasks, Told};

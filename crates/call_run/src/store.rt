@@ -1,44 +1,78 @@
-//! The store that the core runs: the script, and the tasks of its processes.
+//! The store that the core runs: the script, and the heap with the processes of the script in it.
 
 ghost use Rattle.std.specs.Prelude.{◌≡◌, ◌≤◌, IfOk, length, true};
 ghost use Rattle.kabi_types.specs.declared.scripts.Script.{Script};
 ghost use Rattle.posix_defs.specs.Plain as plain;
 ghost use Rattle.posix_defs.specs.ValidScript.{IsValid};
 ghost use Rattle.posix_defs.specs.World.{World, boot_world};
+ghost use Rattle.kabi_types.specs.declared.scripts.Control.{Control};
+ghost use Rattle.call_run.specs.Booting.{HasBooted};
 ghost use Rattle.call_run.specs.Standing.{StandsFor};
 
+#[cfg(test)]
+mod tests;
+
 use crate::calls::would_block;
-use crate::tasks::Tasks;
-use crate::turns;
-use kabi_types::{Cached, Call, Control, Memory, Need, Program, Script};
+use crate::objects::Objects;
+use crate::{turns, victims};
+use kabi_types::{Cached, Call, Control, Inode, Memory, Need, Program, Script};
+use kheap_slabs::{KHeap, Vnode};
 use posix_defs::{Turned, Turner};
+use proc_table::ProcTable;
 use std::alloc::Global;
 use std::marker::Model;
 
-/// What one process takes of the kernel heap, in bytes.
-const PROC: u64 = 512;
+/// The root's node.
+const ROOT: u32 = 1;
 
-/// What the root's vnode takes, in bytes.
-const ROOT: u64 = 128;
-
-/// The pid of the process that was not forked, which nobody kills.
-const FIRST: u32 = 1;
-
-/// A store of the processes of a script, in plain tables that are reserved at boot.
+/// A store of the processes of a script, in a heap whose room is reserved at boot.
 #[derive(Drop)]
 pub struct Store {
     script: Script,
-    tasks: Tasks,
+    objects: Objects,
 }
 
 impl Model for Store {
-    ghost use Rattle.call_run.specs.Standing.{AreAtCalls, StoreView};
+    ghost use Rattle.call_run.specs.Objects.{AreKept};
+    ghost use Rattle.call_run.specs.Standing.{StoreView};
 
     ghost Value = { StoreView };
 
-    ghost view = { λ store. record { script = store.script; kept = store.tasks } };
+    ghost view = { λ store. record { script = store.script; objects = store.objects } };
 
-    ghost invariant = { λ store. AreAtCalls store.script store.tasks.tasks };
+    ghost invariant = { λ store. AreKept store.script store.objects };
+}
+
+/// The root as a cache keeps it: pinned for good, as a working directory. Until there are files nothing reads more of it than
+/// its number.
+fn root() -> Vnode
+    ensures { result.number ≡ 1 }
+{
+    Vnode {
+        number: ROOT,
+        inode: Inode {
+            kind: 2,
+            nlink: 2,
+            size: 64,
+            direct: [0; 10],
+            indirect: 0,
+        },
+        pins: 1,
+    }
+}
+
+/// A heap of so many bytes, with the root's vnode and the first process, which stands at this control.
+fn booted(alloc: Global, heap: u64, control: Control) -> Result<Objects, Memory>
+    requires least { 8192 ≤ heap }
+    requires most { heap ≤ 8388608 }
+    ensures { IfOk result (λ objects. HasBooted objects heap control) }
+{
+    let mut heap = KHeap::boot(alloc, heap)?;
+    let _ = heap.insert_vnode(root());
+    let procs = ProcTable::boot(&mut heap);
+    let mut objects = Objects { heap, procs };
+    objects.move_on(1, control);
+    Ok(objects)
 }
 
 impl Store {
@@ -47,7 +81,7 @@ impl Store {
     pub fn boot(alloc: Global, script: &Script) -> Result<Store, Memory>
         requires { IsValid script.now }
         ensures script { IfOk result (λ store. store.script ≡ script.now) }
-        ensures booted { IfOk result (λ store. StandsFor script.now store.kept (boot_world script.now)) }
+        ensures booted { IfOk result (λ store. StandsFor script.now store.objects (boot_world script.now)) }
     {
         let script = script.copy(alloc)?;
         let mut control = Control {
@@ -57,8 +91,8 @@ impl Store {
             done: 0,
         };
         prog_ctl::go_to_call(&script, &mut control);
-        let tasks = Tasks::boot(alloc, control)?;
-        Ok(Store { script, tasks })
+        let objects = booted(alloc, script.heap, control)?;
+        Ok(Store { script, objects })
     }
 }
 
@@ -82,25 +116,27 @@ fn place_of(programs: &[Program], name: &[u8]) -> u32
 impl Turner for Store {
     ghost script = { λ store. store.script };
 
-    ghost stands = { λ store world. StandsFor store.script store.kept world };
+    ghost stands = { λ store world. StandsFor store.script store.objects world };
+
+    ghost high = { λ store. store.objects.heap.high };
 
     fn next(&self, pid: u32) -> Call {
-        turns::next(&self.script, &self.tasks, pid)
+        turns::next(&self.script, &self.objects, pid)
     }
 
-    fn turn(&mut self, pid: u32, call: &Call, _need: Need) -> Turned {
-        turns::turn(&self.script, &mut self.tasks, pid, call)
+    fn turn(&mut self, pid: u32, call: &Call, need: Need) -> Turned {
+        turns::turn(&self.script, &mut self.objects, pid, call, need)
     }
 
     fn refuse(&mut self, pid: u32) {
-        turns::refuse(&self.script, &mut self.tasks, pid);
+        turns::refuse(&self.script, &mut self.objects, pid);
     }
 
     fn ready(&self, pid: u32) -> bool {
         !would_block(
-            &self.tasks,
+            &self.objects,
             pid,
-            &turns::next(&self.script, &self.tasks, pid),
+            &turns::next(&self.script, &self.objects, pid),
         )
     }
 
@@ -108,28 +144,30 @@ impl Turner for Store {
         false
     }
 
-    fn evict(&mut self, _what: Cached) {}
+    fn evict(&mut self, _what: Cached) {
+        turns::evict(&mut self.objects);
+    }
 
     fn victim(&self) -> Option<u32> {
-        self.tasks.victim(self.script.policy)
+        victims::victim(self.script.policy, &self.objects)
     }
 
     fn kill(&mut self, pid: u32) {
-        if pid != FIRST && self.alive(pid) {
-            turns::kill(&self.script, &mut self.tasks, pid);
-        }
+        turns::kill(&mut self.objects, pid);
     }
 
     fn alive(&self, pid: u32) -> bool {
-        self.tasks.runs(pid)
+        self.objects.runs(pid)
     }
 
     fn last_pid(&self) -> u32 {
-        self.tasks.last()
+        self.objects.procs.last_pid()
     }
 
     fn live(&self) -> u64 {
-        self.tasks.count() as u64 * PROC + ROOT
+        // the heap knows how long the rows of its objects are
+        let _ = self.objects.heap.heap();
+        self.objects.heap.live()
     }
 
     fn reads(&self) -> u64 {

@@ -1,74 +1,103 @@
-//! Turns over a script and its tasks, as the core asks for them.
+//! Turns over a script and its objects, as the core asks for them.
 
-ghost use Rattle.std.specs.Prelude.{◌≡◌, ◌≢◌, true, None, Some, not};
-ghost use Rattle.kabi_types.specs.declared.calls.Call.{Call};
+ghost use Rattle.std.specs.Prelude.{◌≡◌, ◌≢◌, ◌+◌, ◌≤◌, true, false};
+ghost use Rattle.kabi_types.specs.declared.scripts.Script.{Script};
+ghost use Rattle.posix_defs.specs.Needs.{bound, need_of};
 ghost use Rattle.posix_defs.specs.Plain.{call_of};
-ghost use Rattle.posix_defs.specs.Machine.{would_block};
 ghost use Rattle.posix_defs.specs.Process.{is_alive};
 ghost use Rattle.posix_defs.specs.Relief.{Kills, refused_in};
+ghost use Rattle.posix_defs.specs.Sizes.{reserve};
 ghost use Rattle.posix_defs.specs.Turn.{TurnsTo};
-ghost use Rattle.posix_defs.specs.World.{World};
-ghost use Rattle.call_run.specs.Standing.{AreAtCalls, StandsFor};
+ghost use Rattle.posix_defs.specs.World.{World, live_of};
+ghost use Rattle.call_run.specs.Objects.{AreKept};
+ghost use Rattle.call_run.specs.Standing.{StandsFor};
 
 use crate::calls;
-use crate::tasks::Tasks;
-use kabi_types::{Call, Errno, Reply, Script};
+use crate::endings::{INIT, SIGKILL, end};
+use crate::objects::Objects;
+use kabi_types::{Call, Errno, Need, Reply, Script};
 use posix_defs::Turned;
 
-/// The signal that ends a process at once.
-const SIGKILL: u16 = 9;
-
 /// The call that a live process makes next.
-pub fn next(script: &Script, tasks: &Tasks, pid: u32) -> Call
-    requires alive { (world : World) × StandsFor script.now tasks.now world × (is_alive world.plain.table pid ≡ true) }
-    requires calls { AreAtCalls script.now tasks.now.tasks }
-    ensures { (world : World) → StandsFor script.now tasks.now world → is_alive world.plain.table pid ≡ true
+pub fn next(script: &Script, objects: &Objects, pid: u32) -> Call
+    requires { (world : World) × StandsFor script.now objects.now world × (is_alive world.plain.table pid ≡ true) }
+    ensures { (world : World) → StandsFor script.now objects.now world → is_alive world.plain.table pid ≡ true
         → result ≡ call_of script.now world.plain pid }
 {
-    let Some(task) = tasks.get(pid) else {
+    let Some(proc) = objects.proc(pid) else {
         unreachable!();
     };
-    prog_ctl::call_here(script, &task.control)
+    prog_ctl::call_here(script, &proc.control)
 }
 
 /// A turn of a process's call; `Gone` where the process has ended.
-pub fn turn(script: &Script, tasks: &mut Tasks, pid: u32, call: &Call) -> Turned
-    requires calls { AreAtCalls script.now tasks.old.tasks }
-    requires stands { (world : World) × StandsFor script.now tasks.old world }
-    ensures calls { AreAtCalls script.now tasks.new.tasks }
-    ensures turned { (world : World) → StandsFor script.now tasks.old world
-        → (after : World) × StandsFor script.now tasks.new after × TurnsTo script.now world pid call.now result after }
+pub fn turn(script: &Script, objects: &mut Objects, pid: u32, call: &Call, need: Need) -> Turned
+    requires kept { AreKept script.now objects.old }
+    requires needed { need ≡ need_of call.now }
+    requires may { (world : World) × StandsFor script.now objects.old world × (live_of world + bound call.now + reserve ≤ script.now.heap) }
+    ensures kept { AreKept script.now objects.new }
+    ensures turned { (world : World) → StandsFor script.now objects.old world
+        → (after : World) × StandsFor script.now objects.new after × TurnsTo script.now world pid call.now result after }
+    ensures high { (world : World) → StandsFor script.now objects.old world → objects.new.heap.high ≤ live_of world + bound call.now }
 {
-    let Some(task) = tasks.find(pid) else {
+    // the heap knows how long the rows of its objects are
+    let _ = objects.heap.heap();
+    objects.heap.mark();
+    let Some(caller) = objects.caller(pid) else {
         return Turned::Gone;
     };
-    if task.status.is_some() {
-        return Turned::Gone;
-    }
-    calls::run(script, tasks, &task, call)
+    let turned = calls::run(script, objects, &caller, call, need);
+    let _ = objects.heap.heap();
+    turned
 }
 
 /// Answers a live process's next call ENOMEM.
-pub fn refuse(script: &Script, tasks: &mut Tasks, pid: u32)
-    requires calls { AreAtCalls script.now tasks.old.tasks }
-    requires alive { (world : World) × StandsFor script.now tasks.old world × (is_alive world.plain.table pid ≡ true) }
-    ensures calls { AreAtCalls script.now tasks.new.tasks }
-    ensures refused { (world : World) → StandsFor script.now tasks.old world → is_alive world.plain.table pid ≡ true
-        → StandsFor script.now tasks.new (refused_in script.now world pid) }
+pub fn refuse(script: &Script, objects: &mut Objects, pid: u32)
+    requires { (world : World) × StandsFor script.now objects.old world × (is_alive world.plain.table pid ≡ true) }
+    ensures kept { AreKept script.now objects.new }
+    ensures refused { (world : World) → StandsFor script.now objects.old world → is_alive world.plain.table pid ≡ true
+        → StandsFor script.now objects.new (refused_in script.now world pid) }
+    ensures high { (world : World) → StandsFor script.now objects.old world → objects.new.heap.high ≤ live_of world }
 {
-    let Some(task) = tasks.find(pid) else {
+    // the heap knows how long the rows of its objects are
+    let _ = objects.heap.heap();
+    objects.heap.mark();
+    let Some(caller) = objects.caller(pid) else {
         unreachable!();
     };
-    let _ = calls::go_on(script, tasks, pid, task.control, Reply::Fail(Errno::ENOMEM));
+    let reply = Reply::Fail(Errno::ENOMEM);
+    let _ = calls::go_on(script, objects, pid, caller.control, reply);
 }
 
-/// Ends a live process other than the first.
-pub fn kill(script: &Script, tasks: &mut Tasks, pid: u32)
-    requires calls { AreAtCalls script.now tasks.old.tasks }
-    requires alive { (world : World) × StandsFor script.now tasks.old world × (is_alive world.plain.table pid ≡ true) × (pid ≢ 1) }
-    ensures calls { AreAtCalls script.now tasks.new.tasks }
-    ensures killed { (world : World) → StandsFor script.now tasks.old world → is_alive world.plain.table pid ≡ true → pid ≢ 1
-        → (after : World) × StandsFor script.now tasks.new after × Kills world pid after }
+/// Ends a live process other than the first; where that isn't one, nothing changes.
+pub fn kill(objects: &mut Objects, pid: u32)
+    requires { (script : Script) × (world : World) × StandsFor script objects.old world }
+    ensures kept { (script : Script) → AreKept script objects.old → AreKept script objects.new }
+    ensures killed { (script : Script) (world : World) → StandsFor script objects.old world → is_alive world.plain.table pid ≡ true → pid ≢ 1
+        → (after : World) × StandsFor script objects.new after × Kills world pid after }
+    ensures gone { (script : Script) (world : World) → StandsFor script objects.old world → is_alive world.plain.table pid ≡ false
+        → StandsFor script objects.new world }
+    ensures first { (script : Script) (world : World) → StandsFor script objects.old world → pid ≡ 1 → StandsFor script objects.new world }
+    ensures high { (script : Script) (world : World) → StandsFor script objects.old world → objects.new.heap.high ≤ live_of world }
 {
-    tasks.end(pid, SIGKILL);
+    // the heap knows how long the rows of its objects are
+    let _ = objects.heap.heap();
+    objects.heap.mark();
+    if pid == INIT || !objects.runs(pid) {
+        return;
+    }
+    end(objects, pid, SIGKILL);
+    // and of those that are left
+    let _ = objects.heap.heap();
+}
+
+/// Drops nothing: of all that a cache may keep the heap has the root's node alone, which is pinned.
+pub fn evict(objects: &mut Objects)
+    ensures kept { (script : Script) → AreKept script objects.old → AreKept script objects.new }
+    ensures same { (script : Script) (world : World) → StandsFor script objects.old world → StandsFor script objects.new world }
+    ensures high { (script : Script) (world : World) → StandsFor script objects.old world → objects.new.heap.high ≤ live_of world }
+{
+    // the heap knows how long the rows of its objects are
+    let _ = objects.heap.heap();
+    objects.heap.mark();
 }

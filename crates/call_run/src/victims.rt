@@ -1,52 +1,94 @@
 //! Who is killed where heap has to be freed.
 
-ghost use Rattle.std.specs.Prelude.{◌≡◌, ◌↔◌, ◌+◌, ◌<◌, ◌≤◌, [], ◌∷◌, ◌++◌, length, IfSome, IsNone};
+ghost use Rattle.std.specs.Prelude.{◌≡◌, ◌↔◌, ◌≤◌, IfSome, IsNone, count_by, length};
 ghost use Rattle.std.specs.List.{All};
-ghost use Rattle.arrayvec.specs.ArrayVec.{array_vec_len};
+ghost use Rattle.kabi_types.specs.declared.scripts.Script.{Script};
 ghost use Rattle.kabi_types.specs.declared.scripts.Policy.TheVariants.{Heaviest, Youngest};
-ghost use Rattle.posix_defs.specs.Victim.{score_of};
+ghost use Rattle.kheap_slabs.specs.Heap.{IsWellFormed};
+ghost use Rattle.kheap_slabs.specs.Spaces.{OwnsNodes};
+ghost use Rattle.posix_defs.specs.Plain.{Plain};
+ghost use Rattle.posix_defs.specs.Victim.{score_of, victim_of};
+ghost use Rattle.posix_defs.specs.World.{Account};
 ghost use Rattle.victim_core.specs.Victims.{IsInRange, IsVictim};
-ghost use Rattle.call_run.specs.Tasks.{light, weights_in};
+ghost use Rattle.call_run.specs.Objects.{AreKept, procs_of};
+ghost use Rattle.call_run.specs.Standing.{StandFor};
+ghost use Rattle.call_run.specs.Weights.{has_frame, weight_in, weights_in};
 
-use crate::tasks::{MOST_TASKS, Task};
+use crate::objects::Objects;
 use arrayvec::ArrayVec;
 use kabi_types::{Policy, Weight};
+use kheap_slabs::{KHeap, Node, PageEntry, Proc};
 use victim_core::{Score, Scorer};
 
-/// What a process weighs: until it can map memory or open files, it holds nothing but itself.
-fn light(pid: u32) -> Weight
-    ensures { result ≡ light pid }
+/// How many processes may be there, alive or ended and not waited for.
+const MOST: usize = 64;
+
+/// Whether a page has a frame.
+fn has_frame(entry: PageEntry) -> bool
+    ensures { result ≡ has_frame entry }
 {
+    matches!(entry, PageEntry::Frame(_))
+}
+
+/// How many of 64 pages have a frame.
+fn frames_in(node: &Node) -> u32
+    requires { length node.now.entries ≡ 64 }
+    ensures frames { result ≡ count_by has_frame node.now.entries }
+    ensures few { result ≤ 64 }
+{
+    let mut frames = 0;
+    for entry in &node.entries {
+        if has_frame(*entry) {
+            frames += 1;
+        }
+    }
+    frames
+}
+
+/// The number of a process: what a call answers is known to be in its type's range.
+fn pid_of(proc: &Proc) -> u32
+    ensures { result ≡ proc.now.pid }
+{
+    proc.pid
+}
+
+/// What a process weighs: until it can open files, beside itself its memory.
+fn weight_of(heap: &KHeap, proc: &Proc) -> Weight
+    requires whole { IsWellFormed heap.now }
+    requires owns { OwnsNodes heap.now.nodes proc.now.nodes }
+    requires groups { length proc.now.nodes ≡ 4 }
+    ensures weight { result ≡ weight_in heap.now proc.now }
+    ensures in_range { IsInRange result }
+{
+    let mut frames = 0;
+    let mut nodes = 0;
+    for group in &proc.nodes {
+        if let Some(key) = group {
+            nodes += 1;
+            frames += frames_in(heap.get_node(*key));
+        }
+    }
     Weight {
-        pid,
-        frames: 0,
-        nodes: 0,
+        pid: pid_of(proc),
+        frames,
+        nodes,
         descs: 0,
     }
 }
 
-/// Puts the weight of a process behind the others, if it is alive.
-fn weigh(weights: &mut ArrayVec<Weight, MOST_TASKS>, task: Task)
-    requires room { array_vec_len weights.old < 64 }
-    requires in_range { All IsInRange weights.old.items }
-    ensures weights { weights.new.items ≡ weights.old.items ++ weights_in (task ∷ []) }
-    ensures few { array_vec_len weights.new ≤ array_vec_len weights.old + 1 }
-    ensures in_range { All IsInRange weights.new.items }
-{
-    if task.status.is_none() {
-        weights.push(light(task.pid));
-    }
-}
-
 /// The weights of the processes that are alive.
-fn weights_of(tasks: &[Task]) -> ArrayVec<Weight, MOST_TASKS>
-    requires { length tasks.now ≤ 64 }
-    ensures weights { result.items ≡ weights_in tasks.now }
+fn weights_of(objects: &Objects) -> ArrayVec<Weight, MOST>
+    requires whole { IsWellFormed objects.now.heap }
+    requires kept { (script : Script) × AreKept script objects.now }
+    ensures weights { result.items ≡ weights_in objects.now.heap (procs_of objects.now) }
     ensures in_range { All IsInRange result.items }
 {
     let mut weights = ArrayVec::new();
-    for task in tasks {
-        weigh(&mut weights, *task);
+    for place in objects.procs.listed() {
+        let proc = objects.heap.get_proc(place.key);
+        if proc.status.is_none() {
+            weights.push(weight_of(&objects.heap, proc));
+        }
     }
     weights
 }
@@ -68,12 +110,14 @@ fn chosen<F: Scorer, G: Scorer>(
 }
 
 /// The process that is killed under this policy; None exactly where none but the first is alive.
-pub fn victim(policy: Policy, tasks: &[Task]) -> Option<u32>
-    requires { length tasks.now ≤ 64 }
-    ensures none { IsNone result ↔ All (λ w. w.pid ≡ 1) (weights_in tasks.now) }
-    ensures victim { IfSome result (IsVictim policy (weights_in tasks.now)) }
+pub fn victim(policy: Policy, objects: &Objects) -> Option<u32>
+    requires kept { (script : Script) × AreKept script objects.now }
+    ensures { (script : Script) (plain : Plain) (account : Account) → StandFor script objects.now plain account
+        → result ≡ victim_of policy plain account }
 {
-    let weights = weights_of(tasks);
+    // the heap knows how long the rows of its objects are
+    let _ = objects.heap.heap();
+    let weights = weights_of(objects);
     chosen(
         |w: Weight| -> u64
             ensures { result ≡ score_of Heaviest w }

@@ -1,70 +1,87 @@
-use Rattle.std.proofs.Common.{◌≡◌, ◌∙◌, subst, sym, w64}
+use Rattle.std.proofs.Common.{◌≡◌, ◌∙◌, ◌<◌, ◌≤◌, pos, Ok, sym, ap, subst, w64, arith}
+use Rattle.std.specs.Int.{cast_unsigned}
 use Rattle.std.proofs.lemmas.Int.{to_z-of_z}
-use Rattle.posix_defs.specs.Killing.{is_asking}
-use Rattle.call_run.specs.Tasks.{target_of}
-use Rattle.call_run.proofs.Standing.{does_ask, does_eperm, does_esrch, does_living, does_nothing, does_other, does_reach, has_not_ended, reached_itself}
+use Rattle.kabi_types.specs.declared.calls.Call.TheVariants as call
+use Rattle.kabi_types.specs.declared.replies.Reply.TheVariants.{Fail, Val}
+use Rattle.posix_defs.specs.Killing.{kill, struck}
+use Rattle.posix_defs.specs.Plain.{Plain}
+use Rattle.proc_table.specs.Procs.{IsAlive}
+use Rattle.proc_table.specs.Standing.{IsTable, answered_by, pid_of}
+use Rattle.call_run.specs.Objects.{procs_of}
+use Rattle.call_run.specs.Standing.{Does}
+use Rattle.call_run.proofs.EndingOthers.{alive_made}
+use Rattle.call_run.proofs.Striking.{IsStruck, answered_as, does_strike, does_tell, number_of, struck_by}
 use Rattle.call_run.proofs.calls.send.Goals as goal
 
-pub returns-in_default-clause-does : goal.returns-in_default-clause-does
-returns-in_default-clause-does c =
-    let found : c.find_target.result ≡ target_of c.args.tasks.now.tasks c.args.target =
-    subst (λ z. c.find_target.result ≡ target_of c.args.tasks.now.tasks z) (to_z-of_z w64 c.args.target c.ranges.target) c.find_target.ensures in
-    does_esrch c.args.script.now c.args.tasks.now c.go_on.new.tasks c.args.pid c.args.target c.args.signal c.go_on.result
-    (sym found ∙ c.in_default.is) c.go_on.ensures.told c.go_on.ensures.does
+pub overflow_cast-cast_unsigned : goal.overflow_cast-cast_unsigned
+overflow_cast-cast_unsigned c =
+    let objects = c.args.objects.now in
+    let it : IsStruck (procs_of objects) c.args.target =
+    struck_by (procs_of objects) c.args.target c.args.signal _ _ c.may_kill.result c.in-Ok-true.field-0 (to_z-of_z w64 c.args.target c.ranges.target) (to_z-of_z w64 c.args.signal c.ranges.signal)
+    c.may_kill.ensures.verdict c.in-Ok-true.is c.in-Ok-true.field-0-test in
+    let number : c.cast_unsigned.result ≡ pid_of c.args.target =
+    number_of c.args.target c.cast_unsigned.result (c.cast_unsigned.ensures ∙ ap (cast_unsigned w64) (to_z-of_z w64 c.args.target c.ranges.target)) it.same in
+    let made : pid_of c.args.target ≤ objects.procs.last = alive_made objects (pid_of c.args.target) c.requires.kept.holds it.alive in
+    let last : c.last_pid.result ≡ objects.procs.last = c.last_pid.ensures in
+    let most : c.last_pid.result < 4294967296 = c.last_pid.type_inv in
+    record { fits = omega arith }
 
-pub returns-then-is_asking-clause-does : goal.returns-then-is_asking-clause-does
-returns-then-is_asking-clause-does c =
-    let found : c.find_target.result ≡ target_of c.args.tasks.now.tasks c.args.target =
-    subst (λ z. c.find_target.result ≡ target_of c.args.tasks.now.tasks z) (to_z-of_z w64 c.args.target c.ranges.target) c.find_target.ensures in
-    let asks : c.is_asking.result ≡ is_asking c.args.signal =
-    subst (λ z. c.is_asking.result ≡ is_asking z) (to_z-of_z w64 c.args.signal c.ranges.signal) c.is_asking.ensures in
-    does_reach c.args.script.now c.args.tasks.now c.go_on-then-is_asking.new.tasks c.args.pid c.args.target c.args.signal c.in-Some.found c.go_on-then-is_asking.result
-    (sym found ∙ c.in-Some.is)
-    (does_ask c.args.script.now c.args.tasks.now c.go_on-then-is_asking.new.tasks c.args.pid c.args.signal c.in-Some.found c.go_on-then-is_asking.result
-    (sym asks ∙ c.if-is_asking.true) c.go_on-then-is_asking.ensures.told c.go_on-then-is_asking.ensures.does)
-
-pub returns-then-found-eq1-clause-does : goal.returns-then-found-eq1-clause-does
-returns-then-found-eq1-clause-does c =
-    let found : c.find_target.result ≡ target_of c.args.tasks.now.tasks c.args.target =
-    subst (λ z. c.find_target.result ≡ target_of c.args.tasks.now.tasks z) (to_z-of_z w64 c.args.target c.ranges.target) c.find_target.ensures in
-    let asks : c.is_asking.result ≡ is_asking c.args.signal =
-    subst (λ z. c.is_asking.result ≡ is_asking z) (to_z-of_z w64 c.args.signal c.ranges.signal) c.is_asking.ensures in
-    does_reach c.args.script.now c.args.tasks.now c.go_on-then-found-eq1.new.tasks c.args.pid c.args.target c.args.signal c.in-Some.found c.go_on-then-found-eq1.result
-    (sym found ∙ c.in-Some.is)
-    (does_eperm c.args.script.now c.args.tasks.now c.go_on-then-found-eq1.new.tasks c.args.pid c.args.signal c.in-Some.found c.go_on-then-found-eq1.result
-    (sym asks ∙ c.if-is_asking.false) c.if-found-eq1.true c.go_on-then-found-eq1.ensures.told c.go_on-then-found-eq1.ensures.does)
-
-pub returns-then-is_some-clause-does : goal.returns-then-is_some-clause-does
-returns-then-is_some-clause-does c =
-    let found : c.find_target.result ≡ target_of c.args.tasks.now.tasks c.args.target =
-    subst (λ z. c.find_target.result ≡ target_of c.args.tasks.now.tasks z) (to_z-of_z w64 c.args.target c.ranges.target) c.find_target.ensures in
-    let asks : c.is_asking.result ≡ is_asking c.args.signal =
-    subst (λ z. c.is_asking.result ≡ is_asking z) (to_z-of_z w64 c.args.signal c.ranges.signal) c.is_asking.ensures in
-    does_reach c.args.script.now c.args.tasks.now c.go_on-then-is_some.new.tasks c.args.pid c.args.target c.args.signal c.in-Some.found c.go_on-then-is_some.result
-    (sym found ∙ c.in-Some.is)
-    (does_other c.args.script.now c.args.tasks.now c.go_on-then-is_some.new.tasks c.args.pid c.args.signal c.in-Some.found c.go_on-then-is_some.result
-    (sym asks ∙ c.if-is_asking.false) c.if-found-eq1.false
-    (does_nothing c.args.script.now c.args.tasks.now c.go_on-then-is_some.new.tasks c.args.pid c.in-Some.found c.go_on-then-is_some.result
-    (sym c.is_some.ensures ∙ c.if-is_some.true) c.go_on-then-is_some.ensures.told c.go_on-then-is_some.ensures.does))
+pub strike-requires-clause-other : goal.strike-requires-clause-other
+strike-requires-clause-other c =
+    let objects = c.args.objects.now in
+    let it : IsStruck (procs_of objects) c.args.target =
+    struck_by (procs_of objects) c.args.target c.args.signal _ _ c.may_kill.result c.in-Ok-true.field-0 (to_z-of_z w64 c.args.target c.ranges.target) (to_z-of_z w64 c.args.signal c.ranges.signal)
+    c.may_kill.ensures.verdict c.in-Ok-true.is c.in-Ok-true.field-0-test in
+    let number : c.cast_unsigned.result ≡ pid_of c.args.target =
+    number_of c.args.target c.cast_unsigned.result (c.cast_unsigned.ensures ∙ ap (cast_unsigned w64) (to_z-of_z w64 c.args.target c.ranges.target)) it.same in
+    λ same. it.other (sym number ∙ same)
 
 pub strike-requires-clause-there : goal.strike-requires-clause-there
 strike-requires-clause-there c =
-    let found : c.find_target.result ≡ target_of c.args.tasks.now.tasks c.args.target =
-    subst (λ z. c.find_target.result ≡ target_of c.args.tasks.now.tasks z) (to_z-of_z w64 c.args.target c.ranges.target) c.find_target.ensures in (
-      c.in-Some.found,
-      reached_itself c.args.tasks.now c.args.target c.in-Some.found (sym found ∙ c.in-Some.is),
-      has_not_ended c.in-Some.found.status (sym c.is_some.ensures ∙ c.if-is_some.false),
-    )
+    let objects = c.args.objects.now in
+    let it : IsStruck (procs_of objects) c.args.target =
+    struck_by (procs_of objects) c.args.target c.args.signal _ _ c.may_kill.result c.in-Ok-true.field-0 (to_z-of_z w64 c.args.target c.ranges.target) (to_z-of_z w64 c.args.signal c.ranges.signal)
+    c.may_kill.ensures.verdict c.in-Ok-true.is c.in-Ok-true.field-0-test in
+    let number : c.cast_unsigned.result ≡ pid_of c.args.target =
+    number_of c.args.target c.cast_unsigned.result (c.cast_unsigned.ensures ∙ ap (cast_unsigned w64) (to_z-of_z w64 c.args.target c.ranges.target)) it.same in
+    subst (IsAlive (procs_of objects)) (sym number) it.alive
 
-pub returns-clause-does : goal.returns-clause-does
-returns-clause-does c =
-    let found : c.find_target.result ≡ target_of c.args.tasks.now.tasks c.args.target =
-    subst (λ z. c.find_target.result ≡ target_of c.args.tasks.now.tasks z) (to_z-of_z w64 c.args.target c.ranges.target) c.find_target.ensures in
-    let asks : c.is_asking.result ≡ is_asking c.args.signal =
-    subst (λ z. c.is_asking.result ≡ is_asking z) (to_z-of_z w64 c.args.signal c.ranges.signal) c.is_asking.ensures in
-    does_reach c.args.script.now c.args.tasks.now c.strike.new.tasks c.args.pid c.args.target c.args.signal c.in-Some.found c.strike.result
-    (sym found ∙ c.in-Some.is)
-    (does_other c.args.script.now c.args.tasks.now c.strike.new.tasks c.args.pid c.args.signal c.in-Some.found c.strike.result
-    (sym asks ∙ c.if-is_asking.false) c.if-found-eq1.false
-    (does_living c.args.script.now c.args.tasks.now c.strike.new.tasks c.args.pid c.in-Some.found c.strike.result
-    (has_not_ended c.in-Some.found.status (sym c.is_some.ensures ∙ c.if-is_some.false)) c.strike.ensures.does))
+pub returns-in-Err-clause-does : goal.returns-in-Err-clause-does
+returns-in-Err-clause-does c =
+    let script = c.args.script.now in
+    let objects = c.args.objects.now in
+    let pid = c.args.pid in
+    let answers : (plain : Plain) → IsTable objects.heap objects.procs plain.table → kill script plain pid c.args.target c.args.signal ≡ answered_by script plain pid c.args.target c.may_kill.result = λ plain is.
+    answered_as script plain pid c.args.target c.args.signal _ _ c.may_kill.result (to_z-of_z w64 c.args.target c.ranges.target) (to_z-of_z w64 c.args.signal c.ranges.signal)
+    (c.may_kill.ensures.kill script plain is) in
+    does_tell script objects c.go_on.new.objects pid c.args.target c.args.signal (Fail c.in-Err.errno) c.go_on.result c.go_on.ensures.kept
+    (λ plain is. answers plain is ∙ ap (answered_by script plain pid c.args.target) c.in-Err.is) c.go_on.ensures.told c.go_on.ensures.does
+
+pub returns-in-Ok-false-clause-does : goal.returns-in-Ok-false-clause-does
+returns-in-Ok-false-clause-does c =
+    let script = c.args.script.now in
+    let objects = c.args.objects.now in
+    let pid = c.args.pid in
+    let answers : (plain : Plain) → IsTable objects.heap objects.procs plain.table → kill script plain pid c.args.target c.args.signal ≡ answered_by script plain pid c.args.target c.may_kill.result = λ plain is.
+    answered_as script plain pid c.args.target c.args.signal _ _ c.may_kill.result (to_z-of_z w64 c.args.target c.ranges.target) (to_z-of_z w64 c.args.signal c.ranges.signal)
+    (c.may_kill.ensures.kill script plain is) in
+    does_tell script objects c.go_on-in-Ok-false.new.objects pid c.args.target c.args.signal (Val (pos 0)) c.go_on-in-Ok-false.result c.go_on-in-Ok-false.ensures.kept
+    (λ plain is. answers plain is ∙ ap (answered_by script plain pid c.args.target) (c.in-Ok-false.is ∙ ap Ok c.in-Ok-false.field-0-test)) c.go_on-in-Ok-false.ensures.told c.go_on-in-Ok-false.ensures.does
+
+pub returns-in-Ok-true-clause-does : goal.returns-in-Ok-true-clause-does
+returns-in-Ok-true-clause-does c =
+    let script = c.args.script.now in
+    let objects = c.args.objects.now in
+    let pid = c.args.pid in
+    let it : IsStruck (procs_of objects) c.args.target =
+    struck_by (procs_of objects) c.args.target c.args.signal _ _ c.may_kill.result c.in-Ok-true.field-0 (to_z-of_z w64 c.args.target c.ranges.target) (to_z-of_z w64 c.args.signal c.ranges.signal)
+    c.may_kill.ensures.verdict c.in-Ok-true.is c.in-Ok-true.field-0-test in
+    let number : c.cast_unsigned.result ≡ pid_of c.args.target =
+    number_of c.args.target c.cast_unsigned.result (c.cast_unsigned.ensures ∙ ap (cast_unsigned w64) (to_z-of_z w64 c.args.target c.ranges.target)) it.same in
+    let answers : (plain : Plain) → IsTable objects.heap objects.procs plain.table → kill script plain pid c.args.target c.args.signal ≡ answered_by script plain pid c.args.target c.may_kill.result = λ plain is.
+    answered_as script plain pid c.args.target c.args.signal _ _ c.may_kill.result (to_z-of_z w64 c.args.target c.ranges.target) (to_z-of_z w64 c.args.signal c.ranges.signal)
+    (c.may_kill.ensures.kill script plain is) in
+    does_strike script objects c.strike.new.objects pid c.args.target c.args.signal c.strike.result
+    (λ plain is. answers plain is ∙ ap (answered_by script plain pid c.args.target) (c.in-Ok-true.is ∙ ap Ok c.in-Ok-true.field-0-test))
+    (subst (λ n. Does script objects pid (call.Kill c.args.target c.args.signal) (λ plain. struck script plain pid n) c.strike.result c.strike.new.objects) number
+    (c.strike.ensures.does (call.Kill c.args.target c.args.signal) tt))

@@ -1,16 +1,74 @@
-use Rattle.posix_defs.specs.Ending.{die}
-use Rattle.call_run.proofs.Standing.{calls_ended, ended_no_more, ends_on, in_world, kills_in, not_zero}
+use Rattle.std.proofs.Common.{◌≡◌, ◌≤◌, ◌∙◌, true, false, ap, sym, subst, arith}
+use Rattle.kheap_slabs.specs.Heap.{live_bytes}
+use Rattle.kheap_slabs.proofs.PaidLemmas.{TakesNothing-bytes}
+use Rattle.call_run.specs.declared.objects.Objects.{Objects}
+use Rattle.call_run.specs.Objects.{AreKept, procs_of}
+use Rattle.call_run.specs.Standing.{StandsFor}
+use Rattle.call_run.proofs.Killing.{high_marked, killed_in, killed_stands, kills_in, stands_marked}
+use Rattle.call_run.proofs.Marking.{kept_marked}
+use Rattle.call_run.proofs.RunningProcs.{alive_is, running}
 use Rattle.call_run.proofs.turns.kill.Goals as goal
+use Rattle.call_run.proofs.turns.kill.Goals.{then-pid-eq-INIT-via-then-pid-eq-INIT, then-pid-eq-INIT-via-else-pid-eq-INIT+then-not-runs}
 
-pub returns-clause-calls : goal.returns-clause-calls
-returns-clause-calls c = calls_ended c.args.script.now c.args.pid 9 c.args.tasks.now.tasks c.end.new.self.tasks c.requires.calls c.end.ensures.first c.end.ensures.other
+never : {X : Type 0} → true ≡ false → X
+never e = cc
+
+pub returns-then-pid-eq-INIT-clause-kept : goal.returns-then-pid-eq-INIT-clause-kept
+returns-then-pid-eq-INIT-clause-kept c = λ script kept. rw c.mark.ensures (kept_marked script c.args.objects.now _ _ kept)
+
+pub returns-then-pid-eq-INIT-clause-gone : goal.returns-then-pid-eq-INIT-clause-gone
+returns-then-pid-eq-INIT-clause-gone c = λ script world stands _. rw c.mark.ensures (stands_marked script c.args.objects.now _ _ world stands)
+
+pub returns-then-pid-eq-INIT-clause-first : goal.returns-then-pid-eq-INIT-clause-first
+returns-then-pid-eq-INIT-clause-first c = λ script world stands _. rw c.mark.ensures (stands_marked script c.args.objects.now _ _ world stands)
+
+pub returns-then-pid-eq-INIT-clause-high : goal.returns-then-pid-eq-INIT-clause-high
+returns-then-pid-eq-INIT-clause-high c = λ script world stands.
+    let mark : c.mark.new.self.high ≡ live_bytes c.args.objects.now.heap = ap (λ h. h.high) c.mark.ensures in
+    high_marked script c.args.objects.now world c.mark.new.self.high stands c.heap.ensures.well_formed (omega arith)
+
+pub returns-then-pid-eq-INIT-clause-killed : goal.returns-then-pid-eq-INIT-clause-killed
+returns-then-pid-eq-INIT-clause-killed c = λ script world stands alive other.
+    let marked : StandsFor script (record { heap = c.mark.new.self; procs = c.args.objects.now.procs }) world = rw c.mark.ensures (stands_marked script c.args.objects.now _ _ world stands) in
+    let lives = alive_is script (record { heap = c.mark.new.self; procs = c.args.objects.now.procs }) world.plain world.account c.args.pid marked.plain in
+    elim c.then-pid-eq-INIT.branch [
+      | then-pid-eq-INIT-via-then-pid-eq-INIT w ↦ absurd (other w.if-pid-eq-INIT.true)
+      | then-pid-eq-INIT-via-else-pid-eq-INIT+then-not-runs w ↦ never (sym alive ∙ lives ∙ sym w.runs.ensures ∙ w.if-not-runs.true)
+    ]
+
+pub end-requires-clause-holds : goal.end-requires-clause-holds
+end-requires-clause-holds c =
+    let stood = c.requires in
+    let marked : AreKept stood.0 (record { heap = c.mark.new.self; procs = c.args.objects.now.procs }) = rw c.mark.ensures (kept_marked stood.0 c.args.objects.now _ _ stood.2.kept) in
+    marked.holds
+
+pub end-requires-clause-alive : goal.end-requires-clause-alive
+end-requires-clause-alive c =
+    running (procs_of (record { heap = c.mark.new.self; procs = c.args.objects.now.procs })) c.args.pid (sym c.runs.ensures ∙ c.if-not-runs.false)
+
+pub returns-clause-kept : goal.returns-clause-kept
+returns-clause-kept c = λ script kept.
+    let marked : AreKept script (record { heap = c.mark.new.self; procs = c.args.objects.now.procs }) = rw c.mark.ensures (kept_marked script c.args.objects.now _ _ kept) in
+    c.end.ensures.kept script marked
 
 pub returns-clause-killed : goal.returns-clause-killed
-returns-clause-killed c = λ world stands alive apart.
-    let goes = ends_on c.args.script.now c.args.tasks.now world.plain c.args.pid 9 c.end.new.self stands.plain
-    (not_zero c.args.script.now c.args.tasks.now world.plain c.args.pid stands.plain alive) c.end.ensures.last c.end.ensures.first c.end.ensures.other in (
-      record world { plain = die world.plain c.args.pid 9 },
-      in_world c.args.script.now c.args.tasks.now c.end.new.self world (die world.plain c.args.pid 9) stands goes,
-      kills_in c.args.script.now c.args.tasks.now c.end.new.self world c.args.pid stands goes
-          (ended_no_more c.args.pid 9 c.args.tasks.now.tasks c.end.new.self.tasks c.end.ensures.first c.end.ensures.other),
-    )
+returns-clause-killed c = λ script world stands _ _.
+    let old = c.args.objects.now in
+    let mid : Objects = record { heap = c.mark.new.self; procs = old.procs } in
+    let marked : StandsFor script mid world = rw c.mark.ensures (stands_marked script old _ _ world stands) in
+    let after = killed_stands script mid c.end.new.objects world c.args.pid marked (c.end.ensures.kept script marked.kept) (c.end.ensures.dies script world.plain world.account marked.kept marked.plain) in
+    let less : live_bytes c.end.new.objects.heap ≤ live_bytes c.mark.new.self = TakesNothing-bytes c.mark.new.self c.end.new.objects.heap c.end.ensures.takes in
+    let same : live_bytes c.mark.new.self ≡ live_bytes old.heap = ap live_bytes c.mark.ensures in
+    (killed_in world c.args.pid, after, kills_in script old c.end.new.objects world c.args.pid stands c.heap.ensures.well_formed after c.heap-2.ensures.well_formed (subst (λ n. live_bytes c.end.new.objects.heap ≤ n) same less))
+
+pub returns-clause-gone : goal.returns-clause-gone
+returns-clause-gone c = λ script world stands dead.
+    let marked : StandsFor script (record { heap = c.mark.new.self; procs = c.args.objects.now.procs }) world = rw c.mark.ensures (stands_marked script c.args.objects.now _ _ world stands) in
+    never (sym c.if-not-runs.false ∙ c.runs.ensures
+    ∙ sym (alive_is script (record { heap = c.mark.new.self; procs = c.args.objects.now.procs }) world.plain world.account c.args.pid marked.plain) ∙ dead)
+
+pub returns-clause-high : goal.returns-clause-high
+returns-clause-high c = λ script world stands.
+    let mark : c.mark.new.self.high ≡ live_bytes c.args.objects.now.heap = ap (λ h. h.high) c.mark.ensures in
+    let below : c.end.new.objects.heap.high ≤ c.mark.new.self.high = c.end.ensures.takes.high in
+    high_marked script c.args.objects.now world c.end.new.objects.heap.high stands c.heap.ensures.well_formed (subst (λ n. c.end.new.objects.heap.high ≤ n) mark below)

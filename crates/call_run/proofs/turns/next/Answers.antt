@@ -1,24 +1,30 @@
-use Rattle.std.proofs.Common.{◌≡◌, ◌∙◌, None, ap, option_copied, sym}
-use Rattle.call_run.specs.Standing.{IsAtCall}
-use Rattle.call_run.proofs.Standing.{has_it, has_task, is_up, next_is}
+use Rattle.std.proofs.Common.{◌≡◌, ◌∙◌, ap, option_copied, sym}
+use Rattle.std.specs.Prelude.{Option, None, Some}
+use Rattle.kheap_slabs.specs.declared.objects.Proc.{Proc}
+use Rattle.proc_table.specs.Procs.{proc_of}
+use Rattle.call_run.specs.Objects.{procs_of}
+use Rattle.call_run.proofs.RunningProcs.{alive_runs}
+use Rattle.call_run.proofs.Turning.{next_is, up_at_call}
 use Rattle.call_run.proofs.turns.next.Goals as goal
+
+missing : (o : Option Proc) (proc : Proc) → o ≡ None → o ≡ Some proc → ⊥
+missing o proc e f = cc
+
+pub proc-requires : goal.proc-requires
+proc-requires c = let alive = c.requires in alive.1.kept.holds.stored
 
 pub unreachable-requires : goal.unreachable-requires
 unreachable-requires c =
-    let alive = c.requires.alive in
-    has_task c.args.script.now c.args.tasks.now alive.0.plain c.args.pid alive.1.plain alive.2 (sym c.get.ensures ∙ ap option_copied c.in_default.is)
+    let alive = c.requires in
+    let up = alive_runs c.args.script.now c.args.objects.now alive.0.plain alive.0.account c.args.pid alive.1.plain alive.2 in
+    missing (proc_of (procs_of c.args.objects.now) c.args.pid) up.proc (sym c.proc.ensures ∙ ap option_copied c.in_default.is) up.there
 
 pub call_here-requires : goal.call_here-requires
 call_here-requires c =
-    let alive = c.requires.alive in
-    let is = sym c.get.ensures ∙ ap option_copied c.in-Some.is in
-    let at = has_it (λ task. task.status ≡ None → IsAtCall c.args.script.now task) c.args.tasks.now.tasks c.args.pid c.in-Some.task.now c.requires.calls is
-    (is_up c.args.script.now c.args.tasks.now alive.0.plain c.args.pid c.in-Some.task.now alive.1.plain alive.2 is) in
+    let alive = c.requires in
+    let at = up_at_call c.args.script.now c.args.objects.now alive.0 c.args.pid c.in-Some.proc.now alive.1 alive.2 (sym c.proc.ensures ∙ ap option_copied c.in-Some.is) in
     record { stands = at.stands; rests = at.rests }
 
 pub returns : goal.returns
 returns c = λ world stands alive.
-    let is = sym c.get.ensures ∙ ap option_copied c.in-Some.is in
-    let at = has_it (λ task. task.status ≡ None → IsAtCall c.args.script.now task) c.args.tasks.now.tasks c.args.pid c.in-Some.task.now c.requires.calls is
-    (is_up c.args.script.now c.args.tasks.now world.plain c.args.pid c.in-Some.task.now stands.plain alive is) in
-    c.call_here.ensures ∙ next_is c.args.script.now c.args.tasks.now world.plain c.args.pid c.in-Some.task.now stands.plain alive is at.rests
+    c.call_here.ensures ∙ next_is c.args.script.now c.args.objects.now world c.args.pid c.in-Some.proc.now stands alive (sym c.proc.ensures ∙ ap option_copied c.in-Some.is)

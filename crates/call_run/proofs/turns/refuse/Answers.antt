@@ -1,13 +1,41 @@
-use Rattle.std.proofs.Common.{◌∙◌, sym}
-use Rattle.call_run.proofs.Standing.{has_task, runs_at}
+use Rattle.std.proofs.Common.{◌≡◌, ◌≤◌, ◌∙◌, ap, false, sym, true, arith}
+use Rattle.kheap_slabs.specs.Heap.{live_bytes}
+use Rattle.posix_defs.specs.World.{live_of}
+use Rattle.call_run.specs.Standing.{StandFor}
+use Rattle.call_run.proofs.LiveIs.{live_is}
+use Rattle.call_run.proofs.Marking.{kept_marked, stand_marked}
+use Rattle.call_run.proofs.RunningProcs.{alive_is}
 use Rattle.call_run.proofs.turns.refuse.Goals as goal
+
+never : true ≡ false → ⊥
+never e = cc
+
+pub go_on-requires-clause-kept : goal.go_on-requires-clause-kept
+go_on-requires-clause-kept c =
+    let alive = c.requires in
+    rw c.mark.ensures (kept_marked c.args.script.now c.args.objects.now _ _ alive.1.kept)
+
+pub returns-clause-high : goal.returns-clause-high
+returns-clause-high c = λ world stands.
+    let high : c.go_on.new.objects.heap.high ≤ c.mark.new.self.high = c.go_on.ensures.takes.high in
+    let mark : c.mark.new.self.high ≡ live_bytes c.args.objects.now.heap = ap (λ h. h.high) c.mark.ensures in
+    let live : live_bytes c.args.objects.now.heap ≡ live_of world = live_is c.args.script.now c.args.objects.now world stands c.heap.ensures.well_formed in
+    omega arith
+
+pub returns-clause-refused : goal.returns-clause-refused
+returns-clause-refused c = λ world stands alive.
+    let marked : StandFor c.args.script.now (record { heap = c.mark.new.self; procs = c.args.objects.now.procs }) world.plain world.account =
+    rw c.mark.ensures (stand_marked c.args.script.now c.args.objects.now _ _ world.plain world.account stands.plain) in
+    record {
+      kept = c.go_on.ensures.kept;
+      plain = c.go_on.ensures.does world.plain world.account marked alive;
+      cached = stands.cached;
+      reads = stands.reads;
+    }
 
 pub unreachable-requires : goal.unreachable-requires
 unreachable-requires c =
-    let alive = c.requires.alive in
-    has_task c.args.script.now c.args.tasks.now alive.0.plain c.args.pid alive.1.plain alive.2 (sym c.find.ensures ∙ c.in_default.is)
-
-pub go_on-requires-clause-runs : goal.go_on-requires-clause-runs
-go_on-requires-clause-runs c =
-    let alive = c.requires.alive in
-    runs_at c.args.script.now c.args.tasks.now alive.0.plain c.args.pid c.in-Some.task alive.1.plain alive.2 (sym c.find.ensures ∙ c.in-Some.is)
+    let alive = c.requires in
+    let marked : StandFor c.args.script.now (record { heap = c.mark.new.self; procs = c.args.objects.now.procs }) alive.0.plain alive.0.account =
+    rw c.mark.ensures (stand_marked c.args.script.now c.args.objects.now _ _ alive.0.plain alive.0.account alive.1.plain) in
+    never (sym alive.2 ∙ alive_is c.args.script.now _ alive.0.plain alive.0.account c.args.pid marked ∙ c.caller.ensures.none c.in_default.is)

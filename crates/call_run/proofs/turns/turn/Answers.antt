@@ -1,39 +1,74 @@
-use Rattle.std.proofs.Common.{◌≡◌, ◌∙◌, Some, ap, subst, sym}
-use Rattle.posix_defs.specs.Turn.{TurnsTo}
-use Rattle.posix_defs.specs.World.{World}
-use Rattle.call_run.specs.Standing.{StandsFor}
-use Rattle.call_run.specs.Tasks.{task_of}
-use Rattle.call_run.proofs.Standing.{alive_there, has_not_ended, has_pid, is_dead, is_nobody}
-use Rattle.call_run.proofs.Worlds.{gone_on, runs_here, turns_on}
+use Rattle.std.proofs.Common.{◌≡◌, ◌+◌, ◌≤◌, ◌∙◌, max, ℕ, ap, subst, arith}
+use Rattle.kheap_slabs.specs.Heap.{Heap, live_bytes}
+use Rattle.posix_defs.specs.Machine.{machine}
+use Rattle.posix_defs.specs.Needs.{bound}
+use Rattle.posix_defs.specs.Sizes.{reserve}
+use Rattle.posix_defs.specs.World.{live_of}
+use Rattle.call_run.specs.declared.objects.Objects.{Objects}
+use Rattle.call_run.specs.Objects.{IsCaller}
+use Rattle.call_run.specs.Standing.{Does, StandsFor}
+use Rattle.call_run.proofs.Callers.{caller_of, caller_running}
+use Rattle.call_run.proofs.LiveIs.{live_is}
+use Rattle.call_run.proofs.Marking.{kept_marked, stands_marked}
+use Rattle.call_run.proofs.RunningProcs.{alive_is}
+use Rattle.call_run.proofs.Worlds.{gone_on, turns_on}
 use Rattle.call_run.proofs.turns.turn.Goals as goal
+
+pub run-turned-requires-clause-kept : goal.run-turned-requires-clause-kept
+run-turned-requires-clause-kept c = rw c.mark.ensures (kept_marked c.args.script.now c.args.objects.now _ _ c.requires.kept)
+
+pub run-turned-requires-clause-caller : goal.run-turned-requires-clause-caller
+run-turned-requires-clause-caller c = caller_of (record { heap = c.mark.new.self; procs = c.args.objects.now.procs }) c.args.pid c.in-Some.caller c.in-Some.ensures.some
+
+-- the heap has room for the call
+fits : (live bytes spare size marked marked_size of script : ℕ) → of + bytes + spare ≤ script → live ≡ of → size ≡ script → marked ≡ live → marked_size ≡ size → marked + bytes ≤ marked_size
+fits live bytes spare size marked marked_size of script may is whole same same_size = omega arith
+
+pub run-turned-requires-clause-room : goal.run-turned-requires-clause-room
+run-turned-requires-clause-room c =
+    let may = c.requires.may in
+    fits (live_bytes c.args.objects.now.heap) (bound c.args.call.now) reserve c.args.objects.now.heap.heap (live_bytes c.mark.new.self) c.mark.new.self.heap (live_of may.0) c.args.script.now.heap
+    may.2 (live_is c.args.script.now c.args.objects.now may.0 may.1 c.heap.ensures.well_formed) c.requires.kept.size
+    (ap live_bytes c.mark.ensures) (ap (λ (h : Heap). h.heap) c.mark.ensures)
+
+pub returns-in_default-clause-kept : goal.returns-in_default-clause-kept
+returns-in_default-clause-kept c = rw c.mark.ensures (kept_marked c.args.script.now c.args.objects.now _ _ c.requires.kept)
 
 pub returns-in_default-clause-turned : goal.returns-in_default-clause-turned
 returns-in_default-clause-turned c = λ world stands.
-    gone_on c.args.script.now c.args.tasks.now world c.args.pid c.args.call.now stands
-    (is_nobody c.args.script.now c.args.tasks.now world.plain c.args.pid stands.plain (sym c.find.ensures ∙ c.in_default.is))
+    let new : Objects = record { heap = c.mark.new.self; procs = c.args.objects.now.procs } in
+    let marked : StandsFor c.args.script.now new world = rw c.mark.ensures (stands_marked c.args.script.now c.args.objects.now _ _ world stands) in
+    gone_on c.args.script.now new world c.args.pid c.args.call.now marked
+    (alive_is c.args.script.now new world.plain world.account c.args.pid marked.plain ∙ c.caller.ensures.none c.in_default.is)
 
-pub returns-then-is_some-clause-turned : goal.returns-then-is_some-clause-turned
-returns-then-is_some-clause-turned c = λ world stands.
-    gone_on c.args.script.now c.args.tasks.now world c.args.pid c.args.call.now stands
-    (is_dead c.args.script.now c.args.tasks.now world.plain c.args.pid c.in-Some.task stands.plain (sym c.find.ensures ∙ c.in-Some.is) (sym c.is_some.ensures ∙ c.if-is_some.true))
+-- no more than at the mark and the call's bound
+at_most : (high mark marked bytes live of : ℕ) → high ≤ max mark (marked + bytes) → mark ≡ live → marked ≡ live → live ≡ of → high ≤ of + bytes
+at_most high mark marked bytes live of less same still is = omega arith
 
-pub run-requires-clause-runs : goal.run-requires-clause-runs
-run-requires-clause-runs c =
-    let stood = c.requires.stands in
-    runs_here c.args.script.now c.args.tasks.now stood.0.plain c.args.pid c.in-Some.task stood.1.plain (sym c.find.ensures ∙ c.in-Some.is)
-    (has_not_ended c.in-Some.task.status (sym c.is_some.ensures ∙ c.if-is_some.false))
-
-pub run-requires-clause-there : goal.run-requires-clause-there
-run-requires-clause-there c =
-    let is : task_of c.args.tasks.now.tasks c.args.pid ≡ Some c.in-Some.task = sym c.find.ensures ∙ c.in-Some.is in
-    ap (task_of c.args.tasks.now.tasks) (has_pid c.args.tasks.now.tasks c.args.pid c.in-Some.task is) ∙ is
+pub returns-in_default-clause-high : goal.returns-in_default-clause-high
+returns-in_default-clause-high c = λ world stands.
+    let mark : c.mark.new.self.high ≡ live_bytes c.args.objects.now.heap = ap (λ (h : Heap). h.high) c.mark.ensures in
+    let live : live_bytes c.args.objects.now.heap ≡ live_of world = live_is c.args.script.now c.args.objects.now world stands c.heap.ensures.well_formed in
+    omega arith
 
 pub returns-clause-turned : goal.returns-clause-turned
 returns-clause-turned c = λ world stands.
-    let is : task_of c.args.tasks.now.tasks c.args.pid ≡ Some c.in-Some.task = sym c.find.ensures ∙ c.in-Some.is in
-    let same = has_pid c.args.tasks.now.tasks c.args.pid c.in-Some.task is in
-    let alive = alive_there c.args.script.now c.args.tasks.now world.plain c.in-Some.task.pid c.in-Some.task stands.plain
-    (ap (task_of c.args.tasks.now.tasks) same ∙ is) (has_not_ended c.in-Some.task.status (sym c.is_some.ensures ∙ c.if-is_some.false)) in
-    subst (λ pid. (after : World) × StandsFor c.args.script.now c.run.new.tasks after × TurnsTo c.args.script.now world pid c.args.call.now c.run.result after) same
-    (turns_on c.args.script.now c.args.tasks.now c.run.new.tasks world c.in-Some.task.pid c.args.call.now c.run.result stands alive c.run.ensures.count
-    (c.run.ensures.does world.plain stands.plain alive))
+    let script = c.args.script.now in
+    let pid = c.args.pid in
+    let which = c.args.call.now in
+    let marked : Objects = record { heap = c.mark.new.self; procs = c.args.objects.now.procs } in
+    let new = c.run-turned.new.objects in
+    let stands_marked_too : StandsFor script marked world = rw c.mark.ensures (stands_marked script c.args.objects.now _ _ world stands) in
+    let caller : IsCaller marked pid c.in-Some.caller = c.in-Some.ensures.some in
+    let alive = alive_is script marked world.plain world.account pid stands_marked_too.plain ∙ caller_running marked pid c.in-Some.caller caller in
+    let live : live_bytes marked.heap ≡ live_of world = ap live_bytes c.mark.ensures ∙ live_is script c.args.objects.now world stands c.heap.ensures.well_formed in
+    let does : Does script marked pid which (λ plain. machine script plain pid which) c.run-turned.result new =
+    subst (λ p. Does script marked p which (λ plain. machine script plain p which) c.run-turned.result new) caller.same c.run-turned.ensures.does in
+    turns_on script marked new world pid which c.run-turned.result stands_marked_too alive live c.heap-2.ensures.well_formed c.run-turned.ensures.kept c.run-turned.ensures.uses.live
+    (does world.plain world.account stands_marked_too.plain alive)
+
+pub returns-clause-high : goal.returns-clause-high
+returns-clause-high c = λ world stands.
+    at_most c.run-turned.new.objects.heap.high c.mark.new.self.high (live_bytes c.mark.new.self) (bound c.args.call.now) (live_bytes c.args.objects.now.heap) (live_of world)
+    c.run-turned.ensures.uses.high (ap (λ (h : Heap). h.high) c.mark.ensures) (ap live_bytes c.mark.ensures)
+    (live_is c.args.script.now c.args.objects.now world stands c.heap.ensures.well_formed)

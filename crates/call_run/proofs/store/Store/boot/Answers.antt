@@ -2,7 +2,7 @@ use Rattle.std.proofs.Common.{◌∙◌, ap, refl, subst, sym}
 use Rattle.std.specs.Prelude.{codes}
 use Rattle.posix_defs.specs.Plain.{place_of}
 use Rattle.posix_defs.specs.ValidScript.{IsValid}
-use Rattle.call_run.proofs.Booting.{boot_stands, booted}
+use Rattle.call_run.proofs.Booting.{boot_stands, boot_stands_for}
 use Rattle.call_run.proofs.store.Store.boot.Goals as goal
 
 pub go_to_call-requires : goal.go_to_call-requires
@@ -11,5 +11,6 @@ go_to_call-requires c =
 
 pub returns-clause-booted : goal.returns-clause-booted
 returns-clause-booted c =
-    booted c.args.script.now c.in_ok-script.script c.in_ok-tasks.tasks c.place_of.result c.go_to_call.new.control c.in_ok-script.ensures
-    (c.place_of.ensures ∙ ap (place_of (codes "init")) c.items.ensures) c.go_to_call.ensures.settled c.in_ok-tasks.ensures
+    boot_stands_for c.args.script.now c.in_ok-script.script c.in_ok-objects.objects c.place_of.result c.go_to_call.new.control c.in_ok-script.ensures
+    (c.place_of.ensures ∙ ap (place_of (codes "init")) c.items.ensures) c.go_to_call.ensures.settled
+    c.go_to_call.ensures.stands c.go_to_call.ensures.rests c.in_ok-objects.ensures

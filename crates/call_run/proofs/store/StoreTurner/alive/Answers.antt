@@ -1,9 +1,9 @@
 use Rattle.std.proofs.Common.{◌∙◌, ap, sym}
-use Rattle.call_run.specs.Tasks.{is_running}
-use Rattle.call_run.proofs.Worlds.{running_is}
+use Rattle.call_run.specs.Objects.{is_running, procs_of}
+use Rattle.call_run.proofs.RunningProcs.{alive_is}
 use Rattle.call_run.proofs.store.StoreTurner.alive.Goals as goal
 
 pub returns : goal.returns
 returns c = λ world stands.
-    c.runs.ensures ∙ ap (λ store. is_running store.kept.tasks c.args.pid) c.self.view_is
-    ∙ sym (running_is c.args.self.now.script c.args.self.now.kept world.plain c.args.pid stands.plain)
+    c.runs.ensures ∙ ap (λ store. is_running (procs_of store.objects) c.args.pid) c.self.view_is
+    ∙ sym (alive_is c.args.self.now.script c.args.self.now.objects world.plain world.account c.args.pid stands.plain)

@@ -1,8 +1,22 @@
-use Rattle.std.proofs.Common.{◌≡◌, false}
-use Rattle.posix_defs.specs.World.{can_evict}
+use Rattle.std.proofs.Common.{◌≡◌, true, false, sym, ◌∙◌, subst}
+use Rattle.call_run.specs.Standing.{StandsFor}
 use Rattle.call_run.proofs.Worlds.{evicts_nothing}
 use Rattle.call_run.proofs.store.StoreTurner.evict.Goals as goal
 
+never : true ≡ false → ⊥
+never e = cc
+
+pub invariant_of-self : goal.invariant_of-self
+invariant_of-self c = c.evict.ensures.kept c.self.inside.script c.self.invariant
+
 pub returns-clause-evicted : goal.returns-clause-evicted
 returns-clause-evicted c = λ world stands can.
-    let none : can_evict world.plain world.kept c.args._what ≡ false = evicts_nothing c.args.self.now.script c.args.self.now.kept world c.args._what stands in cc
+    absurd (never (sym can ∙ evicts_nothing c.args.self.now.script c.args.self.now.objects world c.args._what stands))
+
+pub returns-clause-kept : goal.returns-clause-kept
+returns-clause-kept c = λ world stands _.
+    c.evict.ensures.same c.self.inside.script world (subst (λ store. StandsFor store.script store.objects world) (sym c.self.view_is) stands)
+
+pub returns-clause-high : goal.returns-clause-high
+returns-clause-high c = λ world stands.
+    c.evict.ensures.high c.self.inside.script world (subst (λ store. StandsFor store.script store.objects world) (sym c.self.view_is) stands)

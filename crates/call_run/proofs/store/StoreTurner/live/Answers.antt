@@ -1,8 +1,9 @@
-use Rattle.std.proofs.Common.{◌∙◌, ◌+◌, ◌*◌, ap, length, sym}
-use Rattle.call_run.proofs.Standing.{live_is}
+use Rattle.std.proofs.Common.{◌∙◌, sym, subst}
+use Rattle.call_run.specs.Standing.{StandsFor}
+use Rattle.call_run.proofs.LiveIs.{live_is}
 use Rattle.call_run.proofs.store.StoreTurner.live.Goals as goal
 
-pub returns : goal.returns
-returns c = λ world stands.
-    ap (λ count. count * 512 + 128) (c.count.ensures.count ∙ ap (λ store. length store.kept.tasks) c.self.view_is)
-    ∙ sym (live_is c.args.self.now.script c.args.self.now.kept world stands)
+pub returns-clause-bytes : goal.returns-clause-bytes
+returns-clause-bytes c = λ world stands.
+    c.live.ensures.value ∙ live_is c.self.inside.script c.self.inside.objects world
+    (subst (λ store. StandsFor store.script store.objects world) (sym c.self.view_is) stands) c.heap.ensures.well_formed

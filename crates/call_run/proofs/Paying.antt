@@ -1,0 +1,63 @@
+-- How much of the heap a call uses.
+use Rattle.std.proofs.Common.{◌≡◌, ℕ, ◌+◌, ◌≤◌, max, false, None, ap, sym, ◌∙◌, arith}
+use Rattle.kabi_types.specs.Arguments.{argument_fault}
+use Rattle.kabi_types.specs.Call.{kind_of}
+use Rattle.kabi_types.specs.declared.calls.Call.{Call}
+use Rattle.kabi_types.specs.declared.classes.Need.{Need}
+use Rattle.kheap_slabs.specs.Counts.{need_bytes}
+use Rattle.kheap_slabs.specs.Heap.{Heap, live_bytes}
+use Rattle.kheap_slabs.specs.Purse.{CanPay, IsPaid, Purse, TakesNothing, left_bytes}
+use Rattle.kheap_slabs.proofs.PaidLemmas.{IsPaid-bytes, TakesNothing-bytes}
+use Rattle.posix_defs.specs.Needs.{bound, is_write, need_of, objects_of}
+use Rattle.posix_defs.specs.Sizes.{bytes_of}
+use Rattle.posix_defs.proofs.PriceLemmas.{right_needs, sums}
+use Rattle.call_run.specs.Uses.{UsesAtMost}
+
+more_high : (new old live bytes : ℕ) → new ≤ old → new ≤ max old (live + bytes)
+more_high new old live bytes less = omega arith
+
+more_live : (new old bytes : ℕ) → new ≤ old → new ≤ old + bytes
+more_live new old bytes less = omega arith
+
+-- what takes nothing uses no more than any number of bytes
+pub uses_nothing : (old new : Heap) (bytes : ℕ) → TakesNothing old new → UsesAtMost old new bytes
+uses_nothing old new bytes takes = record {
+  live = more_live (live_bytes new) (live_bytes old) bytes (TakesNothing-bytes old new takes);
+  high = more_high new.high old.high (live_bytes old) bytes takes.high;
+  heap = takes.heap;
+}
+
+still_live : (new left old bytes was : ℕ) → new + left ≤ old + was → was ≡ bytes → new ≤ old + bytes
+still_live new left old bytes was less same = omega arith
+
+-- what is paid uses no more than the purse had
+pub uses_paid : (old new : Heap) (before after : Purse) (bytes : ℕ) → IsPaid old before new after → left_bytes before ≡ bytes → UsesAtMost old new bytes
+uses_paid old new before after bytes paid had = record {
+  live = still_live (live_bytes new) (left_bytes after) (live_bytes old) bytes (left_bytes before) (IsPaid-bytes old new before after paid) had;
+  high = still_high new.high old.high (live_bytes old) bytes (left_bytes before) paid.high had;
+  heap = paid.heap;
+}
+  where
+    still_high : (new old live bytes was : ℕ) → new ≤ max old (live + was) → was ≡ bytes → new ≤ max old (live + bytes)
+    still_high new old live bytes was less same = omega arith
+
+same_bytes : (n : Need) → need_bytes n ≡ bytes_of n
+same_bytes n = omega arith
+
+-- a call that isn't a write has as many bytes as its need
+pub need_is_bound : (which : Call) → is_write (kind_of which) ≡ false → need_bytes (need_of which) ≡ bound which
+need_is_bound which other = same_bytes (need_of which) ∙ sym (sums which other)
+
+-- what a purse of a call's need has
+pub purse_has : (purse : Purse) (need : Need) (which : Call) → left_bytes purse ≡ need_bytes need → need ≡ need_of which → is_write (kind_of which) ≡ false → left_bytes purse ≡ bound which
+purse_has purse need which bytes needed other = bytes ∙ ap need_bytes needed ∙ need_is_bound which other
+
+pub can_pay : (heap : Heap) (purse : Purse) (which : Call) → left_bytes purse ≡ bound which → live_bytes heap + bound which ≤ heap.heap → CanPay heap purse
+can_pay heap purse which has room = fits (live_bytes heap) (bound which) (left_bytes purse) heap.heap has room
+  where
+    fits : (live bytes left size : ℕ) → left ≡ bytes → live + bytes ≤ size → live + left ≤ size
+    fits live bytes left size same room = omega arith
+
+-- the objects that it may make
+pub left_is : (purse : Purse) (need : Need) (which that : Call) → purse.left ≡ need → need ≡ need_of which → argument_fault which ≡ None → which ≡ that → purse.left ≡ objects_of that
+left_is purse need which that left needed right is = left ∙ needed ∙ right_needs which right ∙ ap objects_of is

@@ -1,0 +1,61 @@
+-- Whether a wait for a child would sleep.
+use Rattle.std.proofs.Common.{◌≡◌, ℕ, ℤ, pos, not, Bool, true, false, cond, Result, refl, ap, sym, ◌∙◌}
+use Rattle.std.specs.Prelude.{None, Ok, Err}
+use Rattle.std.specs.Result.{is_ok, result_err}
+use Rattle.kabi_types.specs.Arguments.{argument_fault}
+use Rattle.kabi_types.specs.declared.calls.Call.TheVariants as call
+use Rattle.kabi_types.specs.declared.replies.Reply.TheVariants.{Val}
+use Rattle.kabi_types.specs.declared.scripts.Script.{Script}
+use Rattle.posix_defs.specs.Answer.{Blocked, replied}
+use Rattle.posix_defs.specs.Machine.{blocks, machine, unless_wrong}
+use Rattle.posix_defs.specs.Plain.{Plain}
+use Rattle.posix_defs.specs.Waiting.{is_nohang, waitpid}
+use Rattle.posix_defs.specs.World.{Account}
+use Rattle.proc_table.specs.Changes.{reaped_of}
+use Rattle.proc_table.specs.Standing.{answered_wait}
+use Rattle.proc_table.specs.declared.reaped.Reaped.{Reaped}
+use Rattle.proc_table.specs.declared.reaped.Reaped.TheVariants.{NoChild, Nobody, Took}
+use Rattle.proc_table.proofs.FamilyLemmas.{found_is}
+use Rattle.proc_table.proofs.LawLemmas.{wait_is}
+use Rattle.call_run.specs.declared.objects.Objects.{Objects}
+use Rattle.call_run.specs.Objects.{procs_of}
+use Rattle.call_run.specs.Standing.{StandFor}
+
+unfoldable pub sleeps : Reaped → ℤ → Bool
+sleeps Nobody options = not (is_nohang options)
+sleeps NoChild options = false
+sleeps (Took pid status) options = false
+
+blocks_where : (script : Script) (plain : Plain) (pid : ℕ) (options : ℤ) (told : Reaped) → blocks (answered_wait script plain pid options told) ≡ sleeps told options
+unfolding sleeps
+blocks_where script plain pid options (Took child status) = refl
+blocks_where script plain pid options NoChild = refl
+blocks_where script plain pid options Nobody = go (is_nohang options)
+  where
+    go : (b : Bool) → blocks (cond b (replied script plain pid (Val (pos 0))) Blocked) ≡ not b
+    go true = refl
+    go false = refl
+
+-- a wait blocks by what its caller would be answered
+pub blocks_as_told : (script : Script) (objects : Objects) (plain : Plain) (account : Account) (pid : ℕ) (which options : ℤ) (told : Reaped)
+    → StandFor script objects plain account → reaped_of pid which (procs_of objects) ≡ told → blocks (waitpid script plain pid which options) ≡ sleeps told options
+blocks_as_told script objects plain account pid which options told stands is =
+    ap blocks (wait_is script plain pid which options)
+    ∙ ap (λ r. blocks (answered_wait script plain pid options r)) (sym (found_is objects.heap plain.table (procs_of objects) pid which stands.table.present) ∙ is)
+    ∙ blocks_where script plain pid options told
+
+pub not_nobody : (told : Reaped) (options : ℤ) → (told ≡ Nobody → ⊥) → sleeps told options ≡ false
+unfolding sleeps
+not_nobody Nobody options none = absurd (none refl)
+not_nobody NoChild options none = refl
+not_nobody (Took pid status) options none = refl
+
+-- whether a wait with right operands blocks
+pub blocks_as : (script : Script) (plain : Plain) (pid : ℕ) (which options : ℤ) → argument_fault (call.Waitpid which options) ≡ None
+    → blocks (machine script plain pid (call.Waitpid which options)) ≡ blocks (waitpid script plain pid which options)
+blocks_as script plain pid which options right = ap (λ fault. blocks (unless_wrong script plain pid fault (waitpid script plain pid which options))) right
+
+-- what is right has no fault
+pub no_fault : {T E : Type 0} (checked : Result T E) → is_ok checked ≡ true → result_err checked ≡ None
+no_fault (Ok value) e = refl
+no_fault (Err fault) e = cc

@@ -1,0 +1,86 @@
+use Rattle.std.proofs.Common.{◌≡◌, ◌∙◌, ap, pos, refl, rules, subst, sym, w64}
+use Rattle.std.proofs.lemmas.Int.{to_z-of_z}
+use mir.Val.{of_z, to_z}
+use Rattle.kabi_types.specs.declared.calls.Call.TheVariants as call
+use Rattle.kabi_types.specs.declared.errnos.Errno.TheVariants.{EINVAL}
+use Rattle.posix_defs.specs.Process.{parent_of}
+use Rattle.call_run.proofs.Replies.{DoesCall, does_fail, does_tell, does_that, others_fail, parent_is}
+use Rattle.call_run.proofs.calls.run_free.Goals as goal
+
+pub returns-in-Getpid-clause-does : goal.returns-in-Getpid-clause-does
+returns-in-Getpid-clause-does c =
+    let number : to_z w64 (of_z w64 c.from.result) ≡ pos c.args.caller.now.pid = to_z-of_z w64 c.from.result (record { sfits = c.from.type_inv }) ∙ c.from.ensures in
+    does_that c.args.script.now c.args.objects.now c.go_on.new.objects c.args.caller.now.pid c.args.call.now call.Getpid c.go_on.result c.in-Getpid.is
+    (does_tell c.args.script.now c.args.objects.now c.go_on.new.objects c.args.caller.now.pid call.Getpid (to_z w64 (of_z w64 c.from.result)) c.go_on.result _ (λ plain. pos c.args.caller.now.pid)
+    c.go_on.ensures.kept c.go_on.ensures.told c.go_on.ensures.does (λ account. refl) (λ plain account stands. number) (λ plain. refl))
+
+pub returns-in-Getppid-clause-does : goal.returns-in-Getppid-clause-does
+returns-in-Getppid-clause-does c =
+    let it = c.requires.caller in
+    let number : to_z w64 (of_z w64 c.from-in-Getppid.result) ≡ pos it.proc.parent =
+    to_z-of_z w64 c.from-in-Getppid.result (record { sfits = c.from-in-Getppid.type_inv }) ∙ c.from-in-Getppid.ensures ∙ ap pos it.parent in
+    does_that c.args.script.now c.args.objects.now c.go_on-in-Getppid.new.objects c.args.caller.now.pid c.args.call.now call.Getppid c.go_on-in-Getppid.result c.in-Getppid.is
+    (does_tell c.args.script.now c.args.objects.now c.go_on-in-Getppid.new.objects c.args.caller.now.pid call.Getppid (to_z w64 (of_z w64 c.from-in-Getppid.result)) c.go_on-in-Getppid.result _
+    (λ plain. pos (parent_of plain.table c.args.caller.now.pid))
+    c.go_on-in-Getppid.ensures.kept c.go_on-in-Getppid.ensures.told c.go_on-in-Getppid.ensures.does (λ account. refl)
+    (λ plain account stands. number ∙ ap pos (sym (parent_is c.args.script.now c.args.objects.now plain account c.args.caller.now.pid it.proc stands it.found)))
+    (λ plain. refl))
+
+pub returns-in-SchedYield-clause-does : goal.returns-in-SchedYield-clause-does
+returns-in-SchedYield-clause-does c =
+    does_that c.args.script.now c.args.objects.now c.go_on-in-SchedYield.new.objects c.args.caller.now.pid c.args.call.now call.SchedYield c.go_on-in-SchedYield.result c.in-SchedYield.is
+    (does_tell c.args.script.now c.args.objects.now c.go_on-in-SchedYield.new.objects c.args.caller.now.pid call.SchedYield (pos 0) c.go_on-in-SchedYield.result _ (λ plain. pos 0)
+    c.go_on-in-SchedYield.ensures.kept c.go_on-in-SchedYield.ensures.told c.go_on-in-SchedYield.ensures.does (λ account. refl) (λ plain account stands. refl) (λ plain. refl))
+
+pub returns-in-Exit-clause-kept : goal.returns-in-Exit-clause-kept
+returns-in-Exit-clause-kept c = c.exit.ensures.kept c.args.script.now c.requires.kept
+
+pub returns-in-Exit-clause-does : goal.returns-in-Exit-clause-does
+returns-in-Exit-clause-does c =
+    let status : to_z w64 (of_z w64 c.in-Exit.status) ≡ c.in-Exit.status = search (rules, to_z-of_z) in
+    does_that c.args.script.now c.args.objects.now c.exit.new.objects c.args.caller.now.pid c.args.call.now (call.Exit c.in-Exit.status) c.exit.result c.in-Exit.is
+    (subst (λ z. DoesCall c.args.script.now c.args.objects.now c.args.caller.now.pid (call.Exit z) c.exit.result c.exit.new.objects) status
+    (c.exit.ensures.does c.args.script.now c.requires.kept))
+
+pub returns-in-Waitpid-clause-does : goal.returns-in-Waitpid-clause-does
+returns-in-Waitpid-clause-does c =
+    let which : to_z w64 (of_z w64 c.in-Waitpid.which) ≡ c.in-Waitpid.which = search (rules, to_z-of_z) in
+    let options : to_z w64 (of_z w64 c.in-Waitpid.options) ≡ c.in-Waitpid.options = search (rules, to_z-of_z) in
+    does_that c.args.script.now c.args.objects.now c.wait.new.objects c.args.caller.now.pid c.args.call.now (call.Waitpid c.in-Waitpid.which c.in-Waitpid.options) c.wait.result c.in-Waitpid.is
+    (subst (λ z. DoesCall c.args.script.now c.args.objects.now c.args.caller.now.pid (call.Waitpid c.in-Waitpid.which z) c.wait.result c.wait.new.objects) options
+    (subst (λ z. DoesCall c.args.script.now c.args.objects.now c.args.caller.now.pid (call.Waitpid z (to_z w64 (of_z w64 c.in-Waitpid.options))) c.wait.result c.wait.new.objects) which
+    c.wait.ensures.does))
+
+pub returns-in-Kill-clause-does : goal.returns-in-Kill-clause-does
+returns-in-Kill-clause-does c =
+    let target : to_z w64 (of_z w64 c.in-Kill.target) ≡ c.in-Kill.target = search (rules, to_z-of_z) in
+    let signal : to_z w64 (of_z w64 c.in-Kill.signal) ≡ c.in-Kill.signal = search (rules, to_z-of_z) in
+    does_that c.args.script.now c.args.objects.now c.send.new.objects c.args.caller.now.pid c.args.call.now (call.Kill c.in-Kill.target c.in-Kill.signal) c.send.result c.in-Kill.is
+    (subst (λ z. DoesCall c.args.script.now c.args.objects.now c.args.caller.now.pid (call.Kill c.in-Kill.target z) c.send.result c.send.new.objects) signal
+    (subst (λ z. DoesCall c.args.script.now c.args.objects.now c.args.caller.now.pid (call.Kill z (to_z w64 (of_z w64 c.in-Kill.signal))) c.send.result c.send.new.objects) target
+    c.send.ensures.does))
+
+pub returns-in-Munmap-clause-does : goal.returns-in-Munmap-clause-does
+returns-in-Munmap-clause-does c =
+    let addr : to_z w64 (of_z w64 c.in-Munmap.addr) ≡ c.in-Munmap.addr = search (rules, to_z-of_z) in
+    let length : to_z w64 (of_z w64 c.in-Munmap.length) ≡ c.in-Munmap.length = search (rules, to_z-of_z) in
+    does_that c.args.script.now c.args.objects.now c.munmap.new.objects c.args.caller.now.pid c.args.call.now (call.Munmap c.in-Munmap.addr c.in-Munmap.length) c.munmap.result c.in-Munmap.is
+    (subst (λ z. DoesCall c.args.script.now c.args.objects.now c.args.caller.now.pid (call.Munmap c.in-Munmap.addr z) c.munmap.result c.munmap.new.objects) length
+    (subst (λ z. DoesCall c.args.script.now c.args.objects.now c.args.caller.now.pid (call.Munmap z (to_z w64 (of_z w64 c.in-Munmap.length))) c.munmap.result c.munmap.new.objects) addr
+    c.munmap.ensures.does))
+
+pub returns-in-Load-clause-does : goal.returns-in-Load-clause-does
+returns-in-Load-clause-does c =
+    let addr : to_z w64 (of_z w64 c.in-Load.addr) ≡ c.in-Load.addr = search (rules, to_z-of_z) in
+    let count : to_z w64 (of_z w64 c.in-Load.n) ≡ c.in-Load.n = search (rules, to_z-of_z) in
+    does_that c.args.script.now c.args.objects.now c.load.new.objects c.args.caller.now.pid c.args.call.now (call.Load c.in-Load.addr c.in-Load.n) c.load.result c.in-Load.is
+    (subst (λ z. DoesCall c.args.script.now c.args.objects.now c.args.caller.now.pid (call.Load c.in-Load.addr z) c.load.result c.load.new.objects) count
+    (subst (λ z. DoesCall c.args.script.now c.args.objects.now c.args.caller.now.pid (call.Load z (to_z w64 (of_z w64 c.in-Load.n))) c.load.result c.load.new.objects) addr
+    c.load.ensures.does))
+
+pub returns-in_default-clause-does : goal.returns-in_default-clause-does
+returns-in_default-clause-does c =
+    does_fail c.args.script.now c.args.objects.now c.go_on-in_default.new.objects c.args.caller.now.pid c.args.call.now EINVAL c.go_on-in_default.result _
+    c.go_on-in_default.ensures.kept c.go_on-in_default.ensures.told c.go_on-in_default.ensures.does
+    (λ plain. others_fail c.args.script.now plain c.args.caller.now.pid c.args.call.now c.requires.free c.in_default.not-Getpid c.in_default.not-Getppid c.in_default.not-SchedYield
+    c.in_default.not-Exit c.in_default.not-Waitpid c.in_default.not-Kill c.in_default.not-Munmap c.in_default.not-Load)

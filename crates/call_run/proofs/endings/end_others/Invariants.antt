@@ -1,0 +1,27 @@
+use Rattle.std.proofs.Common.{◌≡◌, ◌-◌}
+use Rattle.kabi_types.specs.declared.scripts.Script.{Script}
+use Rattle.kheap_slabs.specs.Purse.{TakesNothing}
+use Rattle.posix_defs.specs.Memory.{Frames}
+use Rattle.posix_defs.specs.Process.{Table}
+use Rattle.proc_table.specs.Accounting.{HasAccount}
+use Rattle.proc_table.specs.Standing.{IsTable}
+use Rattle.proc_table.specs.Table.{Holds}
+use Rattle.call_run.specs.Endings.{ClearsSome}
+use Rattle.call_run.specs.Objects.{AreKept}
+use Rattle.call_run.proofs.EndingOthers.{EndsOn}
+use Rattle.call_run.proofs.endings.end_others.Given as goal
+
+-- those that run up to the pid have ended
+abbrev pub invariant-loop-next : goal.invariant-loop-next
+invariant-loop-next l = record {
+  holds : Holds l.objects.heap l.objects.procs;
+  takes : TakesNothing l.fn.objects.heap l.objects.heap;
+  kept : (script : Script) → AreKept script l.fn.objects → AreKept script l.objects;
+  last : l.objects.procs.last ≡ l.fn.objects.procs.last;
+  table : (table : Table) → IsTable l.fn.objects.heap l.fn.objects.procs table → EndsOn l.fn.objects l.objects l.pid table;
+  account : (frames : Frames) → HasAccount l.fn.objects.heap l.fn.objects.procs frames
+      → (after : Frames) × HasAccount l.objects.heap l.objects.procs after × ClearsSome frames after;
+}
+
+abbrev pub decreases-loop-next : goal.decreases-loop-next
+decreases-loop-next l = l.objects.procs.last - l.pid

@@ -1,0 +1,267 @@
+//! The calls on memory.
+
+ghost use Rattle.std.specs.Prelude.{◌≡◌, ◌+◌, ◌*◌, ◌<◌, ◌≤◌, ℕ, OnErr, OnOk, ok_or, option_map, if◌then◌else◌, length, None, Ok, Err};
+ghost use Rattle.kabi_types.specs.Arguments.{argument_fault, count_of, page_size, range_fault};
+ghost use Rattle.kabi_types.specs.declared.errnos.Errno.TheVariants.{EFAULT, EMFILE};
+ghost use Rattle.kabi_types.specs.declared.scripts.Control.{Control};
+ghost use Rattle.kabi_types.specs.declared.scripts.Script.{Script};
+ghost use Rattle.kheap_slabs.specs.Purse.{CanPay, IsPaid, TakesNothing};
+ghost use Rattle.page_space.specs.Contents.{IsOwnedWith, StandsFor};
+ghost use Rattle.page_space.specs.Entries.{IsMappedRange};
+ghost use Rattle.posix_defs.specs.Memory.{Memory, after_map, after_put, after_unmap, is_mapped_range, loaded, lowest_run, stored, with_pages, without_pages};
+ghost use Rattle.posix_defs.specs.MemoryCalls.{load, mmap, munmap, remembered, store};
+ghost use Rattle.posix_defs.specs.Needs.{nodes_for, pages_in, pages_touched};
+ghost use Rattle.posix_defs.specs.Plain.{Plain};
+ghost use Rattle.posix_defs.specs.Process.{memory_of};
+ghost use Rattle.posix_defs.specs.World.{Account};
+ghost use Rattle.proc_table.specs.Procs.{IsAlive};
+ghost use Rattle.call_run.specs.Objects.{AreKept, Runs, procs_of};
+ghost use Rattle.call_run.specs.Standing.{Does, StandFor};
+
+use crate::calls::go_on;
+use crate::objects::Objects;
+use kabi_types::{Bytes64, Call, Control, Errno, Reply, Script};
+use kheap_slabs::{KHeap, Proc, Purse};
+use page_space::Space;
+use posix_defs::Turned;
+
+/// How many bytes an address space has.
+const SPACE: u64 = 1048576;
+
+/// How many bytes a page has.
+const PAGE: u32 = 4096;
+
+/// Maps the lowest run of pages that has room for so many bytes, and answers its address; EMFILE where none has.
+fn map(objects: &mut Objects, purse: &mut Purse, pid: u32, length: u64) -> Result<u32, Errno>
+    requires kept { (script : Script) × AreKept script objects.old }
+    requires alive { IsAlive (procs_of objects.old) pid }
+    requires some { 0 < length }
+    requires room { CanPay objects.old.heap purse.old }
+    requires left { nodes_for (pages_in length) ≤ purse.old.left.node }
+    ensures kept { (script : Script) → AreKept script objects.old → AreKept script objects.new }
+    ensures runs { (control : Control) → Runs objects.old pid control → Runs objects.new pid control }
+    ensures paid { IsPaid objects.old.heap purse.old objects.new.heap purse.new }
+    ensures found { (script : Script) (plain : Plain) (account : Account) → StandFor script objects.old plain account
+        → result ≡ ok_or (option_map (λ first. page_size * first) (lowest_run (memory_of plain.table pid) (pages_in length))) EMFILE }
+    ensures mapped { (script : Script) (plain : Plain) (account : Account) (first : ℕ) → StandFor script objects.old plain account → result ≡ Ok (page_size * first)
+        → StandFor script objects.new (remembered plain pid (with_pages (memory_of plain.table pid) first (pages_in length))) (after_map account pid first (pages_in length)) }
+    ensures unchanged { OnErr result (objects.new ≡ objects.old) }
+{
+    if length > SPACE {
+        return Err(Errno::EMFILE);
+    }
+    let Some(key) = objects.procs.key_of(pid) else {
+        unreachable!();
+    };
+    let proc = *objects.heap.get_proc(key);
+    let mut space = Space::of(proc.nodes);
+    let first = space.map(&mut objects.heap, purse, (length as u32 + PAGE - 1) / PAGE)?;
+    let nodes = space.nodes();
+    objects.heap.set_proc(key, Proc { nodes, ..proc });
+    Ok(first * PAGE)
+}
+
+/// So many bytes of zeros, more than none, in the lowest run of pages that aren't mapped; EMFILE where none is long enough.
+pub fn mmap(
+    script: &Script,
+    objects: &mut Objects,
+    purse: &mut Purse,
+    pid: u32,
+    control: Control,
+    length: i64,
+) -> Turned
+    requires kept { AreKept script.now objects.old }
+    requires runs { Runs objects.old pid control }
+    requires right { argument_fault (Call.Mmap length) ≡ None }
+    requires room { CanPay objects.old.heap purse.old }
+    requires left { nodes_for (pages_in (count_of length)) ≤ purse.old.left.node }
+    ensures kept { AreKept script.now objects.new }
+    ensures paid { IsPaid objects.old.heap purse.old objects.new.heap purse.new }
+    ensures does { Does script.now objects.old pid (Call.Mmap length) (λ plain. mmap script.now plain pid length) result objects.new }
+{
+    match map(objects, purse, pid, length.cast_unsigned()) {
+        Ok(addr) => go_on(script, objects, pid, control, Reply::Val(i64::from(addr))),
+        Err(errno) => go_on(script, objects, pid, control, Reply::Fail(errno)),
+    }
+}
+
+/// Unmaps the pages from one on, `count` in all.
+fn unmap(objects: &mut Objects, pid: u32, page: u32, count: u32)
+    requires within { page + count ≤ 256 }
+    requires kept { (script : Script) × AreKept script objects.old }
+    requires alive { IsAlive (procs_of objects.old) pid }
+    ensures kept { (script : Script) → AreKept script objects.old → AreKept script objects.new }
+    ensures runs { (control : Control) → Runs objects.old pid control → Runs objects.new pid control }
+    ensures takes { TakesNothing objects.old.heap objects.new.heap }
+    ensures unmapped { (script : Script) (plain : Plain) (account : Account) → StandFor script objects.old plain account
+        → StandFor script objects.new (remembered plain pid (without_pages (memory_of plain.table pid) page count)) (after_unmap account pid page count) }
+{
+    let Some(key) = objects.procs.key_of(pid) else {
+        unreachable!();
+    };
+    let proc = *objects.heap.get_proc(key);
+    let mut space = Space::of(proc.nodes);
+    space.unmap(&mut objects.heap, page, count);
+    let nodes = space.nodes();
+    objects.heap.set_proc(key, Proc { nodes, ..proc });
+}
+
+/// Unmaps each page that the bytes from the address of a page on touch.
+pub fn munmap(
+    script: &Script,
+    objects: &mut Objects,
+    pid: u32,
+    control: Control,
+    addr: i64,
+    length: i64,
+) -> Turned
+    requires kept { AreKept script.now objects.old }
+    requires runs { Runs objects.old pid control }
+    requires right { argument_fault (Call.Munmap addr length) ≡ None }
+    ensures kept { AreKept script.now objects.new }
+    ensures takes { TakesNothing objects.old.heap objects.new.heap }
+    ensures does { Does script.now objects.old pid (Call.Munmap addr length) (λ plain. munmap script.now plain pid addr length) result objects.new }
+{
+    let page = addr.cast_unsigned() as u32 / PAGE;
+    let count = (length.cast_unsigned() as u32 + PAGE - 1) / PAGE;
+    unmap(objects, pid, page, count);
+    go_on(script, objects, pid, control, Reply::Val(0))
+}
+
+/// Where a range of so many bytes begins. No bytes lie anywhere, so a range of none begins at 0.
+fn start_of(addr: i64, count: usize) -> u32
+    requires { range_fault addr count ≡ None }
+    ensures within { result + count ≤ 1048576 }
+    ensures start { 0 < count → result ≡ count_of addr }
+{
+    if count == 0 {
+        0
+    } else {
+        addr.cast_unsigned() as u32
+    }
+}
+
+/// Puts bytes in memory from an address on; EFAULT where a page that they touch isn't mapped, and nothing is put then.
+fn put(
+    objects: &mut Objects,
+    purse: &mut Purse,
+    pid: u32,
+    addr: u32,
+    bytes: &[u8],
+) -> Result<(), Errno>
+    requires within { addr + length bytes.now ≤ 1048576 }
+    requires kept { (script : Script) × AreKept script objects.old }
+    requires alive { IsAlive (procs_of objects.old) pid }
+    requires room { CanPay objects.old.heap purse.old }
+    requires left { pages_touched addr (length bytes.now) ≤ purse.old.left.page }
+    ensures kept { (script : Script) → AreKept script objects.old → AreKept script objects.new }
+    ensures runs { (control : Control) → Runs objects.old pid control → Runs objects.new pid control }
+    ensures paid { IsPaid objects.old.heap purse.old objects.new.heap purse.new }
+    ensures mapped { (script : Script) (plain : Plain) (account : Account) → StandFor script objects.old plain account
+        → result ≡ (if is_mapped_range (memory_of plain.table pid) addr (length bytes.now) then Ok tt else Err EFAULT) }
+    ensures stored { OnOk result ((script : Script) (plain : Plain) (account : Account) → StandFor script objects.old plain account
+        → StandFor script objects.new (remembered plain pid (stored (memory_of plain.table pid) addr bytes.now)) (after_put account pid addr (length bytes.now))) }
+    ensures unchanged { OnErr result (objects.new ≡ objects.old) }
+{
+    let Some(key) = objects.procs.key_of(pid) else {
+        unreachable!();
+    };
+    let mut space = Space::of(objects.heap.get_proc(key).nodes);
+    if !space.mapped(&objects.heap, addr, bytes.len() as u32) {
+        return Err(Errno::EFAULT);
+    }
+    space.copy_in(&mut objects.heap, purse, addr, bytes);
+    Ok(())
+}
+
+/// Puts bytes in memory, and tells their number.
+pub fn store(
+    script: &Script,
+    objects: &mut Objects,
+    purse: &mut Purse,
+    pid: u32,
+    control: Control,
+    addr: i64,
+    bytes: &Bytes64,
+) -> Turned
+    requires kept { AreKept script.now objects.old }
+    requires runs { Runs objects.old pid control }
+    requires right { argument_fault (Call.Store addr bytes.now) ≡ None }
+    requires room { CanPay objects.old.heap purse.old }
+    requires left { pages_touched (count_of addr) (length bytes.now) ≤ purse.old.left.page }
+    ensures kept { AreKept script.now objects.new }
+    ensures paid { IsPaid objects.old.heap purse.old objects.new.heap purse.new }
+    ensures does { Does script.now objects.old pid (Call.Store addr bytes.now) (λ plain. store script.now plain pid addr bytes.now) result objects.new }
+{
+    let bytes = bytes.items();
+    let start = start_of(addr, bytes.len());
+    match put(objects, purse, pid, start, bytes) {
+        Ok(()) => go_on(
+            script,
+            objects,
+            pid,
+            control,
+            Reply::Val(bytes.len() as i64),
+        ),
+        Err(errno) => go_on(script, objects, pid, control, Reply::Fail(errno)),
+    }
+}
+
+/// The bytes in memory from an address on, as many as there is room for. Each page that they touch is mapped.
+fn bytes_at(space: &Space, heap: &KHeap, addr: u32, room: &mut [u8]) -> Bytes64
+    requires within { addr + length room.old ≤ 1048576 }
+    requires few { length room.old ≤ 64 }
+    requires owned { IsOwnedWith heap.now space.now }
+    requires mapped { IsMappedRange heap.now.nodes space.now addr (length room.old) }
+    ensures { (memory : Memory) → StandsFor heap.now space.now memory → result ≡ loaded memory addr (length room.old) }
+{
+    space.copy_out(heap, addr, room);
+    let Some(bytes) = Bytes64::of(room) else {
+        unreachable!();
+    };
+    bytes
+}
+
+/// Takes at most 64 bytes from memory; EFAULT where a page that they touch isn't mapped.
+fn take(objects: &Objects, pid: u32, addr: u32, count: usize) -> Result<Bytes64, Errno>
+    requires within { addr + count ≤ 1048576 }
+    requires few { count ≤ 64 }
+    requires kept { (script : Script) × AreKept script objects.now }
+    requires alive { IsAlive (procs_of objects.now) pid }
+    ensures { (script : Script) (plain : Plain) (account : Account) → StandFor script objects.now plain account
+        → result ≡ (if is_mapped_range (memory_of plain.table pid) addr count then Ok (loaded (memory_of plain.table pid) addr count) else Err EFAULT) }
+{
+    let Some(key) = objects.procs.key_of(pid) else {
+        unreachable!();
+    };
+    let space = Space::of(objects.heap.get_proc(key).nodes);
+    if !space.mapped(&objects.heap, addr, count as u32) {
+        return Err(Errno::EFAULT);
+    }
+    let mut room = [0; 64];
+    Ok(bytes_at(&space, &objects.heap, addr, &mut room[..count]))
+}
+
+/// Tells bytes in memory, at most 64.
+pub fn load(
+    script: &Script,
+    objects: &mut Objects,
+    pid: u32,
+    control: Control,
+    addr: i64,
+    count: i64,
+) -> Turned
+    requires kept { AreKept script.now objects.old }
+    requires runs { Runs objects.old pid control }
+    requires right { argument_fault (Call.Load addr count) ≡ None }
+    ensures kept { AreKept script.now objects.new }
+    ensures takes { TakesNothing objects.old.heap objects.new.heap }
+    ensures does { Does script.now objects.old pid (Call.Load addr count) (λ plain. load script.now plain pid addr count) result objects.new }
+{
+    let count = count.cast_unsigned() as usize;
+    let start = start_of(addr, count);
+    match take(objects, pid, start, count) {
+        Ok(bytes) => go_on(script, objects, pid, control, Reply::Bytes(bytes)),
+        Err(errno) => go_on(script, objects, pid, control, Reply::Fail(errno)),
+    }
+}

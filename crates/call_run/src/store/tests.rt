@@ -1,0 +1,300 @@
+//! Stores by hand, with the heap's bytes at each step.
+
+ghost use Rattle.std.specs.Prelude.{◌≤◌, ◌≡◌, IfOk};
+ghost use Rattle.posix_defs.specs.ValidScript.{IsValid};
+ghost use Rattle.posix_defs.specs.World.{World};
+ghost use Rattle.call_run.specs.Standing.{StandsFor};
+
+use super::Store;
+use crate::calls::would_block;
+use crate::turns::turn;
+use kabi_types::{
+    Bytes64, Cached, Call, Chooser, Errno, Name27, Policy, Program, Programs, Reply, Script,
+    Statements,
+};
+use posix_defs::{Turned, Turner};
+use std::alloc::Global;
+use std::process::Abort;
+use std::test::Fail;
+
+/// A script whose first process only ends.
+fn script_of(alloc: Global, heap: u64, policy: Policy) -> Result<Script, Fail>
+    requires least { 8192 ≤ heap }
+    requires most { heap ≤ 8388608 }
+    ensures { IfOk result IsValid }
+{
+    let name = Name27::of(b"init").ok_or("a name")?;
+    let mut programs = Vec::new(alloc);
+    programs.push(Program {
+        name,
+        body: Statements::from_vec(Vec::new(alloc)),
+    })?;
+    Ok(Script {
+        heap,
+        disk: 64,
+        steps: 1000,
+        policy,
+        chooser: Chooser::Plain,
+        programs: Programs::from_vec(programs),
+    })
+}
+
+/// A store at boot.
+fn booted(alloc: Global, heap: u64, policy: Policy) -> Result<Store, Fail>
+    requires least { 8192 ≤ heap }
+    requires most { heap ≤ 8388608 }
+    ensures { IfOk result (λ store. (world : World) × StandsFor store.script store.objects world) }
+{
+    let script = script_of(alloc, heap, policy)?;
+    Ok(Store::boot(alloc, &script)?)
+}
+
+/// A call, as the rows write it.
+enum Ask {
+    Fork,
+    Exit(i64),
+    /// A child, and the options.
+    Wait(i64, i64),
+    Kill(i64, i64),
+    Mmap(i64),
+    Munmap(i64, i64),
+    Store(i64, &'static [u8]),
+    Load(i64, i64),
+}
+
+/// The call.
+fn call_of(ask: &Ask) -> Call {
+    match ask {
+        Ask::Fork => Call::Fork,
+        Ask::Exit(status) => Call::Exit { status: *status },
+        Ask::Wait(pid, options) => Call::Waitpid {
+            pid: *pid,
+            options: *options,
+        },
+        Ask::Kill(pid, signal) => Call::Kill {
+            pid: *pid,
+            signal: *signal,
+        },
+        Ask::Mmap(length) => Call::Mmap { length: *length },
+        Ask::Munmap(addr, length) => Call::Munmap {
+            addr: *addr,
+            length: *length,
+        },
+        Ask::Store(addr, bytes) => {
+            Bytes64::of(bytes).map_or(Call::SchedYield, |bytes| Call::Store { addr: *addr, bytes })
+        }
+        Ask::Load(addr, n) => Call::Load { addr: *addr, n: *n },
+    }
+}
+
+/// What a turn tells, as the rows write it.
+enum Told {
+    Val(i64),
+    Fails(Errno),
+    /// A child, and its wait status.
+    Child(u32, u16),
+    Byte(u8),
+    Ends(u16),
+    Sleeps,
+    Gone,
+}
+
+/// Whether that is told.
+fn tells(turned: &Turned, told: &Told) -> bool {
+    match (turned, told) {
+        (Turned::Done(Reply::Val(value)), Told::Val(wanted)) => value == wanted,
+        (Turned::Done(Reply::Fail(errno)), Told::Fails(wanted)) => errno == wanted,
+        (Turned::Done(Reply::Waited(pid, status)), Told::Child(child, ended)) => {
+            pid == child && status == ended
+        }
+        (Turned::Done(Reply::Bytes(bytes)), Told::Byte(wanted)) => bytes.items()
+            == [*wanted].as_slice(),
+        (Turned::Ended(status), Told::Ends(wanted)) => status == wanted,
+        (Turned::Sleep, Told::Sleeps) => true,
+        (Turned::Gone, Told::Gone) => true,
+        _ => false,
+    }
+}
+
+/// A turn of a call, for which there has to be room.
+fn take(rt: &impl Abort, store: &mut Store, pid: u32, call: &Call) -> Turned
+    requires { (world : World) × StandsFor store.old.script store.old.objects world }
+    ensures { (world : World) × StandsFor store.new.script store.new.objects world }
+{
+    let heap = store.objects.heap.heap();
+    let live = store.objects.heap.live();
+    assert!(rt; need_table::bound(call) + 2176 <= heap - live);
+    turn(
+        &store.script,
+        &mut store.objects,
+        pid,
+        call,
+        need_table::need(call),
+    )
+}
+
+/// Who makes which call, what is told, and the bytes in use after it.
+type Row = (u32, Ask, Told, u64);
+
+fn go_through(rt: &impl Abort, store: &mut Store, rows: &[Row])
+    requires { (world : World) × StandsFor store.old.script store.old.objects world }
+    ensures { (world : World) × StandsFor store.new.script store.new.objects world }
+{
+    for (place, (pid, ask, told, live)) in rows.iter().enumerate() {
+        let turned = take(rt, store, *pid, &call_of(ask));
+        let now = store.live();
+        assert!(rt; tells(&turned, told) && now == *live, "row {place}: {now}");
+    }
+}
+
+/// The whole space is four nodes, and no page is left then.
+const WHOLE: &[Row] = &[
+    (1, Ask::Mmap(0), Told::Fails(Errno::EINVAL), 640),
+    (1, Ask::Mmap(1044480), Told::Val(4096), 2688),
+    (1, Ask::Mmap(1), Told::Fails(Errno::EMFILE), 2688),
+    (1, Ask::Munmap(4097, 1), Told::Fails(Errno::EINVAL), 2688),
+    (1, Ask::Munmap(4096, 4096), Told::Val(0), 2688),
+    (1, Ask::Mmap(1), Told::Val(4096), 2688),
+];
+
+/// A child has its parent's bytes until one of them writes: then the writer gets a page of its own.
+const SHARED: &[Row] = &[
+    (1, Ask::Mmap(4096), Told::Val(4096), 1152),
+    (1, Ask::Store(4096, b"A"), Told::Val(1), 5248),
+    (1, Ask::Fork, Told::Val(2), 6272),
+    (2, Ask::Store(4096, b"B"), Told::Val(1), 10368),
+    (2, Ask::Load(4096, 1), Told::Byte(b'B'), 10368),
+    (1, Ask::Wait(2, 0), Told::Sleeps, 10368),
+    (2, Ask::Exit(0), Told::Ends(0), 5760),
+    (2, Ask::Fork, Told::Gone, 5760),
+    (1, Ask::Wait(2, 0), Told::Child(2, 0), 5248),
+    (1, Ask::Load(4096, 1), Told::Byte(b'A'), 5248),
+];
+
+/// Nobody may kill the first process, or who isn't there. Who is killed has no memory any more.
+const KILLS: &[Row] = &[
+    (1, Ask::Kill(1, 9), Told::Fails(Errno::EPERM), 640),
+    (1, Ask::Kill(5, 0), Told::Fails(Errno::ESRCH), 640),
+    (1, Ask::Wait(-1, 0), Told::Fails(Errno::ECHILD), 640),
+    (1, Ask::Fork, Told::Val(2), 1152),
+    (1, Ask::Wait(-1, 1), Told::Val(0), 1152),
+    (2, Ask::Mmap(4096), Told::Val(4096), 1664),
+    (1, Ask::Kill(2, 9), Told::Val(0), 1152),
+    (1, Ask::Wait(2, 0), Told::Child(2, 9), 640),
+];
+
+/// Boots a store and takes these turns.
+fn go_from_boot(rt: &impl Abort, alloc: Global, heap: u64, rows: &[Row]) -> Result<(), Fail>
+    requires least { 8192 ≤ heap }
+    requires most { heap ≤ 8388608 }
+{
+    let mut store = booted(alloc, heap, Policy::Heaviest)?;
+    go_through(rt, &mut store, rows);
+    drop(store);
+    Ok(())
+}
+
+#[test]
+fn calls_of_processes_and_memory(rt: HostRuntime) -> Result<(), Fail> {
+    go_from_boot(&rt, rt.alloc(), 65536, WHOLE)?;
+    go_from_boot(&rt, rt.alloc(), 65536, SHARED)?;
+    go_from_boot(&rt, rt.alloc(), 65536, KILLS)
+}
+
+/// The bytes lie on two pages that aren't mapped; the bound of the store is all the room that there is.
+const JUST_ROOM: &[Row] = &[(1, Ask::Store(4095, b"ab"), Told::Fails(Errno::EFAULT), 640)];
+
+/// A frame comes with the first byte in its page.
+const LEAST_HEAP: &[Row] = &[
+    (1, Ask::Mmap(4096), Told::Val(4096), 1152),
+    (1, Ask::Store(4096, b"hello"), Told::Val(5), 5248),
+];
+
+#[test]
+fn heaps_that_are_just_enough(rt: HostRuntime) -> Result<(), Fail> {
+    go_from_boot(&rt, rt.alloc(), 11008, JUST_ROOM)?;
+    go_from_boot(&rt, rt.alloc(), 8192, LEAST_HEAP)
+}
+
+/// Processes 2 and 3 hold a node and a frame each, process 4 holds a node.
+const HOLDERS: &[Row] = &[
+    (1, Ask::Fork, Told::Val(2), 1152),
+    (1, Ask::Fork, Told::Val(3), 1664),
+    (1, Ask::Fork, Told::Val(4), 2176),
+    (2, Ask::Mmap(8192), Told::Val(4096), 2688),
+    (2, Ask::Store(4096, b"x"), Told::Val(1), 6784),
+    (3, Ask::Mmap(8192), Told::Val(4096), 7296),
+    (3, Ask::Store(4096, b"x"), Told::Val(1), 11392),
+    (4, Ask::Mmap(8192), Told::Val(4096), 11904),
+];
+
+/// The first process takes all others with it.
+const LAST: &[Row] = &[
+    (1, Ask::Wait(-1, 0), Told::Child(3, 9), 6784),
+    (1, Ask::Exit(7), Told::Ends(1792), 128),
+];
+
+#[test]
+fn the_victim_is_the_heaviest(rt: HostRuntime) -> Result<(), Fail> {
+    let mut store = booted(rt.alloc(), 20480, Policy::Heaviest)?;
+    go_through(&rt, &mut store, HOLDERS);
+    assert!(rt; store.victim() == Some(3));
+    store.kill(3);
+    assert!(rt; store.live() == 7296 && !store.alive(3));
+    assert!(rt; store.victim() == Some(2));
+    go_through(&rt, &mut store, LAST);
+    assert!(rt; store.victim().is_none() && !store.alive(2) && store.last_pid() == 4);
+    drop(store);
+    Ok(())
+}
+
+#[test]
+fn the_victim_is_the_youngest(rt: HostRuntime) -> Result<(), Fail> {
+    let mut store = booted(rt.alloc(), 20480, Policy::Youngest)?;
+    go_through(&rt, &mut store, HOLDERS);
+    assert!(rt; store.victim() == Some(4));
+    drop(store);
+    Ok(())
+}
+
+#[test]
+fn a_store_at_boot(rt: HostRuntime) -> Result<(), Fail> {
+    let mut store = booted(rt.alloc(), 8192, Policy::Heaviest)?;
+    assert!(rt; store.live() == 640 && store.last_pid() == 1 && store.reads() == 0);
+    assert!(rt; store.victim().is_none() && !store.alive(2));
+    assert!(rt; !store.evictable(Cached::Vnode));
+    store.evict(Cached::Vnode);
+    assert!(rt; store.live() == 640);
+    drop(store);
+    Ok(())
+}
+
+#[test]
+fn a_refused_call_is_over(rt: HostRuntime) -> Result<(), Fail> {
+    let mut store = booted(rt.alloc(), 8192, Policy::Heaviest)?;
+    assert!(rt; store.alive(1));
+    assert!(rt; store.ready(1));
+    store.refuse(1);
+    assert!(rt; store.alive(1));
+    let call = store.next(1);
+    assert!(rt; call == Call::Exit { status: 0 });
+    let turned = take(&rt, &mut store, 1, &call);
+    assert!(rt; tells(&turned, &Told::Ends(0)) && store.live() == 128);
+    drop(store);
+    Ok(())
+}
+
+/// The first process has a child that lives.
+const PARENT: &[Row] = &[(1, Ask::Fork, Told::Val(2), 1152)];
+
+#[test]
+fn only_a_wait_would_block(rt: HostRuntime) -> Result<(), Fail> {
+    let mut store = booted(rt.alloc(), 8192, Policy::Heaviest)?;
+    go_through(&rt, &mut store, PARENT);
+    let wait = call_of(&Ask::Wait(-1, 0));
+    assert!(rt; would_block(&store.objects, 1, &wait) && !would_block(&store.objects, 2, &wait));
+    assert!(rt; !would_block(&store.objects, 1, &call_of(&Ask::Wait(-1, 1))));
+    assert!(rt; !would_block(&store.objects, 1, &call_of(&Ask::Fork)));
+    drop(store);
+    Ok(())
+}
