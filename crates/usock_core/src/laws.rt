@@ -1,0 +1,34 @@
+//! Laws of sockets in the heap. Each is the contract of a function that does nothing.
+
+ghost use Rattle.std.specs.Prelude.{◌≡◌, ℕ, List, Some, []};
+ghost use Rattle.std.specs.List.{Contains};
+ghost use Rattle.kheap_slabs.specs.Heap.{Heap, empty_heap};
+ghost use Rattle.kheap_slabs.specs.Objects.{object};
+ghost use Rattle.kheap_slabs.specs.declared.objects.Sock.{Sock};
+ghost use Rattle.kheap_slabs.specs.declared.objects.SockState.TheVariants as state;
+ghost use Rattle.posix_defs.specs.Sockets.{Sockets};
+ghost use Rattle.usock_core.specs.Standing.{StandsFor, IsSocketIn, IsListeningIn, IsClosableIn, IsHeldIn};
+
+/// A heap without objects has no sockets, and no description names one.
+pub fn a_new_heap_has_no_sockets()
+    ensures { (heap : ℕ) → IsHeldIn (empty_heap heap) [] }
+{}
+
+/// What descriptions name are sockets, and none of them waits in a backlog; one that is kept as listening listens.
+pub fn named_sockets_are_there()
+    ensures socket { (h : Heap) (named : List ℕ) (key : ℕ)
+        → Contains named key → IsHeldIn h named → IsSocketIn h key }
+    ensures closable { (h : Heap) (named : List ℕ) (key : ℕ)
+        → Contains named key → IsHeldIn h named → IsClosableIn h key }
+    ensures listening { (h : Heap) (key : ℕ) (sock : Sock)
+        → object h.socks key ≡ Some sock → sock.state ≡ state.Listening → IsSocketIn h key → IsListeningIn h key }
+    ensures order { (h : Heap) (named : List ℕ) (other : List ℕ)
+        → ((key : ℕ) → Contains named key → Contains other key)
+        → ((key : ℕ) → Contains other key → Contains named key) → IsHeldIn h named → IsHeldIn h other }
+{}
+
+/// The sockets of a heap stand for one table of sockets alone.
+pub fn sockets_stand_for_one_table()
+    ensures { (h : Heap) (first : Sockets) (second : Sockets)
+        → StandsFor h first → StandsFor h second → first ≡ second }
+{}
