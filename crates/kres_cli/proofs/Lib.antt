@@ -1,3 +1,4 @@
 pub mod Outcomes
 pub mod Puts
+pub mod Reports
 pub mod Rounds

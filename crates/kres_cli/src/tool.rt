@@ -237,9 +237,11 @@ fn run_script(alloc: Global, script: &Script) -> Result<Answer, Memory>
         core.charged(),
         core.peak(),
         core.reads(),
-    )?;
+    );
+    // the store goes in one place, whether or not there was memory for the text
+    drop(core);
     Ok(Answer {
-        text,
+        text: text?,
         status: Status::of(end),
     })
 }
