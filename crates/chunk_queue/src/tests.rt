@@ -107,7 +107,9 @@ fn through(
     put(rt, &mut heap, &mut purse, &mut queue, &bytes[place + 1..]);
     let chunks = heap.live() / 576;
     let same = drained(rt, &mut heap, &mut queue, &bytes[place..], split);
-    Ok((chunks, same && heap.live() == 0))
+    let left = heap.live();
+    drop(heap);
+    Ok((chunks, same && left == 0))
 }
 
 // The place of the first byte, how many are put behind it, how many are taken first, and the chunks.
@@ -150,5 +152,6 @@ fn an_empty_queue_begins_anew(rt: HostRuntime) -> Result<(), Fail> {
     assert!(rt; purse.left(Class::Chunk) == 14 && heap.live() == 1152);
     queue.clear(&mut heap);
     assert!(rt; heap.live() == 0 && queue.is_empty());
+    drop(heap);
     Ok(())
 }

@@ -1,5 +1,6 @@
 ghost use Rattle.std.specs.Prelude.{◌≡◌, ◌+◌, ◌≤◌};
 ghost use Rattle.kheap_slabs.specs.Heap.{live_bytes};
+ghost use Rattle.kheap_slabs.specs.Objects.{InUse};
 ghost use Rattle.kheap_slabs.specs.Queues.{empty_queue};
 
 mod callers;
@@ -285,6 +286,7 @@ fn ten_classes_fill_the_least_heap(rt: HostRuntime) -> Result<(), Fail> {
     assert!(rt; empty == 0 && between == 7296 && heap.live() == 8192);
     assert!(rt; heap.high() == 8192 && heap.heap() == 8192);
     assert!(rt; ten && four);
+    drop(heap);
     Ok(())
 }
 
@@ -306,39 +308,73 @@ fn a_class_fills_the_greatest_heap(rt: HostRuntime) -> Result<(), Fail> {
     let mut heap = KHeap::boot(rt.alloc(), 8388608)?;
     fill_with_descs(&mut heap);
     assert!(rt; heap.live() == 8388608 && heap.high() == 8388608 && heap.heap() == 8388608);
+    drop(heap);
     Ok(())
+}
+
+/// Two pages come, one goes, and a mark is set: whether what went and the most bytes that were taken are right, and the
+/// page that stays.
+fn free_beside_another(heap: &mut KHeap) -> (bool, u32)
+    requires { live_bytes heap.old + 8192 ≤ heap.old.heap }
+    ensures heap { heap.new.heap ≡ heap.old.heap }
+    ensures live { live_bytes heap.new ≡ live_bytes heap.old + 4096 }
+    ensures used { InUse heap.new.pages result.1 }
+{
+    let one = heap.insert_page(page_of(1));
+    let other = heap.insert_page(page_of(2));
+    let most = heap.high();
+    let freed = heap.free_page(one);
+    heap.mark();
+    let marked = most == 8192 && heap.high() == 4096;
+    (one != other && marked && freed.bytes[4095] == 1, other)
+}
+
+/// A process comes and is set: whether it is read as it was set, and the page as it was made.
+fn set_beside_a_page(heap: &mut KHeap, page: u32) -> bool
+    requires room { live_bytes heap.old + 512 ≤ heap.old.heap }
+    requires used { InUse heap.old.pages page }
+{
+    let child = heap.insert_proc(proc_of(2));
+    heap.set_proc(child, proc_of(3));
+    heap.get_proc(child).pid == 3 && heap.get_page(page).bytes[0] == 2
 }
 
 /// A page that goes, a mark and a process that is set leave the other page as it was.
 #[test]
 fn each_call_changes_one_object(rt: HostRuntime) -> Result<(), Fail> {
     let mut heap = KHeap::boot(rt.alloc(), 8192)?;
-    let one = heap.insert_page(page_of(1));
-    let other = heap.insert_page(page_of(2));
-    assert!(rt; one != other && heap.high() == 8192);
-    let freed = heap.free_page(one);
-    heap.mark();
-    assert!(rt; freed.bytes[4095] == 1 && heap.high() == 4096);
-    let child = heap.insert_proc(proc_of(2));
-    heap.set_proc(child, proc_of(3));
-    assert!(rt; heap.get_proc(child).pid == 3 && heap.get_page(other).bytes[0] == 2);
-    assert!(rt; heap.high() == 4608);
+    let (goes, other) = free_beside_another(&mut heap);
+    let stays = set_beside_a_page(&mut heap, other);
+    assert!(rt; goes && stays && heap.high() == 4608);
+    drop(heap);
     Ok(())
 }
 
-/// Bytes are written at a page's front, in its middle and at its end, and the bytes around them stay.
-#[test]
-fn a_page_is_written_in_its_place(rt: HostRuntime) -> Result<(), Fail> {
-    let mut heap = KHeap::boot(rt.alloc(), 8192)?;
+/// A page that is written at its front, in its middle and at its end, and counted.
+fn write_a_page(heap: &mut KHeap) -> u32
+    requires { live_bytes heap.old + 4096 ≤ heap.old.heap }
+    ensures { InUse heap.new.pages result }
+{
     let key = heap.insert_page(page_of(1));
     heap.write_page(key, 0, &[7]);
     heap.write_page(key, 2000, &[8, 9]);
     heap.write_page(key, 4095, &[5]);
     heap.write_page(key, 4096, &[]);
     heap.set_page_count(key, 3);
-    let page = heap.get_page(key);
-    assert!(rt; page.count == 3 && page.bytes[..2] == [7, 1]);
-    assert!(rt; page.bytes[1999..2003] == [1, 8, 9, 1]);
-    assert!(rt; page.bytes[4094..] == [1, 5]);
+    key
+}
+
+fn is_written(page: &Page) -> bool {
+    let ends = page.bytes[..2] == [7, 1] && page.bytes[4094..] == [1, 5];
+    page.count == 3 && ends && page.bytes[1999..2003] == [1, 8, 9, 1]
+}
+
+/// Bytes are written in their place, and the bytes around them stay.
+#[test]
+fn a_page_is_written_in_its_place(rt: HostRuntime) -> Result<(), Fail> {
+    let mut heap = KHeap::boot(rt.alloc(), 8192)?;
+    let key = write_a_page(&mut heap);
+    assert!(rt; is_written(heap.get_page(key)));
+    drop(heap);
     Ok(())
 }

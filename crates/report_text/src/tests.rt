@@ -10,15 +10,15 @@ use std::test::Fail;
 /// The line of an entry by itself, and that of the event that added it.
 fn says(
     rt: &(impl Abort + AllocGlobal),
-    entry: Entry,
+    entry: &Entry,
     alone: &str,
     charged: &str,
 ) -> Result<(), Fail> {
-    let told = entry_line(rt.alloc(), 7, &entry)?;
+    let told = entry_line(rt.alloc(), 7, entry)?;
     let noted = Noted {
         event: Event::Turn(3),
         kind: None,
-        entry: Some(entry),
+        entry: Some(entry.copy()),
         bound: 6272,
         charged: 12160,
     };
@@ -31,24 +31,17 @@ fn says(
 }
 
 #[test]
-fn entries_are_told(rt: HostRuntime) -> Result<(), Fail> {
+fn entries_of_calls_are_told(rt: HostRuntime) -> Result<(), Fail> {
     let (pid, kind) = (3, CallKind::Read);
+    let (moved, bound) = (512, 39040);
     let rows = [
         (
-            Entry::Part {
-                pid,
-                kind,
-                moved: 512,
-            },
+            Entry::Part { pid, kind, moved },
             "7 p3 part read 512\n",
             "7 p3 part read 512 charged 12160\n",
         ),
         (
-            Entry::Refused {
-                pid,
-                kind,
-                bound: 39040,
-            },
+            Entry::Refused { pid, kind, bound },
             "7 p3 refused read bound 39040 = ENOMEM\n",
             "7 p3 refused read bound 39040 = ENOMEM charged 12160\n",
         ),
@@ -62,46 +55,63 @@ fn entries_are_told(rt: HostRuntime) -> Result<(), Fail> {
             "7 p3 gone read\n",
             "7 p3 gone read charged 12160\n",
         ),
+    ];
+    for (entry, alone, charged) in &rows {
+        says(&rt, entry, alone, charged)?;
+    }
+    Ok(())
+}
+
+/// The end of process 3 in its own call.
+fn ended(status: u16) -> Entry {
+    Entry::Ended {
+        pid: 3,
+        kind: CallKind::Read,
+        status,
+    }
+}
+
+#[test]
+fn ends_of_processes_are_told(rt: HostRuntime) -> Result<(), Fail> {
+    let killed = Entry::Killed {
+        pid: 3,
+        waiter: 1,
+        need: 2560,
+        live: 3712,
+    };
+    let rows = [
         (
-            Entry::Ended {
-                pid,
-                kind,
-                status: 65280,
-            },
+            ended(65280),
             "7 p3 ended exit 255\n",
             "7 p3 ended exit 255 charged 12160\n",
         ),
         (
-            Entry::Ended {
-                pid,
-                kind,
-                status: 9,
-            },
+            ended(9),
             "7 p3 ended signal 9\n",
             "7 p3 ended signal 9 charged 12160\n",
         ),
         (
-            Entry::Killed {
-                pid,
-                waiter: 1,
-                need: 2560,
-                live: 3712,
-            },
+            killed,
             "7 p3 killed for p1 need 2560 live 3712\n",
             "7 p3 killed for p1 need 2560 live 3712 charged 12160\n",
         ),
-        (
-            Entry::Evicted {
-                what: Cached::Vnode,
-            },
-            "7 evict vnode\n",
-            "7 evict vnode charged 12160\n",
-        ),
     ];
-    for (entry, alone, charged) in rows {
+    for (entry, alone, charged) in &rows {
         says(&rt, entry, alone, charged)?;
     }
     Ok(())
+}
+
+#[test]
+fn evictions_are_told(rt: HostRuntime) -> Result<(), Fail> {
+    let what = Cached::Vnode;
+    let line = "7 evict vnode\n";
+    says(
+        &rt,
+        &Entry::Evicted { what },
+        line,
+        "7 evict vnode charged 12160\n",
+    )
 }
 
 fn replies(rt: &(impl Abort + AllocGlobal), reply: Reply, wanted: &str) -> Result<(), Fail> {
