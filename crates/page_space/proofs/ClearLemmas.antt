@@ -20,7 +20,7 @@ use Rattle.page_space.specs.Accounts.{turned_at, AccountFollows, AccountLeaves}
 use Rattle.page_space.specs.Changes.{OwnChanges}
 use Rattle.page_space.specs.Entries.{key_of, entry_at}
 use Rattle.page_space.specs.Contents.{content_of, content_at, StandsFor, IsOwnedWith, SpaceMoves, IsCleared, SpaceLeaves}
-use Rattle.page_space.proofs.AccountLemmas.{AccountFollows-unranged, AccountFollows-ranged}
+use Rattle.page_space.proofs.AccountLemmas.{AccountFollows-unmapped, AccountFollows-unranged, AccountFollows-ranged}
 use Rattle.page_space.proofs.ChangeLemmas.{OwnChanges-refl, OwnChanges-trans}
 use Rattle.page_space.proofs.PlaceLemmas.{with_range-all, no_places_are}
 use Rattle.page_space.proofs.TurnLemmas.{entry_known}
@@ -58,6 +58,29 @@ IsCleared-more old mid new space now then first page cleared gone entries stays 
   account = AccountFollows-ranged old mid new space now then first page Unmapped cleared.moves cleared.account account from below;
   takes = TakesNothing-trans old mid new cleared.takes takes;
 }
+
+skipped : (old mid : Heap) (space now : List (Option ℕ)) (first page count : ℕ) → IsCleared old mid space now first page
+    → ((other : ℕ) → page ≤ other → other < page + count → entry_at mid.nodes now other ≡ entry.Unmapped)
+    → first ≤ page → page + count ≤ 256 → IsCleared old mid space now first (page + count)
+skipped old mid space now first page zero cleared unmapped from within =
+    subst (λ (end : ℕ). IsCleared old mid space now first end) (omega arith) cleared
+skipped old mid space now first page (suc count) cleared unmapped from within =
+    let at : page + count < 256 = omega arith in
+    let is : entry_at mid.nodes now (page + count) ≡ entry.Unmapped = unmapped (page + count) (omega arith) (omega arith) in
+    let before : IsCleared old mid space now first (page + count) =
+    skipped old mid space now first page count cleared (λ other above below. unmapped other above (omega arith)) from (omega arith) in
+    subst (λ (end : ℕ). IsCleared old mid space now first end) (omega arith)
+    (IsCleared-more old mid mid space now now first (page + count) before is (λ other apart. refl) (λ other apart. refl)
+    (SpaceMoves-refl mid now) (OwnChanges-refl mid now) (AccountFollows-unmapped mid now (page + count) at is)
+    (TakesNothing-refl mid) (omega arith) at)
+
+-- pages that aren't mapped are passed over
+pub IsCleared-skip : (old mid : Heap) (space now : List (Option ℕ)) (first page next : ℕ) → IsCleared old mid space now first page
+    → ((other : ℕ) → page ≤ other → other < next → entry_at mid.nodes now other ≡ entry.Unmapped)
+    → first ≤ page → page ≤ next → next ≤ 256 → IsCleared old mid space now first next
+IsCleared-skip old mid space now first page next cleared unmapped from rises within =
+    subst (λ (end : ℕ). IsCleared old mid space now first end) (omega arith)
+    (skipped old mid space now first page (next - page) cleared (λ other above below. unmapped other above (omega arith)) from (omega arith))
 
 -- a range of a memory that gets another content
 module _ (memory : Memory) (first count : ℕ) (x : Option (List ℕ)) (within : first + count ≤ length memory) where

@@ -85,6 +85,25 @@ IsForking-unmapped old before mid between of now others page forking owned low u
     at_most None = omega arith
     at_most (Some key) = omega arith
 
+skipped : (old : Heap) (before : Purse) (mid : Heap) (between : Purse) (of now : List (Option ℕ)) (others : Owners) (page count : ℕ) → IsForking old before mid between of now page
+    → IsOwned old (with_space of others) → ((other : ℕ) → page ≤ other → other < page + count → entry_at mid.nodes of other ≡ entry.Unmapped)
+    → page + count ≤ 256 → IsForking old before mid between of now (page + count)
+skipped old before mid between of now others page zero forking owned unmapped within =
+    subst (λ (end : ℕ). IsForking old before mid between of now end) (omega arith) forking
+skipped old before mid between of now others page (suc count) forking owned unmapped within =
+    subst (λ (end : ℕ). IsForking old before mid between of now end) (omega arith)
+    (IsForking-unmapped old before mid between of now others (page + count)
+    (skipped old before mid between of now others page count forking owned (λ other above below. unmapped other above (omega arith)) (omega arith))
+    owned (omega arith) (unmapped (page + count) (omega arith) (omega arith)))
+
+-- pages that aren't mapped are passed over
+pub IsForking-skip : (old : Heap) (before : Purse) (mid : Heap) (between : Purse) (of now : List (Option ℕ)) (others : Owners) (page next : ℕ) → IsForking old before mid between of now page
+    → IsOwned old (with_space of others) → ((other : ℕ) → page ≤ other → other < next → entry_at mid.nodes of other ≡ entry.Unmapped)
+    → page ≤ next → next ≤ 256 → IsForking old before mid between of now next
+IsForking-skip old before mid between of now others page next forking owned unmapped rises within =
+    subst (λ (end : ℕ). IsForking old before mid between of now end) (omega arith)
+    (skipped old before mid between of now others page (next - page) forking owned (λ other above below. unmapped other above (omega arith)) (omega arith))
+
 pub unmapped_is : (e : PageEntry) → is_mapped e ≡ false → e ≡ entry.Unmapped
 unmapped_is entry.Unmapped none = refl
 unmapped_is entry.Zero none = absurd (true≢false none)

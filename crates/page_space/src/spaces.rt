@@ -1,4 +1,4 @@
-ghost use Rattle.std.specs.Prelude.{IfOk, IfSome, OnErr, ok_or, ◌≡◌, ◌≢◌, ℕ, ◌+◌, ◌-◌, ◌/◌, ◌%◌, ◌<◌, ◌≤◌, IsSome, MatchBool, None, Some, length, true, is_some, if◌then◌else◌, slice_set};
+ghost use Rattle.std.specs.Prelude.{IfOk, IfSome, OnErr, ok_or, ◌≡◌, ◌≢◌, ℕ, ◌+◌, ◌-◌, ◌/◌, ◌%◌, ◌<◌, ◌≤◌, IsSome, MatchBool, None, Some, length, true, is_some, if◌then◌else◌, slice_set, slice_index_or};
 ghost use Rattle.kabi_types.specs.declared.classes.Class.TheVariants as class;
 ghost use Rattle.kheap_slabs.specs.Counts.{counted, with_count};
 ghost use Rattle.kheap_slabs.specs.Purse.{CanPay, IsPaid, TakesNothing};
@@ -188,6 +188,26 @@ impl Space {
         is_mapped_entry(self.entry(heap, page))
     }
 
+    // The first mapped page of a page's group from that page on, and where none is, the first page behind the group.
+    fn skip_unmapped(&self, heap: &KHeap, page: u32) -> u32
+        requires within { page < 256 }
+        requires owns { OwnsNodes heap.now.nodes self.now }
+        ensures from { page ≤ result }
+        ensures below { result ≤ 256 }
+        ensures unmapped { (other : _) → page ≤ other → other < result → entry_at heap.now.nodes self.now other ≡ PageEntry.Unmapped }
+        ensures mapped { result ≡ page → is_mapped_at heap.now.nodes self.now page ≡ true }
+    {
+        let first = page - page % GROUP;
+        match self.nodes[(page / GROUP) as usize] {
+            Some(key) => {
+                // the heap knows how long the rows of its objects are
+                let _ = heap.heap();
+                first + first_mapped(heap.get_node(key), page % GROUP)
+            }
+            None => first + GROUP,
+        }
+    }
+
     // Whether the pages from one up to below another are mapped.
     fn is_mapped_run(&self, heap: &KHeap, first: u32, end: u32) -> bool
         requires within { end ≤ 256 }
@@ -285,8 +305,15 @@ impl Space {
         requires owned { IsOwnedWith heap.old self.old }
         ensures { IsCleared heap.old heap.new self.old self.new first end }
     {
-        for page in first..end {
-            self.unmap_page(heap, page);
+        let mut page = first;
+        while page < end {
+            let next = self.skip_unmapped(heap, page);
+            if next == page {
+                self.unmap_page(heap, page);
+                page += 1;
+            } else {
+                page = next.min(end);
+            }
         }
     }
 
@@ -318,13 +345,18 @@ impl Space {
         ensures parent { IsOwnedWith heap.new of.now }
     {
         let mut space = Space { nodes: [None; 4] };
-        for page in 0..PAGES {
-            let entry = of.entry(heap, page);
-            if is_mapped_entry(entry) {
+        let mut page = 0;
+        while page < PAGES {
+            let next = of.skip_unmapped(heap, page);
+            if next == page {
+                let entry = of.entry(heap, page);
                 // the heap knows that no page is named more often than it can count
                 let _ = heap.heap();
                 share_entry(heap, entry);
                 space.map_page(heap, purse, page, entry);
+                page += 1;
+            } else {
+                page = next;
             }
         }
         space
@@ -376,4 +408,21 @@ fn has_mapped(node: &Node) -> bool
         }
     }
     false
+}
+
+// The place of a group's first mapped entry from one on, and where none is, the place behind the last.
+fn first_mapped(node: &Node, from: u32) -> u32
+    requires within { from < 64 }
+    requires len { length node.now.entries ≡ 64 }
+    ensures from { from ≤ result }
+    ensures below { result ≤ 64 }
+    ensures unmapped { (at : _) → from ≤ at → at < result → slice_index_or node.now.entries at PageEntry.Unmapped ≡ PageEntry.Unmapped }
+    ensures mapped { result < 64 → is_mapped (slice_index_or node.now.entries result PageEntry.Unmapped) ≡ true }
+{
+    for at in from..GROUP {
+        if is_mapped_entry(node.entries[at as usize]) {
+            return at;
+        }
+    }
+    GROUP
 }
