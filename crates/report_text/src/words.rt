@@ -1,4 +1,5 @@
-ghost use Rattle.std.specs.Prelude.{◌≡◌, ◌++◌, OnOk, string_bytes};
+ghost use Rattle.std.specs.Prelude.{◌≡◌, ◌++◌, ◌<◌, OnOk, false, string_bytes};
+ghost use Rattle.std.specs.Fmt.{digits};
 ghost use Rattle.posix_defs.specs.Lines.{status_text, reply_text, cache_text, entry_text, kind_text, node_text, event_text};
 
 use crate::fields::{push_call, push_field, push_number};
@@ -80,9 +81,9 @@ fn push_status(out: &mut String, status: u16) -> Result<(), AllocError>
     ensures { OnOk result (string_bytes out.new ≡ string_bytes out.old ++ status_text status) }
 {
     if status % 256 == 0 {
-        write!(out, "exit {}", status / 256)
+        push_field(out, "exit ", status / 256)
     } else {
-        write!(out, "signal {status}")
+        push_field(out, "signal ", status)
     }
 }
 
@@ -147,10 +148,35 @@ fn push_bytes(out: &mut String, bytes: &[u8]) -> Result<(), AllocError>
 {
     out.push_str("x")?;
     for byte in bytes {
-        let (high, low) = (byte / 16, byte % 16);
-        write!(out, "{high:x}{low:x}")?;
+        out.push_str(hex_digit(byte / 16))?;
+        out.push_str(hex_digit(byte % 16))?;
     }
     Ok(())
+}
+
+/// A number below 16 as one hexadecimal digit.
+fn hex_digit(number: u8) -> &'static str
+    requires { number < 16 }
+    ensures { result.now ≡ digits 16 false number }
+{
+    match number {
+        0 => "0",
+        1 => "1",
+        2 => "2",
+        3 => "3",
+        4 => "4",
+        5 => "5",
+        6 => "6",
+        7 => "7",
+        8 => "8",
+        9 => "9",
+        10 => "a",
+        11 => "b",
+        12 => "c",
+        13 => "d",
+        14 => "e",
+        _ => "f",
+    }
 }
 
 fn cache_name(what: Cached) -> &'static str
