@@ -1,4 +1,4 @@
-ghost use Rattle.std.specs.Prelude.{◌≡◌, ◌+◌, ◌≤◌};
+ghost use Rattle.std.specs.Prelude.{◌≡◌, ◌+◌, ◌<◌, ◌≤◌};
 ghost use Rattle.kheap_slabs.specs.Heap.{live_bytes};
 ghost use Rattle.kheap_slabs.specs.Objects.{InUse};
 ghost use Rattle.kheap_slabs.specs.Queues.{empty_queue};
@@ -6,8 +6,8 @@ ghost use Rattle.kheap_slabs.specs.Queues.{empty_queue};
 mod callers;
 
 use crate::{
-    Access, Block, Chunk, Desc, DescFlags, KHeap, Name, Node, Page, PageEntry, Pipe, Proc,
-    QueueParts, Sock, SockState, Target, Vnode,
+    Access, Block, Chunk, Desc, DescFlags, Descriptor, KHeap, Name, Node, Page, PageEntry, Pipe,
+    Proc, QueueParts, Sock, SockState, Target, Vnode,
 };
 use kabi_types::{Control, Inode, Name27};
 use std::test::Fail;
@@ -375,6 +375,106 @@ fn a_page_is_written_in_its_place(rt: HostRuntime) -> Result<(), Fail> {
     let mut heap = KHeap::boot(rt.alloc(), 8192)?;
     let key = write_a_page(&mut heap);
     assert!(rt; is_written(heap.get_page(key)));
+    drop(heap);
+    Ok(())
+}
+
+const BEFORE: Control = Control {
+    program: 1,
+    place: 4,
+    regs: [-2; 16],
+    done: 0,
+};
+
+const AFTER: Control = Control {
+    program: 2,
+    place: 5,
+    regs: [8; 16],
+    done: 512,
+};
+
+/// A process with a descriptor and a node, that has come so far in its program.
+fn proc_with(control: Control) -> Proc {
+    let mut made = proc_of(6);
+    made.control = control;
+    made.descriptors[31] = Some(Descriptor {
+        desc: 9,
+        close_on_exec: true,
+    });
+    made.nodes[3] = Some(1);
+    made
+}
+
+/// Of two processes one comes further in its program: whether all else of it stays, and the other as it was.
+fn move_a_process(heap: &mut KHeap) -> bool
+    requires { live_bytes heap.old + 1024 ≤ heap.old.heap }
+    ensures heap { heap.new.heap ≡ heap.old.heap }
+    ensures live { live_bytes heap.new ≡ live_bytes heap.old + 1024 }
+{
+    let stays = heap.insert_proc(proc_with(BEFORE));
+    let moves = heap.insert_proc(proc_with(BEFORE));
+    heap.set_proc_control(moves, AFTER);
+    let moved = *heap.get_proc(moves) == proc_with(AFTER);
+    moved && *heap.get_proc(stays) == proc_with(BEFORE)
+}
+
+/// Of two processes one gets other nodes: whether all else of it stays, and the other as it was.
+fn renew_nodes(heap: &mut KHeap) -> bool
+    requires { live_bytes heap.old + 1024 ≤ heap.old.heap }
+    ensures heap { heap.new.heap ≡ heap.old.heap }
+    ensures live { live_bytes heap.new ≡ live_bytes heap.old + 1024 }
+{
+    let stays = heap.insert_proc(proc_with(BEFORE));
+    let changes = heap.insert_proc(proc_with(BEFORE));
+    heap.set_proc_nodes(changes, [None, Some(2), None, Some(5)]);
+    let mut expected = proc_with(BEFORE);
+    expected.nodes = [None, Some(2), None, Some(5)];
+    let changed = *heap.get_proc(changes) == expected;
+    changed && *heap.get_proc(stays) == proc_with(BEFORE)
+}
+
+/// Of two processes one gets another parent and a wait status: whether all else of it stays, and the other as it was.
+fn orphan_a_process(heap: &mut KHeap) -> bool
+    requires { live_bytes heap.old + 1024 ≤ heap.old.heap }
+    ensures heap { heap.new.heap ≡ heap.old.heap }
+    ensures live { live_bytes heap.new ≡ live_bytes heap.old + 1024 }
+{
+    let stays = heap.insert_proc(proc_with(BEFORE));
+    let changes = heap.insert_proc(proc_with(BEFORE));
+    heap.set_proc_family(changes, 4, Some(256));
+    let mut expected = proc_with(BEFORE);
+    expected.parent = 4;
+    expected.status = Some(256);
+    let changed = *heap.get_proc(changes) == expected;
+    changed && *heap.get_proc(stays) == proc_with(BEFORE)
+}
+
+/// Of two nodes one gets an entry: whether its other entries stay, and the other node as it was.
+fn map_a_page(heap: &mut KHeap, at: u32, entry: PageEntry) -> bool
+    requires room { live_bytes heap.old + 1024 ≤ heap.old.heap }
+    requires within { at < 64 }
+    ensures heap { heap.new.heap ≡ heap.old.heap }
+    ensures live { live_bytes heap.new ≡ live_bytes heap.old + 1024 }
+{
+    let stays = heap.insert_node(node_of(3));
+    let mapped = heap.insert_node(node_of(3));
+    heap.set_node_entry(mapped, at, entry);
+    let mut expected = node_of(3);
+    expected.entries[at as usize] = entry;
+    *heap.get_node(mapped) == expected && *heap.get_node(stays) == node_of(3)
+}
+
+/// A control, nodes, a family and an entry change in their place, and all beside them stays.
+#[test]
+fn a_part_of_an_object_changes_in_its_place(rt: HostRuntime) -> Result<(), Fail> {
+    let mut heap = KHeap::boot(rt.alloc(), 8192)?;
+    let moved = move_a_process(&mut heap);
+    let renewed = renew_nodes(&mut heap);
+    let orphaned = orphan_a_process(&mut heap);
+    let first = map_a_page(&mut heap, 0, PageEntry::Zero);
+    let inner = map_a_page(&mut heap, 31, PageEntry::Unmapped);
+    let last = map_a_page(&mut heap, 63, PageEntry::Frame(7));
+    assert!(rt; moved && renewed && orphaned && first && inner && last);
     drop(heap);
     Ok(())
 }
