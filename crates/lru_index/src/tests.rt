@@ -83,22 +83,34 @@ fn call_both<K: Key>(
     Ok(true)
 }
 
-/// Whether both answer the same in a long run of calls on nine keys, of which six fit.
-fn agrees<K: Key>(alloc: Global, keys: [K; 9]) -> Result<bool, Memory> {
-    let mut index = Index::boot(alloc, 6)?;
-    let mut plain = Plain {
-        pairs: Vec::new(alloc),
-    };
+/// Whether both answer the same in a long run of calls on nine keys.
+fn agree<K: Key>(
+    index: &mut Index<K>,
+    plain: &mut Plain<K>,
+    keys: &[K; 9],
+) -> Result<bool, Memory> {
     let mut seed = 7u64;
     for _ in 0..3000 {
         seed = seed.wrapping_mul(6364136223846793005).wrapping_add(1);
         let pick = (seed >> 40) as u32;
         let key = keys[(seed >> 33) as usize % 9];
-        if !call_both(&mut index, &mut plain, key, pick)? || !same_order(&index, &plain) {
+        if !call_both(index, plain, key, pick)? || !same_order(index, plain) {
             return Ok(false);
         }
     }
     Ok(true)
+}
+
+/// The same of two that are empty, and have room for six of the keys.
+fn agrees<K: Key>(alloc: Global, keys: &[K; 9]) -> Result<bool, Memory> {
+    let mut index = Index::boot(alloc, 6)?;
+    let mut plain = Plain {
+        pairs: Vec::new(alloc),
+    };
+    let told = agree(&mut index, &mut plain, keys);
+    drop(index);
+    drop(plain);
+    told
 }
 
 /// A name of three bytes, told from others by its directory, its length or its last byte.
@@ -122,6 +134,7 @@ fn touched_key_is_the_warmest(rt: HostRuntime) -> Result<(), Fail> {
     assert!(rt; index.drop_key(7) == 1);
     assert!(rt; index.find(7) == None);
     assert!(rt; index.coldest(None) == Some(5));
+    drop(index);
     Ok(())
 }
 
@@ -136,21 +149,30 @@ fn a_name_and_the_same_with_a_zero_behind_it_have_two_keys(rt: HostRuntime) -> R
     Ok(())
 }
 
+const NUMBERS: [u64; 9] = [0, 1, 2, 3, 255, 256, 65536, 1 << 40, u64::MAX];
+
+/// The directory, the length and the last byte of each name.
+const NAMES: [(u32, u8, u8); 9] = [
+    (1, 1, 0),
+    (1, 1, 1),
+    (1, 2, 0),
+    (1, 2, 1),
+    (2, 1, 0),
+    (2, 1, 1),
+    (2, 2, 255),
+    (256, 1, 0),
+    (u32::MAX, 27, 255),
+];
+
 #[test]
-fn agrees_with_a_plain_index(rt: HostRuntime) -> Result<(), Fail> {
-    let numbers = [0u64, 1, 2, 3, 255, 256, 65536, 1 << 40, u64::MAX];
-    assert!(rt; agrees(rt.alloc(), numbers)?);
-    let names = [
-        named(1, 1, 0),
-        named(1, 1, 1),
-        named(1, 2, 0),
-        named(1, 2, 1),
-        named(2, 1, 0),
-        named(2, 1, 1),
-        named(2, 2, 255),
-        named(256, 1, 0),
-        named(u32::MAX, 27, 255),
-    ];
-    assert!(rt; agrees(rt.alloc(), names)?);
+fn agrees_with_a_plain_index_of_numbers(rt: HostRuntime) -> Result<(), Fail> {
+    assert!(rt; agrees(rt.alloc(), &NUMBERS)?);
+    Ok(())
+}
+
+#[test]
+fn agrees_with_a_plain_index_of_names(rt: HostRuntime) -> Result<(), Fail> {
+    let names = NAMES.map(|(dir, len, last)| named(dir, len, last));
+    assert!(rt; agrees(rt.alloc(), &names)?);
     Ok(())
 }
