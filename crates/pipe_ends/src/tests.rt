@@ -147,6 +147,7 @@ fn writes_go_by_their_length(rt: HostRuntime) -> Result<(), Fail> {
     assert!(rt; first == Moved::Bytes(3585) && second == AGAIN && polled == 0);
     assert!(rt; third == Moved::Bytes(511) && fourth == AGAIN && fifth == Moved::Blocked);
     assert!(rt; heap.live() == 128 + 8 * 576);
+    drop(heap);
     Ok(())
 }
 
@@ -165,6 +166,7 @@ fn reads_take_what_is_there(rt: HostRuntime) -> Result<(), Fail> {
     assert!(rt; put == Moved::Bytes(5) && first == Moved::Bytes(4) && &out == b"hell");
     let second = read(&rt, &mut heap, &purse, key, false, &mut out);
     assert!(rt; second == Moved::Bytes(1) && &out == b"oell" && heap.live() == 128);
+    drop(heap);
     Ok(())
 }
 
@@ -185,6 +187,7 @@ fn a_pipe_without_writers_ends(rt: HostRuntime) -> Result<(), Fail> {
     assert!(rt;
         end == Moved::Bytes(0) && ended == 16 && close_last(&rt, &mut heap, key, false) == 0
     );
+    drop(heap);
     Ok(())
 }
 
@@ -203,5 +206,6 @@ fn a_pipe_without_readers_is_broken(rt: HostRuntime) -> Result<(), Fail> {
     let told = pipe_polled(&heap, key, true, 4);
     assert!(rt; live == 128 && broken == Moved::Fault(Errno::EPIPE) && told == 8);
     assert!(rt; close_last(&rt, &mut heap, key, true) == 0);
+    drop(heap);
     Ok(())
 }
