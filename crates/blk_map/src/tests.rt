@@ -1,4 +1,4 @@
-ghost use Rattle.std.specs.Prelude.{◌≡◌, ◌≢◌, ℕ, ◌<◌, ◌≤◌, IfSome};
+ghost use Rattle.std.specs.Prelude.{◌≡◌, ◌≢◌, ℕ, ◌<◌, ◌≤◌};
 ghost use Rattle.kabi_types.specs.declared.inodes.Inode.{Inode};
 ghost use Rattle.posix_defs.specs.SoundDisk.{HasInode, HasNode, Sound};
 
@@ -43,20 +43,18 @@ impl Blocks for Counting {
     }
 }
 
-/// An empty file as a node of the first block of the table, where that is free.
-fn make_file(b: &mut Counting, number: u32) -> Option<Inode>
+/// An empty file as a node of the first block of the table, which is free.
+fn make_file(rt: &impl Abort, b: &mut Counting, number: u32) -> Inode
     requires sound { Sound b.old.disk.blocks }
     requires first { (0 < number) × (number ≤ 16) }
-    ensures made { IfSome result (λ inode. Sound b.new.disk.blocks × HasNode b.new.disk.blocks number inode × (inode.kind ≡ 1)) }
+    ensures made { Sound b.new.disk.blocks × HasNode b.new.disk.blocks number result × (result.kind ≡ 1) }
     ensures others { (node : ℕ) (other : Inode) → node ≢ number → HasInode b.old.disk.blocks node other → HasInode b.new.disk.blocks node other }
 {
     let table = b.get(1);
     let Ok(free) = inode_in(&table, number - 1, b.count()) else {
-        return None;
+        panic!(rt; "node {number} can't be read");
     };
-    if free.kind != 0 {
-        return None;
-    }
+    assert!(rt; free.kind == 0, "node {number} is free");
     let file = Inode {
         kind: 1,
         nlink: 1,
@@ -65,7 +63,7 @@ fn make_file(b: &mut Counting, number: u32) -> Option<Inode>
         indirect: 0,
     };
     put_in_table(b, number, &file);
-    Some(file)
+    file
 }
 
 /// Gives a file another size, whichever way that is.
@@ -127,13 +125,12 @@ fn check_sizes(rt: &impl Abort, b: &mut Counting, number: u32, inode: &mut Inode
 {
     for (size, answer, gets, sets, free) in rows {
         let (got, put) = (b.disk.reads(), b.sets);
-        assert!(rt; resize(b, number, inode, *size) == *answer, "size {size}");
-        assert!(rt;
-            b.disk.reads().saturating_sub(got) == *gets,
-            "gets for size {size}"
-        );
-        assert!(rt; b.sets.saturating_sub(put) == *sets, "sets for size {size}");
-        assert!(rt; free_count(b) == *free, "free with size {size}");
+        let answered = resize(b, number, inode, *size);
+        let got = b.disk.reads().saturating_sub(got);
+        let put = b.sets.saturating_sub(put);
+        let left = free_count(b);
+        let right = answered == *answer && got == *gets && put == *sets && left == *free;
+        assert!(rt; right, "size {size}: {got} gets, {put} sets, {left} free");
     }
 }
 
@@ -153,15 +150,6 @@ const ON_16_BLOCKS: &[Row] = &[
     (0, Ok(()), 2, 2, 13),
 ];
 
-#[test]
-fn sizes_on_16_blocks(rt: HostRuntime) -> Result<(), Fail> {
-    let disk = RamDisk::boot(rt.alloc(), 16)?;
-    let mut b = Counting { disk, sets: 0 };
-    let mut inode = make_file(&mut b, 2).ok_or("node 2 is free")?;
-    check_sizes(&rt, &mut b, 2, &mut inode, ON_16_BLOCKS);
-    Ok(())
-}
-
 /// A new disk has 3839 blocks for files, of which the root has one.
 const ON_4096_BLOCKS: &[Row] = &[
     (10240, Ok(()), 2, 12, 3828),
@@ -174,36 +162,60 @@ const ON_4096_BLOCKS: &[Row] = &[
     (0, Ok(()), 2, 2, 3838),
 ];
 
-#[test]
-fn sizes_on_4096_blocks(rt: HostRuntime) -> Result<(), Fail> {
-    let disk = RamDisk::boot(rt.alloc(), 4096)?;
+/// Whether a new file on a new disk takes these sizes.
+fn check_new_file(rt: &(impl Abort + AllocGlobal), blocks: u32, rows: &[Row]) -> Result<(), Fail>
+    requires { (16 ≤ blocks) × (blocks ≤ 4096) }
+{
+    let disk = RamDisk::boot(rt.alloc(), blocks)?;
     let mut b = Counting { disk, sets: 0 };
-    let mut inode = make_file(&mut b, 2).ok_or("node 2 is free")?;
-    check_sizes(&rt, &mut b, 2, &mut inode, ON_4096_BLOCKS);
+    let mut inode = make_file(rt, &mut b, 2);
+    check_sizes(rt, &mut b, 2, &mut inode, rows);
+    drop(b);
     Ok(())
 }
 
+#[test]
+fn sizes_on_16_blocks(rt: HostRuntime) -> Result<(), Fail> {
+    check_new_file(&rt, 16, ON_16_BLOCKS)
+}
+
+#[test]
+fn sizes_on_4096_blocks(rt: HostRuntime) -> Result<(), Fail> {
+    check_new_file(&rt, 4096, ON_4096_BLOCKS)
+}
+
+/// Whether the bytes from `index` blocks on are in this block, and cost so many reads.
+fn is_at(b: &mut Counting, inode: &Inode, index: u32, block: Option<u32>, gets: u64) -> bool
+    requires sound { Sound b.old.disk.blocks }
+    requires node { HasNode b.old.disk.blocks 2 inode.now }
+    ensures { b.new.disk.blocks ≡ b.old.disk.blocks }
+{
+    let before = b.disk.reads();
+    let found = look(b, 2, inode, index);
+    found == block && b.disk.reads().saturating_sub(before) == gets
+}
+
 const TWELVE_BLOCKS: &[Row] = &[(12288, Ok(()), 2, 15, 0)];
+
+/// The first ten blocks cost nothing, and each other one a read.
+fn has_twelve_blocks(b: &mut Counting, inode: &Inode) -> bool
+    requires sound { Sound b.old.disk.blocks }
+    requires node { HasNode b.old.disk.blocks 2 inode.now }
+{
+    let direct = is_at(b, inode, 0, Some(3), 0) && is_at(b, inode, 9, Some(12), 0);
+    let pointed = is_at(b, inode, 10, Some(13), 1) && is_at(b, inode, 11, Some(14), 1);
+    direct && pointed && is_at(b, inode, 12, None, 0) && inode.indirect == 15
+}
 
 /// The lowest free block is 3. The block of pointers comes behind those of the bytes.
 #[test]
 fn blocks_of_a_file(rt: HostRuntime) -> Result<(), Fail> {
     let disk = RamDisk::boot(rt.alloc(), 16)?;
     let mut b = Counting { disk, sets: 0 };
-    let mut inode = make_file(&mut b, 2).ok_or("node 2 is free")?;
+    let mut inode = make_file(&rt, &mut b, 2);
     check_sizes(&rt, &mut b, 2, &mut inode, TWELVE_BLOCKS);
-    let before = b.disk.reads();
-    assert!(rt; look(&mut b, 2, &inode, 0) == Some(3));
-    assert!(rt; look(&mut b, 2, &inode, 9) == Some(12));
-    assert!(rt; b.disk.reads() == before, "the first ten cost nothing");
-    assert!(rt; look(&mut b, 2, &inode, 10) == Some(13));
-    assert!(rt; look(&mut b, 2, &inode, 11) == Some(14));
-    assert!(rt;
-        b.disk.reads().saturating_sub(before) == 2,
-        "each other one a get"
-    );
-    assert!(rt; look(&mut b, 2, &inode, 12).is_none());
-    assert!(rt; inode.indirect == 15);
+    assert!(rt; has_twelve_blocks(&mut b, &inode));
+    drop(b);
     Ok(())
 }
 
@@ -221,19 +233,29 @@ const THE_LAST_FREE_BLOCK: &[Row] = &[
 ];
 
 /// The second file has block 4 between the blocks of the first one, gives it up, and the first one takes it.
+/// Gives the inode of the first one.
+fn take_turns(rt: &impl Abort, b: &mut Counting) -> Inode
+    requires { Sound b.old.disk.blocks }
+    ensures sound { Sound b.new.disk.blocks }
+    ensures node { HasNode b.new.disk.blocks 2 result }
+{
+    let mut first = make_file(rt, b, 2);
+    let mut second = make_file(rt, b, 3);
+    check_sizes(rt, b, 2, &mut first, ONE_BLOCK_OF_13);
+    check_sizes(rt, b, 3, &mut second, ONE_BLOCK_OF_12);
+    check_sizes(rt, b, 2, &mut first, THE_OTHER_ELEVEN);
+    check_sizes(rt, b, 3, &mut second, NO_BLOCK);
+    check_sizes(rt, b, 2, &mut first, THE_LAST_FREE_BLOCK);
+    first
+}
+
 #[test]
 fn a_block_is_free_in_the_middle(rt: HostRuntime) -> Result<(), Fail> {
     let disk = RamDisk::boot(rt.alloc(), 16)?;
     let mut b = Counting { disk, sets: 0 };
-    let mut first = make_file(&mut b, 2).ok_or("node 2 is free")?;
-    let mut second = make_file(&mut b, 3).ok_or("node 3 is free")?;
-    check_sizes(&rt, &mut b, 2, &mut first, ONE_BLOCK_OF_13);
-    check_sizes(&rt, &mut b, 3, &mut second, ONE_BLOCK_OF_12);
-    check_sizes(&rt, &mut b, 2, &mut first, THE_OTHER_ELEVEN);
-    check_sizes(&rt, &mut b, 3, &mut second, NO_BLOCK);
-    check_sizes(&rt, &mut b, 2, &mut first, THE_LAST_FREE_BLOCK);
-    assert!(rt; look(&mut b, 2, &first, 0) == Some(3));
-    assert!(rt; look(&mut b, 2, &first, 1) == Some(5));
-    assert!(rt; look(&mut b, 2, &first, 11) == Some(4));
+    let first = take_turns(&rt, &mut b);
+    assert!(rt; is_at(&mut b, &first, 0, Some(3), 0) && is_at(&mut b, &first, 1, Some(5), 0));
+    assert!(rt; is_at(&mut b, &first, 11, Some(4), 1));
+    drop(b);
     Ok(())
 }

@@ -1,6 +1,5 @@
-use Rattle.std.proofs.Common.{rules, ◌≡◌, ◌≢◌, ℕ, arith}
-use Rattle.posix_defs.specs.SoundDisk.{HasNode, Sound}
-use Rattle.blk_map.proofs.tests.a_block_is_free_in_the_middle.Goals as goal
+use Rattle.std.proofs.Common.{◌≢◌, ℕ, arith}
+use Rattle.blk_map.proofs.tests.take_turns.Goals as goal
 
 two_apart : ◌≢◌ {A = ℕ} 2 3
 two_apart = λ e. omega (arith, e)
@@ -10,13 +9,11 @@ three_apart = λ e. omega (arith, e)
 
 pub check_sizes-requires-clause-node : goal.check_sizes-requires-clause-node
 check_sizes-requires-clause-node g c =
-    let made : Sound c.make_file.new.b.disk.blocks × HasNode c.make_file.new.b.disk.blocks 2 c.in_ok-first.first × (c.in_ok-first.first.kind ≡ 1) = search rules in
-    (c.make_file-2.ensures.others 2 c.in_ok-first.first two_apart made.1.0, made.1.1)
+    (c.make_file-second.ensures.others 2 c.make_file-first.result two_apart c.make_file-first.ensures.made.1.0, c.make_file-first.ensures.made.1.1)
 
 pub check_sizes-requires-2-clause-node : goal.check_sizes-requires-2-clause-node
 check_sizes-requires-2-clause-node g c =
-    let made : Sound c.make_file-2.new.b.disk.blocks × HasNode c.make_file-2.new.b.disk.blocks 3 c.in_ok-second.second × (c.in_ok-second.second.kind ≡ 1) = search rules in
-    (c.check_sizes.ensures.others 3 c.in_ok-second.second three_apart made.1.0, made.1.1)
+    (c.check_sizes.ensures.others 3 c.make_file-second.result three_apart c.make_file-second.ensures.made.1.0, c.make_file-second.ensures.made.1.1)
 
 pub check_sizes-requires-3-clause-node : goal.check_sizes-requires-3-clause-node
 check_sizes-requires-3-clause-node g c =
