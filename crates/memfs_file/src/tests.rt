@@ -1,13 +1,12 @@
-ghost use Rattle.std.specs.Prelude.{◌≡◌, ◌≢◌, ℕ, ◌<◌, ◌≤◌, IfSome, vec_len};
+ghost use Rattle.std.specs.Prelude.{◌≡◌, ◌≢◌, ℕ, ◌<◌, ◌≤◌};
 ghost use Rattle.kabi_types.specs.declared.inodes.Inode.{Inode};
 ghost use Rattle.posix_defs.specs.SoundDisk.{HasInode, HasNode, Sound};
 
 use crate::room::free_count;
 use crate::{read_at, set_size, write_at};
 use disk_layout::{RamDisk, inode_in, put_inode};
-use kabi_types::{Errno, Inode};
+use kabi_types::{Errno, Inode, Memory};
 use posix_defs::Blocks;
-use std::alloc::Global;
 use std::process::Abort;
 use std::test::Fail;
 
@@ -43,20 +42,18 @@ impl Blocks for Counting {
     }
 }
 
-/// An empty file as a node of the first block of the table, where that is free.
-fn make_file(b: &mut Counting, number: u32) -> Option<Inode>
+/// An empty file as a node of the first block of the table, which is free.
+fn make_file(rt: &impl Abort, b: &mut Counting, number: u32) -> Inode
     requires sound { Sound b.old.disk.blocks }
     requires first { (0 < number) × (number ≤ 16) }
-    ensures made { IfSome result (λ inode. Sound b.new.disk.blocks × HasNode b.new.disk.blocks number inode × (inode.kind ≡ 1)) }
+    ensures made { Sound b.new.disk.blocks × HasNode b.new.disk.blocks number result × (result.kind ≡ 1) }
     ensures others { (node : ℕ) (other : Inode) → node ≢ number → HasInode b.old.disk.blocks node other → HasInode b.new.disk.blocks node other }
 {
     let mut table = b.get(1);
     let Ok(free) = inode_in(&table, number - 1, b.count()) else {
-        return None;
+        panic!(rt; "node {number} can't be read");
     };
-    if free.kind != 0 {
-        return None;
-    }
+    assert!(rt; free.kind == 0, "node {number} is free");
     let file = Inode {
         kind: 1,
         nlink: 1,
@@ -66,7 +63,12 @@ fn make_file(b: &mut Counting, number: u32) -> Option<Inode>
     };
     put_inode(&mut table, number - 1, &file);
     b.set(1, &table);
-    Some(file)
+    file
+}
+
+/// The bytes that are written: the first of them, as many as a write has. Proofs see no table of this length behind a call.
+fn sevens() -> &'static [u8] {
+    &[7; 32767]
 }
 
 /// A change of a file: so many bytes written at a place, or another size.
@@ -76,13 +78,12 @@ enum Change {
     Size(u32),
 }
 
-/// Makes a change of a file, with the first of these bytes; answers how many were written.
+/// Makes a change of a file; answers how many bytes were written.
 fn change_file(
     b: &mut Counting,
     number: u32,
     inode: &mut Inode,
     change: &Change,
-    bytes: &[u8],
 ) -> Result<u32, Errno>
     requires sound { Sound b.old.disk.blocks }
     requires node { HasNode b.old.disk.blocks number inode.old }
@@ -92,6 +93,7 @@ fn change_file(
     ensures kind { inode.new.kind ≡ 1 }
     ensures others { (node : ℕ) (other : Inode) → node ≢ number → HasInode b.old.disk.blocks node other → HasInode b.new.disk.blocks node other }
 {
+    let bytes = sevens();
     match change {
         Change::Write(_, 0) => Ok(0),
         Change::Write(at, len) if *len <= bytes.len() => {
@@ -109,14 +111,7 @@ fn change_file(
 type Row = (Change, Result<u32, Errno>, u64, u64, u32);
 
 /// Whether each row is as it says, one after another.
-fn check_changes(
-    rt: &impl Abort,
-    b: &mut Counting,
-    number: u32,
-    inode: &mut Inode,
-    bytes: &[u8],
-    rows: &[Row],
-)
+fn check_changes(rt: &impl Abort, b: &mut Counting, number: u32, inode: &mut Inode, rows: &[Row])
     requires sound { Sound b.old.disk.blocks }
     requires node { HasNode b.old.disk.blocks number inode.old }
     requires kind { inode.old.kind ≡ 1 }
@@ -127,11 +122,12 @@ fn check_changes(
 {
     for (k, (change, answer, gets, sets, free)) in rows.iter().enumerate() {
         let (got, put) = (b.disk.reads(), b.sets);
-        let answered = change_file(b, number, inode, change, bytes);
-        assert!(rt; answered == *answer, "answer {k}");
-        assert!(rt; b.disk.reads().saturating_sub(got) == *gets, "gets {k}");
-        assert!(rt; b.sets.saturating_sub(put) == *sets, "sets {k}");
-        assert!(rt; free_count(b) == *free, "free {k}");
+        let answered = change_file(b, number, inode, change);
+        let got = b.disk.reads().saturating_sub(got);
+        let put = b.sets.saturating_sub(put);
+        let left = free_count(b);
+        let right = answered == *answer && got == *gets && put == *sets && left == *free;
+        assert!(rt; right, "change {k}: {got} gets, {put} sets, {left} free");
     }
 }
 
@@ -148,41 +144,54 @@ fn check_bytes(rt: &impl Abort, b: &mut Counting, number: u32, inode: &Inode, ro
         let mut out = [9; 8];
         let got = b.disk.reads();
         let count = read_at(b, inode, *at, &mut out) as usize;
-        assert!(rt; count == bytes.len(), "count at {at}");
-        assert!(rt; &out[..count.min(8)] == *bytes, "bytes at {at}");
-        assert!(rt; b.disk.reads().saturating_sub(got) == *gets, "gets at {at}");
+        let got = b.disk.reads().saturating_sub(got);
+        let right = count == bytes.len() && &out[..count.min(8)] == *bytes && got == *gets;
+        assert!(rt; right, "at {at}: {count} bytes, {got} gets");
     }
 }
 
-/// Makes the changes on an empty file of a new disk of so many blocks, and then reads.
+/// Makes the changes on an empty file, and then reads.
+fn check_file(rt: &impl Abort, b: &mut Counting, rows: &[Row], seen: &[Seen])
+    requires { Sound b.old.disk.blocks }
+{
+    let mut inode = make_file(rt, b, 2);
+    check_changes(rt, b, 2, &mut inode, rows);
+    check_bytes(rt, b, 2, &inode, seen);
+}
+
+/// The same on a new disk of so many blocks.
 fn check_on(
-    rt: &impl Abort,
-    alloc: Global,
+    rt: &(impl Abort + AllocGlobal),
     blocks: u32,
     rows: &[Row],
     seen: &[Seen],
 ) -> Result<(), Fail>
     requires { (16 ≤ blocks) × (blocks ≤ 4096) }
 {
-    let disk = RamDisk::boot(alloc, blocks)?;
+    let disk = RamDisk::boot(rt.alloc(), blocks)?;
     let mut b = Counting { disk, sets: 0 };
-    let mut inode = make_file(&mut b, 2).ok_or("node 2 is free")?;
-    let bytes = vec![in alloc; 7_u8; 32767]?;
-    check_changes(rt, &mut b, 2, &mut inode, &bytes, rows);
-    check_bytes(rt, &mut b, 2, &inode, seen);
+    check_file(rt, &mut b, rows, seen);
+    drop(b);
     Ok(())
 }
 
-/// Makes the changes on an empty file of a new disk of 16 blocks, on which another file has so many bytes.
-fn check_beside(rt: &impl Abort, alloc: Global, size: u32, rows: &[Row]) -> Result<(), Fail> {
-    let disk = RamDisk::boot(alloc, 16)?;
-    let mut b = Counting { disk, sets: 0 };
-    let mut inode = make_file(&mut b, 2).ok_or("node 2 is free")?;
-    let mut other = make_file(&mut b, 3).ok_or("node 3 is free")?;
-    let bytes = vec![in alloc; 7_u8; 32767]?;
-    let grown = change_file(&mut b, 3, &mut other, &Change::Size(size), &bytes);
+/// Makes the changes on an empty file, beside which another file has so many bytes.
+fn check_second(rt: &impl Abort, b: &mut Counting, size: u32, rows: &[Row])
+    requires { Sound b.old.disk.blocks }
+{
+    let mut inode = make_file(rt, b, 2);
+    let mut other = make_file(rt, b, 3);
+    let grown = change_file(b, 3, &mut other, &Change::Size(size));
     assert!(rt; grown == Ok(0));
-    check_changes(rt, &mut b, 2, &mut inode, &bytes, rows);
+    check_changes(rt, b, 2, &mut inode, rows);
+}
+
+/// The same on a new disk of 16 blocks.
+fn check_beside(rt: &(impl Abort + AllocGlobal), size: u32, rows: &[Row]) -> Result<(), Memory> {
+    let disk = RamDisk::boot(rt.alloc(), 16)?;
+    let mut b = Counting { disk, sets: 0 };
+    check_second(rt, &mut b, size, rows);
+    drop(b);
     Ok(())
 }
 
@@ -220,7 +229,7 @@ const SEEN_ON_16_BLOCKS: &[Seen] = &[
 
 #[test]
 fn a_file_on_16_blocks(rt: HostRuntime) -> Result<(), Fail> {
-    check_on(&rt, rt.alloc(), 16, ON_16_BLOCKS, SEEN_ON_16_BLOCKS)
+    check_on(&rt, 16, ON_16_BLOCKS, SEEN_ON_16_BLOCKS)
 }
 
 /// Twelve blocks of bytes take a thirteenth for their pointers.
@@ -233,7 +242,7 @@ const ALL_OF_16_BLOCKS: &[Row] = &[
 
 #[test]
 fn all_of_16_blocks(rt: HostRuntime) -> Result<(), Fail> {
-    check_on(&rt, rt.alloc(), 16, ALL_OF_16_BLOCKS, &[])
+    check_on(&rt, 16, ALL_OF_16_BLOCKS, &[])
 }
 
 /// At the border of a block, where so many blocks are free.
@@ -298,16 +307,24 @@ const TEN_BLOCKS_WITH_3: &[Row] = &[
     (Change::Write(10240, 1025), Ok(1025), 5, 6, 0),
 ];
 
+/// The size of the other file, which leaves so many blocks free.
+const BORDERS: &[(u32, &[Row])] = &[
+    (11264, BLOCK_WITH_0),
+    (10240, BLOCK_WITH_1),
+    (10240, BLOCK_WITH_2),
+    (9216, BLOCK_WITH_3),
+    (3072, TEN_BLOCKS_WITH_0),
+    (2048, TEN_BLOCKS_WITH_1),
+    (1024, TEN_BLOCKS_WITH_2),
+    (0, TEN_BLOCKS_WITH_3),
+];
+
 #[test]
 fn borders_of_blocks(rt: HostRuntime) -> Result<(), Fail> {
-    check_beside(&rt, rt.alloc(), 11264, BLOCK_WITH_0)?;
-    check_beside(&rt, rt.alloc(), 10240, BLOCK_WITH_1)?;
-    check_beside(&rt, rt.alloc(), 10240, BLOCK_WITH_2)?;
-    check_beside(&rt, rt.alloc(), 9216, BLOCK_WITH_3)?;
-    check_beside(&rt, rt.alloc(), 3072, TEN_BLOCKS_WITH_0)?;
-    check_beside(&rt, rt.alloc(), 2048, TEN_BLOCKS_WITH_1)?;
-    check_beside(&rt, rt.alloc(), 1024, TEN_BLOCKS_WITH_2)?;
-    check_beside(&rt, rt.alloc(), 0, TEN_BLOCKS_WITH_3)
+    for (size, rows) in BORDERS {
+        check_beside(&rt, *size, rows)?;
+    }
+    Ok(())
 }
 
 /// At the greatest size, where 265 blocks have bytes and so many more are free.
@@ -347,10 +364,10 @@ const GREATEST_WITH_3: &[Row] = &[
 
 #[test]
 fn borders_of_the_greatest_size(rt: HostRuntime) -> Result<(), Fail> {
-    check_on(&rt, rt.alloc(), 285, GREATEST_WITH_0, &[])?;
-    check_on(&rt, rt.alloc(), 286, GREATEST_WITH_1, &[])?;
-    check_on(&rt, rt.alloc(), 287, GREATEST_WITH_2, &[])?;
-    check_on(&rt, rt.alloc(), 289, GREATEST_WITH_3, &[])
+    check_on(&rt, 285, GREATEST_WITH_0, &[])?;
+    check_on(&rt, 286, GREATEST_WITH_1, &[])?;
+    check_on(&rt, 287, GREATEST_WITH_2, &[])?;
+    check_on(&rt, 289, GREATEST_WITH_3, &[])
 }
 
 /// Far behind the end of an empty file.
@@ -386,19 +403,35 @@ const SEEN_GREAT_WRITE: &[Seen] = &[(0, &[7, 7, 7, 7, 7, 7, 7, 7], 1), (32765, &
 
 #[test]
 fn great_files(rt: HostRuntime) -> Result<(), Fail> {
-    check_on(&rt, rt.alloc(), 286, FAR_BEHIND, SEEN_FAR_BEHIND)?;
-    check_on(&rt, rt.alloc(), 286, CUT_AND_GROWN, SEEN_CUT_AND_GROWN)?;
-    check_on(&rt, rt.alloc(), 4096, GREAT_WRITE, SEEN_GREAT_WRITE)
+    check_on(&rt, 286, FAR_BEHIND, SEEN_FAR_BEHIND)?;
+    check_on(&rt, 286, CUT_AND_GROWN, SEEN_CUT_AND_GROWN)?;
+    check_on(&rt, 4096, GREAT_WRITE, SEEN_GREAT_WRITE)
 }
 
-/// Fills a file of 11000 bytes with 7, cuts it and lets it grow again, by another size or a byte at its end.
+fn has_only(bytes: &[u8], wanted: u8) -> bool {
+    for byte in bytes {
+        if *byte != wanted {
+            return false;
+        }
+    }
+    true
+}
+
+/// Whether a file of 11000 bytes has lost what was cut off, but for its last byte.
+fn is_cut(out: &[u8; 11000], cut: usize, last: u8) -> bool
+    requires { cut < 11000 }
+{
+    has_only(&out[..cut], 7) && has_only(&out[cut..10999], 0) && out[10999] == last
+}
+
+/// Fills a file of 11000 bytes with 7, cuts it and lets it grow again, to this last byte.
 fn check_cut(
     rt: &impl Abort,
     b: &mut Counting,
     inode: &mut Inode,
-    bytes: &[u8],
     cut: u32,
     growth: &Change,
+    last: u8,
 )
     requires sound { Sound b.old.disk.blocks }
     requires node { HasNode b.old.disk.blocks 2 inode.old }
@@ -407,46 +440,52 @@ fn check_cut(
     ensures node { HasNode b.new.disk.blocks 2 inode.new }
     ensures kind { inode.new.kind ≡ 1 }
 {
+    let filled = change_file(b, 2, inode, &Change::Write(0, 11000));
+    let shorter = change_file(b, 2, inode, &Change::Size(cut));
+    let grown = change_file(b, 2, inode, growth);
     let mut out = [9; 11000];
-    assert!(rt; change_file(b, 2, inode, &Change::Write(0, 11000), bytes) == Ok(11000));
-    assert!(rt; change_file(b, 2, inode, &Change::Size(cut), bytes) == Ok(0));
-    assert!(rt; change_file(b, 2, inode, growth, bytes).is_ok());
-    assert!(rt; read_at(b, inode, 0, &mut out) == 11000, "cut at {cut}");
-    let last = if matches!(growth, Change::Size(_)) {
-        0
-    } else {
-        7
-    };
-    for (place, byte) in out.iter().enumerate() {
-        let wanted = if place < cut as usize {
-            7
-        } else if place == 10999 {
-            last
-        } else {
-            0
-        };
-        assert!(rt; *byte == wanted, "byte {place} after a cut at {cut}");
-    }
+    let count = read_at(b, inode, 0, &mut out);
+    assert!(rt; filled == Ok(11000) && shorter == Ok(0) && grown.is_ok() && count == 11000);
+    assert!(rt;
+        cut < 11000 && is_cut(&out, cut as usize, last),
+        "cut at {cut}"
+    );
 }
 
-const CUTS: &[u32] = &[0, 1, 1023, 1024, 1025, 10239, 10240, 10241];
+/// Where a file of 11000 bytes is cut, how it grows again, by another size or a byte at its end, and its last byte then.
+const CUTS: &[(u32, Change, u8)] = &[
+    (0, Change::Size(11000), 0),
+    (0, Change::Write(10999, 1), 7),
+    (1, Change::Size(11000), 0),
+    (1, Change::Write(10999, 1), 7),
+    (1023, Change::Size(11000), 0),
+    (1023, Change::Write(10999, 1), 7),
+    (1024, Change::Size(11000), 0),
+    (1024, Change::Write(10999, 1), 7),
+    (1025, Change::Size(11000), 0),
+    (1025, Change::Write(10999, 1), 7),
+    (10239, Change::Size(11000), 0),
+    (10239, Change::Write(10999, 1), 7),
+    (10240, Change::Size(11000), 0),
+    (10240, Change::Write(10999, 1), 7),
+    (10241, Change::Size(11000), 0),
+    (10241, Change::Write(10999, 1), 7),
+];
+
+fn check_cuts(rt: &impl Abort, b: &mut Counting)
+    requires { Sound b.old.disk.blocks }
+{
+    let mut inode = make_file(rt, b, 2);
+    for (cut, growth, last) in CUTS {
+        check_cut(rt, b, &mut inode, *cut, growth, *last);
+    }
+}
 
 #[test]
 fn bytes_that_were_cut_off_stay_away(rt: HostRuntime) -> Result<(), Fail> {
     let disk = RamDisk::boot(rt.alloc(), 16)?;
     let mut b = Counting { disk, sets: 0 };
-    let mut inode = make_file(&mut b, 2).ok_or("node 2 is free")?;
-    let bytes = vec![in rt.alloc(); 7_u8; 32767]?;
-    for cut in CUTS {
-        check_cut(&rt, &mut b, &mut inode, &bytes, *cut, &Change::Size(11000));
-        check_cut(
-            &rt,
-            &mut b,
-            &mut inode,
-            &bytes,
-            *cut,
-            &Change::Write(10999, 1),
-        );
-    }
+    check_cuts(&rt, &mut b);
+    drop(b);
     Ok(())
 }

@@ -1,4 +1,4 @@
-use Rattle.std.proofs.Common.{◌≡◌, ◌≢◌, ℕ, ◌-◌, ◌<◌, ◌≤◌, List, length, set, refl, sym, ap, subst, ◌∙◌, arith}
+use Rattle.std.proofs.Common.{rules, ◌≡◌, ◌≢◌, ℕ, ◌-◌, ◌<◌, ◌≤◌, List, length, set, refl, sym, ap, subst, ◌∙◌, arith}
 use Rattle.std.proofs.lemmas.List.{length-set, get_or-set_other}
 use Rattle.kabi_types.specs.declared.inodes.Inode.{Inode}
 use Rattle.posix_defs.specs.DiskFormat.{IsInode, inode_bytes}
@@ -22,7 +22,7 @@ made number before after free table bytes sound pos low had empty table_is after
     (λ block apart. ap (λ (disk : List (List ℕ)). block_bytes disk block) is ∙ get_or-set_other before (table_block number) block bytes _ apart)
 
 pub returns-clause-made : goal.returns-clause-made
-returns-clause-made c =
+returns-clause-made g c =
     let was : List (List ℕ) = c.args.b.now.disk.blocks in
     let before : List (List ℕ) = c.get-table.new.self.disk.blocks in
     let kept : before ≡ was = c.get-table.ensures.kept in
@@ -32,12 +32,13 @@ returns-clause-made c =
     let valid : IsInode (length before) free = subst (λ (n : ℕ). IsInode n free) c.count.ensures found.0 in
     let block : block_bytes before 1 ≡ c.get-table.result = ap (λ (disk : List (List ℕ)). block_bytes disk 1) kept ∙ got was 1 c.get-table.result c.get-table.ensures.value in
     let had : HasInode before c.args.number free = in_slot before c.args.number free c.get-table.result sound c.requires.first.0 c.requires.first.1 valid block found.1 in
-    let is = made c.args.number before c.set.new.self.disk.blocks free c.get-table.result c.put_inode.new.block sound c.requires.first.0 c.requires.first.1 had (valid.kind.free c.if-free-ne0.false).1 block c.set.ensures.after
+    let unused : free.kind ≡ 0 = search rules in
+    let is = made c.args.number before c.set.new.self.disk.blocks free c.get-table.result c.put_inode.new.block sound c.requires.first.0 c.requires.first.1 had (valid.kind.free unused).1 block c.set.ensures.after
     c.put_inode.ensures.this c.put_inode.ensures.others in
     (is.0, (is.1, λ e. absurd (omega (arith, e))), refl)
 
 pub returns-clause-others : goal.returns-clause-others
-returns-clause-others c = λ node other apart has.
+returns-clause-others g c = λ node other apart has.
     let was : List (List ℕ) = c.args.b.now.disk.blocks in
     let before : List (List ℕ) = c.get-table.new.self.disk.blocks in
     let kept : before ≡ was = c.get-table.ensures.kept in
@@ -47,6 +48,7 @@ returns-clause-others c = λ node other apart has.
     let valid : IsInode (length before) free = subst (λ (n : ℕ). IsInode n free) c.count.ensures found.0 in
     let block : block_bytes before 1 ≡ c.get-table.result = ap (λ (disk : List (List ℕ)). block_bytes disk 1) kept ∙ got was 1 c.get-table.result c.get-table.ensures.value in
     let had : HasInode before c.args.number free = in_slot before c.args.number free c.get-table.result sound c.requires.first.0 c.requires.first.1 valid block found.1 in
-    let is = made c.args.number before c.set.new.self.disk.blocks free c.get-table.result c.put_inode.new.block sound c.requires.first.0 c.requires.first.1 had (valid.kind.free c.if-free-ne0.false).1 block c.set.ensures.after
+    let unused : free.kind ≡ 0 = search rules in
+    let is = made c.args.number before c.set.new.self.disk.blocks free c.get-table.result c.put_inode.new.block sound c.requires.first.0 c.requires.first.1 had (valid.kind.free unused).1 block c.set.ensures.after
     c.put_inode.ensures.this c.put_inode.ensures.others in
     is.2 node other apart (subst (λ (disk : List (List ℕ)). HasInode disk node other) (sym kept) has)
