@@ -105,8 +105,7 @@ impl Space {
             Some(key) => {
                 // the heap knows how long the rows of its objects are
                 let _ = heap.heap();
-                let node = with_entry(heap.get_node(key), page % GROUP, entry);
-                heap.set_node(key, node);
+                heap.set_node_entry(key, page % GROUP, entry);
             }
             None => unreachable!(),
         }
@@ -123,12 +122,10 @@ impl Space {
     {
         match self.nodes[(page / GROUP) as usize] {
             Some(key) => {
+                heap.set_node_entry(key, page % GROUP, PageEntry::Unmapped);
                 // the heap knows how long the rows of its objects are
                 let _ = heap.heap();
-                let node = with_entry(heap.get_node(key), page % GROUP, PageEntry::Unmapped);
-                if has_mapped(&node) {
-                    heap.set_node(key, node);
-                } else {
+                if !has_mapped(heap.get_node(key)) {
                     let _ = heap.free_node(key);
                     self.nodes[(page / GROUP) as usize] = None;
                 }
@@ -383,18 +380,6 @@ fn is_mapped_entry(entry: PageEntry) -> bool
         PageEntry::Unmapped => false,
         PageEntry::Zero | PageEntry::Frame(_) => true,
     }
-}
-
-// The same node with another entry at a place.
-fn with_entry(node: &Node, at: u32, entry: PageEntry) -> Node
-    requires within { at < 64 }
-    requires len { length node.now.entries ≡ 64 }
-    ensures written { result.entries ≡ slice_set node.now.entries at entry }
-    ensures len { length result.entries ≡ 64 }
-{
-    let mut entries = node.entries;
-    entries[at as usize] = entry;
-    Node { entries }
 }
 
 // Whether some page of the group is mapped.
