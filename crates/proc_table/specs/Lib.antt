@@ -1,6 +1,5 @@
 pub mod Procs
 pub mod Changes
-pub mod Exits
 pub mod Table
 pub mod Moves
 pub mod Standing

@@ -12,35 +12,6 @@ use kheap_slabs::{KHeap, Proc};
 /// The pid of the process that was not forked.
 pub(crate) const INIT: u32 = 1;
 
-// A child that has ended: its pid and its wait status.
-#[derive(Clone, Copy)]
-pub(crate) struct Exit {
-    pub pid: u32,
-    pub status: u16,
-}
-
-// What a process is after the one of that pid has ended and left its children; None for an ended child, which goes.
-fn left_behind(proc: Proc, pid: u32, status: u16) -> Option<Proc>
-    ensures { result ≡ left_behind pid status proc }
-{
-    if proc.pid == pid {
-        return Some(Proc {
-            status: Some(status),
-            ..proc
-        });
-    }
-    if proc.parent != pid {
-        return Some(proc);
-    }
-    match proc.status {
-        None => Some(Proc {
-            parent: INIT,
-            ..proc
-        }),
-        Some(_) => None,
-    }
-}
-
 // Has the process of a key left behind by the one of that pid, which ends. Whether it stays.
 pub(crate) fn leave_one(heap: &mut KHeap, key: u32, pid: u32, status: u16) -> bool
     requires { InUse heap.old.procs key }
@@ -50,17 +21,21 @@ pub(crate) fn leave_one(heap: &mut KHeap, key: u32, pid: u32, status: u16) -> bo
     ensures stays { result ≡ is_some (option_and_then (left_behind pid status) (object heap.old.procs key)) }
     ensures takes { TakesNothing heap.old heap.new }
 {
-    let proc = *heap.get_proc(key);
-    match left_behind(proc, pid, status) {
-        Some(left) => {
-            heap.set_proc(key, left);
-            true
-        }
-        None => {
-            let _ = heap.free_proc(key);
-            false
-        }
+    let proc = heap.get_proc(key);
+    let parent = proc.parent;
+    if proc.pid == pid {
+        heap.set_proc_family(key, parent, Some(status));
+        return true;
     }
+    if parent != pid {
+        return true;
+    }
+    if proc.status.is_some() {
+        let _ = heap.free_proc(key);
+        return false;
+    }
+    heap.set_proc_family(key, INIT, None);
+    true
 }
 
 // Whether the caller of `waitpid`, which may ask for one pid or by -1 for all its children, asks for this process.

@@ -15,13 +15,12 @@ ghost use Rattle.posix_defs.specs.Process.{Table};
 ghost use Rattle.posix_defs.specs.Memory.{Frames, after_clear, boot_frames};
 ghost use Rattle.proc_table.specs.Accounting.{HasAccount, forked_account};
 ghost use Rattle.proc_table.specs.Changes.{after_wait, cleared, ended, forked_as, child_proc, is_alone, is_full_at, is_other, is_wanted, left_behind, reaped_of, told_of, verdict};
-ghost use Rattle.proc_table.specs.Exits.{exit_of};
 ghost use Rattle.proc_table.specs.Moves.{IsAdded, IsForked, MemoryStays, TableMoves};
 ghost use Rattle.proc_table.specs.Procs.{HasEnded, IsAlive, first_proc, proc_of, target_of};
 ghost use Rattle.proc_table.specs.Standing.{IsTable, answered_by, cleared_in, ends_in, forked_in, found_in, waited_in};
 ghost use Rattle.proc_table.specs.Table.{AreBetween, AreStored, Holds, key_of, key_of_target, no_table, objects_after, places_kept, processes};
 
-use crate::children::{Exit, INIT, is_wanted, judge, leave_one};
+use crate::children::{INIT, is_wanted, judge, leave_one};
 use crate::places::{Listed, MOST, find, find_target, others};
 use crate::reaped::Reaped;
 use arrayvec::ArrayVec;
@@ -216,15 +215,9 @@ impl ProcTable {
     {
         match self.key_of(pid) {
             Some(key) => {
-                let proc = *heap.get_proc(key);
+                let proc = heap.get_proc(key);
                 Space::of(proc.nodes).release(heap);
-                heap.set_proc(
-                    key,
-                    Proc {
-                        nodes: [None; 4],
-                        ..proc
-                    },
-                );
+                heap.set_proc_nodes(key, [None; 4]);
             }
             None => unreachable!(),
         }
@@ -298,50 +291,28 @@ impl ProcTable {
         }
     }
 
-    // Of the children that their parent asks for and that have ended the one of the lowest pid.
-    fn told(&self, heap: &KHeap, parent: u32, which: i64) -> Option<Exit>
-        requires { AreStored heap.now.procs self.now.listed }
-        ensures { option_map exit_of result ≡ told_of parent which (processes heap.now self.now) }
-    {
-        for place in self.listed.as_slice() {
-            let proc = heap.get_proc(place.key);
-            if is_wanted(proc, parent, which)
-                && let Some(status) = proc.status
-            {
-                return Some(Exit {
-                    pid: proc.pid,
-                    status,
-                });
-            }
-        }
-        None
-    }
-
-    // Whether a child that its parent asks for is there, alive or ended.
-    fn has_wanted(&self, heap: &KHeap, parent: u32, which: i64) -> bool
-        requires { AreStored heap.now.procs self.now.listed }
-        ensures { result ≡ list_any (is_wanted parent which) (processes heap.now self.now) }
-    {
-        for place in self.listed.as_slice() {
-            if is_wanted(heap.get_proc(place.key), parent, which) {
-                return true;
-            }
-        }
-        false
-    }
-
     /// What a process that waited now would be answered. Nothing is changed.
     pub fn answer(&self, heap: &KHeap, parent: u32, which: i64) -> Reaped
         requires { AreStored heap.now.procs self.now.listed }
         ensures { result ≡ reaped_of parent which (processes heap.now self.now) }
     {
-        match self.told(heap, parent, which) {
-            Some(exit) => Reaped::Took {
-                pid: exit.pid,
-                status: exit.status,
-            },
-            None if self.has_wanted(heap, parent, which) => Reaped::Nobody,
-            None => Reaped::NoChild,
+        let mut found = false;
+        for place in self.listed.as_slice() {
+            let proc = heap.get_proc(place.key);
+            if is_wanted(proc, parent, which) {
+                if let Some(status) = proc.status {
+                    return Reaped::Took {
+                        pid: proc.pid,
+                        status,
+                    };
+                }
+                found = true;
+            }
+        }
+        if found {
+            Reaped::Nobody
+        } else {
+            Reaped::NoChild
         }
     }
 

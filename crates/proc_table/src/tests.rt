@@ -7,7 +7,7 @@ ghost use Rattle.proc_table.specs.Table.{Holds, processes};
 
 use crate::{ProcTable, Reaped};
 use kabi_types::{Errno, Memory, Need};
-use kheap_slabs::{KHeap, Proc, Purse};
+use kheap_slabs::{KHeap, Purse};
 use page_space::Space;
 use std::alloc::Global;
 use std::process::Abort;
@@ -66,16 +66,10 @@ fn map(heap: &mut KHeap, purse: &mut Purse, table: &ProcTable, pid: u32, pages: 
 {
     match table.key_of(pid) {
         Some(key) => {
-            let proc = *heap.get_proc(key);
+            let proc = heap.get_proc(key);
             let mut space = Space::of(proc.nodes);
             let first = space.map(heap, purse, pages);
-            heap.set_proc(
-                key,
-                Proc {
-                    nodes: space.nodes(),
-                    ..proc
-                },
-            );
+            heap.set_proc_nodes(key, space.nodes());
             first.map_or(-1, |page| i64::from(page))
         }
         None => unreachable!(),
@@ -134,18 +128,25 @@ fn take(rt: &impl Abort, heap: &mut KHeap, table: &mut ProcTable, step: &Step) -
 // A step, what it answers, and the bytes of the heap after it.
 type Row = (Step, i64, u16, u64);
 
+// Whether all rows are answered as they say, one after another.
+fn are_answered(rt: &impl Abort, heap: &mut KHeap, table: &mut ProcTable, rows: &[Row]) -> bool
+    requires { Holds heap.old table.old }
+{
+    for (step, first, second, live) in rows {
+        let got = take(rt, heap, table, step);
+        if got != (*first, *second) || heap.live() != *live {
+            return false;
+        }
+    }
+    true
+}
+
 fn go_through(rt: &impl Abort, alloc: Global, rows: &[Row]) -> Result<(), Memory> {
     let (mut heap, mut table) = booted(alloc)?;
-    for (step, first, second, live) in rows {
-        let got = take(rt, &mut heap, &mut table, step);
-        assert!(rt;
-            got.0 == *first && got.1 == *second && heap.live() == *live,
-            "{} {}: {}",
-            got.0,
-            got.1,
-            heap.live()
-        );
-    }
+    let right = are_answered(rt, &mut heap, &mut table, rows);
+    assert!(rt; right);
+    drop(table);
+    drop(heap);
     Ok(())
 }
 
@@ -207,16 +208,30 @@ fn fill(rt: &impl Abort, heap: &mut KHeap, table: &mut ProcTable, count: u32)
     }
 }
 
+// Where 64 are there: no other is made, also while one of them has ended, and one more when it has gone.
+const CROWD: &[Row] = &[
+    (Step::Fork(64), -1, 0, 32768),
+    (Step::End(64, 0), 0, 0, 32768),
+    (Step::Fork(1), -1, 0, 32768),
+    (Step::Wait(1, -1), 64, 0, 32256),
+    (Step::Fork(1), 65, 0, 32768),
+];
+
+// Whether a table that 64 processes fill answers so.
+fn is_filled(rt: &impl Abort, heap: &mut KHeap, table: &mut ProcTable) -> bool
+    requires { Holds heap.old table.old }
+{
+    fill(rt, heap, table, 64);
+    heap.live() == 32768 && table.last_pid() == 64 && are_answered(rt, heap, table, CROWD)
+}
+
 #[test]
 fn at_most_64_are_there(rt: HostRuntime) -> Result<(), Fail> {
     let (mut heap, mut table) = booted(rt.alloc())?;
-    fill(&rt, &mut heap, &mut table, 64);
-    assert!(rt; heap.live() == 32768 && table.last_pid() == 64);
-    assert!(rt; take(&rt, &mut heap, &mut table, &Step::Fork(64)).0 == -1);
-    assert!(rt; take(&rt, &mut heap, &mut table, &Step::End(64, 0)).0 == 0);
-    assert!(rt; take(&rt, &mut heap, &mut table, &Step::Fork(1)).0 == -1);
-    assert!(rt; take(&rt, &mut heap, &mut table, &Step::Wait(1, -1)).0 == 64);
-    assert!(rt; take(&rt, &mut heap, &mut table, &Step::Fork(1)).0 == 65);
+    let right = is_filled(&rt, &mut heap, &mut table);
+    assert!(rt; right);
+    drop(table);
+    drop(heap);
     Ok(())
 }
 
@@ -235,16 +250,32 @@ const KILLS: &[Kill] = &[
     (4294967298, 9, Err(Errno::ESRCH)),
 ];
 
+// Whether each signal does what its row says.
+fn are_told(heap: &KHeap, table: &ProcTable, rows: &[Kill]) -> bool
+    requires { Holds heap.now table.now }
+{
+    for (target, signal, told) in rows {
+        if table.may_kill(heap, 1, *target, *signal) != *told {
+            return false;
+        }
+    }
+    true
+}
+
+// Whether the rows hold where process 2 lives and 3 has ended.
+fn are_struck(rt: &impl Abort, heap: &mut KHeap, table: &mut ProcTable) -> bool
+    requires { Holds heap.old table.old }
+{
+    fill(rt, heap, table, 3);
+    take(rt, heap, table, &Step::End(3, 0)) == (0, 0) && are_told(heap, table, KILLS)
+}
+
 #[test]
 fn a_signal_ends_who_lives(rt: HostRuntime) -> Result<(), Fail> {
     let (mut heap, mut table) = booted(rt.alloc())?;
-    fill(&rt, &mut heap, &mut table, 3);
-    assert!(rt; take(&rt, &mut heap, &mut table, &Step::End(3, 0)).0 == 0);
-    for (target, signal, told) in KILLS {
-        assert!(rt;
-            table.may_kill(&heap, 1, *target, *signal) == *told,
-            "{target} {signal}"
-        );
-    }
+    let right = are_struck(&rt, &mut heap, &mut table);
+    assert!(rt; right);
+    drop(table);
+    drop(heap);
     Ok(())
 }

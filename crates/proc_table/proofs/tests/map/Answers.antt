@@ -1,4 +1,6 @@
-use Rattle.std.proofs.Common.{ap, is_some, subst, sym}
+use Rattle.std.proofs.Common.{ap, is_some, subst, sym, ◌∙◌}
+use Rattle.kheap_slabs.specs.Heap.{Heap}
+use Rattle.kheap_slabs.specs.Objects.{object}
 use Rattle.page_space.specs.Contents.{IsOwnedWith, SpaceMoves}
 use Rattle.proc_table.proofs.ClearLemmas.{alive_at}
 use Rattle.proc_table.proofs.LawLemmas.{back-moves}
@@ -21,13 +23,13 @@ unreachable-requires c =
 
 pub returns : goal.returns
 returns c =
-    let moves = back-moves c.args.heap.now c.map-first.new.heap c.set_proc.new.self c.args.table.now c.args.pid c.in-Some.key c.get_proc-proc.result.now c.nodes.result c.requires.holds
+    let moves = back-moves c.args.heap.now c.map-first.new.heap c.set_proc_nodes.new.self c.args.table.now c.args.pid c.in-Some.key c.get_proc-proc.result.now c.nodes.result c.requires.holds
     (record {
       found = sym c.in-Some.ensures;
       there = c.get_proc-proc.ensures;
       runs = alive_at c.args.heap.now c.args.table.now c.args.pid c.in-Some.key c.get_proc-proc.result.now c.requires.holds c.requires.alive (sym c.in-Some.ensures) c.get_proc-proc.ensures;
       moves = subst (λ now. SpaceMoves c.args.heap.now c.map-first.new.heap c.get_proc-proc.result.now.nodes now) (sym c.nodes.ensures.value)
           (subst (λ space. SpaceMoves c.args.heap.now c.map-first.new.heap space c.map-first.new.self) c.of-space.ensures c.map-first.ensures.moves);
-      after = c.set_proc.ensures.kept;
+      after = c.set_proc_nodes.ensures.kept c.get_proc-proc.result.now (ap (λ (h : Heap). object h.procs c.in-Some.key) c.map-first.ensures.moves.kept ∙ c.get_proc-proc.ensures);
     }) in
     moves.holds
