@@ -1,4 +1,4 @@
-use Rattle.std.proofs.Common.{◌≡◌, ap, sym, ◌∙◌}
+use Rattle.std.proofs.Common.{ap, sym, ◌∙◌}
 use Rattle.std.specs.Prelude.{slice_get}
 use Rattle.posix_defs.specs.Control.{call_at, statement_of}
 use Rattle.prog_ctl.proofs.Settling.{rests_settled}
