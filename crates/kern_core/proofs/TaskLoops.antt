@@ -1,23 +1,40 @@
 -- The loops over the tasks, which pass the events that may be taken, one after another.
-use Rattle.std.proofs.Common.{◌≡◌, ℕ, ◌+◌, ◌≤◌, ◌<◌, true, false, List, [], ◌∷◌, ◌++◌, length, drop, get_or, Option, None, Some, slice_get, refl, ap, sym, ◌∙◌, arith, append_assoc, length-append, add-one, zero, suc, ◌-◌, IfSome}
+use Rattle.std.proofs.Common.{◌≡◌, ℕ, ◌+◌, ◌≤◌, ◌<◌, ◌&&◌, Bool, true, false, cond, List, [], ◌∷◌, ◌++◌, length, drop, filter, get_or, Option, None, Some, slice_get, refl, ap, sym, ◌∙◌, arith, append_assoc, length-append, add-one, zero, suc, ◌-◌, IfSome}
+use Rattle.std.specs.List.{list_all}
 use Rattle.std.specs.Option.{is_some, option_to_list}
 use Rattle.std.proofs.Math.Seq.{drop-cons}
 use Rattle.std.proofs.lemmas.List.{drop_all}
+use Rattle.std.proofs.lemmas.Option.{slice_get-get_or}
 use Rattle.kabi_types.specs.declared.entries.Event.{Event}
 use Rattle.kabi_types.specs.declared.scripts.Script.{Script}
 use Rattle.posix_defs.specs.declared.phases.Task.{Task}
 use Rattle.posix_defs.specs.CoreState.{CoreState}
 use Rattle.posix_defs.specs.World.{World}
 use Rattle.posix_defs.specs.SoundTasks.{IsSound}
-use Rattle.posix_defs.specs.Choice.{events_of, events_in, enabled_in, named_by, others_in}
+use Rattle.posix_defs.specs.Choice.{asks_nothing, events_of, events_in, enabled_in, named_by, others_in}
 use Rattle.posix_defs.proofs.EnabledEvents.{enabled, get_behind}
 use Rattle.posix_defs.proofs.Picking.{named_is_enabled}
 use Rattle.posix_defs.proofs.Sounds.{is_sound}
-use Rattle.kern_core.specs.View.{CoreView, IsAt, GoesOn, HasRun, CanTake}
+use Rattle.kern_core.specs.View.{CoreView, IsAt, GoesOn, Has, HasRun, CanTake}
 
 -- the tasks from a place on begin with the one at the place
 pub next_task : (tasks : List Task) (place : ℕ) (d : Task) → place < length tasks → drop place tasks ≡ get_or tasks place d ∷ drop (place + 1) tasks
 next_task tasks place d within = drop-cons tasks place d within ∙ ap (λ next. get_or tasks place d ∷ drop next tasks) (sym (add-one place))
+
+-- the task at a place is one of them
+pub one_there : (tasks seen : List Task) (place : ℕ) (d : Task) → seen ≡ tasks → place < length seen → Has tasks (get_or seen place d)
+one_there tasks seen place d same within = record { place = place; is = ap (λ ts. slice_get ts place) (sym same) ∙ slice_get-get_or seen place d within }
+
+-- where a test holds of the task at a place, it holds of all from there on if it does of all behind; where it doesn't, not of all
+pub all_behind : (test : Task → Bool) (tasks : List Task) (place : ℕ) (d : Task) (all : Bool) → place < length tasks → test (get_or tasks place d) ≡ true
+    → list_all test (drop place tasks) ≡ all → list_all test (drop (place + 1) tasks) ≡ all
+all_behind test tasks place d all within here rest =
+    sym (ap (list_all test) (next_task tasks place d within) ∙ ap (λ b. b && list_all test (drop (place + 1) tasks)) here) ∙ rest
+
+pub not_all_here : (test : Task → Bool) (tasks : List Task) (place : ℕ) (d : Task) (all : Bool) → place < length tasks → test (get_or tasks place d) ≡ false
+    → list_all test (drop place tasks) ≡ all → false ≡ all
+not_all_here test tasks place d all within here rest =
+    sym (ap (list_all test) (next_task tasks place d within) ∙ ap (λ b. b && list_all test (drop (place + 1) tasks)) here) ∙ rest
 
 -- so many of a state's enabled events are those of the tasks before this place
 pub record Passed (script : Script) (s : CoreState) (tasks : List Task) (place before : ℕ) : Type 0 where
@@ -115,6 +132,35 @@ may_be_named stands_for script core number (Some event) goes_on named =
       runs = goes_on.runs;
       enabled = named_is_enabled script goes_on.state event (Some number) sound (sym (named goes_on.state goes_on.is_at sound));
     }
+
+-- behind a task whose event asks for heap, or that has none, the first event that asks for nothing is that of all
+pub frees_behind : (script : Script) (s : CoreState) (tasks : List Task) (place : ℕ) (event : Option Event) (d : Task) (all : List Event) → place < length tasks
+    → (let task = get_or tasks place d in option_to_list event ≡ events_of script s task.pid task.phase) → IfSome event (λ e. asks_nothing e ≡ false)
+    → filter asks_nothing (events_in script s (drop place tasks) ++ others_in script s) ≡ all
+    → filter asks_nothing (events_in script s (drop (place + 1) tasks) ++ others_in script s) ≡ all
+frees_behind script s tasks place event d all within is asks rest =
+    let later = events_in script s (drop (place + 1) tasks) in
+    let others = others_in script s in
+    sym (ap (λ ts. filter asks_nothing (events_in script s ts ++ others)) (next_task tasks place d within)
+    ∙ ap (λ here. filter asks_nothing ((here ++ later) ++ others)) (sym is) ∙ skipped event later others asks)
+    ∙ rest
+  where
+    skipped : (e : Option Event) (xs ys : List Event) → IfSome e (λ one. asks_nothing one ≡ false)
+        → filter asks_nothing ((option_to_list e ++ xs) ++ ys) ≡ filter asks_nothing (xs ++ ys)
+    skipped None xs ys f = refl
+    skipped (Some one) xs ys f = ap (λ b. cond b (one ∷ filter asks_nothing (xs ++ ys)) (filter asks_nothing (xs ++ ys))) f
+
+-- and the event at a place is it, where it asks for nothing
+pub frees_here : (script : Script) (s : CoreState) (tasks : List Task) (place : ℕ) (event : Event) (d : Task) (all : List Event) → place < length tasks
+    → (let task = get_or tasks place d in event ∷ [] ≡ events_of script s task.pid task.phase) → asks_nothing event ≡ true
+    → filter asks_nothing (events_in script s (drop place tasks) ++ others_in script s) ≡ all → Some event ≡ slice_get all 0
+frees_here script s tasks place event d all within is asks rest =
+    let later = events_in script s (drop (place + 1) tasks) in
+    let others = others_in script s in
+    sym (ap (λ b. slice_get (cond b (event ∷ filter asks_nothing (later ++ others)) (filter asks_nothing (later ++ others))) 0) asks)
+    ∙ ap (λ events. slice_get events 0)
+    (ap (λ here. filter asks_nothing ((here ++ later) ++ others)) is
+    ∙ sym (ap (λ ts. filter asks_nothing (events_in script s ts ++ others)) (next_task tasks place d within)) ∙ rest)
 
 pub one_of : (event : Option Event) → is_some event ≡ true → length (option_to_list event) ≡ 1
 one_of (Some event) e = refl

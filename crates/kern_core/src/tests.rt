@@ -5,6 +5,7 @@ ghost use Rattle.kern_core.specs.Sample.{live_at, sample, world_at};
 use crate::{Choosing, Core, Relief, run_to_end};
 use kabi_types::{Cached, Call, CallKind, Chooser, End, Entry, Event, Need, Noted, Numbers, Reply};
 use posix_defs::{Turned, Turner};
+use std::alloc::{AllocError, Global};
 use std::test::Fail;
 
 /// A store of one process, which asks for its pid and exits: how many calls are behind it, and whether it lives.
@@ -142,20 +143,28 @@ const ENDS: &[(u32, usize, End, u64)] = &[
     (100, 6, End::Finished, 2304),
 ];
 
+/// Takes the default event as long as there is one.
+fn run_by_default(core: &mut Core<OnePid>) {
+    while let Some(event) = core.default_event() {
+        core.step(event);
+    }
+}
+
+/// Whether a run is over with so many of the events, and this end and charge.
+fn is_over(core: &Core<OnePid>, taken: usize, end: End, charged: u64) -> bool {
+    let told = (core.run().len(), core.ended(), core.charged());
+    let whole = (core.peak(), core.reads());
+    told == (taken, Some(end), charged) && whole == (2816, 0) && are_first_events(core.run())
+}
+
 #[test]
 fn runs_to_its_end(rt: HostRuntime) -> Result<(), Fail> {
     for (steps, taken, end, charged) in ENDS {
         let mut core = Core::boot(rt.alloc(), at_boot(), *steps, 8192)?;
-        while let Some(event) = core.default_event() {
-            core.step(event);
-        }
-        let ran = core.run().len() == *taken && are_first_events(core.run());
-        let ended = core.ended() == Some(*end) && core.charged() == *charged;
-        assert!(rt; ran && ended, "in {steps} steps");
-        assert!(rt;
-            core.peak() == 2816 && core.reads() == 0,
-            "in {steps} steps"
-        );
+        run_by_default(&mut core);
+        let over = is_over(&core, *taken, *end, *charged);
+        drop(core);
+        assert!(rt; over, "in {steps} steps");
     }
     Ok(())
 }
@@ -167,21 +176,39 @@ const OFFERED: &[Event] = &[
     Event::Ask(1),
 ];
 
+/// Whether this event is all that the core offers.
+fn offers_only(core: &Core<OnePid>, event: Event) -> bool {
+    let offered = (core.enabled(0), core.enabled(1), core.count());
+    offered == (Some(event), None, 1) && core.ended() == None
+}
+
+/// Takes the default event, and tells whether it was this one and no other was offered.
+fn takes_only(core: &mut Core<OnePid>, event: Event) -> bool {
+    if !offers_only(core, event) {
+        return false;
+    }
+    match core.default_event() {
+        Some(next) => core.step(next).event == event,
+        None => false,
+    }
+}
+
+/// Whether the events that are offered come one after another, each alone.
+fn takes_what_is_offered(core: &mut Core<OnePid>) -> bool {
+    for event in OFFERED {
+        if !takes_only(core, *event) {
+            return false;
+        }
+    }
+    true
+}
+
 #[test]
 fn offers_one_event_at_a_time(rt: HostRuntime) -> Result<(), Fail> {
     let mut core = Core::boot(rt.alloc(), at_boot(), 100, 8192)?;
-    for event in OFFERED {
-        let offers = core.enabled(0) == Some(*event) && core.enabled(1) == None;
-        assert!(rt;
-            core.ended() == None && core.count() == 1,
-            "before {event:?}"
-        );
-        assert!(rt; offers, "before {event:?}");
-        let next = core.default_event().ok_or("an event")?;
-        assert!(rt; core.step(next).event == *event);
-    }
+    let taken = takes_what_is_offered(&mut core);
     let store = core.close();
-    assert!(rt; store.place == 1 && store.lives);
+    assert!(rt; taken && store.place == 1 && store.lives);
     Ok(())
 }
 
@@ -189,7 +216,9 @@ fn offers_one_event_at_a_time(rt: HostRuntime) -> Result<(), Fail> {
 fn runs_as_its_chooser_says(rt: HostRuntime) -> Result<(), Fail> {
     let mut core = Core::boot(rt.alloc(), at_boot(), 100, 8192)?;
     let end = run_to_end(&mut core, &Chooser::Plain);
-    assert!(rt; end == End::Finished && are_first_events(core.run()));
+    let same = are_first_events(core.run());
+    drop(core);
+    assert!(rt; end == End::Finished && same);
     Ok(())
 }
 
@@ -220,12 +249,25 @@ fn a_seed_gives_the_numbers_of_its_generator(rt: HostRuntime) {
     }
 }
 
+const CHOICES: &[(&[u32], &[Option<u32>])] = &[
+    (&[4294967295], &[Some(4294967295), None, None]),
+    (&[3, 1, 4], &[Some(3), Some(1), Some(4), None, None]),
+];
+
+/// Whether each choice gives its numbers.
+fn choices_give(alloc: Global) -> Result<bool, AllocError> {
+    for (numbers, wanted) in CHOICES {
+        let chooser = Chooser::Choices(Numbers::from_vec(numbers.to_vec(alloc)?));
+        if !gives(&chooser, *wanted) {
+            return Ok(false);
+        }
+    }
+    Ok(true)
+}
+
 #[test]
 fn choices_come_in_their_order_and_then_the_default(rt: HostRuntime) -> Result<(), Fail> {
-    let one = Chooser::Choices(Numbers::from_vec(vec![in rt.alloc(); 4294967295]?));
-    assert!(rt; gives(&one, &[Some(4294967295), None, None]));
-    let three = Chooser::Choices(Numbers::from_vec(vec![in rt.alloc(); 3, 1, 4]?));
-    assert!(rt; gives(&three, &[Some(3), Some(1), Some(4), None, None]));
-    assert!(rt; gives(&Chooser::Plain, &[None, None]));
+    let given = choices_give(rt.alloc())?;
+    assert!(rt; given && gives(&Chooser::Plain, &[None, None]));
     Ok(())
 }

@@ -5,7 +5,7 @@ ghost use Rattle.kern_core.specs.Sample.{caching, caching_at, next_blocks, next_
 
 use crate::picks::picked;
 use crate::{Choosing, Core, Relief};
-use kabi_types::{Cached, Call, Chooser, Entry, Errno, Event, Need, Reply};
+use kabi_types::{Cached, Call, Chooser, Entry, Errno, Event, Need, Noted, Reply};
 use posix_defs::{Turned, Turner};
 use std::test::Fail;
 
@@ -131,7 +131,7 @@ fn at_boot() -> Caching
 
 /// What the events so far say: how many of its calls the process has behind it, how far it is with the next one, and how many
 /// blocks are cached. By hand from the prices: 2176 bytes to cut, 4608 to write, and to read more than the heap can give.
-#[derive(Clone, Copy, Debug, PartialEq, Eq)]
+#[derive(Clone, Copy)]
 struct Told {
     call: u32,
     phase: u32,
@@ -205,12 +205,12 @@ impl Told {
 
 /// Whether the core offers what was told, and nothing more.
 fn offers(core: &Core<Caching>, told: Told) -> bool {
-    core.enabled(0) == told.at(0) && core.enabled(1) == told.at(1) && core.enabled(2) == None
+    let offered = (core.enabled(0), core.enabled(1), core.enabled(2));
+    offered == (told.at(0), told.at(1), None)
 }
 
-#[test]
-fn offers_evictions_over_a_thousand_events(rt: HostRuntime) -> Result<(), Fail> {
-    let mut core = Core::boot(rt.alloc(), at_boot(), 1000, 8192)?;
+/// Takes the events that a generator chooses until the run ends, and tells whether what was told was offered before each.
+fn offers_what_is_told(core: &mut Core<Caching>) -> bool {
     let mut choosing = Choosing::of(&Chooser::Seed(7));
     let mut told = Told {
         call: 0,
@@ -218,34 +218,32 @@ fn offers_evictions_over_a_thousand_events(rt: HostRuntime) -> Result<(), Fail> 
         blocks: 0,
     };
     while core.ended() == None {
-        assert!(rt; offers(&core, told), "at {told:?}");
+        if !offers(core, told) {
+            return false;
+        }
         let (number, rest) = choosing.next();
-        let event = picked(&core, number);
+        let event = picked(core, number);
         let _ = core.step(event);
         told = told.after(event);
         choosing = rest;
     }
-    let evicted = core
-        .run()
-        .iter()
+    true
+}
+
+/// How many evictions there are among these events.
+fn evictions(run: &[Noted]) -> usize {
+    run.iter()
         .filter(|noted| matches!(noted.entry, Some(Entry::Evicted { .. })))
-        .count();
-    assert!(rt; core.run().len() == 1000 && evicted > 100);
-    Ok(())
+        .count()
 }
 
 #[test]
-fn relief_evicts_until_a_call_fits(rt: HostRuntime) -> Result<(), Fail> {
+fn offers_evictions_over_a_thousand_events(rt: HostRuntime) -> Result<(), Fail> {
     let mut core = Core::boot(rt.alloc(), at_boot(), 1000, 8192)?;
-    for relief in RELIEFS {
-        if core.ended() == None {
-            assert!(rt; core.relief() == *relief);
-        }
-        if core.ended() == None {
-            let event = picked(&core, None);
-            let _ = core.step(event);
-        }
-    }
+    let offered = offers_what_is_told(&mut core);
+    let many = core.run().len() == 1000 && evictions(core.run()) > 100;
+    drop(core);
+    assert!(rt; offered && many);
     Ok(())
 }
 
@@ -259,3 +257,31 @@ const RELIEFS: &[Relief] = &[
     Relief::Fits(1),
     Relief::NoneWaiting,
 ];
+
+/// Takes the default event, if the run goes on.
+fn go_on(core: &mut Core<Caching>) {
+    if core.ended() == None {
+        let event = picked(core, None);
+        let _ = core.step(event);
+    }
+}
+
+/// Whether the calls that wait are helped so, where the default is taken behind each help.
+fn helps(core: &mut Core<Caching>) -> bool {
+    for relief in RELIEFS {
+        if core.ended() != None || core.relief() != *relief {
+            return false;
+        }
+        go_on(core);
+    }
+    true
+}
+
+#[test]
+fn relief_evicts_until_a_call_fits(rt: HostRuntime) -> Result<(), Fail> {
+    let mut core = Core::boot(rt.alloc(), at_boot(), 1000, 8192)?;
+    let helped = helps(&mut core);
+    drop(core);
+    assert!(rt; helped);
+    Ok(())
+}

@@ -1,6 +1,6 @@
-use Rattle.std.proofs.Common.{◌≡◌, ◌+◌, length, sym, ap, ◌∙◌, subst, arith}
+use Rattle.std.proofs.Common.{◌≡◌, ◌+◌, length, sym, ap, ◌∙◌, subst, arith, lit≤}
 use Rattle.std.specs.Option.{option_to_list}
-use Rattle.kern_core.proofs.TaskLoops.{Passed, none_of, one_of, passed_more, all_counted}
+use Rattle.kern_core.proofs.TaskLoops.{Passed, none_of, one_of, one_there, passed_none, passed_more, all_counted}
 use Rattle.kern_core.proofs.cores.Core.count.Goals as goal
 use Rattle.kern_core.proofs.cores.Core.count.Goals.{then-is_some, else-is_some}
 
@@ -29,3 +29,11 @@ loop-task-preserved g c =
 pub returns : goal.returns
 returns g c = λ s at sound.
     all_counted _ s _ _ _ _ c.loop-task-test.false (c.count_present.ensures.value ∙ ap length (c.others.ensures s at)) (c.loop-task.invariant.passed s at sound)
+
+pub loop-task-init : goal.loop-task-init
+loop-task-init g c =
+    let same : c.deref-task-items.result.now ≡ c.args.self.now.tasks = c.deref-task-items.ensures.value ∙ ap (λ core. core.tasks) c.self.view_is in
+    record { items = same; few = lit≤ tt; passed = λ s at sound. passed_none _ s _ (at.tasks ∙ sym same) }
+
+pub event_of-requires : goal.event_of-requires
+event_of-requires g c = one_there _ _ _ _ c.loop-task.invariant.items c.loop-task-test.true

@@ -1,11 +1,19 @@
-use Rattle.std.proofs.Common.{◌≡◌, slice_get, Some, None, add-zero, sym, ap, ◌∙◌, subst, arith, ◌-◌, IfSome}
+use Rattle.std.proofs.Common.{◌≡◌, slice_get, Some, None, add-zero, sym, ap, ◌∙◌, subst, arith, lit≤, ◌-◌, IfSome}
 use Rattle.posix_defs.specs.CoreState.{CoreState}
 use Rattle.posix_defs.specs.SoundTasks.{IsSound}
 use Rattle.posix_defs.specs.Choice.{enabled_in}
 use Rattle.kern_core.specs.View.{IsAt, CanTake}
-use Rattle.kern_core.proofs.TaskLoops.{Passed, passed_more, event_at, other_at, can_take, may_be_taken}
+use Rattle.kern_core.proofs.TaskLoops.{Passed, one_there, passed_more, passed_none, event_at, other_at, can_take, may_be_taken}
 use Rattle.kern_core.proofs.cores.Core.enabled.Goals as goal
 use Rattle.kern_core.proofs.cores.Core.enabled.Goals.{in-Some+else-before-i, in_default}
+
+pub loop-task-init : goal.loop-task-init
+loop-task-init g c =
+    let same : c.deref-task-items.result.now ≡ c.args.self.now.tasks = c.deref-task-items.ensures.value ∙ ap (λ core. core.tasks) c.self.view_is in
+    record { items = same; few = lit≤ tt; more = omega arith; passed = λ s at sound. passed_none _ s _ (at.tasks ∙ sym same) }
+
+pub event_of-requires : goal.event_of-requires
+event_of-requires g c = one_there _ _ _ _ c.loop-task.invariant.items c.loop-task-test.true
 
 pub loop-task-preserved : goal.loop-task-preserved
 loop-task-preserved g c =

@@ -1,8 +1,9 @@
-use Rattle.std.proofs.Common.{◌≡◌, ◌≤◌, ◌<◌, length, sym, ap, ◌∙◌, subst, arith}
-use Rattle.std.specs.List.{list_all}
+use Rattle.std.proofs.Common.{◌≡◌, ◌+◌, ◌%◌, ◌≤◌, ◌<◌, length, sym, ap, ◌∙◌, subst, arith}
+use Rattle.std.specs.List.{list_all, slice_get}
+use Rattle.posix_defs.specs.Choice.{enabled_in}
 use Rattle.posix_defs.proofs.Sounds.{is_sound}
 use Rattle.kern_core.specs.Room.{has_event}
-use Rattle.kern_core.proofs.AllEvents.{AllGo, is_one, named_behind, named_there}
+use Rattle.kern_core.proofs.AllEvents.{AllGo, all_go_counted, is_one, named_behind, named_there, none_there}
 use Rattle.kern_core.proofs.NextRun.{few_tasks}
 use Rattle.kern_core.proofs.PickedRuns.{has_some}
 use Rattle.kern_core.proofs.TaskLoops.{may_be_named}
@@ -12,6 +13,27 @@ pub nonzero_rem-number : goal.nonzero_rem-number
 nonzero_rem-number g c =
     let here = c.requires in
     subst (λ n. 0 < n) (sym (c.count.ensures here.state here.is_at (is_sound here.runs))) (has_some (g.T.Turner.script c.args.self.now.store) here.state here.some)
+
+pub overflow_cast-tasks : goal.overflow_cast-tasks
+overflow_cast-tasks g c =
+    let few : length c.self.inside.tasks.items ≤ 100001 = few_tasks g.T.Turner.stands _ _ _ _ _ c.self.invariant in
+    omega (arith, c.len-tasks.ensures)
+
+pub nonzero_rem-place : goal.nonzero_rem-place
+nonzero_rem-place g c =
+    let script = g.T.Turner.script c.args.self.now.store in
+    let here = c.requires in
+    let at = here.is_at in
+    let go : AllGo script here.state c.room.result c.as_slice.result.now = record {
+      whole = omega (arith, at.charged, c.room.ensures);
+      all = sym c.all_have_events.ensures ∙ c.if-not-all_have_events.false;
+    } in
+    let many : c.len-tasks.result ≡ length c.as_slice.result.now = c.len-tasks.ensures ∙ sym c.as_slice.ensures.len in
+    let are = at.tasks ∙ sym (c.as_slice.ensures.value ∙ ap (λ core. core.tasks) c.self.view_is) in
+    let others = c.count_present.ensures.value ∙ ap length (c.others-others.ensures here.state at) in
+    let some : 0 < c.len-tasks.result + c.count_present.result =
+    subst (λ n. 0 < n) (sym (ap (λ n. n + c.count_present.result) many ∙ all_go_counted script here.state _ _ _ are go others)) (has_some script here.state here.some) in
+    omega (arith, some)
 
 pub overflow_add-place : goal.overflow_add-place
 overflow_add-place g c =
@@ -56,3 +78,16 @@ returns-in-None-clause-named g c = λ s at sound.
 pub returns-in-None-clause-may : goal.returns-in-None-clause-may
 returns-in-None-clause-may g c =
     may_be_named g.T.Turner.stands (g.T.Turner.script c.args.self.now.store) c.args.self.now c.args.number c.present_at.result c.requires (returns-in-None-clause-named g c)
+
+pub returns-then-not-all_have_events-clause-named : goal.returns-then-not-all_have_events-clause-named
+returns-then-not-all_have_events-clause-named g c = λ s at sound.
+    c.enabled.ensures.listed s at sound
+    ∙ ap (λ n. slice_get (enabled_in (g.T.Turner.script c.args.self.now.store) s) (c.args.number % n)) (c.count.ensures s at sound)
+
+pub returns-then-not-all_have_events-clause-may : goal.returns-then-not-all_have_events-clause-may
+returns-then-not-all_have_events-clause-may g c = c.enabled.ensures.may
+
+pub overflow_sub-place : goal.overflow_sub-place
+overflow_sub-place g c =
+    subst (λ n. n ≤ c.args.number % (c.len-tasks.result + c.count_present.result)) (c.as_slice-2.ensures.len ∙ sym c.len-tasks.ensures)
+    (none_there _ _ (sym c.task_at.ensures ∙ c.in-None.is))
