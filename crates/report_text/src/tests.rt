@@ -1,3 +1,5 @@
+ghost use Rattle.std.specs.Prelude.{◌≤◌, length};
+
 use crate::{end_line_sim, end_line_threads, entry_line, event_line};
 use kabi_types::{
     Bytes64, Cached, CallKind, End, Entry, Errno, Event, NodeKind, Noted, PollHits, Reply, Revents,
@@ -7,6 +9,11 @@ use std::alloc::AllocGlobal;
 use std::process::Abort;
 use std::test::Fail;
 
+/// A line is this one.
+fn is(rt: &impl Abort, told: String, wanted: &str) {
+    assert!(rt; told.as_str() == wanted, "{told}");
+}
+
 /// The line of an entry by itself, and that of the event that added it.
 fn says(
     rt: &(impl Abort + AllocGlobal),
@@ -14,7 +21,7 @@ fn says(
     alone: &str,
     charged: &str,
 ) -> Result<(), Fail> {
-    let told = entry_line(rt.alloc(), 7, entry)?;
+    is(rt, entry_line(rt.alloc(), 7, entry)?, alone);
     let noted = Noted {
         event: Event::Turn(3),
         kind: None,
@@ -22,11 +29,15 @@ fn says(
         bound: 6272,
         charged: 12160,
     };
-    let line = event_line(rt.alloc(), 7, &noted)?;
-    assert!(rt;
-        told.as_str() == alone && line.as_str() == charged,
-        "{told}{line}"
-    );
+    is(rt, event_line(rt.alloc(), 7, &noted)?, charged);
+    Ok(())
+}
+
+/// The same of each of these entries.
+fn all_say(rt: &(impl Abort + AllocGlobal), rows: &[(Entry, &str, &str)]) -> Result<(), Fail> {
+    for (entry, alone, charged) in rows {
+        says(rt, entry, alone, charged)?;
+    }
     Ok(())
 }
 
@@ -56,10 +67,7 @@ fn entries_of_calls_are_told(rt: HostRuntime) -> Result<(), Fail> {
             "7 p3 gone read charged 12160\n",
         ),
     ];
-    for (entry, alone, charged) in &rows {
-        says(&rt, entry, alone, charged)?;
-    }
-    Ok(())
+    all_say(&rt, &rows)
 }
 
 /// The end of process 3 in its own call.
@@ -96,10 +104,7 @@ fn ends_of_processes_are_told(rt: HostRuntime) -> Result<(), Fail> {
             "7 p3 killed for p1 need 2560 live 3712 charged 12160\n",
         ),
     ];
-    for (entry, alone, charged) in &rows {
-        says(&rt, entry, alone, charged)?;
-    }
-    Ok(())
+    all_say(&rt, &rows)
 }
 
 #[test]
@@ -114,10 +119,11 @@ fn evictions_are_told(rt: HostRuntime) -> Result<(), Fail> {
     )
 }
 
+/// A reply of process 2 to `stat` is told so.
 fn replies(rt: &(impl Abort + AllocGlobal), reply: Reply, wanted: &str) -> Result<(), Fail> {
     let (pid, kind) = (2, CallKind::Stat);
     let told = entry_line(rt.alloc(), 1, &Entry::Done { pid, kind, reply })?;
-    assert!(rt; told.as_str() == wanted, "{told}");
+    is(rt, told, wanted);
     Ok(())
 }
 
@@ -129,31 +135,38 @@ fn replies_are_told(rt: HostRuntime) -> Result<(), Fail> {
         nlink: 1,
         size: 64,
     };
-    let rows = [
-        (Reply::Val(-7), "1 p2 done stat = -7\n"),
-        (Reply::Pair(3, 4), "1 p2 done stat = 3 4\n"),
-        (Reply::Stat(info), "1 p2 done stat = dir 1 1 64\n"),
-        (Reply::Waited(4, 1792), "1 p2 done stat = 4 exit 7\n"),
-        (Reply::Waited(4, 9), "1 p2 done stat = 4 signal 9\n"),
-        (Reply::Fail(Errno::EAGAIN), "1 p2 done stat = EAGAIN\n"),
-    ];
-    for (reply, wanted) in rows {
-        replies(&rt, reply, wanted)?;
-    }
-    let bytes = Bytes64::of(&[0, 10, 171, 255]).expect(&rt, "four bytes");
-    replies(&rt, Reply::Bytes(bytes), "1 p2 done stat = x000aabff\n")?;
-    let none = Bytes64::of(&[]).expect(&rt, "no byte");
-    replies(&rt, Reply::Bytes(none), "1 p2 done stat = x\n")?;
-    let revents = Revents::of(&[1, 0, 16]).expect(&rt, "three sets");
-    let polled = PollHits { hits: 2, revents };
+    replies(&rt, Reply::Val(-7), "1 p2 done stat = -7\n")?;
+    replies(&rt, Reply::Pair(3, 4), "1 p2 done stat = 3 4\n")?;
+    replies(&rt, Reply::Stat(info), "1 p2 done stat = dir 1 1 64\n")?;
+    replies(&rt, Reply::Waited(4, 1792), "1 p2 done stat = 4 exit 7\n")?;
+    replies(&rt, Reply::Waited(4, 9), "1 p2 done stat = 4 signal 9\n")?;
+    replies(&rt, Reply::Fail(Errno::EAGAIN), "1 p2 done stat = EAGAIN\n")
+}
+
+fn bytes(bytes: &[u8]) -> Reply
+    requires { length bytes.now ≤ 64 }
+{
+    Reply::Bytes(Bytes64::of(bytes).unwrap())
+}
+
+fn polled(hits: u32, events: &[u8]) -> Reply
+    requires { length events.now ≤ 8 }
+{
+    let revents = Revents::of(events).unwrap();
+    Reply::Polled(PollHits { hits, revents })
+}
+
+#[test]
+fn lists_in_replies_are_told(rt: HostRuntime) -> Result<(), Fail> {
+    let line = "1 p2 done stat = x000aabff\n";
+    replies(&rt, bytes(&[0, 10, 171, 255]), line)?;
+    replies(&rt, bytes(&[]), "1 p2 done stat = x\n")?;
     replies(
         &rt,
-        Reply::Polled(polled),
+        polled(2, &[1, 0, 16]),
         "1 p2 done stat = 2 revents 1 0 16\n",
     )?;
-    let revents = Revents::of(&[]).expect(&rt, "no set");
-    let polled = PollHits { hits: 0, revents };
-    replies(&rt, Reply::Polled(polled), "1 p2 done stat = 0 revents\n")
+    replies(&rt, polled(0, &[]), "1 p2 done stat = 0 revents\n")
 }
 
 const EVENTS: &[(Event, &str)] = &[
@@ -176,8 +189,7 @@ fn events_without_an_entry_are_told(rt: HostRuntime) -> Result<(), Fail> {
             bound: 2560,
             charged: 5888,
         };
-        let line = event_line(rt.alloc(), 38, &noted)?;
-        assert!(rt; line.as_str() == *wanted, "{line}");
+        is(&rt, event_line(rt.alloc(), 38, &noted)?, *wanted);
     }
     Ok(())
 }
@@ -209,10 +221,12 @@ const ENDS: &[(End, &str, &str)] = &[
 fn ends_are_told(rt: HostRuntime) -> Result<(), Fail> {
     let (alloc, reads) = (rt.alloc(), u64::MAX);
     for (end, sim, threads) in ENDS {
-        let line = end_line_sim(alloc, end, 44, 2304, 20096, reads)?;
-        assert!(rt; line.as_str() == *sim, "{line}");
-        let line = end_line_threads(alloc, end, 44, 2304, reads)?;
-        assert!(rt; line.as_str() == *threads, "{line}");
+        is(&rt, end_line_sim(alloc, end, 44, 2304, 20096, reads)?, *sim);
+        is(
+            &rt,
+            end_line_threads(alloc, end, 44, 2304, reads)?,
+            *threads,
+        );
     }
     Ok(())
 }
