@@ -1,12 +1,14 @@
--- A line's words, where there are just two or four of them.
-use Rattle.std.proofs.Common.{◌≡◌, ℕ, ◌≤◌, ◌<◌, List, [], ◌∷◌, ◌∙◌, length, get_or, Ok, ap, sym, arith}
+-- A line's words, where there are just a few of them.
+use Rattle.std.proofs.Common.{◌≡◌, ℕ, ◌≤◌, ◌<◌, List, [], ◌∷◌, ◌∙◌, length, get_or, Result, Ok, Err, refl, ap, sym, arith}
+use Rattle.kabi_types.specs.declared.scripts.FaultKind.{FaultKind}
+use Rattle.kabi_types.specs.declared.scripts.FaultKind.TheVariants as fault
 use Rattle.kabi_types.specs.declared.scripts.Operand.{Operand}
 use Rattle.kabi_types.specs.declared.scripts.Statement.TheVariants as statement
-use Rattle.kabi_types.specs.declared.scripts.Test.{Test}
 use Rattle.posix_defs.specs.declared.said.Spoken.TheVariants as spoken
 use Rattle.posix_defs.specs.declared.said.Word.{Word}
-use Rattle.posix_defs.specs.ScriptLines.{add_said, if_said, set_said, test_said}
-use Rattle.posix_defs.specs.ScriptValues.{◌>>=◌, both, name, register, value}
+use Rattle.posix_defs.specs.ScriptLines.{CallOperands, add_said, jump_said, label_said, only, set_said}
+use Rattle.posix_defs.specs.ScriptValues.{◌>>=◌, both, least, name, register, value, with}
+use Rattle.script_parse.specs.Reading.{change_said}
 
 pub two_are : (words : List Word) (first second : Word) → 2 ≤ length words → length words < 3 → first ≡ get_or words 0 first → second ≡ get_or words 1 second
     → words ≡ first ∷ second ∷ []
@@ -27,24 +29,75 @@ four_are (a ∷ b ∷ c ∷ d ∷ []) first second third fourth least most is_fi
     ∙ ap (λ w. first ∷ second ∷ w ∷ d ∷ []) (sym is_third) ∙ ap (λ w. first ∷ second ∷ third ∷ w ∷ []) (sym is_fourth)
 four_are (a ∷ b ∷ c ∷ d ∷ e ∷ rest) first second third fourth least most is_first is_second is_third is_fourth = absurd (omega (arith, most))
 
--- the parts of an if, each as it was read
-pub if_is : (words : List Word) (left test right label : Word) (said : Test) (to : List ℕ) (a b : Operand) → words ≡ left ∷ test ∷ right ∷ label ∷ []
-    → Ok said ≡ test_said test → Ok to ≡ name label → Ok (a, b) ≡ both (value left) (value right) → Ok (spoken.If a said b to) ≡ if_said words
-if_is words left test right label said to a b are is_test is_label are_values =
-    ap (λ v. v >>= λ p. Ok (spoken.If p.0 said p.1 to)) are_values
-    ∙ ap (λ n. n >>= λ l. both (value left) (value right) >>= λ p. Ok (spoken.If p.0 said p.1 l)) is_label
-    ∙ ap (λ t. t >>= λ u. name label >>= λ l. both (value left) (value right) >>= λ p. Ok (spoken.If p.0 u p.1 l)) is_test
-    ∙ ap if_said (sym are)
+-- The least fault of two is the same, whichever stands first.
+least_same : (a b : FaultKind) → least a b ≡ least b a
+least_same fault.NotUtf8 fault.NotUtf8 = refl
+least_same fault.UnknownWord fault.NotUtf8 = refl
+least_same fault.BadNumber fault.NotUtf8 = refl
+least_same fault.OutOfRange fault.NotUtf8 = refl
+least_same fault.NoSuchLabel fault.NotUtf8 = refl
+least_same fault.WrongWay fault.NotUtf8 = refl
+least_same fault.TwiceDefined fault.NotUtf8 = refl
+least_same fault.Unended fault.NotUtf8 = refl
+least_same fault.NoInit fault.NotUtf8 = refl
+least_same fault.TooLong fault.NotUtf8 = refl
+least_same fault.NotBuilt fault.NotUtf8 = refl
+least_same a b = refl
 
--- the parts of a set and of an add, each as it was read
-pub set_is : (words : List Word) (target amount : Word) (r : ℕ) (v : Operand) → words ≡ target ∷ amount ∷ [] → Ok r ≡ register target → Ok v ≡ value amount
-    → Ok (spoken.Whole (statement.Set r v)) ≡ set_said words
-set_is words target amount r v are is_target is_amount =
-    ap (λ said. said >>= λ w. Ok (spoken.Whole (statement.Set r w))) is_amount
-    ∙ ap (λ said. said >>= λ q. value amount >>= λ w. Ok (spoken.Whole (statement.Set q w))) is_target ∙ ap set_said (sym are)
+abbrev pub of_value_and_text : Operand × List ℕ → CallOperands
+of_value_and_text p = (p.0 ∷ [], p.1 ∷ [])
 
-pub add_is : (words : List Word) (target amount : Word) (r : ℕ) (v : Operand) → words ≡ target ∷ amount ∷ [] → Ok r ≡ register target → Ok v ≡ value amount
-    → Ok (spoken.Whole (statement.Add r v)) ≡ add_said words
-add_is words target amount r v are is_target is_amount =
-    ap (λ said. said >>= λ w. Ok (spoken.Whole (statement.Add r w))) is_amount
-    ∙ ap (λ said. said >>= λ q. value amount >>= λ w. Ok (spoken.Whole (statement.Add q w))) is_target ∙ ap add_said (sym are)
+abbrev pub of_text_and_value : List ℕ × Operand → CallOperands
+of_text_and_value p = (p.1 ∷ [], p.0 ∷ [])
+
+-- a value and a text, read in either order
+pub swapped : (v : Result Operand FaultKind) (t : Result (List ℕ) FaultKind) → with of_value_and_text (both v t) ≡ with of_text_and_value (both t v)
+swapped (Ok a) (Ok b) = refl
+swapped (Ok a) (Err f) = refl
+swapped (Err e) (Ok b) = refl
+swapped (Err e) (Err f) = ap Err (least_same e f)
+
+abbrev change : ℕ → Operand → Result (ℕ × Operand) FaultKind
+change r v = Ok (r, v)
+
+-- a register and a value, set or added
+pub set_is : (words : List Word) → (change_said words >>= λ p. Ok (spoken.Whole (statement.Set p.0 p.1))) ≡ set_said words
+set_is [] = refl
+set_is (a ∷ []) = refl
+set_is (target ∷ amount ∷ []) = go (register target)
+  where
+    go : (r : Result ℕ FaultKind) → (r >>= λ r. value amount >>= change r) >>= (λ p. Ok (spoken.Whole (statement.Set p.0 p.1)))
+        ≡ (r >>= λ r. value amount >>= λ v. Ok (spoken.Whole (statement.Set r v)))
+    go (Ok r) = more (value amount)
+      where
+        more : (v : Result Operand FaultKind) → (v >>= change r) >>= (λ p. Ok (spoken.Whole (statement.Set p.0 p.1))) ≡ (v >>= λ v. Ok (spoken.Whole (statement.Set r v)))
+        more (Ok v) = refl
+        more (Err e) = refl
+    go (Err e) = refl
+set_is (a ∷ b ∷ c ∷ rest) = refl
+
+pub add_is : (words : List Word) → (change_said words >>= λ p. Ok (spoken.Whole (statement.Add p.0 p.1))) ≡ add_said words
+add_is [] = refl
+add_is (a ∷ []) = refl
+add_is (target ∷ amount ∷ []) = go (register target)
+  where
+    go : (r : Result ℕ FaultKind) → (r >>= λ r. value amount >>= change r) >>= (λ p. Ok (spoken.Whole (statement.Add p.0 p.1)))
+        ≡ (r >>= λ r. value amount >>= λ v. Ok (spoken.Whole (statement.Add r v)))
+    go (Ok r) = more (value amount)
+      where
+        more : (v : Result Operand FaultKind) → (v >>= change r) >>= (λ p. Ok (spoken.Whole (statement.Add p.0 p.1))) ≡ (v >>= λ v. Ok (spoken.Whole (statement.Add r v)))
+        more (Ok v) = refl
+        more (Err e) = refl
+    go (Err e) = refl
+add_is (a ∷ b ∷ c ∷ rest) = refl
+
+-- the one word of a jump, or of a label
+pub jump_is : (words : List Word) → with spoken.Jump (only name words) ≡ jump_said words
+jump_is [] = refl
+jump_is (label ∷ []) = refl
+jump_is (a ∷ b ∷ rest) = refl
+
+pub label_is : (words : List Word) → with spoken.Label (only name words) ≡ label_said words
+label_is [] = refl
+label_is (label ∷ []) = refl
+label_is (a ∷ b ∷ rest) = refl

@@ -24,6 +24,7 @@ pub mod PrintedWords
 pub mod TextMeaning
 pub mod TextParts
 pub mod TextReads
+pub mod Told
 pub mod ValidLines
 pub mod ValidPrograms
 pub mod ValidScripts

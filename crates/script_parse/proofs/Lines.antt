@@ -17,7 +17,7 @@ use Rattle.script_parse.specs.Reading.{Outcome, TakesLine, lines_in}
 use Rattle.posix_defs.specs.ScriptLines.{said_at_top, said_in_program}
 use Rattle.script_parse.specs.LabelPlaces.{placed_body}
 use Rattle.posix_defs.specs.ScriptValues.{with, ◌>>=◌}
-use Rattle.script_parse.specs.Drafting.{Draft, Opened, State, Reads, ended, goes_on, stops, at_start, at_line, closed, finish, may_begin, outside, step, step_at_top, step_in_program, with_setting, within}
+use Rattle.script_parse.specs.Drafting.{Draft, Opened, State, Reads, ended, goes_on, stops, at_start, at_line, closed, finish, may_begin, outside, step, step_at_top, step_in_program, with_setting, within, drafted_script}
 
 abbrev is_newline : ℕ → Bool
 is_newline byte = byte == 10
@@ -108,12 +108,12 @@ pub one_line : (state state' : State) (line : ℕ) (first : List ℕ) → TakesL
 one_line state state' line first takes = omega (arith, ap counted takes.2, step_counts state.draft state.opened line takes.0)
 
 -- where reading a line failed, so did reading the text
-pub failed : (text : List ℕ) (state : State) (line : ℕ) (first : List ℕ) (error : ParseError)
-    → Outcome {X = State} (λ s. s) (Err error) (TakesLine state line first)
+pub failed : {X Z : Type 0} (view : X → State) (show : Z → Script) (text : List ℕ) (state : State) (line : ℕ) (first : List ℕ) (error : ParseError)
+    → Outcome view (Err error) (TakesLine state line first)
     → ((fault : ScriptFault) → TakesLine state line first (Err fault) → Reads at_start 1 (lines text) (Err fault))
-    → Outcome {X = Script} (λ s. s) (Err error) (Reads at_start 1 (lines text))
-failed text state line first (error.Bad fault) told reads = reads fault told
-failed text state line first error.Memory told reads = tt
+    → Outcome show (Err error) (Reads at_start 1 (lines text))
+failed view show text state line first (error.Bad fault) told reads = reads fault told
+failed view show text state line first error.Memory told reads = tt
 
 pub outcome_is : {A : Type 0} (P Q : Result A ScriptFault → Type 0) (answer : Result A ParseError) → ((o : Result A ScriptFault) → P o → Q o)
     → Outcome (λ a. a) answer P → Outcome (λ a. a) answer Q
@@ -122,7 +122,9 @@ outcome_is P Q (Err (error.Bad fault)) goes told = goes (Err fault) told
 outcome_is P Q (Err error.Memory) goes told = tt
 
 -- what stands at the end of the text
-pub finished : (text : List ℕ) (state : State) (answer : Result Script ParseError) → Outcome (λ s. s) answer (λ said. said ≡ finish state)
-    → Reads at_start 1 (lines text) (finish state) → Outcome (λ s. s) answer (Reads at_start 1 (lines text))
-finished text state answer is reads = outcome_is (λ said. said ≡ finish state) (Reads at_start 1 (lines text)) answer
-    (λ said same. subst (Reads at_start 1 (lines text)) (sym same) reads) is
+pub finished : (text : List ℕ) (state : State) (answer : Result (Unit {0}) ParseError)
+    → Outcome (λ _. drafted_script state.draft) answer (λ said. said ≡ finish state)
+    → Reads at_start 1 (lines text) (finish state) → Outcome (λ _. drafted_script state.draft) answer (Reads at_start 1 (lines text))
+finished text state (Ok _) is reads = subst (Reads at_start 1 (lines text)) (sym is) reads
+finished text state (Err (error.Bad fault)) is reads = subst (Reads at_start 1 (lines text)) (sym is) reads
+finished text state (Err error.Memory) is reads = tt

@@ -115,8 +115,12 @@ step_in_program draft opened line (Ok inside.Silent) = Ok (within draft opened)
 step_in_program draft opened line (Ok (inside.Says said)) = Ok (within draft (with_line opened (record { line = line; said = Ok said })))
 step_in_program draft opened line (Ok inside.Ends) = closed draft opened.name (placed_body opened.said)
 
+-- what the words of a line outside programs add
+abbrev pub top_added : Draft → ℕ → Result (List Word) FaultKind → Result State FaultKind
+top_added draft line words = words >>= said_at_top >>= step_at_top draft line
+
 abbrev pub step_from : Draft → Option Opened → ℕ → Result (List Word) FaultKind → Result State ScriptFault
-step_from draft None line words = at_line line (words >>= said_at_top >>= step_at_top draft line)
+step_from draft None line words = at_line line (top_added draft line words)
 step_from draft (Some opened) line words = step_in_program draft opened line (words >>= said_in_program)
 
 -- what a line adds

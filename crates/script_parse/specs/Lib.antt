@@ -1,3 +1,4 @@
 pub mod LabelPlaces
 pub mod Drafting
 pub mod Reading
+pub mod Printing

@@ -1,18 +1,23 @@
 -- What the reader's functions give, in the reader's own shapes.
-use Rattle.std.specs.Prelude.{ℕ, ⊤, None, Some, ◌<◌, ◌≡◌, List, length, Option, IfSome, MatchOption, Result, Ok, Err}
+use Rattle.std.specs.Prelude.{ℕ, ⊤, Bool, true, false, None, Some, ◌<◌, ◌≡◌, List, [], ◌∷◌, length, Option, IfSome, MatchOption, Result, Ok, Err}
 use Rattle.std.specs.Borrow.{Bor}
 use Rattle.std.specs.Global.{Global}
 use Rattle.std.specs.Prelude.{Vec}
 use Rattle.kabi_types.specs.declared.scripts.FaultKind.{FaultKind}
-use Rattle.posix_defs.specs.ScriptValues.{least, both}
+use Rattle.kabi_types.specs.declared.scripts.FaultKind.TheVariants.{UnknownWord}
+use Rattle.kabi_types.specs.declared.scripts.Operand.{Operand}
+use Rattle.posix_defs.specs.ScriptValues.{◌>>=◌, least, both, with, name, register, value}
+use Rattle.posix_defs.specs.ScriptLines.{CallOperands, test_said}
 use Rattle.kabi_types.specs.declared.scripts.ScriptFault.{ScriptFault}
 use Rattle.kabi_types.specs.declared.scripts.Statement.{Statement}
 use Rattle.script_parse.specs.declared.parse_error.ParseError.{ParseError}
 use Rattle.script_parse.specs.declared.parse_error.ParseError.TheVariants as error
+use Rattle.posix_defs.specs.declared.said.Spoken.{Spoken}
+use Rattle.posix_defs.specs.declared.said.Spoken.TheVariants as spoken
 use Rattle.posix_defs.specs.declared.said.Word.{Word}
 use Rattle.script_parse.specs.declared.refused.Refused.{Refused}
 use Rattle.script_parse.specs.declared.refused.Refused.TheVariants as refused
-use Rattle.script_parse.specs.Drafting.{Opened, State, step}
+use Rattle.script_parse.specs.Drafting.{Draft, Opened, State, outside, within, step}
 use Rattle.posix_defs.specs.ScriptWords.{Words, LineWords, with_word}
 
 -- what follows is shorter than what was given
@@ -41,6 +46,12 @@ BothTell {A} {B} first second joined =
     (a : Result A FaultKind) (b : Result B FaultKind) → Tells (λ said. said) first (λ said. said ≡ a) → Tells (λ said. said) second (λ said. said ≡ b)
     → Tells (λ said. said) joined (λ said. said ≡ both a b)
 
+-- a value and a text, joined as a call's operands: whatever each of the two tells
+abbrev pub TellOneOfEach : Result Operand Refused → Result (List ℕ) Refused → Result CallOperands Refused → Type 0
+TellOneOfEach value text joined =
+    (v : Result Operand FaultKind) (t : Result (List ℕ) FaultKind) → Tells (λ said. said) value (λ said. said ≡ v) → Tells (λ said. said) text (λ said. said ≡ t)
+    → Tells (λ said. said) joined (λ said. said ≡ with (λ p. (p.0 ∷ [], p.1 ∷ [])) (both v t))
+
 -- A reader of lines answered this, unless memory ran out.
 abbrev pub Outcome : {X Y : Type 0} → (X → Y) → Result X ParseError → (Result Y ScriptFault → Type 0) → Type 0
 Outcome view (Ok x) is = is (Ok (view x))
@@ -55,11 +66,24 @@ abbrev pub Sets : {A : Type 0} → Result (Unit {0}) FaultKind → A → Result 
 Sets (Ok _) new said = said ≡ Ok new
 Sets (Err kind) new said = said ≡ Err kind
 
--- the same of a line of a text, unless memory ran out
-abbrev pub Steps : {A : Type 0} → Result (Unit {0}) ParseError → A → Result A ScriptFault → Type 0
-Steps (Ok _) new said = said ≡ Ok new
-Steps (Err (error.Bad fault)) new said = said ≡ Err fault
-Steps (Err error.Memory) new said = ⊤
+-- a register, and a value
+abbrev pub change_said : List Word → Result (ℕ × Operand) FaultKind
+change_said (target ∷ amount ∷ []) = register target >>= λ r. value amount >>= λ v. Ok (r, v)
+change_said _ = Err UnknownWord
+
+-- a jump to a label, where a test holds of two values
+abbrev pub if_of : Word → Word → Word → Word → Result Spoken FaultKind
+if_of left test right label = test_said test >>= λ t. name label >>= λ l. both (value left) (value right) >>= λ p. Ok (spoken.If p.0 t p.1 l)
+
+-- why a line isn't taken
+abbrev pub refusal_at : ℕ → Refused → ParseError
+refusal_at line (refused.Fault kind) = error.Bad (record { line = line; what = kind })
+refusal_at line refused.Memory = error.Memory
+
+-- where the reader stands in a program, or behind it where it has ended
+abbrev pub now_at : Draft → Opened → Bool → State
+now_at draft opened true = outside draft
+now_at draft opened false = within draft opened
 
 -- how many lines of the open program say something
 abbrev pub lines_of_opened : Option Opened → ℕ

@@ -5,6 +5,7 @@ mod calls;
 mod drafts;
 mod laws;
 mod operands;
+mod output;
 mod parse_error;
 mod places;
 mod printing;

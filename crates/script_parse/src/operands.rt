@@ -1,7 +1,7 @@
 //! The operands of calls: values and texts, each where the call wants it.
 
 ghost use Rattle.std.specs.Prelude.{◌≡◌, ◌∷◌, [], Ok};
-ghost use Rattle.script_parse.specs.Reading.{Tells, BothTell, least_with};
+ghost use Rattle.script_parse.specs.Reading.{Tells, BothTell, TellOneOfEach, least_with};
 ghost use Rattle.posix_defs.specs.ScriptLines as spec;
 ghost use Rattle.posix_defs.specs.ScriptValues.{each};
 ghost use Rattle.posix_defs.specs.ScriptValues as values;
@@ -60,27 +60,6 @@ fn two_texts(alloc: Global, first: &Word, second: &Word) -> Result<(Text, Text),
     ensures { Tells (λ said. said) result (λ said. said ≡ values.both (values.path first.now) (values.path second.now)) }
 {
     both(path(alloc, first), path(alloc, second))
-}
-
-/// A path and a value.
-fn text_and_value(alloc: Global, first: &Word, second: &Word) -> Result<(Text, Operand), Refused>
-    ensures { Tells (λ said. said) result (λ said. said ≡ values.both (values.path first.now) (values.value second.now)) }
-{
-    both(path(alloc, first), operand(second))
-}
-
-/// A value and a path.
-fn value_and_text(alloc: Global, first: &Word, second: &Word) -> Result<(Operand, Text), Refused>
-    ensures { Tells (λ said. said) result (λ said. said ≡ values.both (values.value first.now) (values.path second.now)) }
-{
-    both(operand(first), path(alloc, second))
-}
-
-/// A value and the bytes of a `store`.
-fn value_and_stored(alloc: Global, first: &Word, second: &Word) -> Result<(Operand, Text), Refused>
-    ensures { Tells (λ said. said) result (λ said. said ≡ values.both (values.value first.now) (values.stored second.now)) }
-{
-    both(operand(first), stored(alloc, second))
 }
 
 /// The values of words, or the least of their faults.
@@ -147,6 +126,18 @@ fn one_of_each(alloc: Global, value: Operand, text: Text) -> Result<(Operands, T
     Ok((Operands::from_vec(values), Texts::from_vec(texts)))
 }
 
+/// A value and a text, as they were read.
+fn value_and_text(
+    alloc: Global,
+    value: Result<Operand, Refused>,
+    text: Result<Text, Refused>,
+) -> Result<(Operands, Texts), Refused>
+    ensures { TellOneOfEach value text result }
+{
+    let (value, text) = both(value, text)?;
+    one_of_each(alloc, value, text)
+}
+
 fn one_path(alloc: Global, words: &[Word]) -> Result<(Operands, Texts), Refused>
     ensures { Tells (λ said. said) result (λ said. said ≡ spec.one_path words.now) }
 {
@@ -179,10 +170,7 @@ fn path_value(alloc: Global, words: &[Word]) -> Result<(Operands, Texts), Refuse
     ensures { Tells (λ said. said) result (λ said. said ≡ spec.path_value words.now) }
 {
     match words {
-        [first, second] => {
-            let (text, value) = text_and_value(alloc, first, second)?;
-            one_of_each(alloc, value, text)
-        }
+        [first, second] => value_and_text(alloc, operand(second), path(alloc, first)),
         _ => Err(Refused::Fault(FaultKind::UnknownWord)),
     }
 }
@@ -191,10 +179,7 @@ fn value_path(alloc: Global, words: &[Word]) -> Result<(Operands, Texts), Refuse
     ensures { Tells (λ said. said) result (λ said. said ≡ spec.value_path words.now) }
 {
     match words {
-        [first, second] => {
-            let (value, text) = value_and_text(alloc, first, second)?;
-            one_of_each(alloc, value, text)
-        }
+        [first, second] => value_and_text(alloc, operand(first), path(alloc, second)),
         _ => Err(Refused::Fault(FaultKind::UnknownWord)),
     }
 }
@@ -203,10 +188,7 @@ fn value_bytes(alloc: Global, words: &[Word]) -> Result<(Operands, Texts), Refus
     ensures { Tells (λ said. said) result (λ said. said ≡ spec.value_bytes words.now) }
 {
     match words {
-        [first, second] => {
-            let (value, text) = value_and_stored(alloc, first, second)?;
-            one_of_each(alloc, value, text)
-        }
+        [first, second] => value_and_text(alloc, operand(first), stored(alloc, second)),
         _ => Err(Refused::Fault(FaultKind::UnknownWord)),
     }
 }

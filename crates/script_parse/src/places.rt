@@ -128,20 +128,17 @@ fn placed(
 fn statements_of(
     alloc: Global,
     places: &IndexMap<Name27, u32>,
-    lines: Vec<Stated>,
+    lines: &mut Vec<Stated>,
 ) -> Result<Vec<Statement>, ParseError>
-    requires { vec_len lines ≤ 4294967295 }
-    ensures { TellsBody result (spec.body_from (λ name. get ⟦<Name27 as PartialEq>⟧.eq places.now name) 0 lines.items) }
+    requires { vec_len lines.old ≤ 4294967295 }
+    ensures { TellsBody result (spec.body_from (λ name. get ⟦<Name27 as PartialEq>⟧.eq places.now name) 0 lines.old.items) }
 {
-    let mut rest = lines;
     let mut body = Vec::new(alloc);
     let mut fault = None;
-    while let Some(stated) = rest.pop() {
+    while let Some(stated) = lines.pop() {
         let line = stated.line;
-        match placed(places, rest.len() as u32, stated.said) {
-            Ok(statement) => {
-                body.push(statement)?;
-            }
+        match placed(places, lines.len() as u32, stated.said) {
+            Ok(statement) => body.push(statement)?,
             Err(what) => fault = Some(ScriptFault { line, what }),
         }
     }
@@ -154,10 +151,10 @@ fn statements_of(
     }
 }
 
-/// The statements of a program's lines, or the fault of the first line that has one.
-pub fn placed_body(alloc: Global, lines: Vec<Stated>) -> Result<Vec<Statement>, ParseError>
-    requires { vec_len lines ≤ 4294967295 }
-    ensures { TellsBody result (spec.placed_body lines.items) }
+/// The statements of a program's lines, which are taken out, or the fault of the first line that has one.
+pub fn placed_body(alloc: Global, lines: &mut Vec<Stated>) -> Result<Vec<Statement>, ParseError>
+    requires { vec_len lines.old ≤ 4294967295 }
+    ensures { TellsBody result (spec.placed_body lines.old.items) }
 {
     let places = places_of(alloc, lines.as_slice())?;
     statements_of(alloc, &places, lines)

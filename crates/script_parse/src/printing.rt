@@ -1,16 +1,21 @@
 //! Printing a script in its canonical form.
 
-ghost use Rattle.std.specs.Prelude.{◌≡◌, ◌≤◌, ◌++◌, ◌∷◌, [], Some, None, Ok, length, map, string_bytes, slice_get, IfOk, OnOk};
+ghost use Rattle.std.specs.Prelude.{◌≡◌, ◌≤◌, ◌++◌, ◌∷◌, [], Some, None, Ok, length, map, codes, string_bytes, slice_get, IfOk};
 ghost use Rattle.std.specs.List.{flat_map};
 ghost use Rattle.posix_defs.specs.Canonical as spec;
-ghost use Rattle.posix_defs.specs.Lines.{blank};
+ghost use Rattle.posix_defs.specs.Lines.{blank, newline};
 ghost use Rattle.posix_defs.specs.ScriptText.{ReadsText};
 ghost use Rattle.posix_defs.specs.ValidScript.{IsValid};
 ghost use Rattle.posix_defs.specs.Canonical.{line_text, words_text, further_words, word_text};
+ghost use Rattle.posix_defs.specs.declared.said.Word.TheVariants.{Bare};
+ghost use Rattle.script_parse.specs.Printing.{Adds};
 
-use crate::printing_words::{push_call, push_label, push_name, push_operand, push_test};
-use kabi_types::{Chooser, Memory, Policy, Program, Script, Statement};
-use std::alloc::{AllocError, Global};
+use crate::output::Output;
+use crate::printing_words::{
+    push_call, push_label, push_name, push_operand, push_register, push_test,
+};
+use kabi_types::{Chooser, Memory, Operand, Policy, Program, Script, Statement};
+use std::alloc::Global;
 
 /// The canonical text of a script: the lines of its settings, of who chooses among events, and of its programs, with one
 /// blank between words. That of a valid script reads as the same script, where it is no longer than a script may be. An error
@@ -20,28 +25,39 @@ pub fn print(alloc: Global, script: &Script) -> Result<String, Memory>
     ensures reads { IfOk result (λ text. IsValid script.now → length (string_bytes text) ≤ 1048576
         → ReadsText (string_bytes text) (Ok script.now)) }
 {
-    let mut text = String::new(alloc);
-    push_script(&mut text, script)?;
-    Ok(text)
+    let mut out = Output::new(alloc);
+    push_script(&mut out, script);
+    out.finish()
 }
 
-/// Adds the text of a script. Here and below a part of it may have been added where memory is wanting.
-fn push_script(out: &mut String, script: &Script) -> Result<(), AllocError>
-    ensures { OnOk result (string_bytes out.new ≡ string_bytes out.old ++ spec.canonical script.now) }
+/// Adds the text of a script.
+fn push_script(out: &mut Output, script: &Script)
+    ensures { Adds out.old (spec.canonical script.now) out.new }
 {
-    let Script {
-        heap,
-        disk,
-        steps,
-        ..
-    } = script;
-    let policy = policy_word(script.policy);
-    write!(
-        out,
-        "heap {heap}\ndisk {disk}\nsteps {steps}\npolicy {policy}\n"
-    )?;
-    push_chooser(out, &script.chooser)?;
-    push_programs(out, script.programs.items())
+    push_setting(out, "heap", script.heap);
+    push_setting(out, "disk", u64::from(script.disk));
+    push_setting(out, "steps", u64::from(script.steps));
+    push_policy(out, script.policy);
+    push_chooser(out, &script.chooser);
+    push_programs(out, script.programs.items());
+}
+
+/// Adds the line of a setting that is a number.
+fn push_setting(out: &mut Output, word: &str, number: u64)
+    ensures { Adds out.old (line_text (Bare word.now ∷ spec.number_word number ∷ [])) out.new }
+{
+    out.push(word);
+    out.push(" ");
+    out.push_number(number);
+    out.push("\n");
+}
+
+fn push_policy(out: &mut Output, policy: Policy)
+    ensures { Adds out.old (line_text (Bare (codes "policy") ∷ Bare (spec.policy_text policy) ∷ [])) out.new }
+{
+    out.push("policy ");
+    out.push(policy_word(policy));
+    out.push("\n");
 }
 
 fn policy_word(policy: Policy) -> &'static str
@@ -53,103 +69,86 @@ fn policy_word(policy: Policy) -> &'static str
     }
 }
 
-fn push_chooser(out: &mut String, chooser: &Chooser) -> Result<(), AllocError>
-    ensures { OnOk result (string_bytes out.new ≡
-        string_bytes out.old ++ flat_map line_text (spec.chooser_lines chooser.now)) }
+fn push_chooser(out: &mut Output, chooser: &Chooser)
+    ensures { Adds out.old (flat_map line_text (spec.chooser_lines chooser.now)) out.new }
 {
     match chooser {
-        Chooser::Plain => Ok(()),
+        Chooser::Plain => {}
         Chooser::Choices(choices) => {
-            out.push_str("choices")?;
-            push_numbers(out, choices.items())?;
-            out.push_str("\n")
+            out.push("choices");
+            push_numbers(out, choices.items());
+            out.push("\n");
         }
-        Chooser::Seed(seed) => write!(out, "seed {seed}\n"),
+        Chooser::Seed(seed) => push_setting(out, "seed", u64::from(*seed)),
     }
 }
 
 /// Adds numbers, a blank before each.
-fn push_numbers(out: &mut String, numbers: &[u32]) -> Result<(), AllocError>
-    ensures { OnOk result (string_bytes out.new ≡
-        string_bytes out.old ++ further_words (map spec.number_word numbers.now)) }
+fn push_numbers(out: &mut Output, numbers: &[u32])
+    ensures { Adds out.old (further_words (map spec.number_word numbers.now)) out.new }
 {
     for number in numbers {
-        write!(out, " {number}")?;
+        out.push(" ");
+        out.push_number(u64::from(*number));
     }
-    Ok(())
 }
 
-fn push_programs(out: &mut String, programs: &[Program]) -> Result<(), AllocError>
-    ensures { OnOk result (string_bytes out.new ≡
-        string_bytes out.old ++ flat_map line_text (flat_map spec.program_lines programs.now)) }
+fn push_programs(out: &mut Output, programs: &[Program])
+    ensures { Adds out.old (flat_map line_text (flat_map spec.program_lines programs.now)) out.new }
 {
     for program in programs {
-        push_program(out, program)?;
+        push_program(out, program);
     }
-    Ok(())
 }
 
-fn push_program(out: &mut String, program: &Program) -> Result<(), AllocError>
-    ensures { OnOk result (string_bytes out.new ≡
-        string_bytes out.old ++ flat_map line_text (spec.program_lines program.now)) }
+fn push_program(out: &mut Output, program: &Program)
+    ensures { Adds out.old (flat_map line_text (spec.program_lines program.now)) out.new }
 {
-    out.push_str("program ")?;
-    push_name(out, program.name.items())?;
-    out.push_str("\n")?;
-    push_body(out, program.body.items())?;
-    out.push_str("end\n")
+    out.push("program ");
+    push_name(out, program.name.items());
+    out.push("\n");
+    push_body(out, program.body.items());
+    out.push("end\n");
 }
 
 /// Adds a line for each statement.
-fn push_body(out: &mut String, body: &[Statement]) -> Result<(), AllocError>
-    ensures { OnOk result (string_bytes out.new ≡
-        string_bytes out.old ++ flat_map line_text (map (spec.statement_words body.now) body.now)) }
+fn push_body(out: &mut Output, body: &[Statement])
+    ensures { Adds out.old (flat_map line_text (map (spec.statement_words body.now) body.now)) out.new }
 {
     for statement in body {
-        push_statement(out, body, statement)?;
-        out.push_str("\n")?;
+        push_statement(out, body, statement);
+        out.push("\n");
     }
-    Ok(())
 }
 
 /// Adds a statement of a program with this body.
-fn push_statement(
-    out: &mut String,
-    body: &[Statement],
-    statement: &Statement,
-) -> Result<(), AllocError>
-    ensures { OnOk result (string_bytes out.new ≡
-        string_bytes out.old ++ words_text (spec.statement_words body.now statement.now)) }
+fn push_statement(out: &mut Output, body: &[Statement], statement: &Statement)
+    ensures { Adds out.old (words_text (spec.statement_words body.now statement.now)) out.new }
 {
     match statement {
-        Statement::Set(register, value) => {
-            write!(out, "set r{register} ")?;
-            push_operand(out, *value)
-        }
-        Statement::Add(register, value) => {
-            write!(out, "add r{register} ")?;
-            push_operand(out, *value)
-        }
+        Statement::Set(register, value) => push_change(out, "set ", *register, *value),
+        Statement::Add(register, value) => push_change(out, "add ", *register, *value),
         Statement::If {
             left,
             test,
             right,
             place,
         } => {
-            push_test(out, *left, *test, *right)?;
-            push_label(out, body, *place)
+            push_test(out, *left, *test, *right);
+            push_label(out, body, *place);
         }
         Statement::Jump(place) => {
-            out.push_str("jump")?;
-            push_label(out, body, *place)
+            out.push("jump");
+            push_label(out, body, *place);
         }
         Statement::Label(name) => {
-            out.push_str("label ")?;
-            push_name(out, name.items())
+            out.push("label ");
+            push_name(out, name.items());
         }
         Statement::Loop(register, place) => {
-            write!(out, "loop r{register}")?;
-            push_label(out, body, *place)
+            out.push("loop ");
+            push_register(out, *register);
+            push_label(out, body, *place);
         }
         Statement::Invoke {
             kind,
@@ -158,21 +157,37 @@ fn push_statement(
             first,
             second,
         } => {
-            push_targets(out, *first, *second)?;
-            push_call(out, *kind, operands.items(), texts.items())
+            push_targets(out, *first, *second);
+            push_call(out, *kind, operands.items(), texts.items());
         }
     }
 }
 
-/// Adds the registers that get a call's values, before the call.
-fn push_targets(out: &mut String, first: Option<u8>, second: Option<u8>) -> Result<(), AllocError>
-    ensures { OnOk result (string_bytes out.new ≡ string_bytes out.old ++ flat_map (λ word. word_text word ++ blank) (spec.target_words first second)) }
+/// Adds a statement that changes a register by a value, behind what it begins with.
+fn push_change(out: &mut Output, begin: &str, register: u8, value: Operand)
+    ensures { Adds out.old (begin.now ++ (word_text (spec.register_word register) ++ further_words (spec.operand_word value ∷ []))) out.new }
 {
-    let Some(first) = first else {
-        return Ok(());
-    };
-    match second {
-        Some(second) => write!(out, "r{first} r{second} = "),
-        None => write!(out, "r{first} = "),
+    out.push(begin);
+    push_register(out, register);
+    out.push(" ");
+    push_operand(out, value);
+}
+
+/// Adds the registers that get a call's values, before the call.
+fn push_targets(out: &mut Output, first: Option<u8>, second: Option<u8>)
+    ensures { Adds out.old (flat_map (λ word. word_text word ++ blank) (spec.target_words first second)) out.new }
+{
+    match (first, second) {
+        (None, _) => {}
+        (Some(first), None) => {
+            push_register(out, first);
+            out.push(" = ");
+        }
+        (Some(first), Some(second)) => {
+            push_register(out, first);
+            out.push(" ");
+            push_register(out, second);
+            out.push(" = ");
+        }
     }
 }

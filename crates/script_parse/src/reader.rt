@@ -5,43 +5,46 @@ ghost use Rattle.std.specs.List.{slice_split};
 ghost use Rattle.posix_defs.specs.ValidScript.{IsValid};
 ghost use Rattle.script_parse.specs.Reading.{Outcome};
 ghost use Rattle.posix_defs.specs.ScriptText.{ReadsText};
-ghost use Rattle.script_parse.specs.Drafting.{Reads, at_start};
+ghost use Rattle.script_parse.specs.Drafting.{Reads, at_start, drafted_script};
 
 use crate::ParseError;
 use crate::state::State;
+use crate::words::cut_at;
 use kabi_types::{FaultKind, Script, ScriptFault};
 use std::alloc::Global;
 
 /// The most bytes that a script may have.
 const MOST_BYTES: usize = 1048576;
 
-/// The first line, and what follows its newline; None where no newline stands.
-fn split_line(text: &[u8]) -> Option<(&[u8], &[u8])>
-    ensures { MatchOption result (All (λ byte. (byte == 10) ≡ false) text.now) (λ parts. (text.now ≡ parts.0.now ++ (10 ∷ parts.1.now)) × All (λ byte. (byte == 10) ≡ false) parts.0.now) }
+/// Reads a text line by line, to its end.
+fn read_lines(state: &mut State, alloc: Global, text: &[u8]) -> Result<(), ParseError>
+    requires start { state.old ≡ at_start }
+    requires short { length text.now ≤ 1048576 }
+    ensures { Outcome (λ _. drafted_script state.new.draft) result (Reads at_start 1 (slice_split (λ byte. byte == 10) text.now)) }
 {
-    let at = text.iter().position(|byte| *byte == b'\n')?;
-    Some((&text[..at], &text[at + 1..]))
+    let mut line = 1;
+    let mut rest = text;
+    while let Some((first, next)) = cut_at(rest, b'\n') {
+        state.take_line(alloc, line, first)?;
+        line += 1;
+        rest = next;
+    }
+    state.take_line(alloc, line, rest)?;
+    state.may_end()
 }
 
-/// Reads a text line by line.
-fn read_lines(alloc: Global, text: &[u8]) -> Result<Script, ParseError>
+/// The script of a text that isn't too long.
+fn read(alloc: Global, text: &[u8]) -> Result<Script, ParseError>
     requires { length text.now ≤ 1048576 }
     ensures { Outcome (λ script. script) result (Reads at_start 1 (slice_split (λ byte. byte == 10) text.now)) }
 {
     let mut state = State::new(alloc);
-    let mut line = 1;
-    let mut rest = text;
-    while let Some((first, next)) = split_line(rest) {
-        match state.take_line(alloc, line, first) {
-            Ok(more) => state = more,
-            Err(error) => return Err(error),
+    match read_lines(&mut state, alloc, text) {
+        Ok(()) => Ok(state.into_script()),
+        Err(error) => {
+            drop(state);
+            Err(error)
         }
-        line += 1;
-        rest = next;
-    }
-    match state.take_line(alloc, line, rest) {
-        Ok(last) => last.finish(),
-        Err(error) => Err(error),
     }
 }
 
@@ -58,5 +61,5 @@ pub fn parse(alloc: Global, text: &[u8]) -> Result<Script, ParseError>
             what: FaultKind::TooLong,
         }));
     }
-    read_lines(alloc, text)
+    read(alloc, text)
 }

@@ -1,7 +1,7 @@
 use kabi_types::{FaultKind, Memory};
 
 /// Why a reader of a part of a script stopped.
-#[derive(Clone, Copy, Debug)]
+#[derive(Clone, Copy)]
 pub enum Refused {
     /// The line has this fault.
     Fault(FaultKind),

@@ -7,9 +7,9 @@ ghost use Rattle.posix_defs.specs.ScriptValues.{each};
 ghost use Rattle.posix_defs.specs.ScriptValues as values;
 
 use crate::operands::with_least;
-use crate::values::{is_word, name, number};
+use crate::values::{is_word, number, only_name};
 use crate::{AtTop, Refused, Setting, Word};
-use kabi_types::{Chooser, FaultKind, Name27, Numbers, Policy};
+use kabi_types::{Chooser, FaultKind, Numbers, Policy};
 use std::alloc::Global;
 
 /// A number without a sign, from `low` to `high`.
@@ -36,15 +36,6 @@ fn policy_said(words: &[Word]) -> Result<Policy, Refused>
     match words {
         [word] if is_word(word, "heaviest") => Ok(Policy::Heaviest),
         [word] if is_word(word, "youngest") => Ok(Policy::Youngest),
-        _ => Err(Refused::Fault(FaultKind::UnknownWord)),
-    }
-}
-
-fn name_said(words: &[Word]) -> Result<Name27, Refused>
-    ensures { Tells (λ said. said) result (λ said. said ≡ spec.only values.name words.now) }
-{
-    match words {
-        [word] => Ok(name(word)?),
         _ => Err(Refused::Fault(FaultKind::UnknownWord)),
     }
 }
@@ -112,7 +103,7 @@ fn top_said(alloc: Global, first: &Word, rest: &[Word]) -> Result<AtTop, Refused
         return Ok(AtTop::Sets(Setting::Choosing(Chooser::Seed(seed))));
     }
     if is_word(first, "program") {
-        let name = name_said(rest)?;
+        let name = only_name(rest)?;
         return Ok(AtTop::Begins(name));
     }
     Err(Refused::Fault(FaultKind::UnknownWord))

@@ -2,8 +2,9 @@
 
 ghost use Rattle.std.specs.Prelude.{◌≡◌, ◌≤◌, length, Ok, Err, Some, None};
 ghost use Rattle.script_parse.specs.LabelPlaces.{placed_body};
-ghost use Rattle.script_parse.specs.Reading.{Outcome, TakesLine, lines_in};
+ghost use Rattle.script_parse.specs.Reading.{Outcome, Sets, Tells, TakesLine, lines_in, refusal_at, now_at};
 ghost use Rattle.script_parse.specs.Drafting as spec;
+ghost use Rattle.posix_defs.specs.ScriptValues.{with};
 
 use crate::drafts::Draft;
 use crate::places::placed_body;
@@ -46,117 +47,62 @@ impl Model for State {
     ghost view = { λ s. record { draft = s.draft; opened = s.opened } };
 }
 
-/// Nothing is open.
-fn outside(draft: Draft) -> State
-    ensures { result ≡ spec.outside draft }
+/// Why this line isn't taken.
+fn at_line(line: u32, refused: Refused) -> ParseError
+    ensures { result ≡ refusal_at line refused }
 {
-    State {
-        draft,
-        opened: None,
+    match refused {
+        Refused::Fault(what) => ParseError::Bad(ScriptFault { line, what }),
+        Refused::Memory => ParseError::Memory,
     }
 }
 
-/// A program is open.
-fn within(draft: Draft, opened: Opened) -> State
-    ensures { result ≡ spec.within draft opened }
-{
-    State {
-        draft,
-        opened: Some(opened),
+impl Opened {
+    /// One more line of the program.
+    fn add(&mut self, line: u32, said: Result<Spoken, FaultKind>) -> Result<(), ParseError>
+        ensures { Outcome (λ _. self.new) result (λ now. now ≡ Ok (spec.with_line self.old (record { line = line; said = said }))) }
+    {
+        self.said.push(Stated { line, said })?;
+        Ok(())
     }
-}
 
-/// A line outside programs.
-fn step_at_top(alloc: Global, draft: Draft, line: u32, said: AtTop) -> Result<State, ParseError>
-    ensures { Outcome (λ state. state) result (λ next. next ≡ spec.at_line line (spec.step_at_top draft line said)) }
-{
-    let mut draft = draft;
-    match said {
-        AtTop::Silent => Ok(outside(draft)),
-        AtTop::Sets(setting) => match draft.set(setting) {
-            Ok(()) => Ok(outside(draft)),
-            Err(what) => Err(ParseError::Bad(ScriptFault { line, what })),
-        },
-        AtTop::Begins(name) => match draft.may_begin(name.items()) {
-            Ok(()) => {
-                let said = Vec::new(alloc);
-                Ok(within(draft, Opened { line, name, said }))
+    /// What the words of a line add; whether the program, which is added to the draft, ends there.
+    fn take_words(
+        &mut self,
+        alloc: Global,
+        draft: &mut Draft,
+        line: u32,
+        words: &[Word],
+    ) -> Result<bool, ParseError>
+        requires { length self.old.said ≤ 4294967295 }
+        ensures { Outcome (now_at draft.new self.new) result (λ next. next ≡ spec.step_from draft.old (Some self.old) line (Ok words.now)) }
+    {
+        match said_in_program(alloc, words) {
+            Ok(InProgram::Silent) => Ok(false),
+            Ok(InProgram::Says(spoken)) => {
+                self.add(line, Ok(spoken))?;
+                Ok(false)
             }
-            Err(what) => Err(ParseError::Bad(ScriptFault { line, what })),
-        },
+            Ok(InProgram::Ends) => {
+                self.close(alloc, draft)?;
+                Ok(true)
+            }
+            Err(Refused::Fault(kind)) => {
+                self.add(line, Err(kind))?;
+                Ok(false)
+            }
+            Err(Refused::Memory) => Err(ParseError::Memory),
+        }
     }
-}
 
-/// One more line of the open program.
-fn with_line(
-    draft: Draft,
-    opened: Opened,
-    line: u32,
-    said: Result<Spoken, FaultKind>,
-) -> Result<State, ParseError>
-    ensures { Outcome (λ state. state) result (λ next. next ≡ Ok (spec.within draft (spec.with_line opened (record { line = line; said = said })))) }
-{
-    let mut opened = opened;
-    opened.said.push(Stated { line, said })?;
-    Ok(within(draft, opened))
-}
-
-/// The open program ends.
-fn close(alloc: Global, draft: Draft, opened: Opened) -> Result<State, ParseError>
-    requires { length opened.said ≤ 4294967295 }
-    ensures { Outcome (λ state. state) result (λ next. next ≡ spec.closed draft opened.name (placed_body opened.said)) }
-{
-    let mut draft = draft;
-    let body = placed_body(alloc, opened.said)?;
-    draft.add_program(opened.name, body)?;
-    Ok(outside(draft))
-}
-
-/// A line of a program.
-fn step_in_program(
-    alloc: Global,
-    draft: Draft,
-    opened: Opened,
-    line: u32,
-    said: Result<InProgram, FaultKind>,
-) -> Result<State, ParseError>
-    requires { length opened.said ≤ 4294967295 }
-    ensures { Outcome (λ state. state) result (λ next. next ≡ spec.step_in_program draft opened line said) }
-{
-    match said {
-        Ok(InProgram::Silent) => Ok(within(draft, opened)),
-        Ok(InProgram::Says(spoken)) => with_line(draft, opened, line, Ok(spoken)),
-        Ok(InProgram::Ends) => close(alloc, draft, opened),
-        Err(kind) => with_line(draft, opened, line, Err(kind)),
-    }
-}
-
-/// What the words of a line outside programs add.
-fn words_at_top(alloc: Global, draft: Draft, line: u32, words: &[Word]) -> Result<State, ParseError>
-    ensures { Outcome (λ state. state) result (λ next. next ≡ spec.step_from draft None line (Ok words.now)) }
-{
-    match said_at_top(alloc, words) {
-        Ok(said) => step_at_top(alloc, draft, line, said),
-        Err(Refused::Fault(what)) => Err(ParseError::Bad(ScriptFault { line, what })),
-        Err(Refused::Memory) => Err(ParseError::Memory),
-    }
-}
-
-/// What the words of a line of a program add.
-fn words_in_program(
-    alloc: Global,
-    draft: Draft,
-    opened: Opened,
-    line: u32,
-    words: &[Word],
-) -> Result<State, ParseError>
-    requires { length opened.said ≤ 4294967295 }
-    ensures { Outcome (λ state. state) result (λ next. next ≡ spec.step_from draft (Some opened) line (Ok words.now)) }
-{
-    match said_in_program(alloc, words) {
-        Ok(said) => step_in_program(alloc, draft, opened, line, Ok(said)),
-        Err(Refused::Fault(kind)) => step_in_program(alloc, draft, opened, line, Err(kind)),
-        Err(Refused::Memory) => Err(ParseError::Memory),
+    /// The program ends.
+    fn close(&mut self, alloc: Global, draft: &mut Draft) -> Result<(), ParseError>
+        requires { length self.old.said ≤ 4294967295 }
+        ensures { Outcome (λ _. spec.outside draft.new) result (λ next. next ≡ spec.closed draft.old self.old.name (placed_body self.old.said)) }
+    {
+        let body = placed_body(alloc, &mut self.said)?;
+        draft.add_program(self.name.copy(), body)?;
+        Ok(())
     }
 }
 
@@ -165,64 +111,116 @@ impl State {
     pub fn new(alloc: Global) -> State
         ensures { result ≡ spec.at_start }
     {
-        outside(Draft::new(alloc))
-    }
-
-    /// What the words of a line add.
-    fn take_words(self, alloc: Global, line: u32, words: &[Word]) -> Result<State, ParseError>
-        requires { lines_in self ≤ 4294967295 }
-        ensures { Outcome (λ state. state) result (λ next. next ≡ spec.step self line (Ok words.now)) }
-    {
-        let State { draft, opened } = self;
-        match opened {
-            None => words_at_top(alloc, draft, line, words),
-            Some(opened) => words_in_program(alloc, draft, opened, line, words),
+        State {
+            draft: Draft::new(alloc),
+            opened: None,
         }
     }
 
-    /// What a line without words adds, which has this fault.
-    fn take_fault(self, alloc: Global, line: u32, what: FaultKind) -> Result<State, ParseError>
-        requires { lines_in self ≤ 4294967295 }
-        ensures { Outcome (λ state. state) result (λ next. next ≡ spec.step self line (Err what)) }
+    /// A program begins.
+    fn begin(&mut self, alloc: Global, line: u32, name: Name27) -> Result<(), FaultKind>
+        ensures { Sets result self.new (with (spec.within self.old.draft) (spec.begin self.old.draft line name)) }
     {
-        let State { draft, opened } = self;
-        match opened {
+        self.draft.may_begin(name.items())?;
+        let said = Vec::new(alloc);
+        self.opened = Some(Opened { line, name, said });
+        Ok(())
+    }
+
+    /// A line outside programs.
+    fn step_at_top(&mut self, alloc: Global, line: u32, said: AtTop) -> Result<(), FaultKind>
+        requires { self.old.opened ≡ None }
+        ensures { Sets result self.new (spec.step_at_top self.old.draft line said) }
+    {
+        match said {
+            AtTop::Silent => Ok(()),
+            AtTop::Sets(setting) => self.draft.set(setting),
+            AtTop::Begins(name) => self.begin(alloc, line, name),
+        }
+    }
+
+    /// What the words of a line outside programs say.
+    fn words_at_top(&mut self, alloc: Global, line: u32, words: &[Word]) -> Result<(), Refused>
+        requires { self.old.opened ≡ None }
+        ensures { Tells (λ _. self.new) result (λ next. next ≡ spec.top_added self.old.draft line (Ok words.now)) }
+    {
+        let said = said_at_top(alloc, words)?;
+        self.step_at_top(alloc, line, said)?;
+        Ok(())
+    }
+
+    /// What the words of a line outside programs add.
+    fn take_at_top(&mut self, alloc: Global, line: u32, words: &[Word]) -> Result<(), ParseError>
+        requires { self.old.opened ≡ None }
+        ensures { Outcome (λ _. self.new) result (λ next. next ≡ spec.step_from self.old.draft None line (Ok words.now)) }
+    {
+        match self.words_at_top(alloc, line, words) {
+            Ok(()) => Ok(()),
+            Err(refused) => Err(at_line(line, refused)),
+        }
+    }
+
+    /// What the words of a line add.
+    fn take_words(&mut self, alloc: Global, line: u32, words: &[Word]) -> Result<(), ParseError>
+        requires { lines_in self.old ≤ 4294967295 }
+        ensures { Outcome (λ _. self.new) result (λ next. next ≡ spec.step self.old line (Ok words.now)) }
+    {
+        let Some(opened) = &mut self.opened else {
+            return self.take_at_top(alloc, line, words);
+        };
+        if opened.take_words(alloc, &mut self.draft, line, words)? {
+            self.opened = None;
+        }
+        Ok(())
+    }
+
+    /// What a line without words adds, which has this fault.
+    fn take_fault(&mut self, line: u32, what: FaultKind) -> Result<(), ParseError>
+        ensures { Outcome (λ _. self.new) result (λ next. next ≡ spec.step self.old line (Err what)) }
+    {
+        match &mut self.opened {
             None => Err(ParseError::Bad(ScriptFault { line, what })),
-            Some(opened) => step_in_program(alloc, draft, opened, line, Err(what)),
+            Some(opened) => opened.add(line, Err(what)),
         }
     }
 
     /// What a line adds.
-    pub fn take_line(self, alloc: Global, line: u32, text: &[u8]) -> Result<State, ParseError>
-        requires { lines_in self ≤ 4294967295 }
-        ensures { Outcome (λ state. state) result (TakesLine self line text.now) }
+    pub fn take_line(&mut self, alloc: Global, line: u32, text: &[u8]) -> Result<(), ParseError>
+        requires { lines_in self.old ≤ 4294967295 }
+        ensures { Outcome (λ _. self.new) result (TakesLine self.old line text.now) }
     {
         match line_words(alloc, text) {
             Ok(words) => self.take_words(alloc, line, words.as_slice()),
-            Err(Refused::Fault(what)) => self.take_fault(alloc, line, what),
+            Err(Refused::Fault(what)) => self.take_fault(line, what),
             Err(Refused::Memory) => Err(ParseError::Memory),
         }
     }
 
-    /// The script, at the end of the text.
-    pub fn finish(self) -> Result<Script, ParseError>
-        ensures { Outcome (λ script. script) result (λ said. said ≡ spec.finish self) }
+    /// Whether the text may end here.
+    pub fn may_end(&self) -> Result<(), ParseError>
+        ensures { Outcome (λ _. spec.drafted_script self.now.draft) result (λ said. said ≡ spec.finish self.now) }
     {
-        let State { draft, opened } = self;
-        if let Some(opened) = opened {
+        if let Some(opened) = &self.opened {
             let line = opened.line;
             return Err(ParseError::Bad(ScriptFault {
                 line,
                 what: FaultKind::Unended,
             }));
         }
-        if draft.has_program(b"init") {
-            Ok(draft.into_script())
+        if self.draft.has_program(b"init") {
+            Ok(())
         } else {
             Err(ParseError::Bad(ScriptFault {
                 line: 0,
                 what: FaultKind::NoInit,
             }))
         }
+    }
+
+    /// The script, where the text may end.
+    pub fn into_script(self) -> Script
+        ensures { result ≡ spec.drafted_script self.draft }
+    {
+        self.draft.into_script()
     }
 }

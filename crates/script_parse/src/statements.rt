@@ -1,14 +1,14 @@
 //! What a line of a program says.
 
 ghost use Rattle.std.specs.Prelude.{◌≡◌, ◌∷◌};
-ghost use Rattle.script_parse.specs.Reading.{Tells};
+ghost use Rattle.script_parse.specs.Reading.{Tells, change_said, if_of};
 ghost use Rattle.posix_defs.specs.ScriptLines as spec;
 
 use crate::calls::{kind_said, shape_of};
-use crate::operands::{operand, operands_said, two_operands};
-use crate::values::{is_word, name, register};
+use crate::operands::{operands_said, two_operands};
+use crate::values::{is_word, name, only_name, register, value};
 use crate::{InProgram, Refused, Spoken, Word};
-use kabi_types::{FaultKind, Statement, Test};
+use kabi_types::{FaultKind, Operand, Statement, Test};
 use std::alloc::Global;
 
 /// A call, and the registers that get its values.
@@ -39,30 +39,28 @@ fn call_said(
     }))
 }
 
+/// A register, and a value.
+fn change_said(words: &[Word]) -> Result<(u8, Operand), FaultKind>
+    ensures { result ≡ change_said words.now }
+{
+    match words {
+        [target, amount] => Ok((register(target)?, value(amount)?)),
+        _ => Err(FaultKind::UnknownWord),
+    }
+}
+
 fn set_said(words: &[Word]) -> Result<Spoken, Refused>
     ensures { Tells (λ said. said) result (λ said. said ≡ spec.set_said words.now) }
 {
-    match words {
-        [target, amount] => {
-            let target = register(target)?;
-            let amount = operand(amount)?;
-            Ok(Spoken::Whole(Statement::Set(target, amount)))
-        }
-        _ => Err(Refused::Fault(FaultKind::UnknownWord)),
-    }
+    let (target, amount) = change_said(words)?;
+    Ok(Spoken::Whole(Statement::Set(target, amount)))
 }
 
 fn add_said(words: &[Word]) -> Result<Spoken, Refused>
     ensures { Tells (λ said. said) result (λ said. said ≡ spec.add_said words.now) }
 {
-    match words {
-        [target, amount] => {
-            let target = register(target)?;
-            let amount = operand(amount)?;
-            Ok(Spoken::Whole(Statement::Add(target, amount)))
-        }
-        _ => Err(Refused::Fault(FaultKind::UnknownWord)),
-    }
+    let (target, amount) = change_said(words)?;
+    Ok(Spoken::Whole(Statement::Add(target, amount)))
 }
 
 fn test_said(word: &Word) -> Result<Test, FaultKind>
@@ -81,21 +79,26 @@ fn test_said(word: &Word) -> Result<Test, FaultKind>
     }
 }
 
+/// A jump to this label, where the test holds of the two values.
+fn if_of(left: &Word, test: &Word, right: &Word, label: &Word) -> Result<Spoken, Refused>
+    ensures { Tells (λ said. said) result (λ said. said ≡ if_of left.now test.now right.now label.now) }
+{
+    let test = test_said(test)?;
+    let label = name(label)?;
+    let (left, right) = two_operands(left, right)?;
+    Ok(Spoken::If {
+        left,
+        test,
+        right,
+        label,
+    })
+}
+
 fn if_said(words: &[Word]) -> Result<Spoken, Refused>
     ensures { Tells (λ said. said) result (λ said. said ≡ spec.if_said words.now) }
 {
     match words {
-        [left, test, right, label] => {
-            let test = test_said(test)?;
-            let label = name(label)?;
-            let (left, right) = two_operands(left, right)?;
-            Ok(Spoken::If {
-                left,
-                test,
-                right,
-                label,
-            })
-        }
+        [left, test, right, label] => if_of(left, test, right, label),
         _ => Err(Refused::Fault(FaultKind::UnknownWord)),
     }
 }
@@ -103,19 +106,13 @@ fn if_said(words: &[Word]) -> Result<Spoken, Refused>
 fn jump_said(words: &[Word]) -> Result<Spoken, Refused>
     ensures { Tells (λ said. said) result (λ said. said ≡ spec.jump_said words.now) }
 {
-    match words {
-        [label] => Ok(Spoken::Jump(name(label)?)),
-        _ => Err(Refused::Fault(FaultKind::UnknownWord)),
-    }
+    Ok(Spoken::Jump(only_name(words)?))
 }
 
 fn label_said(words: &[Word]) -> Result<Spoken, Refused>
     ensures { Tells (λ said. said) result (λ said. said ≡ spec.label_said words.now) }
 {
-    match words {
-        [label] => Ok(Spoken::Label(name(label)?)),
-        _ => Err(Refused::Fault(FaultKind::UnknownWord)),
-    }
+    Ok(Spoken::Label(only_name(words)?))
 }
 
 fn loop_said(words: &[Word]) -> Result<Spoken, Refused>

@@ -33,7 +33,11 @@ pub fn script_said(alloc: Global, text: &str) -> Result<Option<Script>, Memory> 
 /// Whether a text says a script of which this is the canonical text.
 fn is_canonical(alloc: Global, text: &[u8], canonical: &[u8]) -> Result<bool, Memory> {
     match parse(alloc, text) {
-        Ok(script) => Ok(print(alloc, &script)?.as_bytes() == canonical),
+        Ok(script) => {
+            let printed = print(alloc, &script);
+            drop(script);
+            Ok(printed?.as_bytes() == canonical)
+        }
         Err(ParseError::Bad(_)) => Ok(false),
         Err(ParseError::Memory) => Err(Memory),
     }

@@ -1,8 +1,10 @@
 use crate::tests::{CLOSING, Row, check_first_line, check_line, check_texts, check_told, joined};
 use kabi_types::FaultKind;
-use std::alloc::{AllocError, Global};
+use std::alloc::{AllocError, AllocGlobal, Global};
+use std::process::Abort;
 use std::test::Fail;
 
+/// Labels that are missing.
 const MISSING_LABELS: &[Row] = &[
     ("program init\njump a\nend\n", 2, FaultKind::NoSuchLabel),
     (
@@ -38,11 +40,7 @@ const MISSING_LABELS: &[Row] = &[
     ),
 ];
 
-#[test]
-fn labels_are_missing(rt: HostRuntime) -> Result<(), Fail> {
-    check_texts(&rt, MISSING_LABELS)
-}
-
+/// Jumps and loops that go the wrong way.
 const WRONG_WAYS: &[Row] = &[
     (
         "program init\nlabel a\njump a\nend\n",
@@ -81,11 +79,7 @@ const WRONG_WAYS: &[Row] = &[
     ),
 ];
 
-#[test]
-fn jumps_go_the_wrong_way(rt: HostRuntime) -> Result<(), Fail> {
-    check_texts(&rt, WRONG_WAYS)
-}
-
+/// What may stand once is defined twice.
 const DEFINED_TWICE: &[Row] = &[
     (
         "heap 8192\nheap 8192\nprogram init\nend\n",
@@ -159,11 +153,7 @@ const DEFINED_TWICE: &[Row] = &[
     ),
 ];
 
-#[test]
-fn what_may_stand_once_is_defined_twice(rt: HostRuntime) -> Result<(), Fail> {
-    check_texts(&rt, DEFINED_TWICE)
-}
-
+/// Programs that do not end.
 const WITHOUT_END: &[Row] = &[
     ("program init", 1, FaultKind::Unended),
     ("program init\n", 1, FaultKind::Unended),
@@ -195,11 +185,7 @@ const WITHOUT_END: &[Row] = &[
     ),
 ];
 
-#[test]
-fn programs_do_not_end(rt: HostRuntime) -> Result<(), Fail> {
-    check_texts(&rt, WITHOUT_END)
-}
-
+/// No program is `init`.
 const WITHOUT_INIT: &[Row] = &[
     ("\n\n", 0, FaultKind::NoInit),
     ("heap 8192", 0, FaultKind::NoInit),
@@ -212,11 +198,7 @@ const WITHOUT_INIT: &[Row] = &[
     ("program other\nend\nprogram third\n", 3, FaultKind::Unended),
 ];
 
-#[test]
-fn no_program_is_init(rt: HostRuntime) -> Result<(), Fail> {
-    check_texts(&rt, WITHOUT_INIT)
-}
-
+/// The first line at fault is told.
 const FIRST_LINES: &[Row] = &[
     (
         "program init\nexit 0\nexit 0\nexit 0\njump a\nexit 0\nexit 0\nexit 0\njmp\nend\n",
@@ -267,11 +249,7 @@ const FIRST_LINES: &[Row] = &[
     ),
 ];
 
-#[test]
-fn the_first_line_at_fault_is_told(rt: HostRuntime) -> Result<(), Fail> {
-    check_texts(&rt, FIRST_LINES)
-}
-
+/// An unknown word comes before other faults.
 const UNKNOWN_WORDS_FIRST: &[Row] = &[
     ("program init\nset r99 1x\nend\n", 2, FaultKind::UnknownWord),
     (
@@ -328,11 +306,7 @@ const UNKNOWN_WORDS_FIRST: &[Row] = &[
     ("program init\nsocket 1\nend\n", 2, FaultKind::UnknownWord),
 ];
 
-#[test]
-fn an_unknown_word_comes_before_other_faults(rt: HostRuntime) -> Result<(), Fail> {
-    check_texts(&rt, UNKNOWN_WORDS_FIRST)
-}
-
+/// A bad number and a limit come before labels.
 const NUMBERS_BEFORE_LABELS: &[Row] = &[
     (
         "program init\nwaitpid 9223372036854775808 1x\nend\n",
@@ -387,11 +361,7 @@ const NUMBERS_BEFORE_LABELS: &[Row] = &[
     ),
 ];
 
-#[test]
-fn a_bad_number_and_a_limit_come_before_labels(rt: HostRuntime) -> Result<(), Fail> {
-    check_texts(&rt, NUMBERS_BEFORE_LABELS)
-}
-
+/// The least fault of a line outside programs is told.
 const LEAST_FAULTS_AT_TOP: &[Row] = &[
     ("heap 1x 1\n", 1, FaultKind::UnknownWord),
     ("heap 1 1\n", 1, FaultKind::UnknownWord),
@@ -411,9 +381,24 @@ const LEAST_FAULTS_AT_TOP: &[Row] = &[
     ),
 ];
 
+const TABLES: &[&[Row]] = &[
+    MISSING_LABELS,
+    WRONG_WAYS,
+    DEFINED_TWICE,
+    WITHOUT_END,
+    WITHOUT_INIT,
+    FIRST_LINES,
+    UNKNOWN_WORDS_FIRST,
+    NUMBERS_BEFORE_LABELS,
+    LEAST_FAULTS_AT_TOP,
+];
+
 #[test]
-fn the_least_fault_of_a_line_outside_programs_is_told(rt: HostRuntime) -> Result<(), Fail> {
-    check_texts(&rt, LEAST_FAULTS_AT_TOP)
+fn of_several_faults_the_first_and_the_least_is_told(rt: HostRuntime) -> Result<(), Fail> {
+    for rows in TABLES {
+        check_texts(&rt, rows)?;
+    }
+    Ok(())
 }
 
 /// Lines that are no text, whatever else is wrong with them.
@@ -470,14 +455,24 @@ fn with_two(alloc: Global, first: &[u8], second: &[u8], end: &[u8]) -> Result<Ve
     joined(alloc, before.as_slice(), second, end)
 }
 
+/// Of these two lines the first is told, and that the program has no end where it has none.
+fn check_two(
+    rt: &(impl Abort + AllocGlobal),
+    first: &[u8],
+    second: &[u8],
+    what: FaultKind,
+) -> Result<(), Fail> {
+    let whole = with_two(rt.alloc(), first, second, CLOSING)?;
+    check_told(rt, whole.as_slice(), Some((3, what)))?;
+    let unended = with_two(rt.alloc(), first, second, NEWLINE)?;
+    check_told(rt, unended.as_slice(), Some((1, FaultKind::Unended)))
+}
+
 #[test]
 fn of_two_lines_the_first_is_told_whatever_its_fault(rt: HostRuntime) -> Result<(), Fail> {
     for (first, what) in FAULTY {
         for (second, _) in FAULTY {
-            let whole = with_two(rt.alloc(), first, second, CLOSING)?;
-            check_told(&rt, whole.as_slice(), Some((3, *what)))?;
-            let unended = with_two(rt.alloc(), first, second, NEWLINE)?;
-            check_told(&rt, unended.as_slice(), Some((1, FaultKind::Unended)))?;
+            check_two(&rt, first, second, *what)?;
         }
     }
     Ok(())

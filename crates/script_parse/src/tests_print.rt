@@ -74,6 +74,12 @@ fn check_printed(
     Ok(())
 }
 
+/// The small script is printed as its settings, its program's first line, this line, and its end.
+fn check_line(rt: &(impl Abort + AllocGlobal), script: &Script, line: &str) -> Result<(), Fail> {
+    let wanted = joined(rt.alloc(), SMALL, line.as_bytes(), CLOSING)?;
+    check_printed(rt, script, wanted.as_slice())
+}
+
 /// A small script that has this statement alone is printed as its settings, its program's first line, this line, and its
 /// end.
 fn check_alone(
@@ -81,10 +87,12 @@ fn check_alone(
     statement: Statement,
     line: &str,
 ) -> Result<(), Fail> {
+    let body = only(rt.alloc(), statement)?;
     let name = Name27::of(INIT).expect(rt, "a name");
-    let script = small_script(rt.alloc(), name, only(rt.alloc(), statement)?)?;
-    let wanted = joined(rt.alloc(), SMALL, line.as_bytes(), CLOSING)?;
-    check_printed(rt, &script, wanted.as_slice())
+    let script = small_script(rt.alloc(), name, body)?;
+    let checked = check_line(rt, &script, line);
+    drop(script);
+    checked
 }
 
 /// Texts and the canonical texts of what they say.
@@ -248,7 +256,10 @@ fn printed_choices(alloc: Global, count: u32) -> Result<Vec<u8>, AllocError> {
 fn a_thousand_choices_are_printed(rt: HostRuntime) -> Result<(), Fail> {
     let alloc = rt.alloc();
     let wanted = printed_choices(alloc, 1000)?;
-    check_printed(&rt, &with_choices(alloc, 1000)?, wanted.as_slice())
+    let script = with_choices(alloc, 1000)?;
+    let checked = check_printed(&rt, &script, wanted.as_slice());
+    drop(script);
+    checked
 }
 
 /// A jump and a loop to places without a label, as they are printed.

@@ -1,6 +1,7 @@
 use crate::tests::{CLOSING, check_canonical, joined, script_said};
-use kabi_types::{Chooser, Policy, Statement};
-use std::alloc::{AllocError, Global};
+use kabi_types::{Chooser, Policy, Script, Statement};
+use std::alloc::{AllocError, AllocGlobal, Global};
+use std::process::Abort;
 use std::test::Fail;
 
 /// Settings that a text doesn't give, as they are printed.
@@ -24,9 +25,10 @@ fn takes(chooser: &Chooser, choices: &[u32]) -> bool {
 #[test]
 fn settings_are_read(rt: HostRuntime) -> Result<(), Fail> {
     let script = script_said(rt.alloc(), SETTINGS)?.expect(&rt, "a script");
-    assert!(rt; script.heap == 8192 && script.disk == 4096 && script.steps == 100000);
-    assert!(rt; matches!(script.policy, Policy::Youngest));
-    assert!(rt; takes(&script.chooser, CHOICES));
+    let numbers = script.heap == 8192 && script.disk == 4096 && script.steps == 100000;
+    let choosing = matches!(script.policy, Policy::Youngest) && takes(&script.chooser, CHOICES);
+    drop(script);
+    assert!(rt; numbers && choosing);
     Ok(())
 }
 
@@ -63,9 +65,8 @@ fn goes_to(statement: Option<&Statement>, register: Option<u8>, place: u32) -> b
     }
 }
 
-#[test]
-fn jumps_go_to_places(rt: HostRuntime) -> Result<(), Fail> {
-    let script = script_said(rt.alloc(), JUMPING)?.expect(&rt, "a script");
+/// The one program of a script has the jumps.
+fn check_jumps(rt: &impl Abort, script: &Script) {
     let programs = script.programs.items();
     assert!(rt; programs.len() == 1);
     let body = programs[0].body.items();
@@ -73,6 +74,13 @@ fn jumps_go_to_places(rt: HostRuntime) -> Result<(), Fail> {
     for (at, register, place) in JUMPS {
         assert!(rt; goes_to(body.get(*at), *register, *place), "{at}");
     }
+}
+
+#[test]
+fn jumps_go_to_places(rt: HostRuntime) -> Result<(), Fail> {
+    let script = script_said(rt.alloc(), JUMPING)?.expect(&rt, "a script");
+    check_jumps(&rt, &script);
+    drop(script);
     Ok(())
 }
 
@@ -176,13 +184,18 @@ fn with_value(alloc: Global, value: &str) -> Result<Vec<u8>, AllocError> {
     joined(alloc, SETTING, value.as_bytes(), CLOSING)
 }
 
+/// A register that is set to this word gets this value.
+fn check_value(rt: &(impl Abort + AllocGlobal), word: &str, value: &str) -> Result<(), Fail> {
+    let text = with_value(rt.alloc(), word)?;
+    let line = with_value(rt.alloc(), value)?;
+    let wanted = joined(rt.alloc(), DEFAULTS, line.as_slice(), &[])?;
+    check_canonical(rt, text.as_slice(), wanted.as_slice())
+}
+
 #[test]
 fn values_are_read(rt: HostRuntime) -> Result<(), Fail> {
     for (word, value) in VALUES {
-        let text = with_value(rt.alloc(), word)?;
-        let line = with_value(rt.alloc(), value)?;
-        let wanted = joined(rt.alloc(), DEFAULTS, line.as_slice(), &[])?;
-        check_canonical(&rt, text.as_slice(), wanted.as_slice())?;
+        check_value(&rt, word, value)?;
     }
     Ok(())
 }

@@ -1,4 +1,4 @@
-use crate::tests::{check_at_top, check_first_line, joined};
+use crate::tests::{Told, check_at_top, check_first_line, joined};
 use kabi_types::FaultKind;
 use std::alloc::{AllocError, Global};
 use std::test::Fail;
@@ -130,26 +130,21 @@ const RIGHT_LINES: &[&str] = &[
     "program abcdefghijklmnopqrstuvwxyz0\nend",
 ];
 
-#[test]
-fn lines_outside_programs_have_unknown_words(rt: HostRuntime) -> Result<(), Fail> {
-    let wanted = Some((1, FaultKind::UnknownWord));
-    check_at_top(&rt, UNKNOWN_SETTINGS, wanted)?;
-    check_at_top(&rt, UNKNOWN_LINES, wanted)
-}
+/// Lines outside programs, and what is told of each.
+const LINES: &[(&[&str], Told)] = &[
+    (UNKNOWN_SETTINGS, Some((1, FaultKind::UnknownWord))),
+    (UNKNOWN_LINES, Some((1, FaultKind::UnknownWord))),
+    (BAD_NUMBERS, Some((1, FaultKind::BadNumber))),
+    (OUT_OF_RANGE, Some((1, FaultKind::OutOfRange))),
+    (RIGHT_LINES, None),
+];
 
 #[test]
-fn settings_have_bad_numbers(rt: HostRuntime) -> Result<(), Fail> {
-    check_at_top(&rt, BAD_NUMBERS, Some((1, FaultKind::BadNumber)))
-}
-
-#[test]
-fn settings_are_out_of_range(rt: HostRuntime) -> Result<(), Fail> {
-    check_at_top(&rt, OUT_OF_RANGE, Some((1, FaultKind::OutOfRange)))
-}
-
-#[test]
-fn lines_outside_programs_are_read(rt: HostRuntime) -> Result<(), Fail> {
-    check_at_top(&rt, RIGHT_LINES, None)
+fn lines_outside_programs_are_read_or_told_their_fault(rt: HostRuntime) -> Result<(), Fail> {
+    for (lines, told) in LINES {
+        check_at_top(&rt, lines, *told)?;
+    }
+    Ok(())
 }
 
 /// The word before choices, and one choice.

@@ -238,22 +238,6 @@ const BROKEN_TEXTS: &[&str] = &[
     "end \"",
 ];
 
-#[test]
-fn words_of_statements_are_unknown(rt: HostRuntime) -> Result<(), Fail> {
-    let wanted = Some((2, FaultKind::UnknownWord));
-    check_in_init(&rt, UNKNOWN_IN_SET_AND_ADD, wanted)?;
-    check_in_init(&rt, UNKNOWN_IN_JUMPS_AND_LABELS, wanted)?;
-    check_in_init(&rt, UNKNOWN_FIRST_WORDS, wanted)
-}
-
-#[test]
-fn operands_are_unknown_words(rt: HostRuntime) -> Result<(), Fail> {
-    let wanted = Some((2, FaultKind::UnknownWord));
-    check_in_init(&rt, MISSING_OR_FURTHER_WORDS, wanted)?;
-    check_in_init(&rt, UNKNOWN_OPERANDS, wanted)?;
-    check_in_init(&rt, BROKEN_TEXTS, wanted)
-}
-
 const BAD_NUMBERS: &[&str] = &[
     "set r1 1x",
     "set r1 0x10",
@@ -284,11 +268,6 @@ const BAD_NUMBERS: &[&str] = &[
     "poll 0 1 2x",
 ];
 
-#[test]
-fn statements_have_bad_numbers(rt: HostRuntime) -> Result<(), Fail> {
-    check_in_init(&rt, BAD_NUMBERS, Some((2, FaultKind::BadNumber)))
-}
-
 const OUT_OF_RANGE: &[&str] = &[
     "set r1 9223372036854775808",
     "set r1 -9223372036854775809",
@@ -312,11 +291,6 @@ const OUT_OF_RANGE: &[&str] = &[
     "bind 1 \"\\x00\"",
     "connect 1 \"\\x00\"",
 ];
-
-#[test]
-fn statements_are_out_of_range(rt: HostRuntime) -> Result<(), Fail> {
-    check_in_init(&rt, OUT_OF_RANGE, Some((2, FaultKind::OutOfRange)))
-}
 
 /// What stands before a text, and what ends it.
 const BEFORE_TEXT: &[u8] = b" \"";
@@ -409,10 +383,29 @@ const NOT_BUILT: &[&str] = &[
     "poll 0 1 1 2 2 3 3 4 4 5 5 6 6 7 7 8 8",
 ];
 
+/// Lines of a program, and what is told of each.
+const LINES: &[(&[&str], Told)] = &[
+    (UNKNOWN_IN_SET_AND_ADD, Some((2, FaultKind::UnknownWord))),
+    (
+        UNKNOWN_IN_JUMPS_AND_LABELS,
+        Some((2, FaultKind::UnknownWord)),
+    ),
+    (UNKNOWN_FIRST_WORDS, Some((2, FaultKind::UnknownWord))),
+    (MISSING_OR_FURTHER_WORDS, Some((2, FaultKind::UnknownWord))),
+    (UNKNOWN_OPERANDS, Some((2, FaultKind::UnknownWord))),
+    (BROKEN_TEXTS, Some((2, FaultKind::UnknownWord))),
+    (BAD_NUMBERS, Some((2, FaultKind::BadNumber))),
+    (OUT_OF_RANGE, Some((2, FaultKind::OutOfRange))),
+    (BUILT, None),
+    (NOT_BUILT, Some((2, FaultKind::NotBuilt))),
+];
+
 #[test]
-fn right_calls_are_read_where_they_are_built(rt: HostRuntime) -> Result<(), Fail> {
-    check_in_init(&rt, BUILT, None)?;
-    check_in_init(&rt, NOT_BUILT, Some((2, FaultKind::NotBuilt)))
+fn lines_of_programs_are_read_or_told_their_fault(rt: HostRuntime) -> Result<(), Fail> {
+    for (lines, told) in LINES {
+        check_in_init(&rt, lines, *told)?;
+    }
+    Ok(())
 }
 
 const NOT_UTF_8: &[&[u8]] = &[

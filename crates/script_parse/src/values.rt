@@ -1,13 +1,14 @@
 //! Registers, numbers, constants, names and texts: what one word says.
 
-ghost use Rattle.std.specs.Prelude.{◌≡◌, ◌==◌, false, not, ◌∷◌, ◌++◌, All, MatchOption, Ok};
+ghost use Rattle.std.specs.Prelude.{◌≡◌, ◌==◌, not, map, Ok};
 ghost use Rattle.std.specs.List.{list_all};
 ghost use Rattle.std.specs.Str.{bytes_eq, all_ascii_digits};
 ghost use Rattle.script_parse.specs.Reading.{Tells};
 ghost use Rattle.posix_defs.specs.ScriptValues as spec;
-ghost use Rattle.posix_defs.specs.ScriptValues.{among, open_constants, descriptor_constants, other_constants};
+ghost use Rattle.posix_defs.specs.ScriptValues.{among};
+ghost use Rattle.posix_defs.specs.ScriptLines.{only};
 
-use crate::words::is_within;
+use crate::words::{cut_at, is_within};
 use crate::{Refused, Word};
 use kabi_types::{FaultKind, Name27, Operand, Text};
 use std::alloc::Global;
@@ -175,108 +176,69 @@ fn is(word: &[u8], text: &str) -> bool
     word == text.as_bytes()
 }
 
-/// The number of a flag of `open`.
-fn open_constant(word: &[u8]) -> Option<u32>
-    ensures { result ≡ among open_constants word.now }
-{
-    if is(word, "O_RDONLY") {
-        Some(0)
-    } else if is(word, "O_WRONLY") {
-        Some(1)
-    } else if is(word, "O_RDWR") {
-        Some(2)
-    } else if is(word, "O_CREAT") {
-        Some(64)
-    } else if is(word, "O_EXCL") {
-        Some(128)
-    } else if is(word, "O_TRUNC") {
-        Some(512)
-    } else if is(word, "O_APPEND") {
-        Some(1024)
-    } else if is(word, "O_NONBLOCK") {
-        Some(2048)
-    } else if is(word, "O_CLOEXEC") {
-        Some(524288)
-    } else {
-        None
-    }
-}
+/// The flags of `open`, and their numbers.
+const OPEN_CONSTANTS: &[(&str, u32)] = &[
+    ("O_RDONLY", 0),
+    ("O_WRONLY", 1),
+    ("O_RDWR", 2),
+    ("O_CREAT", 64),
+    ("O_EXCL", 128),
+    ("O_TRUNC", 512),
+    ("O_APPEND", 1024),
+    ("O_NONBLOCK", 2048),
+    ("O_CLOEXEC", 524288),
+];
 
-/// The number of a constant of `lseek` or `fcntl`.
-fn descriptor_constant(word: &[u8]) -> Option<u32>
-    ensures { result ≡ among descriptor_constants word.now }
-{
-    if is(word, "SEEK_SET") {
-        Some(0)
-    } else if is(word, "SEEK_CUR") {
-        Some(1)
-    } else if is(word, "SEEK_END") {
-        Some(2)
-    } else if is(word, "F_DUPFD") {
-        Some(0)
-    } else if is(word, "F_GETFD") {
-        Some(1)
-    } else if is(word, "F_SETFD") {
-        Some(2)
-    } else if is(word, "F_GETFL") {
-        Some(3)
-    } else if is(word, "F_SETFL") {
-        Some(4)
-    } else if is(word, "FD_CLOEXEC") {
-        Some(1)
-    } else {
-        None
-    }
-}
+/// The constants of `lseek` and `fcntl`.
+const DESCRIPTOR_CONSTANTS: &[(&str, u32)] = &[
+    ("SEEK_SET", 0),
+    ("SEEK_CUR", 1),
+    ("SEEK_END", 2),
+    ("F_DUPFD", 0),
+    ("F_GETFD", 1),
+    ("F_SETFD", 2),
+    ("F_GETFL", 3),
+    ("F_SETFL", 4),
+    ("FD_CLOEXEC", 1),
+];
 
-/// The number of a constant of `waitpid`, `kill`, `shutdown` or `poll`.
-fn other_constant(word: &[u8]) -> Option<u32>
-    ensures { result ≡ among other_constants word.now }
+/// The constants of `waitpid`, `kill`, `shutdown` and `poll`.
+const OTHER_CONSTANTS: &[(&str, u32)] = &[
+    ("WNOHANG", 1),
+    ("SIGKILL", 9),
+    ("SHUT_RD", 0),
+    ("SHUT_WR", 1),
+    ("SHUT_RDWR", 2),
+    ("POLLIN", 1),
+    ("POLLOUT", 4),
+    ("POLLERR", 8),
+    ("POLLHUP", 16),
+    ("POLLNVAL", 32),
+];
+
+/// The number that goes with a word.
+fn number_among(entries: &[(&str, u32)], word: &[u8]) -> Option<u32>
+    ensures { result ≡ among (map (λ entry. (entry.0.now, entry.1)) entries.now) word.now }
 {
-    if is(word, "WNOHANG") {
-        Some(1)
-    } else if is(word, "SIGKILL") {
-        Some(9)
-    } else if is(word, "SHUT_RD") {
-        Some(0)
-    } else if is(word, "SHUT_WR") {
-        Some(1)
-    } else if is(word, "SHUT_RDWR") {
-        Some(2)
-    } else if is(word, "POLLIN") {
-        Some(1)
-    } else if is(word, "POLLOUT") {
-        Some(4)
-    } else if is(word, "POLLERR") {
-        Some(8)
-    } else if is(word, "POLLHUP") {
-        Some(16)
-    } else if is(word, "POLLNVAL") {
-        Some(32)
-    } else {
-        None
+    for (name, number) in entries {
+        if is(word, name) {
+            return Some(*number);
+        }
     }
+    None
 }
 
 /// The number of a constant.
 fn constant(word: &[u8]) -> Option<u32>
     ensures { result ≡ spec.constant_said word.now }
 {
-    if let Some(number) = open_constant(word) {
+    if let Some(number) = number_among(OPEN_CONSTANTS, word) {
         return Some(number);
     }
-    if let Some(number) = descriptor_constant(word) {
+    if let Some(number) = number_among(DESCRIPTOR_CONSTANTS, word) {
         return Some(number);
     }
-    other_constant(word)
-}
-
-/// What stands before the first bar, and what follows it; None where none stands.
-fn cut_bar(word: &[u8]) -> Option<(&[u8], &[u8])>
-    ensures { MatchOption result (All (λ byte. (byte == 124) ≡ false) word.now) (λ parts. (word.now ≡ parts.0.now ++ (124 ∷ parts.1.now)) × All (λ byte. (byte == 124) ≡ false) parts.0.now) }
-{
-    let at = word.iter().position(|byte| *byte == b'|')?;
-    Some((&word[..at], &word[at + 1..]))
+    number_among(OTHER_CONSTANTS, word)
 }
 
 /// Constants that a bar joins, bit by bit.
@@ -285,7 +247,7 @@ fn constants(word: &[u8]) -> Option<u32>
 {
     let mut number = 0;
     let mut rest = word;
-    while let Some((part, next)) = cut_bar(rest) {
+    while let Some((part, next)) = cut_at(rest, b'|') {
         number |= constant(part)?;
         rest = next;
     }
@@ -346,6 +308,16 @@ pub fn name(word: &Word) -> Result<Name27, FaultKind>
     match Name27::of(bare.items()) {
         Some(name) => Ok(name),
         None => Err(FaultKind::UnknownWord),
+    }
+}
+
+/// The name that is the only one of these words.
+pub fn only_name(words: &[Word]) -> Result<Name27, FaultKind>
+    ensures { result ≡ only spec.name words.now }
+{
+    match words {
+        [word] => name(word),
+        _ => Err(FaultKind::UnknownWord),
     }
 }
 

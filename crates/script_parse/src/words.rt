@@ -1,6 +1,6 @@
 //! The words of a line.
 
-ghost use Rattle.std.specs.Prelude.{◌≡◌, ◌≢◌, ◌∷◌, ◌++◌, ◌<◌, true, false, length, option_map, IfOk, IfSome, ◌≤◌};
+ghost use Rattle.std.specs.Prelude.{◌≡◌, ◌==◌, MatchOption, ◌≢◌, ◌∷◌, ◌++◌, ◌<◌, true, false, length, option_map, IfOk, IfSome, ◌≤◌};
 ghost use Rattle.std.specs.Bool.{MatchBool};
 ghost use Rattle.std.specs.List.{All};
 ghost use Rattle.std.specs.Str.{IsUtf8};
@@ -107,6 +107,14 @@ fn ends_word(bytes: &[u8]) -> bool
         [byte, ..] => is_blank(*byte),
         [] => true,
     }
+}
+
+/// What stands before the first byte of this value, and what follows that byte; None where none has it.
+pub fn cut_at(bytes: &[u8], mark: u8) -> Option<(&[u8], &[u8])>
+    ensures { MatchOption result (All (λ byte. (byte == mark) ≡ false) bytes.now) (λ parts. (bytes.now ≡ parts.0.now ++ (mark ∷ parts.1.now)) × All (λ byte. (byte == mark) ≡ false) parts.0.now) }
+{
+    let at = bytes.iter().position(|byte| *byte == mark)?;
+    Some((&bytes[..at], &bytes[at + 1..]))
 }
 
 /// What stands before the first blank, and the rest from it on.

@@ -14,8 +14,8 @@ loop-stated-preserved-in-Continue-1 c =
     let stated = c.in-Some.stated in
     let new = c.pop.new.self.items in
     let at : List ℕ → Option ℕ = (λ name. get eq-value.it c.args.places.now name) in
-    let items : c.loop-stated.rest.items ≡ new ++ (stated ∷ []) = c.in-Some.ensures.items in
-    let count : length c.loop-stated.rest.items ≡ length new + 1 = ap length items ∙ length-append new (stated ∷ []) in
+    let items : c.loop-stated.lines.items ≡ new ++ (stated ∷ []) = c.in-Some.ensures.items in
+    let count : length c.loop-stated.lines.items ≡ length new + 1 = ap length items ∙ length-append new (stated ∷ []) in
     let here : length new ≡ c.len.result = omega (arith, c.len.ensures, c.pop.new.self.ok.0) in
     let said : placed_in at (length new) stated.said ≡ Ok c.in-Ok.statement =
     ap (λ place. placed_in at place stated.said) here ∙ sym c.in-Ok.ensures in (

@@ -10,9 +10,9 @@ use Rattle.script_parse.proofs.places.statements_of.Given as goal
 -- the lines behind the rest are read: they say the body, turned round, or have this fault
 abbrev pub invariant-loop-stated : goal.invariant-loop-stated
 invariant-loop-stated l =
-    (done : List Stated) × (l.fn.lines.items ≡ l.rest.items ++ done)
-    × (body_from (λ name. get eq-value.it l.places name) (length l.rest.items) done ≡ told l.fault (reverse l.body.items))
-    × (length l.rest.items ≤ 4294967295)
+    (done : List Stated) × (l.fn.lines.items ≡ l.lines.items ++ done)
+    × (body_from (λ name. get eq-value.it l.places name) (length l.lines.items) done ≡ told l.fault (reverse l.body.items))
+    × (length l.lines.items ≤ 4294967295)
 
 abbrev pub decreases-loop-stated : goal.decreases-loop-stated
-decreases-loop-stated l = length l.rest.items
+decreases-loop-stated l = length l.lines.items

@@ -9,9 +9,9 @@ pub returns-then-text-gt-MOST_BYTES-clause-reads : goal.returns-then-text-gt-MOS
 returns-then-text-gt-MOST_BYTES-clause-reads c = too_long c.args.text.now (omega arith)
 
 pub returns-clause-reads : goal.returns-clause-reads
-returns-clause-reads c = outcome_is _ _ c.read_lines.result (λ outcome read. text_means c.args.text.now outcome (omega arith) read) c.read_lines.ensures
+returns-clause-reads c = outcome_is _ _ c.read.result (λ outcome read. text_means c.args.text.now outcome (omega arith) read) c.read.ensures
 
 pub returns-clause-valid : goal.returns-clause-valid
 returns-clause-valid c =
-    parsed_valid c.args.text.now c.read_lines.result
-    (outcome_is _ _ c.read_lines.result (λ outcome read. text_means c.args.text.now outcome (omega arith) read) c.read_lines.ensures)
+    parsed_valid c.args.text.now c.read.result
+    (outcome_is _ _ c.read.result (λ outcome read. text_means c.args.text.now outcome (omega arith) read) c.read.ensures)

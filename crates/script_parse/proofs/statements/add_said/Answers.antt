@@ -1,8 +1,19 @@
-use Rattle.std.proofs.Common.{arith}
-use Rattle.script_parse.proofs.FewWords.{add_is, two_are}
+use Rattle.std.proofs.Common.{Ok, ap, refl, ◌∙◌}
+use Rattle.kabi_types.specs.declared.scripts.Statement.TheVariants as statement
+use Rattle.posix_defs.specs.ScriptValues.{◌>>=◌}
+use Rattle.posix_defs.specs.declared.said.Spoken.TheVariants as spoken
+use Rattle.script_parse.specs.Reading.{change_said}
+use Rattle.script_parse.specs.declared.refused.Refused.TheVariants as refused
+use Rattle.script_parse.proofs.FewWords.{add_is}
+use Rattle.script_parse.proofs.Told.{err_is, stops_at, told_as}
 use Rattle.script_parse.proofs.statements.add_said.Goals as goal
 
-pub returns-in_ok-amount-in-len2 : goal.returns-in_ok-amount-in-len2
-returns-in_ok-amount-in-len2 c =
-    add_is c.args.words.now c.target-item.result c.amount-item.result _ _
-    (two_are c.args.words.now _ _ (omega arith) (omega arith) c.target-item.is c.amount-item.is) c.in_ok-target-in-len2.ensures c.in_ok-amount-in-len2.ensures
+pub returns-in_err-target : goal.returns-in_err-target
+returns-in_err-target c =
+    let kind = c.in_err-target.field-0.0 in
+    told_as _ c.from_residual.result (add_is c.args.words.now)
+    (stops_at _ kind c.from_residual.result (change_said c.args.words.now) (λ said. said >>= λ p. Ok (spoken.Whole (statement.Add p.0 p.1))) (λ k. refl)
+    (err_is (refused.Fault kind) c.from_residual.result c.from_residual.ensures.1) c.in_err-target.ensures)
+
+pub returns : goal.returns
+returns c = ap (λ said. said >>= λ p. Ok (spoken.Whole (statement.Add p.0 p.1))) c.in_ok-target.ensures ∙ add_is c.args.words.now
