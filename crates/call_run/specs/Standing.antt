@@ -1,5 +1,5 @@
 -- Which plain machines and worlds the objects of a store stand for.
-use Rattle.std.specs.Prelude.{ℕ, ◌≡◌, true, List, None, Some}
+use Rattle.std.specs.Prelude.{ℕ, ◌≡◌, true, None, Some}
 use Rattle.kabi_types.specs.declared.calls.Call.{Call}
 use Rattle.kabi_types.specs.declared.calls.Call.TheVariants as call
 use Rattle.kabi_types.specs.declared.scripts.Script.{Script}

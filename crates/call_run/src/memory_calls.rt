@@ -21,7 +21,7 @@ ghost use Rattle.call_run.specs.Standing.{Does, StandFor};
 use crate::calls::go_on;
 use crate::objects::Objects;
 use kabi_types::{Bytes64, Call, Control, Errno, Reply, Script};
-use kheap_slabs::{KHeap, Proc, Purse};
+use kheap_slabs::{KHeap, Purse};
 use page_space::Space;
 use posix_defs::Turned;
 
@@ -53,11 +53,10 @@ fn map(objects: &mut Objects, purse: &mut Purse, pid: u32, length: u64) -> Resul
     let Some(key) = objects.procs.key_of(pid) else {
         unreachable!();
     };
-    let proc = *objects.heap.get_proc(key);
+    let proc = objects.heap.get_proc(key);
     let mut space = Space::of(proc.nodes);
     let first = space.map(&mut objects.heap, purse, (length as u32 + PAGE - 1) / PAGE)?;
-    let nodes = space.nodes();
-    objects.heap.set_proc(key, Proc { nodes, ..proc });
+    objects.heap.set_proc_nodes(key, space.nodes());
     Ok(first * PAGE)
 }
 
@@ -99,11 +98,10 @@ fn unmap(objects: &mut Objects, pid: u32, page: u32, count: u32)
     let Some(key) = objects.procs.key_of(pid) else {
         unreachable!();
     };
-    let proc = *objects.heap.get_proc(key);
+    let proc = objects.heap.get_proc(key);
     let mut space = Space::of(proc.nodes);
     space.unmap(&mut objects.heap, page, count);
-    let nodes = space.nodes();
-    objects.heap.set_proc(key, Proc { nodes, ..proc });
+    objects.heap.set_proc_nodes(key, space.nodes());
 }
 
 /// Unmaps each page that the bytes from the address of a page on touch.

@@ -79,7 +79,6 @@ impl Objects {
         let Some(key) = self.procs.key_of(pid) else {
             unreachable!();
         };
-        let proc = *self.heap.get_proc(key);
-        self.heap.set_proc(key, Proc { control, ..proc });
+        self.heap.set_proc_control(key, control);
     }
 }

@@ -46,7 +46,9 @@ fn booted(alloc: Global, heap: u64, policy: Policy) -> Result<Store, Fail>
     ensures { IfOk result (λ store. (world : World) × StandsFor store.script store.objects world) }
 {
     let script = script_of(alloc, heap, policy)?;
-    Ok(Store::boot(alloc, &script)?)
+    let store = Store::boot(alloc, &script);
+    drop(script);
+    Ok(store?)
 }
 
 /// A call, as the rows write it.
@@ -291,10 +293,12 @@ const PARENT: &[Row] = &[(1, Ask::Fork, Told::Val(2), 1152)];
 fn only_a_wait_would_block(rt: HostRuntime) -> Result<(), Fail> {
     let mut store = booted(rt.alloc(), 8192, Policy::Heaviest)?;
     go_through(&rt, &mut store, PARENT);
-    let wait = call_of(&Ask::Wait(-1, 0));
-    assert!(rt; would_block(&store.objects, 1, &wait) && !would_block(&store.objects, 2, &wait));
-    assert!(rt; !would_block(&store.objects, 1, &call_of(&Ask::Wait(-1, 1))));
-    assert!(rt; !would_block(&store.objects, 1, &call_of(&Ask::Fork)));
+    let wait = Some((-1, 0));
+    assert!(rt; would_block(&store.objects, 1, wait) && !would_block(&store.objects, 2, wait));
+    assert!(rt; !would_block(&store.objects, 1, Some((-1, 1))));
+    assert!(rt;
+        !would_block(&store.objects, 1, Some((0, 0))) && !would_block(&store.objects, 1, None)
+    );
     drop(store);
     Ok(())
 }

@@ -5,7 +5,9 @@ use Rattle.kabi_types.specs.declared.errnos.Errno.TheVariants.{EMFILE}
 use Rattle.posix_defs.specs.Process.{memory_of}
 use Rattle.std.specs.Prelude.{is_some, option_map, ok_or, Option, None, Some, Ok, Err, Result}
 use Rattle.kheap_slabs.specs.declared.objects.Proc.{Proc}
-use Rattle.kheap_slabs.specs.Objects.{put}
+use Rattle.kheap_slabs.proofs.PaidLemmas.{IsPaid-nothing, IsPaid-trans}
+use Rattle.kheap_slabs.specs.Heap.{Heap}
+use Rattle.kheap_slabs.specs.Objects.{object, put}
 use Rattle.posix_defs.specs.Memory.{after_map, is_mapped, lowest_run, with_pages, zero_page}
 use Rattle.posix_defs.specs.Needs.{pages_in}
 use Rattle.call_run.proofs.LongRuns.{none_long, run_within}
@@ -41,20 +43,20 @@ get_proc-proc-requires c =
     let named = key_of-proc c.args.objects.now.heap.procs c.args.objects.now.procs.listed c.args.pid c.in-Some.key kept.holds.stored (sym c.key_of.ensures ∙ c.in-Some.is) in
     ap is_some named.1
 
-found_is : (c : goal.After-set_proc) → proc_of (procs_of c.args.objects.now) c.args.pid ≡ Some c.get_proc-proc.result.now
+found_is : (c : goal.After-set_proc_nodes) → proc_of (procs_of c.args.objects.now) c.args.pid ≡ Some c.get_proc-proc.result.now
 found_is c =
     let kept = c.requires.kept.1 in
     let named = key_of-proc c.args.objects.now.heap.procs c.args.objects.now.procs.listed c.args.pid c.in-Some.key kept.holds.stored (sym c.key_of.ensures ∙ c.in-Some.is) in
     named.3 ∙ sym named.1 ∙ c.get_proc-proc.ensures
 
-turns_of : (c : goal.After-set_proc)
-    → SpaceTurns c.args.objects.now.heap c.map.new.heap c.set_proc.new.self c.args.objects.now.procs c.args.pid c.in-Some.key c.get_proc-proc.result.now c.map.new.self
+turns_of : (c : goal.After-set_proc_nodes)
+    → SpaceTurns c.args.objects.now.heap c.map.new.heap c.set_proc_nodes.new.self c.args.objects.now.procs c.args.pid c.in-Some.key c.get_proc-proc.result.now c.map.new.self
 turns_of c = record {
   found = sym c.key_of.ensures ∙ c.in-Some.is;
   there = c.get_proc-proc.ensures;
   runs = ap (λ (p : Proc). p.status) (some_same (proc_of (procs_of c.args.objects.now) c.args.pid) c.get_proc-proc.result.now c.requires.alive.proc (found_is c) c.requires.alive.there) ∙ c.requires.alive.runs;
   moves = subst (λ s. SpaceMoves c.args.objects.now.heap c.map.new.heap s c.map.new.self) c.of-space.ensures c.map.ensures.moves;
-  after = c.set_proc.ensures.kept ∙ ap (λ ns. record c.map.new.heap { procs = put c.map.new.heap.procs c.in-Some.key (record c.get_proc-proc.result.now { nodes = ns }) }) c.nodes-nodes.ensures.value;
+  after = c.set_proc_nodes.ensures.kept c.get_proc-proc.result.now (ap (λ (h : Heap). object h.procs c.in-Some.key) c.map.ensures.moves.kept ∙ c.get_proc-proc.ensures) ∙ ap (λ ns. record c.map.new.heap { procs = put c.map.new.heap.procs c.in-Some.key (record c.get_proc-proc.result.now { nodes = ns }) }) c.nodes.ensures.value;
 }
 
 pub map-requires-clause-owned : goal.map-requires-clause-owned
@@ -64,9 +66,14 @@ map-requires-clause-owned c =
     subst (IsOwnedWith c.args.objects.now.heap) (sym c.of-space.ensures)
     (owned_proc c.args.objects.now.heap c.args.objects.now.procs kept.holds c.args.pid c.get_proc-proc.result.now (named.3 ∙ sym named.1 ∙ c.get_proc-proc.ensures))
 
+pub returns-clause-paid : goal.returns-clause-paid
+returns-clause-paid c =
+    IsPaid-trans c.args.objects.now.heap c.args.purse.now c.map.new.heap c.map.new.purse c.set_proc_nodes.new.self c.map.new.purse c.map.ensures.paid
+    (IsPaid-nothing c.map.new.heap c.set_proc_nodes.new.self c.map.new.purse c.map.new.purse c.set_proc_nodes.ensures.takes refl refl)
+
 pub returns-clause-kept : goal.returns-clause-kept
 returns-clause-kept c = λ script kept.
-    kept_back script c.args.objects.now _ c.map.new.heap c.args.pid c.in-Some.key c.get_proc-proc.result.now c.map.new.self kept (turns_of c) refl c.nodes-nodes.ensures.groups
+    kept_back script c.args.objects.now _ c.map.new.heap c.args.pid c.in-Some.key c.get_proc-proc.result.now c.map.new.self kept (turns_of c) refl c.nodes.ensures.groups
 
 pub returns-clause-runs : goal.returns-clause-runs
 returns-clause-runs c = λ control runs.
@@ -147,7 +154,7 @@ returns-clause-mapped c = λ script plain account first stands is.
     let known = c.map.ensures.found (memory_at h nodes) (subst (λ s. StandsFor h s (memory_at h nodes)) (sym c.of-space.ensures) (memory_at-stands h nodes)) in
     let some = was_some (lowest_run (memory_at h nodes) _) c.in_ok-first.first (sym c.in_ok-first.was ∙ known) in
     let within = run_within (is_mapped (memory_at h nodes)) _ c.in_ok-first.first some in
-    let new : Objects = record { heap = c.set_proc.new.self; procs = c.args.objects.now.procs } in
+    let new : Objects = record { heap = c.set_proc_nodes.new.self; procs = c.args.objects.now.procs } in
     let found = found_is c in
     let whole : length (memory_at h nodes) ≡ 256 = length-memory_at h nodes in
     let here = memory_here script c.args.objects.now plain account c.args.pid c.get_proc-proc.result.now stands found in

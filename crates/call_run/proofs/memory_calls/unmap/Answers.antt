@@ -1,7 +1,8 @@
 use Rattle.std.proofs.Common.{◌≡◌, ◌+◌, ◌≤◌, ◌∙◌, arith, ap, length, refl, subst, sym}
 use Rattle.std.specs.Prelude.{is_some, Option, None, Some}
 use Rattle.kheap_slabs.specs.declared.objects.Proc.{Proc}
-use Rattle.kheap_slabs.specs.Objects.{put}
+use Rattle.kheap_slabs.specs.Heap.{Heap}
+use Rattle.kheap_slabs.specs.Objects.{object, put}
 use Rattle.kheap_slabs.proofs.PaidLemmas.{TakesNothing-trans}
 use Rattle.posix_defs.specs.Memory.{after_unmap, without_pages}
 use Rattle.posix_defs.specs.MemoryCalls.{remembered}
@@ -35,20 +36,20 @@ get_proc-proc-requires c =
     let named = key_of-proc c.args.objects.now.heap.procs c.args.objects.now.procs.listed c.args.pid c.in-Some.key kept.holds.stored (sym c.key_of.ensures ∙ c.in-Some.is) in
     ap is_some named.1
 
-found_is : (c : goal.After-set_proc) → proc_of (procs_of c.args.objects.now) c.args.pid ≡ Some c.get_proc-proc.result.now
+found_is : (c : goal.After-set_proc_nodes) → proc_of (procs_of c.args.objects.now) c.args.pid ≡ Some c.get_proc-proc.result.now
 found_is c =
     let kept = c.requires.kept.1 in
     let named = key_of-proc c.args.objects.now.heap.procs c.args.objects.now.procs.listed c.args.pid c.in-Some.key kept.holds.stored (sym c.key_of.ensures ∙ c.in-Some.is) in
     named.3 ∙ sym named.1 ∙ c.get_proc-proc.ensures
 
-turns_of : (c : goal.After-set_proc)
-    → SpaceTurns c.args.objects.now.heap c.unmap.new.heap c.set_proc.new.self c.args.objects.now.procs c.args.pid c.in-Some.key c.get_proc-proc.result.now c.unmap.new.self
+turns_of : (c : goal.After-set_proc_nodes)
+    → SpaceTurns c.args.objects.now.heap c.unmap.new.heap c.set_proc_nodes.new.self c.args.objects.now.procs c.args.pid c.in-Some.key c.get_proc-proc.result.now c.unmap.new.self
 turns_of c = record {
   found = sym c.key_of.ensures ∙ c.in-Some.is;
   there = c.get_proc-proc.ensures;
   runs = ap (λ (p : Proc). p.status) (some_same (proc_of (procs_of c.args.objects.now) c.args.pid) c.get_proc-proc.result.now c.requires.alive.proc (found_is c) c.requires.alive.there) ∙ c.requires.alive.runs;
   moves = subst (λ s. SpaceMoves c.args.objects.now.heap c.unmap.new.heap s c.unmap.new.self) c.of-space.ensures c.unmap.ensures.moves;
-  after = c.set_proc.ensures.kept ∙ ap (λ ns. record c.unmap.new.heap { procs = put c.unmap.new.heap.procs c.in-Some.key (record c.get_proc-proc.result.now { nodes = ns }) }) c.nodes-nodes.ensures.value;
+  after = c.set_proc_nodes.ensures.kept c.get_proc-proc.result.now (ap (λ (h : Heap). object h.procs c.in-Some.key) c.unmap.ensures.moves.kept ∙ c.get_proc-proc.ensures) ∙ ap (λ ns. record c.unmap.new.heap { procs = put c.unmap.new.heap.procs c.in-Some.key (record c.get_proc-proc.result.now { nodes = ns }) }) c.nodes.ensures.value;
 }
 
 pub unmap-requires-clause-owned : goal.unmap-requires-clause-owned
@@ -60,7 +61,7 @@ unmap-requires-clause-owned c =
 
 pub returns-clause-kept : goal.returns-clause-kept
 returns-clause-kept c = λ script kept.
-    kept_back script c.args.objects.now _ c.unmap.new.heap c.args.pid c.in-Some.key c.get_proc-proc.result.now c.unmap.new.self kept (turns_of c) refl c.nodes-nodes.ensures.groups
+    kept_back script c.args.objects.now _ c.unmap.new.heap c.args.pid c.in-Some.key c.get_proc-proc.result.now c.unmap.new.self kept (turns_of c) refl c.nodes.ensures.groups
 
 pub returns-clause-runs : goal.returns-clause-runs
 returns-clause-runs c = λ control runs.
@@ -68,7 +69,7 @@ returns-clause-runs c = λ control runs.
     runs_back kept.0 c.args.objects.now _ c.unmap.new.heap c.args.pid c.in-Some.key c.get_proc-proc.result.now c.unmap.new.self kept.1 (turns_of c) refl control runs
 
 pub returns-clause-takes : goal.returns-clause-takes
-returns-clause-takes c = TakesNothing-trans c.args.objects.now.heap c.unmap.new.heap c.set_proc.new.self c.unmap.ensures.takes c.set_proc.ensures.takes
+returns-clause-takes c = TakesNothing-trans c.args.objects.now.heap c.unmap.new.heap c.set_proc_nodes.new.self c.unmap.ensures.takes c.set_proc_nodes.ensures.takes
 
 pub returns-clause-unmapped : goal.returns-clause-unmapped
 returns-clause-unmapped c = λ script plain account stands.
@@ -78,8 +79,8 @@ returns-clause-unmapped c = λ script plain account stands.
     let found = found_is c in
     let whole : length (memory_at h nodes) ≡ 256 = length-memory_at h nodes in
     let here = memory_here script c.args.objects.now plain account c.args.pid c.get_proc-proc.result.now stands found in
-    subst (λ m. StandFor script (record { heap = c.set_proc.new.self; procs = c.args.objects.now.procs }) (remembered plain c.args.pid (without_pages m c.args.page c.args.count)) (after_unmap account c.args.pid c.args.page c.args.count)) (sym here)
-    (stand_back script c.args.objects.now (record { heap = c.set_proc.new.self; procs = c.args.objects.now.procs }) c.unmap.new.heap c.args.pid c.in-Some.key c.get_proc-proc.result.now c.unmap.new.self plain account
+    subst (λ m. StandFor script (record { heap = c.set_proc_nodes.new.self; procs = c.args.objects.now.procs }) (remembered plain c.args.pid (without_pages m c.args.page c.args.count)) (after_unmap account c.args.pid c.args.page c.args.count)) (sym here)
+    (stand_back script c.args.objects.now (record { heap = c.set_proc_nodes.new.self; procs = c.args.objects.now.procs }) c.unmap.new.heap c.args.pid c.in-Some.key c.get_proc-proc.result.now c.unmap.new.self plain account
     (after_unmap account c.args.pid c.args.page c.args.count) (without_pages (memory_at h nodes) c.args.page c.args.count)
     kept.1.holds stands (turns_of c) refl
     (c.unmap.ensures.memory (memory_at h nodes) whole (subst (λ s. StandsFor h s (memory_at h nodes)) (sym c.of-space.ensures) (memory_at-stands h nodes)))

@@ -1,5 +1,4 @@
 use Rattle.std.proofs.Common.{◌≡◌, ◌∙◌, sym, true}
-use Rattle.posix_defs.specs.Process.{is_alive}
 use Rattle.posix_defs.specs.Relief.{refused_in}
 use Rattle.call_run.proofs.store.tests.a_refused_call_is_over.Goals as goal
 
