@@ -15,12 +15,11 @@ fn rounds_to(alloc: Global, n: u32) -> Result<Vec<Statement>, Memory>
     ensures { IfOk result (λ said. said.items ≡ rounds_to n n) }
 {
     let mut body = Vec::new(alloc);
-    body.push(asks(alloc, 1, CallKind::Mmap, &[number(65536)])?)?;
+    asks(alloc, &mut body, 1, CallKind::Mmap, &[number(65536)])?;
     let mut state = n;
     for i in 0..n {
         state = next_state(state);
-        let mut said = round(alloc, i, state, body.len() as u32)?;
-        body.append(&mut said)?;
+        round(alloc, &mut body, i, state)?;
     }
     Ok(body)
 }
@@ -30,7 +29,7 @@ fn body_to(alloc: Global, n: u32) -> Result<Statements, Memory>
     ensures { IfOk result (λ body. body ≡ body_to n) }
 {
     let mut body = rounds_to(alloc, n)?;
-    body.push(exits(alloc, 0)?)?;
+    exits(alloc, &mut body, 0)?;
     Ok(Statements::from_vec(body))
 }
 

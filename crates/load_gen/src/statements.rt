@@ -1,102 +1,109 @@
 //! The statements that the rounds consist of.
 
-ghost use Rattle.std.specs.Prelude.{◌≡◌, ◌≤◌, [], ◌∷◌, IfOk};
+ghost use Rattle.std.specs.Prelude.{◌≡◌, [], ◌∷◌, ◌++◌, IfOk, OnOk};
 ghost use Rattle.posix_defs.specs.Generated.{asks, asks_two, names, exits, number, directory, inside, file, other_file, child_label, parent_label};
 
 use kabi_types::{CallKind, Memory, Name27, Operand, Operands, Statement, Text, Texts};
 use std::alloc::Global;
 
-/// A call whose value goes to a register.
+/// Adds a call whose value goes to a register.
 pub fn asks(
     alloc: Global,
+    body: &mut Vec<Statement>,
     register: u8,
     kind: CallKind,
     values: &[Operand],
-) -> Result<Statement, Memory>
-    ensures { IfOk result (λ said. said ≡ asks register kind values.now) }
+) -> Result<(), Memory>
+    ensures { OnOk result (body.new.items ≡ body.old.items ++ asks register kind values.now ∷ []) }
 {
-    Ok(Statement::Invoke {
+    body.push(Statement::Invoke {
         kind,
         operands: Operands::from_vec(values.to_vec(alloc)?),
         texts: Texts::from_vec(Vec::new(alloc)),
         first: Some(register),
         second: None,
-    })
+    })?;
+    Ok(())
 }
 
-/// A call whose two values go to two registers.
+/// Adds a call whose two values go to two registers.
 pub fn asks_two(
     alloc: Global,
+    body: &mut Vec<Statement>,
     registers: (u8, u8),
     kind: CallKind,
     values: &[Operand],
-) -> Result<Statement, Memory>
-    ensures { IfOk result (λ said. said ≡ asks_two registers.0 registers.1 kind values.now) }
+) -> Result<(), Memory>
+    ensures { OnOk result (body.new.items ≡ body.old.items ++ asks_two registers.0 registers.1 kind values.now ∷ []) }
 {
     let (first, second) = registers;
-    Ok(Statement::Invoke {
+    body.push(Statement::Invoke {
         kind,
         operands: Operands::from_vec(values.to_vec(alloc)?),
         texts: Texts::from_vec(Vec::new(alloc)),
         first: Some(first),
         second: Some(second),
-    })
+    })?;
+    Ok(())
 }
 
-/// A call that has a text beside its numbers.
+/// Adds a call that has a text beside its numbers.
 pub fn names(
     alloc: Global,
+    body: &mut Vec<Statement>,
     register: u8,
     kind: CallKind,
     values: &[Operand],
     text: Text,
-) -> Result<Statement, Memory>
-    ensures { IfOk result (λ said. said ≡ names register kind values.now (text ∷ [])) }
+) -> Result<(), Memory>
+    ensures { OnOk result (body.new.items ≡ body.old.items ++ names register kind values.now (text ∷ []) ∷ []) }
 {
-    let mut texts = Vec::new(alloc);
-    texts.push(text)?;
-    Ok(Statement::Invoke {
+    let texts = vec![in alloc; text]?;
+    body.push(Statement::Invoke {
         kind,
         operands: Operands::from_vec(values.to_vec(alloc)?),
         texts: Texts::from_vec(texts),
         first: Some(register),
         second: None,
-    })
+    })?;
+    Ok(())
 }
 
-/// A call of two paths.
+/// Adds a call of two paths.
 pub fn names_two(
     alloc: Global,
+    body: &mut Vec<Statement>,
     register: u8,
     kind: CallKind,
     old: Text,
     new: Text,
-) -> Result<Statement, Memory>
-    ensures { IfOk result (λ said. said ≡ names register kind [] (old ∷ new ∷ [])) }
+) -> Result<(), Memory>
+    ensures { OnOk result (body.new.items ≡ body.old.items ++ names register kind [] (old ∷ new ∷ []) ∷ []) }
 {
-    let mut texts = Vec::new(alloc);
-    texts.push(old)?;
-    texts.push(new)?;
-    Ok(Statement::Invoke {
+    let texts = vec![in alloc; old, new]?;
+    body.push(Statement::Invoke {
         kind,
         operands: Operands::from_vec(Vec::new(alloc)),
         texts: Texts::from_vec(texts),
         first: Some(register),
         second: None,
-    })
+    })?;
+    Ok(())
 }
 
-pub fn exits(alloc: Global, status: u32) -> Result<Statement, Memory>
-    ensures { IfOk result (λ said. said ≡ exits status) }
+/// Adds the end of a process.
+pub fn exits(alloc: Global, body: &mut Vec<Statement>, status: u32) -> Result<(), Memory>
+    ensures { OnOk result (body.new.items ≡ body.old.items ++ exits status ∷ []) }
 {
-    let status = Operand::Number(i64::from(status));
-    Ok(Statement::Invoke {
+    let operands = vec![in alloc; number(status)]?;
+    body.push(Statement::Invoke {
         kind: CallKind::Exit,
-        operands: Operands::from_vec([status].to_vec(alloc)?),
+        operands: Operands::from_vec(operands),
         texts: Texts::from_vec(Vec::new(alloc)),
         first: None,
         second: None,
-    })
+    })?;
+    Ok(())
 }
 
 pub fn number(n: u32) -> Operand
