@@ -1,4 +1,4 @@
-ghost use Rattle.std.specs.Prelude.{◌≡◌, [], IfSome, OnOk, OnErr};
+ghost use Rattle.std.specs.Prelude.{◌≡◌, ◌≤◌, [], IfSome};
 ghost use Rattle.posix_defs.specs.DiskFormat.{IsEntry};
 ghost use Rattle.posix_defs.specs.SoundDisk.{HasNode, Sound};
 ghost use Rattle.posix_defs.specs.DiskContents.{IsDirectoryOf};
@@ -8,7 +8,7 @@ ghost use Rattle.memfs_dir.specs.Listed.{HasDirectory};
 use crate::{dir_add, dir_entry, dir_find, dir_remove, dir_rename};
 use blk_map::grow;
 use disk_layout::{RamDisk, entry_of, inode_in, is_marked, put_inode};
-use kabi_types::{DirEntry, Errno, Inode};
+use kabi_types::{DirEntry, Errno, Inode, Memory};
 use posix_defs::Blocks;
 use std::process::Abort;
 use std::test::Fail;
@@ -46,30 +46,28 @@ impl Blocks for Counting {
 }
 
 /// The root's inode.
-fn root_of(b: &mut Counting) -> Option<Inode>
+fn root_of(rt: &impl Abort, b: &mut Counting) -> Inode
     requires sound { Sound b.old.disk.blocks }
     requires root { IsDirectoryOf b.old.disk.blocks 1 1 [] }
-    ensures { IfSome result (λ inode. HasDirectory b.new.disk.blocks 1 inode) }
+    ensures { HasDirectory b.new.disk.blocks 1 result }
 {
     let table = b.get(1);
     let Ok(root) = inode_in(&table, 0, b.count()) else {
-        return None;
+        panic!(rt; "the root can't be read");
     };
-    Some(root)
+    root
 }
 
-/// An empty file as node 2, where that is free.
-fn make_file(b: &mut Counting) -> Option<Inode>
+/// An empty file as node 2, which is free.
+fn make_file(rt: &impl Abort, b: &mut Counting) -> Inode
     requires { Sound b.old.disk.blocks }
-    ensures { IfSome result (λ inode. ChangesNode b.old.disk.blocks b.new.disk.blocks 2 × HasNode b.new.disk.blocks 2 inode × (inode.kind ≡ 1) × (inode.size ≡ 0)) }
+    ensures { ChangesNode b.old.disk.blocks b.new.disk.blocks 2 × HasNode b.new.disk.blocks 2 result × (result.kind ≡ 1) × (result.size ≡ 0) }
 {
     let mut table = b.get(1);
     let Ok(free) = inode_in(&table, 1, b.count()) else {
-        return None;
+        panic!(rt; "node 2 can't be read");
     };
-    if free.kind != 0 {
-        return None;
-    }
+    assert!(rt; free.kind == 0, "node 2 is free");
     let file = Inode {
         kind: 1,
         nlink: 1,
@@ -79,19 +77,19 @@ fn make_file(b: &mut Counting) -> Option<Inode>
     };
     put_inode(&mut table, 1, &file);
     b.set(1, &table);
-    Some(file)
+    file
 }
 
-/// Has a file of this size beside the root; None where there is no room for it.
-fn put_file_beside(b: &mut Counting, size: u32) -> Option<()>
+/// Has a file of this size beside the root, for which there is room.
+fn put_file_beside(rt: &impl Abort, b: &mut Counting, size: u32)
     requires sound { Sound b.old.disk.blocks }
     requires root { IsDirectoryOf b.old.disk.blocks 1 1 [] }
-    ensures { IfSome result (λ _. Sound b.new.disk.blocks × IsDirectoryOf b.new.disk.blocks 1 1 []) }
+    ensures { Sound b.new.disk.blocks × IsDirectoryOf b.new.disk.blocks 1 1 [] }
 {
-    let mut file = make_file(b)?;
+    let mut file = make_file(rt, b);
     match grow(b, 2, &mut file, size) {
-        Ok(()) => Some(()),
-        Err(_) => None,
+        Ok(()) => {}
+        Err(_) => panic!(rt; "there is no room for a file of {size} bytes"),
     }
 }
 
@@ -138,7 +136,7 @@ fn entry_numbered(number: u32) -> Option<DirEntry>
 }
 
 /// What is done to the root.
-#[derive(Clone, Copy, Debug, PartialEq, Eq)]
+#[derive(Clone, Copy)]
 enum Step {
     /// Entries are added, each with the number of its place, until there are so many.
     Fill(u32),
@@ -155,7 +153,7 @@ enum Step {
 }
 
 /// What it answers.
-#[derive(Clone, Copy, Debug, PartialEq, Eq)]
+#[derive(Clone, Copy, PartialEq, Eq)]
 enum Answer {
     Done,
     Full,
@@ -260,17 +258,36 @@ fn check_steps(rt: &impl Abort, b: &mut Counting, dir: &mut Inode, rows: &[Row])
     requires { HasDirectory b.old.disk.blocks 1 dir.old }
     ensures { HasDirectory b.new.disk.blocks 1 dir.new }
 {
-    for (step, answer, gets, sets, free, entries) in rows {
+    for (k, (step, answer, gets, sets, free, entries)) in rows.iter().enumerate() {
         let (got, put) = (b.disk.reads(), b.sets);
-        assert!(rt; take(b, dir, *step) == *answer, "{step:?}");
-        assert!(rt;
-            b.disk.reads().saturating_sub(got) == *gets,
-            "gets of {step:?}"
-        );
-        assert!(rt; b.sets.saturating_sub(put) == *sets, "sets of {step:?}");
-        assert!(rt; free_count(b) == *free, "free after {step:?}");
-        assert!(rt; dir.size / 32 == *entries, "entries after {step:?}");
+        let answered = take(b, dir, *step);
+        let got = b.disk.reads().saturating_sub(got);
+        let put = b.sets.saturating_sub(put);
+        let left = free_count(b);
+        let cost = got == *gets && put == *sets;
+        let right = answered == *answer && cost && left == *free && dir.size / 32 == *entries;
+        assert!(rt; right, "step {k}: {got} gets, {put} sets, {left} free");
     }
+}
+
+/// Whether each row is as it says on a new root.
+fn check_root(rt: &impl Abort, b: &mut Counting, rows: &[Row])
+    requires sound { Sound b.old.disk.blocks }
+    requires root { IsDirectoryOf b.old.disk.blocks 1 1 [] }
+{
+    let mut root = root_of(rt, b);
+    check_steps(rt, b, &mut root, rows);
+}
+
+/// The same on a new disk of so many blocks.
+fn check_on(rt: &(impl Abort + AllocGlobal), blocks: u32, rows: &[Row]) -> Result<(), Fail>
+    requires { (16 ≤ blocks) × (blocks ≤ 4096) }
+{
+    let disk = RamDisk::boot(rt.alloc(), blocks)?;
+    let mut b = Counting { disk, sets: 0 };
+    check_root(rt, &mut b, rows);
+    drop(b);
+    Ok(())
 }
 
 /// A new disk of 16 blocks has 13 free ones beside that of the root, which has `.` and `..`. A block has 32 entries; from
@@ -314,11 +331,7 @@ const ON_16_BLOCKS: &[Row] = &[
 
 #[test]
 fn entries_on_16_blocks(rt: HostRuntime) -> Result<(), Fail> {
-    let disk = RamDisk::boot(rt.alloc(), 16)?;
-    let mut b = Counting { disk, sets: 0 };
-    let mut root = root_of(&mut b).ok_or("the root")?;
-    check_steps(&rt, &mut b, &mut root, ON_16_BLOCKS);
-    Ok(())
+    check_on(&rt, 16, ON_16_BLOCKS)
 }
 
 /// A directory of 272384 bytes has 8512 entries in 266 blocks, behind one of pointers.
@@ -337,11 +350,7 @@ const ON_4096_BLOCKS: &[Row] = &[
 
 #[test]
 fn the_greatest_directory(rt: HostRuntime) -> Result<(), Fail> {
-    let disk = RamDisk::boot(rt.alloc(), 4096)?;
-    let mut b = Counting { disk, sets: 0 };
-    let mut root = root_of(&mut b).ok_or("the root")?;
-    check_steps(&rt, &mut b, &mut root, ON_4096_BLOCKS);
-    Ok(())
+    check_on(&rt, 4096, ON_4096_BLOCKS)
 }
 
 /// A file of three blocks leaves one free block behind 320 entries: not enough for a block of entries and the pointers.
@@ -356,27 +365,39 @@ const TWO_BLOCKS_FREE: &[Row] = &[
     (Step::Add(320), Answer::Done, 3, 5, 0, 321),
 ];
 
+/// Whether each row is as it says on a new disk of 16 blocks with a file of this size.
 fn check_beside_file(
-    rt: &impl Abort,
-    disk: RamDisk,
+    rt: &(impl Abort + AllocGlobal),
     size: u32,
     rows: &[Row],
-) -> Result<(), &'static str>
-    requires sound { Sound disk.blocks }
-    requires root { IsDirectoryOf disk.blocks 1 1 [] }
-{
+) -> Result<(), Memory> {
+    let disk = RamDisk::boot(rt.alloc(), 16)?;
     let mut b = Counting { disk, sets: 0 };
-    put_file_beside(&mut b, size).ok_or("room for the file")?;
-    let mut root = root_of(&mut b).ok_or("the root")?;
-    check_steps(rt, &mut b, &mut root, rows);
+    put_file_beside(rt, &mut b, size);
+    check_root(rt, &mut b, rows);
+    drop(b);
     Ok(())
 }
 
 #[test]
 fn room_beside_a_file(rt: HostRuntime) -> Result<(), Fail> {
-    check_beside_file(&rt, RamDisk::boot(rt.alloc(), 16)?, 3072, ONE_BLOCK_FREE)?;
-    check_beside_file(&rt, RamDisk::boot(rt.alloc(), 16)?, 2048, TWO_BLOCKS_FREE)?;
+    check_beside_file(&rt, 3072, ONE_BLOCK_FREE)?;
+    check_beside_file(&rt, 2048, TWO_BLOCKS_FREE)?;
     Ok(())
+}
+
+/// Whether a new root has `.` and `..`, and no name that is longer or empty.
+fn has_two_names(rt: &impl Abort, b: &mut Counting) -> bool
+    requires sound { Sound b.old.disk.blocks }
+    requires root { IsDirectoryOf b.old.disk.blocks 1 1 [] }
+{
+    let root = root_of(rt, b);
+    let itself = find(b, &root, b".");
+    let parent = find(b, &root, b"..");
+    let longer = find(b, &root, b"...");
+    let empty = find(b, &root, b"");
+    let found = itself == Answer::Place(0) && parent == Answer::Place(1);
+    found && longer == Answer::Missing && empty == Answer::Missing
 }
 
 /// Names that a new root has or hasn't: `.` is no beginning of a name, and `..` is found once.
@@ -384,10 +405,7 @@ fn room_beside_a_file(rt: HostRuntime) -> Result<(), Fail> {
 fn names_of_a_new_root(rt: HostRuntime) -> Result<(), Fail> {
     let disk = RamDisk::boot(rt.alloc(), 16)?;
     let mut b = Counting { disk, sets: 0 };
-    let root = root_of(&mut b).ok_or("the root")?;
-    assert!(rt; find(&mut b, &root, b".") == Answer::Place(0));
-    assert!(rt; find(&mut b, &root, b"..") == Answer::Place(1));
-    assert!(rt; find(&mut b, &root, b"...") == Answer::Missing);
-    assert!(rt; find(&mut b, &root, b"") == Answer::Missing);
+    assert!(rt; has_two_names(&rt, &mut b));
+    drop(b);
     Ok(())
 }

@@ -1,4 +1,4 @@
-use Rattle.std.proofs.Common.{◌≡◌, ◌≢◌, ℕ, ◌<◌, List, length, set, refl, sym, ap, subst, ◌∙◌, arith}
+use Rattle.std.proofs.Common.{rules, ◌≡◌, ◌≢◌, ℕ, ◌<◌, List, length, set, refl, sym, ap, subst, ◌∙◌, arith}
 use Rattle.std.proofs.lemmas.List.{length-set, get_or-set_other}
 use Rattle.posix_defs.specs.DiskFormat.{IsInode, inode_bytes}
 use Rattle.posix_defs.specs.SoundDisk.{block_bytes, slot_bytes, table_bytes, HasInode}
@@ -8,7 +8,7 @@ use Rattle.blk_map.proofs.NewFile.{empty_file, in_slot, replaces}
 use Rattle.memfs_dir.proofs.tests.make_file.Goals as goal
 
 pub returns : goal.returns
-returns c =
+returns g c =
     let before : List (List ℕ) = c.args.b.now.disk.blocks in
     let after : List (List ℕ) = c.set.new.self.disk.blocks in
     let kept : c.get-table.new.self.disk.blocks ≡ before = c.get-table.ensures.kept in
@@ -26,5 +26,6 @@ returns c =
     let blocks : (block : ℕ) → block ≢ 1 → block_bytes after block ≡ block_bytes before block = λ block apart.
     ap (λ (disk : List (List ℕ)). block_bytes disk block) written ∙ get_or-set_other {A = List ℕ} before 1 block c.put_inode.new.block _ apart
     in
-    let change = replaces 2 before after free c.requires had (valid.kind.free c.if-free-ne0.false).1 count slot (slots_stay before after 2 c.put_inode.new.block within written others (omega arith)) blocks in
+    let unused : free.kind ≡ 0 = search rules in
+    let change = replaces 2 before after free c.requires had (valid.kind.free unused).1 count slot (slots_stay before after 2 c.put_inode.new.block within written others (omega arith)) blocks in
     (changes_node 2 before free after empty_file c.requires change, (this_has 2 before free after empty_file change, λ e. omega (arith, e)), refl, refl)

@@ -4,12 +4,12 @@ use Rattle.blk_map.proofs.AndBack.{changes_follow}
 use Rattle.memfs_dir.proofs.Kept.{entries_stay}
 use Rattle.memfs_dir.proofs.tests.put_file_beside.Goals as goal
 
-pub returns-in-Ok : goal.returns-in-Ok
-returns-in-Ok c =
+pub returns : goal.returns
+returns g c =
     let before : List (List ℕ) = c.args.b.now.disk.blocks in
     let after : List (List ℕ) = c.grow.new.b.disk.blocks in
     let root = c.requires.root in
-    let change : ChangesNode before after 2 = changes_follow 2 before c.make_file.new.b.disk.blocks after c.in_ok-file.ensures.0 c.in-Ok.ensures.ok.resizes.changes in (
+    let change : ChangesNode before after 2 = changes_follow 2 before c.make_file-file.new.b.disk.blocks after c.make_file-file.ensures.0 c.in-Ok.ensures.ok.resizes.changes in (
       change.sound,
       record {
         inode = root.inode;

@@ -10,7 +10,7 @@ use Rattle.memfs_dir.specs.Listed.{HasDirectory}
 use Rattle.memfs_dir.proofs.tests.root_of.Goals as goal
 
 pub returns : goal.returns
-returns c =
+returns g c =
     let disk : List (List ℕ) = c.args.b.now.disk.blocks in
     let kept : c.get-table.new.self.disk.blocks ≡ disk = c.get-table.ensures.kept in
     let root = c.requires.root in
