@@ -1,8 +1,9 @@
 -- Whether a wait for a child would sleep.
-use Rattle.std.proofs.Common.{◌≡◌, ℕ, ℤ, pos, not, Bool, true, false, cond, Result, refl, ap, sym, ◌∙◌}
-use Rattle.std.specs.Prelude.{None, Ok, Err}
-use Rattle.std.specs.Result.{is_ok, result_err}
+use Rattle.std.proofs.Common.{◌≡◌, ℕ, ℤ, pos, not, Bool, true, false, cond, Option, None, Some, refl, ap, sym, ◌∙◌}
+use Rattle.std.specs.Prelude.{is_none}
 use Rattle.kabi_types.specs.Arguments.{argument_fault}
+use Rattle.kabi_types.specs.declared.calls.Call.{Call}
+use Rattle.kabi_types.specs.declared.errnos.Errno.{Errno}
 use Rattle.kabi_types.specs.declared.calls.Call.TheVariants as call
 use Rattle.kabi_types.specs.declared.replies.Reply.TheVariants.{Val}
 use Rattle.kabi_types.specs.declared.scripts.Script.{Script}
@@ -11,6 +12,7 @@ use Rattle.posix_defs.specs.Machine.{blocks, machine, unless_wrong}
 use Rattle.posix_defs.specs.Plain.{Plain}
 use Rattle.posix_defs.specs.Waiting.{is_nohang, waitpid}
 use Rattle.posix_defs.specs.World.{Account}
+use Rattle.prog_ctl.specs.Waits.{wait_of}
 use Rattle.proc_table.specs.Changes.{reaped_of}
 use Rattle.proc_table.specs.Standing.{answered_wait}
 use Rattle.proc_table.specs.declared.reaped.Reaped.{Reaped}
@@ -56,6 +58,16 @@ pub blocks_as : (script : Script) (plain : Plain) (pid : ℕ) (which options : �
 blocks_as script plain pid which options right = ap (λ fault. blocks (unless_wrong script plain pid fault (waitpid script plain pid which options))) right
 
 -- what is right has no fault
-pub no_fault : {T E : Type 0} (checked : Result T E) → is_ok checked ≡ true → result_err checked ≡ None
-no_fault (Ok value) e = refl
-no_fault (Err fault) e = cc
+pub no_fault : (fault : Option Errno) → is_none fault ≡ true → fault ≡ None
+no_fault None e = refl
+no_fault (Some errno) e = cc
+
+waited : Option (ℤ × ℤ) → ℤ × ℤ
+waited None = (pos 0, pos 0)
+waited (Some wait) = wait
+
+-- a call that waits for something is that wait
+pub is_wait : (which : Call) (wait : ℤ × ℤ) → Some wait ≡ wait_of which → call.Waitpid wait.0 wait.1 ≡ which
+unfolding waited
+is_wait (call.Waitpid child options) wait e = ap (λ o. call.Waitpid (waited o).0 (waited o).1) e
+is_wait _ wait e = cc

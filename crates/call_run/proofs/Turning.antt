@@ -1,5 +1,5 @@
 -- What a process does next.
-use Rattle.std.proofs.Common.{◌≡◌, ℕ, true, None, Some, ap, sym, ◌∙◌}
+use Rattle.std.proofs.Common.{◌≡◌, ℕ, true, Option, None, Some, ap, sym, ◌∙◌}
 use Rattle.kabi_types.specs.declared.scripts.Script.{Script}
 use Rattle.kheap_slabs.specs.declared.objects.Proc.{Proc}
 use Rattle.posix_defs.specs.Control as program
@@ -15,6 +15,10 @@ use Rattle.call_run.specs.Objects.{IsAtCall, procs_of}
 use Rattle.call_run.specs.Standing.{StandsFor}
 use Rattle.call_run.proofs.GoingOn.{some_same}
 use Rattle.call_run.proofs.RunningProcs.{alive_runs}
+
+-- who is found isn't missing
+pub missing : (o : Option Proc) (proc : Proc) → o ≡ None → o ≡ Some proc → ⊥
+missing o proc e f = cc
 
 -- a live process that is found runs
 pub up : (script : Script) (objects : Objects) (world : World) (pid : ℕ) (proc : Proc) → StandsFor script objects world → is_alive world.plain.table pid ≡ true

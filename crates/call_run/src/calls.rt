@@ -1,7 +1,7 @@
 //! What each call does to the heap and to the processes. Every function here stands to the plain machine's definition of its
 //! call.
 
-ghost use Rattle.std.specs.Prelude.{◌≡◌, ◌≢◌, ◌+◌, ◌<◌, ◌≤◌, true, None};
+ghost use Rattle.std.specs.Prelude.{◌≡◌, ◌≢◌, ◌+◌, ◌<◌, ◌≤◌, true, None, is_none};
 ghost use Rattle.kabi_types.specs.Arguments.{argument_fault};
 ghost use Rattle.kabi_types.specs.declared.calls.Call.{Call};
 ghost use Rattle.kabi_types.specs.declared.scripts.Control.{Control};
@@ -23,6 +23,7 @@ ghost use Rattle.posix_defs.specs.declared.turner.Turned.TheVariants as turned;
 ghost use Rattle.proc_table.specs.Procs.{IsAlive};
 ghost use Rattle.proc_table.specs.Table.{Holds};
 ghost use Rattle.prog_ctl.specs.Runnable.{Rests, Stands};
+ghost use Rattle.prog_ctl.specs.Waits.{wait_of};
 ghost use Rattle.call_run.specs.Objects.{AreKept, IsCaller, Runs, procs_of};
 ghost use Rattle.call_run.specs.Standing.{Does, MakesNothing, StandFor, TouchesNothing};
 ghost use Rattle.call_run.specs.Uses.{UsesAtMost};
@@ -307,17 +308,24 @@ fn would_sleep(objects: &Objects, pid: u32, which: i64, options: i64) -> bool
     }
 }
 
-/// Whether a process's call would block now.
-pub fn would_block(objects: &Objects, pid: u32, call: &Call) -> bool
+/// Whether the operands of a `waitpid` are right.
+fn is_right_wait(which: i64, options: i64) -> bool
+    ensures { result ≡ is_none (argument_fault (Call.Waitpid which options)) }
+{
+    (which == -1 || 1 <= which) && (options == 0 || options == WNOHANG)
+}
+
+/// Whether a process's call would block now. Of the call it asks only for what that waits, which is nothing for any but
+/// `waitpid`.
+pub fn would_block(objects: &Objects, pid: u32, wait: Option<(i64, i64)>) -> bool
     requires { Holds objects.now.heap objects.now.procs }
     ensures { (script : Script) (plain : Plain) (account : Account) → StandFor script objects.now plain account
-        → result ≡ blocks (machine script plain pid call.now) }
+        → (call : Call) → wait ≡ wait_of call → result ≡ blocks (machine script plain pid call) }
 {
-    match call {
-        Call::Waitpid {
-            pid: which,
-            options,
-        } => call.checked().is_ok() && would_sleep(objects, pid, *which, *options),
-        _ => false,
+    match wait {
+        Some((which, options)) => {
+            is_right_wait(which, options) && would_sleep(objects, pid, which, options)
+        }
+        None => false,
     }
 }

@@ -120,6 +120,8 @@ impl Turner for Store {
 
     ghost high = { λ store. store.objects.heap.high };
 
+    // A call has room for two paths: each function that hands one on pays for that room once more.
+    #[inline(never)]
     fn next(&self, pid: u32) -> Call {
         turns::next(&self.script, &self.objects, pid)
     }
@@ -136,7 +138,7 @@ impl Turner for Store {
         !would_block(
             &self.objects,
             pid,
-            &turns::next(&self.script, &self.objects, pid),
+            turns::waits_for(&self.script, &self.objects, pid),
         )
     }
 

@@ -9,6 +9,7 @@ ghost use Rattle.posix_defs.specs.Relief.{Kills, refused_in};
 ghost use Rattle.posix_defs.specs.Sizes.{reserve};
 ghost use Rattle.posix_defs.specs.Turn.{TurnsTo};
 ghost use Rattle.posix_defs.specs.World.{World, live_of};
+ghost use Rattle.prog_ctl.specs.Waits.{wait_of};
 ghost use Rattle.call_run.specs.Objects.{AreKept};
 ghost use Rattle.call_run.specs.Standing.{StandsFor};
 
@@ -28,6 +29,18 @@ pub fn next(script: &Script, objects: &Objects, pid: u32) -> Call
         unreachable!();
     };
     prog_ctl::call_here(script, &proc.control)
+}
+
+/// The child and the options that a live process's next call waits for; None where that call isn't `waitpid`.
+pub fn waits_for(script: &Script, objects: &Objects, pid: u32) -> Option<(i64, i64)>
+    requires { (world : World) × StandsFor script.now objects.now world × (is_alive world.plain.table pid ≡ true) }
+    ensures { (world : World) → StandsFor script.now objects.now world → is_alive world.plain.table pid ≡ true
+        → result ≡ wait_of (call_of script.now world.plain pid) }
+{
+    let Some(proc) = objects.proc(pid) else {
+        unreachable!();
+    };
+    prog_ctl::wait_here(script, &proc.control)
 }
 
 /// A turn of a process's call; `Gone` where the process has ended.

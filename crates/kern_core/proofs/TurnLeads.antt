@@ -7,6 +7,7 @@ use Rattle.posix_defs.specs.declared.phases.Phase.{Phase}
 use Rattle.posix_defs.specs.declared.phases.Phase.TheVariants.{Admitted}
 use Rattle.posix_defs.specs.declared.phases.Task.{Task}
 use Rattle.posix_defs.specs.declared.turner.Turned.{Turned}
+use Rattle.posix_defs.specs.declared.turner.Turned.TheVariants.{Sleep}
 use Rattle.posix_defs.specs.Needs.{bound}
 use Rattle.posix_defs.specs.Sizes.{reserve}
 use Rattle.posix_defs.specs.Process.{is_alive}
@@ -34,6 +35,13 @@ sleeper_lives old new pid told (Part moved plain) alive tells goes sleeps = ap (
 sleeper_lives old new pid told (Done reply plain) alive tells goes sleeps = absurd (subst IsSleep tells.0 sleeps)
 sleeper_lives old new pid told (Ended status plain) alive tells goes sleeps = absurd (subst IsSleep tells.0 sleeps)
 
+-- and it leaves the machine, where it would block
+sleeper_leaves : (old new : Plain) (told : Turned) (a : Answer) → Tells a old told new → told ≡ Sleep → new ≡ old
+sleeper_leaves old new told Blocked tells sleeps = tells.1
+sleeper_leaves old new told (Part moved plain) tells sleeps = cc
+sleeper_leaves old new told (Done reply plain) tells sleeps = cc
+sleeper_leaves old new told (Ended status plain) tells sleeps = cc
+
 -- The turn has led to a world, in which a process whose call sleeps is alive; one process was made at most, and no more heap
 -- is in use than was reserved.
 pub record Led {T : Type 0} (stands_for : T → World → Type 0) (script : Script) (s : CoreState) (pid : ℕ) (call : Call) (told : Turned) (store : T) : Type 0 where
@@ -41,6 +49,7 @@ pub record Led {T : Type 0} (stands_for : T → World → Type 0) (script : Scri
   pub stands : stands_for store world
   pub turned : TurnsTo script s.world pid call told world
   pub lives : IsSleep told → is_alive world.plain.table pid ≡ true
+  pub leaves : told ≡ Sleep → world.plain ≡ s.world.plain
   pub one : last_pid world.plain ≤ last_pid s.world.plain + 1
   pub live : live_of world ≤ live_of s.world + bound call
 
@@ -70,9 +79,18 @@ led stands_for script s pid call told store sound enabled call_is after =
       turned = after.2;
       lives = sleeper_lives old after.0.plain pid told (machine script old pid (next_call script s pid)) fits.phase.0 tells
           (posix_goes script old pid (next_call script s pid) sound.made fits.phase.0);
+      leaves = sleeper_leaves old after.0.plain told (machine script old pid (next_call script s pid)) tells;
       one = own.0.one;
       live = answers.live;
     }
+
+-- a call that would block is the one that was asked for
+pub asked_still : (script script' : Script) (s : CoreState) (pid : ℕ) (asked : Asked) (told : Turned) (world : World) → IsSound script s
+    → (enabled : IsIn s pid Admitted) → enabled.asked ≡ asked → script' ≡ script → (told ≡ Sleep → world.plain ≡ s.world.plain)
+    → told ≡ Sleep → asked ≡ asked_by script' world.plain pid
+asked_still script script' s pid asked told world sound enabled asked_is same leaves sleeps =
+    let fits = found_fits script s.world.plain s.tasks pid (Admitted enabled.asked) sound.each enabled.is (λ e. (cc)) in
+    sym asked_is ∙ fits.phase.1.same ∙ sym (ap (λ p. asked_by script p pid) (leaves sleeps)) ∙ sym (ap (λ t. asked_by t world.plain pid) same)
 
 -- the tasks behind a turn
 pub tasks_then : (script script' : Script) (old new : Plain) (pid before after : ℕ) (told : Turned) (phase : Phase) (items placed kept all : List Task)

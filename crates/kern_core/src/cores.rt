@@ -10,6 +10,7 @@ ghost use Rattle.posix_defs.specs.Process.{is_alive};
 ghost use Rattle.posix_defs.specs.CoreState.{CoreState, asked_by, boot_state, is_admitted, phase_in, some_fits, some_wait_in_vain, is_waiting, lives};
 ghost use Rattle.posix_defs.specs.SoundTasks.{IsSound};
 ghost use Rattle.posix_defs.specs.CoreEvent.{phase_after};
+ghost use Rattle.posix_defs.specs.declared.turner.Turned.TheVariants.{Sleep};
 ghost use Rattle.posix_defs.specs.Licence.{can_evict_any, is_licensed};
 ghost use Rattle.posix_defs.specs.Ends.{all_asleep, end_of, starves_for, sleeps_on};
 ghost use Rattle.posix_defs.specs.Choice.{asks_nothing, default_of, events_of, enabled_in, default_in, kills_in, named_by, others_in};
@@ -508,7 +509,7 @@ impl<T: Turner + Drop> Core<T> {
         let before = self.store.last_pid();
         let call = self.store.next(pid);
         let turned = self.store.turn(pid, &call, need(&call));
-        let phase = phase_after(&self.store, pid, &turned);
+        let phase = phase_after(&self.store, pid, asked, &turned);
         set_phase(&mut self.tasks, pid, phase);
         let ends = may_end(asked.kind, &turned);
         bury_ended(&self.store, &mut self.tasks, ends);
@@ -687,15 +688,18 @@ fn noted_of(event: Event, asked: Asked, entry: Option<Entry>, charged: u64) -> N
     }
 }
 
-/// The phase that a turn leaves its process in. A call that sleeps is asked for anew, since a part of it may be done.
-fn phase_after<T: Turner>(store: &T, pid: u32, turned: &Turned) -> Phase
+/// The phase that a turn leaves its process in. A call that would block leaves the machine, so it is the one that was asked for;
+/// where a part is done the rest of the call is asked for anew.
+fn phase_after<T: Turner>(store: &T, pid: u32, asked: Asked, turned: &Turned) -> Phase
     requires { IsSleep turned.now → (world : World) × T.stands store.now world × (is_alive world.plain.table pid ≡ true) }
     ensures { (world : World) → T.stands store.now world → (IsSleep turned.now → is_alive world.plain.table pid ≡ true)
+        → (turned.now ≡ Sleep → asked ≡ asked_by (T.script store.now) world.plain pid)
         → result ≡ phase_after (asked_by (T.script store.now) world.plain pid) turned.now }
 {
     match turned {
         Turned::Done(_) => Phase::User,
-        Turned::Part(_) | Turned::Sleep => Phase::Asleep(asked_of(&store.next(pid))),
+        Turned::Part(_) => Phase::Asleep(asked_of(&store.next(pid))),
+        Turned::Sleep => Phase::Asleep(asked),
         Turned::Ended(_) | Turned::Gone => Phase::Dead,
     }
 }

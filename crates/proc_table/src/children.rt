@@ -50,8 +50,12 @@ pub(crate) fn leave_one(heap: &mut KHeap, key: u32, pid: u32, status: u16) -> bo
     ensures stays { result ≡ is_some (option_and_then (left_behind pid status) (object heap.old.procs key)) }
     ensures takes { TakesNothing heap.old heap.new }
 {
-    let proc = *heap.get_proc(key);
-    match left_behind(proc, pid, status) {
+    let proc = heap.get_proc(key);
+    // most are neither that one nor its child, and are not copied
+    if proc.pid != pid && proc.parent != pid {
+        return true;
+    }
+    match left_behind(*proc, pid, status) {
         Some(left) => {
             heap.set_proc(key, left);
             true

@@ -1,2 +1,3 @@
 pub mod Runnable
 pub mod Sample
+pub mod Waits

@@ -5,8 +5,9 @@ ghost use Rattle.kabi_types.specs.declared.scripts.Script.{Script};
 ghost use Rattle.posix_defs.specs.Control as spec;
 ghost use Rattle.posix_defs.specs.ValidScript.{IsValid};
 ghost use Rattle.prog_ctl.specs.Runnable.{IsRunnable, IsRunnableAt, Rests, Stands};
+ghost use Rattle.prog_ctl.specs.Waits.{wait_of};
 
-use crate::made::call_at;
+use crate::made::{call_at, wait_at};
 use crate::statements::{go_back, local, take_reply};
 use kabi_types::{Call, Control, Reply, Script, Statement};
 
@@ -72,6 +73,18 @@ pub fn call_here(script: &Script, control: &Control) -> Call
     ensures { result ≡ spec.call_of script.now control.now }
 {
     call_at(
+        control,
+        statement_at(body_of(script, control), control.place),
+    )
+}
+
+/// The child and the options of the next call of a process that stands at it, where that is `waitpid`; None where it is another.
+pub fn wait_here(script: &Script, control: &Control) -> Option<(i64, i64)>
+    requires stands { Stands script.now control.now }
+    requires rests { Rests script.now control.now }
+    ensures { result ≡ wait_of (spec.call_of script.now control.now) }
+{
+    wait_at(
         control,
         statement_at(body_of(script, control), control.place),
     )

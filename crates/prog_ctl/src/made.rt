@@ -6,6 +6,7 @@ ghost use Rattle.posix_defs.specs.Control.{call_at, value_of};
 ghost use Rattle.posix_defs.specs.Made as spec;
 ghost use Rattle.posix_defs.specs.ScriptLines.{shape_of};
 ghost use Rattle.prog_ctl.specs.Runnable.{IsOperand, IsRunnableAt, TakesMore, most_text};
+ghost use Rattle.prog_ctl.specs.Waits.{wait_of};
 
 use crate::statements::value_of;
 use arrayvec::ArrayVec;
@@ -13,12 +14,13 @@ use kabi_types::{
     Bytes64, Call, CallKind, Control, Operand, Path, PollEntry, PollList, Statement, Text,
 };
 
-/// The operand at a place; 0 where there is none.
-fn number_at(numbers: &[i64], at: usize) -> i64
-    ensures { result ≡ spec.number_at numbers.now at }
+/// What the operand at a place is now; 0 where there is none.
+fn operand_at(control: &Control, operands: &[Operand], at: usize) -> i64
+    requires { AllByRecursion IsOperand operands.now }
+    ensures { result ≡ spec.number_at (map (value_of control.now) operands.now) at }
 {
-    match numbers.get(at) {
-        Some(number) => *number,
+    match operands.get(at) {
+        Some(operand) => value_of(control, *operand),
         None => 0,
     }
 }
@@ -85,25 +87,26 @@ fn numbers_of(control: &Control, operands: &[Operand]) -> ArrayVec<i64, 17>
     numbers
 }
 
-/// The call of a kind that takes texts or a list, with these numbers and texts in the order of its fields. It stands by
+/// The call of a kind that takes texts or a list, with these operands and texts in the order of its fields. It stands by
 /// itself, since a function pays for the room of all its locals whenever it is entered.
 #[inline(never)]
-fn made_with_texts(kind: CallKind, numbers: &[i64], texts: &[Text]) -> Call
-    requires count { length numbers.now ≤ 17 }
+fn made_with_texts(control: &Control, kind: CallKind, operands: &[Operand], texts: &[Text]) -> Call
+    requires count { length operands.now ≤ 17 }
+    requires each { AllByRecursion IsOperand operands.now }
     requires texts { AllByRecursion (λ text. length text ≤ most_text (shape_of kind)) texts.now }
-    ensures { (done : ℕ) → TakesMore kind → result ≡ spec.made kind numbers.now texts.now done }
+    ensures { (done : ℕ) → TakesMore kind → result ≡ spec.made kind (map (value_of control.now) operands.now) texts.now done }
 {
     match kind {
         CallKind::Exec => Call::Exec {
             path: path_at(texts, 0),
         },
         CallKind::Store => Call::Store {
-            addr: number_at(numbers, 0),
+            addr: operand_at(control, operands, 0),
             bytes: bytes_at(texts, 0),
         },
         CallKind::OpenFile => Call::OpenFile {
             path: path_at(texts, 0),
-            flags: number_at(numbers, 0),
+            flags: operand_at(control, operands, 0),
         },
         CallKind::Stat => Call::Stat {
             path: path_at(texts, 0),
@@ -129,135 +132,139 @@ fn made_with_texts(kind: CallKind, numbers: &[i64], texts: &[Text]) -> Call
             new: path_at(texts, 1),
         },
         CallKind::Bind => Call::Bind {
-            fd: number_at(numbers, 0),
+            fd: operand_at(control, operands, 0),
             path: path_at(texts, 0),
         },
         CallKind::Connect => Call::Connect {
-            fd: number_at(numbers, 0),
+            fd: operand_at(control, operands, 0),
             path: path_at(texts, 0),
         },
         CallKind::Poll => Call::Poll {
-            timeout: number_at(numbers, 0),
-            entries: entries_of(numbers),
+            timeout: operand_at(control, operands, 0),
+            entries: entries_of(numbers_of(control, operands).as_slice()),
         },
         _ => Call::SchedYield,
     }
 }
 
-/// The call of this kind, with these numbers and texts in the order of its fields, behind what is done of it.
-fn made(kind: CallKind, numbers: &[i64], texts: &[Text], done: u32) -> Call
-    requires count { length numbers.now ≤ 17 }
+/// The call of this kind, with these operands and texts in the order of its fields, behind what is done of it. It stands by
+/// itself, so that its many cases are no part of who hands the call on: a call has room for two paths, and among many cases it
+/// would be copied for each function that hands it on.
+#[inline(never)]
+fn made(control: &Control, kind: CallKind, operands: &[Operand], texts: &[Text]) -> Call
+    requires count { length operands.now ≤ 17 }
+    requires each { AllByRecursion IsOperand operands.now }
     requires texts { AllByRecursion (λ text. length text ≤ most_text (shape_of kind)) texts.now }
-    ensures { result ≡ spec.made kind numbers.now texts.now done }
+    ensures { result ≡ spec.made kind (map (value_of control.now) operands.now) texts.now control.now.done }
 {
     match kind {
         CallKind::Getpid => Call::Getpid,
         CallKind::Getppid => Call::Getppid,
         CallKind::SchedYield => Call::SchedYield,
         CallKind::Fork => Call::Fork,
-        CallKind::Exec => made_with_texts(kind, numbers, texts),
+        CallKind::Exec => made_with_texts(control, kind, operands, texts),
         CallKind::Exit => Call::Exit {
-            status: number_at(numbers, 0),
+            status: operand_at(control, operands, 0),
         },
         CallKind::Waitpid => Call::Waitpid {
-            pid: number_at(numbers, 0),
-            options: number_at(numbers, 1),
+            pid: operand_at(control, operands, 0),
+            options: operand_at(control, operands, 1),
         },
         CallKind::Kill => Call::Kill {
-            pid: number_at(numbers, 0),
-            signal: number_at(numbers, 1),
+            pid: operand_at(control, operands, 0),
+            signal: operand_at(control, operands, 1),
         },
         CallKind::Mmap => Call::Mmap {
-            length: number_at(numbers, 0),
+            length: operand_at(control, operands, 0),
         },
         CallKind::Munmap => Call::Munmap {
-            addr: number_at(numbers, 0),
-            length: number_at(numbers, 1),
+            addr: operand_at(control, operands, 0),
+            length: operand_at(control, operands, 1),
         },
-        CallKind::Store => made_with_texts(kind, numbers, texts),
+        CallKind::Store => made_with_texts(control, kind, operands, texts),
         CallKind::Load => Call::Load {
-            addr: number_at(numbers, 0),
-            n: number_at(numbers, 1),
+            addr: operand_at(control, operands, 0),
+            n: operand_at(control, operands, 1),
         },
-        CallKind::OpenFile => made_with_texts(kind, numbers, texts),
+        CallKind::OpenFile => made_with_texts(control, kind, operands, texts),
         CallKind::Close => Call::Close {
-            fd: number_at(numbers, 0),
+            fd: operand_at(control, operands, 0),
         },
         CallKind::Dup => Call::Dup {
-            fd: number_at(numbers, 0),
+            fd: operand_at(control, operands, 0),
         },
         CallKind::Dup2 => Call::Dup2 {
-            fd: number_at(numbers, 0),
-            to: number_at(numbers, 1),
+            fd: operand_at(control, operands, 0),
+            to: operand_at(control, operands, 1),
         },
         CallKind::Fcntl => Call::Fcntl {
-            fd: number_at(numbers, 0),
-            cmd: number_at(numbers, 1),
-            arg: number_at(numbers, 2),
+            fd: operand_at(control, operands, 0),
+            cmd: operand_at(control, operands, 1),
+            arg: operand_at(control, operands, 2),
         },
         CallKind::Read => Call::Read {
-            fd: number_at(numbers, 0),
-            addr: number_at(numbers, 1),
-            n: number_at(numbers, 2),
+            fd: operand_at(control, operands, 0),
+            addr: operand_at(control, operands, 1),
+            n: operand_at(control, operands, 2),
         },
         CallKind::Write => Call::Write {
-            fd: number_at(numbers, 0),
-            addr: number_at(numbers, 1),
-            n: number_at(numbers, 2),
-            done,
+            fd: operand_at(control, operands, 0),
+            addr: operand_at(control, operands, 1),
+            n: operand_at(control, operands, 2),
+            done: control.done,
         },
         CallKind::Pread => Call::Pread {
-            fd: number_at(numbers, 0),
-            addr: number_at(numbers, 1),
-            n: number_at(numbers, 2),
-            at: number_at(numbers, 3),
+            fd: operand_at(control, operands, 0),
+            addr: operand_at(control, operands, 1),
+            n: operand_at(control, operands, 2),
+            at: operand_at(control, operands, 3),
         },
         CallKind::Pwrite => Call::Pwrite {
-            fd: number_at(numbers, 0),
-            addr: number_at(numbers, 1),
-            n: number_at(numbers, 2),
-            at: number_at(numbers, 3),
+            fd: operand_at(control, operands, 0),
+            addr: operand_at(control, operands, 1),
+            n: operand_at(control, operands, 2),
+            at: operand_at(control, operands, 3),
         },
         CallKind::Lseek => Call::Lseek {
-            fd: number_at(numbers, 0),
-            offset: number_at(numbers, 1),
-            whence: number_at(numbers, 2),
+            fd: operand_at(control, operands, 0),
+            offset: operand_at(control, operands, 1),
+            whence: operand_at(control, operands, 2),
         },
         CallKind::Readdir => Call::Readdir {
-            fd: number_at(numbers, 0),
-            addr: number_at(numbers, 1),
-            n: number_at(numbers, 2),
+            fd: operand_at(control, operands, 0),
+            addr: operand_at(control, operands, 1),
+            n: operand_at(control, operands, 2),
         },
         CallKind::Ftruncate => Call::Ftruncate {
-            fd: number_at(numbers, 0),
-            length: number_at(numbers, 1),
+            fd: operand_at(control, operands, 0),
+            length: operand_at(control, operands, 1),
         },
         CallKind::Fstat => Call::Fstat {
-            fd: number_at(numbers, 0),
+            fd: operand_at(control, operands, 0),
         },
-        CallKind::Stat => made_with_texts(kind, numbers, texts),
-        CallKind::Chdir => made_with_texts(kind, numbers, texts),
-        CallKind::Mkdir => made_with_texts(kind, numbers, texts),
-        CallKind::Rmdir => made_with_texts(kind, numbers, texts),
-        CallKind::Unlink => made_with_texts(kind, numbers, texts),
-        CallKind::Link => made_with_texts(kind, numbers, texts),
-        CallKind::Rename => made_with_texts(kind, numbers, texts),
+        CallKind::Stat => made_with_texts(control, kind, operands, texts),
+        CallKind::Chdir => made_with_texts(control, kind, operands, texts),
+        CallKind::Mkdir => made_with_texts(control, kind, operands, texts),
+        CallKind::Rmdir => made_with_texts(control, kind, operands, texts),
+        CallKind::Unlink => made_with_texts(control, kind, operands, texts),
+        CallKind::Link => made_with_texts(control, kind, operands, texts),
+        CallKind::Rename => made_with_texts(control, kind, operands, texts),
         CallKind::Pipe => Call::Pipe,
         CallKind::Socket => Call::Socket,
         CallKind::Socketpair => Call::Socketpair,
-        CallKind::Bind => made_with_texts(kind, numbers, texts),
+        CallKind::Bind => made_with_texts(control, kind, operands, texts),
         CallKind::Listen => Call::Listen {
-            fd: number_at(numbers, 0),
+            fd: operand_at(control, operands, 0),
         },
-        CallKind::Connect => made_with_texts(kind, numbers, texts),
+        CallKind::Connect => made_with_texts(control, kind, operands, texts),
         CallKind::Accept => Call::Accept {
-            fd: number_at(numbers, 0),
+            fd: operand_at(control, operands, 0),
         },
         CallKind::Shutdown => Call::Shutdown {
-            fd: number_at(numbers, 0),
-            how: number_at(numbers, 1),
+            fd: operand_at(control, operands, 0),
+            how: operand_at(control, operands, 1),
         },
-        CallKind::Poll => made_with_texts(kind, numbers, texts),
+        CallKind::Poll => made_with_texts(control, kind, operands, texts),
     }
 }
 
@@ -267,7 +274,7 @@ pub fn call_at(control: &Control, statement: Option<&Statement>) -> Call
     ensures { result ≡ call_at control.now (option_copied statement.entry) }
 {
     match statement {
-        None => Call::Exit { status: 0 },
+        None => made(control, CallKind::Exit, &[], &[]),
         Some(
             Statement::Invoke {
                 kind,
@@ -275,10 +282,28 @@ pub fn call_at(control: &Control, statement: Option<&Statement>) -> Call
                 texts,
                 ..
             },
-        ) => {
-            let numbers = numbers_of(control, operands.items());
-            made(*kind, numbers.as_slice(), texts.items(), control.done)
-        }
-        Some(_) => Call::SchedYield,
+        ) => made(control, *kind, operands.items(), texts.items()),
+        Some(_) => made(control, CallKind::SchedYield, &[], &[]),
+    }
+}
+
+/// The child and the options of the `waitpid` that a statement makes; None where its call is another one. It tells as much as
+/// the call does, and makes none.
+pub fn wait_at(control: &Control, statement: Option<&Statement>) -> Option<(i64, i64)>
+    requires { IfSome (option_copied statement) (IsRunnableAt control.now.place) }
+    ensures { result ≡ wait_of (call_at control.now (option_copied statement.entry)) }
+{
+    match statement {
+        Some(
+            Statement::Invoke {
+                kind: CallKind::Waitpid,
+                operands,
+                ..
+            },
+        ) => Some((
+            operand_at(control, operands.items(), 0),
+            operand_at(control, operands.items(), 1),
+        )),
+        Some(_) | None => None,
     }
 }

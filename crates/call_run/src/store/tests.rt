@@ -291,10 +291,12 @@ const PARENT: &[Row] = &[(1, Ask::Fork, Told::Val(2), 1152)];
 fn only_a_wait_would_block(rt: HostRuntime) -> Result<(), Fail> {
     let mut store = booted(rt.alloc(), 8192, Policy::Heaviest)?;
     go_through(&rt, &mut store, PARENT);
-    let wait = call_of(&Ask::Wait(-1, 0));
-    assert!(rt; would_block(&store.objects, 1, &wait) && !would_block(&store.objects, 2, &wait));
-    assert!(rt; !would_block(&store.objects, 1, &call_of(&Ask::Wait(-1, 1))));
-    assert!(rt; !would_block(&store.objects, 1, &call_of(&Ask::Fork)));
+    let wait = Some((-1, 0));
+    assert!(rt; would_block(&store.objects, 1, wait) && !would_block(&store.objects, 2, wait));
+    assert!(rt; !would_block(&store.objects, 1, Some((-1, 1))));
+    assert!(rt;
+        !would_block(&store.objects, 1, Some((0, 0))) && !would_block(&store.objects, 1, None)
+    );
     drop(store);
     Ok(())
 }

@@ -1,14 +1,9 @@
 use Rattle.std.proofs.Common.{◌≡◌, ◌∙◌, ap, option_copied, sym}
-use Rattle.std.specs.Prelude.{Option, None, Some}
-use Rattle.kheap_slabs.specs.declared.objects.Proc.{Proc}
 use Rattle.proc_table.specs.Procs.{proc_of}
 use Rattle.call_run.specs.Objects.{procs_of}
 use Rattle.call_run.proofs.RunningProcs.{alive_runs}
-use Rattle.call_run.proofs.Turning.{next_is, up_at_call}
+use Rattle.call_run.proofs.Turning.{missing, next_is, up_at_call}
 use Rattle.call_run.proofs.turns.next.Goals as goal
-
-missing : (o : Option Proc) (proc : Proc) → o ≡ None → o ≡ Some proc → ⊥
-missing o proc e f = cc
 
 pub proc-requires : goal.proc-requires
 proc-requires c = let alive = c.requires in alive.1.kept.holds.stored

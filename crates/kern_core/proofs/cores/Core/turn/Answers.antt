@@ -9,7 +9,7 @@ use Rattle.posix_defs.proofs.Sounds.{is_sound}
 use Rattle.kern_core.specs.View.{MayTake}
 use Rattle.kern_core.proofs.HeapBounds.{little_slack}
 use Rattle.kern_core.proofs.NextRun.{has_room, has_task_room, held_back, kept_next, reserved_charged, same_asked, takes_all, turns, rising_now, within_heap}
-use Rattle.kern_core.proofs.TurnLeads.{few_kept, few_then, is_paid, is_there, led, tasks_then}
+use Rattle.kern_core.proofs.TurnLeads.{asked_still, few_kept, few_then, is_paid, is_there, led, tasks_then}
 use Rattle.kern_core.proofs.cores.Core.turn.Goals as goal
 use Rattle.kern_core.proofs.CalmTurns.{calm}
 use Rattle.posix_defs.specs.SoundTasks.{AreRising}
@@ -71,8 +71,9 @@ add_born-requires-clause-room g c =
     let found : phase_in c.self.inside.tasks.items c.args.pid ≡ Admitted c.in-Admitted.asked =
     ap (λ ts. phase_in ts c.args.pid) (sym c.as_slice.ensures.value) ∙ sym c.phase_of.ensures ∙ c.in-Admitted.is in
     let asked = same_asked _ _ c.args.pid may.enabled.asked c.in-Admitted.asked Admitted (λ x y e. (cc)) may.is_at.tasks may.enabled.is found in
+    let still = asked_still _ _ may.state c.args.pid c.in-Admitted.asked c.turn-turned.result here.world sound may.enabled asked c.turn-turned.ensures.script here.leaves in
     let less : length c.bury_ended.new.tasks.items ≤ length c.self.inside.tasks.items =
-    few_kept here.world.plain c.args.pid c.phase_after-phase.result c.self.inside.tasks.items _ _ c.set_phase.ensures.items (c.bury_ended.ensures.items here.world here.stands (calm _ _ may.state c.args.pid _ _ here.world c.in-Admitted.asked _ _ _ _ sound may.enabled asked call here.turned may.is_at.tasks c.turn-turned.ensures.script (c.phase_after-phase.ensures here.world here.stands here.lives) c.set_phase.ensures.items c.may_end-ends.ensures)) in
+    few_kept here.world.plain c.args.pid c.phase_after-phase.result c.self.inside.tasks.items _ _ c.set_phase.ensures.items (c.bury_ended.ensures.items here.world here.stands (calm _ _ may.state c.args.pid _ _ here.world c.in-Admitted.asked _ _ _ _ sound may.enabled asked call here.turned may.is_at.tasks c.turn-turned.ensures.script (c.phase_after-phase.ensures here.world here.stands here.lives still) c.set_phase.ensures.items c.may_end-ends.ensures)) in
     let room : length c.self.inside.tasks.items < vec_capacity c.self.inside.tasks = has_task_room g.T.Turner.stands _ _ _ _ _ may.state c.self.invariant may.no_end in
     let same : vec_capacity c.bury_ended.new.tasks ≡ vec_capacity c.self.inside.tasks = c.bury_ended.ensures.room ∙ c.set_phase.ensures.room in
     omega (arith, c.bury_ended.new.tasks.ok.0)
@@ -136,8 +137,9 @@ invariant_of-self g c =
     let found : phase_in c.self.inside.tasks.items c.args.pid ≡ Admitted c.in-Admitted.asked =
     ap (λ ts. phase_in ts c.args.pid) (sym c.as_slice.ensures.value) ∙ sym c.phase_of.ensures ∙ c.in-Admitted.is in
     let asked = same_asked _ _ c.args.pid may.enabled.asked c.in-Admitted.asked Admitted (λ x y e. (cc)) may.is_at.tasks may.enabled.is found in
+    let still = asked_still _ _ may.state c.args.pid c.in-Admitted.asked c.turn-turned.result here.world sound may.enabled asked c.turn-turned.ensures.script here.leaves in
     let less : length c.bury_ended.new.tasks.items ≤ length c.self.inside.tasks.items =
-    few_kept here.world.plain c.args.pid c.phase_after-phase.result c.self.inside.tasks.items _ _ c.set_phase.ensures.items (c.bury_ended.ensures.items here.world here.stands (calm _ _ may.state c.args.pid _ _ here.world c.in-Admitted.asked _ _ _ _ sound may.enabled asked call here.turned may.is_at.tasks c.turn-turned.ensures.script (c.phase_after-phase.ensures here.world here.stands here.lives) c.set_phase.ensures.items c.may_end-ends.ensures)) in
+    few_kept here.world.plain c.args.pid c.phase_after-phase.result c.self.inside.tasks.items _ _ c.set_phase.ensures.items (c.bury_ended.ensures.items here.world here.stands (calm _ _ may.state c.args.pid _ _ here.world c.in-Admitted.asked _ _ _ _ sound may.enabled asked call here.turned may.is_at.tasks c.turn-turned.ensures.script (c.phase_after-phase.ensures here.world here.stands here.lives still) c.set_phase.ensures.items c.may_end-ends.ensures)) in
     let one : last_pid here.world.plain ≤ last_pid may.state.world.plain + 1 = here.one in
     let before : c.last_pid-before.result ≡ last_pid may.state.world.plain = c.last_pid-before.ensures may.state.world may.is_at.stands in
     let after : c.last_pid.result ≡ last_pid here.world.plain = c.last_pid.ensures here.world here.stands in
@@ -146,7 +148,7 @@ invariant_of-self g c =
     (turns g.T.Turner.stands _ _ may.state c.args.pid c.in-Admitted.asked _ _ here.world c.turn-turned.result _ _ _ _ _ may.is_at sound may.enabled asked
     c.entry_of-entry.ensures call here.stands here.turned
     (tasks_then _ _ may.state.world.plain here.world.plain c.args.pid _ _ _ _ _ _ _ _ c.turn-turned.ensures.script
-    (c.phase_after-phase.ensures here.world here.stands here.lives) c.set_phase.ensures.items (c.bury_ended.ensures.items here.world here.stands (calm _ _ may.state c.args.pid _ _ here.world c.in-Admitted.asked _ _ _ _ sound may.enabled asked call here.turned may.is_at.tasks c.turn-turned.ensures.script (c.phase_after-phase.ensures here.world here.stands here.lives) c.set_phase.ensures.items c.may_end-ends.ensures)) before after c.add_born.ensures.items)
+    (c.phase_after-phase.ensures here.world here.stands here.lives still) c.set_phase.ensures.items (c.bury_ended.ensures.items here.world here.stands (calm _ _ may.state c.args.pid _ _ here.world c.in-Admitted.asked _ _ _ _ sound may.enabled asked call here.turned may.is_at.tasks c.turn-turned.ensures.script (c.phase_after-phase.ensures here.world here.stands here.lives still) c.set_phase.ensures.items c.may_end-ends.ensures)) before after c.add_born.ensures.items)
     (c.live.ensures.bytes here.world here.stands))
     (c.note.ensures.run ∙ ap (λ n. c.self.inside.run.items ++ n ∷ []) c.noted_of-noted.ensures) refl
     (c.note.ensures.peak ∙ ap (λ n. max c.self.inside.peak n.charged) c.noted_of-noted.ensures) c.note.ensures.room
@@ -163,10 +165,11 @@ returns-clause-took g c =
     let call = c.next-call.ensures s.world at.stands (is_there _ s c.args.pid sound enabled) in
     let here = led g.T.Turner.stands _ s c.args.pid _ _ _ sound enabled call (c.turn-turned.ensures.turned s.world at.stands) in
     let asked = same_asked _ _ c.args.pid enabled.asked c.in-Admitted.asked Admitted (λ x y e. (cc)) at.tasks enabled.is found in
+    let still = asked_still _ _ s c.args.pid c.in-Admitted.asked c.turn-turned.result here.world sound enabled asked c.turn-turned.ensures.script here.leaves in
     turns g.T.Turner.stands _ _ s c.args.pid c.in-Admitted.asked _ _ here.world c.turn-turned.result _ _ _ _ _ at sound enabled asked
     c.entry_of-entry.ensures call here.stands here.turned
     (tasks_then _ _ s.world.plain here.world.plain c.args.pid _ _ _ _ _ _ _ _ c.turn-turned.ensures.script
-    (c.phase_after-phase.ensures here.world here.stands here.lives) c.set_phase.ensures.items (c.bury_ended.ensures.items here.world here.stands (calm _ _ s c.args.pid _ _ here.world c.in-Admitted.asked _ _ _ _ sound enabled asked call here.turned at.tasks c.turn-turned.ensures.script (c.phase_after-phase.ensures here.world here.stands here.lives) c.set_phase.ensures.items c.may_end-ends.ensures))
+    (c.phase_after-phase.ensures here.world here.stands here.lives still) c.set_phase.ensures.items (c.bury_ended.ensures.items here.world here.stands (calm _ _ s c.args.pid _ _ here.world c.in-Admitted.asked _ _ _ _ sound enabled asked call here.turned at.tasks c.turn-turned.ensures.script (c.phase_after-phase.ensures here.world here.stands here.lives still) c.set_phase.ensures.items c.may_end-ends.ensures))
     (c.last_pid-before.ensures s.world at.stands) (c.last_pid.ensures here.world here.stands) c.add_born.ensures.items)
     (c.live.ensures.bytes here.world here.stands))
 

@@ -1,0 +1,14 @@
+use Rattle.std.proofs.Common.{◌≡◌, ap, sym, ◌∙◌}
+use Rattle.std.specs.Prelude.{slice_get}
+use Rattle.posix_defs.specs.Control.{call_at, statement_of}
+use Rattle.prog_ctl.specs.Waits.{wait_of}
+use Rattle.prog_ctl.proofs.Settling.{rests_settled}
+use Rattle.prog_ctl.proofs.controls.wait_here.Goals as goal
+
+pub returns : goal.returns
+returns c =
+    let script = c.args.script.now in
+    let control = c.args.control.now in
+    c.wait_at.ensures
+    ∙ ap wait_of (ap (call_at control) (c.statement_at.ensures ∙ ap (λ body. slice_get body control.place) c.body_of.ensures)
+    ∙ sym (ap (λ here. call_at here (statement_of script here)) (rests_settled script control c.requires.rests)))
