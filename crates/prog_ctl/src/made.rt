@@ -274,7 +274,7 @@ pub fn call_at(control: &Control, statement: Option<&Statement>) -> Call
     ensures { result ≡ call_at control.now (option_copied statement.entry) }
 {
     match statement {
-        None => made(control, CallKind::Exit, &[], &[]),
+        None => Call::Exit { status: 0 },
         Some(
             Statement::Invoke {
                 kind,
@@ -283,7 +283,7 @@ pub fn call_at(control: &Control, statement: Option<&Statement>) -> Call
                 ..
             },
         ) => made(control, *kind, operands.items(), texts.items()),
-        Some(_) => made(control, CallKind::SchedYield, &[], &[]),
+        Some(_) => Call::SchedYield,
     }
 }
 
