@@ -22,11 +22,11 @@ const PAGE: usize = 4096;
 
 impl Space {
     // Gives a mapped page a frame of its own with its bytes, in place of what it had.
-    fn give_frame(&self, heap: &mut KHeap, purse: &mut Purse, page: u32, bytes: [u8; PAGE]) -> u32
+    fn give_frame(&self, heap: &mut KHeap, purse: &mut Purse, page: u32, bytes: &[u8; PAGE]) -> u32
         requires within { page < 256 }
         requires owned { IsOwnedWith heap.old self.now }
         requires mapped { is_mapped_at heap.old.nodes self.now page ≡ true }
-        requires content { content_at heap.old self.now page ≡ Some bytes }
+        requires content { content_at heap.old self.now page ≡ Some bytes.now }
         requires room { CanPay heap.old purse.old }
         requires left { 0 < purse.old.left.page }
         ensures named { entry_at heap.new.nodes self.now page ≡ PageEntry.Frame result }
@@ -67,13 +67,13 @@ impl Space {
     {
         match self.entry(heap, page) {
             PageEntry::Unmapped => unreachable!(),
-            PageEntry::Zero => self.give_frame(heap, purse, page, [0; PAGE]),
+            PageEntry::Zero => self.give_frame(heap, purse, page, &[0; PAGE]),
             PageEntry::Frame(key) => {
                 if heap.get_page(key).count == 1 {
                     return key;
                 }
                 let bytes = heap.get_page(key).bytes;
-                self.give_frame(heap, purse, page, bytes)
+                self.give_frame(heap, purse, page, &bytes)
             }
         }
     }

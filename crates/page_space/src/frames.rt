@@ -41,17 +41,20 @@ pub(crate) fn share_page(heap: &mut KHeap, key: u32)
 }
 
 // A page with these bytes, which one entry is to name.
-pub(crate) fn make_page(heap: &mut KHeap, purse: &mut Purse, bytes: [u8; 4096]) -> u32
+pub(crate) fn make_page(heap: &mut KHeap, purse: &mut Purse, bytes: &[u8; 4096]) -> u32
     requires room { CanPay heap.old purse.old }
     requires left { 0 < purse.old.left.page }
     ensures vacant { object heap.old.pages result ≡ None }
-    ensures stored { object heap.new.pages result ≡ Some (record { bytes = bytes; count = 1 }) }
-    ensures kept { heap.new ≡ record heap.old { pages = put heap.old.pages result (record { bytes = bytes; count = 1 }); high = heap.new.high } }
+    ensures stored { object heap.new.pages result ≡ Some (record { bytes = bytes.now; count = 1 }) }
+    ensures kept { heap.new ≡ record heap.old { pages = put heap.old.pages result (record { bytes = bytes.now; count = 1 }); high = heap.new.high } }
     ensures paid { IsPaid heap.old purse.old heap.new purse.new }
     ensures spent { purse.new ≡ record purse.old { left = with_count purse.old.left class.Page (purse.old.left.page - 1) } }
 {
     purse.spend(Class::Page);
-    heap.insert_page(Page { bytes, count: 1 })
+    heap.insert_page(Page {
+        bytes: *bytes,
+        count: 1,
+    })
 }
 
 // An entry says this no more.

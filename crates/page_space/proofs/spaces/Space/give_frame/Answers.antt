@@ -11,7 +11,7 @@ set_entry-requires-clause-owns c =
 
 pub returns-clause-stays : goal.returns-clause-stays
 returns-clause-stays c =
-    fresh-stays c.args.heap.now c.make_page-key.new.heap c.set_entry.new.heap c.drop_entry.new.heap c.args.self.now c.args.page c.make_page-key.result c.entry-was.result (record { bytes = c.args.bytes; count = 1 })
+    fresh-stays c.args.heap.now c.make_page-key.new.heap c.set_entry.new.heap c.drop_entry.new.heap c.args.self.now c.args.page c.make_page-key.result c.entry-was.result (record { bytes = c.args.bytes.now; count = 1 })
     c.make_page-key.ensures.kept c.make_page-key.ensures.vacant c.make_page-key.ensures.stored refl
     c.set_entry.ensures.turns c.set_entry.ensures.kept c.entry-was.ensures
     c.drop_entry.ensures.counts c.drop_entry.ensures.others c.requires.within c.drop_entry.ensures.named c.drop_entry.ensures.bytes c.drop_entry.ensures.kept
@@ -20,7 +20,7 @@ returns-clause-stays c =
 
 pub returns-clause-moves : goal.returns-clause-moves
 returns-clause-moves c =
-    fresh-moves c.args.heap.now c.make_page-key.new.heap c.set_entry.new.heap c.drop_entry.new.heap c.args.self.now c.args.page c.make_page-key.result c.entry-was.result (record { bytes = c.args.bytes; count = 1 })
+    fresh-moves c.args.heap.now c.make_page-key.new.heap c.set_entry.new.heap c.drop_entry.new.heap c.args.self.now c.args.page c.make_page-key.result c.entry-was.result (record { bytes = c.args.bytes.now; count = 1 })
     c.make_page-key.ensures.kept c.make_page-key.ensures.vacant c.make_page-key.ensures.stored refl
     c.set_entry.ensures.turns c.set_entry.ensures.kept c.entry-was.ensures
     c.drop_entry.ensures.counts c.drop_entry.ensures.others c.requires.within c.drop_entry.ensures.named c.drop_entry.ensures.bytes c.drop_entry.ensures.kept
@@ -28,7 +28,7 @@ returns-clause-moves c =
 
 pub returns-clause-own : goal.returns-clause-own
 returns-clause-own c =
-    fresh-own c.args.heap.now c.make_page-key.new.heap c.set_entry.new.heap c.drop_entry.new.heap c.args.self.now c.args.page c.make_page-key.result c.entry-was.result (record { bytes = c.args.bytes; count = 1 })
+    fresh-own c.args.heap.now c.make_page-key.new.heap c.set_entry.new.heap c.drop_entry.new.heap c.args.self.now c.args.page c.make_page-key.result c.entry-was.result (record { bytes = c.args.bytes.now; count = 1 })
     c.make_page-key.ensures.kept c.make_page-key.ensures.vacant c.make_page-key.ensures.stored refl
     c.set_entry.ensures.turns c.set_entry.ensures.kept c.entry-was.ensures
     c.drop_entry.ensures.counts c.drop_entry.ensures.others c.requires.within c.drop_entry.ensures.named c.drop_entry.ensures.bytes c.drop_entry.ensures.kept
@@ -36,7 +36,7 @@ returns-clause-own c =
 
 pub returns-clause-account : goal.returns-clause-account
 returns-clause-account c =
-    fresh-account c.args.heap.now c.make_page-key.new.heap c.set_entry.new.heap c.drop_entry.new.heap c.args.self.now c.args.page c.make_page-key.result c.entry-was.result (record { bytes = c.args.bytes; count = 1 })
+    fresh-account c.args.heap.now c.make_page-key.new.heap c.set_entry.new.heap c.drop_entry.new.heap c.args.self.now c.args.page c.make_page-key.result c.entry-was.result (record { bytes = c.args.bytes.now; count = 1 })
     c.make_page-key.ensures.kept c.make_page-key.ensures.vacant c.make_page-key.ensures.stored refl
     c.set_entry.ensures.turns c.set_entry.ensures.kept c.entry-was.ensures
     c.drop_entry.ensures.counts c.drop_entry.ensures.others c.requires.within c.drop_entry.ensures.named c.drop_entry.ensures.bytes c.drop_entry.ensures.kept
