@@ -72,11 +72,18 @@ fn is_page_range(addr: i64, length: i64) -> bool
     first % PAGE_SIZE == 0 && first <= SPACE_SIZE && n <= SPACE_SIZE - first
 }
 
-/// Whether `waitpid` may ask for it: a pid, or -1 for any child.
-fn is_child(pid: i64) -> bool
-    ensures { result ≡ (is_minus_one pid || is_from 1 pid) }
+/// Whether `waitpid` takes them: a pid, or -1 for any child, and no option or WNOHANG.
+fn may_wait(pid: i64, options: i64) -> bool
+    ensures { result ≡ ((is_minus_one pid || is_from 1 pid) && is_within 0 1 options) }
 {
-    pid == -1 || is_from(1, pid)
+    (pid == -1 || is_from(1, pid)) && is_within(0, 1, options)
+}
+
+/// Whether `kill` takes them: a pid, and signal 0 or 9.
+fn may_kill(pid: i64, signal: i64) -> bool
+    ensures { result ≡ (is_from 1 pid && (is_number 0 signal || is_number 9 signal)) }
+{
+    is_from(1, pid) && matches!(signal, 0 | 9)
 }
 
 /// Whether `fcntl` has the command, and command 0 a descriptor to begin at.
@@ -164,12 +171,8 @@ impl Call {
         ensures { result_err result ≡ argument_fault self.now }
     {
         match self {
-            Call::Waitpid { pid, options } => {
-                invalid_unless(is_child(*pid) && is_within(0, 1, *options))
-            }
-            Call::Kill { pid, signal } => {
-                invalid_unless(is_from(1, *pid) && matches!(*signal, 0 | 9))
-            }
+            Call::Waitpid { pid, options } => invalid_unless(may_wait(*pid, *options)),
+            Call::Kill { pid, signal } => invalid_unless(may_kill(*pid, *signal)),
             Call::Mmap { length } => invalid_unless(is_from(1, *length)),
             Call::Munmap { addr, length } => {
                 invalid_unless(is_from(1, *length) && is_page_range(*addr, *length))
