@@ -2,6 +2,7 @@ ghost use Rattle.std.specs.Prelude.{◌≡◌, ◌+◌, ◌<◌, ◌≤◌, leng
 ghost use Rattle.kheap_slabs.specs.Objects.{object, InUse, count, put, without};
 
 mod pages;
+mod processes;
 
 use slab::Slab;
 use std::alloc::{AllocError, Global};

@@ -1,17 +1,19 @@
 //! Processes and their memory.
 
-ghost use Rattle.std.specs.Prelude.{◌≡◌, ◌+◌, ◌/◌, ◌<◌, ◌≤◌, None, Some, length};
+ghost use Rattle.std.specs.Prelude.{◌≡◌, ◌+◌, ◌/◌, ◌<◌, ◌≤◌, None, Some, length, slice_set};
 ghost use Rattle.kabi_types.specs.Class.{size};
 ghost use Rattle.kabi_types.specs.declared.classes.Class.TheVariants as class;
 ghost use Rattle.kheap_slabs.specs.Heap.{live_bytes, Makes, Frees};
 ghost use Rattle.kheap_slabs.specs.Objects.{object, InUse, put, without};
 ghost use Rattle.kheap_slabs.specs.Purse.{TakesNothing};
 ghost use Rattle.kheap_slabs.specs.Spaces.{with_bytes};
+ghost use Rattle.kheap_slabs.specs.declared.objects.Node.{Node as NodeOf};
 ghost use Rattle.kheap_slabs.specs.declared.objects.Page.{Page as PageOf};
+ghost use Rattle.kheap_slabs.specs.declared.objects.Proc.{Proc as ProcOf};
 
 use super::KHeap;
-use crate::{Node, Page, Proc};
-use kabi_types::Class;
+use crate::{Node, Page, PageEntry, Proc};
+use kabi_types::{Class, Control};
 
 impl KHeap {
     /// Puts a Proc under a key that was free, and gives the key.
@@ -62,6 +64,19 @@ impl KHeap {
         self.procs.set(key, value);
     }
 
+    /// Tells where a process has come to in its program. All else of it stays in its place.
+    pub fn set_proc_control(&mut self, key: u32, control: Control)
+        requires { InUse self.old.procs key }
+        ensures kept { (proc : ProcOf) → object self.old.procs key ≡ Some proc
+            → self.new
+            ≡ record self.old { procs = put self.old.procs key (record proc { control = control }) } }
+        ensures stays { InUse self.new.procs key }
+        ensures live { live_bytes self.new ≡ live_bytes self.old }
+        ensures takes { TakesNothing self.old self.new }
+    {
+        self.procs.set_control(key, control);
+    }
+
     /// Puts a Node under a key that was free, and gives the key.
     pub fn insert_node(&mut self, value: Node) -> u32
         requires { live_bytes self.old + size class.Node ≤ self.old.heap }
@@ -108,6 +123,20 @@ impl KHeap {
         ensures takes { TakesNothing self.old self.new }
     {
         self.nodes.set(key, value);
+    }
+
+    /// Gives one page of a Node another entry. Its other entries stay in their place.
+    pub fn set_node_entry(&mut self, key: u32, at: u32, entry: PageEntry)
+        requires used { InUse self.old.nodes key }
+        requires within { at < 64 }
+        ensures kept { (node : NodeOf) → object self.old.nodes key ≡ Some node
+            → self.new
+            ≡ record self.old { nodes = put self.old.nodes key (record node { entries = slice_set node.entries at entry }) } }
+        ensures stays { InUse self.new.nodes key }
+        ensures live { live_bytes self.new ≡ live_bytes self.old }
+        ensures takes { TakesNothing self.old self.new }
+    {
+        self.nodes.set_entry(key, at, entry);
     }
 
     /// Puts a Page under a key that was free, and gives the key.
