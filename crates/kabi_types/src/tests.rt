@@ -1,12 +1,11 @@
 use crate::{
-    Bytes64, Call, CallKind, Entries, Entry, Errno, Event, FaultKind, Name27, NodeKind, Noted,
-    Numbers, OpenFlags, Operand, Operands, Path, PollEntry, PollHits, PollList, Program, Programs,
-    Reply, Revents, ScriptFault, StatInfo, Statement, Statements, Text, Texts,
+    Bytes64, CallKind, Entries, Entry, Errno, Event, FaultKind, Name27, NodeKind, Noted, OpenFlags,
+    Path, PollEntry, PollHits, PollList, Reply, Revents, ScriptFault, StatInfo,
 };
 use bitflags::Flags;
-use std::alloc::{AllocError, Global};
+use std::alloc::Global;
+use std::fmt::Display;
 use std::process::Abort;
-use std::test::Fail;
 
 mod arguments;
 mod copies;
@@ -115,6 +114,16 @@ fn replies_of_lists_have_two_values(rt: HostRuntime) {
     }
 }
 
+/// The bits of the flags that a number stands for.
+fn bits_of(flags: i64) -> Option<i64> {
+    let found = OpenFlags::of(flags)?;
+    Some(i64::from(found.bits()))
+}
+
+fn has_bits(rt: &impl Abort, flags: i64, bits: Option<i64>) {
+    assert!(rt; bits_of(flags) == bits, "{flags}");
+}
+
 const FLAGS: &[i64] = &[0, 1, 2, 64, 65, 128, 512, 1024, 2048, 524288, 528066];
 
 const NO_FLAGS: &[i64] = &[
@@ -142,14 +151,14 @@ const NO_FLAGS: &[i64] = &[
 #[test]
 fn open_flags_are_the_known_bits(rt: HostRuntime) {
     for flags in FLAGS {
-        let found = OpenFlags::of(*flags).map(|found| i64::from(found.bits()));
-        assert!(rt; found == Some(*flags), "{flags}");
+        has_bits(&rt, *flags, Some(*flags));
     }
     for flags in NO_FLAGS {
-        assert!(rt; OpenFlags::of(*flags).is_none(), "{flags}");
+        has_bits(&rt, *flags, None);
     }
 }
 
+/// So many bytes, each unlike those beside it.
 fn counted<const N: usize>() -> [u8; N] {
     let mut bytes = [0; N];
     for (place, byte) in bytes.iter_mut().enumerate() {
@@ -158,134 +167,87 @@ fn counted<const N: usize>() -> [u8; N] {
     bytes
 }
 
-#[test]
-fn a_path_takes_255_bytes(rt: HostRuntime) {
-    let bytes = counted::<255>();
-    let path = Path::of(&bytes).expect(&rt, "255 bytes");
-    assert!(rt; path.items() == bytes.as_slice() && path.copy() == path);
-    assert!(rt; Path::of(&counted::<256>()).is_none());
-}
-
-#[test]
-fn a_store_takes_64_bytes(rt: HostRuntime) {
-    let bytes = counted::<64>();
-    let stored = Bytes64::of(&bytes).expect(&rt, "64 bytes");
-    assert!(rt; stored.items() == bytes.as_slice() && stored.copy() == stored);
-    assert!(rt; Bytes64::of(&counted::<65>()).is_none());
-}
-
-#[test]
-fn a_name_takes_27_bytes(rt: HostRuntime) {
-    let bytes = counted::<27>();
-    let name = Name27::of(&bytes).expect(&rt, "27 bytes");
-    assert!(rt; name.items() == bytes.as_slice() && name.copy() == name);
-    assert!(rt; Name27::of(&counted::<28>()).is_none());
-}
-
-#[test]
-fn revents_are_8_sets(rt: HostRuntime) {
-    let sets = counted::<8>();
-    let revents = Revents::of(&sets).expect(&rt, "8 sets of events");
-    assert!(rt; revents.items() == sets.as_slice() && revents.copy() == revents);
-    assert!(rt; Revents::of(&counted::<9>()).is_none());
-}
-
-#[test]
-fn poll_takes_8_entries(rt: HostRuntime) {
-    let asked = counted::<8>().map(asks_about);
-    let entries = PollList::of(&asked).expect(&rt, "8 entries");
-    assert!(rt; entries.items() == asked.as_slice() && entries.copy() == entries);
-    assert!(rt; PollList::of(&counted::<9>().map(asks_about)).is_none());
-}
-
-fn asks_about(fd: u8) -> PollEntry {
-    PollEntry {
-        fd: i64::from(fd),
-        events: 1,
+/// So many entries of `poll`, each of another descriptor.
+fn asked<const N: usize>() -> [PollEntry; N] {
+    let mut entries = [PollEntry { fd: 0, events: 1 }; N];
+    for (place, entry) in entries.iter_mut().enumerate() {
+        entry.fd = place as i64;
     }
+    entries
+}
+
+// Each of these says whether a list has what it is made of, and its copy too, or None where none can be made of so much.
+
+fn path_has(given: &[u8]) -> Option<bool> {
+    let path = Path::of(given)?;
+    Some(path.items() == given && path.copy() == path)
+}
+
+fn stored_has(given: &[u8]) -> Option<bool> {
+    let stored = Bytes64::of(given)?;
+    Some(stored.items() == given && stored.copy() == stored)
+}
+
+fn name_has(given: &[u8]) -> Option<bool> {
+    let name = Name27::of(given)?;
+    Some(name.items() == given && name.copy() == name)
+}
+
+fn revents_have(given: &[u8]) -> Option<bool> {
+    let revents = Revents::of(given)?;
+    Some(revents.items() == given && revents.copy() == revents)
+}
+
+fn poll_has(given: &[PollEntry]) -> Option<bool> {
+    let entries = PollList::of(given)?;
+    Some(entries.items() == given && entries.copy() == entries)
+}
+
+/// Looks at what became of the longest list and of one that is longer by one.
+fn is_longest(rt: &impl Abort, longest: Option<bool>, longer: Option<bool>) {
+    assert!(rt; longest == Some(true) && longer.is_none());
 }
 
 #[test]
-fn numbers_keep_their_items(rt: HostRuntime) -> Result<(), Fail> {
-    let given = [3, 0, 4294967295];
-    let numbers = Numbers::from_vec(given.to_vec(rt.alloc())?);
-    assert!(rt; numbers.items() == given.as_slice());
-    Ok(())
+fn lists_have_their_greatest_lengths(rt: HostRuntime) {
+    is_longest(
+        &rt,
+        path_has(&counted::<255>()),
+        path_has(&counted::<256>()),
+    );
+    is_longest(
+        &rt,
+        stored_has(&counted::<64>()),
+        stored_has(&counted::<65>()),
+    );
+    is_longest(&rt, name_has(&counted::<27>()), name_has(&counted::<28>()));
+    is_longest(
+        &rt,
+        revents_have(&counted::<8>()),
+        revents_have(&counted::<9>()),
+    );
+    is_longest(&rt, poll_has(&asked::<8>()), poll_has(&asked::<9>()));
 }
 
 #[test]
-fn operands_keep_their_items(rt: HostRuntime) -> Result<(), Fail> {
-    let given = [Operand::Reg(15), Operand::Number(-1)];
-    let operands = Operands::from_vec(given.to_vec(rt.alloc())?);
-    assert!(rt; operands.items() == given.as_slice());
-    Ok(())
-}
-
-#[test]
-fn texts_keep_their_items(rt: HostRuntime) -> Result<(), Fail> {
-    let mut written = Vec::new(rt.alloc());
-    written.push(Text::from_vec(b"/a".to_vec(rt.alloc())?))?;
-    let texts = Texts::from_vec(written);
-    assert!(rt; matches!(texts.items(), [text] if text.items() == b"/a".as_slice()));
-    Ok(())
-}
-
-/// Two statements, 'set r3 7' and a jump to place 1.
-fn body(alloc: Global) -> Result<Statements, AllocError> {
-    let mut said = Vec::new(alloc);
-    said.push(Statement::Set(3, Operand::Number(7)))?;
-    said.push(Statement::Jump(1))?;
-    Ok(Statements::from_vec(said))
-}
-
-#[test]
-fn statements_keep_their_items(rt: HostRuntime) -> Result<(), Fail> {
-    let body = body(rt.alloc())?;
+fn histories_keep_their_entries(rt: HostRuntime) {
+    let kind = CallKind::Poll;
+    let happened = Vec::from_array(rt.alloc(), [Entry::Slept { pid: 2, kind }]);
+    let entries = Entries::from_vec(happened.expect(&rt, "memory"));
     assert!(rt;
         matches!(
-            body.items(),
-            [Statement::Set(3, Operand::Number(7)), Statement::Jump(1)]
+            entries.items(),
+            [Entry::Slept {
+                pid: 2,
+                kind: CallKind::Poll
+            }]
         )
     );
-    Ok(())
+    drop(entries);
 }
 
 #[test]
-fn programs_keep_their_items(rt: HostRuntime) -> Result<(), Fail> {
-    let name = Name27::of(b"init").expect(&rt, "4 bytes");
-    let mut made = Vec::new(rt.alloc());
-    made.push(Program {
-        name,
-        body: body(rt.alloc())?,
-    })?;
-    let programs = Programs::from_vec(made);
-    assert!(rt;
-        matches!(programs.items(), [program] if program.name.items() == b"init".as_slice() && program.body.items().len() == 2)
-    );
-    Ok(())
-}
-
-#[test]
-fn histories_keep_their_entries(rt: HostRuntime) -> Result<(), Fail> {
-    let kind = CallKind::Poll;
-    let mut happened = Vec::new(rt.alloc());
-    happened.push(Entry::Slept { pid: 2, kind })?;
-    let entries = Entries::from_vec(happened);
-    assert!(rt; entries.items() == [Entry::Slept { pid: 2, kind }].as_slice());
-    Ok(())
-}
-
-#[test]
-fn calls_and_events_keep_their_kind(rt: HostRuntime) {
-    let path = Path::of(b"/etc").expect(&rt, "4 bytes");
-    assert!(rt; Call::Chdir { path }.kind() == CallKind::Chdir);
-    let written = Call::Pwrite {
-        fd: 3,
-        addr: 4096,
-        n: 1,
-        at: 0,
-    };
-    assert!(rt; written.kind() == CallKind::Pwrite);
+fn events_keep_what_they_did(rt: HostRuntime) {
     let noted = Noted {
         event: Event::Turn(1),
         kind: Some(CallKind::Exit),
@@ -297,7 +259,18 @@ fn calls_and_events_keep_their_kind(rt: HostRuntime) {
         bound: 0,
         charged: 2304,
     };
-    assert!(rt; noted.copy() == noted);
+    let copy = noted.copy();
+    assert!(rt; copy == noted);
+}
+
+fn is_said(rt: &impl Abort, told: &str, words: &str) {
+    assert!(rt; told == words, "{told}");
+}
+
+fn is_printed<T: Display>(rt: &impl Abort, alloc: Global, value: &T, words: &str) {
+    let told = format!(in alloc; "{value}").expect(rt, "memory");
+    is_said(rt, &told, words);
+    drop(told);
 }
 
 const FAULTS: &[(FaultKind, &str)] = &[
@@ -315,20 +288,15 @@ const FAULTS: &[(FaultKind, &str)] = &[
 ];
 
 #[test]
-fn faults_are_told_in_words(rt: HostRuntime) -> Result<(), Fail> {
+fn faults_are_told_in_words(rt: HostRuntime) {
     for (what, words) in FAULTS {
-        let told = format!(in rt.alloc();
-            "{}",
-            ScriptFault {
-                line: 4,
-                what: *what
-            }
-        )?;
-        assert!(rt; told.as_str() == *words);
+        let fault = ScriptFault {
+            line: 4,
+            what: *what,
+        };
+        is_printed(&rt, rt.alloc(), &fault, words);
     }
-    let told = format!(in rt.alloc(); "{}", Errno::ENOTDIR)?;
-    assert!(rt; told.as_str() == "not a directory");
-    Ok(())
+    is_printed(&rt, rt.alloc(), &Errno::ENOTDIR, "not a directory");
 }
 
 const WORDS: &[(CallKind, &str)] = &[
@@ -342,8 +310,16 @@ const WORDS: &[(CallKind, &str)] = &[
 #[test]
 fn calls_and_errnos_have_their_words(rt: HostRuntime) {
     for (kind, word) in WORDS {
-        assert!(rt; kind.word() == *word);
+        is_said(&rt, kind.word(), word);
     }
-    assert!(rt; Errno::EPERM.name() == "EPERM");
-    assert!(rt; Errno::ECONNREFUSED.name() == "ECONNREFUSED");
+    is_said(&rt, Errno::EPERM.name(), "EPERM");
+    is_said(&rt, Errno::ECONNREFUSED.name(), "ECONNREFUSED");
+}
+
+#[test]
+fn a_script_writes_41_calls(rt: HostRuntime) {
+    assert!(rt; CallKind::ALL.len() == 41);
+    for kind in &CallKind::ALL {
+        assert!(rt; !kind.word().is_empty());
+    }
 }
