@@ -2,7 +2,6 @@ ghost use Rattle.std.specs.Prelude.{◌≡◌, ◌<◌, ◌≤◌, [], ◌∷◌
 ghost use Rattle.posix_defs.specs.Asking.{AskedInTurn};
 
 use crate::{BlockList, Blocks};
-use std::test::Fail;
 
 /// Writes a block of sevens and reads two blocks, through the trait alone.
 fn write_and_read<B: Blocks>(disk: &mut B) -> (u8, u8)
@@ -30,15 +29,14 @@ fn read_two<B: Blocks>(disk: &mut B) -> Option<([u8; 1024], [u8; 1024])>
 }
 
 #[test]
-fn blocks_are_written_one_by_one(rt: HostRuntime) -> Result<(), Fail> {
-    let mut disk = BlockList {
-        blocks: vec![in rt.alloc(); [0; 1024]; 4]?,
-    };
+fn blocks_are_written_one_by_one(rt: HostRuntime) {
+    let blocks = vec![in rt.alloc(); [0; 1024]; 4].expect(&rt, "memory");
+    let mut disk = BlockList { blocks };
     assert!(rt; disk.blocks.len() == 4);
     assert!(rt; write_and_read(&mut disk) == (7, 0));
     assert!(rt; disk.count() == 4);
-    let two = read_two(&mut disk).ok_or("there are four blocks")?;
+    let two = read_two(&mut disk).expect(&rt, "there are four blocks");
     assert!(rt; two.0 == [0; 1024]);
     assert!(rt; two.1 == [0; 1024]);
-    Ok(())
+    drop(disk);
 }
