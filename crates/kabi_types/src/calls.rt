@@ -11,7 +11,7 @@ pub struct PollEntry {
 
 /// A system call with its operands, as the process makes it. Addresses, lengths, descriptors and flags are the numbers
 /// that the script gave, not checked yet.
-#[derive(Debug, Drop, PartialEq, Eq)]
+#[derive(Drop)]
 pub enum Call {
     Getpid,
     Getppid,

@@ -1,72 +1,41 @@
 ghost use Rattle.std.specs.Prelude.{◌≡◌};
 ghost use Rattle.kabi_types.specs.Errno.{number_of};
 
-use thiserror::Error;
+use std::fmt::{Display, Error, Formatter, Write};
 
 /// Why a call failed, under the names of POSIX's errno.h. The numbers are this kernel's own.
-#[derive(Clone, Copy, Debug, PartialEq, Eq, Error)]
+#[derive(Clone, Copy, Debug, PartialEq, Eq)]
 pub enum Errno {
-    #[error("operation not permitted")]
     EPERM,
-    #[error("no such file or directory")]
     ENOENT,
-    #[error("no such process")]
     ESRCH,
-    #[error("executable file format error")]
     ENOEXEC,
-    #[error("bad file descriptor")]
     EBADF,
-    #[error("no child processes")]
     ECHILD,
-    #[error("resource unavailable, try again")]
     EAGAIN,
-    #[error("not enough space")]
     ENOMEM,
-    #[error("permission denied")]
     EACCES,
-    #[error("bad address")]
     EFAULT,
-    #[error("resource busy")]
     EBUSY,
-    #[error("file exists")]
     EEXIST,
-    #[error("not a directory")]
     ENOTDIR,
-    #[error("is a directory")]
     EISDIR,
-    #[error("invalid argument")]
     EINVAL,
-    #[error("too many open files")]
     EMFILE,
-    #[error("file too large")]
     EFBIG,
-    #[error("no space left on device")]
     ENOSPC,
-    #[error("invalid seek")]
     ESPIPE,
-    #[error("too many links")]
     EMLINK,
-    #[error("broken pipe")]
     EPIPE,
-    #[error("file name too long")]
     ENAMETOOLONG,
-    #[error("directory not empty")]
     ENOTEMPTY,
-    #[error("value too large")]
     EOVERFLOW,
-    #[error("not a socket")]
     ENOTSOCK,
-    #[error("destination address required")]
     EDESTADDRREQ,
-    #[error("operation not supported on socket")]
     EOPNOTSUPP,
-    #[error("address in use")]
     EADDRINUSE,
-    #[error("socket is connected")]
     EISCONN,
-    #[error("socket is not connected")]
     ENOTCONN,
-    #[error("connection refused")]
     ECONNREFUSED,
 }
 
@@ -108,5 +77,50 @@ impl Errno {
             Errno::ENOTCONN => 107,
             Errno::ECONNREFUSED => 111,
         }
+    }
+}
+
+impl Errno {
+    /// What went wrong, in words.
+    fn words(self) -> &'static str {
+        match self {
+            Errno::EPERM => "operation not permitted",
+            Errno::ENOENT => "no such file or directory",
+            Errno::ESRCH => "no such process",
+            Errno::ENOEXEC => "executable file format error",
+            Errno::EBADF => "bad file descriptor",
+            Errno::ECHILD => "no child processes",
+            Errno::EAGAIN => "resource unavailable, try again",
+            Errno::ENOMEM => "not enough space",
+            Errno::EACCES => "permission denied",
+            Errno::EFAULT => "bad address",
+            Errno::EBUSY => "resource busy",
+            Errno::EEXIST => "file exists",
+            Errno::ENOTDIR => "not a directory",
+            Errno::EISDIR => "is a directory",
+            Errno::EINVAL => "invalid argument",
+            Errno::EMFILE => "too many open files",
+            Errno::EFBIG => "file too large",
+            Errno::ENOSPC => "no space left on device",
+            Errno::ESPIPE => "invalid seek",
+            Errno::EMLINK => "too many links",
+            Errno::EPIPE => "broken pipe",
+            Errno::ENAMETOOLONG => "file name too long",
+            Errno::ENOTEMPTY => "directory not empty",
+            Errno::EOVERFLOW => "value too large",
+            Errno::ENOTSOCK => "not a socket",
+            Errno::EDESTADDRREQ => "destination address required",
+            Errno::EOPNOTSUPP => "operation not supported on socket",
+            Errno::EADDRINUSE => "address in use",
+            Errno::EISCONN => "socket is connected",
+            Errno::ENOTCONN => "socket is not connected",
+            Errno::ECONNREFUSED => "connection refused",
+        }
+    }
+}
+
+impl Display for Errno {
+    fn fmt<W: Write>(&self, f: &mut Formatter<W>) -> Result<(), Error> {
+        f.write_str(self.words())
     }
 }
