@@ -24,16 +24,20 @@ abbrev pub most_text : Shape → ℕ
 most_text shape.ValueBytes = 64
 most_text _ = 255
 
--- the calls of this kind take texts, or a list of entries
+-- the calls of this kind take one path and nothing else
+abbrev pub TakesPath : CallKind → Type 0
+TakesPath kind.Exec = ⊤
+TakesPath kind.Stat = ⊤
+TakesPath kind.Chdir = ⊤
+TakesPath kind.Mkdir = ⊤
+TakesPath kind.Rmdir = ⊤
+TakesPath kind.Unlink = ⊤
+TakesPath _ = ⊥
+
+-- the calls of this kind take texts beside numbers, two texts, or a list of entries
 abbrev pub TakesMore : CallKind → Type 0
-TakesMore kind.Exec = ⊤
 TakesMore kind.Store = ⊤
 TakesMore kind.OpenFile = ⊤
-TakesMore kind.Stat = ⊤
-TakesMore kind.Chdir = ⊤
-TakesMore kind.Mkdir = ⊤
-TakesMore kind.Rmdir = ⊤
-TakesMore kind.Unlink = ⊤
 TakesMore kind.Link = ⊤
 TakesMore kind.Rename = ⊤
 TakesMore kind.Bind = ⊤

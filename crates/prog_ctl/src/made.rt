@@ -1,11 +1,11 @@
 //! The call that a statement makes of its operands.
 
-ghost use Rattle.std.specs.Prelude.{◌≡◌, ℕ, ◌≤◌, drop, length, map, IfSome, option_copied};
+ghost use Rattle.std.specs.Prelude.{◌≡◌, ℕ, ℤ, List, ◌≤◌, drop, length, map, IfSome, option_copied};
 ghost use Rattle.std.specs.List.{AllByRecursion};
 ghost use Rattle.posix_defs.specs.Control.{call_at, value_of};
 ghost use Rattle.posix_defs.specs.Made as spec;
 ghost use Rattle.posix_defs.specs.ScriptLines.{shape_of};
-ghost use Rattle.prog_ctl.specs.Runnable.{IsOperand, IsRunnableAt, TakesMore, most_text};
+ghost use Rattle.prog_ctl.specs.Runnable.{IsOperand, IsRunnableAt, TakesMore, TakesPath, most_text};
 ghost use Rattle.prog_ctl.specs.Waits.{wait_of};
 
 use crate::statements::value_of;
@@ -87,26 +87,15 @@ fn numbers_of(control: &Control, operands: &[Operand]) -> ArrayVec<i64, 17>
     numbers
 }
 
-/// The call of a kind that takes texts or a list, with these operands and texts in the order of its fields. It stands by
-/// itself, since a function pays for the room of all its locals whenever it is entered.
+/// The call of a kind that takes one path and nothing else. It stands by itself, as `made_with_texts` does.
 #[inline(never)]
-fn made_with_texts(control: &Control, kind: CallKind, operands: &[Operand], texts: &[Text]) -> Call
-    requires count { length operands.now ≤ 17 }
-    requires each { AllByRecursion IsOperand operands.now }
+fn made_on_path(kind: CallKind, texts: &[Text]) -> Call
     requires texts { AllByRecursion (λ text. length text ≤ most_text (shape_of kind)) texts.now }
-    ensures { (done : ℕ) → TakesMore kind → result ≡ spec.made kind (map (value_of control.now) operands.now) texts.now done }
+    ensures { (numbers : List ℤ) (done : ℕ) → TakesPath kind → result ≡ spec.made kind numbers texts.now done }
 {
     match kind {
         CallKind::Exec => Call::Exec {
             path: path_at(texts, 0),
-        },
-        CallKind::Store => Call::Store {
-            addr: operand_at(control, operands, 0),
-            bytes: bytes_at(texts, 0),
-        },
-        CallKind::OpenFile => Call::OpenFile {
-            path: path_at(texts, 0),
-            flags: operand_at(control, operands, 0),
         },
         CallKind::Stat => Call::Stat {
             path: path_at(texts, 0),
@@ -122,6 +111,28 @@ fn made_with_texts(control: &Control, kind: CallKind, operands: &[Operand], text
         },
         CallKind::Unlink => Call::Unlink {
             path: path_at(texts, 0),
+        },
+        _ => Call::SchedYield,
+    }
+}
+
+/// The call of a kind that takes texts or a list, and not one path alone, with these operands and texts in the order of its fields. It stands by
+/// itself, since a function pays for the room of all its locals whenever it is entered.
+#[inline(never)]
+fn made_with_texts(control: &Control, kind: CallKind, operands: &[Operand], texts: &[Text]) -> Call
+    requires count { length operands.now ≤ 17 }
+    requires each { AllByRecursion IsOperand operands.now }
+    requires texts { AllByRecursion (λ text. length text ≤ most_text (shape_of kind)) texts.now }
+    ensures { (done : ℕ) → TakesMore kind → result ≡ spec.made kind (map (value_of control.now) operands.now) texts.now done }
+{
+    match kind {
+        CallKind::Store => Call::Store {
+            addr: operand_at(control, operands, 0),
+            bytes: bytes_at(texts, 0),
+        },
+        CallKind::OpenFile => Call::OpenFile {
+            path: path_at(texts, 0),
+            flags: operand_at(control, operands, 0),
         },
         CallKind::Link => Call::Link {
             old: path_at(texts, 0),
@@ -162,7 +173,7 @@ fn made(control: &Control, kind: CallKind, operands: &[Operand], texts: &[Text])
         CallKind::Getppid => Call::Getppid,
         CallKind::SchedYield => Call::SchedYield,
         CallKind::Fork => Call::Fork,
-        CallKind::Exec => made_with_texts(control, kind, operands, texts),
+        CallKind::Exec => made_on_path(kind, texts),
         CallKind::Exit => Call::Exit {
             status: operand_at(control, operands, 0),
         },
@@ -242,11 +253,11 @@ fn made(control: &Control, kind: CallKind, operands: &[Operand], texts: &[Text])
         CallKind::Fstat => Call::Fstat {
             fd: operand_at(control, operands, 0),
         },
-        CallKind::Stat => made_with_texts(control, kind, operands, texts),
-        CallKind::Chdir => made_with_texts(control, kind, operands, texts),
-        CallKind::Mkdir => made_with_texts(control, kind, operands, texts),
-        CallKind::Rmdir => made_with_texts(control, kind, operands, texts),
-        CallKind::Unlink => made_with_texts(control, kind, operands, texts),
+        CallKind::Stat => made_on_path(kind, texts),
+        CallKind::Chdir => made_on_path(kind, texts),
+        CallKind::Mkdir => made_on_path(kind, texts),
+        CallKind::Rmdir => made_on_path(kind, texts),
+        CallKind::Unlink => made_on_path(kind, texts),
         CallKind::Link => made_with_texts(control, kind, operands, texts),
         CallKind::Rename => made_with_texts(control, kind, operands, texts),
         CallKind::Pipe => Call::Pipe,

@@ -1,30 +1,31 @@
-use Rattle.std.proofs.Common.{subst, sym}
-use Rattle.prog_ctl.specs.Runnable.{TakesMore}
+use Rattle.std.proofs.Common.{map, subst, sym}
+use Rattle.posix_defs.specs.Control.{value_of}
+use Rattle.prog_ctl.specs.Runnable.{TakesMore, TakesPath}
 use Rattle.prog_ctl.proofs.made.made.Goals as goal
 
 pub returns-in-Exec : goal.returns-in-Exec
-returns-in-Exec c = c.made_with_texts.ensures c.args.control.now.done (subst TakesMore (sym c.in-Exec.is) tt)
+returns-in-Exec c = c.made_on_path.ensures (map (value_of c.args.control.now) c.args.operands.now) c.args.control.now.done (subst TakesPath (sym c.in-Exec.is) tt)
 
 pub returns-in-Store : goal.returns-in-Store
-returns-in-Store c = c.made_with_texts-in-Store.ensures c.args.control.now.done (subst TakesMore (sym c.in-Store.is) tt)
+returns-in-Store c = c.made_with_texts.ensures c.args.control.now.done (subst TakesMore (sym c.in-Store.is) tt)
 
 pub returns-in-OpenFile : goal.returns-in-OpenFile
 returns-in-OpenFile c = c.made_with_texts-in-OpenFile.ensures c.args.control.now.done (subst TakesMore (sym c.in-OpenFile.is) tt)
 
 pub returns-in-Stat : goal.returns-in-Stat
-returns-in-Stat c = c.made_with_texts-in-Stat.ensures c.args.control.now.done (subst TakesMore (sym c.in-Stat.is) tt)
+returns-in-Stat c = c.made_on_path-in-Stat.ensures (map (value_of c.args.control.now) c.args.operands.now) c.args.control.now.done (subst TakesPath (sym c.in-Stat.is) tt)
 
 pub returns-in-Chdir : goal.returns-in-Chdir
-returns-in-Chdir c = c.made_with_texts-in-Chdir.ensures c.args.control.now.done (subst TakesMore (sym c.in-Chdir.is) tt)
+returns-in-Chdir c = c.made_on_path-in-Chdir.ensures (map (value_of c.args.control.now) c.args.operands.now) c.args.control.now.done (subst TakesPath (sym c.in-Chdir.is) tt)
 
 pub returns-in-Mkdir : goal.returns-in-Mkdir
-returns-in-Mkdir c = c.made_with_texts-in-Mkdir.ensures c.args.control.now.done (subst TakesMore (sym c.in-Mkdir.is) tt)
+returns-in-Mkdir c = c.made_on_path-in-Mkdir.ensures (map (value_of c.args.control.now) c.args.operands.now) c.args.control.now.done (subst TakesPath (sym c.in-Mkdir.is) tt)
 
 pub returns-in-Rmdir : goal.returns-in-Rmdir
-returns-in-Rmdir c = c.made_with_texts-in-Rmdir.ensures c.args.control.now.done (subst TakesMore (sym c.in-Rmdir.is) tt)
+returns-in-Rmdir c = c.made_on_path-in-Rmdir.ensures (map (value_of c.args.control.now) c.args.operands.now) c.args.control.now.done (subst TakesPath (sym c.in-Rmdir.is) tt)
 
 pub returns-in-Unlink : goal.returns-in-Unlink
-returns-in-Unlink c = c.made_with_texts-in-Unlink.ensures c.args.control.now.done (subst TakesMore (sym c.in-Unlink.is) tt)
+returns-in-Unlink c = c.made_on_path-in-Unlink.ensures (map (value_of c.args.control.now) c.args.operands.now) c.args.control.now.done (subst TakesPath (sym c.in-Unlink.is) tt)
 
 pub returns-in-Link : goal.returns-in-Link
 returns-in-Link c = c.made_with_texts-in-Link.ensures c.args.control.now.done (subst TakesMore (sym c.in-Link.is) tt)
