@@ -1,12 +1,12 @@
 -- A node that grows and shrinks back.
 use Rattle.std.proofs.Common.{◌≡◌, ℕ, ◌≤◌, List, ap, subst, ◌∙◌, arith}
-use Rattle.kabi_types.specs.declared.inodes.Inode.{Inode}
+use Rattle.kabi_values.specs.declared.inodes.Inode.{Inode}
 use Rattle.posix_defs.specs.DiskFormat.{blocks_of}
 use Rattle.posix_defs.specs.SoundDisk.{block_bytes, free_in_map}
 use Rattle.posix_defs.specs.DiskContents.{data_block, node_bytes}
 use Rattle.posix_defs.specs.DiskTree.{ChangesNode}
 use Rattle.posix_defs.specs.NodeChange.{Grows, Resizes}
-use Rattle.posix_defs.proofs.OneNode.{same_bytes}
+use Rattle.disk_laws.proofs.OneNode.{same_bytes}
 
 pub bytes_are_back : (number size : ℕ) (first second third : List (List ℕ)) (old grown new : Inode) → old.size ≤ size → Grows number first old size second grown → Resizes number second grown old.size third new
     → node_bytes third new ≡ node_bytes first old

@@ -2,7 +2,7 @@
 use Rattle.std.proofs.Common.{◌≡◌, ℕ, ◌+◌, ◌-◌, ◌<◌, ◌≤◌, ◌⊎◌, inl, inr, arith}
 use Rattle.std.proofs.lemmas.Bool.{cases_lt}
 use Rattle.posix_defs.specs.DiskFormat.{data_blocks, blocks_of}
-use Rattle.posix_defs.proofs.FreeBlocks.{one_for_pointers, none_for_pointers}
+use Rattle.disk_laws.proofs.FreeBlocks.{one_for_pointers, none_for_pointers}
 
 -- a block of pointers more, where it has none and needs one
 pub given_one_more : (old size : ℕ) → data_blocks old ≤ 10 → 10 < data_blocks size → blocks_of size - blocks_of old ≡ data_blocks size - data_blocks old + 1

@@ -3,7 +3,7 @@ use Rattle.std.proofs.Common.{◌≡◌, ◌≢◌, ℕ, zero, suc, ◌+◌, ◌
 use Rattle.std.proofs.lemmas.Bool.{cases_eq, eq-eqb, ne_eqb}
 use Rattle.std.proofs.lemmas.List.{get_or-set_same, get_or-set_other}
 use Rattle.posix_defs.specs.SoundDisk.{bit_of}
-use Rattle.posix_defs.proofs.FreeBlocks.{numbers, one, numbers-suc}
+use Rattle.disk_laws.proofs.FreeBlocks.{numbers, one, numbers-suc}
 use Rattle.blk_map.specs.Found.{free_below}
 
 -- ---- how many numbers of a range pass, from its end

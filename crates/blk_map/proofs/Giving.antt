@@ -2,12 +2,12 @@
 use Rattle.std.proofs.Common.{◌≡◌, ◌≢◌, ℕ, ◌+◌, ◌-◌, ◌*◌, ◌<◌, ◌≤◌, ◌⊎◌, inl, inr, List, [], length, get_or, set, refl, sym, ap, subst, ◌∙◌, arith}
 use Rattle.std.proofs.lemmas.Bool.{cases_lt}
 use Rattle.std.proofs.lemmas.List.{length-set, get_or-set_same, get_or-set_other}
-use Rattle.kabi_types.specs.declared.inodes.Inode.{Inode}
+use Rattle.kabi_values.specs.declared.inodes.Inode.{Inode}
 use Rattle.posix_defs.specs.DiskFormat.{block_size, table_end, table_nodes, data_blocks, IsForFiles, inode_bytes}
 use Rattle.posix_defs.specs.SoundDisk.{block_bytes, table_block, table_bytes, HasInode, pointer_at, Place, Data, Pointers, HasPlace, named_at, bit_of, IsMarked, Sound}
 use Rattle.posix_defs.specs.NodeChange.{Names, Replaces, Resizes}
-use Rattle.posix_defs.proofs.FreeBlocks.{named_is_for_files, direct_at, behind_at}
-use Rattle.posix_defs.proofs.OneNode.{named_is_marked, this_has, changes_node, free_after}
+use Rattle.disk_laws.proofs.FreeBlocks.{named_is_for_files, direct_at, behind_at}
+use Rattle.disk_laws.proofs.OneNode.{named_is_marked, this_has, changes_node, free_after}
 use Rattle.blk_map.specs.Named.{MayHaveSize, pointer_to}
 use Rattle.blk_map.proofs.Blocks.{in_table, same_table}
 use Rattle.blk_map.proofs.Inodes.{pointer_direct, pointer_behind, names_in_hand, pointer_is, none_needed, Points, is_inode}

@@ -1,13 +1,13 @@
 -- A node that was given free blocks has grown.
 use Rattle.std.proofs.Common.{◌≡◌, ◌≢◌, ℕ, ◌+◌, ◌-◌, ◌*◌, ◌<◌, ◌≤◌, ◌⊎◌, inl, inr, List, length, get_or, ltb, refl, sym, ap, subst, ◌∙◌, arith}
 use Rattle.std.proofs.lemmas.Bool.{cases_lt}
-use Rattle.kabi_types.specs.declared.inodes.Inode.{Inode}
+use Rattle.kabi_values.specs.declared.inodes.Inode.{Inode}
 use Rattle.posix_defs.specs.DiskFormat.{block_size, table_end, table_nodes, data_blocks, blocks_of, IsForFiles, IsPointer, inode_bytes}
 use Rattle.posix_defs.specs.SoundDisk.{block_bytes, table_bytes, HasInode, pointer_at, Place, Data, Pointers, HasPlace, named_at, IsMarked, Sound, IsFreeBlock, free_in_map}
 use Rattle.posix_defs.specs.DiskContents.{data_block, zeros}
 use Rattle.posix_defs.specs.NodeChange.{Names, Replaces, Resizes, Grows}
-use Rattle.posix_defs.proofs.FreeBlocks.{named_is_for_files, direct_at, behind_at}
-use Rattle.posix_defs.proofs.OneNode.{named_is_marked, this_has, changes_node, free_after}
+use Rattle.disk_laws.proofs.FreeBlocks.{named_is_for_files, direct_at, behind_at}
+use Rattle.disk_laws.proofs.OneNode.{named_is_marked, this_has, changes_node, free_after}
 use Rattle.blk_map.specs.Named.{MayHaveSize}
 use Rattle.blk_map.proofs.Inodes.{pointer_is, Points, is_inode}
 use Rattle.blk_map.proofs.Counted.{given_least, given_one_more, given_as_many}

@@ -2,10 +2,10 @@
 use Rattle.std.proofs.Common.{◌≡◌, ◌≢◌, ℕ, ◌-◌, ◌*◌, ◌%◌, ◌<◌, ◌≤◌, Bool, inl, inr, List, length, get_or, ltb, sym, ap, subst, ◌∙◌, arith}
 use Rattle.std.proofs.lemmas.Bool.{cases_lt, lt-ltb, le-ltb, cond-true, cond-false}
 use Rattle.std.proofs.lemmas.List.{get_or_past}
-use Rattle.kabi_types.specs.declared.inodes.Inode.{Inode}
+use Rattle.kabi_values.specs.declared.inodes.Inode.{Inode}
 use Rattle.posix_defs.specs.DiskFormat.{block_size, data_blocks, IsForFiles, IsPointer, Fits, IsOfKind, IsInode}
 use Rattle.posix_defs.specs.SoundDisk.{block_bytes, pointer_at, Data, named_at}
-use Rattle.posix_defs.proofs.FreeBlocks.{direct_at, behind_at}
+use Rattle.disk_laws.proofs.FreeBlocks.{direct_at, behind_at}
 use Rattle.blk_map.specs.Named.{MayHaveSize, pointer_to}
 
 pub pointer_direct : (direct behind : List ℕ) (index : ℕ) → index < 10 → pointer_to direct behind index ≡ get_or direct index 0

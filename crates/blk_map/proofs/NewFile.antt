@@ -2,11 +2,11 @@
 use Rattle.std.proofs.Common.{◌≡◌, ◌≢◌, ℕ, ◌-◌, ◌*◌, ◌<◌, ◌≤◌, inl, inr, List, length, get_or, replicate, refl, sym, ap, ◌∙◌, arith}
 use Rattle.std.proofs.lemmas.Bool.{cases_lt}
 use Rattle.std.proofs.lemmas.List.{get_or-replicate, get_or_past, length-replicate}
-use Rattle.kabi_types.specs.declared.inodes.Inode.{Inode}
+use Rattle.kabi_values.specs.declared.inodes.Inode.{Inode}
 use Rattle.posix_defs.specs.DiskFormat.{block_size, IsInode, inode_bytes}
 use Rattle.posix_defs.specs.SoundDisk.{block_bytes, table_block, table_slot, slot_bytes, table_bytes, HasInode, Place, Data, Pointers, HasPlace, bit_of, Sound}
 use Rattle.posix_defs.specs.NodeChange.{Replaces}
-use Rattle.posix_defs.proofs.OneNode.{stays_sound, this_has, changes_node}
+use Rattle.disk_laws.proofs.OneNode.{stays_sound, this_has, changes_node}
 use Rattle.blk_map.proofs.Blocks.{in_table}
 use Rattle.blk_map.proofs.Inodes.{pointer_is}
 

@@ -5,23 +5,23 @@ use Rattle.std.specs.List.{AllByRecursion}
 use Rattle.std.specs.Str.{bytes_eq}
 use Rattle.std.proofs.lemmas.Bool.Decides.{eqb_tells}
 use Rattle.std.proofs.lemmas.Slice.Eq.{bytes_eq-Decides}
-use Rattle.kabi_types.specs.Class.{size}
-use Rattle.kabi_types.specs.declared.classes.Class.TheVariants as class
+use Rattle.kabi_values.specs.Class.{size}
+use Rattle.kabi_values.specs.declared.classes.Class.TheVariants as class
 use Rattle.kabi_types.specs.declared.scripts.Control.{Control}
 use Rattle.kabi_types.specs.declared.scripts.Program.{Program}
 use Rattle.kabi_types.specs.declared.scripts.Script.{Script}
+use Rattle.kheap_shelves.specs.Objects.{count, object, put}
+use Rattle.kheap_shelves.specs.declared.objects.Pipe.{Pipe}
+use Rattle.kheap_shelves.specs.declared.objects.Proc.{Proc}
+use Rattle.kheap_shelves.specs.declared.objects.QueueParts.{QueueParts}
+use Rattle.kheap_shelves.specs.declared.objects.Sock.{Sock}
+use Rattle.kheap_shelves.specs.declared.objects.Vnode.{Vnode}
 use Rattle.kheap_slabs.specs.Heap.{Heap, empty_heap}
 use Rattle.kheap_slabs.specs.Keys.{AreKeysOf}
-use Rattle.kheap_slabs.specs.Objects.{count, object, put}
 use Rattle.kheap_slabs.specs.Owners.{IsOwned, Owners, each_of}
 use Rattle.kheap_slabs.specs.Queues.{OwnedQueue}
-use Rattle.kheap_slabs.specs.declared.objects.Pipe.{Pipe}
-use Rattle.kheap_slabs.specs.declared.objects.Proc.{Proc}
-use Rattle.kheap_slabs.specs.declared.objects.QueueParts.{QueueParts}
-use Rattle.kheap_slabs.specs.declared.objects.Sock.{Sock}
-use Rattle.kheap_slabs.specs.declared.objects.Vnode.{Vnode}
-use Rattle.kheap_slabs.proofs.ObjectLemmas.{count-none, count-put_new, object-none, object_of, put-within}
-use Rattle.kheap_slabs.proofs.OwnerLemmas.{IsOwned-same, empty_heap-owned}
+use Rattle.kheap_shelves.proofs.ObjectLemmas.{count-none, count-put_new, object-none, object_of, put-within}
+use Rattle.kheap_laws.proofs.OwnerLemmas.{IsOwned-same, empty_heap-owned}
 use Rattle.posix_defs.specs.Control.{settled}
 use Rattle.posix_defs.specs.History.{boots}
 use Rattle.posix_defs.specs.Memory.{boot_frames}
@@ -29,7 +29,7 @@ use Rattle.posix_defs.specs.Plain.{at_start, boot_plain, control_of, first_proce
 use Rattle.posix_defs.specs.SoundTasks.{AllAtHome}
 use Rattle.posix_defs.specs.ValidScript.{IsValid}
 use Rattle.posix_defs.specs.World.{boot_world}
-use Rattle.posix_defs.proofs.Families.{reached_kept}
+use Rattle.core_laws.proofs.Families.{reached_kept}
 use Rattle.prog_ctl.specs.Runnable.{Rests, Stands}
 use Rattle.proc_table.specs.Accounting.{HasAccount}
 use Rattle.proc_table.specs.Changes.{replaced}

@@ -3,12 +3,12 @@ use Rattle.std.proofs.Common.{◌≡◌, ℕ, ◌+◌, ◌<◌, ◌==◌, ◌&&�
 use Rattle.std.specs.Prelude.{IfSome, IsNone}
 use Rattle.std.specs.List.{All, AllByRecursion}
 use Rattle.std.proofs.lemmas.List.Elements.{All-cons, All-head, All-nil, All-tail, All-weaker}
-use Rattle.kabi_types.specs.declared.classes.Weight.{Weight}
+use Rattle.kabi_values.specs.declared.classes.Weight.{Weight}
 use Rattle.kabi_types.specs.declared.scripts.Policy.{Policy}
 use Rattle.kabi_types.specs.declared.scripts.Script.{Script}
+use Rattle.kheap_shelves.specs.declared.objects.Proc.{Proc}
 use Rattle.kheap_slabs.specs.Heap.{Heap, IsWellFormed}
 use Rattle.kheap_slabs.specs.Spaces.{OwnsNodes}
-use Rattle.kheap_slabs.specs.declared.objects.Proc.{Proc}
 use Rattle.page_space.proofs.NodeCounts.{nodes_by_places}
 use Rattle.posix_defs.specs.Memory.{places_of}
 use Rattle.posix_defs.specs.Plain.{Plain}

@@ -3,7 +3,7 @@ use Rattle.std.proofs.Common.{◌≡◌, ◌≢◌, ℕ, zero, suc, ◌+◌, Boo
 use Rattle.std.specs.List.{AllByRecursion}
 use Rattle.std.specs.Option.{option_map}
 use Rattle.kabi_types.specs.declared.scripts.Script.{Script}
-use Rattle.kheap_slabs.specs.declared.objects.Proc.{Proc}
+use Rattle.kheap_shelves.specs.declared.objects.Proc.{Proc}
 use Rattle.posix_defs.specs.Control.{settled}
 use Rattle.posix_defs.specs.Ending.{die}
 use Rattle.posix_defs.specs.Family.{IsKept}
@@ -11,9 +11,9 @@ use Rattle.posix_defs.specs.Memory.{Frames, Places, after_clear, kept_from, no_p
 use Rattle.posix_defs.specs.Plain.{Plain, control_of, last_pid}
 use Rattle.posix_defs.specs.Process.{Table, is_alive, is_alive_in, is_there, process_at}
 use Rattle.posix_defs.specs.World.{Account, forget_dead}
-use Rattle.posix_defs.proofs.Families.{dies_on, first_lives}
-use Rattle.posix_defs.proofs.Nexts.{alive_is_there, die_ends, die_next}
-use Rattle.posix_defs.proofs.TablePlaces.{each_changed}
+use Rattle.core_laws.proofs.Families.{dies_on, first_lives}
+use Rattle.core_laws.proofs.Nexts.{alive_is_there, die_ends, die_next}
+use Rattle.core_laws.proofs.TablePlaces.{each_changed}
 use Rattle.proc_table.specs.Accounting.{HasAccount}
 use Rattle.proc_table.specs.Changes.{ended}
 use Rattle.proc_table.specs.Procs.{IsAlive, proc_of, process_of}

@@ -1,7 +1,7 @@
 -- All that run behind a pid end in turn.
 use Rattle.std.proofs.Common.{◌≡◌, ℕ, zero, suc, ◌+◌, ◌-◌, ◌<◌, ◌≤◌, not, true, false, cond, List, [], ◌∷◌, ◌++◌, Option, None, Some, is_some, refl, ap, sym, ◌∙◌, subst, arith}
 use Rattle.std.specs.Option.{option_map}
-use Rattle.kheap_slabs.specs.declared.objects.Proc.{Proc}
+use Rattle.kheap_shelves.specs.declared.objects.Proc.{Proc}
 use Rattle.posix_defs.specs.Memory.{Frames, after_clear}
 use Rattle.posix_defs.specs.Process.{Table, is_alive, is_alive_in, runs}
 use Rattle.proc_table.specs.Procs.{IsAlive, proc_of, process_of, status_of}

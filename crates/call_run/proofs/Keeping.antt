@@ -2,12 +2,12 @@
 use Rattle.std.proofs.Common.{◌≡◌, ℕ, List, [], ◌∷◌, length, Option, is_some, ap, sym, ◌∙◌, subst, inl, inr, arith, append-nil}
 use Rattle.std.specs.List.{AllByRecursion, Contains}
 use Rattle.kabi_types.specs.declared.scripts.Script.{Script}
+use Rattle.kheap_shelves.specs.Objects.{InUse, count, object}
+use Rattle.kheap_shelves.specs.declared.objects.Proc.{Proc}
 use Rattle.kheap_slabs.specs.Heap.{Heap}
 use Rattle.kheap_slabs.specs.Keys.{AreKeysOf, IsOnce}
-use Rattle.kheap_slabs.specs.Objects.{InUse, count, object}
-use Rattle.kheap_slabs.specs.declared.objects.Proc.{Proc}
-use Rattle.kheap_slabs.proofs.KeyLemmas.{AreKeysOf-changes}
-use Rattle.kheap_slabs.proofs.OnceLemmas.{IsOnce-cons}
+use Rattle.kheap_laws.proofs.KeyLemmas.{AreKeysOf-changes}
+use Rattle.kheap_laws.proofs.OnceLemmas.{IsOnce-cons}
 use Rattle.proc_table.specs.Moves.{TableMoves}
 use Rattle.proc_table.specs.Table.{AreBetween, AreStored, keys_of}
 use Rattle.proc_table.specs.declared.places.Listed.{Listed}

@@ -1,9 +1,9 @@
 -- What an answer of a call leads to.
 use Rattle.std.proofs.Common.{◌≡◌, ℕ, refl, ap, sym, ◌∙◌, subst}
-use Rattle.kabi_types.specs.declared.calls.Call.{Call}
-use Rattle.kabi_types.specs.declared.calls.Call.TheVariants as call
-use Rattle.kabi_types.specs.declared.replies.Reply.{Reply}
-use Rattle.kabi_types.specs.declared.replies.Reply.TheVariants as reply
+use Rattle.kabi_calls.specs.declared.calls.Call.{Call}
+use Rattle.kabi_calls.specs.declared.calls.Call.TheVariants as call
+use Rattle.kabi_values.specs.declared.replies.Reply.{Reply}
+use Rattle.kabi_values.specs.declared.replies.Reply.TheVariants as reply
 use Rattle.kabi_types.specs.declared.scripts.Script.{Script}
 use Rattle.posix_defs.specs.Answer.{Blocked, replied}
 use Rattle.posix_defs.specs.MemoryCalls.{frames_after}

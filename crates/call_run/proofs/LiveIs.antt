@@ -2,11 +2,11 @@
 use Rattle.std.proofs.Common.{◌≡◌, ℕ, ◌+◌, ◌*◌, ◌<◌, ◌≤◌, suc, length, Option, None, Some, refl, ap, sym, ◌∙◌, subst, arith}
 use Rattle.std.proofs.lemmas.List.{length-map}
 use Rattle.kabi_types.specs.declared.scripts.Script.{Script}
+use Rattle.kheap_shelves.specs.Objects.{count}
+use Rattle.kheap_shelves.specs.declared.objects.Proc.{Proc}
 use Rattle.kheap_slabs.specs.Heap.{IsWellFormed, live_bytes}
-use Rattle.kheap_slabs.specs.Objects.{count}
 use Rattle.kheap_slabs.specs.Spaces.{OwnsNodes, keys_in}
-use Rattle.kheap_slabs.specs.declared.objects.Proc.{Proc}
-use Rattle.kheap_slabs.proofs.OwnerLemmas.{IsOwned-space}
+use Rattle.kheap_laws.proofs.OwnerLemmas.{IsOwned-space}
 use Rattle.page_space.proofs.FrameCounts.{frames_are_pages}
 use Rattle.page_space.proofs.NodeCounts.{count_of_keys, nodes_by_places}
 use Rattle.posix_defs.specs.Memory.{Frames, frames_named, no_places, nodes_in, nodes_named, places_of}

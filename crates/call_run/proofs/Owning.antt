@@ -2,14 +2,14 @@
 use Rattle.std.proofs.Common.{◌≡◌, ℕ, ◌<◌, List, [], ◌∷◌, ◌++◌, Option, Some}
 use Rattle.std.specs.List.{AllByRecursion, Contains}
 use Rattle.std.proofs.lemmas.List.Elements.{Contains-append_left, Contains-append_right}
+use Rattle.kheap_shelves.specs.Objects.{InUse, object}
+use Rattle.kheap_shelves.specs.declared.objects.Node.{Node}
+use Rattle.kheap_shelves.specs.declared.objects.Proc.{Proc}
 use Rattle.kheap_slabs.specs.Heap.{Heap}
 use Rattle.kheap_slabs.specs.Keys.{IsOnce}
-use Rattle.kheap_slabs.specs.Objects.{InUse, object}
 use Rattle.kheap_slabs.specs.Owners.{IsOwned, node_keys}
 use Rattle.kheap_slabs.specs.Spaces.{OwnsNodes, keys_in, mapped_count}
-use Rattle.kheap_slabs.specs.declared.objects.Node.{Node}
-use Rattle.kheap_slabs.specs.declared.objects.Proc.{Proc}
-use Rattle.kheap_slabs.proofs.OnceLemmas.{IsOnce-left, IsOnce-right}
+use Rattle.kheap_laws.proofs.OnceLemmas.{IsOnce-left, IsOnce-right}
 use Rattle.proc_table.specs.Table.{Holds, TableView, processes, with_procs}
 use Rattle.proc_table.proofs.OwnLemmas.{spaces_in}
 

@@ -4,9 +4,9 @@ use Rattle.std.specs.Prelude.{sum_by}
 use Rattle.std.specs.List.{AllByRecursion, Contains}
 use Rattle.std.proofs.lemmas.List.Sums.{sum_by-cons}
 use Rattle.kabi_types.specs.declared.scripts.Script.{Script}
+use Rattle.kheap_shelves.specs.declared.objects.Proc.{Proc}
 use Rattle.kheap_slabs.specs.Heap.{IsWellFormed}
 use Rattle.kheap_slabs.specs.Spaces.{count_at}
-use Rattle.kheap_slabs.specs.declared.objects.Proc.{Proc}
 use Rattle.page_space.specs.Sequences.{entries_naming}
 use Rattle.page_space.proofs.CountLemmas.{counts_by_entries}
 use Rattle.posix_defs.specs.World.{World}

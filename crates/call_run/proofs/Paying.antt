@@ -1,13 +1,14 @@
 -- How much of the heap a call uses.
 use Rattle.std.proofs.Common.{◌≡◌, ℕ, ◌+◌, ◌≤◌, max, false, None, ap, sym, ◌∙◌, arith}
-use Rattle.kabi_types.specs.Arguments.{argument_fault}
-use Rattle.kabi_types.specs.Call.{kind_of}
-use Rattle.kabi_types.specs.declared.calls.Call.{Call}
-use Rattle.kabi_types.specs.declared.classes.Need.{Need}
-use Rattle.kheap_slabs.specs.Counts.{need_bytes}
+use Rattle.kabi_calls.specs.Arguments.{argument_fault}
+use Rattle.kabi_calls.specs.Call.{kind_of}
+use Rattle.kabi_calls.specs.declared.calls.Call.{Call}
+use Rattle.kabi_values.specs.declared.classes.Need.{Need}
+use Rattle.kheap_shelves.specs.Counts.{need_bytes}
+use Rattle.kheap_shelves.specs.Purse.{Purse, left_bytes}
 use Rattle.kheap_slabs.specs.Heap.{Heap, live_bytes}
-use Rattle.kheap_slabs.specs.Purse.{CanPay, IsPaid, Purse, TakesNothing, left_bytes}
-use Rattle.kheap_slabs.proofs.PaidLemmas.{IsPaid-bytes, TakesNothing-bytes}
+use Rattle.kheap_slabs.specs.Paid.{CanPay, IsPaid, TakesNothing}
+use Rattle.kheap_laws.proofs.PaidLemmas.{IsPaid-bytes, TakesNothing-bytes}
 use Rattle.posix_defs.specs.Needs.{bound, is_write, need_of, objects_of}
 use Rattle.posix_defs.specs.Sizes.{bytes_of}
 use Rattle.posix_defs.proofs.PriceLemmas.{right_needs, sums}

@@ -4,8 +4,8 @@ use Rattle.std.specs.List.{AllByRecursion}
 use Rattle.std.specs.Option.{option_map}
 use Rattle.kabi_types.specs.declared.scripts.Control.{Control}
 use Rattle.kabi_types.specs.declared.scripts.Script.{Script}
+use Rattle.kheap_shelves.specs.declared.objects.Proc.{Proc}
 use Rattle.kheap_slabs.specs.Heap.{Heap}
-use Rattle.kheap_slabs.specs.declared.objects.Proc.{Proc}
 use Rattle.page_space.specs.Accounts.{AccountMoves}
 use Rattle.page_space.specs.Contents.{StandsFor}
 use Rattle.posix_defs.specs.Memory.{Memory}
@@ -13,7 +13,7 @@ use Rattle.posix_defs.specs.MemoryCalls.{remembered}
 use Rattle.posix_defs.specs.Plain.{Plain}
 use Rattle.posix_defs.specs.Process.{memory_in, memory_of}
 use Rattle.posix_defs.specs.World.{Account}
-use Rattle.posix_defs.proofs.Remembering.{found_before, remembers_family}
+use Rattle.core_laws.proofs.Remembering.{found_before, remembers_family}
 use Rattle.proc_table.specs.Accounting.{HasAccount}
 use Rattle.proc_table.specs.Changes.{with_nodes}
 use Rattle.proc_table.specs.Moves.{SpaceTurns, TableMoves}

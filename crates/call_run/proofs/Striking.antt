@@ -1,14 +1,14 @@
 -- Calls that end a process, the caller itself or another.
 use Rattle.std.proofs.Common.{◌≡◌, ◌≢◌, ℕ, ℤ, pos, negsuc, ◌==◌, not, Bool, true, false, cond, List, Option, None, Some, is_some, Result, Ok, Err, refl, ap, sym, ◌∙◌, subst, w64}
 use Rattle.std.specs.Int.{cast_unsigned}
-use Rattle.kabi_types.specs.declared.calls.Call.{Call}
-use Rattle.kabi_types.specs.declared.calls.Call.TheVariants as call
-use Rattle.kabi_types.specs.declared.errnos.Errno.{Errno}
-use Rattle.kabi_types.specs.declared.errnos.Errno.TheVariants.{EPERM}
-use Rattle.kabi_types.specs.declared.replies.Reply.{Reply}
-use Rattle.kabi_types.specs.declared.replies.Reply.TheVariants.{Val}
+use Rattle.kabi_calls.specs.declared.calls.Call.{Call}
+use Rattle.kabi_calls.specs.declared.calls.Call.TheVariants as call
+use Rattle.kabi_values.specs.declared.errnos.Errno.{Errno}
+use Rattle.kabi_values.specs.declared.errnos.Errno.TheVariants.{EPERM}
+use Rattle.kabi_values.specs.declared.replies.Reply.{Reply}
+use Rattle.kabi_values.specs.declared.replies.Reply.TheVariants.{Val}
 use Rattle.kabi_types.specs.declared.scripts.Script.{Script}
-use Rattle.kheap_slabs.specs.declared.objects.Proc.{Proc}
+use Rattle.kheap_shelves.specs.declared.objects.Proc.{Proc}
 use Rattle.posix_defs.specs.Answer.{Ended, replied}
 use Rattle.posix_defs.specs.Ending.{die}
 use Rattle.posix_defs.specs.Killing.{is_asking, kill, struck}
@@ -17,7 +17,7 @@ use Rattle.posix_defs.specs.Process.{is_alive}
 use Rattle.posix_defs.specs.World.{Account, forget_dead}
 use Rattle.posix_defs.specs.declared.turner.Turned.{Turned}
 use Rattle.posix_defs.specs.declared.turner.Turned.TheVariants as turned
-use Rattle.posix_defs.proofs.Nexts.{die_keeps}
+use Rattle.core_laws.proofs.Nexts.{die_keeps}
 use Rattle.proc_table.specs.Changes.{verdict}
 use Rattle.proc_table.specs.Procs.{IsAlive, proc_of, target_of}
 use Rattle.proc_table.specs.Standing.{IsTable, answered_by, pid_of}

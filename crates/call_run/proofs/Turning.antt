@@ -1,7 +1,7 @@
 -- What a process does next.
 use Rattle.std.proofs.Common.{◌≡◌, ℕ, true, Option, None, Some, ap, sym, ◌∙◌}
 use Rattle.kabi_types.specs.declared.scripts.Script.{Script}
-use Rattle.kheap_slabs.specs.declared.objects.Proc.{Proc}
+use Rattle.kheap_shelves.specs.declared.objects.Proc.{Proc}
 use Rattle.posix_defs.specs.Control as program
 use Rattle.posix_defs.specs.Control.{call_at, statement_of}
 use Rattle.posix_defs.specs.Plain.{call_of}

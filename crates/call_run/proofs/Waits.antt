@@ -2,14 +2,14 @@
 use Rattle.std.proofs.Common.{◌≡◌, ◌≢◌, ℕ, ℤ, pos, ◌==◌, not, true, false, cond, List, [], ◌∷◌, filter, length, None, Some, is_some, refl, ap, sym, ◌∙◌, subst, inl, inr}
 use Rattle.std.specs.List.{AllByRecursion}
 use Rattle.std.proofs.lemmas.Bool.Decides.{eqb_tells}
-use Rattle.kabi_types.specs.Arguments.{argument_fault}
-use Rattle.kabi_types.specs.declared.calls.Call.{Call}
-use Rattle.kabi_types.specs.declared.calls.Call.TheVariants as call
-use Rattle.kabi_types.specs.declared.replies.Reply.{Reply}
-use Rattle.kabi_types.specs.declared.replies.Reply.TheVariants.{Val, Waited}
+use Rattle.kabi_calls.specs.Arguments.{argument_fault}
+use Rattle.kabi_calls.specs.declared.calls.Call.{Call}
+use Rattle.kabi_calls.specs.declared.calls.Call.TheVariants as call
+use Rattle.kabi_values.specs.declared.replies.Reply.{Reply}
+use Rattle.kabi_values.specs.declared.replies.Reply.TheVariants.{Val, Waited}
 use Rattle.kabi_types.specs.declared.scripts.Control.{Control}
 use Rattle.kabi_types.specs.declared.scripts.Script.{Script}
-use Rattle.kheap_slabs.specs.declared.objects.Proc.{Proc}
+use Rattle.kheap_shelves.specs.declared.objects.Proc.{Proc}
 use Rattle.posix_defs.specs.Answer.{Blocked, replied}
 use Rattle.posix_defs.specs.declared.turner.Turned.{Turned}
 use Rattle.posix_defs.specs.declared.turner.Turned.TheVariants.{Done, Sleep}
@@ -20,8 +20,8 @@ use Rattle.posix_defs.specs.Process.{is_alive}
 use Rattle.posix_defs.specs.SoundTasks.{AllAtHome}
 use Rattle.posix_defs.specs.Waiting.{is_nohang, waitpid}
 use Rattle.posix_defs.specs.World.{Account}
-use Rattle.posix_defs.proofs.Families.{answers_on}
-use Rattle.posix_defs.proofs.Nexts.{AnswerGoes, posix_goes}
+use Rattle.core_laws.proofs.Families.{answers_on}
+use Rattle.core_laws.proofs.Nexts.{AnswerGoes, posix_goes}
 use Rattle.proc_table.specs.Accounting.{HasAccount}
 use Rattle.proc_table.specs.Changes.{after_wait, is_other, reaped_of}
 use Rattle.proc_table.specs.Moves.{TableMoves}

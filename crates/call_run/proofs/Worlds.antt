@@ -1,7 +1,7 @@
 -- The worlds that a store stands for.
 use Rattle.std.proofs.Common.{◌≡◌, ℕ, ◌+◌, ◌≤◌, ◌==◌, not, true, false, [], ◌∷◌, refl, ap, sym, ◌∙◌, subst, arith}
 use Rattle.std.specs.List.{list_any}
-use Rattle.kabi_types.specs.declared.calls.Call.{Call}
+use Rattle.kabi_calls.specs.declared.calls.Call.{Call}
 use Rattle.kabi_types.specs.declared.entries.Cached.{Cached}
 use Rattle.kabi_types.specs.declared.entries.Cached.TheVariants.{Name, Block, Vnode}
 use Rattle.kabi_types.specs.declared.scripts.Script.{Script}
@@ -14,7 +14,7 @@ use Rattle.posix_defs.specs.Turn.{TurnsTo, TurnsWhere, account_after}
 use Rattle.posix_defs.specs.World.{MayKeep, World, boot_kept, can_evict, live_of}
 use Rattle.posix_defs.specs.declared.turner.Turned.{Turned}
 use Rattle.posix_defs.specs.declared.turner.Turned.TheVariants as turned
-use Rattle.posix_defs.proofs.Caches.{root_may_keep, root_pinned}
+use Rattle.core_laws.proofs.Caches.{root_may_keep, root_pinned}
 use Rattle.call_run.specs.declared.objects.Objects.{Objects}
 use Rattle.call_run.specs.Objects.{AreKept}
 use Rattle.call_run.specs.Standing.{Led, StandsFor}

@@ -1,6 +1,6 @@
 -- Processes that end one after another.
 use Rattle.std.specs.Prelude.{ℕ, ◌≡◌, ◌<◌, false, List, [], ◌∷◌}
-use Rattle.kheap_slabs.specs.declared.objects.Proc.{Proc}
+use Rattle.kheap_shelves.specs.declared.objects.Proc.{Proc}
 use Rattle.posix_defs.specs.Memory.{Frames, after_clear}
 use Rattle.proc_table.specs.Procs.{IsAlive}
 use Rattle.call_run.specs.Objects.{is_running}

@@ -3,14 +3,14 @@ use Rattle.std.specs.Prelude.{ℕ, ◌≡◌, ◌==◌, Bool, false, not, if◌t
 use Rattle.std.specs.List.{AllByRecursion}
 use Rattle.kabi_types.specs.declared.scripts.Control.{Control}
 use Rattle.kabi_types.specs.declared.scripts.Script.{Script}
+use Rattle.kheap_shelves.specs.Objects.{count, object}
+use Rattle.kheap_shelves.specs.declared.objects.Proc.{Proc}
+use Rattle.kheap_shelves.specs.declared.objects.Vnode.{Vnode}
 use Rattle.kheap_slabs.specs.Heap.{Heap}
 use Rattle.kheap_slabs.specs.Keys.{AreKeysOf}
-use Rattle.kheap_slabs.specs.Objects.{count, object}
 use Rattle.kheap_slabs.specs.Owners.{Owners, IsOwned}
-use Rattle.kheap_slabs.specs.declared.objects.Proc.{Proc}
-use Rattle.kheap_slabs.specs.declared.objects.Vnode.{Vnode}
 use Rattle.posix_defs.specs.Plain.{root}
-use Rattle.kheap_slabs.specs.Purse.{TakesNothing}
+use Rattle.kheap_slabs.specs.Paid.{TakesNothing}
 use Rattle.proc_table.specs.Moves.{ProcTurns}
 use Rattle.proc_table.specs.Procs.{proc_of}
 use Rattle.proc_table.specs.Table.{Holds, keys_of, processes, with_procs}

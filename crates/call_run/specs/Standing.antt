@@ -1,9 +1,9 @@
 -- Which plain machines and worlds the objects of a store stand for.
 use Rattle.std.specs.Prelude.{ℕ, ◌≡◌, true, None, Some}
-use Rattle.kabi_types.specs.declared.calls.Call.{Call}
-use Rattle.kabi_types.specs.declared.calls.Call.TheVariants as call
+use Rattle.kabi_calls.specs.declared.calls.Call.{Call}
+use Rattle.kabi_calls.specs.declared.calls.Call.TheVariants as call
 use Rattle.kabi_types.specs.declared.scripts.Script.{Script}
-use Rattle.kheap_slabs.specs.declared.objects.Proc.{Proc}
+use Rattle.kheap_shelves.specs.declared.objects.Proc.{Proc}
 use Rattle.posix_defs.specs.declared.turner.Turned.{Turned}
 use Rattle.posix_defs.specs.Answer.{Answer}
 use Rattle.posix_defs.specs.Control.{settled}

@@ -1,13 +1,13 @@
 //! What each call does to the heap and to the processes. Every function here stands to the plain machine's definition of its
 //! call.
 
-ghost use Rattle.std.specs.Prelude.{◌≡◌, ◌≢◌, ◌+◌, ◌<◌, ◌≤◌, true, None, is_none};
-ghost use Rattle.kabi_types.specs.Arguments.{argument_fault};
-ghost use Rattle.kabi_types.specs.declared.calls.Call.{Call};
+ghost use Rattle.std.specs.Prelude.{◌≡◌, ◌≢◌, ◌+◌, ◌<◌, ◌≤◌, true, None};
+ghost use Rattle.kabi_calls.specs.Arguments.{argument_fault};
+ghost use Rattle.kabi_calls.specs.declared.calls.Call.{Call};
 ghost use Rattle.kabi_types.specs.declared.scripts.Control.{Control};
 ghost use Rattle.kabi_types.specs.declared.scripts.Script.{Script};
 ghost use Rattle.kheap_slabs.specs.Heap.{live_bytes};
-ghost use Rattle.kheap_slabs.specs.Purse.{CanPay, IsPaid, TakesNothing};
+ghost use Rattle.kheap_slabs.specs.Paid.{CanPay, IsPaid, TakesNothing};
 ghost use Rattle.posix_defs.specs.Answer.{Ended};
 ghost use Rattle.posix_defs.specs.Control.{after, settled};
 ghost use Rattle.posix_defs.specs.Ending.{die, exit_status};
@@ -31,8 +31,8 @@ ghost use Rattle.call_run.specs.Uses.{UsesAtMost};
 use crate::endings::{SIGKILL, end};
 use crate::memory_calls::{load, mmap, munmap, store};
 use crate::objects::{Caller, Objects};
-use kabi_types::{Call, Control, Errno, Need, Reply, Script};
-use kheap_slabs::Purse;
+use kabi_types::{Call, Control, Errno, Need, Reply, Script, may_wait};
+use kheap_shelves::Purse;
 use posix_defs::Turned;
 use proc_table::Reaped;
 
@@ -307,13 +307,6 @@ fn would_sleep(objects: &Objects, pid: u32, which: i64, options: i64) -> bool
     }
 }
 
-/// Whether the operands of a `waitpid` are right.
-fn is_right_wait(which: i64, options: i64) -> bool
-    ensures { result ≡ is_none (argument_fault (Call.Waitpid which options)) }
-{
-    (which == -1 || 1 <= which) && (options == 0 || options == WNOHANG)
-}
-
 /// Whether a process's call would block now. Of the call it asks only for what that waits, which is nothing for any but
 /// `waitpid`.
 pub fn would_block(objects: &Objects, pid: u32, wait: Option<(i64, i64)>) -> bool
@@ -323,7 +316,7 @@ pub fn would_block(objects: &Objects, pid: u32, wait: Option<(i64, i64)>) -> boo
 {
     match wait {
         Some((which, options)) => {
-            is_right_wait(which, options) && would_sleep(objects, pid, which, options)
+            may_wait(which, options) && would_sleep(objects, pid, which, options)
         }
         None => false,
     }

@@ -1,11 +1,11 @@
 //! The calls on memory.
 
 ghost use Rattle.std.specs.Prelude.{◌≡◌, ◌+◌, ◌*◌, ◌<◌, ◌≤◌, ℕ, OnErr, OnOk, ok_or, option_map, if◌then◌else◌, length, None, Ok, Err};
-ghost use Rattle.kabi_types.specs.Arguments.{argument_fault, count_of, page_size, range_fault};
-ghost use Rattle.kabi_types.specs.declared.errnos.Errno.TheVariants.{EFAULT, EMFILE};
+ghost use Rattle.kabi_calls.specs.Arguments.{argument_fault, count_of, page_size, range_fault};
+ghost use Rattle.kabi_values.specs.declared.errnos.Errno.TheVariants.{EFAULT, EMFILE};
 ghost use Rattle.kabi_types.specs.declared.scripts.Control.{Control};
 ghost use Rattle.kabi_types.specs.declared.scripts.Script.{Script};
-ghost use Rattle.kheap_slabs.specs.Purse.{CanPay, IsPaid, TakesNothing};
+ghost use Rattle.kheap_slabs.specs.Paid.{CanPay, IsPaid, TakesNothing};
 ghost use Rattle.page_space.specs.Contents.{IsOwnedWith, StandsFor};
 ghost use Rattle.page_space.specs.Entries.{IsMappedRange};
 ghost use Rattle.posix_defs.specs.Memory.{Memory, after_map, after_put, after_unmap, is_mapped_range, loaded, lowest_run, stored, with_pages, without_pages};
@@ -21,7 +21,8 @@ ghost use Rattle.call_run.specs.Standing.{Does, StandFor};
 use crate::calls::go_on;
 use crate::objects::Objects;
 use kabi_types::{Bytes64, Call, Control, Errno, Reply, Script};
-use kheap_slabs::{KHeap, Purse};
+use kheap_shelves::Purse;
+use kheap_slabs::KHeap;
 use page_space::Space;
 use posix_defs::Turned;
 

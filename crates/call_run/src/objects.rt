@@ -7,7 +7,8 @@ ghost use Rattle.proc_table.specs.Table.{AreStored};
 ghost use Rattle.call_run.specs.Objects.{IsCaller, MovesOn, is_running, procs_of};
 
 use kabi_types::Control;
-use kheap_slabs::{KHeap, Proc};
+use kheap_shelves::Proc;
+use kheap_slabs::KHeap;
 use proc_table::ProcTable;
 
 /// The heap, and the table of the processes that stand in it.

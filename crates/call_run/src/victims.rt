@@ -17,7 +17,8 @@ ghost use Rattle.call_run.specs.Weights.{has_frame, weight_in, weights_in};
 use crate::objects::Objects;
 use arrayvec::ArrayVec;
 use kabi_types::{Policy, Weight};
-use kheap_slabs::{KHeap, Node, PageEntry, Proc};
+use kheap_shelves::{Node, PageEntry, Proc};
+use kheap_slabs::KHeap;
 use victim_core::{Score, Scorer};
 
 /// How many processes may be there, alive or ended and not waited for.

@@ -1,14 +1,14 @@
 -- How many chunks a queue has, and the bytes that they take of the heap.
 use Rattle.std.proofs.Common.{◌≡◌, ◌≢◌, ◌⊎◌, inl, inr, ℕ, suc, ◌+◌, ◌*◌, ◌/◌, List, [], ◌∷◌, Option, None, Some, length, refl, sym, ap, ◌∙◌, arith, Contains, length-append}
 use Rattle.std.proofs.lemmas.Bool.{cases_eq}
+use Rattle.kheap_shelves.specs.Objects.{InUse, count, without}
+use Rattle.kheap_shelves.specs.declared.objects.QueueParts.{QueueParts}
 use Rattle.kheap_slabs.specs.Heap.{Heap, live_bytes}
 use Rattle.kheap_slabs.specs.Keys.{AreKeysOf}
-use Rattle.kheap_slabs.specs.Objects.{InUse, count, without}
 use Rattle.kheap_slabs.specs.Owners.{Owners, with_queue, chunk_keys, IsOwned}
 use Rattle.kheap_slabs.specs.Queues.{OwnsChunks}
-use Rattle.kheap_slabs.specs.declared.objects.QueueParts.{QueueParts}
-use Rattle.kheap_slabs.proofs.ObjectLemmas.{object-without_other, count-without}
-use Rattle.kheap_slabs.proofs.OnceLemmas.{IsOnce-head, IsOnce-tail}
+use Rattle.kheap_shelves.proofs.ObjectLemmas.{object-without_other, count-without}
+use Rattle.kheap_laws.proofs.OnceLemmas.{IsOnce-head, IsOnce-tail}
 use Rattle.posix_defs.specs.QueuePlace.{chunks_of}
 use Rattle.chunk_queue.specs.Chained.{owned, OnlyChunks, place_of}
 use Rattle.chunk_queue.proofs.JoinedLemmas.{Contains-cons, Contains-cons_cases}

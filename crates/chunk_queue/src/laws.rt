@@ -1,13 +1,13 @@
 //! Laws of queues in the heap. Each is the contract of a function that does nothing.
 
 ghost use Rattle.std.specs.Prelude.{◌≡◌, ℕ, ◌+◌, ◌*◌, List, Some, []};
+ghost use Rattle.kheap_shelves.specs.Objects.{object, put, without};
+ghost use Rattle.kheap_shelves.specs.declared.objects.Pipe.{Pipe};
+ghost use Rattle.kheap_shelves.specs.declared.objects.QueueParts.{QueueParts};
+ghost use Rattle.kheap_shelves.specs.declared.objects.Sock.{Sock};
 ghost use Rattle.kheap_slabs.specs.Heap.{Heap, live_bytes};
-ghost use Rattle.kheap_slabs.specs.Objects.{object, put, without};
 ghost use Rattle.kheap_slabs.specs.Owners.{Owners, with_queue, IsOwned, OwnsItsObjects};
 ghost use Rattle.kheap_slabs.specs.Queues.{empty_queue};
-ghost use Rattle.kheap_slabs.specs.declared.objects.Pipe.{Pipe};
-ghost use Rattle.kheap_slabs.specs.declared.objects.QueueParts.{QueueParts};
-ghost use Rattle.kheap_slabs.specs.declared.objects.Sock.{Sock};
 ghost use Rattle.posix_defs.specs.QueuePlace.{chunks_of};
 ghost use Rattle.chunk_queue.specs.Chained.{owned, place_of, IsQueueIn, Turns, OnlyChunks};
 ghost use Rattle.chunk_queue.specs.Held.{HasBytes, PipeTurns, SockTurns, PipeGoes, SockGoes};

@@ -1,12 +1,13 @@
 //! Queues by hand: the bytes that come out, and how many chunks they take.
 
 ghost use Rattle.std.specs.Prelude.{◌≡◌, IfOk};
-ghost use Rattle.kheap_slabs.specs.Purse.{CanPay};
+ghost use Rattle.kheap_slabs.specs.Paid.{CanPay};
 ghost use Rattle.chunk_queue.specs.Chained.{IsQueueIn};
 
 use crate::Queue;
 use kabi_types::{Class, Memory, Need};
-use kheap_slabs::{KHeap, Purse, QueueParts};
+use kheap_shelves::{Purse, QueueParts};
+use kheap_slabs::KHeap;
 use std::alloc::Global;
 use std::process::Abort;
 use std::test::Fail;

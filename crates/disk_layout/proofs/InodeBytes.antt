@@ -3,12 +3,12 @@ use Rattle.std.proofs.Common.{◌≡◌, ℕ, ◌*◌, ◌<◌, ◌≤◌, List,
 use Rattle.std.specs.Prelude.{IfOk, IfErr}
 use Rattle.std.specs.Int.{w16, w32, to_be_bytes}
 use Rattle.std.proofs.lemmas.List.{drop_at, drop-drop, get_or-replicate, length-drop, take_all}
-use Rattle.kabi_types.specs.declared.inodes.Inode.{Inode}
+use Rattle.kabi_values.specs.declared.inodes.Inode.{Inode}
 use Rattle.posix_defs.specs.DiskFormat.{Fits, HasPointers, IsInode, inode_bytes}
 use Rattle.disk_layout.specs.declared.faults.BadInode.{BadInode}
 use Rattle.disk_layout.specs.declared.faults.BadInode.TheVariants.{BadKind, BadPointer}
 use Rattle.disk_layout.specs.Faults.{IsFault}
-use Rattle.posix_defs.proofs.DiskSpelling.{words, length-words, same_inode}
+use Rattle.disk_laws.proofs.DiskSpelling.{words, length-words, same_inode}
 use Rattle.disk_layout.proofs.WordBytes.{cut, all_zeros}
 
 two : (xs : List ℕ) → 2 ≤ length xs → take 2 xs ≡ get_or xs 0 0 ∷ get_or xs 1 0 ∷ []

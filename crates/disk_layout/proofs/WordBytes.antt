@@ -3,7 +3,7 @@ use Rattle.std.proofs.Common.{◌≡◌, ◌⊎◌, ℕ, zero, suc, ◌+◌, ◌
 use Rattle.std.specs.Int.{w32, to_be_bytes}
 use Rattle.std.proofs.lemmas.List.{take_at, drop_at, take-append-drop, take-take, take-append-le, drop-take, drop-drop, length-append, length-take, length-take-le, take_more_set, flat_map_more, take_more, ext_get_or, length-replicate, get_or-replicate}
 use Rattle.std.proofs.lemmas.List.Concat.{flat_map-cons}
-use Rattle.posix_defs.proofs.DiskSpelling.{words, length-words}
+use Rattle.disk_laws.proofs.DiskSpelling.{words, length-words}
 
 -- what lies from n on is m cells and what lies behind them
 pub cut : (n m : ℕ) (xs : List ℕ) → drop n xs ≡ take m (drop n xs) ++ drop (n + m) xs

@@ -1,6 +1,7 @@
 ghost use Rattle.std.specs.Prelude.{◌≡◌};
 
-use crate::{CallKind, Reply};
+use kabi_calls::CallKind;
+use kabi_values::Reply;
 
 /// Which of the three caches an evicted object was in.
 #[derive(Clone, Copy, Debug, PartialEq, Eq)]

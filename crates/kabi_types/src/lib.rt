@@ -3,37 +3,20 @@
 //! Nothing here does anything yet. Each list type is seen by contracts as its list.
 #![tactic(auto)]
 
-mod arguments;
-mod calls;
-mod classes;
 mod copies;
 mod entries;
-mod errnos;
-mod inodes;
-mod laws;
 mod long_lists;
-mod memory;
-mod open_flags;
-mod paths;
-mod replies;
 mod scripts;
-mod short_lists;
-mod words;
+#[cfg(test)]
+mod tests;
 
-pub use calls::{Call, CallKind, PollEntry};
-pub use classes::{Class, Need, Weight};
 pub use entries::{Cached, End, Entry, Event, Noted};
-pub use errnos::Errno;
-pub use inodes::{DirEntry, Inode};
-pub use laws::every_call_is_listed;
+pub use kabi_calls::{Call, CallKind, every_call_is_listed, may_wait};
+pub use kabi_values::{
+    Bytes64, Class, DirEntry, Errno, Inode, Memory, Name27, Need, NodeKind, OpenFlags, Path,
+    PollEntry, PollHits, PollList, Reply, Revents, StatInfo, Weight,
+};
 pub use long_lists::{Entries, Numbers, Operands, Programs, Statements, Text, Texts};
-pub use memory::Memory;
-pub use open_flags::OpenFlags;
-pub use replies::{NodeKind, PollHits, Reply, StatInfo};
 pub use scripts::{
     Chooser, Control, FaultKind, Operand, Policy, Program, Script, ScriptFault, Statement, Test,
 };
-pub use short_lists::{Bytes64, Name27, Path, PollList, Revents};
-
-#[cfg(test)]
-mod tests;

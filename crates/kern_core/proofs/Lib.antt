@@ -1,15 +1,2 @@
-pub mod LastNoted
-pub mod NextRun
 pub mod PickedRuns
-pub mod TaskPlaces
-pub mod TurnLeads
-pub mod Victims
-pub mod RoomFits
-pub mod OtherEvents
-pub mod TaskLoops
-pub mod Defaults
-pub mod ReliefSteps
 pub mod SampleSteps
-pub mod CalmTurns
-pub mod HeapBounds
-pub mod AllEvents

@@ -1,20 +1,20 @@
 -- A run that goes by the rule of choice.
-use Rattle.std.proofs.Common.{◌≡◌, ℕ, zero, suc, ◌+◌, ◌<◌, if◌then◌else◌, Bool, true, false, List, [], ◌∷◌, ◌++◌, filter, length, Option, None, Some, IsSome, IsNone, slice_get, refl, ap, sym, ◌∙◌, subst, arith, length-append}
+use Rattle.std.proofs.Common.{◌≡◌, ℕ, zero, suc, ◌+◌, List, [], ◌∷◌, ◌++◌, length, Option, None, Some, refl, ap, sym, ◌∙◌, subst, arith, length-append}
 use Rattle.kabi_types.specs.declared.entries.End.{End}
 use Rattle.kabi_types.specs.declared.entries.Event.{Event}
 use Rattle.kabi_types.specs.declared.entries.Noted.{Noted}
 use Rattle.kabi_types.specs.declared.scripts.Chooser.{Chooser}
 use Rattle.kabi_types.specs.declared.scripts.Script.{Script}
 use Rattle.posix_defs.specs.World.{World}
-use Rattle.posix_defs.specs.CoreState.{CoreState, boot_state, some_wait_in_vain}
+use Rattle.posix_defs.specs.CoreState.{CoreState, boot_state}
 use Rattle.posix_defs.specs.SoundTasks.{IsSound}
 use Rattle.posix_defs.specs.Ends.{end_of}
-use Rattle.posix_defs.specs.Choice.{asks_nothing, chosen, default_of, enabled_in, named_by}
+use Rattle.posix_defs.specs.Choice.{chosen, named_by}
 use Rattle.posix_defs.specs.Generator.{next_state, state_after}
 use Rattle.posix_defs.specs.CoreRun.{IsPickedRun, boots, goes_on}
-use Rattle.posix_defs.proofs.Picking.{named_is_enabled}
-use Rattle.posix_defs.proofs.Sounds.{is_sound}
-use Rattle.kern_core.specs.View.{CoreView, IsAt, CanTake, HasBooted, HasEnded, HasPicked, MayTake, Took}
+use Rattle.core_laws.proofs.Picking.{named_is_enabled}
+use Rattle.core_laws.proofs.Sounds.{is_sound}
+use Rattle.core_tasks.specs.View.{CoreView, IsAt, CanTake, HasBooted, HasEnded, HasPicked, MayTake, Took}
 use Rattle.kern_core.specs.declared.choosing.Choosing.{Choosing}
 use Rattle.kern_core.specs.Choosing.{given}
 
@@ -63,20 +63,6 @@ picked_more stands_for script old new event noted number before chooses no_end n
           (subst (λ steps. IsPickedRun script steps (old.run ++ noted ∷ []) led.0) (sym took.steps)
           (goes_on old.run before.state led.0 noted before.runs (no_end before.state before.is_at sound) picked led.2));
     }
-
-first_of : (events : List Event) (frees : Bool) → IsSome (slice_get (if frees then filter asks_nothing events else events) 0) → 0 < length events
-first_of [] true some = absurd (cc)
-first_of [] false some = absurd (cc)
-first_of (event ∷ events) frees some = omega arith
-
--- where there is a default some event is enabled
-pub has_some : (script : Script) (s : CoreState) → IsSome (default_of script s) → 0 < length (enabled_in script s)
-has_some script s some = first_of (enabled_in script s) (some_wait_in_vain script s) some
-
--- where no end stands an answer that needs one is an event
-pub not_none : (answer : Option Event) {end : Option End} → end ≡ None → (IsNone answer → IsSome end) → IsSome answer
-not_none (Some event) none ends = refl
-not_none None none ends = let some = ends refl in let same = subst IsSome none some in cc
 
 -- an event that can be taken may be, where no end stands
 pub may_take : {T : Type 0} (stands_for : T → World → Type 0) (script : Script) (core : CoreView T) (event : Event) → CanTake stands_for script core event

@@ -1,10 +1,10 @@
 -- What the processes of the tests do, by cases.
 use Rattle.std.proofs.Common.{◌≡◌, ◌≢◌, ℕ, zero, suc, ◌+◌, ◌-◌, ◌*◌, ◌≤◌, pos, Bool, true, false, [], ◌∷◌, lit≤, refl, sym, subst, arith}
-use Rattle.kabi_types.specs.declared.calls.Call.{Call}
+use Rattle.kabi_calls.specs.declared.calls.Call.{Call}
 use Rattle.kabi_types.specs.declared.entries.Cached.{Cached}
 use Rattle.kabi_types.specs.declared.entries.Cached.TheVariants.{Name, Block, Vnode}
-use Rattle.kabi_types.specs.declared.errnos.Errno.TheVariants.{EINVAL}
-use Rattle.kabi_types.specs.declared.replies.Reply.TheVariants.{Fail, Val}
+use Rattle.kabi_values.specs.declared.errnos.Errno.TheVariants.{EINVAL}
+use Rattle.kabi_values.specs.declared.replies.Reply.TheVariants.{Fail, Val}
 use Rattle.posix_defs.specs.declared.turner.Turned.TheVariants.{Done, Ended}
 use Rattle.posix_defs.specs.Memory.{no_places}
 use Rattle.posix_defs.specs.Needs.{bound, need_of, slack}

@@ -1,19 +1,13 @@
-//! The core: which events may be taken, what each does, and when a run ends, over any store of processes.
+//! The core: which events may be taken, what each does, when a run ends, and who chooses, over any store of processes.
 #![tactic(auto)]
 
 mod choosing;
-mod cores;
-mod others;
-mod phases;
 mod picks;
-mod reliefs;
-mod tasks;
 #[cfg(test)]
 mod tests;
 #[cfg(test)]
 mod tests_evictions;
 
 pub use choosing::Choosing;
-pub use cores::Core;
+pub use core_events::{Core, Relief};
 pub use picks::run_to_end;
-pub use reliefs::Relief;

@@ -1,12 +1,12 @@
 ghost use Rattle.std.specs.Prelude.{◌≡◌, None, Some, length};
-ghost use Rattle.kern_core.specs.View.{GoesOn, HasBooted, HasEnded, IsAt, LastStaysInside, MayTake};
+ghost use Rattle.core_tasks.specs.View.{GoesOn, HasBooted, HasEnded, IsAt, LastStaysInside, MayTake};
 ghost use Rattle.posix_defs.specs.Choice.{named_by};
 ghost use Rattle.posix_defs.specs.CoreState.{CoreState};
 ghost use Rattle.posix_defs.specs.SoundTasks.{IsSound};
 ghost use Rattle.posix_defs.specs.Ends.{end_of};
 
 use crate::choosing::Choosing;
-use crate::cores::Core;
+use core_events::Core;
 use kabi_types::{Chooser, End, Event};
 use posix_defs::Turner;
 

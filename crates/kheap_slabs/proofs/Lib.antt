@@ -1,14 +1,2 @@
-pub mod FillLemmas
-pub mod KeyLemmas
-pub mod MarkLemmas
+pub use Rattle.kheap_shelves.proofs.ObjectLemmas
 pub mod MeterLemmas
-pub mod ObjectLemmas
-pub mod OnceLemmas
-pub mod OutsideLemmas
-pub mod OwnerLemmas
-pub mod PaidLemmas
-pub mod PurseLemmas
-pub mod QueueLemmas
-pub mod ShelfLemmas
-pub mod SpaceLemmas
-pub mod TableLemmas

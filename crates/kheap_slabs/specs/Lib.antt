@@ -1,12 +1,12 @@
-pub mod Counts
+pub use Rattle.kheap_shelves.specs.Counts
+pub use Rattle.kheap_shelves.specs.Objects
+pub use Rattle.kheap_shelves.specs.Pages
+pub use Rattle.kheap_shelves.specs.Purse
 pub mod Heap
 pub mod Keys
-pub mod Marks
 pub mod Metered
-pub mod Objects
 pub mod Outside
 pub mod Owners
-pub mod Places
-pub mod Purse
+pub mod Paid
 pub mod Queues
 pub mod Spaces

@@ -1,24 +1,24 @@
 -- What the heap's counters say of its objects.
 use Rattle.std.specs.Prelude.{◌≡◌, ℕ, ◌/◌, length}
-use Rattle.kabi_types.specs.Class.{size}
-use Rattle.kabi_types.specs.declared.classes.Class.TheVariants as class
-use Rattle.kabi_types.specs.declared.classes.Need.{Need}
+use Rattle.kabi_values.specs.Class.{size}
+use Rattle.kabi_values.specs.declared.classes.Class.TheVariants as class
+use Rattle.kabi_values.specs.declared.classes.Need.{Need}
 use Rattle.kheap_slabs.specs.Heap.{Heap, live_bytes, IsWellFormed}
 use Rattle.kheap_slabs.specs.declared.kheap.KHeap.TheInside.{Inside}
 
 -- the heap as its shelves and its meter have it
 abbrev pub heap_of : Inside → Heap
 heap_of k = record {
-  procs = k.procs;
-  nodes = k.nodes;
-  pages = k.pages;
-  descs = k.descs;
-  vnodes = k.vnodes;
-  names = k.names;
-  blocks = k.blocks;
-  pipes = k.pipes;
-  chunks = k.chunks;
-  socks = k.socks;
+  procs = k.memory.procs;
+  nodes = k.memory.nodes;
+  pages = k.memory.pages;
+  descs = k.files.descs;
+  vnodes = k.files.vnodes;
+  names = k.files.names;
+  blocks = k.files.blocks;
+  pipes = k.queues.pipes;
+  chunks = k.queues.chunks;
+  socks = k.queues.socks;
   heap = k.meter.heap;
   high = k.meter.high;
   marks = k.meter.marks;

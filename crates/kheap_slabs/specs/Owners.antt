@@ -1,16 +1,16 @@
 -- Who owns which objects: address spaces their nodes, queues their chunks, and page entries the pages that they name.
 use Rattle.std.specs.Prelude.{◌≡◌, ℕ, ◌<◌, List, [], ◌∷◌, ◌++◌, Option, None, Some, map}
 use Rattle.std.specs.List.{Contains, concat}
+use Rattle.kheap_shelves.specs.Objects.{object}
+use Rattle.kheap_shelves.specs.declared.objects.Node.{Node}
+use Rattle.kheap_shelves.specs.declared.objects.Pipe.{Pipe}
+use Rattle.kheap_shelves.specs.declared.objects.Proc.{Proc}
+use Rattle.kheap_shelves.specs.declared.objects.QueueParts.{QueueParts}
+use Rattle.kheap_shelves.specs.declared.objects.Sock.{Sock}
 use Rattle.kheap_slabs.specs.Heap.{Heap}
 use Rattle.kheap_slabs.specs.Keys.{AreKeysOf, ChangesKeys}
-use Rattle.kheap_slabs.specs.Objects.{object}
 use Rattle.kheap_slabs.specs.Queues.{OwnedQueue, OwnsChunks}
 use Rattle.kheap_slabs.specs.Spaces.{mapped_count, keys_in, OwnsNodes, IsCounted}
-use Rattle.kheap_slabs.specs.declared.objects.Node.{Node}
-use Rattle.kheap_slabs.specs.declared.objects.Pipe.{Pipe}
-use Rattle.kheap_slabs.specs.declared.objects.Proc.{Proc}
-use Rattle.kheap_slabs.specs.declared.objects.QueueParts.{QueueParts}
-use Rattle.kheap_slabs.specs.declared.objects.Sock.{Sock}
 
 -- those that own objects: address spaces by the keys of their nodes, and queues
 pub record Owners : Type 0 where

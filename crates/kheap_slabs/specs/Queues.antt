@@ -1,10 +1,10 @@
 -- The chunks of a queue.
 use Rattle.std.specs.Prelude.{◌≡◌, ℕ, ◌+◌, ◌*◌, ◌<◌, ◌≤◌, List, [], ◌∷◌, Option, None, Some, length}
+use Rattle.kheap_shelves.specs.Objects.{object}
+use Rattle.kheap_shelves.specs.declared.objects.Chunk.{Chunk}
+use Rattle.kheap_shelves.specs.declared.objects.QueueParts.{QueueParts}
 use Rattle.kheap_slabs.specs.Keys.{IsOnce}
-use Rattle.kheap_slabs.specs.Objects.{object}
 use Rattle.kheap_slabs.specs.Outside.{KeepsOutside}
-use Rattle.kheap_slabs.specs.declared.objects.Chunk.{Chunk}
-use Rattle.kheap_slabs.specs.declared.objects.QueueParts.{QueueParts}
 
 -- a queue with the keys of its chunks, the first one first
 pub record OwnedQueue : Type 0 where

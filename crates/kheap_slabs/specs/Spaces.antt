@@ -1,13 +1,13 @@
 -- The nodes of an address space, and the page entries that name a page.
-use Rattle.std.specs.Prelude.{◌≡◌, ◌≢◌, ℕ, ◌+◌, ◌<◌, Bool, true, false, List, [], ◌∷◌, ◌++◌, Option, None, Some, length, count_by, drop, slice_index_or, slice_set, sum_by, take, eqb, if◌then◌else◌}
+use Rattle.std.specs.Prelude.{◌≡◌, ◌≢◌, ℕ, ◌+◌, ◌<◌, Bool, true, false, List, [], ◌∷◌, Option, None, Some, length, count_by, slice_index_or, slice_set, sum_by, eqb, if◌then◌else◌}
 use Rattle.std.specs.List.{Contains}
 use Rattle.std.specs.Option.{option_map}
+use Rattle.kheap_shelves.specs.Objects.{object, InUse, put}
+use Rattle.kheap_shelves.specs.declared.objects.Node.{Node}
+use Rattle.kheap_shelves.specs.declared.objects.Page.{Page}
+use Rattle.kheap_shelves.specs.declared.objects.PageEntry.{PageEntry}
+use Rattle.kheap_shelves.specs.declared.objects.PageEntry.TheVariants as entry
 use Rattle.kheap_slabs.specs.Keys.{IsOnce}
-use Rattle.kheap_slabs.specs.Objects.{object, InUse, put}
-use Rattle.kheap_slabs.specs.declared.objects.Node.{Node}
-use Rattle.kheap_slabs.specs.declared.objects.Page.{Page}
-use Rattle.kheap_slabs.specs.declared.objects.PageEntry.{PageEntry}
-use Rattle.kheap_slabs.specs.declared.objects.PageEntry.TheVariants as entry
 
 -- whether a page is mapped
 abbrev pub is_mapped : PageEntry → Bool
@@ -93,10 +93,6 @@ pub record CountFalls (old new : List (Option Page)) (page : ℕ) : Type 0 where
 -- the bytes of the page of a key
 abbrev pub bytes_at : List (Option Page) → ℕ → Option (List ℕ)
 bytes_at pages key = option_map (λ page. page.bytes) (object pages key)
-
--- the page with other bytes from a place on
-abbrev pub with_bytes : Page → ℕ → List ℕ → Page
-with_bytes page at bytes = record page { bytes = take at page.bytes ++ (bytes ++ drop (at + length bytes) page.bytes) }
 
 -- every page but these is there if it was, with the bytes that it had; its count may be another
 abbrev pub KeepsBytes : List ℕ → List (Option Page) → List (Option Page) → Type 0

@@ -1,17 +1,14 @@
-ghost use Rattle.std.specs.Prelude.{◌≡◌, ◌+◌, ◌/◌, ◌%◌, ◌^◌, ◌≤◌, IfOk, None, length, replicate};
-ghost use Rattle.kabi_types.specs.Class.{size};
-ghost use Rattle.kabi_types.specs.declared.classes.Class.TheVariants as class;
-ghost use Rattle.kheap_slabs.specs.Objects.{count};
+ghost use Rattle.std.specs.Prelude.{◌≡◌, ◌+◌, ◌/◌, ◌%◌, ◌^◌, ◌≤◌, IfOk, None, replicate};
+ghost use Rattle.kabi_values.specs.Class.{size};
+ghost use Rattle.kabi_values.specs.declared.classes.Class.TheVariants as class;
 ghost use Rattle.kheap_slabs.specs.Heap.{live_bytes, empty_heap, IsWellFormed};
 
 mod files;
 mod memory;
 mod queues;
 
-use crate::meter::Meter;
-use crate::shelf::Shelf;
-use crate::{Block, Chunk, Desc, Name, Node, Page, Pipe, Proc, Sock, Vnode};
 use kabi_types::{Class, Memory};
+use kheap_shelves::{Block, Chunk, Desc, Meter, Name, Node, Page, Pipe, Proc, Shelf, Sock, Vnode};
 use std::alloc::Global;
 use std::marker::Model;
 
@@ -22,16 +19,9 @@ use std::marker::Model;
 /// neither touches another.
 #[derive(Drop)]
 pub struct KHeap {
-    procs: Shelf<Proc>,
-    nodes: Shelf<Node>,
-    pages: Shelf<Page>,
-    descs: Shelf<Desc>,
-    vnodes: Shelf<Vnode>,
-    names: Shelf<Name>,
-    blocks: Shelf<Block>,
-    pipes: Shelf<Pipe>,
-    chunks: Shelf<Chunk>,
-    socks: Shelf<Sock>,
+    memory: MemoryShelves,
+    files: FileShelves,
+    queues: QueueShelves,
     meter: Meter,
 }
 
@@ -51,14 +41,12 @@ impl Model for KHeap {
 fn shelf_of<T: Drop>(alloc: Global, heap: u64, bytes: u64) -> Result<Shelf<T>, Memory>
     requires most { heap ≤ 8388608 }
     requires least { 1 ≤ bytes }
-    ensures empty { IfOk result (λ shelf. shelf ≡ replicate (heap / bytes) None) }
-    ensures counted { IfOk result (λ shelf. count shelf ≡ 0) }
-    ensures len { IfOk result (λ shelf. length shelf ≡ heap / bytes) }
+    ensures { IfOk result (λ shelf. shelf ≡ replicate (heap / bytes) None) }
 {
     Ok(Shelf::boot(alloc, (heap / bytes) as u32)?)
 }
 
-// Empty shelves for processes and their memory.
+// The shelves for processes and their memory.
 #[derive(Drop)]
 struct MemoryShelves {
     procs: Shelf<Proc>,
@@ -70,14 +58,8 @@ impl MemoryShelves {
     fn boot(alloc: Global, heap: u64) -> Result<MemoryShelves, Memory>
         requires { heap ≤ 8388608 }
         ensures procs { IfOk result (λ made. made.procs ≡ replicate (heap / size class.Proc) None) }
-        ensures procs_counted { IfOk result (λ made. count made.procs ≡ 0) }
-        ensures procs_len { IfOk result (λ made. length made.procs ≡ heap / size class.Proc) }
         ensures nodes { IfOk result (λ made. made.nodes ≡ replicate (heap / size class.Node) None) }
-        ensures nodes_counted { IfOk result (λ made. count made.nodes ≡ 0) }
-        ensures nodes_len { IfOk result (λ made. length made.nodes ≡ heap / size class.Node) }
         ensures pages { IfOk result (λ made. made.pages ≡ replicate (heap / size class.Page) None) }
-        ensures pages_counted { IfOk result (λ made. count made.pages ≡ 0) }
-        ensures pages_len { IfOk result (λ made. length made.pages ≡ heap / size class.Page) }
     {
         Ok(MemoryShelves {
             procs: shelf_of(alloc, heap, Class::Proc.bytes())?,
@@ -87,7 +69,7 @@ impl MemoryShelves {
     }
 }
 
-// Empty shelves for descriptions and the caches.
+// The shelves for descriptions and the caches.
 #[derive(Drop)]
 struct FileShelves {
     descs: Shelf<Desc>,
@@ -100,19 +82,11 @@ impl FileShelves {
     fn boot(alloc: Global, heap: u64) -> Result<FileShelves, Memory>
         requires { heap ≤ 8388608 }
         ensures descs { IfOk result (λ made. made.descs ≡ replicate (heap / size class.Desc) None) }
-        ensures descs_counted { IfOk result (λ made. count made.descs ≡ 0) }
-        ensures descs_len { IfOk result (λ made. length made.descs ≡ heap / size class.Desc) }
         ensures vnodes { IfOk result (λ made. made.vnodes
             ≡ replicate (heap / size class.Vnode) None) }
-        ensures vnodes_counted { IfOk result (λ made. count made.vnodes ≡ 0) }
-        ensures vnodes_len { IfOk result (λ made. length made.vnodes ≡ heap / size class.Vnode) }
         ensures names { IfOk result (λ made. made.names ≡ replicate (heap / size class.Name) None) }
-        ensures names_counted { IfOk result (λ made. count made.names ≡ 0) }
-        ensures names_len { IfOk result (λ made. length made.names ≡ heap / size class.Name) }
         ensures blocks { IfOk result (λ made. made.blocks
             ≡ replicate (heap / size class.Block) None) }
-        ensures blocks_counted { IfOk result (λ made. count made.blocks ≡ 0) }
-        ensures blocks_len { IfOk result (λ made. length made.blocks ≡ heap / size class.Block) }
     {
         Ok(FileShelves {
             descs: shelf_of(alloc, heap, Class::Desc.bytes())?,
@@ -123,7 +97,7 @@ impl FileShelves {
     }
 }
 
-// Empty shelves for pipes, sockets and their bytes.
+// The shelves for pipes, sockets and their bytes.
 #[derive(Drop)]
 struct QueueShelves {
     pipes: Shelf<Pipe>,
@@ -135,15 +109,9 @@ impl QueueShelves {
     fn boot(alloc: Global, heap: u64) -> Result<QueueShelves, Memory>
         requires { heap ≤ 8388608 }
         ensures pipes { IfOk result (λ made. made.pipes ≡ replicate (heap / size class.Pipe) None) }
-        ensures pipes_counted { IfOk result (λ made. count made.pipes ≡ 0) }
-        ensures pipes_len { IfOk result (λ made. length made.pipes ≡ heap / size class.Pipe) }
         ensures chunks { IfOk result (λ made. made.chunks
             ≡ replicate (heap / size class.Chunk) None) }
-        ensures chunks_counted { IfOk result (λ made. count made.chunks ≡ 0) }
-        ensures chunks_len { IfOk result (λ made. length made.chunks ≡ heap / size class.Chunk) }
         ensures socks { IfOk result (λ made. made.socks ≡ replicate (heap / size class.Sock) None) }
-        ensures socks_counted { IfOk result (λ made. count made.socks ≡ 0) }
-        ensures socks_len { IfOk result (λ made. length made.socks ≡ heap / size class.Sock) }
     {
         Ok(QueueShelves {
             pipes: shelf_of(alloc, heap, Class::Pipe.bytes())?,
@@ -165,16 +133,9 @@ impl KHeap {
         let files = FileShelves::boot(alloc, heap)?;
         let queues = QueueShelves::boot(alloc, heap)?;
         Ok(KHeap {
-            procs: memory.procs,
-            nodes: memory.nodes,
-            pages: memory.pages,
-            descs: files.descs,
-            vnodes: files.vnodes,
-            names: files.names,
-            blocks: files.blocks,
-            pipes: queues.pipes,
-            chunks: queues.chunks,
-            socks: queues.socks,
+            memory,
+            files,
+            queues,
             meter: Meter {
                 heap,
                 live: 0,

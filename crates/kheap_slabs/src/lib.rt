@@ -3,18 +3,12 @@
 #![tactic(auto)]
 
 mod kheap;
-pub mod laws;
-mod meter;
-mod objects;
-mod purse;
-mod shelf;
 
 pub use kheap::KHeap;
-pub use objects::{
+pub use kheap_shelves::{
     Access, Block, Chunk, Desc, DescFlags, Descriptor, Name, Node, Page, PageEntry, Pipe, Proc,
-    QueueParts, Sock, SockState, Target, Vnode,
+    Purse, QueueParts, Sock, SockState, Target, Vnode,
 };
-pub use purse::Purse;
 
 #[cfg(test)]
 mod tests;

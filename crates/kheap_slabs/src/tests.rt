@@ -1,15 +1,13 @@
 ghost use Rattle.std.specs.Prelude.{◌≡◌, ◌+◌, ◌<◌, ◌≤◌};
+ghost use Rattle.kheap_shelves.specs.Objects.{InUse};
 ghost use Rattle.kheap_slabs.specs.Heap.{live_bytes};
-ghost use Rattle.kheap_slabs.specs.Objects.{InUse};
-ghost use Rattle.kheap_slabs.specs.Queues.{empty_queue};
 
-mod callers;
-
-use crate::{
-    Access, Block, Chunk, Desc, DescFlags, Descriptor, KHeap, Name, Node, Page, PageEntry, Pipe,
-    Proc, QueueParts, Sock, SockState, Target, Vnode,
-};
+use crate::KHeap;
 use kabi_types::{Control, Inode, Name27};
+use kheap_shelves::{
+    Access, Block, Chunk, Desc, DescFlags, Descriptor, Name, Node, Page, PageEntry, Pipe, Proc,
+    QueueParts, Sock, SockState, Target, Vnode,
+};
 use std::test::Fail;
 
 fn proc_of(pid: u32) -> Proc {
@@ -84,9 +82,7 @@ fn block_of(number: u32) -> Block {
     }
 }
 
-fn pipe_of(readers: u32) -> Pipe
-    ensures { result.queue ≡ empty_queue }
-{
+fn pipe_of(readers: u32) -> Pipe {
     let queue = QueueParts {
         first: None,
         last: None,

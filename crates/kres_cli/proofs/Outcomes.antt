@@ -6,9 +6,9 @@ use Rattle.kabi_types.specs.declared.entries.End.{End}
 use Rattle.kabi_types.specs.declared.entries.End.TheVariants as end
 use Rattle.kabi_types.specs.declared.scripts.Script.{Script}
 use Rattle.posix_defs.specs.ScriptText.{ReadsText}
-use Rattle.script_parse.specs.Reading.{Outcome}
-use Rattle.script_parse.specs.declared.parse_error.ParseError.{ParseError}
-use Rattle.script_parse.specs.declared.parse_error.ParseError.TheVariants as error
+use Rattle.script_read.specs.Reading.{Outcome}
+use Rattle.script_read.specs.declared.parse_error.ParseError.{ParseError}
+use Rattle.script_read.specs.declared.parse_error.ParseError.TheVariants as error
 use Rattle.kres_cli.specs.declared.commands.Command.{Command}
 use Rattle.kres_cli.specs.declared.commands.Command.TheVariants.{OnScript, Table, Gen}
 use Rattle.kres_cli.specs.declared.commands.Task.{Task}

@@ -9,8 +9,8 @@ use Rattle.posix_defs.specs.Generated.{generated}
 use Rattle.posix_defs.specs.Lines.{fault_line}
 use Rattle.posix_defs.specs.PriceText.{table_text}
 use Rattle.posix_defs.specs.ScriptText.{ReadsText}
-use Rattle.script_parse.specs.declared.parse_error.ParseError.{ParseError}
-use Rattle.script_parse.specs.declared.parse_error.ParseError.TheVariants as error
+use Rattle.script_read.specs.declared.parse_error.ParseError.{ParseError}
+use Rattle.script_read.specs.declared.parse_error.ParseError.TheVariants as error
 use Rattle.kres_cli.specs.declared.commands.Command.{Command}
 use Rattle.kres_cli.specs.declared.commands.Command.TheVariants.{OnScript, Table, Gen}
 use Rattle.kres_cli.specs.declared.commands.Task.{Task}

@@ -5,15 +5,15 @@ use Rattle.std.proofs.lemmas.List.{ext_get_or, get_or_append_left, get_or-append
 use Rattle.std.proofs.lemmas.List.Concat.{flat_map-cons}
 use Rattle.std.proofs.lemmas.List.FromFn.{length-map-range_with_len, get_or-map-range_with_len}
 use Rattle.std.proofs.lemmas.Option.{get_or_from_slice_get}
-use Rattle.kabi_types.specs.declared.inodes.Inode.{Inode}
-use Rattle.kabi_types.specs.declared.inodes.DirEntry.{DirEntry}
+use Rattle.kabi_values.specs.declared.inodes.Inode.{Inode}
+use Rattle.kabi_values.specs.declared.inodes.DirEntry.{DirEntry}
 use Rattle.posix_defs.specs.DiskFormat.{IsEntry, entry_bytes}
 use Rattle.posix_defs.specs.SoundDisk.{block_bytes}
 use Rattle.posix_defs.specs.DiskContents.{data_block, byte_at, node_bytes, HasEntries}
 use Rattle.posix_defs.specs.Tree.{directory}
 use Rattle.posix_defs.specs.TreeChanges.{no_entry}
-use Rattle.posix_defs.proofs.DiskSpelling.{length-entry_bytes}
-use Rattle.posix_defs.proofs.DirectoryEntries.{size_of_entries}
+use Rattle.disk_laws.proofs.DiskSpelling.{length-entry_bytes}
+use Rattle.disk_laws.proofs.DirectoryEntries.{size_of_entries}
 use Rattle.memfs_dir.specs.Slots.{Spells}
 
 -- ---- every entry is one

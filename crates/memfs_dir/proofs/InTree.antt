@@ -2,20 +2,20 @@
 use Rattle.std.proofs.Common.{◌≡◌, ◌≢◌, ℕ, ◌+◌, ◌<◌, ◌≤◌, true, List, [], ◌∷◌, ◌++◌, set, Option, None, Some, refl, sym, ap, subst, ◌∙◌, arith}
 use Rattle.std.specs.List.{swap_remove}
 use Rattle.std.specs.Option.{option_map}
-use Rattle.kabi_types.specs.declared.inodes.Inode.{Inode}
-use Rattle.kabi_types.specs.declared.inodes.DirEntry.{DirEntry}
+use Rattle.kabi_values.specs.declared.inodes.Inode.{Inode}
+use Rattle.kabi_values.specs.declared.inodes.DirEntry.{DirEntry}
 use Rattle.posix_defs.specs.DiskFormat.{table_nodes}
 use Rattle.posix_defs.specs.SoundDisk.{HasNode}
 use Rattle.posix_defs.specs.DiskContents.{HasEntries, entry_for, own_name, parent_name}
 use Rattle.posix_defs.specs.DiskTree.{HasNodeOf, HasThere, StandsFor}
 use Rattle.posix_defs.specs.Tree.{Directory, Node, Tree, node_at, with_node, is_directory, links_at, entries_at, parent_at, found}
 use Rattle.posix_defs.specs.TreeChanges.{no_entry, place_of, entry_put, entry_taken, entry_aimed, entry_renamed, with_entries, hung, under}
-use Rattle.posix_defs.proofs.FormattedDisk.{one_inode}
-use Rattle.posix_defs.proofs.DirectoryEntries.{one_list, size_of_entries}
-use Rattle.posix_defs.proofs.DiskStands.{changed_stands}
-use Rattle.posix_defs.proofs.EntryLists.{stands_at}
+use Rattle.disk_laws.proofs.FormattedDisk.{one_inode}
+use Rattle.disk_laws.proofs.DirectoryEntries.{one_list, size_of_entries}
+use Rattle.disk_laws.proofs.DiskStands.{changed_stands}
+use Rattle.tree_laws.proofs.EntryLists.{stands_at}
 use Rattle.posix_defs.proofs.TreeNodes.{directory_number}
-use Rattle.posix_defs.proofs.TreeSteps.{directory_is, listing, with_entries_is}
+use Rattle.tree_laws.proofs.TreeSteps.{directory_is, listing, with_entries_is}
 use Rattle.memfs_dir.specs.Listed.{Relists, place_called}
 use Rattle.memfs_dir.proofs.Dots.{whole, found_behind, missing_behind, set_behind, taken_behind}
 

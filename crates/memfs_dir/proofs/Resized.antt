@@ -5,14 +5,14 @@ use Rattle.std.proofs.lemmas.Bool.{cases_lt}
 use Rattle.std.proofs.lemmas.Option.{same_Some, slice_get-get_or}
 use Rattle.std.proofs.lemmas.List.{length-set, length-take-le, get_or-take, get_or_append_left, get_or_at, length_push}
 use Rattle.std.proofs.lemmas.List.Elements.{All-push, All-take}
-use Rattle.kabi_types.specs.declared.inodes.Inode.{Inode}
-use Rattle.kabi_types.specs.declared.inodes.DirEntry.{DirEntry}
+use Rattle.kabi_values.specs.declared.inodes.Inode.{Inode}
+use Rattle.kabi_values.specs.declared.inodes.DirEntry.{DirEntry}
 use Rattle.posix_defs.specs.DiskFormat.{blocks_of, IsEntry, entry_bytes}
 use Rattle.posix_defs.specs.SoundDisk.{block_bytes, bit_of, HasNode}
 use Rattle.posix_defs.specs.DiskContents.{byte_at, HasEntries}
 use Rattle.posix_defs.specs.NodeChange.{Resizes, Grows}
 use Rattle.posix_defs.specs.TreeChanges.{no_entry}
-use Rattle.posix_defs.proofs.DirectoryEntries.{size_of_entries}
+use Rattle.disk_laws.proofs.DirectoryEntries.{size_of_entries}
 use Rattle.blk_map.proofs.AndBack.{changes_follow}
 use Rattle.memfs_dir.specs.Listed.{PutsEntry, Relists, TakesLowest}
 use Rattle.memfs_dir.proofs.DirectoryBytes.{begins, lists, place_within}

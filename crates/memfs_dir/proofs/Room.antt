@@ -1,14 +1,14 @@
 -- The room of a directory on the disk is that of the tree.
 use Rattle.std.proofs.Common.{◌≡◌, ℕ, ◌+◌, ◌-◌, ◌<◌, ◌≤◌, Bool, false, ◌&&◌, ltb, leb, ◌⊎◌, inl, inr, List, Option, Some, None, sym, ap, subst, ◌∙◌, ◌↔◌, arith}
 use Rattle.std.proofs.lemmas.Bool.{cases_lt, lt-ltb, le-ltb, lt-leb, leb-false}
-use Rattle.kabi_types.specs.declared.inodes.Inode.{Inode}
+use Rattle.kabi_values.specs.declared.inodes.Inode.{Inode}
 use Rattle.posix_defs.specs.DiskFormat.{greatest_size, table_nodes, blocks_of}
 use Rattle.posix_defs.specs.SoundDisk.{HasNode, free_in_map}
 use Rattle.posix_defs.specs.Tree.{Node, Tree, node_at, size_in, size_at, free_blocks}
 use Rattle.posix_defs.specs.TreeChanges.{takes_entry}
 use Rattle.posix_defs.specs.DiskTree.{HasThere, StandsFor}
-use Rattle.posix_defs.proofs.FormattedDisk.{one_inode}
-use Rattle.posix_defs.proofs.DiskStands.{free_in_tree}
+use Rattle.disk_laws.proofs.FormattedDisk.{one_inode}
+use Rattle.disk_laws.proofs.DiskStands.{free_in_tree}
 use Rattle.memfs_dir.specs.Listed.{IsFull}
 
 size_there : (disk : List (List ℕ)) (number : ℕ) (there : Option Node) (inode : Inode) → HasThere disk number there → HasNode disk number inode → size_in there ≡ inode.size

@@ -3,9 +3,9 @@ use Rattle.std.proofs.Common.{◌≡◌, ℕ, ◌+◌, ◌-◌, ◌*◌, ◌<◌
 use Rattle.std.proofs.lemmas.List.{ext_get_or, get_or-take, get_or-drop, length-take-le, get_or_append_left, get_or-append_right}
 use Rattle.std.proofs.Common.{length-drop}
 use borrow.Rule.Slice.PartMut.{put_mid}
-use Rattle.kabi_types.specs.declared.inodes.DirEntry.{DirEntry}
+use Rattle.kabi_values.specs.declared.inodes.DirEntry.{DirEntry}
 use Rattle.posix_defs.specs.DiskFormat.{IsEntry, entry_bytes}
-use Rattle.posix_defs.proofs.DiskSpelling.{length-entry_bytes, same_entry_bytes}
+use Rattle.disk_laws.proofs.DiskSpelling.{length-entry_bytes, same_entry_bytes}
 use Rattle.memfs_dir.specs.Slots.{Spells}
 
 abbrev pub piece : List ℕ → ℕ → List ℕ

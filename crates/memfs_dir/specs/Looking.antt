@@ -1,6 +1,6 @@
 -- Which blocks of a directory a look for a name asks for.
 use Rattle.std.specs.Prelude.{ℕ, zero, suc, ◌+◌, ◌/◌, ◌==◌, if◌then◌else◌, List, [], ◌∷◌, ◌++◌, map, Option, None, Some}
-use Rattle.kabi_types.specs.declared.inodes.Inode.{Inode}
+use Rattle.kabi_values.specs.declared.inodes.Inode.{Inode}
 use Rattle.posix_defs.specs.DiskFormat.{direct_pointers, data_blocks}
 use Rattle.posix_defs.specs.SoundDisk.{Place, Data, Pointers, named_at}
 use Rattle.memfs_dir.specs.Slots.{entries_in_block}

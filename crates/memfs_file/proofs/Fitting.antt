@@ -3,7 +3,7 @@ use Rattle.std.proofs.Common.{◌≡◌, ℕ, ◌+◌, ◌<◌, ◌≤◌, inl, 
 use Rattle.std.proofs.lemmas.Bool.{cases_lt}
 use Rattle.posix_defs.specs.DiskFormat.{greatest_size, blocks_of}
 use Rattle.posix_defs.specs.FileBytes.{fitting}
-use Rattle.posix_defs.proofs.FileRoom.{capacity_fits, fits_capacity}
+use Rattle.tree_laws.proofs.FileRoom.{capacity_fits, fits_capacity}
 
 pub so_many_fit : (blocks at wanted count : ℕ) → count ≡ fitting blocks at wanted → 0 < count → (count ≤ wanted) × (at + count ≤ greatest_size) × (blocks_of (at + count) ≤ blocks)
 so_many_fit blocks at wanted count is some = (omega (arith, is), omega (arith, is, some), capacity_fits blocks (at + count) (omega (arith, is, some)))

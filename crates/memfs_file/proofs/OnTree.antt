@@ -2,9 +2,9 @@
 use Rattle.std.proofs.Common.{◌≡◌, ℕ, ◌+◌, ◌<◌, ◌≤◌, cond, List, length, take, eqb, ltb, leb, Option, Some, Result, Ok, Err, sym, ap, subst, ◌∙◌, arith}
 use Rattle.std.specs.Option.{option_map}
 use Rattle.std.proofs.lemmas.Bool.{cond-true, cond-false, le-leb, lt-leb, lt-ltb, le-ltb, ne_eqb}
-use Rattle.kabi_types.specs.declared.errnos.Errno.{Errno}
-use Rattle.kabi_types.specs.declared.errnos.Errno.TheVariants.{EFBIG, ENOSPC}
-use Rattle.kabi_types.specs.declared.inodes.Inode.{Inode}
+use Rattle.kabi_values.specs.declared.errnos.Errno.{Errno}
+use Rattle.kabi_values.specs.declared.errnos.Errno.TheVariants.{EFBIG, ENOSPC}
+use Rattle.kabi_values.specs.declared.inodes.Inode.{Inode}
 use Rattle.posix_defs.specs.DiskFormat.{greatest_size, table_nodes, blocks_of}
 use Rattle.posix_defs.specs.FileBytes.{fitting, overwritten, resized}
 use Rattle.posix_defs.specs.SoundDisk.{HasInode, free_in_map}
@@ -13,8 +13,8 @@ use Rattle.posix_defs.specs.DiskTree.{HasNodeOf, HasThere, StandsFor}
 use Rattle.posix_defs.specs.Tree.{File, Node, Tree, node_at, with_node, size_at, size_in}
 use Rattle.posix_defs.specs.TreeChanges as trees
 use Rattle.posix_defs.specs.TreeChanges.{with_bytes, with_bytes_in, write, resize}
-use Rattle.posix_defs.proofs.DiskStands.{changed_stands, free_in_tree}
-use Rattle.posix_defs.proofs.FormattedDisk.{one_inode}
+use Rattle.disk_laws.proofs.DiskStands.{changed_stands, free_in_tree}
+use Rattle.disk_laws.proofs.FormattedDisk.{one_inode}
 use Rattle.memfs_file.specs.FileChange.{blocks_for, Rewrites}
 
 -- the disk stands for a tree that has a file under a number, and has this inode for it

@@ -1,11 +1,11 @@
 -- The blocks of a node as the pointers in hand name them.
 use Rattle.std.proofs.Common.{◌≡◌, ℕ, ◌-◌, ◌<◌, ◌≤◌, Bool, cond, inl, inr, List, length, get_or, sym, ap, ◌∙◌, arith}
 use Rattle.std.proofs.lemmas.Bool.{cases_lt, lt-ltb, le-ltb}
-use Rattle.kabi_types.specs.declared.inodes.Inode.{Inode}
+use Rattle.kabi_values.specs.declared.inodes.Inode.{Inode}
 use Rattle.posix_defs.specs.DiskFormat.{data_blocks}
 use Rattle.posix_defs.specs.SoundDisk.{block_bytes, HasInode, pointer_at, Data, Sound}
 use Rattle.posix_defs.specs.DiskContents.{data_block}
-use Rattle.posix_defs.proofs.FreeBlocks.{named_is_for_files, direct_at, behind_at}
+use Rattle.disk_laws.proofs.FreeBlocks.{named_is_for_files, direct_at, behind_at}
 use Rattle.blk_map.specs.Named.{pointer_to}
 
 pub pointer_names : (disk : List (List ℕ)) (inode : Inode) (behind : List ℕ) (blocks index : ℕ) → (10 < blocks → (k : ℕ) → k < 256 → get_or behind k 0 ≡ pointer_at (block_bytes disk inode.indirect) k)

@@ -2,14 +2,14 @@
 use Rattle.std.proofs.Common.{◌≡◌, ℕ, ◌+◌, ◌-◌, ◌*◌, ◌/◌, ◌%◌, ◌<◌, ◌≤◌, max, inl, inr, List, ◌++◌, length, get_or, drop, sym, ap, ◌∙◌, arith, length-append}
 use Rattle.std.proofs.lemmas.Bool.{cases_lt}
 use Rattle.std.proofs.lemmas.List.{get_or_append_left, get_or-append_right, get_or-replicate, get_or_past}
-use Rattle.kabi_types.specs.declared.inodes.Inode.{Inode}
+use Rattle.kabi_values.specs.declared.inodes.Inode.{Inode}
 use Rattle.posix_defs.specs.DiskFormat.{block_size, data_blocks, blocks_of}
 use Rattle.posix_defs.specs.FileBytes.{resized, overwritten}
 use Rattle.posix_defs.specs.SoundDisk.{block_bytes, free_in_map}
 use Rattle.posix_defs.specs.DiskContents.{byte_at, node_bytes, zeros}
 use Rattle.posix_defs.specs.NodeChange.{Resizes, Grows}
-use Rattle.posix_defs.proofs.FileRoom.{length-resized, length-overwritten}
-use Rattle.posix_defs.proofs.FileBytesLaws.{resized_at, written_before, written_behind}
+use Rattle.tree_laws.proofs.FileRoom.{length-resized, length-overwritten}
+use Rattle.tree_laws.proofs.FileBytesLaws.{resized_at, written_before, written_behind}
 use Rattle.blk_map.proofs.AndBack.{changes_follow}
 use Rattle.memfs_file.specs.FileChange.{Rewrites, Puts, Clears}
 use Rattle.memfs_file.proofs.Bytes.{bytes_len, byte_of, bytes_are}

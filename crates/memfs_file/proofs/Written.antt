@@ -1,13 +1,13 @@
 -- Blocks of a node that are written one after another.
 use Rattle.std.proofs.Common.{◌≡◌, ◌≢◌, ℕ, ◌+◌, ◌-◌, ◌/◌, ◌%◌, ◌<◌, ◌≤◌, ◌⊎◌, inl, inr, List, length, get_or, set, refl, sym, ap, subst, ◌∙◌, arith}
 use Rattle.std.proofs.lemmas.Bool.{cases_eq}
-use Rattle.kabi_types.specs.declared.inodes.Inode.{Inode}
+use Rattle.kabi_values.specs.declared.inodes.Inode.{Inode}
 use Rattle.posix_defs.specs.DiskFormat.{block_size, data_blocks}
 use Rattle.posix_defs.specs.SoundDisk.{block_bytes, HasInode, Sound, free_in_map}
 use Rattle.posix_defs.specs.DiskContents.{data_block, byte_at}
 use Rattle.posix_defs.specs.DiskTree.{ChangesNode}
 use Rattle.posix_defs.specs.NodeChange.{WritesBlock}
-use Rattle.posix_defs.proofs.BlockWritten.{block_written}
+use Rattle.disk_laws.proofs.BlockWritten.{block_written}
 use Rattle.blk_map.proofs.AndBack.{changes_follow}
 use Rattle.memfs_file.specs.FileChange.{Puts}
 

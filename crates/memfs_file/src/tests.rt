@@ -1,5 +1,5 @@
 ghost use Rattle.std.specs.Prelude.{◌≡◌, ◌≢◌, ℕ, ◌<◌, ◌≤◌};
-ghost use Rattle.kabi_types.specs.declared.inodes.Inode.{Inode};
+ghost use Rattle.kabi_values.specs.declared.inodes.Inode.{Inode};
 ghost use Rattle.posix_defs.specs.SoundDisk.{HasInode, HasNode, Sound};
 
 use crate::room::free_count;

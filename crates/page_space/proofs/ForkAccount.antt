@@ -6,12 +6,12 @@ use Rattle.std.proofs.lemmas.List.Elements.{Contains-append_right}
 use Rattle.posix_defs.specs.ByPid.{with_pid}
 use Rattle.posix_defs.specs.Memory.{Frames, Place, Places, place_at, places_of, no_places, namings, after_fork}
 use Rattle.posix_defs.specs.Memory as account
+use Rattle.kheap_shelves.specs.declared.objects.PageEntry.{PageEntry}
+use Rattle.kheap_shelves.specs.declared.objects.PageEntry.TheVariants as entry
 use Rattle.kheap_slabs.specs.Heap.{Heap}
 use Rattle.kheap_slabs.specs.Owners.{Owners, with_space, IsOwned}
 use Rattle.kheap_slabs.specs.Spaces.{count_at, names_page, IsCounted}
-use Rattle.kheap_slabs.specs.declared.objects.PageEntry.{PageEntry}
-use Rattle.kheap_slabs.specs.declared.objects.PageEntry.TheVariants as entry
-use Rattle.kheap_slabs.proofs.OwnerLemmas.{first_there}
+use Rattle.kheap_laws.proofs.OwnerLemmas.{first_there}
 use Rattle.page_space.specs.Accounts.{place_of, HasPlaces, AreFrames, IsAccounted, AccountForks, AccountMoves, turned_at}
 use Rattle.page_space.specs.Entries.{entry_at, PageTurns}
 use Rattle.page_space.specs.Frames.{IsNamed}

@@ -1,18 +1,19 @@
 -- A space that gets the pages of another one after another.
 use Rattle.std.proofs.Common.{◌≡◌, ◌≢◌, ℕ, zero, suc, ◌+◌, ◌-◌, ◌/◌, ◌<◌, ◌≤◌, Bool, true, false, cond, is_some, IsSome, List, [], ◌∷◌, Option, None, Some, get_or, replicate, refl, sym, ap, ◌∙◌, subst, ⊎_elim, arith}
 use Rattle.std.proofs.lemmas.Bool.{cases_eq, false≢true, true≢false}
-use Rattle.kabi_types.specs.declared.classes.Class.TheVariants as class
-use Rattle.kheap_slabs.specs.Counts.{with_count}
+use Rattle.kabi_values.specs.declared.classes.Class.TheVariants as class
+use Rattle.kheap_shelves.specs.Counts.{with_count}
+use Rattle.kheap_shelves.specs.Objects.{object, InUse}
+use Rattle.kheap_shelves.specs.Purse.{Purse}
+use Rattle.kheap_shelves.specs.declared.objects.Page.{Page}
+use Rattle.kheap_shelves.specs.declared.objects.PageEntry.{PageEntry}
+use Rattle.kheap_shelves.specs.declared.objects.PageEntry.TheVariants as entry
 use Rattle.kheap_slabs.specs.Heap.{Heap}
-use Rattle.kheap_slabs.specs.Objects.{object, InUse}
 use Rattle.kheap_slabs.specs.Owners.{Owners, with_space, IsOwned}
-use Rattle.kheap_slabs.specs.Purse.{Purse, IsPaid, TakesNothing}
+use Rattle.kheap_slabs.specs.Paid.{IsPaid, TakesNothing}
 use Rattle.kheap_slabs.specs.Spaces.{is_mapped, keys_in, OwnsNodes, count_at, names_page}
-use Rattle.kheap_slabs.specs.declared.objects.Page.{Page}
-use Rattle.kheap_slabs.specs.declared.objects.PageEntry.{PageEntry}
-use Rattle.kheap_slabs.specs.declared.objects.PageEntry.TheVariants as entry
-use Rattle.kheap_slabs.proofs.OwnerLemmas.{first_there, IsOwned-space, IsOwned-space_to_front, IsOwned-space_joins}
-use Rattle.kheap_slabs.proofs.PaidLemmas.{IsPaid-refl, IsPaid-trans, IsPaid-nothing}
+use Rattle.kheap_laws.proofs.OwnerLemmas.{first_there, IsOwned-space, IsOwned-space_to_front, IsOwned-space_joins}
+use Rattle.kheap_laws.proofs.PaidLemmas.{IsPaid-refl, IsPaid-trans, IsPaid-nothing}
 use Rattle.page_space.specs.Entries.{key_of, entry_at, PageTurns}
 use Rattle.page_space.specs.Contents.{content_of, content_at, SpaceMoves, IsForked}
 use Rattle.page_space.specs.Frames.{AllNamed, FramesStay}

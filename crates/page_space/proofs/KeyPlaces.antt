@@ -5,8 +5,8 @@ use Rattle.std.proofs.lemmas.List.{set_split, set-get_or}
 use Rattle.std.proofs.lemmas.List.Elements.{Contains-append_right, Contains-append_cases}
 use Rattle.kheap_slabs.specs.Keys.{IsOnce}
 use Rattle.kheap_slabs.specs.Spaces.{keys_in}
-use Rattle.kheap_slabs.proofs.KeyLemmas.{Contains-swap, IsOnce-swap}
-use Rattle.kheap_slabs.proofs.OnceLemmas.{Contains-single, IsOnce-head, IsOnce-tail, IsOnce-cons}
+use Rattle.kheap_laws.proofs.KeyLemmas.{Contains-swap, IsOnce-swap}
+use Rattle.kheap_laws.proofs.OnceLemmas.{Contains-single, IsOnce-head, IsOnce-tail, IsOnce-cons}
 
 some_same : (a b : ℕ) → Some a ≡ Some b → a ≡ b
 some_same a b same = cc

@@ -1,12 +1,12 @@
 -- Calls on the spaces of a heap, one after another, and how many entries name a page.
 use Rattle.std.specs.Prelude.{ℕ, List, [], ◌∷◌, Option, sum_by}
 use Rattle.std.specs.List.{range_with_len}
+use Rattle.kheap_shelves.specs.Purse.{Purse}
+use Rattle.kheap_shelves.specs.declared.objects.Node.{Node}
 use Rattle.kheap_slabs.specs.Heap.{Heap}
 use Rattle.kheap_slabs.specs.Keys.{Splits}
 use Rattle.kheap_slabs.specs.Owners.{Owners, with_space}
-use Rattle.kheap_slabs.specs.Purse.{Purse}
 use Rattle.kheap_slabs.specs.Spaces.{names_page}
-use Rattle.kheap_slabs.specs.declared.objects.Node.{Node}
 use Rattle.page_space.specs.Contents.{SpaceMoves, SpaceLeaves, IsForked}
 use Rattle.page_space.specs.Entries.{entry_at}
 

@@ -1,14 +1,15 @@
 //! Address spaces by hand, with the heap's bytes at each step.
 
 ghost use Rattle.std.specs.Prelude.{◌≡◌, IfOk};
-ghost use Rattle.kheap_slabs.specs.Purse.{CanPay};
+ghost use Rattle.kheap_slabs.specs.Paid.{CanPay};
 ghost use Rattle.page_space.specs.Contents.{IsOwnedWith};
 
 mod sharing;
 
 use crate::Space;
 use kabi_types::{Memory, Need};
-use kheap_slabs::{KHeap, Purse};
+use kheap_shelves::Purse;
+use kheap_slabs::KHeap;
 use std::alloc::Global;
 use std::process::Abort;
 use std::test::Fail;

@@ -1,8 +1,8 @@
 ghost use Rattle.std.specs.Prelude.{◌≡◌, ℕ, ◌+◌, ◌<◌, ◌≤◌, Some, ◌++◌, length, take, drop, min};
-ghost use Rattle.kheap_slabs.specs.Objects.{object};
+ghost use Rattle.kheap_shelves.specs.Objects.{object};
+ghost use Rattle.kheap_shelves.specs.declared.objects.Pipe.{Pipe as HeldPipe};
 ghost use Rattle.kheap_slabs.specs.Owners.{OwnsItsObjects};
-ghost use Rattle.kheap_slabs.specs.Purse.{TakesNothing};
-ghost use Rattle.kheap_slabs.specs.declared.objects.Pipe.{Pipe as HeldPipe};
+ghost use Rattle.kheap_slabs.specs.Paid.{TakesNothing};
 ghost use Rattle.posix_defs.specs.Pipe.{Pipe as PlainPipe, pipe_read as read_answer, not_now as waiting, after_read};
 ghost use Rattle.posix_defs.specs.QueuePlace.{after_take};
 ghost use Rattle.chunk_queue.specs.Chained.{place_of, TakesOut};
@@ -11,7 +11,8 @@ ghost use Rattle.pipe_ends.specs.Standing.{StandsFor, IsPipeAt, account, LeavesO
 
 use chunk_queue::{Moved, Queue};
 use kabi_types::Errno;
-use kheap_slabs::{KHeap, Pipe};
+use kheap_shelves::Pipe;
+use kheap_slabs::KHeap;
 
 /// Reads bytes from a pipe, as many as are there and fit. None are the end of the file: nobody can write any more.
 ///

@@ -2,13 +2,14 @@
 
 ghost use Rattle.std.specs.Prelude.{◌≡◌, ◌<◌, IfOk};
 ghost use Rattle.kheap_slabs.specs.Owners.{OwnsItsObjects};
-ghost use Rattle.kheap_slabs.specs.Purse.{CanPay};
+ghost use Rattle.kheap_slabs.specs.Paid.{CanPay};
 ghost use Rattle.pipe_ends.specs.Standing.{IsPipeAt, HasEndAt};
 
 use crate::{close_end, pipe_make, pipe_polled, pipe_read, pipe_write};
 use chunk_queue::Moved;
 use kabi_types::{Class, Errno, Memory, Need};
-use kheap_slabs::{KHeap, Purse};
+use kheap_shelves::Purse;
+use kheap_slabs::KHeap;
 use std::alloc::Global;
 use std::process::Abort;
 use std::test::Fail;

@@ -1,7 +1,7 @@
 ghost use Rattle.std.specs.Prelude.{◌≡◌, ℕ, ◌+◌, ◌/◌, ◌<◌, ◌≤◌, Bool, Some, ◌++◌, length, min, IfSome, MatchOption};
-ghost use Rattle.kheap_slabs.specs.Objects.{object};
+ghost use Rattle.kheap_shelves.specs.Objects.{object};
 ghost use Rattle.kheap_slabs.specs.Owners.{OwnsItsObjects};
-ghost use Rattle.kheap_slabs.specs.Purse.{CanPay, IsPaid};
+ghost use Rattle.kheap_slabs.specs.Paid.{CanPay, IsPaid};
 ghost use Rattle.posix_defs.specs.Pipe.{Pipe as PlainPipe, capacity, Moves, free_in, not_now as waiting, pipe_write as write_answer, after_write};
 ghost use Rattle.posix_defs.specs.QueuePlace.{chunks_of, after_put};
 ghost use Rattle.chunk_queue.specs.Chained.{place_of, PaysChunks};
@@ -12,7 +12,8 @@ use crate::reading::not_now;
 use crate::{CAPACITY, WHOLE};
 use chunk_queue::{Moved, Queue};
 use kabi_types::Errno;
-use kheap_slabs::{KHeap, Pipe, Purse};
+use kheap_shelves::{Pipe, Purse};
+use kheap_slabs::KHeap;
 
 /// Writes bytes into a pipe, those that are left of a write of n. How many went.
 ///

@@ -1,10 +1,11 @@
--- What stands under each number of a tree after a change of one node.
-use Rattle.std.proofs.Common.{◌≡◌, ◌≢◌, ℕ, zero, suc, ◌+◌, ◌<◌, ◌≤◌, true, inl, inr, List, length, set, get_or, Option, Some, None, is_some, refl, sym, ap, ◌∙◌, arith}
-use Rattle.std.specs.List.{sum_by}
+-- What stands under each number of a tree, as it is and after a change of one node.
+use Rattle.std.proofs.Common.{◌≡◌, ◌≢◌, ℕ, zero, suc, ◌+◌, ◌<◌, ◌≤◌, true, inl, inr, List, [], ◌∷◌, length, set, get_or, replicate, Option, Some, None, is_some, is_none, refl, sym, ap, ◌∙◌, arith, add-zero}
+use Rattle.std.specs.List.{sum_by, position_from}
 use Rattle.std.proofs.lemmas.Bool.{cases_lt, cases_eq, false≢true}
-use Rattle.std.proofs.lemmas.List.{get_or_past, set_past, length-set, get_or-set_same, get_or-set_other}
+use Rattle.std.proofs.lemmas.Option.{same_Some, none-some}
+use Rattle.std.proofs.lemmas.List.{length-replicate, get_or-replicate, get_or_past, set_past, length-set, get_or-set_same, get_or-set_other}
 use Rattle.std.proofs.lemmas.List.Sums.{sum_by-set}
-use Rattle.posix_defs.specs.Tree.{Node, Tree, node_at, with_node, is_in_use, is_directory, is_directory_in}
+use Rattle.posix_defs.specs.Tree.{Content, File, Directory, SocketName, Node, Tree, node_at, with_node, is_in_use, is_directory, is_directory_in, entries_of, entries_in, free_node, found, found_among}
 
 -- a number that a node may have
 pub record IsNumber (tree : Tree) (number : ℕ) : Type 0 where
@@ -69,3 +70,40 @@ summed f tree (suc before) there is = sum_by-set f tree.nodes before there None 
 pub summed_same : (f : Option Node → ℕ) (tree : Tree) (n : ℕ) (there : Option Node) → IsNumber tree n → f there ≡ f (node_at tree n)
     → sum_by f (with_node tree n there).nodes ≡ sum_by f tree.nodes
 summed_same f tree n there is same = omega (arith, summed f tree n there is, same)
+
+-- ---- what is found, what is free
+
+-- where a name is found there is a directory
+found_in : (there : Option Node) (name : List ℕ) (number : ℕ) → found_among (entries_in there) name ≡ Some number → is_directory_in there ≡ true
+found_in None name number at = absurd (none-some number at)
+found_in (Some node) name number at = found_in_content node.content at
+  where
+    found_in_content : (content : Content) → found_among (entries_of content) name ≡ Some number → is_directory_in (Some (record { links = 0; content = content })) ≡ true
+    found_in_content (File bytes) at = absurd (none-some number at)
+    found_in_content (Directory parent entries) at = refl
+    found_in_content SocketName at = absurd (none-some number at)
+
+pub found_in_directory : (tree : Tree) (dir : ℕ) (name : List ℕ) (number : ℕ) → found tree dir name ≡ Some number → is_directory tree dir ≡ true
+found_in_directory tree dir name number at = found_in (node_at tree dir) name number at
+
+-- the free node of the lowest number
+first_none : (nodes : List (Option Node)) (from number : ℕ) → position_from is_none from nodes ≡ Some number → (k : ℕ) × (k < length nodes) × (number ≡ from + k) × (get_or nodes k None ≡ None)
+first_none [] from number at = absurd (none-some number at)
+first_none (None ∷ nodes) from number at = (0, omega arith, sym (same_Some from number at) ∙ sym (add-zero from), refl)
+first_none (Some node ∷ nodes) from number at =
+    let rest = first_none nodes (from + 1) number at in
+    (suc rest.0, omega (arith, rest.1), omega (arith, rest.2), rest.3)
+
+pub free_is : (tree : Tree) (number : ℕ) → free_node tree ≡ Some number → IsNumber tree number × (node_at tree number ≡ None)
+free_is tree number at =
+    let first = first_none tree.nodes 1 number at in
+    let place : number ≡ suc first.0 = omega (arith, first.2) in
+    (record { above = omega (arith, place); within = omega (arith, place, first.1) }, ap (node_at tree) place ∙ first.3)
+
+-- nothing stands in a list of none
+pub none_in : (count place : ℕ) → get_or (replicate count (let none : Option Node = None in none)) place None ≡ None
+none_in count place =
+    elim (cases_lt place count) [
+      | inl lt ↦ get_or-replicate count place None None lt
+      | inr past ↦ get_or_past (replicate count None) place None (omega (arith, past, length-replicate {A = Option Node} count None))
+    ]

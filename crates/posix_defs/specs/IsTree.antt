@@ -1,7 +1,7 @@
 -- What every tree that is reached keeps.
 use Rattle.std.specs.Prelude.{ℕ, ◌+◌, ◌^◌, ◌<◌, ◌≤◌, ◌≡◌, ◌≢◌, ◌==◌, Bool, true, if◌then◌else◌, List, [], length, Option, Some}
 use Rattle.std.specs.List.{All, AllPairs, Contains, count_by, sum_by}
-use Rattle.kabi_types.specs.declared.inodes.DirEntry.{DirEntry}
+use Rattle.kabi_values.specs.declared.inodes.DirEntry.{DirEntry}
 use Rattle.posix_defs.specs.DiskFormat.{greatest_size, table_end, table_nodes, IsName}
 use Rattle.posix_defs.specs.DiskContents.{own_name, parent_name}
 use Rattle.posix_defs.specs.Tree.{Content, File, Directory, SocketName, Node, Tree, root, node_at, is_directory, is_directory_content, links_at, entries_in, entries_at, parent_at, climbed, size_of, used_blocks}

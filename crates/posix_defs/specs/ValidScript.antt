@@ -2,7 +2,7 @@
 -- to labels, its calls have the operands that they need.
 use Rattle.std.specs.Prelude.{ℕ, ⊤, ◌≡◌, ◌≢◌, ◌<◌, ◌≤◌, ◌%◌, int_le, true, List, [], ◌∷◌, length, Option, None, Some, slice_get, IfSome, IsSome, codes}
 use Rattle.std.specs.List.{AllByRecursion}
-use Rattle.kabi_types.specs.Words.{is_built}
+use Rattle.kabi_calls.specs.Words.{is_built}
 use Rattle.kabi_types.specs.declared.scripts.Chooser.{Chooser}
 use Rattle.kabi_types.specs.declared.scripts.Chooser.TheVariants.{Plain, Choices, Seed}
 use Rattle.kabi_types.specs.declared.scripts.Operand.{Operand}

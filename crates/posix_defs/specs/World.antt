@@ -1,8 +1,8 @@
 -- What the core knows of a store: the plain machine, its account, what the caches keep, and the count of reads.
 use Rattle.std.specs.Prelude.{ℕ, ◌+◌, ◌*◌, ◌==◌, ◌≡◌, ◌≢◌, Bool, true, not, if◌then◌else◌, List, [], ◌∷◌, length, None, Some}
 use Rattle.std.specs.List.{AllByRecursion, list_any}
-use Rattle.kabi_types.specs.Class.{size}
-use Rattle.kabi_types.specs.declared.classes.Class.TheVariants as class
+use Rattle.kabi_values.specs.Class.{size}
+use Rattle.kabi_values.specs.declared.classes.Class.TheVariants as class
 use Rattle.kabi_types.specs.declared.entries.Cached.{Cached}
 use Rattle.kabi_types.specs.declared.entries.Cached.TheVariants.{Name, Block, Vnode}
 use Rattle.kabi_types.specs.declared.scripts.Script.{Script}

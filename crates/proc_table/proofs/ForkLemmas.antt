@@ -2,16 +2,17 @@
 use Rattle.std.proofs.Common.{◌≡◌, ℕ, ◌+◌, ◌<◌, List, [], ◌∷◌, ◌++◌, length, Option, None, Some, refl, sym, ap, ◌∙◌, subst, arith, Contains, length-append}
 use Rattle.std.specs.List.{AllByRecursion}
 use Rattle.std.specs.Option.{option_map}
+use Rattle.kheap_shelves.specs.Objects.{put}
+use Rattle.kheap_shelves.specs.Purse.{Purse}
+use Rattle.kheap_shelves.specs.declared.objects.Node.{Node}
+use Rattle.kheap_shelves.specs.declared.objects.Page.{Page}
+use Rattle.kheap_shelves.specs.declared.objects.Proc.{Proc}
 use Rattle.kheap_slabs.specs.Heap.{Heap}
 use Rattle.kheap_slabs.specs.Keys.{ChangesKeys, Splits}
-use Rattle.kheap_slabs.specs.Objects.{put}
 use Rattle.kheap_slabs.specs.Owners.{Owners, with_space, IsOwned}
-use Rattle.kheap_slabs.specs.Purse.{Purse, IsPaid}
-use Rattle.kheap_slabs.specs.declared.objects.Node.{Node}
-use Rattle.kheap_slabs.specs.declared.objects.Page.{Page}
-use Rattle.kheap_slabs.specs.declared.objects.Proc.{Proc}
-use Rattle.kheap_slabs.proofs.OwnerLemmas.{IsOwned-space_from_front, IsOwned-space_to_front}
-use Rattle.kheap_slabs.proofs.PaidLemmas.{IsPaid-trans}
+use Rattle.kheap_slabs.specs.Paid.{IsPaid}
+use Rattle.kheap_laws.proofs.OwnerLemmas.{IsOwned-space_from_front, IsOwned-space_to_front}
+use Rattle.kheap_laws.proofs.PaidLemmas.{IsPaid-trans}
 use Rattle.page_space.specs.Accounts.{AccountForks, IsAccounted}
 use Rattle.page_space.specs.Contents.{content_at}
 use Rattle.page_space.specs.Contents as space

@@ -3,15 +3,15 @@ use Rattle.std.proofs.Common.{◌≡◌, ◌≢◌, ◌⊎◌, ℕ, ◌≤◌, �
 use Rattle.std.specs.List.{AllByRecursion, filter_map}
 use Rattle.std.specs.Option.{option_and_then}
 use Rattle.std.proofs.lemmas.Bool.Decides.{eqb_tells}
+use Rattle.kheap_shelves.specs.Objects.{object, put}
+use Rattle.kheap_shelves.specs.declared.objects.Node.{Node}
+use Rattle.kheap_shelves.specs.declared.objects.Page.{Page}
+use Rattle.kheap_shelves.specs.declared.objects.Proc.{Proc}
 use Rattle.kheap_slabs.specs.Heap.{Heap}
 use Rattle.kheap_slabs.specs.Keys.{ChangesKeys}
-use Rattle.kheap_slabs.specs.Objects.{object, put}
 use Rattle.kheap_slabs.specs.Owners.{Owners, with_space, IsOwned}
 use Rattle.kheap_slabs.specs.Spaces.{keys_in}
-use Rattle.kheap_slabs.specs.declared.objects.Node.{Node}
-use Rattle.kheap_slabs.specs.declared.objects.Page.{Page}
-use Rattle.kheap_slabs.specs.declared.objects.Proc.{Proc}
-use Rattle.kheap_slabs.proofs.OwnerLemmas.{IsOwned-same, IsOwned-space_from_front, IsOwned-space_to_front}
+use Rattle.kheap_laws.proofs.OwnerLemmas.{IsOwned-same, IsOwned-space_from_front, IsOwned-space_to_front}
 use Rattle.page_space.specs.Contents.{content_at, IsOwnedWith}
 use Rattle.proc_table.specs.Changes.{is_other, with_nodes}
 use Rattle.proc_table.specs.Moves.{MemoryStays, TableMoves}

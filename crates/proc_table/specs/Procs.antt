@@ -1,9 +1,9 @@
 -- Processes as they stand in the heap, by rising pid.
 use Rattle.std.specs.Prelude.{ℕ, ◌≡◌, ◌==◌, ℤ, pos, negsuc, if◌then◌else◌, List, [], ◌∷◌, map, replicate, Option, None, Some}
 use Rattle.std.specs.List.{range_with_len}
+use Rattle.kheap_shelves.specs.declared.objects.Descriptor.{Descriptor}
+use Rattle.kheap_shelves.specs.declared.objects.Proc.{Proc}
 use Rattle.kheap_slabs.specs.Heap.{Heap}
-use Rattle.kheap_slabs.specs.declared.objects.Descriptor.{Descriptor}
-use Rattle.kheap_slabs.specs.declared.objects.Proc.{Proc}
 use Rattle.page_space.specs.Contents.{content_at}
 use Rattle.posix_defs.specs.Memory.{Memory}
 use Rattle.posix_defs.specs.Process.{Process, Status, Alive, Ended}

@@ -1,13 +1,14 @@
 //! Families of processes by hand, with the heap's bytes at each step.
 
 ghost use Rattle.std.specs.Prelude.{◌≡◌, ◌-◌, ◌<◌, ◌≤◌, true, IfOk};
-ghost use Rattle.kheap_slabs.specs.Purse.{CanPay};
+ghost use Rattle.kheap_slabs.specs.Paid.{CanPay};
 ghost use Rattle.proc_table.specs.Procs.{IsAlive};
 ghost use Rattle.proc_table.specs.Table.{Holds, processes};
 
 use crate::{ProcTable, Reaped};
 use kabi_types::{Errno, Memory, Need};
-use kheap_slabs::{KHeap, Purse};
+use kheap_shelves::Purse;
+use kheap_slabs::KHeap;
 use page_space::Space;
 use std::alloc::Global;
 use std::process::Abort;

@@ -1,8 +1,8 @@
 -- Where a control may stand, and what running its program needs.
 use Rattle.std.specs.Prelude.{ℕ, ⊤, Bool, true, false, ◌<◌, ◌≤◌, ◌≡◌, List, length, Option, None, Some, slice_get, IfSome}
 use Rattle.std.specs.List.{AllByRecursion}
-use Rattle.kabi_types.specs.declared.calls.CallKind.{CallKind}
-use Rattle.kabi_types.specs.declared.calls.CallKind.TheVariants as kind
+use Rattle.kabi_calls.specs.declared.calls.CallKind.{CallKind}
+use Rattle.kabi_calls.specs.declared.calls.CallKind.TheVariants as kind
 use Rattle.kabi_types.specs.declared.scripts.Operand.{Operand}
 use Rattle.kabi_types.specs.declared.scripts.Operand.TheVariants.{Reg, Number}
 use Rattle.kabi_types.specs.declared.scripts.Statement.{Statement}
@@ -34,16 +34,61 @@ TakesPath kind.Rmdir = ⊤
 TakesPath kind.Unlink = ⊤
 TakesPath _ = ⊥
 
--- the calls of this kind take texts beside numbers, two texts, or a list of entries
+-- the calls of this kind take bytes, two paths, a path and flags, or a list of entries
 abbrev pub TakesMore : CallKind → Type 0
 TakesMore kind.Store = ⊤
 TakesMore kind.OpenFile = ⊤
 TakesMore kind.Link = ⊤
 TakesMore kind.Rename = ⊤
-TakesMore kind.Bind = ⊤
-TakesMore kind.Connect = ⊤
 TakesMore kind.Poll = ⊤
 TakesMore _ = ⊥
+
+-- the calls of this kind move bytes or entries between a descriptor and memory
+abbrev pub MovesBytes : CallKind → Type 0
+MovesBytes kind.Read = ⊤
+MovesBytes kind.Write = ⊤
+MovesBytes kind.Pread = ⊤
+MovesBytes kind.Pwrite = ⊤
+MovesBytes kind.Readdir = ⊤
+MovesBytes _ = ⊥
+
+-- the calls of this kind ask about a descriptor, copy or close it, or change what it stands for
+abbrev pub TakesDescriptor : CallKind → Type 0
+TakesDescriptor kind.Close = ⊤
+TakesDescriptor kind.Dup = ⊤
+TakesDescriptor kind.Dup2 = ⊤
+TakesDescriptor kind.Fcntl = ⊤
+TakesDescriptor kind.Lseek = ⊤
+TakesDescriptor kind.Ftruncate = ⊤
+TakesDescriptor kind.Fstat = ⊤
+TakesDescriptor _ = ⊥
+
+-- the calls of this kind make a socket, or do something with one
+abbrev pub TakesSocket : CallKind → Type 0
+TakesSocket kind.Socket = ⊤
+TakesSocket kind.Socketpair = ⊤
+TakesSocket kind.Bind = ⊤
+TakesSocket kind.Listen = ⊤
+TakesSocket kind.Connect = ⊤
+TakesSocket kind.Accept = ⊤
+TakesSocket kind.Shutdown = ⊤
+TakesSocket _ = ⊥
+
+-- the calls of this kind go through descriptors or paths: they are neither of processes nor of memory
+abbrev pub TakesFiles : CallKind → Type 0
+TakesFiles kind.Getpid = ⊥
+TakesFiles kind.Getppid = ⊥
+TakesFiles kind.SchedYield = ⊥
+TakesFiles kind.Fork = ⊥
+TakesFiles kind.Exec = ⊥
+TakesFiles kind.Exit = ⊥
+TakesFiles kind.Waitpid = ⊥
+TakesFiles kind.Kill = ⊥
+TakesFiles kind.Mmap = ⊥
+TakesFiles kind.Munmap = ⊥
+TakesFiles kind.Store = ⊥
+TakesFiles kind.Load = ⊥
+TakesFiles _ = ⊤
 
 -- a later place
 abbrev pub IsLater : ℕ → ℕ → Type 0

@@ -5,7 +5,7 @@ ghost use Rattle.std.specs.List.{AllByRecursion};
 ghost use Rattle.posix_defs.specs.Control.{call_at, value_of};
 ghost use Rattle.posix_defs.specs.Made as spec;
 ghost use Rattle.posix_defs.specs.ScriptLines.{shape_of};
-ghost use Rattle.prog_ctl.specs.Runnable.{IsOperand, IsRunnableAt, TakesMore, TakesPath, most_text};
+ghost use Rattle.prog_ctl.specs.Runnable.{IsOperand, IsRunnableAt, MovesBytes, TakesDescriptor, TakesFiles, TakesMore, TakesPath, TakesSocket, most_text};
 ghost use Rattle.prog_ctl.specs.Waits.{wait_of};
 
 use crate::statements::value_of;
@@ -116,8 +116,8 @@ fn made_on_path(kind: CallKind, texts: &[Text]) -> Call
     }
 }
 
-/// The call of a kind that takes texts or a list, and not one path alone, with these operands and texts in the order of its fields. It stands by
-/// itself, since a function pays for the room of all its locals whenever it is entered.
+/// The call of a kind that takes bytes, two paths, a path and flags, or a list, with these operands and texts in the order of
+/// its fields. It stands by itself, since a function pays for the room of all its locals whenever it is entered.
 #[inline(never)]
 fn made_with_texts(control: &Control, kind: CallKind, operands: &[Operand], texts: &[Text]) -> Call
     requires count { length operands.now ≤ 17 }
@@ -142,14 +142,6 @@ fn made_with_texts(control: &Control, kind: CallKind, operands: &[Operand], text
             old: path_at(texts, 0),
             new: path_at(texts, 1),
         },
-        CallKind::Bind => Call::Bind {
-            fd: operand_at(control, operands, 0),
-            path: path_at(texts, 0),
-        },
-        CallKind::Connect => Call::Connect {
-            fd: operand_at(control, operands, 0),
-            path: path_at(texts, 0),
-        },
         CallKind::Poll => Call::Poll {
             timeout: operand_at(control, operands, 0),
             entries: entries_of(numbers_of(control, operands).as_slice()),
@@ -158,9 +150,162 @@ fn made_with_texts(control: &Control, kind: CallKind, operands: &[Operand], text
     }
 }
 
+/// The call of a kind that moves bytes or entries between a descriptor and memory, behind what is done of it.
+#[inline(never)]
+fn made_of_bytes(control: &Control, kind: CallKind, operands: &[Operand]) -> Call
+    requires { AllByRecursion IsOperand operands.now }
+    ensures { (texts : List (List ℕ)) → MovesBytes kind → result ≡ spec.made kind (map (value_of control.now) operands.now) texts control.now.done }
+{
+    match kind {
+        CallKind::Read => Call::Read {
+            fd: operand_at(control, operands, 0),
+            addr: operand_at(control, operands, 1),
+            n: operand_at(control, operands, 2),
+        },
+        CallKind::Write => Call::Write {
+            fd: operand_at(control, operands, 0),
+            addr: operand_at(control, operands, 1),
+            n: operand_at(control, operands, 2),
+            done: control.done,
+        },
+        CallKind::Pread => Call::Pread {
+            fd: operand_at(control, operands, 0),
+            addr: operand_at(control, operands, 1),
+            n: operand_at(control, operands, 2),
+            at: operand_at(control, operands, 3),
+        },
+        CallKind::Pwrite => Call::Pwrite {
+            fd: operand_at(control, operands, 0),
+            addr: operand_at(control, operands, 1),
+            n: operand_at(control, operands, 2),
+            at: operand_at(control, operands, 3),
+        },
+        CallKind::Readdir => Call::Readdir {
+            fd: operand_at(control, operands, 0),
+            addr: operand_at(control, operands, 1),
+            n: operand_at(control, operands, 2),
+        },
+        _ => Call::SchedYield,
+    }
+}
+
+/// The call of a kind that asks about a descriptor, copies or closes it, or changes what it stands for.
+#[inline(never)]
+fn made_on_descriptor(control: &Control, kind: CallKind, operands: &[Operand]) -> Call
+    requires { AllByRecursion IsOperand operands.now }
+    ensures { (texts : List (List ℕ)) (done : ℕ) → TakesDescriptor kind → result ≡ spec.made kind (map (value_of control.now) operands.now) texts done }
+{
+    match kind {
+        CallKind::Close => Call::Close {
+            fd: operand_at(control, operands, 0),
+        },
+        CallKind::Dup => Call::Dup {
+            fd: operand_at(control, operands, 0),
+        },
+        CallKind::Dup2 => Call::Dup2 {
+            fd: operand_at(control, operands, 0),
+            to: operand_at(control, operands, 1),
+        },
+        CallKind::Fcntl => Call::Fcntl {
+            fd: operand_at(control, operands, 0),
+            cmd: operand_at(control, operands, 1),
+            arg: operand_at(control, operands, 2),
+        },
+        CallKind::Lseek => Call::Lseek {
+            fd: operand_at(control, operands, 0),
+            offset: operand_at(control, operands, 1),
+            whence: operand_at(control, operands, 2),
+        },
+        CallKind::Ftruncate => Call::Ftruncate {
+            fd: operand_at(control, operands, 0),
+            length: operand_at(control, operands, 1),
+        },
+        CallKind::Fstat => Call::Fstat {
+            fd: operand_at(control, operands, 0),
+        },
+        _ => Call::SchedYield,
+    }
+}
+
+/// The call of a kind that makes a socket or does something with one.
+#[inline(never)]
+fn made_on_socket(control: &Control, kind: CallKind, operands: &[Operand], texts: &[Text]) -> Call
+    requires each { AllByRecursion IsOperand operands.now }
+    requires texts { AllByRecursion (λ text. length text ≤ most_text (shape_of kind)) texts.now }
+    ensures { (done : ℕ) → TakesSocket kind → result ≡ spec.made kind (map (value_of control.now) operands.now) texts.now done }
+{
+    match kind {
+        CallKind::Socket => Call::Socket,
+        CallKind::Socketpair => Call::Socketpair,
+        CallKind::Bind => Call::Bind {
+            fd: operand_at(control, operands, 0),
+            path: path_at(texts, 0),
+        },
+        CallKind::Listen => Call::Listen {
+            fd: operand_at(control, operands, 0),
+        },
+        CallKind::Connect => Call::Connect {
+            fd: operand_at(control, operands, 0),
+            path: path_at(texts, 0),
+        },
+        CallKind::Accept => Call::Accept {
+            fd: operand_at(control, operands, 0),
+        },
+        CallKind::Shutdown => Call::Shutdown {
+            fd: operand_at(control, operands, 0),
+            how: operand_at(control, operands, 1),
+        },
+        _ => Call::SchedYield,
+    }
+}
+
+/// The call of a kind that goes through descriptors or paths, and neither `exec` nor on memory: each family of them has a
+/// function.
+#[inline(never)]
+fn made_on_files(control: &Control, kind: CallKind, operands: &[Operand], texts: &[Text]) -> Call
+    requires count { length operands.now ≤ 17 }
+    requires each { AllByRecursion IsOperand operands.now }
+    requires texts { AllByRecursion (λ text. length text ≤ most_text (shape_of kind)) texts.now }
+    ensures { TakesFiles kind → result ≡ spec.made kind (map (value_of control.now) operands.now) texts.now control.now.done }
+{
+    match kind {
+        CallKind::OpenFile => made_with_texts(control, kind, operands, texts),
+        CallKind::Close => made_on_descriptor(control, kind, operands),
+        CallKind::Dup => made_on_descriptor(control, kind, operands),
+        CallKind::Dup2 => made_on_descriptor(control, kind, operands),
+        CallKind::Fcntl => made_on_descriptor(control, kind, operands),
+        CallKind::Read => made_of_bytes(control, kind, operands),
+        CallKind::Write => made_of_bytes(control, kind, operands),
+        CallKind::Pread => made_of_bytes(control, kind, operands),
+        CallKind::Pwrite => made_of_bytes(control, kind, operands),
+        CallKind::Lseek => made_on_descriptor(control, kind, operands),
+        CallKind::Readdir => made_of_bytes(control, kind, operands),
+        CallKind::Ftruncate => made_on_descriptor(control, kind, operands),
+        CallKind::Fstat => made_on_descriptor(control, kind, operands),
+        CallKind::Stat => made_on_path(kind, texts),
+        CallKind::Chdir => made_on_path(kind, texts),
+        CallKind::Mkdir => made_on_path(kind, texts),
+        CallKind::Rmdir => made_on_path(kind, texts),
+        CallKind::Unlink => made_on_path(kind, texts),
+        CallKind::Link => made_with_texts(control, kind, operands, texts),
+        CallKind::Rename => made_with_texts(control, kind, operands, texts),
+        CallKind::Pipe => Call::Pipe,
+        CallKind::Socket => made_on_socket(control, kind, operands, texts),
+        CallKind::Socketpair => made_on_socket(control, kind, operands, texts),
+        CallKind::Bind => made_on_socket(control, kind, operands, texts),
+        CallKind::Listen => made_on_socket(control, kind, operands, texts),
+        CallKind::Connect => made_on_socket(control, kind, operands, texts),
+        CallKind::Accept => made_on_socket(control, kind, operands, texts),
+        CallKind::Shutdown => made_on_socket(control, kind, operands, texts),
+        CallKind::Poll => made_with_texts(control, kind, operands, texts),
+        _ => Call::SchedYield,
+    }
+}
+
 /// The call of this kind, with these operands and texts in the order of its fields, behind what is done of it. It stands by
-/// itself, so that its many cases are no part of who hands the call on: a call has room for two paths, and among many cases it
-/// would be copied for each function that hands it on.
+/// itself, so that its cases are no part of who hands the call on: a call has room for two paths, and among many cases it
+/// would be copied for each function that hands it on. So the calls of processes and memory, which are made most, have their
+/// cases here.
 #[inline(never)]
 fn made(control: &Control, kind: CallKind, operands: &[Operand], texts: &[Text]) -> Call
     requires count { length operands.now ≤ 17 }
@@ -197,85 +342,7 @@ fn made(control: &Control, kind: CallKind, operands: &[Operand], texts: &[Text])
             addr: operand_at(control, operands, 0),
             n: operand_at(control, operands, 1),
         },
-        CallKind::OpenFile => made_with_texts(control, kind, operands, texts),
-        CallKind::Close => Call::Close {
-            fd: operand_at(control, operands, 0),
-        },
-        CallKind::Dup => Call::Dup {
-            fd: operand_at(control, operands, 0),
-        },
-        CallKind::Dup2 => Call::Dup2 {
-            fd: operand_at(control, operands, 0),
-            to: operand_at(control, operands, 1),
-        },
-        CallKind::Fcntl => Call::Fcntl {
-            fd: operand_at(control, operands, 0),
-            cmd: operand_at(control, operands, 1),
-            arg: operand_at(control, operands, 2),
-        },
-        CallKind::Read => Call::Read {
-            fd: operand_at(control, operands, 0),
-            addr: operand_at(control, operands, 1),
-            n: operand_at(control, operands, 2),
-        },
-        CallKind::Write => Call::Write {
-            fd: operand_at(control, operands, 0),
-            addr: operand_at(control, operands, 1),
-            n: operand_at(control, operands, 2),
-            done: control.done,
-        },
-        CallKind::Pread => Call::Pread {
-            fd: operand_at(control, operands, 0),
-            addr: operand_at(control, operands, 1),
-            n: operand_at(control, operands, 2),
-            at: operand_at(control, operands, 3),
-        },
-        CallKind::Pwrite => Call::Pwrite {
-            fd: operand_at(control, operands, 0),
-            addr: operand_at(control, operands, 1),
-            n: operand_at(control, operands, 2),
-            at: operand_at(control, operands, 3),
-        },
-        CallKind::Lseek => Call::Lseek {
-            fd: operand_at(control, operands, 0),
-            offset: operand_at(control, operands, 1),
-            whence: operand_at(control, operands, 2),
-        },
-        CallKind::Readdir => Call::Readdir {
-            fd: operand_at(control, operands, 0),
-            addr: operand_at(control, operands, 1),
-            n: operand_at(control, operands, 2),
-        },
-        CallKind::Ftruncate => Call::Ftruncate {
-            fd: operand_at(control, operands, 0),
-            length: operand_at(control, operands, 1),
-        },
-        CallKind::Fstat => Call::Fstat {
-            fd: operand_at(control, operands, 0),
-        },
-        CallKind::Stat => made_on_path(kind, texts),
-        CallKind::Chdir => made_on_path(kind, texts),
-        CallKind::Mkdir => made_on_path(kind, texts),
-        CallKind::Rmdir => made_on_path(kind, texts),
-        CallKind::Unlink => made_on_path(kind, texts),
-        CallKind::Link => made_with_texts(control, kind, operands, texts),
-        CallKind::Rename => made_with_texts(control, kind, operands, texts),
-        CallKind::Pipe => Call::Pipe,
-        CallKind::Socket => Call::Socket,
-        CallKind::Socketpair => Call::Socketpair,
-        CallKind::Bind => made_with_texts(control, kind, operands, texts),
-        CallKind::Listen => Call::Listen {
-            fd: operand_at(control, operands, 0),
-        },
-        CallKind::Connect => made_with_texts(control, kind, operands, texts),
-        CallKind::Accept => Call::Accept {
-            fd: operand_at(control, operands, 0),
-        },
-        CallKind::Shutdown => Call::Shutdown {
-            fd: operand_at(control, operands, 0),
-            how: operand_at(control, operands, 1),
-        },
-        CallKind::Poll => made_with_texts(control, kind, operands, texts),
+        _ => made_on_files(control, kind, operands, texts),
     }
 }
 

@@ -12,7 +12,7 @@ use Rattle.kabi_types.specs.declared.scripts.ScriptFault.{ScriptFault}
 use Rattle.posix_defs.specs.declared.said.Word.{Word}
 use Rattle.posix_defs.specs.ScriptWords.{is_comment}
 use Rattle.posix_defs.specs.ScriptText.{most_bytes, ReadsText}
-use Rattle.script_parse.specs.Drafting.{State, step, finish, at_start}
+use Rattle.script_read.specs.Drafting.{State, step, finish, at_start}
 use Rattle.script_parse.proofs.OneReading.{line_by, line_read, lines_step, lines_read, reading_by, same_step}
 use Rattle.script_parse.proofs.TextReads.{has_reading}
 

@@ -17,7 +17,7 @@ use Rattle.posix_defs.specs.ScriptValues.{with}
 use Rattle.posix_defs.specs.ScriptParts.{Line, inside_of}
 use Rattle.posix_defs.specs.ScriptMeaning.{or_next, spoken_in, spoken_of, is_named, label_of, label_place, statement_of}
 use Rattle.posix_defs.specs.ScriptFaults.{has_label}
-use Rattle.script_parse.specs.LabelPlaces.{place_from, later, earlier, first_label, placed, before, body_from}
+use Rattle.script_read.specs.LabelPlaces.{place_from, later, earlier, first_label, placed, before, body_from}
 use Rattle.script_parse.proofs.LineFaults.{jump_fault, loop_fault, label_fault, spoken_fault, inside_fault, line_fault}
 use Rattle.script_parse.proofs.LinePlaces.{stated_by, stated_of, stated_append, names_is, passes, found_in}
 

@@ -12,8 +12,8 @@ use Rattle.posix_defs.specs.ScriptValues.{rank}
 use Rattle.posix_defs.specs.ScriptParts.{Line, inside_of}
 use Rattle.posix_defs.specs.ScriptMeaning.{or_next, spoken_in, spoken_of, is_named, label_of, label_place, body_said}
 use Rattle.posix_defs.specs.ScriptFaults.{IsToldBefore, LineFault}
-use Rattle.script_parse.specs.LabelPlaces.{place_from}
-use Rattle.script_parse.specs.LabelPlaces as reader
+use Rattle.script_read.specs.LabelPlaces.{place_from}
+use Rattle.script_read.specs.LabelPlaces as reader
 use Rattle.script_parse.proofs.LineFaults.{spoken_fault, inside_fault, line_fault, fault_has}
 use Rattle.script_parse.proofs.LinePlaces.{stated_by, stated_of, names_is}
 use Rattle.script_parse.proofs.Bodies.{fault_on, wrong_in, Agrees, lines_read, Reads}

@@ -12,7 +12,7 @@ use Rattle.posix_defs.specs.declared.said.Stated.{Stated}
 use Rattle.posix_defs.specs.ScriptParts.{Line, inside_of}
 use Rattle.posix_defs.specs.ScriptMeaning.{spoken_in, is_named, label_of}
 use Rattle.posix_defs.specs.ScriptFaults.{has_label, label_by}
-use Rattle.script_parse.specs.LabelPlaces.{names, place_from}
+use Rattle.script_read.specs.LabelPlaces.{names, place_from}
 
 -- what the reader keeps of a line of a program: nothing of a silent one, nor of its end
 abbrev pub stated_by : ℕ → Result InProgram FaultKind → Option Stated

@@ -6,7 +6,7 @@ use Rattle.std.proofs.lemmas.Option.{get_or_from_slice_get, slice_get_within}
 use Rattle.std.proofs.lemmas.Slice.Eq.{bytes_eq-Decides}
 use Rattle.kabi_types.specs.declared.scripts.Program.{Program}
 use Rattle.posix_defs.specs.ValidScript.{HasProgram}
-use Rattle.script_parse.specs.Drafting.{has_program}
+use Rattle.script_read.specs.Drafting.{has_program}
 
 pub found_program : (name : List ℕ) (programs : List Program) → has_program name programs ≡ true → HasProgram programs name
 found_program name [] e = absurd (let wrong : false ≡ true = e in cc)

@@ -15,7 +15,7 @@ use Rattle.posix_defs.specs.declared.said.Word.{Word}
 use Rattle.posix_defs.specs.declared.said.Word.TheVariants.{Bare, Quoted}
 use Rattle.posix_defs.specs.ScriptWords.{is_blank, ends_word, hex_number, hex_value, hex_piece, gives, escape_piece, piece, with_byte, SaysText, closed, holds, broken, with_word, Words, nothing, blank, bare, quoted, joined, unclosed, is_comment, LineWords, not_utf8, comment, spelled, misspelled}
 use Rattle.posix_defs.specs.ScriptText.{most_bytes}
-use Rattle.script_parse.specs.Drafting.{State, step, finish, at_start, fault_at, Reads, ended, goes_on, stops}
+use Rattle.script_read.specs.Drafting.{State, step, finish, at_start, fault_at, Reads, ended, goes_on, stops}
 
 -- what follows is shorter
 abbrev Shortens : List ℕ → Option (Option ℕ × List ℕ) → Type 0

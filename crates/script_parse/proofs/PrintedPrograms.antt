@@ -20,8 +20,8 @@ use Rattle.posix_defs.specs.ScriptValues.{with, ◌>>=◌, is_name}
 use Rattle.posix_defs.specs.ScriptLines.{said_at_top}
 use Rattle.posix_defs.specs.Canonical.{words_text, name_word, label_name, statement_words, program_lines}
 use Rattle.posix_defs.specs.ValidScript.{IsLabel, IsStatement, IsProgram}
-use Rattle.script_parse.specs.LabelPlaces.{names, place_in, place_from, later, earlier, first_label, placed, before, body_from}
-use Rattle.script_parse.specs.Drafting.{Draft, State, at_line, has_program, outside, within, step_at_top, step_in_program, with_program, closed, step, Reads, goes_on}
+use Rattle.script_read.specs.LabelPlaces.{names, place_in, place_from, later, earlier, first_label, placed, before, body_from}
+use Rattle.script_read.specs.Drafting.{Draft, State, at_line, has_program, outside, within, step_at_top, step_in_program, with_program, closed, step, Reads, goes_on}
 use Rattle.script_parse.proofs.PrintedWords.{IsLine, line_read}
 use Rattle.script_parse.proofs.PrintedStatements.{spoken_as, AreNamed, statement_read, statement_line, program_read, program_line, end_line}
 
@@ -124,7 +124,7 @@ later_placed at place less = ap (λ b. if b then Ok place else Err WrongWay) (le
 earlier_placed : (at place : ℕ) → place < at → earlier at (Some place) ≡ Ok place
 earlier_placed at place less = ap (λ b. if b then Ok place else Err WrongWay) (let is : nat_lt place at ≡ true = grind (arith, less) in is)
 
-placed_back : (places : List ℕ → Option ℕ) (body : List Statement) (at : ℕ) (s : Statement) → LabelsAt places body → IsStatement body at s
+pub placed_back : (places : List ℕ → Option ℕ) (body : List Statement) (at : ℕ) (s : Statement) → LabelsAt places body → IsStatement body at s
     → slice_get body at ≡ Some s → placed places at (spoken_as body s) ≡ Ok s
 placed_back places body at (statement.Set r v) labels is here = refl
 placed_back places body at (statement.Add r v) labels is here = refl

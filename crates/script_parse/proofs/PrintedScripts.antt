@@ -25,7 +25,7 @@ use Rattle.posix_defs.specs.ScriptLines.{said_at_top}
 use Rattle.posix_defs.specs.Canonical.{number_word, policy_text, words_text, statement_words, program_lines, chooser_lines, script_lines, canonical}
 use Rattle.posix_defs.specs.ValidScript.{IsProgram, IsChooser, AreApart, IsStatement, IsValid}
 use Rattle.posix_defs.specs.ScriptText.{ReadsText}
-use Rattle.script_parse.specs.Drafting.{Draft, nothing_set, at_start, has_program, outside, fault_at, with_setting, drafted_script, finish, Reads, ended, goes_on}
+use Rattle.script_read.specs.Drafting.{Draft, nothing_set, at_start, has_program, outside, fault_at, with_setting, drafted_script, finish, Reads, ended, goes_on}
 use Rattle.script_parse.proofs.Holds.{all_append}
 use Rattle.script_parse.proofs.TextReads.{text_means, reads_as}
 use Rattle.script_parse.proofs.ValidScripts.{reads_valid}
@@ -107,7 +107,7 @@ chooser_reads script (Seed seed) line lines outcome is rest =
     sets (Set script None []) (Set script (Some (Seed seed)) []) line (Bare (codes "seed") ∷ number_word seed ∷ []) (setting.Choosing (Seed seed))
     lines outcome (number_line (codes "seed") seed refl (omega (arith, is))) (seed_read seed is) refl (rest (line + 1))
 
-settings_read : (script : Script) (lines : List (List ℕ)) (outcome : Result Script ScriptFault) → IsValid script → Reads (outside (Set script None [])) 5 lines outcome
+pub settings_read : (script : Script) (lines : List (List ℕ)) (outcome : Result Script ScriptFault) → IsValid script → Reads (outside (Set script None [])) 5 lines outcome
     → Reads at_start 1 (words_text (Bare (codes "heap") ∷ number_word script.heap ∷ []) ∷ words_text (Bare (codes "disk") ∷ number_word script.disk ∷ [])
     ∷ words_text (Bare (codes "steps") ∷ number_word script.steps ∷ []) ∷ words_text (Bare (codes "policy") ∷ Bare (policy_text script.policy) ∷ []) ∷ lines) outcome
 settings_read script lines outcome is rest =

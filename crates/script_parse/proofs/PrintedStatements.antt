@@ -4,9 +4,9 @@ use Rattle.std.specs.Prelude.{not, ◌&&◌, nat_le, if◌then◌else◌, codes}
 use Rattle.std.specs.List.{AllByRecursion}
 use Rattle.std.proofs.lemmas.Bool.{and_parts}
 use Rattle.std.proofs.lemmas.List.{length-map}
-use Rattle.kabi_types.specs.Words.{word_of, is_built}
-use Rattle.kabi_types.specs.declared.calls.CallKind.{CallKind}
-use Rattle.kabi_types.specs.declared.calls.CallKind.TheVariants as kind
+use Rattle.kabi_calls.specs.Words.{word_of, is_built}
+use Rattle.kabi_calls.specs.declared.calls.CallKind.{CallKind}
+use Rattle.kabi_calls.specs.declared.calls.CallKind.TheVariants as kind
 use Rattle.kabi_types.specs.declared.scripts.Chooser.TheVariants.{Choices, Seed}
 use Rattle.kabi_types.specs.declared.scripts.FaultKind.TheVariants.{UnknownWord, OutOfRange, NotBuilt}
 use Rattle.kabi_types.specs.declared.scripts.Operand.{Operand}
@@ -102,7 +102,7 @@ value_text_words of values texts is_text fits all one =
     (subst (λ t. ReadsOperands of (only_value.0 ∷ []) t) (sym fits.texts_are)
     (one only_value.0 fits.text (subst (AllByRecursion IsOperand) only_value.1 all).0 fits.fits))
 
-operands_read : (of : Shape) (values : List Operand) (texts : List (List ℕ)) → AllByRecursion IsOperand values → Fits of values texts → ReadsOperands of values texts
+pub operands_read : (of : Shape) (values : List Operand) (texts : List (List ℕ)) → AllByRecursion IsOperand values → Fits of values texts → ReadsOperands of values texts
 operands_read (shape.Values count) values texts all fits = values_words count values texts all fits
 operands_read shape.OnePath values texts all fits = one_path_words values texts fits
 operands_read shape.TwoPaths values texts all fits = two_paths_words values texts fits
@@ -147,7 +147,7 @@ pub kind_read : (call : CallKind) → kind_said (Bare (word_of call)) ≡ Some c
 kind_read kind.Getpid = refl
 kind_read _ = refl
 
-call_alone : (call : CallKind) (words : List Word) → said_in_program (Bare (word_of call) ∷ words) ≡ with inside.Says (call_for (Bare (word_of call)) words)
+pub call_alone : (call : CallKind) (words : List Word) → said_in_program (Bare (word_of call) ∷ words) ≡ with inside.Says (call_for (Bare (word_of call)) words)
 call_alone kind.Getpid words = refl
 call_alone _ words = refl
 
@@ -160,16 +160,16 @@ call_first _ = refl
 abbrev AreNoEquals : List Word → Type 0
 AreNoEquals words = AllByRecursion (λ word. is_word (codes "=") word ≡ false) words
 
-values_no_equals : (values : List Operand) → AllByRecursion IsOperand values → AreNoEquals (map operand_word values)
+pub values_no_equals : (values : List Operand) → AllByRecursion IsOperand values → AreNoEquals (map operand_word values)
 values_no_equals [] all = tt
 values_no_equals (operand ∷ values) all = (operand_no_equals operand all.0, values_no_equals values all.1)
 
-texts_no_equals : (texts : List (List ℕ)) → AreNoEquals (map Quoted texts)
+pub texts_no_equals : (texts : List (List ℕ)) → AreNoEquals (map Quoted texts)
 texts_no_equals [] = tt
 texts_no_equals (text ∷ texts) = (refl, texts_no_equals texts)
 
 -- what holds of each printed value and text holds of each operand
-operands_all : (P : Word → Type 0) (of : Shape) (values : List Operand) (texts : List (List ℕ)) → AllByRecursion P (map operand_word values)
+pub operands_all : (P : Word → Type 0) (of : Shape) (values : List Operand) (texts : List (List ℕ)) → AllByRecursion P (map operand_word values)
     → AllByRecursion P (map Quoted texts) → AllByRecursion P (operand_words of values texts)
 operands_all P shape.PathValue values texts first second = all_append P (map Quoted texts) (map operand_word values) second first
 operands_all P (shape.Values count) values texts first second = all_append P (map operand_word values) (map Quoted texts) first second
@@ -179,7 +179,7 @@ operands_all P shape.ValuePath values texts first second = all_append P (map ope
 operands_all P shape.ValueBytes values texts first second = all_append P (map operand_word values) (map Quoted texts) first second
 operands_all P shape.Pairs values texts first second = all_append P (map operand_word values) (map Quoted texts) first second
 
-call_for_plain : (first : Word) (words : List Word) → AreNoEquals words → call_for first words ≡ call_said None None (first ∷ words)
+pub call_for_plain : (first : Word) (words : List Word) → AreNoEquals words → call_for first words ≡ call_said None None (first ∷ words)
 call_for_plain first [] none = refl
 call_for_plain first (second ∷ []) none = ap (λ b. if b then call_for_one first [] else call_for_two first second []) none.0
 call_for_plain first (second ∷ third ∷ words) none =
@@ -191,7 +191,7 @@ call_for_plain first (second ∷ third ∷ words) none =
 abbrev AreBytes : List (List ℕ) → Type 0
 AreBytes texts = AllByRecursion IsBytes texts
 
-texts_bytes : (of : Shape) (values : List Operand) (texts : List (List ℕ)) → Fits of values texts → AreBytes texts
+pub texts_bytes : (of : Shape) (values : List Operand) (texts : List (List ℕ)) → Fits of values texts → AreBytes texts
 texts_bytes (shape.Values count) values texts fits = subst AreBytes (sym fits.texts_are) tt
 texts_bytes shape.OnePath values texts fits = subst AreBytes (sym fits.texts_are) (fits.fits.1, tt)
 texts_bytes shape.TwoPaths values texts fits = subst AreBytes (sym fits.texts_are) (fits.is_old.1, (fits.is_new.1, tt))
@@ -200,11 +200,11 @@ texts_bytes shape.ValuePath values texts fits = subst AreBytes (sym fits.texts_a
 texts_bytes shape.ValueBytes values texts fits = subst AreBytes (sym fits.texts_are) (fits.fits.1, tt)
 texts_bytes shape.Pairs values texts fits = subst AreBytes (sym fits.texts_are) tt
 
-texts_printed : (texts : List (List ℕ)) → AreBytes texts → AllByRecursion IsPrinted (map Quoted texts)
+pub texts_printed : (texts : List (List ℕ)) → AreBytes texts → AllByRecursion IsPrinted (map Quoted texts)
 texts_printed [] all = tt
 texts_printed (text ∷ texts) all = (all.0, texts_printed texts all.1)
 
-values_printed : (values : List Operand) → AllByRecursion IsOperand values → AllByRecursion IsPrinted (map operand_word values)
+pub values_printed : (values : List Operand) → AllByRecursion IsOperand values → AllByRecursion IsPrinted (map operand_word values)
 values_printed [] all = tt
 values_printed (operand ∷ values) all = (operand_printed operand all.0, values_printed values all.1)
 
@@ -289,7 +289,7 @@ statement_read body at (statement.Invoke call values texts first second) named i
 
 -- the words of a printed statement
 
-target_line : (first second : Option ℕ) (call : CallKind) (words : List Word) → AreTargets first second → AllByRecursion IsPrinted words
+pub target_line : (first second : Option ℕ) (call : CallKind) (words : List Word) → AreTargets first second → AllByRecursion IsPrinted words
     → IsLine (target_words first second ++ Bare (word_of call) ∷ words)
 target_line None None call words targets all = first_line (word_of call) words (call_first call) all
 target_line None (Some b) call words targets all = absurd (let wrong : false ≡ true = targets.0 in cc)

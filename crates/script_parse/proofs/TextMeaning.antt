@@ -23,9 +23,9 @@ use Rattle.posix_defs.specs.ScriptValues.{◌>>=◌, with}
 use Rattle.posix_defs.specs.ScriptParts.{Line, top_of, inside_of, name_begun, is_ending, ends, Part, Alone, Program as Begun}
 use Rattle.posix_defs.specs.ScriptMeaning.{or_next, program_in, programs_of, setting_said, setting_in, settings_of, first_of, is_named, heap_in, disk_in, steps_in, policy_in, chooser_in, body_said}
 use Rattle.posix_defs.specs.ScriptFaults.{most_programs, how_many, has_program, name_of, is_set_in}
-use Rattle.script_parse.specs.LabelPlaces as reader
-use Rattle.script_parse.specs.Drafting.{Draft, Opened, State, fault_at, at_line, once, with_setting, may_begin, begin, outside, within, step_at_top, step_in_program, finish_from, finish, step}
-use Rattle.script_parse.specs.Drafting as draft
+use Rattle.script_read.specs.LabelPlaces as reader
+use Rattle.script_read.specs.Drafting.{Draft, Opened, State, fault_at, at_line, once, with_setting, may_begin, begin, outside, within, step_at_top, step_in_program, finish_from, finish, step}
+use Rattle.script_read.specs.Drafting as draft
 use Rattle.script_parse.proofs.OneReading.{lines_step}
 use Rattle.script_parse.proofs.LinePlaces.{stated_by, stated_of, stated_append}
 use Rattle.script_parse.proofs.Bodies.{wrong_in}

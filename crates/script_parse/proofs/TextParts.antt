@@ -6,7 +6,7 @@ use Rattle.std.proofs.lemmas.List.Elements.{All-cons, All-head, All-nil, All-tai
 use Rattle.kabi_types.specs.declared.scripts.Script.{Script}
 use Rattle.kabi_types.specs.declared.scripts.ScriptFault.{ScriptFault}
 use Rattle.posix_defs.specs.ScriptParts.{Line, Lines, none, more, begun, ends, Part, Alone, Program, Parts, nothing, alone, program, unended}
-use Rattle.script_parse.specs.Drafting.{State, step, finish}
+use Rattle.script_read.specs.Drafting.{State, step, finish}
 use Rattle.script_parse.proofs.OneReading.{line_read, line_is, line_has, lines_step, lines_read, same_step}
 use Rattle.script_parse.proofs.FirstFaults.{From}
 use Rattle.script_parse.proofs.PartFaults.{Counted}

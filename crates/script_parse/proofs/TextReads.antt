@@ -11,8 +11,8 @@ use Rattle.posix_defs.specs.ScriptParts.{Line, Part, Alone, Program as Begun}
 use Rattle.posix_defs.specs.ScriptMeaning.{script_of, programs_of}
 use Rattle.posix_defs.specs.ScriptFaults.{most_programs, how_many, has_program, IsToldBefore}
 use Rattle.posix_defs.specs.ScriptText.{most_bytes, at_line_0, IsClean, ReadsParts, faulty, no_init, clean, ReadsText, too_long, reads}
-use Rattle.script_parse.specs.Drafting.{Reads, at_start, finish_from}
-use Rattle.script_parse.specs.Drafting as draft
+use Rattle.script_read.specs.Drafting.{Reads, at_start, finish_from}
+use Rattle.script_read.specs.Drafting as draft
 use Rattle.script_parse.proofs.OneReading.{lines_read, lines_are, reading, reading_by}
 use Rattle.script_parse.proofs.FirstFaults.{none_of}
 use Rattle.script_parse.proofs.PartFaults.{fault_of, part_fault, program_fault, wrong_parts, Counted}

@@ -11,7 +11,7 @@ use Rattle.posix_defs.specs.declared.said.Spoken.{Spoken}
 use Rattle.posix_defs.specs.declared.said.Spoken.TheVariants as spoken
 use Rattle.posix_defs.specs.declared.said.Stated.{Stated}
 use Rattle.posix_defs.specs.ValidScript.{IsLabel, IsFirstLabel, IsStatement}
-use Rattle.script_parse.specs.LabelPlaces.{names, place_in, place_from, later, earlier, first_label, placed, placed_in, before, body_from, placed_body}
+use Rattle.script_read.specs.LabelPlaces.{names, place_in, place_from, later, earlier, first_label, placed, placed_in, before, body_from, placed_body}
 use Rattle.script_parse.proofs.Holds.{any, when, with_holds}
 use Rattle.script_parse.proofs.ValidLines.{IsWhole, IsSpoken}
 

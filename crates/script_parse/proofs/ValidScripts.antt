@@ -24,10 +24,10 @@ use Rattle.posix_defs.specs.declared.said.Word.{Word}
 use Rattle.posix_defs.specs.ScriptValues.{◌>>=◌, is_name}
 use Rattle.posix_defs.specs.ScriptLines.{said_at_top, said_in_program}
 use Rattle.posix_defs.specs.ValidScript.{IsProgram, IsChooser, AreApart, IsValid}
-use Rattle.script_parse.specs.declared.parse_error.ParseError.{ParseError}
-use Rattle.script_parse.specs.LabelPlaces.{placed_body}
-use Rattle.script_parse.specs.Reading.{Outcome}
-use Rattle.script_parse.specs.Drafting.{Draft, Opened, State, at_start, at_line, once, with_setting, has_program, may_begin, begin, outside, within, step_at_top, with_line, with_program, closed, step_in_program, step_from, drafted_script, finish_from, Reads, ended, goes_on, stops}
+use Rattle.script_read.specs.declared.parse_error.ParseError.{ParseError}
+use Rattle.script_read.specs.LabelPlaces.{placed_body}
+use Rattle.script_read.specs.Reading.{Outcome}
+use Rattle.script_read.specs.Drafting.{Draft, Opened, State, at_start, at_line, once, with_setting, has_program, may_begin, begin, outside, within, step_at_top, with_line, with_program, closed, step_in_program, step_from, drafted_script, finish_from, Reads, ended, goes_on, stops}
 use Rattle.posix_defs.specs.ScriptMeaning.{or_default}
 use Rattle.posix_defs.specs.ScriptText.{most_bytes, ReadsText}
 use Rattle.script_parse.proofs.OneReading.{lines_have, lines_read, reading_by}

@@ -1,4 +1,3 @@
-pub mod LabelPlaces
-pub mod Drafting
-pub mod Reading
-pub mod Printing
+pub use Rattle.script_read.specs.LabelPlaces
+pub use Rattle.script_read.specs.Drafting
+pub use Rattle.script_read.specs.Reading

@@ -1,8 +1,5 @@
-use crate::Refused;
-use crate::calls::shape_of;
-use crate::operands::operands_said;
-use crate::words::line_words;
 use kabi_types::{CallKind, Memory, Operand, Operands, Text, Texts};
+use script_words::{Refused, line_words, operands_said, shape_of};
 use std::alloc::Global;
 use std::test::Fail;
 

@@ -381,12 +381,14 @@ const LEAST_FAULTS_AT_TOP: &[Row] = &[
     ),
 ];
 
-const TABLES: &[&[Row]] = &[
-    MISSING_LABELS,
-    WRONG_WAYS,
-    DEFINED_TWICE,
-    WITHOUT_END,
-    WITHOUT_INIT,
+/// Faults of labels, and of jumps to them.
+const LABELS: &[&[Row]] = &[MISSING_LABELS, WRONG_WAYS, DEFINED_TWICE];
+
+/// Faults of programs, and of a text as a whole.
+const PROGRAMS: &[&[Row]] = &[WITHOUT_END, WITHOUT_INIT];
+
+/// Lines and texts with several faults.
+const SEVERAL: &[&[Row]] = &[
     FIRST_LINES,
     UNKNOWN_WORDS_FIRST,
     NUMBERS_BEFORE_LABELS,
@@ -394,8 +396,24 @@ const TABLES: &[&[Row]] = &[
 ];
 
 #[test]
+fn faults_of_labels_and_jumps_are_told(rt: HostRuntime) -> Result<(), Fail> {
+    for rows in LABELS {
+        check_texts(&rt, rows)?;
+    }
+    Ok(())
+}
+
+#[test]
+fn programs_without_an_end_and_texts_without_init_are_told(rt: HostRuntime) -> Result<(), Fail> {
+    for rows in PROGRAMS {
+        check_texts(&rt, rows)?;
+    }
+    Ok(())
+}
+
+#[test]
 fn of_several_faults_the_first_and_the_least_is_told(rt: HostRuntime) -> Result<(), Fail> {
-    for rows in TABLES {
+    for rows in SEVERAL {
         check_texts(&rt, rows)?;
     }
     Ok(())

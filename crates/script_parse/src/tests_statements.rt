@@ -384,25 +384,55 @@ const NOT_BUILT: &[&str] = &[
 ];
 
 /// Lines of a program, and what is told of each.
-const LINES: &[(&[&str], Told)] = &[
+const UNKNOWN_STATEMENTS: &[(&[&str], Told)] = &[
     (UNKNOWN_IN_SET_AND_ADD, Some((2, FaultKind::UnknownWord))),
     (
         UNKNOWN_IN_JUMPS_AND_LABELS,
         Some((2, FaultKind::UnknownWord)),
     ),
     (UNKNOWN_FIRST_WORDS, Some((2, FaultKind::UnknownWord))),
+];
+
+const UNKNOWN_IN_CALLS: &[(&[&str], Told)] = &[
     (MISSING_OR_FURTHER_WORDS, Some((2, FaultKind::UnknownWord))),
     (UNKNOWN_OPERANDS, Some((2, FaultKind::UnknownWord))),
     (BROKEN_TEXTS, Some((2, FaultKind::UnknownWord))),
-    (BAD_NUMBERS, Some((2, FaultKind::BadNumber))),
-    (OUT_OF_RANGE, Some((2, FaultKind::OutOfRange))),
-    (BUILT, None),
-    (NOT_BUILT, Some((2, FaultKind::NotBuilt))),
 ];
 
+const NUMBERS: &[(&[&str], Told)] = &[
+    (BAD_NUMBERS, Some((2, FaultKind::BadNumber))),
+    (OUT_OF_RANGE, Some((2, FaultKind::OutOfRange))),
+];
+
+const CALLS: &[(&[&str], Told)] = &[(BUILT, None), (NOT_BUILT, Some((2, FaultKind::NotBuilt)))];
+
 #[test]
-fn lines_of_programs_are_read_or_told_their_fault(rt: HostRuntime) -> Result<(), Fail> {
-    for (lines, told) in LINES {
+fn unknown_words_of_statements_are_told(rt: HostRuntime) -> Result<(), Fail> {
+    for (lines, told) in UNKNOWN_STATEMENTS {
+        check_in_init(&rt, lines, *told)?;
+    }
+    Ok(())
+}
+
+#[test]
+fn unknown_words_of_calls_are_told(rt: HostRuntime) -> Result<(), Fail> {
+    for (lines, told) in UNKNOWN_IN_CALLS {
+        check_in_init(&rt, lines, *told)?;
+    }
+    Ok(())
+}
+
+#[test]
+fn bad_numbers_and_those_out_of_range_are_told(rt: HostRuntime) -> Result<(), Fail> {
+    for (lines, told) in NUMBERS {
+        check_in_init(&rt, lines, *told)?;
+    }
+    Ok(())
+}
+
+#[test]
+fn calls_that_are_built_are_read_and_others_told(rt: HostRuntime) -> Result<(), Fail> {
+    for (lines, told) in CALLS {
         check_in_init(&rt, lines, *told)?;
     }
     Ok(())

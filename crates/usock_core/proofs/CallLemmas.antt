@@ -1,23 +1,23 @@
 -- What the sockets of a heap stand for after each call.
 use Rattle.std.proofs.Common.{◌≡◌, inl, inr, ℕ, zero, suc, ℤ, ◌≤◌, Bool, true, false, List, [], ◌∷◌, ◌++◌, take, drop, length, Option, None, Some, is_some, IsSome, refl, sym, ap, subst, ◌∙◌, arith}
 use Rattle.std.specs.Prelude.{◌||◌, if◌then◌else◌}
+use Rattle.kheap_shelves.specs.Objects.{object}
+use Rattle.kheap_shelves.specs.declared.objects.Sock.{Sock}
+use Rattle.kheap_shelves.specs.declared.objects.SockState.TheVariants as state
 use Rattle.kheap_slabs.specs.Heap.{Heap}
-use Rattle.kheap_slabs.specs.Objects.{object}
 use Rattle.kheap_slabs.specs.Owners.{OwnsItsObjects}
-use Rattle.kheap_slabs.specs.declared.objects.Sock.{Sock}
-use Rattle.kheap_slabs.specs.declared.objects.SockState.TheVariants as state
 use Rattle.std.proofs.lemmas.Bool.{cases_eq}
 use Rattle.std.proofs.lemmas.List.{append-nil}
-use Rattle.kheap_slabs.proofs.ObjectLemmas.{object_of}
-use Rattle.kabi_types.specs.declared.errnos.Errno.TheVariants as errno
+use Rattle.kheap_shelves.proofs.ObjectLemmas.{object_of}
+use Rattle.kabi_values.specs.declared.errnos.Errno.TheVariants as errno
 use Rattle.posix_defs.specs.Pipe.{Fails}
 use Rattle.posix_defs.specs.QueuePlace.{QueuePlace, after_take}
 use Rattle.posix_defs.specs.Socket.{Stage, Idle, Listening, Connected, Socket, new_socket, peer_of, waiting_of, listen_fault, listening, behind_first, without_first, shuts_reading, shuts_writing, shut_further, after_shutdown}
 use Rattle.posix_defs.specs.Sockets.{Sockets, sock_at, socket_at, stage_at, with_bytes, with_name, with_new, after_listen, after_accept, after_read, sock_read, read_in_stage, sock_write, write_in_stage, write_to, sent_to, after_write, after_shut}
 use Rattle.posix_defs.specs.SocketLinks.{AreLinked}
-use Rattle.posix_defs.proofs.SocketTable.{sock_at-with, sock_at-with_other, length-with_there, there_within}
-use Rattle.posix_defs.proofs.SocketCalls.{new_linked, named_linked, listen_linked, accept_linked, read_linked, shut_linked, write_linked}
-use Rattle.posix_defs.proofs.SocketLaws.{peer_there}
+use Rattle.socket_laws.proofs.SocketTable.{sock_at-with, sock_at-with_other, length-with_there, there_within}
+use Rattle.socket_laws.proofs.SocketCalls.{new_linked, named_linked, listen_linked, accept_linked, read_linked, shut_linked, write_linked}
+use Rattle.socket_laws.proofs.SocketLaws.{peer_there}
 use Rattle.chunk_queue.specs.Moving.{moving_of, moved_by}
 use Rattle.chunk_queue.specs.declared.moved.Moved.{Moved}
 use Rattle.chunk_queue.specs.declared.moved.Moved.TheVariants as moves

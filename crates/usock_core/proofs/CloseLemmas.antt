@@ -1,16 +1,16 @@
 -- What sockets that go leave.
 use Rattle.std.proofs.Common.{◌≡◌, ℕ, zero, suc, ◌<◌, ◌≤◌, List, [], ◌∷◌, drop, length, get_or, Option, None, Some, refl, sym, ap, subst, ◌∙◌, arith}
+use Rattle.kheap_shelves.specs.Objects.{object}
+use Rattle.kheap_shelves.specs.declared.objects.Sock.{Sock}
 use Rattle.kheap_slabs.specs.Heap.{Heap}
-use Rattle.kheap_slabs.specs.Objects.{object}
 use Rattle.kheap_slabs.specs.Owners.{OwnsItsObjects}
-use Rattle.kheap_slabs.specs.Purse.{TakesNothing}
+use Rattle.kheap_slabs.specs.Paid.{TakesNothing}
 use Rattle.kheap_slabs.specs.Spaces.{keys_in}
-use Rattle.kheap_slabs.specs.declared.objects.Sock.{Sock}
-use Rattle.kheap_slabs.proofs.PaidLemmas.{TakesNothing-refl, TakesNothing-trans}
+use Rattle.kheap_laws.proofs.PaidLemmas.{TakesNothing-refl, TakesNothing-trans}
 use Rattle.posix_defs.specs.Socket.{Stage, Idle, Listening, Connected, peer_of, waiting_of, without_peer}
 use Rattle.posix_defs.specs.Sockets.{Sockets, socket_at, stage_at, with_socket, left_alone, gone, all_gone, after_close}
 use Rattle.posix_defs.specs.SocketLinks.{AreLoose, WaitsNowhere}
-use Rattle.posix_defs.proofs.SocketCalls.{gone_linked, first_loose, rest_loose, waiting_loose}
+use Rattle.socket_laws.proofs.SocketCalls.{gone_linked, first_loose, rest_loose, waiting_loose}
 use Rattle.usock_core.specs.Standing.{in_row, IsShape, IsTable, StandsFor, IsClosableIn, AreLooseIn, QueuesStay, LeavesOthers}
 use Rattle.usock_core.specs.Steps.{Becomes, Goes}
 use Rattle.usock_core.proofs.StandingLemmas.{found, used_from, LeavesOthers-refl, LeavesOthers-trans}

@@ -1,15 +1,15 @@
 -- The sockets of a heap are those that descriptions name and those that wait, before and after each call.
 use Rattle.std.proofs.Common.{inl, inr, ◌≡◌, ◌≢◌, ℕ, zero, suc, get_or, ℤ, ◌<◌, ◌≤◌, List, [], ◌∷◌, length, Option, None, Some, IsSome, refl, sym, ap, ◌∙◌, arith, Contains}
+use Rattle.kheap_shelves.specs.Objects.{object}
+use Rattle.kheap_shelves.specs.declared.objects.Sock.{Sock}
+use Rattle.kheap_shelves.specs.declared.objects.SockState.TheVariants as state
 use Rattle.kheap_slabs.specs.Heap.{Heap}
-use Rattle.kheap_slabs.specs.Objects.{object}
-use Rattle.kheap_slabs.specs.declared.objects.Sock.{Sock}
-use Rattle.kheap_slabs.specs.declared.objects.SockState.TheVariants as state
-use Rattle.kheap_slabs.proofs.ObjectLemmas.{object_of}
+use Rattle.kheap_shelves.proofs.ObjectLemmas.{object_of}
 use Rattle.posix_defs.specs.Socket.{Listening, new_socket, connected_to, waiting_of}
 use Rattle.posix_defs.specs.Sockets.{Sockets, sock_at, stage_at, with_socket, with_name, with_new, with_pair, after_listen, after_connect, after_accept, after_read, after_write, after_shut, after_close}
 use Rattle.posix_defs.specs.SocketLinks.{AreHeld}
-use Rattle.posix_defs.proofs.SocketTable.{length-with, length-with_there}
-use Rattle.posix_defs.proofs.SocketHeld.{new_held, pair_held, named_held, listen_held, read_held, write_held, shut_held, connect_held, accept_held, close_held}
+use Rattle.socket_laws.proofs.SocketTable.{length-with, length-with_there}
+use Rattle.socket_laws.proofs.SocketHeld.{new_held, pair_held, named_held, listen_held, read_held, write_held, shut_held, connect_held, accept_held, close_held}
 use Rattle.usock_core.specs.Standing.{in_row, IsShape, StandsFor, IsSocketIn, IsIdleIn, IsListeningIn, IsClosableIn, IsHeldIn}
 use Rattle.usock_core.specs.Steps.{Comes}
 use Rattle.usock_core.proofs.StandingLemmas.{found, free_from, used_from}

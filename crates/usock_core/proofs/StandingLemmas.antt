@@ -1,12 +1,12 @@
 -- The sockets of a heap and the plain ones that they stand for, where one of them is another from now on.
 use Rattle.std.proofs.Common.{◌≡◌, ◌≢◌, inl, inr, ℕ, ◌<◌, List, length, Option, None, Some, IsSome, refl, sym, ap, subst, ◌∙◌, arith}
 use Rattle.std.proofs.lemmas.Bool.{cases_eq}
+use Rattle.kheap_shelves.specs.Objects.{object, InUse}
+use Rattle.kheap_shelves.specs.declared.objects.Sock.{Sock}
 use Rattle.kheap_slabs.specs.Heap.{Heap}
-use Rattle.kheap_slabs.specs.Objects.{object, InUse}
-use Rattle.kheap_slabs.specs.declared.objects.Sock.{Sock}
 use Rattle.posix_defs.specs.Socket.{Socket}
 use Rattle.posix_defs.specs.Sockets.{Sockets, sock_at, socket_at, with_socket}
-use Rattle.posix_defs.proofs.SocketTable.{sock_at-with, sock_at-with_other, length-with_there}
+use Rattle.socket_laws.proofs.SocketTable.{sock_at-with, sock_at-with_other, length-with_there}
 use Rattle.chunk_queue.specs.Held.{HasBytes, SockKeepsBytes}
 use Rattle.usock_core.specs.Standing.{IsKept, StandsAt, IsTable, LeavesOthers}
 

@@ -1,6 +1,6 @@
 ghost use Rattle.std.specs.Prelude.{ℕ, List, ◌≡◌, ◌++◌, ◌∷◌, [], None, drop};
 ghost use Rattle.kheap_slabs.specs.Owners.{OwnsItsObjects};
-ghost use Rattle.kheap_slabs.specs.Purse.{TakesNothing};
+ghost use Rattle.kheap_slabs.specs.Paid.{TakesNothing};
 ghost use Rattle.posix_defs.specs.Socket.{accept as plain_accept};
 ghost use Rattle.posix_defs.specs.Sockets.{Sockets, stage_at};
 ghost use Rattle.usock_core.specs.Answers.{accepting_of, after_answer, named_after};
@@ -9,7 +9,8 @@ ghost use Rattle.usock_core.specs.Standing.{IsHeldIn, StandsFor, IsSocketIn, Que
 use crate::Accepted;
 use crate::steps::replace;
 use kabi_types::Errno;
-use kheap_slabs::{KHeap, Sock, SockState};
+use kheap_shelves::{Sock, SockState};
+use kheap_slabs::KHeap;
 
 /// Takes the socket that waited first for a listening one (POSIX accept). `room` says that a descriptor is free for it.
 ///

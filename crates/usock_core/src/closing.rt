@@ -1,8 +1,8 @@
 ghost use Rattle.std.specs.Prelude.{ℕ, List, ◌∷◌, ◌≡◌, ◌||◌, None, Some, MatchResult};
-ghost use Rattle.kheap_slabs.specs.declared.objects.SockState.TheVariants as state;
+ghost use Rattle.kheap_shelves.specs.declared.objects.SockState.TheVariants as state;
 ghost use Rattle.std.specs.List.{Contains};
 ghost use Rattle.kheap_slabs.specs.Owners.{OwnsItsObjects};
-ghost use Rattle.kheap_slabs.specs.Purse.{TakesNothing};
+ghost use Rattle.kheap_slabs.specs.Paid.{TakesNothing};
 ghost use Rattle.kheap_slabs.specs.Spaces.{keys_in};
 ghost use Rattle.posix_defs.specs.Socket.{shutdown_fault, shuts_reading as plain_shuts_reading, shuts_writing as plain_shuts_writing};
 ghost use Rattle.posix_defs.specs.SocketLinks.{AreLoose, WaitsNowhere};
@@ -12,7 +12,8 @@ ghost use Rattle.usock_core.specs.Standing.{IsHeldIn, StandsFor, IsSocketIn, IsC
 
 use crate::steps::{drop_bytes, remove, replace};
 use kabi_types::Errno;
-use kheap_slabs::{KHeap, Sock, SockState};
+use kheap_shelves::{Sock, SockState};
+use kheap_slabs::KHeap;
 
 const SHUT_RD: i64 = 0;
 

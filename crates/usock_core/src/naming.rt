@@ -1,6 +1,6 @@
 ghost use Rattle.std.specs.Prelude.{ℕ, List, ◌≡◌, Option, MatchResult};
 ghost use Rattle.kheap_slabs.specs.Owners.{OwnsItsObjects};
-ghost use Rattle.kheap_slabs.specs.Purse.{TakesNothing};
+ghost use Rattle.kheap_slabs.specs.Paid.{TakesNothing};
 ghost use Rattle.posix_defs.specs.Socket.{bind_fault, listen_fault};
 ghost use Rattle.posix_defs.specs.Sockets.{Sockets, socket_at, with_name, after_listen};
 ghost use Rattle.usock_core.specs.Answers.{Answers};
@@ -8,7 +8,8 @@ ghost use Rattle.usock_core.specs.Standing.{IsHeldIn, StandsFor, IsSocketIn, Que
 
 use crate::steps::replace;
 use kabi_types::Errno;
-use kheap_slabs::{KHeap, Sock, SockState};
+use kheap_shelves::{Sock, SockState};
+use kheap_slabs::KHeap;
 
 /// Whether a socket can be bound to a name: EINVAL where it is bound already, EISCONN where it is connected (POSIX bind).
 pub fn can_bind(heap: &KHeap, key: u32) -> Result<(), Errno>

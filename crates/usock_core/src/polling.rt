@@ -4,7 +4,8 @@ ghost use Rattle.posix_defs.specs.Sockets.{Sockets, socket_at, sock_polled as pl
 ghost use Rattle.usock_core.specs.Standing.{IsShape, StandsFor, IsSocketIn};
 
 use crate::CAPACITY;
-use kheap_slabs::{KHeap, Sock, SockState};
+use kheap_shelves::{Sock, SockState};
+use kheap_slabs::KHeap;
 
 const POLLIN: u8 = 1;
 

@@ -4,7 +4,7 @@
 ghost use Rattle.std.specs.Prelude.{◌≡◌, ◌<◌, ℕ, List, [], ◌∷◌, ◌++◌, IfOk, OnOk};
 ghost use Rattle.std.specs.List.{Contains};
 ghost use Rattle.kheap_slabs.specs.Owners.{OwnsItsObjects};
-ghost use Rattle.kheap_slabs.specs.Purse.{CanPay};
+ghost use Rattle.kheap_slabs.specs.Paid.{CanPay};
 ghost use Rattle.usock_core.specs.Standing.{IsSocketIn, IsHeldIn};
 
 use crate::{
@@ -13,7 +13,8 @@ use crate::{
 };
 use chunk_queue::Moved;
 use kabi_types::{Errno, Memory, Need};
-use kheap_slabs::{KHeap, Purse, SockState};
+use kheap_shelves::{Purse, SockState};
+use kheap_slabs::KHeap;
 use std::alloc::Global;
 use std::process::Abort;
 use std::test::Fail;

@@ -1,7 +1,7 @@
 ghost use Rattle.std.specs.Prelude.{List, ◌≡◌, ℕ, ◌+◌, ◌/◌, ◌<◌, ◌≤◌, ◌++◌, Some, length, min, take, Bool, IfSome, MatchOption};
-ghost use Rattle.kheap_slabs.specs.Objects.{object, InUse};
+ghost use Rattle.kheap_shelves.specs.Objects.{object, InUse};
 ghost use Rattle.kheap_slabs.specs.Owners.{OwnsItsObjects};
-ghost use Rattle.kheap_slabs.specs.Purse.{CanPay, IsPaid};
+ghost use Rattle.kheap_slabs.specs.Paid.{CanPay, IsPaid};
 ghost use Rattle.posix_defs.specs.Pipe.{capacity, Moves, not_now as waiting};
 ghost use Rattle.posix_defs.specs.QueuePlace.{chunks_of, after_put};
 ghost use Rattle.posix_defs.specs.Socket.{Socket, peer_of, is_shut_read};
@@ -15,7 +15,8 @@ use crate::CAPACITY;
 use crate::steps::{not_now, put_in};
 use chunk_queue::Moved;
 use kabi_types::Errno;
-use kheap_slabs::{KHeap, Purse, Sock, SockState};
+use kheap_shelves::{Purse, Sock, SockState};
+use kheap_slabs::KHeap;
 
 /// Writes bytes to the peer of a socket, as many as it has room for (POSIX write).
 ///

@@ -1,15 +1,15 @@
 //! Open file descriptions and what is cached of the disk.
 
 ghost use Rattle.std.specs.Prelude.{◌≡◌, ◌+◌, ◌/◌, ◌<◌, ◌≤◌, None, Some};
-ghost use Rattle.kabi_types.specs.Class.{size};
-ghost use Rattle.kabi_types.specs.declared.classes.Class.TheVariants as class;
+ghost use Rattle.kabi_values.specs.Class.{size};
+ghost use Rattle.kabi_values.specs.declared.classes.Class.TheVariants as class;
+ghost use Rattle.kheap_shelves.specs.Objects.{object, InUse, put, without};
 ghost use Rattle.kheap_slabs.specs.Heap.{live_bytes, Makes, Frees};
-ghost use Rattle.kheap_slabs.specs.Objects.{object, InUse, put, without};
-ghost use Rattle.kheap_slabs.specs.Purse.{TakesNothing};
+ghost use Rattle.kheap_slabs.specs.Paid.{TakesNothing};
 
 use super::KHeap;
-use crate::{Block, Desc, Name, Vnode};
 use kabi_types::Class;
+use kheap_shelves::{Block, Desc, Name, Vnode};
 
 impl KHeap {
     /// Puts a Desc under a key that was free, and gives the key.
@@ -24,7 +24,7 @@ impl KHeap {
         ensures makes { Makes class.Desc self.old self.new }
     {
         self.meter.grow(Class::Desc.bytes());
-        self.descs.insert(value)
+        self.files.descs.insert(value)
     }
 
     /// Takes a Desc out of the heap; its key is free from then on.
@@ -36,7 +36,7 @@ impl KHeap {
         ensures live { live_bytes self.new + size class.Desc ≡ live_bytes self.old }
         ensures frees { Frees class.Desc self.old self.new }
     {
-        let value = self.descs.free(key);
+        let value = self.files.descs.free(key);
         self.meter.shrink(Class::Desc.bytes());
         value
     }
@@ -46,7 +46,7 @@ impl KHeap {
         requires { InUse self.now.descs key }
         ensures { object self.now.descs key ≡ Some result.now }
     {
-        self.descs.get(key)
+        self.files.descs.get(key)
     }
 
     /// Puts another Desc under a key in use.
@@ -57,7 +57,7 @@ impl KHeap {
         ensures live { live_bytes self.new ≡ live_bytes self.old }
         ensures takes { TakesNothing self.old self.new }
     {
-        self.descs.set(key, value);
+        self.files.descs.set(key, value);
     }
 
     /// Puts a Vnode under a key that was free, and gives the key.
@@ -72,7 +72,7 @@ impl KHeap {
         ensures makes { Makes class.Vnode self.old self.new }
     {
         self.meter.grow(Class::Vnode.bytes());
-        self.vnodes.insert(value)
+        self.files.vnodes.insert(value)
     }
 
     /// Takes a Vnode out of the heap; its key is free from then on.
@@ -84,7 +84,7 @@ impl KHeap {
         ensures live { live_bytes self.new + size class.Vnode ≡ live_bytes self.old }
         ensures frees { Frees class.Vnode self.old self.new }
     {
-        let value = self.vnodes.free(key);
+        let value = self.files.vnodes.free(key);
         self.meter.shrink(Class::Vnode.bytes());
         value
     }
@@ -94,7 +94,7 @@ impl KHeap {
         requires { InUse self.now.vnodes key }
         ensures { object self.now.vnodes key ≡ Some result.now }
     {
-        self.vnodes.get(key)
+        self.files.vnodes.get(key)
     }
 
     /// Puts another Vnode under a key in use.
@@ -105,7 +105,7 @@ impl KHeap {
         ensures live { live_bytes self.new ≡ live_bytes self.old }
         ensures takes { TakesNothing self.old self.new }
     {
-        self.vnodes.set(key, value);
+        self.files.vnodes.set(key, value);
     }
 
     /// Puts a Name under a key that was free, and gives the key.
@@ -120,7 +120,7 @@ impl KHeap {
         ensures makes { Makes class.Name self.old self.new }
     {
         self.meter.grow(Class::Name.bytes());
-        self.names.insert(value)
+        self.files.names.insert(value)
     }
 
     /// Takes a Name out of the heap; its key is free from then on.
@@ -132,7 +132,7 @@ impl KHeap {
         ensures live { live_bytes self.new + size class.Name ≡ live_bytes self.old }
         ensures frees { Frees class.Name self.old self.new }
     {
-        let value = self.names.free(key);
+        let value = self.files.names.free(key);
         self.meter.shrink(Class::Name.bytes());
         value
     }
@@ -142,7 +142,7 @@ impl KHeap {
         requires { InUse self.now.names key }
         ensures { object self.now.names key ≡ Some result.now }
     {
-        self.names.get(key)
+        self.files.names.get(key)
     }
 
     /// Puts another Name under a key in use.
@@ -153,7 +153,7 @@ impl KHeap {
         ensures live { live_bytes self.new ≡ live_bytes self.old }
         ensures takes { TakesNothing self.old self.new }
     {
-        self.names.set(key, value);
+        self.files.names.set(key, value);
     }
 
     /// Puts a Block under a key that was free, and gives the key.
@@ -168,7 +168,7 @@ impl KHeap {
         ensures makes { Makes class.Block self.old self.new }
     {
         self.meter.grow(Class::Block.bytes());
-        self.blocks.insert(value)
+        self.files.blocks.insert(value)
     }
 
     /// Takes a Block out of the heap; its key is free from then on.
@@ -180,7 +180,7 @@ impl KHeap {
         ensures live { live_bytes self.new + size class.Block ≡ live_bytes self.old }
         ensures frees { Frees class.Block self.old self.new }
     {
-        let value = self.blocks.free(key);
+        let value = self.files.blocks.free(key);
         self.meter.shrink(Class::Block.bytes());
         value
     }
@@ -190,7 +190,7 @@ impl KHeap {
         requires { InUse self.now.blocks key }
         ensures { object self.now.blocks key ≡ Some result.now }
     {
-        self.blocks.get(key)
+        self.files.blocks.get(key)
     }
 
     /// Puts another Block under a key in use.
@@ -201,6 +201,6 @@ impl KHeap {
         ensures live { live_bytes self.new ≡ live_bytes self.old }
         ensures takes { TakesNothing self.old self.new }
     {
-        self.blocks.set(key, value);
+        self.files.blocks.set(key, value);
     }
 }

@@ -1,19 +1,19 @@
 //! Processes and their memory.
 
 ghost use Rattle.std.specs.Prelude.{◌≡◌, ◌+◌, ◌/◌, ◌<◌, ◌≤◌, None, Some, length, slice_set};
-ghost use Rattle.kabi_types.specs.Class.{size};
-ghost use Rattle.kabi_types.specs.declared.classes.Class.TheVariants as class;
+ghost use Rattle.kabi_values.specs.Class.{size};
+ghost use Rattle.kabi_values.specs.declared.classes.Class.TheVariants as class;
+ghost use Rattle.kheap_shelves.specs.Objects.{object, InUse, put, without};
+ghost use Rattle.kheap_shelves.specs.Pages.{with_bytes};
+ghost use Rattle.kheap_shelves.specs.declared.objects.Node.{Node as NodeOf};
+ghost use Rattle.kheap_shelves.specs.declared.objects.Page.{Page as PageOf};
+ghost use Rattle.kheap_shelves.specs.declared.objects.Proc.{Proc as ProcOf};
 ghost use Rattle.kheap_slabs.specs.Heap.{live_bytes, Makes, Frees};
-ghost use Rattle.kheap_slabs.specs.Objects.{object, InUse, put, without};
-ghost use Rattle.kheap_slabs.specs.Purse.{TakesNothing};
-ghost use Rattle.kheap_slabs.specs.Spaces.{with_bytes};
-ghost use Rattle.kheap_slabs.specs.declared.objects.Node.{Node as NodeOf};
-ghost use Rattle.kheap_slabs.specs.declared.objects.Page.{Page as PageOf};
-ghost use Rattle.kheap_slabs.specs.declared.objects.Proc.{Proc as ProcOf};
+ghost use Rattle.kheap_slabs.specs.Paid.{TakesNothing};
 
 use super::KHeap;
-use crate::{Node, Page, PageEntry, Proc};
 use kabi_types::{Class, Control};
+use kheap_shelves::{Node, Page, PageEntry, Proc};
 
 impl KHeap {
     /// Puts a Proc under a key that was free, and gives the key.
@@ -28,7 +28,7 @@ impl KHeap {
         ensures makes { Makes class.Proc self.old self.new }
     {
         self.meter.grow(Class::Proc.bytes());
-        self.procs.insert(value)
+        self.memory.procs.insert(value)
     }
 
     /// Takes a Proc out of the heap; its key is free from then on.
@@ -40,7 +40,7 @@ impl KHeap {
         ensures live { live_bytes self.new + size class.Proc ≡ live_bytes self.old }
         ensures frees { Frees class.Proc self.old self.new }
     {
-        let value = self.procs.free(key);
+        let value = self.memory.procs.free(key);
         self.meter.shrink(Class::Proc.bytes());
         value
     }
@@ -50,7 +50,7 @@ impl KHeap {
         requires { InUse self.now.procs key }
         ensures { object self.now.procs key ≡ Some result.now }
     {
-        self.procs.get(key)
+        self.memory.procs.get(key)
     }
 
     /// Puts another Proc under a key in use.
@@ -61,7 +61,7 @@ impl KHeap {
         ensures live { live_bytes self.new ≡ live_bytes self.old }
         ensures takes { TakesNothing self.old self.new }
     {
-        self.procs.set(key, value);
+        self.memory.procs.set(key, value);
     }
 
     /// Tells where a process has come to in its program. All else of it stays in its place.
@@ -74,7 +74,7 @@ impl KHeap {
         ensures live { live_bytes self.new ≡ live_bytes self.old }
         ensures takes { TakesNothing self.old self.new }
     {
-        self.procs.set_control(key, control);
+        self.memory.procs.set_control(key, control);
     }
 
     /// Gives a process other Nodes. All else of it stays in its place.
@@ -87,7 +87,7 @@ impl KHeap {
         ensures live { live_bytes self.new ≡ live_bytes self.old }
         ensures takes { TakesNothing self.old self.new }
     {
-        self.procs.set_nodes(key, nodes);
+        self.memory.procs.set_nodes(key, nodes);
     }
 
     /// Tells of a process who its parent is and how it ended. All else of it stays in its place.
@@ -100,7 +100,7 @@ impl KHeap {
         ensures live { live_bytes self.new ≡ live_bytes self.old }
         ensures takes { TakesNothing self.old self.new }
     {
-        self.procs.set_family(key, parent, status);
+        self.memory.procs.set_family(key, parent, status);
     }
 
     /// Puts a Node under a key that was free, and gives the key.
@@ -115,7 +115,7 @@ impl KHeap {
         ensures makes { Makes class.Node self.old self.new }
     {
         self.meter.grow(Class::Node.bytes());
-        self.nodes.insert(value)
+        self.memory.nodes.insert(value)
     }
 
     /// Takes a Node out of the heap; its key is free from then on.
@@ -127,7 +127,7 @@ impl KHeap {
         ensures live { live_bytes self.new + size class.Node ≡ live_bytes self.old }
         ensures frees { Frees class.Node self.old self.new }
     {
-        let value = self.nodes.free(key);
+        let value = self.memory.nodes.free(key);
         self.meter.shrink(Class::Node.bytes());
         value
     }
@@ -137,7 +137,7 @@ impl KHeap {
         requires { InUse self.now.nodes key }
         ensures { object self.now.nodes key ≡ Some result.now }
     {
-        self.nodes.get(key)
+        self.memory.nodes.get(key)
     }
 
     /// Puts another Node under a key in use.
@@ -148,7 +148,7 @@ impl KHeap {
         ensures live { live_bytes self.new ≡ live_bytes self.old }
         ensures takes { TakesNothing self.old self.new }
     {
-        self.nodes.set(key, value);
+        self.memory.nodes.set(key, value);
     }
 
     /// Gives one page of a Node another entry. Its other entries stay in their place.
@@ -162,7 +162,7 @@ impl KHeap {
         ensures live { live_bytes self.new ≡ live_bytes self.old }
         ensures takes { TakesNothing self.old self.new }
     {
-        self.nodes.set_entry(key, at, entry);
+        self.memory.nodes.set_entry(key, at, entry);
     }
 
     /// Puts a Page under a key that was free, and gives the key.
@@ -177,7 +177,7 @@ impl KHeap {
         ensures makes { Makes class.Page self.old self.new }
     {
         self.meter.grow(Class::Page.bytes());
-        self.pages.insert(value)
+        self.memory.pages.insert(value)
     }
 
     /// Takes a Page out of the heap; its key is free from then on.
@@ -189,7 +189,7 @@ impl KHeap {
         ensures live { live_bytes self.new + size class.Page ≡ live_bytes self.old }
         ensures frees { Frees class.Page self.old self.new }
     {
-        let value = self.pages.free(key);
+        let value = self.memory.pages.free(key);
         self.meter.shrink(Class::Page.bytes());
         value
     }
@@ -199,7 +199,7 @@ impl KHeap {
         requires { InUse self.now.pages key }
         ensures { object self.now.pages key ≡ Some result.now }
     {
-        self.pages.get(key)
+        self.memory.pages.get(key)
     }
 
     /// Puts another Page under a key in use.
@@ -210,7 +210,7 @@ impl KHeap {
         ensures live { live_bytes self.new ≡ live_bytes self.old }
         ensures takes { TakesNothing self.old self.new }
     {
-        self.pages.set(key, value);
+        self.memory.pages.set(key, value);
     }
 
     /// Tells of a page how many entries name it. Its bytes stay in their place.
@@ -223,7 +223,7 @@ impl KHeap {
         ensures live { live_bytes self.new ≡ live_bytes self.old }
         ensures takes { TakesNothing self.old self.new }
     {
-        self.pages.set_count(key, count);
+        self.memory.pages.set_count(key, count);
     }
 
     /// Writes bytes into a page from a place on. Its other bytes and its count stay.
@@ -237,6 +237,6 @@ impl KHeap {
         ensures live { live_bytes self.new ≡ live_bytes self.old }
         ensures takes { TakesNothing self.old self.new }
     {
-        self.pages.write(key, at, bytes);
+        self.memory.pages.write(key, at, bytes);
     }
 }

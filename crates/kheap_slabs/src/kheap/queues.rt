@@ -1,15 +1,15 @@
 //! Pipes, sockets and their bytes.
 
 ghost use Rattle.std.specs.Prelude.{◌≡◌, ◌+◌, ◌/◌, ◌<◌, ◌≤◌, None, Some};
-ghost use Rattle.kabi_types.specs.Class.{size};
-ghost use Rattle.kabi_types.specs.declared.classes.Class.TheVariants as class;
+ghost use Rattle.kabi_values.specs.Class.{size};
+ghost use Rattle.kabi_values.specs.declared.classes.Class.TheVariants as class;
+ghost use Rattle.kheap_shelves.specs.Objects.{object, InUse, put, without};
 ghost use Rattle.kheap_slabs.specs.Heap.{live_bytes, Makes, Frees};
-ghost use Rattle.kheap_slabs.specs.Objects.{object, InUse, put, without};
-ghost use Rattle.kheap_slabs.specs.Purse.{TakesNothing};
+ghost use Rattle.kheap_slabs.specs.Paid.{TakesNothing};
 
 use super::KHeap;
-use crate::{Chunk, Pipe, Sock};
 use kabi_types::Class;
+use kheap_shelves::{Chunk, Pipe, Sock};
 
 impl KHeap {
     /// Puts a Pipe under a key that was free, and gives the key.
@@ -24,7 +24,7 @@ impl KHeap {
         ensures makes { Makes class.Pipe self.old self.new }
     {
         self.meter.grow(Class::Pipe.bytes());
-        self.pipes.insert(value)
+        self.queues.pipes.insert(value)
     }
 
     /// Takes a Pipe out of the heap; its key is free from then on.
@@ -36,7 +36,7 @@ impl KHeap {
         ensures live { live_bytes self.new + size class.Pipe ≡ live_bytes self.old }
         ensures frees { Frees class.Pipe self.old self.new }
     {
-        let value = self.pipes.free(key);
+        let value = self.queues.pipes.free(key);
         self.meter.shrink(Class::Pipe.bytes());
         value
     }
@@ -46,7 +46,7 @@ impl KHeap {
         requires { InUse self.now.pipes key }
         ensures { object self.now.pipes key ≡ Some result.now }
     {
-        self.pipes.get(key)
+        self.queues.pipes.get(key)
     }
 
     /// Puts another Pipe under a key in use.
@@ -57,7 +57,7 @@ impl KHeap {
         ensures live { live_bytes self.new ≡ live_bytes self.old }
         ensures takes { TakesNothing self.old self.new }
     {
-        self.pipes.set(key, value);
+        self.queues.pipes.set(key, value);
     }
 
     /// Puts a Chunk under a key that was free, and gives the key.
@@ -72,7 +72,7 @@ impl KHeap {
         ensures makes { Makes class.Chunk self.old self.new }
     {
         self.meter.grow(Class::Chunk.bytes());
-        self.chunks.insert(value)
+        self.queues.chunks.insert(value)
     }
 
     /// Takes a Chunk out of the heap; its key is free from then on.
@@ -84,7 +84,7 @@ impl KHeap {
         ensures live { live_bytes self.new + size class.Chunk ≡ live_bytes self.old }
         ensures frees { Frees class.Chunk self.old self.new }
     {
-        let value = self.chunks.free(key);
+        let value = self.queues.chunks.free(key);
         self.meter.shrink(Class::Chunk.bytes());
         value
     }
@@ -94,7 +94,7 @@ impl KHeap {
         requires { InUse self.now.chunks key }
         ensures { object self.now.chunks key ≡ Some result.now }
     {
-        self.chunks.get(key)
+        self.queues.chunks.get(key)
     }
 
     /// Puts another Chunk under a key in use.
@@ -105,7 +105,7 @@ impl KHeap {
         ensures live { live_bytes self.new ≡ live_bytes self.old }
         ensures takes { TakesNothing self.old self.new }
     {
-        self.chunks.set(key, value);
+        self.queues.chunks.set(key, value);
     }
 
     /// Puts a Sock under a key that was free, and gives the key.
@@ -120,7 +120,7 @@ impl KHeap {
         ensures makes { Makes class.Sock self.old self.new }
     {
         self.meter.grow(Class::Sock.bytes());
-        self.socks.insert(value)
+        self.queues.socks.insert(value)
     }
 
     /// Takes a Sock out of the heap; its key is free from then on.
@@ -132,7 +132,7 @@ impl KHeap {
         ensures live { live_bytes self.new + size class.Sock ≡ live_bytes self.old }
         ensures frees { Frees class.Sock self.old self.new }
     {
-        let value = self.socks.free(key);
+        let value = self.queues.socks.free(key);
         self.meter.shrink(Class::Sock.bytes());
         value
     }
@@ -142,7 +142,7 @@ impl KHeap {
         requires { InUse self.now.socks key }
         ensures { object self.now.socks key ≡ Some result.now }
     {
-        self.socks.get(key)
+        self.queues.socks.get(key)
     }
 
     /// Puts another Sock under a key in use.
@@ -153,6 +153,6 @@ impl KHeap {
         ensures live { live_bytes self.new ≡ live_bytes self.old }
         ensures takes { TakesNothing self.old self.new }
     {
-        self.socks.set(key, value);
+        self.queues.socks.set(key, value);
     }
 }

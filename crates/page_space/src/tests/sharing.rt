@@ -2,13 +2,14 @@
 
 ghost use Rattle.std.specs.Prelude.{◌≡◌, IfOk};
 ghost use Rattle.kheap_slabs.specs.Owners.{Owners, with_space, IsOwned};
-ghost use Rattle.kheap_slabs.specs.Purse.{CanPay};
+ghost use Rattle.kheap_slabs.specs.Paid.{CanPay};
 ghost use Rattle.page_space.specs.Contents.{IsOwnedWith};
 
 use super::purse;
 use crate::Space;
 use kabi_types::{Memory, Need};
-use kheap_slabs::{KHeap, Purse};
+use kheap_shelves::Purse;
+use kheap_slabs::KHeap;
 use std::alloc::Global;
 use std::mem;
 use std::process::Abort;

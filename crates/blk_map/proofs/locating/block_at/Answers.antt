@@ -2,7 +2,7 @@ use Rattle.std.proofs.Common.{◌≡◌, ℕ, ◌-◌, List, length, sym, ap, su
 use Rattle.posix_defs.specs.DiskFormat.{IsForFiles}
 use Rattle.posix_defs.specs.SoundDisk.{Data, pointer_at}
 use Rattle.posix_defs.specs.DiskContents.{data_block}
-use Rattle.posix_defs.proofs.FreeBlocks.{named_is_for_files, behind_at}
+use Rattle.disk_laws.proofs.FreeBlocks.{named_is_for_files, behind_at}
 use Rattle.blk_map.proofs.Blocks.{got}
 use Rattle.blk_map.proofs.locating.block_at.Goals as goal
 

@@ -1,7 +1,7 @@
 use Rattle.std.proofs.Common.{◌≡◌, ℕ, inl, inr, List, set, sym, ap, ◌∙◌, arith}
 use Rattle.posix_defs.specs.DiskFormat.{data_blocks}
 use Rattle.posix_defs.specs.SoundDisk.{block_bytes, bit_of}
-use Rattle.posix_defs.proofs.FreeBlocks.{named_is_for_files}
+use Rattle.disk_laws.proofs.FreeBlocks.{named_is_for_files}
 use Rattle.blk_map.proofs.Blocks.{got}
 use Rattle.blk_map.proofs.Forgetting.{Forgetting, forgetting, each, all, pointers_gone}
 use Rattle.blk_map.proofs.Giving.{gives}

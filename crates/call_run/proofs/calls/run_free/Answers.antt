@@ -1,8 +1,8 @@
 use Rattle.std.proofs.Common.{◌≡◌, ◌∙◌, ap, pos, refl, rules, subst, sym, w64}
 use Rattle.std.proofs.lemmas.Int.{to_z-of_z}
 use mir.Val.{of_z, to_z}
-use Rattle.kabi_types.specs.declared.calls.Call.TheVariants as call
-use Rattle.kabi_types.specs.declared.errnos.Errno.TheVariants.{EINVAL}
+use Rattle.kabi_calls.specs.declared.calls.Call.TheVariants as call
+use Rattle.kabi_values.specs.declared.errnos.Errno.TheVariants.{EINVAL}
 use Rattle.posix_defs.specs.Process.{parent_of}
 use Rattle.call_run.proofs.Replies.{DoesCall, does_fail, does_tell, does_that, others_fail, parent_is}
 use Rattle.call_run.proofs.calls.run_free.Goals as goal

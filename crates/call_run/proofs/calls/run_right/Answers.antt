@@ -1,11 +1,11 @@
 use Rattle.std.proofs.Common.{◌≡◌, ◌<◌, ◌≤◌, ap, le_refl, length, rules, subst, sym, w64, arith}
 use Rattle.std.proofs.lemmas.Int.{to_z-of_z}
 use mir.Val.{of_z, to_z}
-use Rattle.kabi_types.specs.Arguments.{count_of}
-use Rattle.kabi_types.specs.Call.{kind_of}
-use Rattle.kabi_types.specs.declared.calls.Call.TheVariants as call
-use Rattle.kabi_types.specs.declared.classes.Need.{Need}
-use Rattle.kheap_slabs.specs.Purse.{left_bytes}
+use Rattle.kabi_calls.specs.Arguments.{count_of}
+use Rattle.kabi_calls.specs.Call.{kind_of}
+use Rattle.kabi_calls.specs.declared.calls.Call.TheVariants as call
+use Rattle.kabi_values.specs.declared.classes.Need.{Need}
+use Rattle.kheap_shelves.specs.Purse.{left_bytes}
 use Rattle.posix_defs.specs.Needs.{bound, is_write, nodes_for, objects_of, pages_in, pages_touched}
 use Rattle.call_run.proofs.Paying.{can_pay, left_is, purse_has, uses_nothing, uses_paid}
 use Rattle.call_run.proofs.Replies.{DoesCall, does_that, makes_none}

@@ -1,17 +1,17 @@
 use Rattle.std.proofs.Common.{◌≡◌, ◌∙◌, ap, sym, w64, rules}
 use Rattle.std.proofs.lemmas.Int.{to_z-of_z}
 use mir.Val.{of_z, to_z}
-use Rattle.kabi_types.specs.declared.calls.Call.TheVariants.{Waitpid}
+use Rattle.kabi_calls.specs.declared.calls.Call.TheVariants.{Waitpid}
 use Rattle.posix_defs.specs.Machine.{blocks, machine}
 use Rattle.call_run.proofs.Sleeping.{blocks_as, is_wait, no_fault}
 use Rattle.call_run.proofs.calls.would_block.Goals as goal
 
-pub returns-then-is_right_wait : goal.returns-then-is_right_wait
-returns-then-is_right_wait c = λ script plain account stands call e.
+pub returns-then-may_wait : goal.returns-then-may_wait
+returns-then-may_wait c = λ script plain account stands call e.
     let which : to_z w64 (of_z w64 c.in-Some.which) ≡ c.in-Some.which = search (rules, to_z-of_z) in
     let options : to_z w64 (of_z w64 c.in-Some.options) ≡ c.in-Some.options = search (rules, to_z-of_z) in
     let it = is_wait call (c.in-Some.which, c.in-Some.options) (sym c.in-Some.is ∙ e) in
-    let none = no_fault _ (sym c.is_right_wait.ensures ∙ c.if-is_right_wait.true) in
+    let none = no_fault _ (sym c.may_wait.ensures.checked ∙ c.if-may_wait.true) in
     c.would_sleep.ensures script plain account stands
     ∙ sym (blocks_as script plain c.args.pid (to_z w64 (of_z w64 c.in-Some.which)) (to_z w64 (of_z w64 c.in-Some.options)) none)
     ∙ ap (λ z. blocks (machine script plain c.args.pid (Waitpid z (to_z w64 (of_z w64 c.in-Some.options))))) which

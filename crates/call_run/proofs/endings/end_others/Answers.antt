@@ -1,5 +1,5 @@
 use Rattle.std.proofs.Common.{◌≡◌, ◌∙◌, ◌<◌, [], refl, arith}
-use Rattle.kheap_slabs.proofs.PaidLemmas.{TakesNothing-refl, TakesNothing-trans}
+use Rattle.kheap_laws.proofs.PaidLemmas.{TakesNothing-refl, TakesNothing-trans}
 use Rattle.posix_defs.specs.Memory.{after_clear}
 use Rattle.call_run.specs.Endings.{IsLowestBehind}
 use Rattle.call_run.specs.Objects.{procs_of}

@@ -1,6 +1,6 @@
 use Rattle.std.proofs.Common.{◌≡◌, ◌-◌}
 use Rattle.kabi_types.specs.declared.scripts.Script.{Script}
-use Rattle.kheap_slabs.specs.Purse.{TakesNothing}
+use Rattle.kheap_slabs.specs.Paid.{TakesNothing}
 use Rattle.posix_defs.specs.Memory.{Frames}
 use Rattle.posix_defs.specs.Process.{Table}
 use Rattle.proc_table.specs.Accounting.{HasAccount}

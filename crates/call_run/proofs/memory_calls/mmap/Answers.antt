@@ -2,18 +2,18 @@ use Rattle.std.proofs.Common.{◌≡◌, ◌*◌, ◌/◌, ◌∙◌, ℕ, ap, a
 use Rattle.std.specs.Prelude.{Option, None, Some, Ok, Err, ok_or, option_map}
 use Rattle.std.specs.Int.{cast_unsigned}
 use Rattle.std.proofs.lemmas.Int.{to_z-of_z}
-use Rattle.kabi_types.specs.Arguments.{count_of, page_size}
-use Rattle.kabi_types.specs.declared.calls.Call.TheVariants as call
-use Rattle.kabi_types.specs.declared.errnos.Errno.{Errno}
-use Rattle.kabi_types.specs.declared.errnos.Errno.TheVariants.{EMFILE}
-use Rattle.kabi_types.specs.declared.replies.Reply.TheVariants.{Fail, Val}
+use Rattle.kabi_calls.specs.Arguments.{count_of, page_size}
+use Rattle.kabi_calls.specs.declared.calls.Call.TheVariants as call
+use Rattle.kabi_values.specs.declared.errnos.Errno.{Errno}
+use Rattle.kabi_values.specs.declared.errnos.Errno.TheVariants.{EMFILE}
+use Rattle.kabi_values.specs.declared.replies.Reply.TheVariants.{Fail, Val}
 use Rattle.posix_defs.specs.declared.turner.Turned.TheVariants.{Done}
 use Rattle.posix_defs.specs.Memory.{after_map, lowest_run, with_pages}
 use Rattle.posix_defs.specs.MemoryCalls.{mapped_from, remembered}
 use Rattle.posix_defs.specs.Needs.{pages_in}
 use Rattle.posix_defs.specs.Plain.{answered}
 use Rattle.posix_defs.specs.Process.{memory_of}
-use Rattle.posix_defs.proofs.Remembering.{alive_still}
+use Rattle.core_laws.proofs.Remembering.{alive_still}
 use Rattle.call_run.specs.Standing.{Led, StandFor}
 use Rattle.call_run.proofs.Leading.{led_on}
 use Rattle.call_run.proofs.RightNumbers.{mmap_bytes}

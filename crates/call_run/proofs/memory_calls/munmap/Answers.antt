@@ -1,14 +1,14 @@
 use Rattle.std.proofs.Common.{◌≡◌, ◌-◌, ◌+◌, ◌/◌, ◌∙◌, pos, refl, subst, w64}
 use Rattle.std.specs.Int.{cast_unsigned}
 use Rattle.std.proofs.lemmas.Int.{to_z-of_z}
-use Rattle.kabi_types.specs.Arguments.{count_of, page_size}
-use Rattle.kabi_types.specs.declared.calls.Call.TheVariants as call
-use Rattle.kabi_types.specs.declared.replies.Reply.TheVariants.{Val}
+use Rattle.kabi_calls.specs.Arguments.{count_of, page_size}
+use Rattle.kabi_calls.specs.declared.calls.Call.TheVariants as call
+use Rattle.kabi_values.specs.declared.replies.Reply.TheVariants.{Val}
 use Rattle.posix_defs.specs.Memory.{after_unmap, without_pages}
 use Rattle.posix_defs.specs.MemoryCalls.{remembered}
 use Rattle.posix_defs.specs.Needs.{pages_touched}
 use Rattle.posix_defs.specs.Process.{memory_of}
-use Rattle.posix_defs.proofs.Remembering.{alive_still}
+use Rattle.core_laws.proofs.Remembering.{alive_still}
 use Rattle.call_run.specs.Standing.{StandFor}
 use Rattle.call_run.proofs.Leading.{led_on}
 use Rattle.call_run.proofs.RightNumbers.{munmap_pages}

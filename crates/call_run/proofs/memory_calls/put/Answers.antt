@@ -1,10 +1,10 @@
-use Rattle.kabi_types.specs.declared.errnos.Errno.{Errno}
-use Rattle.kabi_types.specs.declared.errnos.Errno.TheVariants.{EFAULT}
+use Rattle.kabi_values.specs.declared.errnos.Errno.{Errno}
+use Rattle.kabi_values.specs.declared.errnos.Errno.TheVariants.{EFAULT}
 use Rattle.std.proofs.lemmas.List.{set-get_or}
 use Rattle.std.proofs.Common.{◌≡◌, ◌∙◌, ap, length, refl, subst, sym}
 use Rattle.std.specs.Prelude.{is_some, Option, None, Some, Bool, ℕ, List, Result, Ok, Err, if◌then◌else◌, slice_set}
-use Rattle.kheap_slabs.specs.declared.objects.Proc.{Proc}
-use Rattle.kheap_slabs.specs.Objects.{put}
+use Rattle.kheap_shelves.specs.declared.objects.Proc.{Proc}
+use Rattle.kheap_shelves.specs.Objects.{put}
 use Rattle.posix_defs.specs.Memory.{after_put, is_mapped_range, stored}
 use Rattle.posix_defs.specs.MemoryCalls.{remembered}
 use Rattle.page_space.specs.Accounts.{AccountMoves, IsAccounted}
@@ -16,8 +16,8 @@ use Rattle.proc_table.proofs.AccountLemmas.{accounted_of}
 use Rattle.proc_table.proofs.MemoryLemmas.{length-memory_at, memory_at-stands}
 use Rattle.proc_table.proofs.PlaceLemmas.{key_of-none, key_of-proc}
 use Rattle.proc_table.proofs.OwnLemmas.{has_it}
+use Rattle.kheap_shelves.specs.Objects.{object}
 use Rattle.kheap_slabs.specs.Heap.{Heap}
-use Rattle.kheap_slabs.specs.Objects.{object}
 use Rattle.proc_table.proofs.SpaceLemmas.{owned_proc}
 use Rattle.call_run.specs.Objects.{procs_of}
 use Rattle.call_run.specs.Standing.{StandFor}

@@ -1,9 +1,9 @@
-use Rattle.kabi_types.specs.declared.errnos.Errno.{Errno}
-use Rattle.kabi_types.specs.declared.errnos.Errno.TheVariants.{EFAULT}
+use Rattle.kabi_values.specs.declared.errnos.Errno.{Errno}
+use Rattle.kabi_values.specs.declared.errnos.Errno.TheVariants.{EFAULT}
 use Rattle.std.proofs.lemmas.List.{length-take-le}
 use Rattle.std.proofs.Common.{◌≡◌, ◌∙◌, ap, subst, sym}
 use Rattle.std.specs.Prelude.{is_some, Option, None, Some, Bool, ℕ, List, Result, Ok, Err, if◌then◌else◌}
-use Rattle.kheap_slabs.specs.declared.objects.Proc.{Proc}
+use Rattle.kheap_shelves.specs.declared.objects.Proc.{Proc}
 use Rattle.posix_defs.specs.Memory.{Memory, is_mapped_range, loaded}
 use Rattle.page_space.specs.Contents.{IsOwnedWith, StandsFor}
 use Rattle.proc_table.specs.Procs.{memory_at}

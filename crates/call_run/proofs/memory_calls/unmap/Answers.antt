@@ -1,9 +1,9 @@
 use Rattle.std.proofs.Common.{◌≡◌, ◌+◌, ◌≤◌, ◌∙◌, arith, ap, length, refl, subst, sym}
 use Rattle.std.specs.Prelude.{is_some, Option, None, Some}
-use Rattle.kheap_slabs.specs.declared.objects.Proc.{Proc}
+use Rattle.kheap_shelves.specs.declared.objects.Proc.{Proc}
+use Rattle.kheap_shelves.specs.Objects.{object, put}
 use Rattle.kheap_slabs.specs.Heap.{Heap}
-use Rattle.kheap_slabs.specs.Objects.{object, put}
-use Rattle.kheap_slabs.proofs.PaidLemmas.{TakesNothing-trans}
+use Rattle.kheap_laws.proofs.PaidLemmas.{TakesNothing-trans}
 use Rattle.posix_defs.specs.Memory.{after_unmap, without_pages}
 use Rattle.posix_defs.specs.MemoryCalls.{remembered}
 use Rattle.page_space.specs.Accounts.{AccountMoves, IsAccounted}

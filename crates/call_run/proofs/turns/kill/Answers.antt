@@ -1,6 +1,6 @@
 use Rattle.std.proofs.Common.{◌≡◌, ◌≤◌, ◌∙◌, true, false, ap, sym, subst, arith}
 use Rattle.kheap_slabs.specs.Heap.{live_bytes}
-use Rattle.kheap_slabs.proofs.PaidLemmas.{TakesNothing-bytes}
+use Rattle.kheap_laws.proofs.PaidLemmas.{TakesNothing-bytes}
 use Rattle.call_run.specs.declared.objects.Objects.{Objects}
 use Rattle.call_run.specs.Objects.{AreKept, procs_of}
 use Rattle.call_run.specs.Standing.{StandsFor}

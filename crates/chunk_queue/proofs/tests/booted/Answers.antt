@@ -1,7 +1,7 @@
 use Rattle.std.proofs.Common.{[], sym, subst}
 use Rattle.kheap_slabs.specs.Heap.{Heap}
 use Rattle.kheap_slabs.specs.Owners.{IsOwned}
-use Rattle.kheap_slabs.proofs.OwnerLemmas.{empty_heap-owned, IsOwned-queue_joins}
+use Rattle.kheap_laws.proofs.OwnerLemmas.{empty_heap-owned, IsOwned-queue_joins}
 use Rattle.chunk_queue.proofs.tests.booted.Goals as goal
 
 pub returns : goal.returns

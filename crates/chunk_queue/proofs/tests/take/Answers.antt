@@ -1,5 +1,5 @@
 use Rattle.std.proofs.Common.{refl}
-use Rattle.kheap_slabs.proofs.PaidLemmas.{CanPay-kept, IsPaid-nothing}
+use Rattle.kheap_laws.proofs.PaidLemmas.{CanPay-kept, IsPaid-nothing}
 use Rattle.chunk_queue.proofs.tests.take.Goals as goal
 
 pub returns-clause-pays : goal.returns-clause-pays

@@ -1,5 +1,5 @@
 use Rattle.std.proofs.Common.{◌≡◌, ◌∙◌, arith}
-use Rattle.posix_defs.proofs.DiskSpelling.{same_4}
+use Rattle.disk_laws.proofs.DiskSpelling.{same_4}
 use Rattle.disk_layout.proofs.EntryBytes.{entry_found, entry_fields, same_answer}
 use Rattle.disk_layout.proofs.entries.entry_of.Goals as goal
 

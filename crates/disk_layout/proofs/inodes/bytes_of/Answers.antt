@@ -2,7 +2,7 @@ use Rattle.std.proofs.Common.{◌≡◌, ℕ, List, [], ◌∷◌, ◌++◌, len
 use Rattle.std.proofs.lemmas.List.{length-append}
 use Rattle.std.specs.Int.{w16, w32, to_be_bytes}
 use Rattle.posix_defs.specs.DiskFormat.{inode_bytes}
-use Rattle.posix_defs.proofs.DiskSpelling.{words, length-words}
+use Rattle.disk_laws.proofs.DiskSpelling.{words, length-words}
 use Rattle.disk_layout.proofs.WordBytes.{put_on}
 use Rattle.disk_layout.proofs.inodes.bytes_of.Goals as goal
 

@@ -1,9 +1,9 @@
 use Rattle.std.proofs.Common.{rules, ◌≡◌, Ok, Err, sym, subst, ◌∙◌}
-use Rattle.kabi_types.specs.declared.inodes.Inode.{Inode}
+use Rattle.kabi_values.specs.declared.inodes.Inode.{Inode}
 use Rattle.posix_defs.specs.DiskFormat.{IsOfKind, IsInode, inode_bytes}
 use Rattle.disk_layout.specs.Faults.{IsFault}
 use Rattle.disk_layout.specs.declared.faults.BadInode.TheVariants.{BadKind, BadPointer}
-use Rattle.posix_defs.proofs.DiskSpelling.{same_inode}
+use Rattle.disk_laws.proofs.DiskSpelling.{same_inode}
 use Rattle.disk_layout.proofs.InodeBytes.{no_other}
 use Rattle.disk_layout.proofs.inodes.inode_of.Goals as goal
 

@@ -1,6 +1,6 @@
 use Rattle.std.proofs.Common.{ap, sym, ◌∙◌, arith, ◌*◌}
 use Rattle.std.proofs.lemmas.List.{take_all, length-set}
-use Rattle.posix_defs.proofs.DiskSpelling.{words}
+use Rattle.disk_laws.proofs.DiskSpelling.{words}
 use Rattle.disk_layout.proofs.WordBytes.{more_read}
 use Rattle.disk_layout.proofs.inodes.pointers_of.Goals as goal
 

@@ -1,5 +1,5 @@
 use Rattle.std.proofs.Common.{◌≡◌, ◌*◌, take, length}
-use Rattle.posix_defs.proofs.DiskSpelling.{words}
+use Rattle.disk_laws.proofs.DiskSpelling.{words}
 use Rattle.disk_layout.proofs.inodes.pointers_of.Given as goal
 
 abbrev pub invariant-loop-k : goal.invariant-loop-k

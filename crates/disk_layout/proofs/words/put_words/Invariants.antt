@@ -1,5 +1,5 @@
 use Rattle.std.proofs.Common.{◌≡◌, ◌+◌, ◌*◌, ◌++◌, take, drop}
-use Rattle.posix_defs.proofs.DiskSpelling.{words}
+use Rattle.disk_laws.proofs.DiskSpelling.{words}
 use Rattle.disk_layout.proofs.words.put_words.Given as goal
 
 abbrev pub invariant-loop-k : goal.invariant-loop-k

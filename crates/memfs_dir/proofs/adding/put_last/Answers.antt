@@ -2,7 +2,7 @@ use Rattle.std.proofs.Common.{◌≡◌, ℕ, ◌*◌, ◌/◌, ◌%◌, ◌<◌
 use Rattle.posix_defs.specs.SoundDisk.{block_bytes}
 use Rattle.posix_defs.specs.DiskContents.{data_block}
 use Rattle.posix_defs.specs.NodeChange.{WritesBlock}
-use Rattle.posix_defs.proofs.BlockWritten.{block_written}
+use Rattle.disk_laws.proofs.BlockWritten.{block_written}
 use Rattle.memfs_dir.proofs.DirectoryBytes.{block_got}
 use Rattle.memfs_dir.proofs.Written.{map_stays, puts, byte_of}
 use Rattle.memfs_dir.proofs.adding.put_last.Goals.{then-slot-eq0, else-slot-eq0}

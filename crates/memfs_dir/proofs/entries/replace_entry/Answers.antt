@@ -1,11 +1,11 @@
 use Rattle.std.proofs.Common.{◌≡◌, ℕ, ◌+◌, ◌*◌, ◌/◌, ◌%◌, ◌<◌, ◌≤◌, ◌⊎◌, inl, inr, List, Some, length, get_or, set, sym, ap, subst, ◌∙◌, arith}
 use Rattle.std.proofs.lemmas.Option.{slice_get-get_or}
-use Rattle.kabi_types.specs.declared.inodes.DirEntry.{DirEntry}
+use Rattle.kabi_values.specs.declared.inodes.DirEntry.{DirEntry}
 use Rattle.posix_defs.specs.SoundDisk.{block_bytes}
 use Rattle.posix_defs.specs.DiskContents.{data_block}
 use Rattle.posix_defs.specs.NodeChange.{WritesBlock}
 use Rattle.posix_defs.specs.TreeChanges.{no_entry}
-use Rattle.posix_defs.proofs.BlockWritten.{block_written}
+use Rattle.disk_laws.proofs.BlockWritten.{block_written}
 use Rattle.memfs_dir.proofs.SlotBytes.{one_entry}
 use Rattle.memfs_dir.proofs.DirectoryBytes.{block_got, spelled, place_within}
 use Rattle.memfs_dir.proofs.Written.{map_stays, puts, byte_of}

@@ -1,7 +1,7 @@
 use Rattle.std.proofs.Common.{◌≡◌, ℕ, ◌-◌, ◌<◌, ◌≤◌, List, length, get_or, sym, ap, subst, ◌∙◌, arith}
 use Rattle.posix_defs.specs.SoundDisk.{Data, pointer_at}
 use Rattle.posix_defs.specs.DiskContents.{data_block}
-use Rattle.posix_defs.proofs.FreeBlocks.{named_is_for_files, behind_at}
+use Rattle.disk_laws.proofs.FreeBlocks.{named_is_for_files, behind_at}
 use Rattle.blk_map.proofs.Blocks.{got}
 use Rattle.memfs_dir.proofs.finding.block_in_turn.Goals.{then-index-eq-DIRECT_POINTERS, else-index-eq-DIRECT_POINTERS}
 use Rattle.memfs_dir.proofs.finding.block_in_turn.Goals as goal

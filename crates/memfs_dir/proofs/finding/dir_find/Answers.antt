@@ -1,7 +1,7 @@
 use Rattle.std.proofs.Common.{◌≡◌, ℕ, suc, ◌+◌, ◌*◌, ◌/◌, ◌<◌, List, length, refl, sym, ap, ◌∙◌, arith}
 use Rattle.posix_defs.specs.SoundDisk.{block_bytes, pointer_at}
 use Rattle.posix_defs.specs.DiskContents.{data_block}
-use Rattle.posix_defs.proofs.DirectoryEntries.{size_of_entries}
+use Rattle.disk_laws.proofs.DirectoryEntries.{size_of_entries}
 use Rattle.memfs_dir.proofs.DirectoryBytes.{block_got}
 use Rattle.memfs_dir.proofs.Found.{none_called, found_in, missing_on, asked_further}
 use Rattle.memfs_dir.proofs.finding.dir_find.Goals as goal

@@ -1,6 +1,6 @@
 use Rattle.std.proofs.Common.{◌≡◌, ℕ, ◌<◌, List, Some, length, get_or, slice_get, sym, ap, subst, ◌∙◌}
 use Rattle.std.proofs.lemmas.Option.{same_Some, slice_get-get_or}
-use Rattle.kabi_types.specs.declared.inodes.DirEntry.{DirEntry}
+use Rattle.kabi_values.specs.declared.inodes.DirEntry.{DirEntry}
 use Rattle.posix_defs.specs.SoundDisk.{HasNode}
 use Rattle.posix_defs.specs.DiskContents.{HasEntries}
 use Rattle.posix_defs.specs.TreeChanges.{no_entry}

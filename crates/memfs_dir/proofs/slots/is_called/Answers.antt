@@ -2,7 +2,7 @@ use Rattle.std.proofs.Common.{◌≡◌, List, ℕ, sym, ap, ◌∙◌}
 use Rattle.std.specs.Str.{bytes_eq}
 use Rattle.std.proofs.lemmas.Bool.{false≢true}
 use Rattle.std.proofs.lemmas.Slice.Eq.{bytes_eq-Decides}
-use Rattle.kabi_types.specs.declared.inodes.DirEntry.{DirEntry}
+use Rattle.kabi_values.specs.declared.inodes.DirEntry.{DirEntry}
 use Rattle.memfs_dir.specs.Slots.{Spells}
 use Rattle.memfs_dir.proofs.SlotBytes.{piece_of, spells_piece, one_entry}
 use Rattle.memfs_dir.proofs.slots.is_called.Goals as goal

@@ -1,6 +1,6 @@
 use Rattle.std.proofs.Common.{◌≡◌, ℕ, List, ◌-◌, ◌+◌, ◌*◌, inl, inr, length, get_or, ap, ◌∙◌, arith}
 use Rattle.posix_defs.specs.DiskFormat.{entry_bytes}
-use Rattle.posix_defs.proofs.DiskSpelling.{length-entry_bytes}
+use Rattle.disk_laws.proofs.DiskSpelling.{length-entry_bytes}
 use Rattle.memfs_dir.proofs.SlotBytes.{put_here, put_elsewhere}
 use Rattle.memfs_dir.proofs.slots.put_entry.Goals as goal
 

@@ -2,7 +2,7 @@ use Rattle.std.proofs.Common.{rules, ◌≡◌, ◌≢◌, ℕ, ◌<◌, List, l
 use Rattle.std.proofs.lemmas.List.{length-set, get_or-set_other}
 use Rattle.posix_defs.specs.DiskFormat.{IsInode, inode_bytes}
 use Rattle.posix_defs.specs.SoundDisk.{block_bytes, slot_bytes, table_bytes, HasInode}
-use Rattle.posix_defs.proofs.OneNode.{changes_node, this_has}
+use Rattle.disk_laws.proofs.OneNode.{changes_node, this_has}
 use Rattle.blk_map.proofs.Blocks.{got, slot_put, slots_stay}
 use Rattle.blk_map.proofs.NewFile.{empty_file, in_slot, replaces}
 use Rattle.memfs_dir.proofs.tests.make_file.Goals as goal

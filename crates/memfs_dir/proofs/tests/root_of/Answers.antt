@@ -1,9 +1,9 @@
 use Rattle.std.proofs.Common.{◌≡◌, ℕ, List, length, sym, ap, subst, ◌∙◌, arith}
-use Rattle.kabi_types.specs.declared.inodes.Inode.{Inode}
+use Rattle.kabi_values.specs.declared.inodes.Inode.{Inode}
 use Rattle.posix_defs.specs.DiskFormat.{IsInode}
 use Rattle.posix_defs.specs.SoundDisk.{HasInode}
 use Rattle.posix_defs.specs.DiskContents.{HasEntries}
-use Rattle.posix_defs.proofs.FormattedDisk.{one_inode}
+use Rattle.disk_laws.proofs.FormattedDisk.{one_inode}
 use Rattle.blk_map.proofs.Blocks.{got}
 use Rattle.blk_map.proofs.NewFile.{in_slot}
 use Rattle.memfs_dir.specs.Listed.{HasDirectory}

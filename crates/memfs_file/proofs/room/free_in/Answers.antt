@@ -2,7 +2,7 @@ use Rattle.std.proofs.Common.{◌≡◌, ◌≢◌, ℕ, ◌+◌, Bool, not, eqb
 use Rattle.std.specs.Prelude.{IsTrue}
 use Rattle.std.proofs.lemmas.Bool.{eq-eqb, ne_eqb}
 use Rattle.posix_defs.specs.SoundDisk.{bit_of}
-use Rattle.posix_defs.proofs.FreeBlocks.{one}
+use Rattle.disk_laws.proofs.FreeBlocks.{one}
 use Rattle.blk_map.specs.Found.{free_below}
 use Rattle.blk_map.proofs.Finding.{free_end}
 use Rattle.memfs_file.proofs.room.free_in.Goals as goal

@@ -3,7 +3,7 @@ use Rattle.posix_defs.specs.DiskFormat.{blocks_of}
 use Rattle.posix_defs.specs.SoundDisk.{free_in_map}
 use Rattle.posix_defs.specs.FileBytes.{capacity}
 use Rattle.posix_defs.specs.NodeChange.{Grows}
-use Rattle.posix_defs.proofs.FileRoom.{capacity_fits, fits_capacity}
+use Rattle.tree_laws.proofs.FileRoom.{capacity_fits, fits_capacity}
 use Rattle.memfs_file.specs.FileChange.{blocks_for}
 use Rattle.memfs_file.proofs.room.grow_to_most.Goals as goal
 

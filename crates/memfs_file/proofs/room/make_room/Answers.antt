@@ -1,7 +1,7 @@
 use Rattle.std.proofs.Common.{◌≡◌, ℕ, ◌<◌, List, subst}
 use Rattle.std.specs.Prelude.{IfOk, IfErr}
-use Rattle.kabi_types.specs.declared.errnos.Errno.TheVariants.{ENOSPC}
-use Rattle.kabi_types.specs.declared.inodes.Inode.{Inode}
+use Rattle.kabi_values.specs.declared.errnos.Errno.TheVariants.{ENOSPC}
+use Rattle.kabi_values.specs.declared.inodes.Inode.{Inode}
 use Rattle.posix_defs.specs.FileBytes.{fitting}
 use Rattle.memfs_file.specs.FileChange.{blocks_for}
 use Rattle.memfs_file.proofs.room.make_room.Goals as goal

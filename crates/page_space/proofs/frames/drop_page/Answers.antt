@@ -1,6 +1,6 @@
 use Rattle.std.proofs.Common.{◌-◌, sym, ap, subst, refl, arith}
 use Rattle.kheap_slabs.specs.Spaces.{CountFalls}
-use Rattle.kheap_slabs.proofs.SpaceLemmas.{CountFalls-set, KeepsBytes-count}
+use Rattle.kheap_laws.proofs.SpaceLemmas.{CountFalls-set, KeepsBytes-count}
 use Rattle.page_space.specs.Frames.{FramesStay}
 use Rattle.page_space.proofs.FrameLemmas.{kept_pages, FramesStay-all, count_known}
 use Rattle.page_space.proofs.frames.drop_page.Goals as goal

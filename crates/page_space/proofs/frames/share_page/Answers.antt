@@ -1,6 +1,6 @@
 use Rattle.std.proofs.Common.{◌+◌, sym, ap, subst, refl}
 use Rattle.kheap_slabs.specs.Spaces.{CountRises}
-use Rattle.kheap_slabs.proofs.SpaceLemmas.{CountRises-set, KeepsBytes-count}
+use Rattle.kheap_laws.proofs.SpaceLemmas.{CountRises-set, KeepsBytes-count}
 use Rattle.page_space.specs.Frames.{FramesStay}
 use Rattle.page_space.proofs.FrameLemmas.{kept_pages, FramesStay-all}
 use Rattle.page_space.proofs.frames.share_page.Goals as goal

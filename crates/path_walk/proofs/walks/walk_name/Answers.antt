@@ -1,5 +1,5 @@
 use Rattle.std.proofs.Common.{sym, ◌∙◌}
-use Rattle.posix_defs.proofs.TreeFacts.{found_in_use}
+use Rattle.tree_laws.proofs.TreeFacts.{found_in_use}
 use Rattle.path_walk.proofs.walks.walk_name.Goals as goal
 
 pub is_dir-requires : goal.is_dir-requires

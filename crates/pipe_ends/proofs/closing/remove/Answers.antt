@@ -1,6 +1,6 @@
 use Rattle.std.proofs.Common.{List, [], ap, ◌∙◌, arith}
-use Rattle.kabi_types.specs.declared.classes.Class.TheVariants as class
-use Rattle.kheap_slabs.proofs.PaidLemmas.{TakesNothing-trans, TakesNothing-freed}
+use Rattle.kabi_values.specs.declared.classes.Class.TheVariants as class
+use Rattle.kheap_laws.proofs.PaidLemmas.{TakesNothing-trans, TakesNothing-freed}
 use Rattle.posix_defs.specs.QueuePlace.{QueuePlace}
 use Rattle.chunk_queue.specs.Chained.{place_of}
 use Rattle.chunk_queue.specs.Held.{PipeGoes}

@@ -1,5 +1,5 @@
 use Rattle.std.proofs.Common.{refl}
-use Rattle.kheap_slabs.proofs.TableLemmas.{OwnsItsObjects-pipe_comes}
+use Rattle.kheap_laws.proofs.TableLemmas.{OwnsItsObjects-pipe_comes}
 use Rattle.pipe_ends.proofs.making.pipe_make.Goals as goal
 
 pub returns-clause-owned : goal.returns-clause-owned

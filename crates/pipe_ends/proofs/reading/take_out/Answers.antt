@@ -1,5 +1,5 @@
 use Rattle.std.proofs.Common.{drop, ap, ◌∙◌}
-use Rattle.kheap_slabs.proofs.PaidLemmas.{TakesNothing-trans}
+use Rattle.kheap_laws.proofs.PaidLemmas.{TakesNothing-trans}
 use Rattle.posix_defs.specs.QueuePlace.{after_take}
 use Rattle.chunk_queue.specs.Chained.{place_of}
 use Rattle.chunk_queue.proofs.HeldLemmas.{pipe_queue_in}

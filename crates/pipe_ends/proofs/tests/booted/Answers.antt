@@ -1,7 +1,7 @@
 use Rattle.std.proofs.Common.{sym, subst}
 use Rattle.kheap_slabs.specs.Heap.{Heap}
 use Rattle.kheap_slabs.specs.Owners.{OwnsItsObjects}
-use Rattle.kheap_slabs.proofs.OwnerLemmas.{empty_heap-owned}
+use Rattle.kheap_laws.proofs.OwnerLemmas.{empty_heap-owned}
 use Rattle.pipe_ends.proofs.tests.booted.Goals as goal
 
 pub returns : goal.returns

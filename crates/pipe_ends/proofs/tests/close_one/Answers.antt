@@ -1,5 +1,5 @@
 use Rattle.std.proofs.Common.{refl, arith}
-use Rattle.kheap_slabs.proofs.PaidLemmas.{CanPay-kept, IsPaid-nothing}
+use Rattle.kheap_laws.proofs.PaidLemmas.{CanPay-kept, IsPaid-nothing}
 use Rattle.pipe_ends.proofs.StandingLemmas.{closed_stays}
 use Rattle.pipe_ends.proofs.tests.close_one.Goals as goal
 

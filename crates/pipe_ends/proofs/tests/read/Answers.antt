@@ -1,5 +1,5 @@
 use Rattle.std.proofs.Common.{refl}
-use Rattle.kheap_slabs.proofs.PaidLemmas.{CanPay-kept, IsPaid-nothing}
+use Rattle.kheap_laws.proofs.PaidLemmas.{CanPay-kept, IsPaid-nothing}
 use Rattle.pipe_ends.proofs.tests.read.Goals as goal
 
 pub returns-clause-pays : goal.returns-clause-pays

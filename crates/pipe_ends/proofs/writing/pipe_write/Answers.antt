@@ -1,6 +1,6 @@
 use Rattle.std.proofs.Common.{◌≡◌, ℕ, ◌≤◌, ◌++◌, length, take, arith}
 use Rattle.std.proofs.lemmas.List.{length-take-le}
-use Rattle.kheap_slabs.proofs.PaidLemmas.{CanPay-kept}
+use Rattle.kheap_laws.proofs.PaidLemmas.{CanPay-kept}
 use Rattle.posix_defs.specs.Pipe.{Pipe, after_write}
 use Rattle.posix_defs.specs.QueuePlace.{after_put}
 use Rattle.chunk_queue.specs.Chained.{place_of}

@@ -1,5 +1,5 @@
 use Rattle.std.proofs.Common.{◌++◌, length, ap, ◌∙◌, refl}
-use Rattle.kheap_slabs.proofs.PaidLemmas.{IsPaid-trans, IsPaid-nothing}
+use Rattle.kheap_laws.proofs.PaidLemmas.{IsPaid-trans, IsPaid-nothing}
 use Rattle.posix_defs.specs.QueuePlace.{after_put}
 use Rattle.chunk_queue.specs.Chained.{place_of}
 use Rattle.chunk_queue.proofs.HeldLemmas.{pipe_queue_in}

@@ -1,6 +1,6 @@
 use Rattle.std.proofs.Common.{subst, sym}
 use Rattle.kheap_slabs.specs.Owners.{IsOwned}
-use Rattle.kheap_slabs.proofs.OwnerLemmas.{empty_heap-owned}
+use Rattle.kheap_laws.proofs.OwnerLemmas.{empty_heap-owned}
 use Rattle.proc_table.proofs.tests.booted.Goals as goal
 
 pub returns : goal.returns

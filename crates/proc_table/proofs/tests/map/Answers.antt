@@ -1,6 +1,6 @@
 use Rattle.std.proofs.Common.{ap, is_some, subst, sym, ◌∙◌}
+use Rattle.kheap_shelves.specs.Objects.{object}
 use Rattle.kheap_slabs.specs.Heap.{Heap}
-use Rattle.kheap_slabs.specs.Objects.{object}
 use Rattle.page_space.specs.Contents.{IsOwnedWith, SpaceMoves}
 use Rattle.proc_table.proofs.ClearLemmas.{alive_at}
 use Rattle.proc_table.proofs.LawLemmas.{back-moves}

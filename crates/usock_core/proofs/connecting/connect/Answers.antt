@@ -1,5 +1,5 @@
 use Rattle.std.proofs.Common.{refl, arith}
-use Rattle.kheap_slabs.proofs.PaidLemmas.{IsPaid-trans, IsPaid-nothing, CanPay-kept}
+use Rattle.kheap_laws.proofs.PaidLemmas.{IsPaid-trans, IsPaid-nothing, CanPay-kept}
 use Rattle.usock_core.proofs.ConnectLemmas.{listener_used, listens_still, room_at, in_words, taken_at, backlog_of, idle_now, connected_stands}
 use Rattle.posix_defs.specs.Sockets.{Sockets, after_connect}
 use Rattle.usock_core.specs.Standing.{StandsFor}

@@ -1,5 +1,5 @@
 use Rattle.std.proofs.Common.{refl}
-use Rattle.kheap_slabs.proofs.PaidLemmas.{CanPay-kept}
+use Rattle.kheap_laws.proofs.PaidLemmas.{CanPay-kept}
 use Rattle.usock_core.proofs.CallLemmas.{nothing_table}
 use Rattle.usock_core.proofs.writing.write_to.Goals as goal
 

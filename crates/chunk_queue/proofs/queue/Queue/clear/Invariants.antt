@@ -1,5 +1,5 @@
 use Rattle.std.proofs.Common.{◌-◌, ◌≤◌, drop}
-use Rattle.kheap_slabs.specs.Purse.{TakesNothing}
+use Rattle.kheap_slabs.specs.Paid.{TakesNothing}
 use Rattle.chunk_queue.specs.Chained.{IsQueueIn, Turns, OnlyChunks}
 use Rattle.chunk_queue.proofs.queue.Queue.clear.Given as goal
 

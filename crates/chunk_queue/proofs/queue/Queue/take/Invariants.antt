@@ -1,5 +1,5 @@
 use Rattle.std.proofs.Common.{◌≡◌, ◌+◌, ◌-◌, ◌≤◌, drop}
-use Rattle.kheap_slabs.specs.Purse.{TakesNothing}
+use Rattle.kheap_slabs.specs.Paid.{TakesNothing}
 use Rattle.posix_defs.specs.QueuePlace.{after_take}
 use Rattle.chunk_queue.specs.Chained.{place_of, IsQueueIn, Turns, OnlyChunks, TakesOut}
 use Rattle.chunk_queue.proofs.queue.Queue.take.Given as goal

@@ -2,8 +2,8 @@ use Rattle.std.proofs.Common.{◌≡◌, ap, refl, ◌∙◌, sym, arith, ◌+�
 use Rattle.std.proofs.lemmas.List.{ext_get_or}
 use Rattle.posix_defs.specs.DiskFormat.{inode_bytes}
 use Rattle.posix_defs.specs.DiskContents.{zeros, new_root}
-use Rattle.posix_defs.proofs.FormattedDisk.{new_is_sound, new_root_is_empty}
-use Rattle.posix_defs.proofs.DiskStands.{formatted_stands}
+use Rattle.disk_laws.proofs.FormattedDisk.{new_is_sound, new_root_is_empty}
+use Rattle.disk_laws.proofs.DiskStands.{formatted_stands}
 use Rattle.disk_layout.proofs.NewDisk.{is_formatted, length-new_root, length-zeros}
 use Rattle.disk_layout.proofs.disks.RamDisk.boot.Goals as goal
 

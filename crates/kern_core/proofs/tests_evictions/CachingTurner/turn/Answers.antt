@@ -1,6 +1,6 @@
 use Rattle.std.proofs.Common.{◌≡◌, ◌+◌, ◌*◌, ◌≤◌, true, refl, sym, subst, ap, ◌∙◌}
-use Rattle.kabi_types.specs.declared.errnos.Errno.TheVariants.{EINVAL}
-use Rattle.kabi_types.specs.declared.replies.Reply.TheVariants.{Fail}
+use Rattle.kabi_values.specs.declared.errnos.Errno.TheVariants.{EINVAL}
+use Rattle.kabi_values.specs.declared.replies.Reply.TheVariants.{Fail}
 use Rattle.posix_defs.specs.declared.turner.Turned.TheVariants.{Done}
 use Rattle.posix_defs.specs.Needs.{bound, slack}
 use Rattle.posix_defs.specs.Process.{is_alive}

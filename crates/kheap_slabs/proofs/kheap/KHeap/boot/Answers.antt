@@ -1,4 +1,4 @@
-use Rattle.kheap_slabs.proofs.MeterLemmas.{IsMetered-boot}
+use Rattle.kheap_slabs.proofs.MeterLemmas.{IsMetered-boot, none_live}
 use Rattle.kheap_slabs.proofs.kheap.KHeap.boot.Goals as goal
 
 pub invariant_of-result : goal.invariant_of-result
@@ -7,3 +7,10 @@ invariant_of-result c =
     let files = c.in_ok-files.ensures in
     let queues = c.in_ok-queues.ensures in
     rw (memory.procs, memory.nodes, memory.pages, files.descs, files.vnodes, files.names, files.blocks, queues.pipes, queues.chunks, queues.socks) (IsMetered-boot c.args.heap c.requires.most)
+
+pub returns-clause-live : goal.returns-clause-live
+returns-clause-live c =
+    let memory = c.in_ok-memory.ensures in
+    let files = c.in_ok-files.ensures in
+    let queues = c.in_ok-queues.ensures in
+    rw (memory.procs, memory.nodes, memory.pages, files.descs, files.vnodes, files.names, files.blocks, queues.pipes, queues.chunks, queues.socks) (none_live c.args.heap)

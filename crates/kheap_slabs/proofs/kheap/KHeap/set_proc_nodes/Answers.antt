@@ -1,11 +1,11 @@
 use Rattle.std.proofs.Common.{ap}
+use Rattle.kheap_shelves.specs.Objects.{InUse}
 use Rattle.kheap_slabs.specs.Heap.{Heap}
-use Rattle.kheap_slabs.specs.Objects.{InUse}
-use Rattle.kheap_slabs.proofs.ObjectLemmas.{object_of, InUse-put}
+use Rattle.kheap_shelves.proofs.ObjectLemmas.{object_of, InUse-put}
 use Rattle.kheap_slabs.proofs.kheap.KHeap.set_proc_nodes.Goals as goal
 
 pub returns-clause-stays : goal.returns-clause-stays
 returns-clause-stays c =
-    let used : InUse c.self.inside.procs c.args.key = rw (ap (λ (h : Heap). h.procs) c.self.view_is) c.requires in
-    let there = object_of c.self.inside.procs c.args.key used in
-    rw (c.set_nodes.ensures.kept there.0 there.1) (InUse-put c.self.inside.procs c.args.key (record there.0 { nodes = c.args.nodes }) c.args.key used used)
+    let used : InUse c.self.inside.memory.procs c.args.key = rw (ap (λ (h : Heap). h.procs) c.self.view_is) c.requires in
+    let there = object_of c.self.inside.memory.procs c.args.key used in
+    rw (c.set_nodes.ensures.kept there.0 there.1) (InUse-put c.self.inside.memory.procs c.args.key (record there.0 { nodes = c.args.nodes }) c.args.key used used)

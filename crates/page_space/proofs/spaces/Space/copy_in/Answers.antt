@@ -1,7 +1,7 @@
 use Rattle.std.proofs.Common.{◌+◌, ◌-◌, ◌/◌, List, ℕ, length, refl, ◌∙◌, subst, arith}
 use Rattle.std.proofs.lemmas.List.{take_all, take_rest}
 use borrow.Rule.Slice.PartMut.{mid_of}
-use Rattle.kheap_slabs.proofs.PaidLemmas.{CanPay-kept}
+use Rattle.kheap_laws.proofs.PaidLemmas.{CanPay-kept}
 use Rattle.page_space.specs.Putting.{Puts}
 use Rattle.page_space.proofs.PutLemmas.{IsPutting-none, IsPutting-more}
 use Rattle.page_space.proofs.spaces.Space.copy_in.Goals as goal

@@ -1,9 +1,9 @@
 use Rattle.std.proofs.Common.{◌≡◌, ◌/◌, ℕ, None, replicate, refl, sym, ap, ◌∙◌, subst, arith}
 use Rattle.kheap_slabs.specs.Owners.{with_space}
 use Rattle.kheap_slabs.specs.Spaces.{is_mapped, OwnsNodes}
-use Rattle.kheap_slabs.proofs.OwnerLemmas.{IsOwned-space}
-use Rattle.kheap_slabs.proofs.PaidLemmas.{CanPay-kept, IsPaid-nothing}
-use Rattle.kheap_slabs.proofs.SpaceLemmas.{IsCounted-most}
+use Rattle.kheap_laws.proofs.OwnerLemmas.{IsOwned-space}
+use Rattle.kheap_laws.proofs.PaidLemmas.{CanPay-kept, IsPaid-nothing}
+use Rattle.kheap_laws.proofs.SpaceLemmas.{IsCounted-most}
 use Rattle.page_space.proofs.ForkAccount.{AccountForksTo, AccountForks-all}
 use Rattle.page_space.proofs.ForkLemmas.{IsForking-none, IsOwned-second_to_front, IsForking-more, IsForking-skip, OwnsNodes-second, none_there, fork_left}
 use Rattle.page_space.proofs.MoveLemmas.{IsNamed-entry}

@@ -1,6 +1,6 @@
 use Rattle.std.proofs.Common.{refl, sym, ap, subst}
 use Rattle.kheap_slabs.specs.Spaces.{OwnsNodes}
-use Rattle.kheap_slabs.proofs.OwnerLemmas.{IsOwned-space}
+use Rattle.kheap_laws.proofs.OwnerLemmas.{IsOwned-space}
 use Rattle.page_space.proofs.OwnLemmas.{fresh-moves, fresh-stays, fresh-own, fresh-account}
 use Rattle.page_space.proofs.spaces.Space.give_frame.Goals as goal
 

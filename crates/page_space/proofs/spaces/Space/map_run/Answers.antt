@@ -1,6 +1,6 @@
 use Rattle.std.proofs.Common.{◌≡◌, ℕ, subst, arith}
-use Rattle.kheap_slabs.proofs.OwnerLemmas.{IsOwned-space}
-use Rattle.kheap_slabs.proofs.PaidLemmas.{CanPay-kept}
+use Rattle.kheap_laws.proofs.OwnerLemmas.{IsOwned-space}
+use Rattle.kheap_laws.proofs.PaidLemmas.{CanPay-kept}
 use Rattle.page_space.specs.Contents.{IsFilled}
 use Rattle.page_space.proofs.MapLemmas.{IsFilling-none, IsFilling-more, node_left}
 use Rattle.page_space.proofs.spaces.Space.map_run.Goals as goal

@@ -1,6 +1,6 @@
 use Rattle.std.proofs.Common.{◌≡◌, ◌≤◌, min, arith}
 use Rattle.std.proofs.Math.Nat.{min-le_left, min-le_right, le-min}
-use Rattle.kheap_slabs.proofs.OwnerLemmas.{IsOwned-space}
+use Rattle.kheap_laws.proofs.OwnerLemmas.{IsOwned-space}
 use Rattle.page_space.proofs.ClearLemmas.{IsCleared-none, IsCleared-more, IsCleared-skip}
 use Rattle.page_space.proofs.spaces.Space.unmap_run.Goals as goal
 

@@ -1,7 +1,7 @@
 use Rattle.std.proofs.Common.{sym, ap, ◌∙◌, subst}
 use Rattle.kheap_slabs.specs.Owners.{IsOwned, with_space}
 use Rattle.kheap_slabs.specs.Spaces.{keys_in}
-use Rattle.kheap_slabs.proofs.OwnerLemmas.{IsOwned-space_joins}
+use Rattle.kheap_laws.proofs.OwnerLemmas.{IsOwned-space_joins}
 use Rattle.page_space.proofs.tests.sharing.end.Goals as goal
 
 pub returns : goal.returns

@@ -1,6 +1,6 @@
 use Rattle.std.proofs.Common.{List, [], ◌∷◌, ℕ, Option, refl, sym, subst}
 use Rattle.kheap_slabs.specs.Owners.{IsOwned, with_space}
-use Rattle.kheap_slabs.proofs.OwnerLemmas.{IsOwned-space_to_front}
+use Rattle.kheap_laws.proofs.OwnerLemmas.{IsOwned-space_to_front}
 use Rattle.page_space.proofs.ForkLemmas.{IsOwned-second_to_front}
 use Rattle.page_space.proofs.tests.sharing.take_step.Goals as goal
 

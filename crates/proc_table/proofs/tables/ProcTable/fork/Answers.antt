@@ -1,6 +1,6 @@
 use Rattle.std.proofs.Common.{ℕ, ap, subst, sym, ◌∙◌}
 use Rattle.page_space.specs.Contents.{IsOwnedWith}
-use Rattle.kheap_slabs.proofs.PaidLemmas.{CanPay-kept}
+use Rattle.kheap_laws.proofs.PaidLemmas.{CanPay-kept}
 use Rattle.proc_table.specs.Moves.{IsForked}
 use Rattle.proc_table.specs.Table.{TableView}
 use Rattle.proc_table.proofs.ForkLemmas.{forked-account, forked-child, forked-moves, forked-paid, forked-table, runs_of}

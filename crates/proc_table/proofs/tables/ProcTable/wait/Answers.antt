@@ -1,6 +1,6 @@
 use Rattle.std.proofs.Common.{◌≡◌, refl, subst, ◌∙◌, w64}
 use Rattle.std.proofs.lemmas.Int.{to_z-of_z}
-use Rattle.kheap_slabs.proofs.PaidLemmas.{TakesNothing-refl}
+use Rattle.kheap_laws.proofs.PaidLemmas.{TakesNothing-refl}
 use Rattle.proc_table.specs.Changes.{reaped_of}
 use Rattle.proc_table.specs.Table.{processes}
 use Rattle.proc_table.specs.declared.reaped.Reaped.TheVariants.{Took}

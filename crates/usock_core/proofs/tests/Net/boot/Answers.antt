@@ -1,7 +1,7 @@
 use Rattle.std.proofs.Common.{[], sym, subst}
 use Rattle.kheap_slabs.specs.Heap.{Heap}
 use Rattle.kheap_slabs.specs.Owners.{OwnsItsObjects}
-use Rattle.kheap_slabs.proofs.OwnerLemmas.{empty_heap-owned}
+use Rattle.kheap_laws.proofs.OwnerLemmas.{empty_heap-owned}
 use Rattle.usock_core.specs.Standing.{IsHeldIn}
 use Rattle.usock_core.proofs.OneTable.{empty_held}
 use Rattle.usock_core.proofs.tests.Net.boot.Goals as goal

@@ -1,0 +1,3 @@
+pub mod Sleeping
+pub mod WorkedFamily
+pub mod TwoProcesses

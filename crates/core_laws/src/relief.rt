@@ -1,0 +1,61 @@
+//! Laws of kills and evictions. Each is the contract of a function that does nothing.
+
+ghost use Rattle.std.specs.Prelude.{◌≡◌, ◌≢◌, ℕ, ◌+◌, ◌*◌, ◌<◌, ◌≤◌, ◌↔◌, ◌||◌, not, true, false, List, None, IsSome, length};
+ghost use Rattle.std.specs.List.{list_any};
+ghost use Rattle.kabi_values.specs.Class.{size};
+ghost use Rattle.kabi_values.specs.declared.classes.Class.TheVariants.{Vnode};
+ghost use Rattle.kabi_types.specs.declared.entries.Cached.{Cached};
+ghost use Rattle.kabi_types.specs.declared.entries.Event.TheVariants.{Kill};
+ghost use Rattle.kabi_types.specs.declared.entries.Noted.{Noted};
+ghost use Rattle.kabi_types.specs.declared.scripts.Script.{Script};
+ghost use Rattle.posix_defs.specs.Process.{is_alive};
+ghost use Rattle.posix_defs.specs.Plain.{last_pid};
+ghost use Rattle.posix_defs.specs.World.{World, MayKeep, base, live_of, pins};
+ghost use Rattle.posix_defs.specs.Relief.{Evicts};
+ghost use Rattle.posix_defs.specs.CoreState.{CoreState, asked_by, is_waiting, none_admitted, some_fits, some_wait_in_vain};
+ghost use Rattle.posix_defs.specs.SoundTasks.{IsSound};
+ghost use Rattle.posix_defs.specs.Licence.{can_evict_any, is_licensed};
+ghost use Rattle.posix_defs.specs.Enabled.{IsEnabled};
+ghost use Rattle.posix_defs.specs.CoreEvent.{Steps, Turns};
+ghost use Rattle.posix_defs.specs.Ends.{end_of};
+ghost use Rattle.posix_defs.specs.Choice.{default_of};
+ghost use Rattle.posix_defs.specs.CoreRun.{IsCoreRun};
+
+/// A process is killed only where some call waits for which there is no room, no call is admitted, none that waits fits,
+/// and nothing can be evicted; it is alive, and isn't the first one.
+pub fn a_kill_is_the_last_resort()
+    ensures { (script : Script) (s : CoreState) (pid : ℕ) → IsEnabled script s (Kill pid)
+        → (some_wait_in_vain script s ≡ true) × (none_admitted s ≡ true) × (some_fits script s ≡ false) × (can_evict_any s.world ≡ false)
+        × (pid ≢ 1) × (is_alive s.world.plain.table pid ≡ true) }
+{}
+
+/// In every state that a run of the core leads to, in which some call waits and no end stands, a call is admitted, which has
+/// its turn or is abandoned, or one that waits fits, or something can be evicted, or a kill is licensed.
+pub fn a_call_that_waits_is_helped()
+    ensures { (script : Script) (steps : ℕ) (run : List Noted) (s : CoreState) → IsCoreRun script steps run s
+        → end_of script steps (length run) s ≡ None → list_any (λ task. is_waiting task.phase) s.tasks ≡ true
+        → (not (none_admitted s) || some_fits script s || can_evict_any s.world || is_licensed script s) ≡ true }
+{}
+
+/// After each event of a run, a kill and an eviction among them, an end stands or some event may be taken; and an eviction
+/// makes room.
+pub fn relief_goes_on()
+    ensures later { (script : Script) (steps : ℕ) (run : List Noted) (old new : CoreState) (noted : Noted) → IsCoreRun script steps run old
+        → end_of script steps (length run) old ≡ None → Steps script old noted new
+        → end_of script steps (length run + 1) new ≡ None → IsSome (default_of script new) }
+    ensures room { (old : World) (what : Cached) (new : World) → Evicts old what new → live_of new < live_of old }
+{}
+
+/// The live bytes that a kill tells fix that nothing was left to evict: they are those of a world that keeps the pinned nodes
+/// alone.
+pub fn the_live_of_a_kill_tells_that_nothing_is_left()
+    ensures { (world : World) → MayKeep world.plain world.kept
+        → (live_of world ≡ base world.plain world.account + size Vnode * pins world.plain) ↔ (can_evict_any world ≡ false) }
+{}
+
+/// A turn leaves what every other process asks for next, and so its bound.
+pub fn a_turn_leaves_the_calls_of_others()
+    ensures { (script : Script) (old : CoreState) (pid : ℕ) (noted : Noted) (new : CoreState) (other : ℕ) → IsSound script old
+        → Turns script old pid noted new → other ≢ pid → other ≤ last_pid old.world.plain
+        → asked_by script new.world.plain other ≡ asked_by script old.world.plain other }
+{}

@@ -1,0 +1,12 @@
+pub mod LastNoted
+pub mod NextRun
+pub mod TaskPlaces
+pub mod TurnLeads
+pub mod Victims
+pub mod RoomFits
+pub mod OtherEvents
+pub mod TaskLoops
+pub mod Defaults
+pub mod CalmTurns
+pub mod HeapBounds
+pub mod AllEvents

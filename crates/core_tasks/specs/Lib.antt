@@ -1,0 +1,15 @@
+pub use Rattle.posix_defs.specs.Sizes
+pub use Rattle.posix_defs.specs.Process
+pub use Rattle.posix_defs.specs.World
+pub use Rattle.posix_defs.specs.CoreState
+pub use Rattle.posix_defs.specs.SoundTasks
+pub use Rattle.posix_defs.specs.CoreEvent
+pub use Rattle.posix_defs.specs.Ends
+pub use Rattle.posix_defs.specs.Enabled
+pub use Rattle.posix_defs.specs.Choice
+pub use Rattle.posix_defs.specs.CoreRun
+pub mod Room
+pub mod Calm
+pub mod Places
+pub mod View
+pub mod Others

@@ -1,0 +1,16 @@
+//! What a core stands on: its tasks, which tell how far each process is with its call, and the laws of what each event
+//! leads to, over any store.
+#![tactic(auto)]
+
+mod notes;
+mod others;
+mod phases;
+mod tasks;
+
+pub use notes::{entry_of, last_noted, may_end, note};
+pub use others::{count_present, present_at};
+pub use phases::is_admitted;
+pub use tasks::{
+    add_born, all_have_events, all_sleep, bury, bury_ended, first_going, first_waiting, is_alone,
+    phase_of, remove, set_phase, some_within, some_without, task_at,
+};

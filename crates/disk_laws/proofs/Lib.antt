@@ -1,0 +1,10 @@
+pub mod DiskSpelling
+pub mod FormattedDisk
+pub mod FreeBlocks
+pub mod OneNode
+pub mod BlockWritten
+pub mod DirectoryEntries
+pub mod FreeNodes
+pub mod DiskStands
+pub mod DiskNames
+pub mod DiskFreeNodes

@@ -1,0 +1,10 @@
+pub mod FillLemmas
+pub mod KeyLemmas
+pub mod MarkLemmas
+pub mod OnceLemmas
+pub mod OutsideLemmas
+pub mod OwnerLemmas
+pub mod PaidLemmas
+pub mod QueueLemmas
+pub mod SpaceLemmas
+pub mod TableLemmas

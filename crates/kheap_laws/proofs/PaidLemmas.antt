@@ -1,0 +1,187 @@
+-- Calls that pay from one purse, one after the other, and calls without a purse.
+use Rattle.std.proofs.Common.{◌≡◌, ℕ, ◌+◌, ◌-◌, ◌<◌, ◌≤◌, ◌⊎◌, max, refl, ap, le_trans, le_refl, inl, inr, ◌∙◌, arith}
+use Rattle.kabi_values.specs.Class.{size}
+use Rattle.kabi_values.specs.declared.classes.Class.{Class}
+use Rattle.kabi_values.specs.declared.classes.Class.TheVariants as class
+use Rattle.kabi_values.specs.declared.classes.Need.{Need}
+use Rattle.kheap_shelves.specs.Counts.{counted, with_count, need_bytes}
+use Rattle.kheap_shelves.specs.Purse.{Purse, left_bytes}
+use Rattle.kheap_slabs.specs.Heap.{Heap, counts_of, live_bytes, Makes, Frees}
+use Rattle.kheap_slabs.specs.Paid.{CanPay, IsPaid, TakesNothing}
+use Rattle.kheap_shelves.proofs.PurseLemmas.{need_bytes-less, need_bytes-more}
+
+-- where two counts and two others are related class by class, so are their bytes
+need_bytes-sum : (a b c d : Need) → ((class : Class) → counted a class + counted b class ≤ counted c class + counted d class) → need_bytes a + need_bytes b ≤ need_bytes c + need_bytes d
+need_bytes-sum a b c d each =
+    omega (arith, each class.Proc, each class.Node, each class.Page, each class.Desc, each class.Vnode, each class.Name, each class.Block, each class.Pipe, each class.Chunk, each class.Sock)
+
+need_bytes-most : (a b : Need) → ((class : Class) → counted a class ≤ counted b class) → need_bytes a ≤ need_bytes b
+need_bytes-most a b each =
+    omega (arith, each class.Proc, each class.Node, each class.Page, each class.Desc, each class.Vnode, each class.Name, each class.Block, each class.Pipe, each class.Chunk, each class.Sock)
+
+-- the bytes taken and those that the purse has left are together no more than they were
+pub IsPaid-bytes : (old new : Heap) (before after : Purse) → IsPaid old before new after → live_bytes new + left_bytes after ≤ live_bytes old + left_bytes before
+IsPaid-bytes old new before after paid = need_bytes-sum (counts_of new) after.left (counts_of old) before.left paid.counts
+
+pub TakesNothing-bytes : (old new : Heap) → TakesNothing old new → live_bytes new ≤ live_bytes old
+TakesNothing-bytes old new takes = need_bytes-most (counts_of new) (counts_of old) takes.counts
+
+pub CanPay-kept : (old new : Heap) (before after : Purse) → IsPaid old before new after → CanPay old before → CanPay new after
+CanPay-kept old new before after paid can =
+    paid_still (live_bytes old) (live_bytes new) (left_bytes before) (left_bytes after) old.heap new.heap (IsPaid-bytes old new before after paid) paid.heap can
+  where
+    paid_still : (a b c d h i : ℕ) → b + d ≤ a + c → i ≡ h → a + c ≤ h → b + d ≤ i
+    paid_still a b c d h i less same can = omega arith
+
+-- what grows no further than a bound that grew no further than another
+below_max : (old before high middle new : ℕ) → middle ≤ before → high ≤ max old before → new ≤ max high middle → new ≤ max old before
+below_max old before high middle new less first second = omega arith
+
+below_first : (a b : ℕ) → a ≤ max a b
+below_first a b = omega arith
+
+sums_join : (a b c d e f : ℕ) → c + d ≤ a + b → e + f ≤ c + d → e + f ≤ a + b
+sums_join a b c d e f first second = omega arith
+
+pub IsPaid-refl : (h : Heap) (p : Purse) → IsPaid h p h p
+IsPaid-refl h p = record { counts = λ class. same _; need = refl; high = below_first h.high _; heap = refl; marks = refl }
+  where
+    same : (n : ℕ) → n ≤ n
+    same n = omega arith
+
+pub IsPaid-trans : (a : Heap) (p : Purse) (b : Heap) (q : Purse) (c : Heap) (r : Purse) → IsPaid a p b q → IsPaid b q c r → IsPaid a p c r
+IsPaid-trans a p b q c r first second = record {
+  counts = λ class. sums_join (counted (counts_of a) class) (counted p.left class) (counted (counts_of b) class) (counted q.left class) _ _ (first.counts class) (second.counts class);
+  need = second.need ∙ first.need;
+  high = below_max a.high (live_bytes a + left_bytes p) b.high (live_bytes b + left_bytes q) c.high (IsPaid-bytes a b p q first) first.high second.high;
+  heap = second.heap ∙ first.heap;
+  marks = second.marks ∙ first.marks;
+}
+
+-- a count that was put is the one of its class, and the other classes keep theirs
+with_count-same : (of : Class) (n : Need) (k : ℕ) → counted (with_count n of k) of ≡ k
+with_count-same class.Proc n k = refl
+with_count-same class.Node n k = refl
+with_count-same class.Page n k = refl
+with_count-same class.Desc n k = refl
+with_count-same class.Vnode n k = refl
+with_count-same class.Name n k = refl
+with_count-same class.Block n k = refl
+with_count-same class.Pipe n k = refl
+with_count-same class.Chunk n k = refl
+with_count-same class.Sock n k = refl
+
+same_or_other : (of other : Class) → (of ≡ other) ⊎ ((n : Need) (k : ℕ) → counted (with_count n of k) other ≡ counted n other)
+same_or_other class.Proc class.Proc = inl refl
+same_or_other class.Proc other = inr (λ n k. refl)
+same_or_other class.Node class.Node = inl refl
+same_or_other class.Node other = inr (λ n k. refl)
+same_or_other class.Page class.Page = inl refl
+same_or_other class.Page other = inr (λ n k. refl)
+same_or_other class.Desc class.Desc = inl refl
+same_or_other class.Desc other = inr (λ n k. refl)
+same_or_other class.Vnode class.Vnode = inl refl
+same_or_other class.Vnode other = inr (λ n k. refl)
+same_or_other class.Name class.Name = inl refl
+same_or_other class.Name other = inr (λ n k. refl)
+same_or_other class.Block class.Block = inl refl
+same_or_other class.Block other = inr (λ n k. refl)
+same_or_other class.Pipe class.Pipe = inl refl
+same_or_other class.Pipe other = inr (λ n k. refl)
+same_or_other class.Chunk class.Chunk = inl refl
+same_or_other class.Chunk other = inr (λ n k. refl)
+same_or_other class.Sock class.Sock = inl refl
+same_or_other class.Sock other = inr (λ n k. refl)
+
+-- of one class one more is there, and one less is left
+one_spent : (of other : Class) (n left : Need) → 0 < counted left of → counted (with_count n of (counted n of + 1)) other + counted (with_count left of (counted left of - 1)) other ≤ counted n other + counted left other
+one_spent of other n left some = elim (same_or_other of other) [
+  | inl same ↦ rw (← same, with_count-same of n (counted n of + 1), with_count-same of left (counted left of - 1)) (omega arith)
+  | inr differs ↦ rw (differs n (counted n of + 1), differs left (counted left of - 1)) (omega arith)
+]
+
+-- of one class one less is there, and one more is left
+one_given : (of other : Class) (n left : Need) → counted n other + counted (with_count left of (counted left of + 1)) other ≤ counted (with_count n of (counted n of + 1)) other + counted left other
+one_given of other n left = elim (same_or_other of other) [
+  | inl same ↦ rw (← same, with_count-same of n (counted n of + 1), with_count-same of left (counted left of + 1)) (omega arith)
+  | inr differs ↦ rw (differs n (counted n of + 1), differs left (counted left of + 1)) (omega arith)
+]
+
+one_less : (of other : Class) (n : Need) → counted n other ≤ counted (with_count n of (counted n of + 1)) other
+one_less of other n = elim (same_or_other of other) [
+  | inl same ↦ rw (← same, with_count-same of n (counted n of + 1)) (omega arith)
+  | inr differs ↦ rw (differs n (counted n of + 1)) (omega arith)
+]
+
+-- an object is made, and the purse spends it
+pub IsPaid-spend : (of : Class) (old new : Heap) (before after : Purse) → Makes of old new → 0 < counted before.left of → after.left ≡ with_count before.left of (counted before.left of - 1) → after.need ≡ before.need → IsPaid old before new after
+IsPaid-spend of old new before after makes some left need = record {
+  counts = λ other. rw (makes.counts, left) (one_spent of other (counts_of old) before.left some);
+  need = need;
+  high =
+      let more : live_bytes new ≡ live_bytes old + size of = ap need_bytes makes.counts ∙ need_bytes-more (counts_of old) of in
+      let paid = need_bytes-less before.left of some in
+      rw makes.high (within (size of) (live_bytes old) (live_bytes new) (left_bytes before) (need_bytes (with_count before.left of (counted before.left of - 1))) old.high more paid);
+  heap = makes.heap;
+  marks = makes.marks;
+}
+  where
+    within : (bytes a b c d h : ℕ) → b ≡ a + bytes → d + bytes ≡ c → max h b ≤ max h (a + c)
+    within bytes a b c d h more paid = omega arith
+
+-- an object that was spent is freed, and the purse takes it back
+pub IsPaid-give : (of : Class) (old new : Heap) (before after : Purse) → Frees of old new → after.left ≡ with_count before.left of (counted before.left of + 1) → after.need ≡ before.need → IsPaid old before new after
+IsPaid-give of old new before after frees left need = record {
+  counts = λ other. rw (frees.counts, left) (one_given of other (counts_of new) before.left);
+  need = need;
+  high = rw frees.high (below_first old.high _);
+  heap = frees.heap;
+  marks = frees.marks;
+}
+
+-- a call that takes nothing may stand among those that pay
+pub IsPaid-nothing : (old new : Heap) (before after : Purse) → TakesNothing old new → after.left ≡ before.left → after.need ≡ before.need → IsPaid old before new after
+IsPaid-nothing old new before after takes left need = record {
+  counts = λ class. rw left (added (counted (counts_of old) class) (counted (counts_of new) class) (counted before.left class) (takes.counts class));
+  need = need;
+  high = below (live_bytes old + left_bytes before) old.high new.high takes.high;
+  heap = takes.heap;
+  marks = takes.marks;
+}
+  where
+    added : (a b c : ℕ) → b ≤ a → b + c ≤ a + c
+    added a b c less = omega arith
+
+    below : (n a b : ℕ) → b ≤ a → b ≤ max a n
+    below n a b less = omega arith
+
+pub TakesNothing-refl : (h : Heap) → TakesNothing h h
+TakesNothing-refl h = record { counts = λ class. same _; high = same h.high; heap = refl; marks = refl }
+  where
+    same : (n : ℕ) → n ≤ n
+    same n = omega arith
+
+pub TakesNothing-trans : (a b c : Heap) → TakesNothing a b → TakesNothing b c → TakesNothing a c
+TakesNothing-trans a b c first second = record {
+  counts = λ class. le_trans (second.counts class) (first.counts class);
+  high = le_trans second.high first.high;
+  heap = second.heap ∙ first.heap;
+  marks = second.marks ∙ first.marks;
+}
+
+-- an object is freed, or changed
+pub TakesNothing-freed : (of : Class) (old new : Heap) → Frees of old new → TakesNothing old new
+TakesNothing-freed of old new frees = record {
+  counts = λ other. rw frees.counts (one_less of other (counts_of new));
+  high = rw frees.high (le_refl _);
+  heap = frees.heap;
+  marks = frees.marks;
+}
+
+pub TakesNothing-set : (old new : Heap) → counts_of new ≡ counts_of old → new.high ≡ old.high → new.heap ≡ old.heap → new.marks ≡ old.marks → TakesNothing old new
+TakesNothing-set old new counts high heap marks = record {
+  counts = λ class. rw counts (le_refl _);
+  high = rw high (le_refl _);
+  heap = heap;
+  marks = marks;
+}

@@ -1,0 +1,113 @@
+//! Worked calls, as a crate above makes them, proved from the public contracts and the laws alone.
+
+ghost use Rattle.std.specs.Prelude.{◌≡◌, ℕ, ◌<◌, ◌+◌, List, [], ◌∷◌, Option, None, Some, IsSomeAnd, slice_index_or, slice_set};
+ghost use Rattle.std.specs.List.{Contains};
+ghost use Rattle.kabi_values.specs.declared.classes.Class.TheVariants as class;
+ghost use Rattle.kheap_shelves.specs.Counts.{counted};
+ghost use Rattle.kheap_shelves.specs.Objects.{object, InUse};
+ghost use Rattle.kheap_shelves.specs.declared.objects.Node.{Node as NodeOf};
+ghost use Rattle.kheap_shelves.specs.declared.objects.PageEntry.TheVariants as entry;
+ghost use Rattle.kheap_slabs.specs.Owners.{Owners, with_space, IsOwned, OwnsItsObjects};
+ghost use Rattle.kheap_slabs.specs.Paid.{CanPay, IsPaid, TakesNothing};
+ghost use Rattle.kheap_slabs.specs.Queues.{empty_queue};
+ghost use Rattle.kheap_slabs.specs.Spaces.{keys_in, KeepsBytes};
+
+use kabi_types::Class;
+use kheap_shelves::{Node, PageEntry, Pipe, Purse, QueueParts};
+use kheap_slabs::KHeap;
+
+// A pipe without bytes.
+fn pipe_of(readers: u32) -> Pipe
+    ensures { result.queue ≡ empty_queue }
+{
+    let queue = QueueParts {
+        first: None,
+        last: None,
+        place: 0,
+        len: 0,
+    };
+    Pipe {
+        queue,
+        readers,
+        writers: 1,
+    }
+}
+
+/// An entry that has no frame yet names a page that others name too.
+pub fn share(heap: &mut KHeap, key: u32, at: usize, page: u32)
+    requires owned { (owners : Owners) × IsOwned heap.old owners }
+    requires within { at < 64 }
+    requires zero { IsSomeAnd (object heap.old.nodes key)
+        (λ node. slice_index_or node.entries at entry.Zero ≡ entry.Zero) }
+    requires used { InUse heap.old.pages page }
+    ensures node { (node : NodeOf) → object heap.old.nodes key ≡ Some node
+        → object heap.new.nodes key
+        ≡ Some (record node { entries = slice_set node.entries at (entry.Frame page) }) }
+    ensures pages { (other : ℕ) → InUse heap.old.pages other → InUse heap.new.pages other }
+    ensures bytes { KeepsBytes [] heap.old.pages heap.new.pages }
+    ensures takes { TakesNothing heap.old heap.new }
+    ensures owners { (owners : Owners) (space : List (Option ℕ)) → Contains (keys_in space) key
+        → IsOwned heap.old (with_space space owners) → IsOwned heap.new (with_space space owners) }
+{
+    let limit = heap.heap();
+    prove!(limit <= 8388608);
+    let mut node = *heap.get_node(key);
+    node.entries[at] = PageEntry::Frame(page);
+    let count = heap.get_page(page).count;
+    heap.set_node(key, node);
+    heap.set_page_count(page, count + 1);
+}
+
+/// A new node with three pages that have no frame yet, in a space of its own.
+pub fn begin(heap: &mut KHeap, purse: &mut Purse) -> u32
+    requires pays { CanPay heap.old purse.old }
+    requires some { 0 < counted purse.old.left class.Node }
+    ensures paid { IsPaid heap.old purse.old heap.new purse.new }
+    ensures first { IsSomeAnd (object heap.new.nodes result)
+        (λ node. slice_index_or node.entries 1 entry.Zero ≡ entry.Zero) }
+    ensures second { IsSomeAnd (object heap.new.nodes result)
+        (λ node. slice_index_or node.entries 2 entry.Zero ≡ entry.Zero) }
+    ensures pages { heap.new.pages ≡ heap.old.pages }
+    ensures owners { (owners : Owners) → IsOwned heap.old owners
+        → IsOwned heap.new (with_space (Some result ∷ []) owners) }
+{
+    let mut node = Node {
+        entries: [PageEntry::Unmapped; 64],
+    };
+    node.entries[0] = PageEntry::Zero;
+    node.entries[1] = PageEntry::Zero;
+    node.entries[2] = PageEntry::Zero;
+    let key = heap.insert_node(node);
+    purse.spend(Class::Node);
+    key
+}
+
+/// The copy of a space of three entries: one without a frame, and two that name pages of another space.
+pub fn fork(heap: &mut KHeap, purse: &mut Purse, one: u32, other: u32) -> u32
+    requires owned { (owners : Owners) × IsOwned heap.old owners }
+    requires pays { CanPay heap.old purse.old }
+    requires some { 0 < counted purse.old.left class.Node }
+    requires one_used { InUse heap.old.pages one }
+    requires other_used { InUse heap.old.pages other }
+    ensures paid { IsPaid heap.old purse.old heap.new purse.new }
+    ensures bytes { KeepsBytes [] heap.old.pages heap.new.pages }
+    ensures owners { (owners : Owners) → IsOwned heap.old owners
+        → IsOwned heap.new (with_space (Some result ∷ []) owners) }
+{
+    let key = begin(heap, purse);
+    share(heap, key, 1, one);
+    share(heap, key, 2, other);
+    key
+}
+
+/// A pipe without bytes, among the owners of the heap.
+pub fn new_pipe(heap: &mut KHeap, purse: &mut Purse) -> u32
+    requires pays { CanPay heap.old purse.old }
+    requires some { 0 < counted purse.old.left class.Pipe }
+    ensures paid { IsPaid heap.old purse.old heap.new purse.new }
+    ensures owned { OwnsItsObjects heap.old → OwnsItsObjects heap.new }
+{
+    let key = heap.insert_pipe(pipe_of(1));
+    purse.spend(Class::Pipe);
+    key
+}

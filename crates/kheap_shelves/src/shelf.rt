@@ -1,0 +1,143 @@
+ghost use Rattle.std.specs.Prelude.{◌≡◌, ◌+◌, ◌<◌, ◌≤◌, length, IfOk, None, Some, replicate, slice_index_or, vec_len, vec_capacity};
+ghost use Rattle.std.specs.Borrow.{sem};
+ghost use Rattle.kheap_shelves.specs.Objects.{object, InUse, count, put, without};
+
+mod pages;
+mod processes;
+
+use slab::Slab;
+use std::alloc::{AllocError, Global};
+use std::marker::Model;
+
+/// The objects of one class, under the keys from 0 below a limit that is fixed at boot.
+///
+/// The slab picks places of its own, which nothing bounds, so a table has the place of each key.
+#[derive(Drop)]
+pub struct Shelf<T> {
+    slab: Slab<T>,
+    places: Vec<Option<usize>>,
+    // The keys without an object. The last is the next to be given out.
+    free: Vec<u32>,
+}
+
+impl<T> Model for Shelf<T> {
+    ghost use Rattle.std.specs.Prelude.{List, Option, vec_capacity};
+    ghost use Rattle.std.specs.Coded.{coded_list, coded_option};
+
+    ghost Value = { List (Option T) };
+
+    ghost coded = { coded_list (coded_option T.code) };
+
+    ghost use Rattle.kheap_shelves.specs.Places.{shelved, IsSound};
+
+    ghost view = { λ shelf. shelved shelf.slab shelf.places.items };
+
+    ghost invariant = { λ shelf.
+        IsSound shelf.slab shelf.places.items shelf.free.items (vec_capacity shelf.free) };
+}
+
+// The place of a key that has one.
+fn place_at(places: &[Option<usize>], key: u32) -> usize
+    requires { InUse places.now key }
+    ensures { object places.now key ≡ Some result }
+{
+    match places[key as usize] {
+        Some(place) => place,
+        None => unreachable!(),
+    }
+}
+
+// The keys below the limit, the lowest last.
+fn falling_keys(alloc: Global, limit: u32) -> Result<Vec<u32>, AllocError>
+    ensures len { IfOk result (λ keys. vec_len keys ≡ limit) }
+    ensures falling { IfOk result (λ keys. (i : _) → i < limit
+        → slice_index_or keys.items i 0 + i + 1 ≡ limit) }
+    ensures room { IfOk result (λ keys. limit ≤ vec_capacity keys) }
+{
+    let mut keys = Vec::with_capacity(alloc, limit as usize)?;
+    for i in 0..limit {
+        keys.push_reserved(limit - 1 - i);
+    }
+    Ok(keys)
+}
+
+impl<T: Drop> Shelf<T> {
+    ghost use Rattle.kheap_shelves.specs.Lending.{lends_object};
+
+    /// An empty shelf with room for `limit` objects.
+    pub fn boot(alloc: Global, limit: u32) -> Result<Shelf<T>, AllocError>
+        ensures empty { IfOk result (λ shelf. shelf ≡ replicate limit None) }
+        ensures counted { IfOk result (λ shelf. count shelf ≡ 0) }
+        ensures len { IfOk result (λ shelf. length shelf ≡ limit) }
+    {
+        let slab = Slab::with_capacity(alloc, limit as usize)?;
+        let mut places = Vec::with_capacity(alloc, limit as usize)?;
+        places.resize(limit as usize, None)?;
+        let free = falling_keys(alloc, limit)?;
+        Ok(Shelf { slab, places, free })
+    }
+
+    /// Puts the object under a key that was free.
+    pub fn insert(&mut self, value: T) -> u32
+        requires { count self.old < length self.old }
+        ensures in_range { result < length self.old }
+        ensures vacant { object self.old result ≡ None }
+        ensures stored { object self.new result ≡ Some value }
+        ensures kept { self.new ≡ put self.old result value }
+        ensures counted { count self.new ≡ count self.old + 1 }
+        ensures len { length self.new ≡ length self.old }
+    {
+        match self.free.pop() {
+            Some(key) => {
+                let place = self.slab.insert_reserved(value);
+                self.places[key as usize] = Some(place);
+                key
+            }
+            None => unreachable!(),
+        }
+    }
+
+    /// Takes the object of a key out; the key is free from then on.
+    pub fn free(&mut self, key: u32) -> T
+        requires { InUse self.old key }
+        ensures value { object self.old key ≡ Some result }
+        ensures gone { object self.new key ≡ None }
+        ensures kept { self.new ≡ without self.old key }
+        ensures counted { count self.new + 1 ≡ count self.old }
+        ensures len { length self.new ≡ length self.old }
+    {
+        let place = place_at(&self.places, key);
+        self.places[key as usize] = None;
+        self.free.push_reserved(key);
+        self.slab.remove(place)
+    }
+
+    /// The object of a key.
+    pub fn get(&self, key: u32) -> &T
+        requires { InUse self.now key }
+        ensures value { object self.now key ≡ Some result.now }
+    {
+        &self.slab[place_at(&self.places, key)]
+    }
+
+    /// Lends the object of a key to be changed.
+    pub fn get_mut(&mut self, key: u32) -> &mut T
+        requires { InUse self.old key }
+        ensures* writes_back { sem 𝓛 (lends_object T.row self.entry key result) }
+        ensures value { object self.old key ≡ Some result.now }
+    {
+        let place = place_at(&self.places, key);
+        &mut self.slab[place]
+    }
+
+    /// Puts another object under a key in use.
+    pub fn set(&mut self, key: u32, value: T)
+        requires { InUse self.old key }
+        ensures stored { object self.new key ≡ Some value }
+        ensures kept { self.new ≡ put self.old key value }
+        ensures counted { count self.new ≡ count self.old }
+        ensures len { length self.new ≡ length self.old }
+    {
+        *self.get_mut(key) = value;
+    }
+}

@@ -1,8 +1,0 @@
-use Rattle.kheap_slabs.proofs.QueueLemmas.{OwnsChunks-most, OwnsChunks-none}
-use Rattle.kheap_slabs.proofs.laws.chunks.queues_are_short.Goals as goal
-
-pub returns-clause-most : goal.returns-clause-most
-returns-clause-most c = OwnsChunks-most
-
-pub returns-clause-none : goal.returns-clause-none
-returns-clause-none c = OwnsChunks-none

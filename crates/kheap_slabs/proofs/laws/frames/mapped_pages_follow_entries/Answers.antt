@@ -1,5 +1,0 @@
-use Rattle.kheap_slabs.proofs.SpaceLemmas.{mapped_count-entry}
-use Rattle.kheap_slabs.proofs.laws.frames.mapped_pages_follow_entries.Goals as goal
-
-pub returns : goal.returns
-returns c = mapped_count-entry

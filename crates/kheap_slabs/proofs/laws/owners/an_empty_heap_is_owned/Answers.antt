@@ -1,5 +1,0 @@
-use Rattle.kheap_slabs.proofs.OwnerLemmas.{empty_heap-owned}
-use Rattle.kheap_slabs.proofs.laws.owners.an_empty_heap_is_owned.Goals as goal
-
-pub returns : goal.returns
-returns c = empty_heap-owned

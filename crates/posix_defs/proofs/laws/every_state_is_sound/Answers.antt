@@ -1,5 +1,0 @@
-use Rattle.posix_defs.proofs.Sounds.{is_sound}
-use Rattle.posix_defs.proofs.laws.every_state_is_sound.Goals as goal
-
-pub returns-clause-sound : goal.returns-clause-sound
-returns-clause-sound c = λ script steps run s runs. is_sound runs

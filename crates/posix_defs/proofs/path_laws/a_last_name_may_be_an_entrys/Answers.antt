@@ -1,5 +1,0 @@
-use Rattle.posix_defs.proofs.PathLeads.{last_is_entry_name}
-use Rattle.posix_defs.proofs.path_laws.a_last_name_may_be_an_entrys.Goals as goal
-
-pub returns : goal.returns
-returns c = last_is_entry_name

@@ -1,9 +1,0 @@
-use Rattle.posix_defs.proofs.FoundAfter.{made_found}
-use Rattle.posix_defs.proofs.TreeKeeps.{make_keeps}
-use Rattle.posix_defs.proofs.tree_laws.what_is_made_is_found.Goals as goal
-
-pub returns-clause-found : goal.returns-clause-found
-returns-clause-found c = made_found
-
-pub returns-clause-kept : goal.returns-clause-kept
-returns-clause-kept c = make_keeps

@@ -1,0 +1,88 @@
+use Rattle.std.proofs.Common.{map, subst, sym}
+use Rattle.posix_defs.specs.Control.{value_of}
+use Rattle.prog_ctl.specs.Runnable.{MovesBytes, TakesDescriptor, TakesMore, TakesPath, TakesSocket}
+use Rattle.prog_ctl.proofs.made.made_on_files.Goals as goal
+
+pub returns-in-OpenFile : goal.returns-in-OpenFile
+returns-in-OpenFile c = λ _. c.made_with_texts.ensures c.args.control.now.done (subst TakesMore (sym c.in-OpenFile.is) tt)
+
+pub returns-in-Close : goal.returns-in-Close
+returns-in-Close c = λ _. c.made_on_descriptor.ensures c.args.texts.now c.args.control.now.done (subst TakesDescriptor (sym c.in-Close.is) tt)
+
+pub returns-in-Dup : goal.returns-in-Dup
+returns-in-Dup c = λ _. c.made_on_descriptor-in-Dup.ensures c.args.texts.now c.args.control.now.done (subst TakesDescriptor (sym c.in-Dup.is) tt)
+
+pub returns-in-Dup2 : goal.returns-in-Dup2
+returns-in-Dup2 c = λ _. c.made_on_descriptor-in-Dup2.ensures c.args.texts.now c.args.control.now.done (subst TakesDescriptor (sym c.in-Dup2.is) tt)
+
+pub returns-in-Fcntl : goal.returns-in-Fcntl
+returns-in-Fcntl c = λ _. c.made_on_descriptor-in-Fcntl.ensures c.args.texts.now c.args.control.now.done (subst TakesDescriptor (sym c.in-Fcntl.is) tt)
+
+pub returns-in-Read : goal.returns-in-Read
+returns-in-Read c = λ _. c.made_of_bytes.ensures c.args.texts.now (subst MovesBytes (sym c.in-Read.is) tt)
+
+pub returns-in-Write : goal.returns-in-Write
+returns-in-Write c = λ _. c.made_of_bytes-in-Write.ensures c.args.texts.now (subst MovesBytes (sym c.in-Write.is) tt)
+
+pub returns-in-Pread : goal.returns-in-Pread
+returns-in-Pread c = λ _. c.made_of_bytes-in-Pread.ensures c.args.texts.now (subst MovesBytes (sym c.in-Pread.is) tt)
+
+pub returns-in-Pwrite : goal.returns-in-Pwrite
+returns-in-Pwrite c = λ _. c.made_of_bytes-in-Pwrite.ensures c.args.texts.now (subst MovesBytes (sym c.in-Pwrite.is) tt)
+
+pub returns-in-Lseek : goal.returns-in-Lseek
+returns-in-Lseek c = λ _. c.made_on_descriptor-in-Lseek.ensures c.args.texts.now c.args.control.now.done (subst TakesDescriptor (sym c.in-Lseek.is) tt)
+
+pub returns-in-Readdir : goal.returns-in-Readdir
+returns-in-Readdir c = λ _. c.made_of_bytes-in-Readdir.ensures c.args.texts.now (subst MovesBytes (sym c.in-Readdir.is) tt)
+
+pub returns-in-Ftruncate : goal.returns-in-Ftruncate
+returns-in-Ftruncate c = λ _. c.made_on_descriptor-in-Ftruncate.ensures c.args.texts.now c.args.control.now.done (subst TakesDescriptor (sym c.in-Ftruncate.is) tt)
+
+pub returns-in-Fstat : goal.returns-in-Fstat
+returns-in-Fstat c = λ _. c.made_on_descriptor-in-Fstat.ensures c.args.texts.now c.args.control.now.done (subst TakesDescriptor (sym c.in-Fstat.is) tt)
+
+pub returns-in-Stat : goal.returns-in-Stat
+returns-in-Stat c = λ _. c.made_on_path.ensures (map (value_of c.args.control.now) c.args.operands.now) c.args.control.now.done (subst TakesPath (sym c.in-Stat.is) tt)
+
+pub returns-in-Chdir : goal.returns-in-Chdir
+returns-in-Chdir c = λ _. c.made_on_path-in-Chdir.ensures (map (value_of c.args.control.now) c.args.operands.now) c.args.control.now.done (subst TakesPath (sym c.in-Chdir.is) tt)
+
+pub returns-in-Mkdir : goal.returns-in-Mkdir
+returns-in-Mkdir c = λ _. c.made_on_path-in-Mkdir.ensures (map (value_of c.args.control.now) c.args.operands.now) c.args.control.now.done (subst TakesPath (sym c.in-Mkdir.is) tt)
+
+pub returns-in-Rmdir : goal.returns-in-Rmdir
+returns-in-Rmdir c = λ _. c.made_on_path-in-Rmdir.ensures (map (value_of c.args.control.now) c.args.operands.now) c.args.control.now.done (subst TakesPath (sym c.in-Rmdir.is) tt)
+
+pub returns-in-Unlink : goal.returns-in-Unlink
+returns-in-Unlink c = λ _. c.made_on_path-in-Unlink.ensures (map (value_of c.args.control.now) c.args.operands.now) c.args.control.now.done (subst TakesPath (sym c.in-Unlink.is) tt)
+
+pub returns-in-Link : goal.returns-in-Link
+returns-in-Link c = λ _. c.made_with_texts-in-Link.ensures c.args.control.now.done (subst TakesMore (sym c.in-Link.is) tt)
+
+pub returns-in-Rename : goal.returns-in-Rename
+returns-in-Rename c = λ _. c.made_with_texts-in-Rename.ensures c.args.control.now.done (subst TakesMore (sym c.in-Rename.is) tt)
+
+pub returns-in-Socket : goal.returns-in-Socket
+returns-in-Socket c = λ _. c.made_on_socket.ensures c.args.control.now.done (subst TakesSocket (sym c.in-Socket.is) tt)
+
+pub returns-in-Socketpair : goal.returns-in-Socketpair
+returns-in-Socketpair c = λ _. c.made_on_socket-in-Socketpair.ensures c.args.control.now.done (subst TakesSocket (sym c.in-Socketpair.is) tt)
+
+pub returns-in-Bind : goal.returns-in-Bind
+returns-in-Bind c = λ _. c.made_on_socket-in-Bind.ensures c.args.control.now.done (subst TakesSocket (sym c.in-Bind.is) tt)
+
+pub returns-in-Listen : goal.returns-in-Listen
+returns-in-Listen c = λ _. c.made_on_socket-in-Listen.ensures c.args.control.now.done (subst TakesSocket (sym c.in-Listen.is) tt)
+
+pub returns-in-Connect : goal.returns-in-Connect
+returns-in-Connect c = λ _. c.made_on_socket-in-Connect.ensures c.args.control.now.done (subst TakesSocket (sym c.in-Connect.is) tt)
+
+pub returns-in-Accept : goal.returns-in-Accept
+returns-in-Accept c = λ _. c.made_on_socket-in-Accept.ensures c.args.control.now.done (subst TakesSocket (sym c.in-Accept.is) tt)
+
+pub returns-in-Shutdown : goal.returns-in-Shutdown
+returns-in-Shutdown c = λ _. c.made_on_socket-in-Shutdown.ensures c.args.control.now.done (subst TakesSocket (sym c.in-Shutdown.is) tt)
+
+pub returns-in-Poll : goal.returns-in-Poll
+returns-in-Poll c = λ _. c.made_with_texts-in-Poll.ensures c.args.control.now.done (subst TakesMore (sym c.in-Poll.is) tt)

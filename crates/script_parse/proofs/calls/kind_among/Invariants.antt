@@ -1,9 +1,0 @@
-use Rattle.std.proofs.Common.{◌≡◌, length}
-use Rattle.posix_defs.specs.ScriptLines.{kind_among}
-use Rattle.script_parse.proofs.calls.kind_among.Given as goal
-
-abbrev pub invariant-loop-kind : goal.invariant-loop-kind
-invariant-loop-kind l = kind_among l.kinds l.word ≡ kind_among l.rest l.word
-
-abbrev pub decreases-loop-kind : goal.decreases-loop-kind
-decreases-loop-kind l = length l.rest

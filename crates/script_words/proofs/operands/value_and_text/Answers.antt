@@ -1,0 +1,14 @@
+use Rattle.std.proofs.Common.{ap, refl}
+use Rattle.posix_defs.specs.ScriptValues.{both, with}
+use Rattle.script_words.proofs.FewWords.{of_value_and_text}
+use Rattle.script_words.proofs.Told.{err_is, stops, told_as}
+use Rattle.script_words.proofs.operands.value_and_text.Goals as goal
+
+pub returns-in_err-value : goal.returns-in_err-value
+returns-in_err-value c = λ value text is_value is_text.
+    stops _ (λ said. said) c.in_err-value.field-0.0 c.from_residual.result (both value text) (with of_value_and_text) (λ k. refl)
+    (err_is c.in_err-value.field-0.0 c.from_residual.result c.from_residual.ensures.1) (c.in_err-value.ensures value text is_value is_text)
+
+pub returns : goal.returns
+returns c = λ value text is_value is_text.
+    told_as _ c.one_of_each.result (ap (with of_value_and_text) (c.in_ok-value.ensures value text is_value is_text)) c.one_of_each.ensures

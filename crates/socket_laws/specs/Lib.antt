@@ -1,0 +1,3 @@
+pub mod QueueRuns
+pub mod SocketRuns
+pub mod WorkedSockets

@@ -1,0 +1,12 @@
+//! The laws of pipes and of Unix stream sockets. Each is the contract of a function that does nothing.
+#![tactic(auto)]
+
+mod pipes;
+mod sockets;
+
+pub use pipes::{bytes_keep_their_order, chunks_follow_the_bytes, writes_keep_to_their_room};
+pub use sockets::{
+    a_shut_side_is_read_to_its_end, a_socket_stays_connected_after_its_peer,
+    each_direction_keeps_its_order, every_socket_has_its_owner, sockets_stand_where_they_stood,
+    sockets_stay_linked, the_backlog_is_in_order, these_sockets_answer_so,
+};

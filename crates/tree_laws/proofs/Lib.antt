@@ -1,0 +1,16 @@
+pub mod TreeFacts
+pub mod EntryLists
+pub mod TreeSteps
+pub mod Climbing
+pub mod TreeKeeps
+pub mod NewTree
+pub mod TreeRenames
+pub mod FoundNames
+pub mod FileRoom
+pub mod FileKeeps
+pub mod FoundAfter
+pub mod Ways
+pub mod PathLeads
+pub mod FileFits
+pub mod CallsKeep
+pub mod FileBytesLaws
