@@ -13,6 +13,7 @@ use Rattle.posix_defs.specs.Plain.{Plain}
 use Rattle.posix_defs.specs.Waiting.{is_nohang, waitpid}
 use Rattle.posix_defs.specs.World.{Account}
 use Rattle.prog_ctl.specs.Waits.{wait_of}
+use Rattle.prog_ctl.specs.declared.waits.Awaited.{Awaited}
 use Rattle.proc_table.specs.Changes.{reaped_of}
 use Rattle.proc_table.specs.Standing.{answered_wait}
 use Rattle.proc_table.specs.declared.reaped.Reaped.{Reaped}
@@ -62,12 +63,12 @@ pub no_fault : (fault : Option Errno) → is_none fault ≡ true → fault ≡ N
 no_fault None e = refl
 no_fault (Some errno) e = cc
 
-waited : Option (ℤ × ℤ) → ℤ × ℤ
-waited None = (pos 0, pos 0)
+waited : Option Awaited → Awaited
+waited None = record { child = pos 0; options = pos 0 }
 waited (Some wait) = wait
 
 -- a call that waits for something is that wait
-pub is_wait : (which : Call) (wait : ℤ × ℤ) → Some wait ≡ wait_of which → call.Waitpid wait.0 wait.1 ≡ which
+pub is_wait : (which : Call) (wait : Awaited) → Some wait ≡ wait_of which → call.Waitpid wait.child wait.options ≡ which
 unfolding waited
-is_wait (call.Waitpid child options) wait e = ap (λ o. call.Waitpid (waited o).0 (waited o).1) e
+is_wait (call.Waitpid child options) wait e = ap (λ o. call.Waitpid (waited o).child (waited o).options) e
 is_wait _ wait e = cc

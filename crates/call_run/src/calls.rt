@@ -35,6 +35,7 @@ use kabi_types::{Call, Control, Errno, Need, Reply, Script, may_wait};
 use kheap_shelves::Purse;
 use posix_defs::Turned;
 use proc_table::Reaped;
+use prog_ctl::Awaited;
 
 /// The only option of `waitpid`: not to wait.
 const WNOHANG: i64 = 1;
@@ -309,14 +310,14 @@ fn would_sleep(objects: &Objects, pid: u32, which: i64, options: i64) -> bool
 
 /// Whether a process's call would block now. Of the call it asks only for what that waits, which is nothing for any but
 /// `waitpid`.
-pub fn would_block(objects: &Objects, pid: u32, wait: Option<(i64, i64)>) -> bool
+pub fn would_block(objects: &Objects, pid: u32, wait: Option<Awaited>) -> bool
     requires { Holds objects.now.heap objects.now.procs }
     ensures { (script : Script) (plain : Plain) (account : Account) → StandFor script objects.now plain account
         → (call : Call) → wait ≡ wait_of call → result ≡ blocks (machine script plain pid call) }
 {
     match wait {
-        Some((which, options)) => {
-            may_wait(which, options) && would_sleep(objects, pid, which, options)
+        Some(Awaited { child, options }) => {
+            may_wait(child, options) && would_sleep(objects, pid, child, options)
         }
         None => false,
     }

@@ -18,6 +18,7 @@ use crate::endings::{INIT, SIGKILL, end};
 use crate::objects::Objects;
 use kabi_types::{Call, Errno, Need, Reply, Script};
 use posix_defs::Turned;
+use prog_ctl::Awaited;
 
 /// The call that a live process makes next.
 pub fn next(script: &Script, objects: &Objects, pid: u32) -> Call
@@ -32,7 +33,7 @@ pub fn next(script: &Script, objects: &Objects, pid: u32) -> Call
 }
 
 /// The child and the options that a live process's next call waits for; None where that call isn't `waitpid`.
-pub fn waits_for(script: &Script, objects: &Objects, pid: u32) -> Option<(i64, i64)>
+pub fn waits_for(script: &Script, objects: &Objects, pid: u32) -> Option<Awaited>
     requires { (world : World) × StandsFor script.now objects.now world × (is_alive world.plain.table pid ≡ true) }
     ensures { (world : World) → StandsFor script.now objects.now world → is_alive world.plain.table pid ≡ true
         → result ≡ wait_of (call_of script.now world.plain pid) }

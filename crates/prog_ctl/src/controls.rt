@@ -7,6 +7,7 @@ ghost use Rattle.posix_defs.specs.ValidScript.{IsValid};
 ghost use Rattle.prog_ctl.specs.Runnable.{IsRunnable, IsRunnableAt, Rests, Stands};
 ghost use Rattle.prog_ctl.specs.Waits.{wait_of};
 
+use crate::Awaited;
 use crate::made::{call_at, wait_at};
 use crate::statements::{go_back, local, take_reply};
 use kabi_types::{Call, Control, Reply, Script, Statement};
@@ -79,7 +80,7 @@ pub fn call_here(script: &Script, control: &Control) -> Call
 }
 
 /// The child and the options of the next call of a process that stands at it, where that is `waitpid`; None where it is another.
-pub fn wait_here(script: &Script, control: &Control) -> Option<(i64, i64)>
+pub fn wait_here(script: &Script, control: &Control) -> Option<Awaited>
     requires stands { Stands script.now control.now }
     requires rests { Rests script.now control.now }
     ensures { result ≡ wait_of (spec.call_of script.now control.now) }

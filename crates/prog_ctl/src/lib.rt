@@ -7,6 +7,7 @@ mod made;
 mod statements;
 #[cfg(test)]
 mod tests;
+mod waits;
 
 pub use controls::{answer, call_here, go_to_call, moved, next_call, restart, wait_here};
 pub use laws::{
@@ -14,3 +15,4 @@ pub use laws::{
     a_started_program_stands_at_its_first_statement, a_write_goes_on_in_parts,
     asked_again_the_call_is_the_same, sums_wrap,
 };
+pub use waits::Awaited;

@@ -8,6 +8,7 @@ ghost use Rattle.posix_defs.specs.ScriptLines.{shape_of};
 ghost use Rattle.prog_ctl.specs.Runnable.{IsOperand, IsRunnableAt, MovesBytes, TakesDescriptor, TakesFiles, TakesMore, TakesPath, TakesSocket, most_text};
 ghost use Rattle.prog_ctl.specs.Waits.{wait_of};
 
+use crate::Awaited;
 use crate::statements::value_of;
 use arrayvec::ArrayVec;
 use kabi_types::{
@@ -369,7 +370,7 @@ pub fn call_at(control: &Control, statement: Option<&Statement>) -> Call
 
 /// The child and the options of the `waitpid` that a statement makes; None where its call is another one. It tells as much as
 /// the call does, and makes none.
-pub fn wait_at(control: &Control, statement: Option<&Statement>) -> Option<(i64, i64)>
+pub fn wait_at(control: &Control, statement: Option<&Statement>) -> Option<Awaited>
     requires { IfSome (option_copied statement) (IsRunnableAt control.now.place) }
     ensures { result ≡ wait_of (call_at control.now (option_copied statement.entry)) }
 {
@@ -380,10 +381,10 @@ pub fn wait_at(control: &Control, statement: Option<&Statement>) -> Option<(i64,
                 operands,
                 ..
             },
-        ) => Some((
-            operand_at(control, operands.items(), 0),
-            operand_at(control, operands.items(), 1),
-        )),
+        ) => Some(Awaited {
+            child: operand_at(control, operands.items(), 0),
+            options: operand_at(control, operands.items(), 1),
+        }),
         Some(_) | None => None,
     }
 }

@@ -83,17 +83,10 @@ pub fn local(control: &mut Control, statement: &Statement) -> bool
             control.place = *place;
             true
         }
-        Statement::Label(_) => {
+        Statement::Loop(register, _) if 0 < register_of(control, *register) => false,
+        Statement::Label(_) | Statement::Loop(_, _) => {
             control.place += 1;
             true
-        }
-        Statement::Loop(register, _) => {
-            if 0 < register_of(control, *register) {
-                false
-            } else {
-                control.place += 1;
-                true
-            }
         }
         Statement::Invoke { .. } => false,
     }

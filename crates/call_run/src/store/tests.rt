@@ -13,6 +13,7 @@ use kabi_types::{
     Statements,
 };
 use posix_defs::{Turned, Turner};
+use prog_ctl::Awaited;
 use std::alloc::Global;
 use std::process::Abort;
 use std::test::Fail;
@@ -289,15 +290,19 @@ fn a_refused_call_is_over(rt: HostRuntime) -> Result<(), Fail> {
 /// The first process has a child that lives.
 const PARENT: &[Row] = &[(1, Ask::Fork, Told::Val(2), 1152)];
 
+fn waiting(child: i64, options: i64) -> Option<Awaited> {
+    Some(Awaited { child, options })
+}
+
 #[test]
 fn only_a_wait_would_block(rt: HostRuntime) -> Result<(), Fail> {
     let mut store = booted(rt.alloc(), 8192, Policy::Heaviest)?;
     go_through(&rt, &mut store, PARENT);
-    let wait = Some((-1, 0));
+    let wait = waiting(-1, 0);
     assert!(rt; would_block(&store.objects, 1, wait) && !would_block(&store.objects, 2, wait));
-    assert!(rt; !would_block(&store.objects, 1, Some((-1, 1))));
+    assert!(rt; !would_block(&store.objects, 1, waiting(-1, 1)));
     assert!(rt;
-        !would_block(&store.objects, 1, Some((0, 0))) && !would_block(&store.objects, 1, None)
+        !would_block(&store.objects, 1, waiting(0, 0)) && !would_block(&store.objects, 1, None)
     );
     drop(store);
     Ok(())

@@ -8,12 +8,12 @@ use Rattle.call_run.proofs.calls.would_block.Goals as goal
 
 pub returns-then-may_wait : goal.returns-then-may_wait
 returns-then-may_wait c = λ script plain account stands call e.
-    let which : to_z w64 (of_z w64 c.in-Some.which) ≡ c.in-Some.which = search (rules, to_z-of_z) in
-    let options : to_z w64 (of_z w64 c.in-Some.options) ≡ c.in-Some.options = search (rules, to_z-of_z) in
-    let it = is_wait call (c.in-Some.which, c.in-Some.options) (sym c.in-Some.is ∙ e) in
+    let child : to_z w64 (of_z w64 c.in-Some.field-0.child) ≡ c.in-Some.field-0.child = search (rules, to_z-of_z) in
+    let options : to_z w64 (of_z w64 c.in-Some.field-0.options) ≡ c.in-Some.field-0.options = search (rules, to_z-of_z) in
+    let it = is_wait call c.in-Some.field-0 (sym c.in-Some.is ∙ e) in
     let none = no_fault _ (sym c.may_wait.ensures.checked ∙ c.if-may_wait.true) in
     c.would_sleep.ensures script plain account stands
-    ∙ sym (blocks_as script plain c.args.pid (to_z w64 (of_z w64 c.in-Some.which)) (to_z w64 (of_z w64 c.in-Some.options)) none)
-    ∙ ap (λ z. blocks (machine script plain c.args.pid (Waitpid z (to_z w64 (of_z w64 c.in-Some.options))))) which
-    ∙ ap (λ z. blocks (machine script plain c.args.pid (Waitpid c.in-Some.which z))) options
+    ∙ sym (blocks_as script plain c.args.pid (to_z w64 (of_z w64 c.in-Some.field-0.child)) (to_z w64 (of_z w64 c.in-Some.field-0.options)) none)
+    ∙ ap (λ z. blocks (machine script plain c.args.pid (Waitpid z (to_z w64 (of_z w64 c.in-Some.field-0.options))))) child
+    ∙ ap (λ z. blocks (machine script plain c.args.pid (Waitpid c.in-Some.field-0.child z))) options
     ∙ ap (λ z. blocks (machine script plain c.args.pid z)) it
