@@ -29,7 +29,7 @@ use Rattle.posix_defs.specs.Plain.{at_start, boot_plain, control_of, first_proce
 use Rattle.posix_defs.specs.SoundTasks.{AllAtHome}
 use Rattle.posix_defs.specs.ValidScript.{IsValid}
 use Rattle.posix_defs.specs.World.{boot_world}
-use Rattle.core_laws.proofs.Families.{reached_kept}
+use Rattle.kern_laws.proofs.Families.{reached_kept}
 use Rattle.prog_ctl.specs.Runnable.{Rests, Stands}
 use Rattle.proc_table.specs.Accounting.{HasAccount}
 use Rattle.proc_table.specs.Changes.{replaced}

@@ -11,9 +11,9 @@ use Rattle.posix_defs.specs.Memory.{Frames, Places, after_clear, kept_from, no_p
 use Rattle.posix_defs.specs.Plain.{Plain, control_of, last_pid}
 use Rattle.posix_defs.specs.Process.{Table, is_alive, is_alive_in, is_there, process_at}
 use Rattle.posix_defs.specs.World.{Account, forget_dead}
-use Rattle.core_laws.proofs.Families.{dies_on, first_lives}
-use Rattle.core_laws.proofs.Nexts.{alive_is_there, die_ends, die_next}
-use Rattle.core_laws.proofs.TablePlaces.{each_changed}
+use Rattle.kern_laws.proofs.Families.{dies_on, first_lives}
+use Rattle.kern_laws.proofs.Nexts.{alive_is_there, die_ends, die_next}
+use Rattle.kern_laws.proofs.TablePlaces.{each_changed}
 use Rattle.proc_table.specs.Accounting.{HasAccount}
 use Rattle.proc_table.specs.Changes.{ended}
 use Rattle.proc_table.specs.Procs.{IsAlive, proc_of, process_of}

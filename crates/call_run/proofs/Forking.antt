@@ -12,8 +12,8 @@ use Rattle.kabi_types.specs.declared.scripts.Control.{Control}
 use Rattle.kabi_types.specs.declared.scripts.Script.{Script}
 use Rattle.kheap_shelves.specs.declared.objects.Proc.{Proc}
 use Rattle.kheap_slabs.specs.Heap.{Heap}
-use Rattle.core_laws.proofs.EnabledEvents.{get_behind}
-use Rattle.core_laws.proofs.TablePlaces.{get_front}
+use Rattle.kern_laws.proofs.EnabledEvents.{get_behind}
+use Rattle.kern_laws.proofs.TablePlaces.{get_front}
 use Rattle.posix_defs.specs.Answer.{replied}
 use Rattle.posix_defs.specs.ByPid.{at_pid}
 use Rattle.posix_defs.specs.Control.{after, settled}

@@ -4,7 +4,7 @@ use Rattle.std.specs.List.{AllByRecursion}
 use Rattle.std.specs.Option.{option_map}
 use Rattle.std.proofs.lemmas.Bool.Decides.{eqb_tells}
 use Rattle.std.proofs.lemmas.List.{length-set}
-use Rattle.core_laws.proofs.TablePlaces.{get_set_same, get_set_other}
+use Rattle.kern_laws.proofs.TablePlaces.{get_set_same, get_set_other}
 use Rattle.kabi_values.specs.declared.replies.Reply.{Reply}
 use Rattle.kabi_types.specs.declared.scripts.Control.{Control}
 use Rattle.kabi_types.specs.declared.scripts.Script.{Script}

@@ -5,7 +5,7 @@ use Rattle.kheap_slabs.specs.Heap.{IsWellFormed, live_bytes}
 use Rattle.posix_defs.specs.Ending.{die}
 use Rattle.posix_defs.specs.Relief.{Kills}
 use Rattle.posix_defs.specs.World.{MayKeep, World, forget_dead, live_of}
-use Rattle.core_laws.proofs.Caches.{root_may_keep}
+use Rattle.kern_laws.proofs.Caches.{root_may_keep}
 use Rattle.call_run.specs.declared.objects.Objects.{Objects}
 use Rattle.call_run.specs.Objects.{AreKept}
 use Rattle.call_run.specs.Standing.{StandFor, StandsFor}

@@ -16,7 +16,7 @@ use Rattle.posix_defs.specs.Process.{is_alive, memory_of}
 use Rattle.posix_defs.specs.World.{Account}
 use Rattle.posix_defs.specs.declared.turner.Turned.{Turned}
 use Rattle.posix_defs.specs.declared.turner.Turned.TheVariants.{Done}
-use Rattle.core_laws.proofs.Remembering.{alive_still}
+use Rattle.kern_laws.proofs.Remembering.{alive_still}
 use Rattle.call_run.specs.declared.objects.Objects.{Objects}
 use Rattle.call_run.specs.Objects.{AreKept}
 use Rattle.call_run.specs.Standing.{Does, Led, StandFor}

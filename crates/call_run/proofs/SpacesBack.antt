@@ -13,7 +13,7 @@ use Rattle.posix_defs.specs.MemoryCalls.{remembered}
 use Rattle.posix_defs.specs.Plain.{Plain}
 use Rattle.posix_defs.specs.Process.{memory_in, memory_of}
 use Rattle.posix_defs.specs.World.{Account}
-use Rattle.core_laws.proofs.Remembering.{found_before, remembers_family}
+use Rattle.kern_laws.proofs.Remembering.{found_before, remembers_family}
 use Rattle.proc_table.specs.Accounting.{HasAccount}
 use Rattle.proc_table.specs.Changes.{with_nodes}
 use Rattle.proc_table.specs.Moves.{SpaceTurns, TableMoves}

@@ -17,7 +17,7 @@ use Rattle.posix_defs.specs.Process.{is_alive}
 use Rattle.posix_defs.specs.World.{Account, forget_dead}
 use Rattle.posix_defs.specs.declared.turner.Turned.{Turned}
 use Rattle.posix_defs.specs.declared.turner.Turned.TheVariants as turned
-use Rattle.core_laws.proofs.Nexts.{die_keeps}
+use Rattle.kern_laws.proofs.Nexts.{die_keeps}
 use Rattle.proc_table.specs.Changes.{verdict}
 use Rattle.proc_table.specs.Procs.{IsAlive, proc_of, target_of}
 use Rattle.proc_table.specs.Standing.{IsTable, answered_by, pid_of}

@@ -20,8 +20,8 @@ use Rattle.posix_defs.specs.Process.{is_alive}
 use Rattle.posix_defs.specs.SoundTasks.{AllAtHome}
 use Rattle.posix_defs.specs.Waiting.{is_nohang, waitpid}
 use Rattle.posix_defs.specs.World.{Account}
-use Rattle.core_laws.proofs.Families.{answers_on}
-use Rattle.core_laws.proofs.Nexts.{AnswerGoes, posix_goes}
+use Rattle.kern_laws.proofs.Families.{answers_on}
+use Rattle.kern_laws.proofs.Nexts.{AnswerGoes, posix_goes}
 use Rattle.proc_table.specs.Accounting.{HasAccount}
 use Rattle.proc_table.specs.Changes.{after_wait, is_other, reaped_of}
 use Rattle.proc_table.specs.Moves.{TableMoves}

@@ -14,7 +14,7 @@ use Rattle.posix_defs.specs.Turn.{TurnsTo, TurnsWhere, account_after}
 use Rattle.posix_defs.specs.World.{MayKeep, World, boot_kept, can_evict, live_of}
 use Rattle.posix_defs.specs.declared.turner.Turned.{Turned}
 use Rattle.posix_defs.specs.declared.turner.Turned.TheVariants as turned
-use Rattle.core_laws.proofs.Caches.{root_may_keep, root_pinned}
+use Rattle.kern_laws.proofs.Caches.{root_may_keep, root_pinned}
 use Rattle.call_run.specs.declared.objects.Objects.{Objects}
 use Rattle.call_run.specs.Objects.{AreKept}
 use Rattle.call_run.specs.Standing.{Led, StandsFor}

@@ -1,5 +1,5 @@
 -- The argument check: what is wrong with the operands of a call, before anything else is looked at.
-use Rattle.std.specs.Prelude.{ℕ, ◌+◌, ◌%◌, ◌==◌, ℤ, pos, negsuc, Bool, false, not, ◌&&◌, ◌||◌, nat_le, if◌then◌else◌, List, length, Option, None, Some}
+use Rattle.std.specs.Prelude.{ℕ, ◌+◌, ◌%◌, ◌==◌, ℤ, pos, negsuc, Bool, false, not, ◌&&◌, ◌||◌, nat_le, nat_lt, if◌then◌else◌, List, length, Option, None, Some}
 use Rattle.std.specs.List.{list_any}
 use Rattle.std.specs.Option.{option_or}
 use Rattle.std.specs.Int.RustNames.{bit_and}
@@ -21,6 +21,15 @@ space_size = 1048576
 abbrev pub is_from : ℕ → ℤ → Bool
 is_from low (pos n) = nat_le low n
 is_from low (negsuc _) = false
+
+-- how many descriptors a process has: their numbers are those below it
+abbrev pub most_descriptors : ℕ
+most_descriptors = 32
+
+-- the number is one that a descriptor may have
+abbrev pub may_be_descriptor : ℤ → Bool
+may_be_descriptor (pos n) = nat_lt n most_descriptors
+may_be_descriptor (negsuc _) = false
 
 -- the number lies between these, both among them
 abbrev pub is_within : ℕ → ℕ → ℤ → Bool
@@ -107,7 +116,7 @@ argument_fault (call.OpenFile path flags) = open_fault path flags
 argument_fault (call.Close _) = None
 argument_fault (call.Dup _) = None
 argument_fault (call.Dup2 _ _) = None
-argument_fault (call.Fcntl _ cmd arg) = invalid_unless (is_within 1 4 cmd || (is_number 0 cmd && is_within 0 31 arg))
+argument_fault (call.Fcntl _ cmd arg) = invalid_unless (is_within 1 4 cmd || (is_number 0 cmd && may_be_descriptor arg))
 argument_fault (call.Read _ addr n) = moved_fault 0 addr n
 argument_fault (call.Write _ addr n _) = moved_fault 0 addr n
 argument_fault (call.Pread _ addr n at) = placed_fault addr n at

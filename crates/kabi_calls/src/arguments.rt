@@ -8,6 +8,7 @@ ghost use Rattle.kabi_calls.specs.Arguments.{
   is_number,
   is_minus_one,
   is_within,
+  may_be_descriptor,
   lie_in_space,
   is_page_range,
   truncates_unwritten,
@@ -36,6 +37,9 @@ const SPACE_SIZE: u64 = 1048576;
 /// The most bytes that a call may be asked to move.
 const SSIZE_MAX: u32 = 32767;
 
+/// How many descriptors a process has, OPEN_MAX: their numbers are those below it.
+pub const MOST_DESCRIPTORS: u32 = 32;
+
 /// The flag O_TRUNC of `open`, and the bits of its access mode, which is 0 where the file is only read.
 const TRUNC: u64 = 512;
 
@@ -51,6 +55,12 @@ fn is_within(low: u32, high: u32, number: i64) -> bool
     ensures { result ≡ is_within low high number }
 {
     i64::from(low) <= number && number <= i64::from(high)
+}
+
+fn may_be_descriptor(number: i64) -> bool
+    ensures { result ≡ may_be_descriptor number }
+{
+    0 <= number && number < i64::from(MOST_DESCRIPTORS)
 }
 
 /// The number of bytes that an operand gives, and 0 for one below 0.
@@ -93,9 +103,9 @@ fn may_kill(pid: i64, signal: i64) -> bool
 
 /// Whether `fcntl` has the command, and command 0 a descriptor to begin at.
 fn is_command(cmd: i64, arg: i64) -> bool
-    ensures { result ≡ (is_within 1 4 cmd || (is_number 0 cmd && is_within 0 31 arg)) }
+    ensures { result ≡ (is_within 1 4 cmd || (is_number 0 cmd && may_be_descriptor arg)) }
 {
-    is_within(1, 4, cmd) || (cmd == 0 && is_within(0, 31, arg))
+    is_within(1, 4, cmd) || (cmd == 0 && may_be_descriptor(arg))
 }
 
 fn invalid_unless(right: bool) -> Result<(), Errno>

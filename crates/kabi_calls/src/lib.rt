@@ -7,6 +7,6 @@ mod laws;
 mod paths;
 mod words;
 
-pub use arguments::may_wait;
+pub use arguments::{MOST_DESCRIPTORS, may_wait};
 pub use calls::{Call, CallKind};
 pub use laws::every_call_is_listed;

@@ -11,7 +11,7 @@ mod scripts;
 mod tests;
 
 pub use entries::{Cached, End, Entry, Event, Noted};
-pub use kabi_calls::{Call, CallKind, every_call_is_listed, may_wait};
+pub use kabi_calls::{Call, CallKind, MOST_DESCRIPTORS, every_call_is_listed, may_wait};
 pub use kabi_values::{
     Bytes64, Class, DirEntry, Errno, Inode, Memory, Name27, Need, NodeKind, OpenFlags, Path,
     PollEntry, PollHits, PollList, Reply, Revents, StatInfo, Weight,

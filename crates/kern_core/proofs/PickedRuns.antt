@@ -12,9 +12,9 @@ use Rattle.posix_defs.specs.Ends.{end_of}
 use Rattle.posix_defs.specs.Choice.{chosen, named_by}
 use Rattle.posix_defs.specs.Generator.{next_state, state_after}
 use Rattle.posix_defs.specs.CoreRun.{IsPickedRun, boots, goes_on}
-use Rattle.core_laws.proofs.Picking.{named_is_enabled}
-use Rattle.core_laws.proofs.Sounds.{is_sound}
-use Rattle.core_tasks.specs.View.{CoreView, IsAt, CanTake, HasBooted, HasEnded, HasPicked, MayTake, Took}
+use Rattle.kern_laws.proofs.Picking.{named_is_enabled}
+use Rattle.kern_laws.proofs.Sounds.{is_sound}
+use Rattle.kern_tasks.specs.View.{CoreView, IsAt, CanTake, HasBooted, HasEnded, HasPicked, MayTake, Took}
 use Rattle.kern_core.specs.declared.choosing.Choosing.{Choosing}
 use Rattle.kern_core.specs.Choosing.{given}
 

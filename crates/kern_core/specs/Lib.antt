@@ -12,11 +12,11 @@ pub use Rattle.posix_defs.specs.Ends
 pub use Rattle.posix_defs.specs.Enabled
 pub use Rattle.posix_defs.specs.Choice
 pub use Rattle.posix_defs.specs.CoreRun
-pub use Rattle.core_tasks.specs.Room
-pub use Rattle.core_tasks.specs.Calm
-pub use Rattle.core_tasks.specs.Places
-pub use Rattle.core_tasks.specs.View
-pub use Rattle.core_tasks.specs.Others
-pub use Rattle.core_events.specs.Reliefs
+pub use Rattle.kern_tasks.specs.Room
+pub use Rattle.kern_tasks.specs.Calm
+pub use Rattle.kern_tasks.specs.Places
+pub use Rattle.kern_tasks.specs.View
+pub use Rattle.kern_tasks.specs.Others
+pub use Rattle.kern_events.specs.Reliefs
 pub mod Choosing
 pub mod Sample

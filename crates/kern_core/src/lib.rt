@@ -9,5 +9,5 @@ mod tests;
 mod tests_evictions;
 
 pub use choosing::Choosing;
-pub use core_events::{Core, Relief};
+pub use kern_events::{Core, Relief};
 pub use picks::run_to_end;

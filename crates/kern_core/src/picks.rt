@@ -1,13 +1,13 @@
 ghost use Rattle.std.specs.Prelude.{◌≡◌, None, Some, length};
-ghost use Rattle.core_tasks.specs.View.{GoesOn, HasBooted, HasEnded, IsAt, LastStaysInside, MayTake};
+ghost use Rattle.kern_tasks.specs.View.{GoesOn, HasBooted, HasEnded, IsAt, LastStaysInside, MayTake};
 ghost use Rattle.posix_defs.specs.Choice.{named_by};
 ghost use Rattle.posix_defs.specs.CoreState.{CoreState};
 ghost use Rattle.posix_defs.specs.SoundTasks.{IsSound};
 ghost use Rattle.posix_defs.specs.Ends.{end_of};
 
 use crate::choosing::Choosing;
-use core_events::Core;
 use kabi_types::{Chooser, End, Event};
+use kern_events::Core;
 use posix_defs::Turner;
 
 /// The event that a number names, or the default without a number, where some event may be taken.

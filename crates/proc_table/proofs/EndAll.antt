@@ -7,8 +7,8 @@ use Rattle.posix_defs.specs.ByPid.{with_pid}
 use Rattle.posix_defs.specs.Ending.{die_in, ended_as, leaves, left_behind, left_child}
 use Rattle.posix_defs.specs.Family.{IsFamily}
 use Rattle.posix_defs.specs.Process.{Alive, Ended, Process, Status, Table, is_alive, is_alive_in, is_there, process_at}
-use Rattle.core_laws.proofs.Families.{others_live, there_alive}
-use Rattle.core_laws.proofs.TablePlaces.{each_changed, is_gone, past_last, with_other}
+use Rattle.kern_laws.proofs.Families.{others_live, there_alive}
+use Rattle.kern_laws.proofs.TablePlaces.{each_changed, is_gone, past_last, with_other}
 use Rattle.proc_table.specs.Standing.{ends_alone, ends_from, ends_in}
 use Rattle.proc_table.proofs.FamilyLemmas.{length-with_pid}
 use Rattle.proc_table.proofs.PlaceLemmas.{some_same}

@@ -13,7 +13,7 @@ use Rattle.posix_defs.specs.MemoryCalls.{mapped_from, remembered}
 use Rattle.posix_defs.specs.Needs.{pages_in}
 use Rattle.posix_defs.specs.Plain.{answered}
 use Rattle.posix_defs.specs.Process.{memory_of}
-use Rattle.core_laws.proofs.Remembering.{alive_still}
+use Rattle.kern_laws.proofs.Remembering.{alive_still}
 use Rattle.call_run.specs.Standing.{Led, StandFor}
 use Rattle.call_run.proofs.Leading.{led_on}
 use Rattle.call_run.proofs.RightNumbers.{mmap_bytes}

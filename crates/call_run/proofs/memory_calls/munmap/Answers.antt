@@ -8,7 +8,7 @@ use Rattle.posix_defs.specs.Memory.{after_unmap, without_pages}
 use Rattle.posix_defs.specs.MemoryCalls.{remembered}
 use Rattle.posix_defs.specs.Needs.{pages_touched}
 use Rattle.posix_defs.specs.Process.{memory_of}
-use Rattle.core_laws.proofs.Remembering.{alive_still}
+use Rattle.kern_laws.proofs.Remembering.{alive_still}
 use Rattle.call_run.specs.Standing.{StandFor}
 use Rattle.call_run.proofs.Leading.{led_on}
 use Rattle.call_run.proofs.RightNumbers.{munmap_pages}

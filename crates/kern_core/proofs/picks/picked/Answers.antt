@@ -1,10 +1,10 @@
 use Rattle.std.proofs.Common.{Some, IfSome, IsSome, sym, subst}
-use Rattle.core_laws.proofs.Picking.{some_is_named}
-use Rattle.core_laws.proofs.Sounds.{is_sound}
-use Rattle.core_tasks.specs.View.{CanTake, MayTake}
+use Rattle.kern_laws.proofs.Picking.{some_is_named}
+use Rattle.kern_laws.proofs.Sounds.{is_sound}
+use Rattle.kern_tasks.specs.View.{CanTake, MayTake}
 use Rattle.kern_core.proofs.PickedRuns.{may_take}
 use Rattle.kern_core.proofs.picks.picked.Goals as goal
-use Rattle.core_tasks.proofs.Defaults.{default_may}
+use Rattle.kern_tasks.proofs.Defaults.{default_may}
 
 pub unwrap-requires : goal.unwrap-requires
 unwrap-requires g c =

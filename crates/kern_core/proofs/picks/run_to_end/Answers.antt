@@ -2,8 +2,8 @@ use Rattle.std.proofs.Common.{◌≡◌, ◌∙◌, ap, subst, sym, refl, length
 use Rattle.posix_defs.specs.Choice.{chosen, named_by}
 use Rattle.posix_defs.specs.SoundTasks.{IsSound}
 use Rattle.posix_defs.specs.Ends.{end_of}
-use Rattle.core_tasks.specs.View.{StaysInside, Took}
-use Rattle.core_tasks.proofs.LastNoted.{last_inside, some_noted}
+use Rattle.kern_tasks.specs.View.{StaysInside, Took}
+use Rattle.kern_tasks.proofs.LastNoted.{last_inside, some_noted}
 use Rattle.kern_core.proofs.PickedRuns.{chooses_more, chooses_next, has_ended, picked_boot, picked_more}
 use Rattle.kern_core.proofs.picks.run_to_end.Goals as goal
 

@@ -1,5 +1,5 @@
 use Rattle.std.proofs.Common.{◌≡◌, ◌-◌, length}
-use Rattle.core_tasks.specs.View.{HasPicked, LastStaysInside}
+use Rattle.kern_tasks.specs.View.{HasPicked, LastStaysInside}
 use Rattle.kern_core.proofs.PickedRuns.{ChoosesFrom}
 use Rattle.kern_core.proofs.picks.run_to_end.Given as goal
 

@@ -1,7 +1,0 @@
-use Rattle.std.proofs.Common.{◌≤◌, subst}
-use Rattle.core_tasks.proofs.NextRun.{within_heap}
-use Rattle.core_events.proofs.cores.Core.charged.Goals as goal
-
-pub returns-clause-within : goal.returns-clause-within
-returns-clause-within g c =
-    subst (λ core. c.self.inside.charged ≤ (g.T.Turner.script core.store).heap) c.self.view_is (within_heap _ _ _ _ _ _ c.self.invariant)

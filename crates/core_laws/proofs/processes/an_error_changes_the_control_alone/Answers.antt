@@ -1,5 +1,0 @@
-use Rattle.core_laws.proofs.Errors.{fails_alone, wants_no_memory}
-use Rattle.core_laws.proofs.processes.an_error_changes_the_control_alone.Goals as goal
-
-pub returns : goal.returns
-returns c = λ script plain pid call errno next e. (fails_alone script plain pid call errno next e, wants_no_memory script plain pid call errno next e)

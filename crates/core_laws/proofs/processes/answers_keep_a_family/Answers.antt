@@ -1,5 +1,0 @@
-use Rattle.core_laws.proofs.Families.{answers_on}
-use Rattle.core_laws.proofs.processes.answers_keep_a_family.Goals as goal
-
-pub returns : goal.returns
-returns c = answers_on

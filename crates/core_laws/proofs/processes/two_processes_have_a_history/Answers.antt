@@ -1,5 +1,0 @@
-use Rattle.core_laws.proofs.TwoRun.{two_run}
-use Rattle.core_laws.proofs.processes.two_processes_have_a_history.Goals as goal
-
-pub returns : goal.returns
-returns c = two_run

@@ -1,5 +1,0 @@
-use Rattle.std.proofs.Common.{refl}
-use Rattle.core_laws.proofs.processes.two_processes_run.Goals as goal
-
-pub returns : goal.returns
-returns c = (_, _, _, _, refl, refl, refl, refl, refl, refl)

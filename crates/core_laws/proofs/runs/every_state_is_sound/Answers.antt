@@ -1,5 +1,0 @@
-use Rattle.core_laws.proofs.Sounds.{is_sound}
-use Rattle.core_laws.proofs.runs.every_state_is_sound.Goals as goal
-
-pub returns-clause-sound : goal.returns-clause-sound
-returns-clause-sound c = λ script steps run s runs. is_sound runs

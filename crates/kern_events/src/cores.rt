@@ -1,0 +1,713 @@
+//! A run of a script: its events, what each does, and when it ends.
+
+ghost use Rattle.std.specs.Prelude.{◌≡◌, ℕ, ◌+◌, ◌-◌, ◌≤◌, ◌<◌, [], length, filter, Some, None, IfOk, IfSome, IsSome, IsNone, slice_get, true};
+ghost use Rattle.std.specs.Option.{option_to_list};
+ghost use Rattle.std.specs.List.{list_any, list_all};
+ghost use Rattle.kabi_types.specs.declared.entries.Event.TheVariants.{Ask, Admit, Turn, Wake, Abandon, Kill, Evict};
+ghost use Rattle.kabi_calls.specs.Call.{kind_of};
+ghost use Rattle.posix_defs.specs.Needs.{bound};
+ghost use Rattle.posix_defs.specs.Sizes.{room};
+ghost use Rattle.posix_defs.specs.World.{World, boot_world, can_evict};
+ghost use Rattle.posix_defs.specs.Process.{is_alive};
+ghost use Rattle.posix_defs.specs.CoreState.{CoreState, asked_by, boot_state, is_admitted, phase_in, some_fits, some_wait_in_vain, is_waiting, lives};
+ghost use Rattle.posix_defs.specs.SoundTasks.{IsSound};
+ghost use Rattle.posix_defs.specs.CoreEvent.{phase_after};
+ghost use Rattle.posix_defs.specs.declared.turner.Turned.TheVariants.{Sleep};
+ghost use Rattle.posix_defs.specs.Licence.{can_evict_any, is_licensed};
+ghost use Rattle.posix_defs.specs.Ends.{all_asleep, end_of, starves_for, sleeps_on};
+ghost use Rattle.posix_defs.specs.Choice.{asks_nothing, default_of, events_of, enabled_in, default_in, kills_in, named_by, others_in};
+ghost use Rattle.kern_tasks.specs.View.{IsAt, IsAskedFor, IsSleep, HasRun, HasBooted, Has, CanTake, GoesOn, MayTake, StaysInside, Takes, Took};
+ghost use Rattle.kern_tasks.specs.Others.{eviction, present};
+ghost use Rattle.kern_events.specs.Reliefs.{HelpsInside, NeverStarves, Relieves, first_evictable, relief_of};
+
+use crate::reliefs::Relief;
+use kabi_types::{Cached, Call, End, Entry, Event, Memory, Noted};
+use kern_tasks::{
+    add_born, all_have_events, all_sleep, bury, bury_ended, count_present, entry_of, first_going,
+    first_waiting, is_admitted, is_alone, last_noted, may_end, note, phase_of, present_at, remove,
+    set_phase, some_within, some_without, task_at,
+};
+use need_table::{bound, need};
+use posix_defs::{Asked, Phase, Task, Turned, Turner};
+use std::alloc::Global;
+use std::marker::Model;
+
+/// Two blocks, which closing and ending may always use, in bytes.
+const RESERVE: u64 = 2176;
+
+/// What is charged at boot, in bytes.
+const FIXED: u64 = 2816;
+
+/// A run of a script: the store of its processes, how far each is with its call, and what happened so far.
+#[derive(Drop)]
+pub struct Core<T: Turner + Drop> {
+    store: T,
+    steps: u32,
+    heap: u64,
+    run: Vec<Noted>,
+    tasks: Vec<Task>,
+    reserved: u64,
+    charged: u64,
+    peak: u64,
+}
+
+impl<T: Turner + Drop> Model for Core<T> {
+    ghost use Rattle.std.specs.Prelude.{vec_capacity};
+    ghost use Rattle.kern_tasks.specs.View.{CoreView, IsKept};
+
+    ghost Value = { CoreView T };
+
+    ghost view = { λ core. record {
+      store = core.store;
+      steps = core.steps;
+      run = core.run.items;
+      tasks = core.tasks.items;
+      reserved = core.reserved;
+      charged = core.charged;
+      peak = core.peak;
+    } };
+
+    ghost invariant = { λ core. IsKept T.stands (T.script core.store) (record {
+      store = core.store;
+      steps = core.steps;
+      run = core.run.items;
+      tasks = core.tasks.items;
+      reserved = core.reserved;
+      charged = core.charged;
+      peak = core.peak;
+    }) core.heap (vec_capacity core.run) (vec_capacity core.tasks) };
+}
+
+impl<T: Turner + Drop> Core<T> {
+    /// A core at the start of a run of at most `steps` events, from 1 to 100000, over a store at boot with a heap of
+    /// `heap` bytes, from 8192 to 8388608. It reserves room for all events and processes of the run.
+    pub fn boot(alloc: Global, store: T, steps: u32, heap: u64) -> Result<Core<T>, Memory>
+        requires booted { T.stands store (boot_world (T.script store)) }
+        requires heap { heap ≡ (T.script store).heap }
+        requires least_heap { 8192 ≤ heap }
+        requires most_heap { heap ≤ 8388608 }
+        requires most_steps { steps ≤ 100000 }
+        ensures booted { IfOk result (λ core. HasBooted T.stands (T.script store) core) }
+        ensures store { IfOk result (λ core. core.store ≡ store) }
+        ensures steps { IfOk result (λ core. core.steps ≡ steps) }
+    {
+        let run = Vec::with_capacity(alloc, steps as usize)?;
+        let mut tasks = Vec::with_capacity(alloc, steps as usize + 1)?;
+        tasks.push_reserved(Task {
+            pid: 1,
+            phase: Phase::User,
+        });
+        Ok(Core {
+            store,
+            steps,
+            heap,
+            run,
+            tasks,
+            reserved: 0,
+            charged: FIXED,
+            peak: FIXED,
+        })
+    }
+
+    /// What is charged now, in bytes: the live heap, the reserve of two blocks, and the bounds of the admitted calls.
+    pub fn charged(&self) -> u64
+        ensures value { result ≡ self.now.charged }
+        ensures within { result ≤ (T.script self.now.store).heap }
+    {
+        self.charged
+    }
+
+    /// The greatest that was charged, at boot and after each event, in bytes.
+    pub fn peak(&self) -> u64
+        ensures { result ≡ self.now.peak }
+    {
+        self.peak
+    }
+
+    /// How many blocks the store has read from its disk.
+    pub fn reads(&self) -> u64
+        ensures { (s : CoreState) → IsAt T.stands self.now s → result ≡ s.world.reads }
+    {
+        self.store.reads()
+    }
+
+    /// The events that were taken, the first one first.
+    pub fn run(&self) -> &[Noted]
+        ensures same { result.now ≡ self.now.run }
+        ensures runs { HasRun T.stands (T.script self.now.store) self.now }
+    {
+        self.run.as_slice()
+    }
+
+    /// How much of the heap isn't charged, in bytes.
+    fn room(&self) -> u64
+        ensures { result + self.now.charged ≡ (T.script self.now.store).heap }
+    {
+        self.heap - self.charged
+    }
+
+    fn admits_any(&self) -> bool
+        ensures { result ≡ list_any (λ task. is_admitted task.phase) self.now.tasks }
+    {
+        self.tasks.iter().any(|task| is_admitted(task.phase))
+    }
+
+    /// Whether some call waits for which there is no room now.
+    fn some_wait_in_vain(&self) -> bool
+        ensures { (s : CoreState) → IsAt T.stands self.now s → result ≡ some_wait_in_vain (T.script self.now.store) s }
+    {
+        some_without(self.tasks.as_slice(), self.room())
+    }
+
+    /// Whether some call waits for which there is room now.
+    fn some_fit(&self) -> bool
+        ensures { (s : CoreState) → IsAt T.stands self.now s → result ≡ some_fits (T.script self.now.store) s }
+    {
+        some_within(self.tasks.as_slice(), self.room())
+    }
+
+    fn can_evict_any(&self) -> bool
+        ensures { (s : CoreState) → IsAt T.stands self.now s → result ≡ can_evict_any s.world }
+    {
+        self.store.evictable(Cached::Name)
+            || self.store.evictable(Cached::Block)
+            || self.store.evictable(Cached::Vnode)
+    }
+
+    /// What the first process's call needs, where it waits in vain and nothing can help it.
+    fn starves_for(&self) -> Option<u64>
+        ensures { (s : CoreState) → IsAt T.stands self.now s → result ≡ starves_for (T.script self.now.store) s }
+    {
+        if !is_alone(self.tasks.as_slice()) || self.admits_any() || self.can_evict_any() {
+            return None;
+        }
+        match phase_of(self.tasks.as_slice(), 1) {
+            Phase::Waiting(asked) if asked.bound > self.room() => Some(asked.bound),
+            _ => None,
+        }
+    }
+
+    /// Whether a process sleeps on a call that would still block.
+    fn sleeps_on(&self, task: Task) -> bool
+        requires { Has self.now.tasks task }
+        ensures { (s : CoreState) → IsAt T.stands self.now s → IsSound (T.script self.now.store) s
+            → result ≡ sleeps_on (T.script self.now.store) s task.pid task.phase }
+    {
+        match task.phase {
+            Phase::Asleep(_) => !self.store.ready(task.pid),
+            _ => false,
+        }
+    }
+
+    /// Whether every process that is alive sleeps on a call that would still block, and none is admitted.
+    fn all_asleep(&self) -> bool
+        ensures { (s : CoreState) → IsAt T.stands self.now s → IsSound (T.script self.now.store) s → result ≡ all_asleep (T.script self.now.store) s }
+    {
+        // The phases mostly tell it, which asks nothing of the store.
+        all_sleep(self.tasks.as_slice()) && self.all_block()
+    }
+
+    /// The same, where the store is asked of each that sleeps.
+    fn all_block(&self) -> bool
+        ensures { (s : CoreState) → IsAt T.stands self.now s → IsSound (T.script self.now.store) s → result ≡ all_asleep (T.script self.now.store) s }
+    {
+        for task in self.tasks.iter() {
+            if !self.sleeps_on(*task) {
+                return false;
+            }
+        }
+        true
+    }
+
+    /// The end that stands now, the first that holds; None where the run goes on, and then some event may be taken.
+    pub fn ended(&self) -> Option<End>
+        ensures end { (s : CoreState) → IsAt T.stands self.now s → IsSound (T.script self.now.store) s → result ≡ end_of (T.script self.now.store) self.now.steps (length self.now.run) s }
+        ensures goes_on { IsNone result → GoesOn T.stands (T.script self.now.store) self.now }
+    {
+        if !self.store.alive(1) && !self.admits_any() {
+            return Some(End::Finished);
+        }
+        if let Some(need) = self.starves_for() {
+            return Some(End::Starved { pid: 1, need });
+        }
+        if self.all_asleep() {
+            return Some(End::AllAsleep);
+        }
+        if self.run.len() == self.steps as usize {
+            return Some(End::Spent);
+        }
+        None
+    }
+
+    /// The event of a task, if it may be taken.
+    fn event_of(&self, task: Task) -> Option<Event>
+        requires { Has self.now.tasks task }
+        ensures { (s : CoreState) → IsAt T.stands self.now s → IsSound (T.script self.now.store) s
+            → option_to_list result ≡ events_of (T.script self.now.store) s task.pid task.phase }
+    {
+        let pid = task.pid;
+        match task.phase {
+            Phase::User => Some(Event::Ask(pid)),
+            Phase::Waiting(asked) => {
+                if asked.bound <= self.room() {
+                    Some(Event::Admit(pid))
+                } else {
+                    None
+                }
+            }
+            Phase::Admitted(_) => Some(Event::Turn(pid)),
+            Phase::Asleep(_) => {
+                if self.store.ready(pid) {
+                    Some(Event::Wake(pid))
+                } else {
+                    None
+                }
+            }
+            Phase::Stranded(_) => Some(Event::Abandon(pid)),
+            Phase::Dead => None,
+        }
+    }
+
+    /// Whether a process may be killed, so that a call that waits may fit.
+    fn is_licensed(&self) -> bool
+        ensures { (s : CoreState) → IsAt T.stands self.now s → result ≡ is_licensed (T.script self.now.store) s }
+    {
+        !self.admits_any()
+            && self.some_wait_in_vain()
+            && !self.can_evict_any()
+            && !self.some_fit()
+            && self.store.victim().is_some()
+    }
+
+    /// The kill of the victim, if it may be taken.
+    fn kill_event(&self) -> Option<Event>
+        ensures { (s : CoreState) → IsAt T.stands self.now s → option_to_list result ≡ kills_in (T.script self.now.store) s }
+    {
+        if !self.is_licensed() {
+            return None;
+        }
+        match self.store.victim() {
+            Some(pid) => Some(Event::Kill(pid)),
+            None => None,
+        }
+    }
+
+    /// The eviction from a cache, if it may be taken.
+    fn evict_event(&self, what: Cached) -> Option<Event>
+        ensures { (s : CoreState) → IsAt T.stands self.now s → result ≡ eviction (lives s 1) (can_evict s.world.plain s.world.kept what) what }
+    {
+        // Mostly nothing is cached, which is the cheaper question.
+        if self.store.evictable(what) && self.store.alive(1) {
+            Some(Event::Evict(what))
+        } else {
+            None
+        }
+    }
+
+    /// The events that are of no process, each if it may be taken: the evictions, and then the kill.
+    fn others(&self) -> [Option<Event>; 4]
+        ensures { (s : CoreState) → IsAt T.stands self.now s → present result ≡ others_in (T.script self.now.store) s }
+    {
+        [
+            self.evict_event(Cached::Name),
+            self.evict_event(Cached::Block),
+            self.evict_event(Cached::Vnode),
+            self.kill_event(),
+        ]
+    }
+
+    /// How many events may be taken now, whether or not an end stands.
+    pub fn count(&self) -> u32
+        ensures { (s : CoreState) → IsAt T.stands self.now s → IsSound (T.script self.now.store) s → result ≡ length (enabled_in (T.script self.now.store) s) }
+    {
+        let mut count = 0;
+        for task in self.tasks.iter() {
+            if self.event_of(*task).is_some() {
+                count += 1;
+            }
+        }
+        count + count_present(&self.others())
+    }
+
+    /// The event at place `i`, from 0, among those that may be taken now: those of processes by rising pid, evictions, and
+    /// then a kill. None exactly where no more than `i` may be taken. Whether an end stands is not looked at.
+    pub fn enabled(&self, i: u32) -> Option<Event>
+        ensures listed { (s : CoreState) → IsAt T.stands self.now s → IsSound (T.script self.now.store) s → result ≡ slice_get (enabled_in (T.script self.now.store) s) i }
+        ensures may { IfSome result (λ event. CanTake T.stands (T.script self.now.store) self.now event) }
+    {
+        let mut before = 0;
+        for task in self.tasks.iter() {
+            if let Some(event) = self.event_of(*task) {
+                if before == i {
+                    return Some(event);
+                }
+                before += 1;
+            }
+        }
+        present_at(&self.others(), i - before)
+    }
+
+    /// The event that a number names: it counts round those that may be taken now. Mostly each task has an event, which
+    /// stands at the task's own place among them.
+    pub fn named(&self, number: u32) -> Option<Event>
+        requires { GoesOn T.stands (T.script self.now.store) self.now }
+        ensures named { (s : CoreState) → IsAt T.stands self.now s → IsSound (T.script self.now.store) s → result ≡ named_by (Some number) (T.script self.now.store) s }
+        ensures may { IfSome result (λ event. CanTake T.stands (T.script self.now.store) self.now event) }
+    {
+        if !all_have_events(self.tasks.as_slice(), self.room()) {
+            return self.enabled(number % self.count());
+        }
+        let others = self.others();
+        let tasks = self.tasks.len() as u32;
+        let place = number % (tasks + count_present(&others));
+        match task_at(self.tasks.as_slice(), place) {
+            Some(task) => self.event_of(task),
+            None => present_at(&others, place - tasks),
+        }
+    }
+
+    /// The first event that may be taken and asks for no more heap.
+    fn first_that_frees(&self) -> Option<Event>
+        ensures { (s : CoreState) → IsAt T.stands self.now s → IsSound (T.script self.now.store) s
+            → result ≡ slice_get (filter asks_nothing (enabled_in (T.script self.now.store) s)) 0 }
+    {
+        for task in self.tasks.iter() {
+            if let Some(event) = self.event_of(*task) {
+                if asks_nothing(event) {
+                    return Some(event);
+                }
+            }
+        }
+        present_at(&self.others(), 0)
+    }
+
+    /// The first event that may be taken, or where a call waits in vain the first that asks for no more heap. Whether an end
+    /// stands is not looked at.
+    pub fn first_choice(&self) -> Option<Event>
+        ensures { (s : CoreState) → IsAt T.stands self.now s → IsSound (T.script self.now.store) s → result ≡ default_of (T.script self.now.store) s }
+    {
+        if self.some_wait_in_vain() {
+            self.first_that_frees()
+        } else {
+            self.enabled(0)
+        }
+    }
+
+    /// The event that is taken where nothing else is chosen: the first that may be, or where a call waits in vain the first
+    /// that asks for no more heap. None exactly where `ended` answers an end.
+    pub fn default_event(&self) -> Option<Event>
+        ensures picked { (s : CoreState) → IsAt T.stands self.now s → IsSound (T.script self.now.store) s
+            → result ≡ default_in (T.script self.now.store) self.now.steps (length self.now.run) s }
+        ensures may { IfSome result (λ event. MayTake T.stands (T.script self.now.store) self.now event) }
+        ensures room { IfSome result (λ _. length self.now.run < self.now.steps) }
+        ensures none { (s : CoreState) → IsAt T.stands self.now s → IsSound (T.script self.now.store) s → IsNone result
+            → IsSome (end_of (T.script self.now.store) self.now.steps (length self.now.run) s) }
+    {
+        if self.ended().is_some() {
+            return None;
+        }
+        self.first_choice()
+    }
+
+    /// Takes an event that is enabled, while no end holds, and tells what is noted of it.
+    pub fn step(&mut self, event: Event) -> Noted
+        requires { MayTake T.stands (T.script self.old.store) self.old event }
+        ensures script { T.script self.new.store ≡ T.script self.old.store }
+        ensures took { Took T.stands (T.script self.old.store) self.old event result self.new }
+        ensures inside { StaysInside event (T.high self.new.store) self.new.reserved (T.script self.old.store).heap }
+    {
+        self.take(event);
+        last_noted(self.run())
+    }
+
+    /// Takes an event that is enabled, while no end holds; what is noted of it is the last of the run.
+    pub fn take(&mut self, event: Event)
+        requires { MayTake T.stands (T.script self.old.store) self.old event }
+        ensures script { T.script self.new.store ≡ T.script self.old.store }
+        ensures took { Takes T.stands (T.script self.old.store) self.old event self.new }
+        ensures inside { StaysInside event (T.high self.new.store) self.new.reserved (T.script self.old.store).heap }
+    {
+        match event {
+            Event::Ask(pid) => self.ask(pid),
+            Event::Admit(pid) => self.admit(pid),
+            Event::Turn(pid) => self.turn(pid),
+            Event::Wake(pid) => self.wake(pid),
+            Event::Abandon(pid) => self.abandon(pid),
+            Event::Kill(pid) => self.kill(pid),
+            Event::Evict(what) => self.evict(what),
+        }
+    }
+
+    fn ask(&mut self, pid: u32)
+        requires { MayTake T.stands (T.script self.old.store) self.old (Ask pid) }
+        ensures script { T.script self.new.store ≡ T.script self.old.store }
+        ensures took { Takes T.stands (T.script self.old.store) self.old (Ask pid) self.new }
+    {
+        let asked = asked_of(&self.store.next(pid));
+        if asked.bound > self.heap - FIXED {
+            self.refuse(pid, asked)
+        } else {
+            self.wait_for_room(pid, asked)
+        }
+    }
+
+    /// A process asks for a call whose bound is above what the heap can ever give.
+    fn refuse(&mut self, pid: u32, asked: Asked)
+        requires may { MayTake T.stands (T.script self.old.store) self.old (Ask pid) }
+        requires asked { IsAskedFor T.stands (T.script self.old.store) self.old pid asked }
+        requires never { room (T.script self.old.store).heap < asked.bound }
+        ensures script { T.script self.new.store ≡ T.script self.old.store }
+        ensures took { Takes T.stands (T.script self.old.store) self.old (Ask pid) self.new }
+    {
+        self.store.refuse(pid);
+        set_phase(&mut self.tasks, pid, Phase::User);
+        let entry = Entry::Refused {
+            pid,
+            kind: asked.kind,
+            bound: asked.bound,
+        };
+        let noted = noted_of(Event::Ask(pid), asked, Some(entry), self.charged);
+        note(&mut self.run, &mut self.peak, noted);
+    }
+
+    /// A process asks for its call, and waits for room.
+    fn wait_for_room(&mut self, pid: u32, asked: Asked)
+        requires may { MayTake T.stands (T.script self.old.store) self.old (Ask pid) }
+        requires asked { IsAskedFor T.stands (T.script self.old.store) self.old pid asked }
+        requires ever { asked.bound ≤ room (T.script self.old.store).heap }
+        ensures script { T.script self.new.store ≡ T.script self.old.store }
+        ensures took { Takes T.stands (T.script self.old.store) self.old (Ask pid) self.new }
+    {
+        set_phase(&mut self.tasks, pid, Phase::Waiting(asked));
+        let noted = noted_of(Event::Ask(pid), asked, None, self.charged);
+        note(&mut self.run, &mut self.peak, noted);
+    }
+
+    fn admit(&mut self, pid: u32)
+        requires { MayTake T.stands (T.script self.old.store) self.old (Admit pid) }
+        ensures script { T.script self.new.store ≡ T.script self.old.store }
+        ensures took { Takes T.stands (T.script self.old.store) self.old (Admit pid) self.new }
+    {
+        let Phase::Waiting(asked) = phase_of(self.tasks.as_slice(), pid) else {
+            unreachable!()
+        };
+        set_phase(&mut self.tasks, pid, Phase::Admitted(asked));
+        self.reserved += asked.bound;
+        self.charged += asked.bound;
+        let noted = noted_of(Event::Admit(pid), asked, None, self.charged);
+        note(&mut self.run, &mut self.peak, noted);
+    }
+
+    fn turn(&mut self, pid: u32)
+        requires { MayTake T.stands (T.script self.old.store) self.old (Turn pid) }
+        ensures script { T.script self.new.store ≡ T.script self.old.store }
+        ensures took { Takes T.stands (T.script self.old.store) self.old (Turn pid) self.new }
+        ensures inside { T.high self.new.store + self.new.reserved ≤ (T.script self.old.store).heap }
+    {
+        let Phase::Admitted(asked) = phase_of(self.tasks.as_slice(), pid) else {
+            unreachable!()
+        };
+        let before = self.store.last_pid();
+        let call = self.store.next(pid);
+        let turned = self.store.turn(pid, &call, need(&call));
+        let phase = phase_after(&self.store, pid, asked, &turned);
+        set_phase(&mut self.tasks, pid, phase);
+        let ends = may_end(asked.kind, &turned);
+        bury_ended(&self.store, &mut self.tasks, ends);
+        add_born(&mut self.tasks, before, self.store.last_pid());
+        self.reserved -= asked.bound;
+        self.charged = self.store.live() + RESERVE + self.reserved;
+        let entry = entry_of(pid, asked.kind, turned);
+        let noted = noted_of(Event::Turn(pid), asked, Some(entry), self.charged);
+        note(&mut self.run, &mut self.peak, noted);
+    }
+
+    fn wake(&mut self, pid: u32)
+        requires { MayTake T.stands (T.script self.old.store) self.old (Wake pid) }
+        ensures script { T.script self.new.store ≡ T.script self.old.store }
+        ensures took { Takes T.stands (T.script self.old.store) self.old (Wake pid) self.new }
+    {
+        let Phase::Asleep(asked) = phase_of(self.tasks.as_slice(), pid) else {
+            unreachable!()
+        };
+        set_phase(&mut self.tasks, pid, Phase::Waiting(asked));
+        let noted = noted_of(Event::Wake(pid), asked, None, self.charged);
+        note(&mut self.run, &mut self.peak, noted);
+    }
+
+    fn abandon(&mut self, pid: u32)
+        requires { MayTake T.stands (T.script self.old.store) self.old (Abandon pid) }
+        ensures script { T.script self.new.store ≡ T.script self.old.store }
+        ensures took { Takes T.stands (T.script self.old.store) self.old (Abandon pid) self.new }
+    {
+        let Phase::Stranded(asked) = phase_of(self.tasks.as_slice(), pid) else {
+            unreachable!()
+        };
+        remove(&mut self.tasks, pid);
+        let held = asked.bound;
+        self.reserved -= held;
+        self.charged -= held;
+        let noted = noted_of(Event::Abandon(pid), asked, None, self.charged);
+        note(&mut self.run, &mut self.peak, noted);
+    }
+
+    fn kill(&mut self, pid: u32)
+        requires { MayTake T.stands (T.script self.old.store) self.old (Kill pid) }
+        ensures script { T.script self.new.store ≡ T.script self.old.store }
+        ensures took { Takes T.stands (T.script self.old.store) self.old (Kill pid) self.new }
+        ensures inside { T.high self.new.store + self.new.reserved ≤ (T.script self.old.store).heap }
+    {
+        let Some(first) = first_waiting(self.tasks.as_slice()) else {
+            unreachable!()
+        };
+        let Phase::Waiting(asked) = first.phase else {
+            unreachable!()
+        };
+        let live = self.store.live();
+        self.store.kill(pid);
+        bury(&self.store, &mut self.tasks);
+        self.charged = self.store.live() + RESERVE + self.reserved;
+        let noted = Noted {
+            event: Event::Kill(pid),
+            kind: None,
+            entry: Some(Entry::Killed {
+                pid,
+                waiter: first.pid,
+                need: asked.bound,
+                live,
+            }),
+            bound: 0,
+            charged: self.charged,
+        };
+        note(&mut self.run, &mut self.peak, noted);
+    }
+
+    fn evict(&mut self, what: Cached)
+        requires { MayTake T.stands (T.script self.old.store) self.old (Evict what) }
+        ensures script { T.script self.new.store ≡ T.script self.old.store }
+        ensures took { Takes T.stands (T.script self.old.store) self.old (Evict what) self.new }
+        ensures inside { T.high self.new.store + self.new.reserved ≤ (T.script self.old.store).heap }
+    {
+        self.store.evict(what);
+        self.charged = self.store.live() + RESERVE + self.reserved;
+        let noted = Noted {
+            event: Event::Evict(what),
+            kind: None,
+            entry: Some(Entry::Evicted { what }),
+            bound: 0,
+            charged: self.charged,
+        };
+        note(&mut self.run, &mut self.peak, noted);
+    }
+
+    /// The first cache, of names, of blocks and of nodes, that keeps something that isn't pinned.
+    fn first_evictable(&self) -> Option<Cached>
+        ensures { (s : CoreState) → IsAt T.stands self.now s → result ≡ first_evictable s.world }
+    {
+        if self.store.evictable(Cached::Name) {
+            Some(Cached::Name)
+        } else if self.store.evictable(Cached::Block) {
+            Some(Cached::Block)
+        } else if self.store.evictable(Cached::Vnode) {
+            Some(Cached::Vnode)
+        } else {
+            None
+        }
+    }
+
+    /// Whether some call waits.
+    fn some_wait(&self) -> bool
+        ensures { result ≡ list_any (λ task. is_waiting task.phase) self.now.tasks }
+    {
+        self.tasks
+            .iter()
+            .any(|task| matches!(task.phase, Phase::Waiting(_)))
+    }
+
+    /// Helps the calls that wait, where no end holds, and tells how: the first case that holds. Nothing changes but by an
+    /// eviction or a kill, which is one event.
+    pub fn relief(&mut self) -> Relief
+        requires goes_on { GoesOn T.stands (T.script self.old.store) self.old }
+        requires no_end { (s : CoreState) → IsAt T.stands self.old s → IsSound (T.script self.old.store) s → end_of (T.script self.old.store) self.old.steps (length self.old.run) s ≡ None }
+        ensures script { T.script self.new.store ≡ T.script self.old.store }
+        ensures told { (s : CoreState) → IsAt T.stands self.old s → IsSound (T.script self.old.store) s → result ≡ relief_of (T.script self.old.store) s }
+        ensures leads { Relieves T.stands (T.script self.old.store) self.old result self.new }
+        ensures inside { HelpsInside result (T.high self.new.store) self.new.reserved (T.script self.old.store).heap }
+        ensures never { NeverStarves result }
+    {
+        if !self.some_wait() {
+            return Relief::NoneWaiting;
+        }
+        if let Some(pid) = first_going(self.tasks.as_slice(), self.room()) {
+            return Relief::Fits(pid);
+        }
+        if self.reserved != 0 {
+            return Relief::Outstanding {
+                charged: self.charged,
+                live: self.store.live(),
+            };
+        }
+        if let Some(what) = self.first_evictable() {
+            self.evict(what);
+            return Relief::Evicted(what);
+        }
+        let Some(pid) = self.store.victim() else {
+            unreachable!()
+        };
+        self.kill(pid);
+        Relief::Killed(pid)
+    }
+
+    /// The store as it is.
+    pub fn close(self) -> T
+        ensures { result ≡ self.store }
+    {
+        self.store
+    }
+}
+
+/// What a process asks for with this call.
+fn asked_of(call: &Call) -> Asked
+    ensures { result ≡ record { kind = kind_of call.now; bound = bound call.now } }
+{
+    Asked {
+        kind: call.kind(),
+        bound: bound(call),
+    }
+}
+
+/// Whether an event brings no call nearer to the heap.
+fn asks_nothing(event: Event) -> bool
+    ensures { result ≡ asks_nothing event }
+{
+    !matches!(event, Event::Ask(_) | Event::Wake(_))
+}
+
+/// What is noted of an event of a process.
+fn noted_of(event: Event, asked: Asked, entry: Option<Entry>, charged: u64) -> Noted
+    ensures { result ≡ record { event = event; kind = Some asked.kind; entry = entry; bound = asked.bound; charged = charged } }
+{
+    Noted {
+        event,
+        kind: Some(asked.kind),
+        entry,
+        bound: asked.bound,
+        charged,
+    }
+}
+
+/// The phase that a turn leaves its process in. A call that would block leaves the machine, so it is the one that was asked for;
+/// where a part is done the rest of the call is asked for anew.
+fn phase_after<T: Turner>(store: &T, pid: u32, asked: Asked, turned: &Turned) -> Phase
+    requires { IsSleep turned.now → (world : World) × T.stands store.now world × (is_alive world.plain.table pid ≡ true) }
+    ensures { (world : World) → T.stands store.now world → (IsSleep turned.now → is_alive world.plain.table pid ≡ true)
+        → (turned.now ≡ Sleep → asked ≡ asked_by (T.script store.now) world.plain pid)
+        → result ≡ phase_after (asked_by (T.script store.now) world.plain pid) turned.now }
+{
+    match turned {
+        Turned::Done(_) => Phase::User,
+        Turned::Part(_) => Phase::Asleep(asked_of(&store.next(pid))),
+        Turned::Sleep => Phase::Asleep(asked),
+        Turned::Ended(_) | Turned::Gone => Phase::Dead,
+    }
+}

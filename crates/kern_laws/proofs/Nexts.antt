@@ -1,0 +1,441 @@
+-- How the machine goes on behind a call: who is alive then, and whose control stays.
+use Rattle.std.proofs.Common.{◌≡◌, ◌≢◌, ℕ, zero, suc, ◌+◌, ◌*◌, ◌/◌, ◌<◌, ◌≤◌, ◌==◌, if◌then◌else◌, Bool, true, false, cond, ℤ, pos, negsuc, List, [], ◌∷◌, ◌++◌, length, map, Option, None, Some, slice_get, slice_set, unwrap_or, refl, ap, sym, ◌∙◌, subst, arith, inl, inr, length-append}
+use Rattle.std.proofs.lemmas.Bool.Decides.{eqb_tells}
+use Rattle.std.proofs.lemmas.List.{length-set, length-map}
+use Rattle.kabi_calls.specs.declared.calls.Call.{Call}
+use Rattle.kabi_calls.specs.declared.calls.Call.TheVariants as call
+use Rattle.kabi_calls.specs.Arguments.{argument_fault, count_of, page_size}
+use Rattle.kabi_values.specs.declared.errnos.Errno.{Errno}
+use Rattle.kabi_values.specs.declared.errnos.Errno.TheVariants.{EAGAIN, ECHILD, EFAULT, EINVAL, EMFILE, EPERM, ESRCH}
+use Rattle.kabi_values.specs.declared.replies.Reply.{Reply}
+use Rattle.kabi_values.specs.declared.replies.Reply.TheVariants.{Bytes, Val, Waited, Fail}
+use Rattle.kabi_types.specs.declared.scripts.Script.{Script}
+use Rattle.posix_defs.specs.ByPid.{at_pid, with_pid}
+use Rattle.posix_defs.specs.Process.{Process, Table, Status, Alive, Ended, memory_of, parent_of, process_at, is_alive, is_alive_in, runs}
+use Rattle.posix_defs.specs.Plain.{Plain, answered, control_of, last_pid, root, at_start}
+use Rattle.posix_defs.specs.Answer.{Answer, Blocked, Done, Part, failed, replied}
+use Rattle.posix_defs.specs.Answer as answer
+use Rattle.posix_defs.specs.Ending.{die, die_in, leaves, left_behind, left_child, ended_as, exit_status}
+use Rattle.posix_defs.specs.Forking.{child_of, is_full, with_child}
+use Rattle.posix_defs.specs.Killing.{ends, is_asking, kill, sent_to}
+use Rattle.posix_defs.specs.Memory.{Memory, is_mapped_range, loaded, lowest_run, no_memory, stored, without_pages}
+use Rattle.posix_defs.specs.MemoryCalls.{mapped_from, remembered}
+use Rattle.posix_defs.specs.Needs.{pages_in, pages_touched}
+use Rattle.posix_defs.specs.Machine.{answer_to, machine, unless_wrong}
+use Rattle.posix_defs.specs.Waiting.{Exited, any_from, exited_from, is_nohang, not_yet, reaped, waited_for, waitpid}
+use Rattle.posix_defs.specs.SoundTasks.{AllAtHome}
+use Rattle.kern_laws.proofs.Families.{exited_has_ended, still_alive}
+use Rattle.kern_laws.proofs.Remembering.{alive_still, found_before, length-with_memory}
+use Rattle.kern_laws.proofs.TablePlaces.{at_end, each_changed, in_longer, is_gone, same_in_front, was_made, with_other, with_same}
+
+-- The machine goes on behind a call of a process.
+pub record IsNext (old new : Plain) (pid : ℕ) : Type 0 where
+  pub more : last_pid old ≤ last_pid new
+  pub one : last_pid new ≤ last_pid old + 1
+  pub made : length new.table ≡ last_pid new
+  pub controls : (other : ℕ) → other ≢ pid → other ≤ last_pid old → control_of new other ≡ control_of old other
+  pub revived : (other : ℕ) → other ≤ last_pid old → is_alive new.table other ≡ true → is_alive old.table other ≡ true
+  pub born : (other : ℕ) → last_pid old < other → other ≤ last_pid new → is_alive new.table other ≡ true
+  pub home : AllAtHome old.table → AllAtHome new.table
+
+pub same_next : (plain : Plain) (pid : ℕ) → length plain.table ≡ last_pid plain → IsNext plain plain pid
+same_next plain pid made = record {
+  more = omega arith;
+  one = omega arith;
+  made = made;
+  controls = λ other apart within. refl;
+  revived = λ other within alive. alive;
+  born = λ other past within. absurd (omega arith);
+  home = λ home. home;
+}
+
+length-with_pid : {X : Type 0} (xs : List X) (pid : ℕ) (x : X) → length (with_pid xs pid x) ≡ length xs
+length-with_pid xs zero x = refl
+length-with_pid xs (suc i) x = length-set xs i x
+
+get_set_apart : {X : Type 0} (xs : List X) (i j : ℕ) (y : X) → j ≢ i → slice_get (slice_set xs i y) j ≡ slice_get xs j
+get_set_apart [] i j y apart = refl
+get_set_apart (x ∷ xs) zero zero y apart = absurd (apart refl)
+get_set_apart (x ∷ xs) zero (suc j) y apart = refl
+get_set_apart (x ∷ xs) (suc i) zero y apart = refl
+get_set_apart (x ∷ xs) (suc i) (suc j) y apart = get_set_apart xs i j y (λ same. apart (ap (λ k. suc k) same))
+
+pub at_other : {X : Type 0} (xs : List X) (pid other : ℕ) (x : X) → other ≢ pid → at_pid (with_pid xs pid x) other ≡ at_pid xs other
+at_other xs zero other x apart = refl
+at_other xs (suc i) zero x apart = refl
+at_other xs (suc i) (suc j) x apart = get_set_apart xs i j x (λ same. apart (ap (λ k. suc k) same))
+
+-- a reply changes the caller's control alone
+pub answered_next : (script : Script) (plain base : Plain) (pid : ℕ) (reply : Reply) → IsNext plain base pid
+    → IsNext plain (answered script base pid reply) pid
+answered_next script plain base pid reply next =
+    let same : last_pid (answered script base pid reply) ≡ last_pid base = length-with_pid base.controls pid _ in
+    record {
+      more = let more : last_pid plain ≤ last_pid base = next.more in omega arith;
+      one = let one : last_pid base ≤ last_pid plain + 1 = next.one in omega arith;
+      made = next.made ∙ sym same;
+      controls = λ other apart within. ap (λ found. unwrap_or found (at_start 0)) (at_other base.controls pid other _ apart) ∙ next.controls other apart within;
+      revived = next.revived;
+      born = λ other past within. next.born other past (subst (λ n. other ≤ n) same within);
+      home = next.home;
+    }
+
+-- who was left behind was there before, as alive as then
+left_alive : (pid : ℕ) (there : Option Process) → is_alive_in (left_behind pid there) ≡ true → is_alive_in there ≡ true
+left_alive pid None e = e
+left_alive pid (Some process) e = go (process.parent == pid) process.status refl e
+  where
+    go : (b : Bool) (status : Status) → process.status ≡ status → is_alive_in (if b then left_child status process else Some process) ≡ true
+        → runs process.status ≡ true
+    go true Alive is e = ap runs is
+    go true (Ended _) is e = cc
+    go false status is e = e
+
+left_at_home : (pid : ℕ) (there : Option Process) (process : Process) → left_behind pid there ≡ Some process
+    → (old : Process) × (there ≡ Some old) × (process.directory ≡ old.directory)
+left_at_home pid None process e = cc
+left_at_home pid (Some old) process e = go (old.parent == pid) old.status e
+  where
+    go : (b : Bool) (status : Status) → (if b then left_child status old else Some old) ≡ Some process
+        → (before : Process) × (Some old ≡ Some before) × (process.directory ≡ before.directory)
+    go true Alive e = (old, refl, (let same : process ≡ record old { parent = 1 } = (cc) in ap (λ p. p.directory) same))
+    go true (Ended _) e = cc
+    go false status e = (old, refl, (let same : process ≡ old = (cc) in ap (λ p. p.directory) same))
+
+-- what a process that ends leaves in the table
+ended_alive : (status : ℕ) (there : Option Process) → is_alive_in (ended_as status there) ≡ false
+ended_alive status None = refl
+ended_alive status (Some process) = refl
+
+not_both : (b : Bool) → b ≡ true → b ≡ false → ⊥
+not_both b e f = cc
+
+-- who is alive is there
+pub alive_is_there : (table : Table) (pid : ℕ) → is_alive table pid ≡ true → (process : Process) × (process_at table pid ≡ Some process)
+alive_is_there table pid alive = go (process_at table pid) refl alive
+  where
+    go : (there : Option Process) → process_at table pid ≡ there → is_alive_in there ≡ true → (process : Process) × (process_at table pid ≡ Some process)
+    go None is e = cc
+    go (Some process) is e = (process, is)
+
+-- a process of a table whose process ends was alive before, and isn't that one
+leaves_alive : (table : Table) (pid other status : ℕ) → is_alive (leaves table pid status) other ≡ true
+    → (other ≢ pid) × (is_alive table other ≡ true)
+leaves_alive table pid other status alive = elim (eqb_tells other pid) [
+  | inl same ↦ absurd (ended same.1)
+  | inr apart ↦ (
+    apart.1,
+    left_alive pid (process_at table other)
+        (ap is_alive_in (sym (each_changed (left_behind pid) table other refl)) ∙ ap is_alive_in (sym (with_other (map (left_behind pid) table) pid other _ apart.1)) ∙ alive),
+  )
+]
+  where
+    gone : (other : ℕ) → other ≡ pid → (0 < pid) × (pid ≤ length (map (left_behind pid) table)) → is_alive (leaves table pid status) other ≡ false
+    gone other same within =
+        ap (is_alive (leaves table pid status)) same
+        ∙ ap is_alive_in (with_same (map (left_behind pid) table) pid (ended_as status (process_at table pid)) within.0 within.1)
+        ∙ ended_alive status (process_at table pid)
+
+    ended : other ≡ pid → ⊥
+    ended same =
+        let there = alive_is_there (leaves table pid status) other alive in
+        let made = was_made (leaves table pid status) other there.0 there.1 in
+        not_both (is_alive (leaves table pid status) other) alive
+        (gone other same (
+          subst (λ p. 0 < p) same made.0,
+          subst (λ p. p ≤ length (map (left_behind pid) table)) same
+              (subst (λ n. other ≤ n) (length-with_pid (map (left_behind pid) table) pid (ended_as status (process_at table pid))) made.1),
+        ))
+
+-- in a table whose process ends everybody works where he did
+leaves_home : (table : Table) (pid status : ℕ) → AllAtHome table → AllAtHome (leaves table pid status)
+leaves_home table pid status home other process is = elim (eqb_tells other pid) [
+  | inl same ↦ at_end same.1
+  | inr apart ↦ elsewhere (sym (each_changed (left_behind pid) table other refl) ∙ sym (with_other (map (left_behind pid) table) pid other _ apart.1) ∙ is)
+]
+  where
+    was : (old : Process) → process_at table other ≡ Some old → process.directory ≡ old.directory → process.directory ≡ root
+    was old there same = same ∙ home other old there
+
+    elsewhere : left_behind pid (process_at table other) ≡ Some process → process.directory ≡ root
+    elsewhere e = let found = left_at_home pid (process_at table other) process e in was found.0 found.1 found.2
+
+    as_ended : (there : Option Process) → ended_as status there ≡ Some process → (old : Process) × (there ≡ Some old) × (process.directory ≡ old.directory)
+    as_ended None e = cc
+    as_ended (Some old) e = (old, refl, (let same : process ≡ record old { status = Ended status; memory = no_memory } = (cc) in ap (λ p. p.directory) same))
+
+    at_end : other ≡ pid → process.directory ≡ root
+    at_end same =
+        let made = was_made (leaves table pid status) other process is in
+        let within : pid ≤ length (map (left_behind pid) table) =
+        subst (λ p. p ≤ length (map (left_behind pid) table)) same
+        (subst (λ n. other ≤ n) (length-with_pid (map (left_behind pid) table) pid (ended_as status (process_at table pid))) made.1) in
+        let positive : 0 < pid = subst (λ p. 0 < p) same made.0 in
+        let found = as_ended (process_at table pid)
+        (sym (with_same (map (left_behind pid) table) pid (ended_as status (process_at table pid)) positive within)
+        ∙ ap (process_at (leaves table pid status)) (sym same) ∙ is) in
+        found.2 ∙ home pid found.0 found.1
+
+emptied : (table : Table) (pid : ℕ) → process_at (map (λ _. None) table) pid ≡ None
+emptied table pid = each_changed (λ _. None) table pid refl
+
+length-leaves : (table : Table) (pid status : ℕ) → length (leaves table pid status) ≡ length table
+length-leaves table pid status =
+    length-with_pid (map (left_behind pid) table) pid (ended_as status (process_at table pid)) ∙ length-map table (left_behind pid)
+
+nothing_is : {X : Type 0} {x : X} (o : Option X) → o ≡ None → o ≡ Some x → ⊥
+nothing_is o e f = cc
+
+leaves_next : (plain new : Plain) (pid target status : ℕ) → new.controls ≡ plain.controls → new.table ≡ leaves plain.table target status
+    → length plain.table ≡ last_pid plain → IsNext plain new pid
+leaves_next plain new pid target status controls table made =
+    let same : last_pid new ≡ last_pid plain = ap length controls in
+    record {
+      more = omega arith;
+      one = omega arith;
+      made = ap length table ∙ length-leaves plain.table target status ∙ made ∙ sym same;
+      controls = λ other apart within. ap (λ cs. unwrap_or (at_pid cs other) (at_start 0)) controls;
+      revived = λ other within alive. (leaves_alive plain.table target other status (subst (λ t. is_alive t other ≡ true) table alive)).1;
+      born = λ other past within. absurd (omega arith);
+      home = λ home. subst AllAtHome (sym table) (leaves_home plain.table target status home);
+    }
+
+-- a process ends, itself or another
+pub die_next : (plain : Plain) (pid target status : ℕ) → length plain.table ≡ last_pid plain → IsNext plain (die plain target status) pid
+die_next plain pid zero status made = leaves_next plain (die plain zero status) pid zero status refl refl made
+die_next plain pid (suc zero) status made =
+    record {
+      more = omega arith;
+      one = omega arith;
+      made = length-map plain.table (λ _. None) ∙ made;
+      controls = λ other apart within. refl;
+      revived = λ other within alive. absurd (not_both _ alive (ap is_alive_in (emptied plain.table other)));
+      born = λ other past within. absurd (omega arith);
+      home = λ home other process is. absurd (nothing_is _ (emptied plain.table other) is);
+    }
+die_next plain pid (suc (suc n)) status made = leaves_next plain (die plain (suc (suc n)) status) pid (suc (suc n)) status refl refl made
+
+leaves_ends : (table : Table) (pid status : ℕ) → (b : Bool) → is_alive (leaves table pid status) pid ≡ b → b ≡ false
+leaves_ends table pid status true e = absurd ((leaves_alive table pid pid status e).0 refl)
+leaves_ends table pid status false e = refl
+
+-- who ends isn't alive
+pub die_ends : (table : Table) (pid status : ℕ) → is_alive (die_in table pid status) pid ≡ false
+die_ends table zero status = leaves_ends table zero status (is_alive (leaves table zero status) zero) refl
+die_ends table (suc zero) status = ap is_alive_in (emptied table 1)
+die_ends table (suc (suc n)) status = leaves_ends table (suc (suc n)) status (is_alive (leaves table (suc (suc n)) status) (suc (suc n))) refl
+
+-- what is told of a call goes with the machine: who called is alive behind a reply and a part, and isn't where it has ended
+abbrev pub AnswerGoes : Plain → ℕ → Answer → Type 0
+AnswerGoes plain pid Blocked = Unit {0}
+AnswerGoes plain pid (Done reply next) = IsNext plain next pid × (is_alive next.table pid ≡ true)
+AnswerGoes plain pid (Part moved next) = IsNext plain next pid × (is_alive next.table pid ≡ true)
+AnswerGoes plain pid (answer.Ended status next) = IsNext plain next pid × (is_alive next.table pid ≡ false)
+
+-- who another leaves behind is as alive as before
+left_lives : (pid : ℕ) (there : Option Process) → is_alive_in there ≡ true → is_alive_in (left_behind pid there) ≡ true
+left_lives pid None e = e
+left_lives pid (Some process) e = go (process.parent == pid) process.status refl e
+  where
+    go : (b : Bool) (status : Status) → process.status ≡ status → runs status ≡ true → is_alive_in (if b then left_child status process else Some process) ≡ true
+    go true Alive is lives = ap runs is
+    go true (Ended _) is lives = cc
+    go false status is lives = ap runs is ∙ lives
+
+-- where another process than the first ends, everybody else lives on
+pub die_keeps : (table : Table) (target other status : ℕ) → target ≢ 1 → other ≢ target → is_alive table other ≡ true
+    → is_alive (die_in table target status) other ≡ true
+die_keeps table target other status not_first apart alive = go target not_first apart
+  where
+    leaves_on : (pid : ℕ) → other ≢ pid → is_alive (leaves table pid status) other ≡ true
+    leaves_on pid apart =
+        ap is_alive_in (with_other (map (left_behind pid) table) pid other _ apart ∙ each_changed (left_behind pid) table other refl)
+        ∙ left_lives pid (process_at table other) alive
+
+    go : (pid : ℕ) → pid ≢ 1 → other ≢ pid → is_alive (die_in table pid status) other ≡ true
+    go zero first apart = leaves_on zero apart
+    go (suc zero) first apart = absurd (first refl)
+    go (suc (suc n)) first apart = leaves_on (suc (suc n)) apart
+
+-- an ended child goes
+reaped_next : (plain : Plain) (pid child : ℕ) → length plain.table ≡ last_pid plain → IsNext plain (reaped plain child) pid
+reaped_next plain pid child made = record {
+  more = omega arith;
+  one = omega arith;
+  made = length-with_pid plain.table child None ∙ made;
+  controls = λ other apart within. refl;
+  revived = λ other within alive. was other alive;
+  born = λ other past within. absurd (omega arith);
+  home = λ home other process is. at_home home other process is;
+}
+  where
+    was : (other : ℕ) → is_alive (with_pid plain.table child None) other ≡ true → is_alive plain.table other ≡ true
+    was other alive = elim (eqb_tells other child) [
+      | inl same ↦ absurd (not_both _ alive (ap is_alive_in (ap (process_at (with_pid plain.table child None)) same.1 ∙ is_gone plain.table child)))
+      | inr apart ↦ ap is_alive_in (sym (with_other plain.table child other None apart.1)) ∙ alive
+    ]
+
+    at_home : AllAtHome plain.table → (other : ℕ) (process : Process) → process_at (with_pid plain.table child None) other ≡ Some process → process.directory ≡ root
+    at_home home other process is = elim (eqb_tells other child) [
+      | inl same ↦ absurd (nothing_is _ (ap (process_at (with_pid plain.table child None)) same.1 ∙ is_gone plain.table child) is)
+      | inr apart ↦ home other process (sym (with_other plain.table child other None apart.1) ∙ is)
+    ]
+
+-- who is alive isn't reaped with another
+pub reaped_keeps : (table : Table) (child other : ℕ) → is_alive table child ≡ false → is_alive table other ≡ true → is_alive (with_pid table child None) other ≡ true
+reaped_keeps table child other ended alive =
+    ap is_alive_in (with_other table child other None (λ same. not_both (is_alive table other) alive (ap (is_alive table) same ∙ ended))) ∙ alive
+
+at_front : {X : Type 0} (xs ys : List X) (pid : ℕ) → pid ≤ length xs → at_pid (xs ++ ys) pid ≡ at_pid xs pid
+at_front xs ys zero h = refl
+at_front [] ys (suc i) h = absurd (omega arith)
+at_front (x ∷ xs) ys (suc zero) h = refl
+at_front (x ∷ xs) ys (suc (suc i)) h = at_front xs ys (suc i) (omega arith)
+
+-- a child is alive where its parent is
+child_alive : (parent : ℕ) (there : Option Process) → is_alive_in there ≡ true → is_alive_in (child_of parent there) ≡ true
+child_alive parent None e = e
+child_alive parent (Some process) e = e
+
+child_home : (parent : ℕ) (there : Option Process) (process : Process) → child_of parent there ≡ Some process
+    → (old : Process) × (there ≡ Some old) × (process.directory ≡ old.directory)
+child_home parent None process e = cc
+child_home parent (Some old) process e = (old, refl, (let same : process ≡ record old { parent = parent } = (cc) in ap (λ p. p.directory) same))
+
+child_next : (script : Script) (plain : Plain) (pid : ℕ) → length plain.table ≡ last_pid plain → is_alive plain.table pid ≡ true
+    → IsNext plain (with_child script plain pid) pid
+child_next script plain pid made alive =
+    let longer : last_pid (with_child script plain pid) ≡ last_pid plain + 1 = length-append plain.controls _ in
+    let table : length (plain.table ++ child ∷ []) ≡ length plain.table + 1 = length-append plain.table (child ∷ []) in
+    record {
+      more = omega arith;
+      one = omega arith;
+      made = omega arith;
+      controls = λ other apart within. ap (λ found. unwrap_or found (at_start 0)) (at_front plain.controls _ other within);
+      revived = λ other within lives. ap is_alive_in (sym (same_in_front plain.table child other (omega arith))) ∙ lives;
+      born = λ other past within.
+          let last : other ≡ suc (length plain.table) = omega arith in
+          ap (is_alive (plain.table ++ child ∷ [])) last ∙ ap is_alive_in (at_end plain.table child) ∙ child_alive pid (process_at plain.table pid) alive;
+      home = λ home other process is. elim (in_longer plain.table child other process is) [
+        | inl before ↦ home other process before.1
+        | inr last ↦ let found = child_home pid (process_at plain.table pid) process last.1 in found.2 ∙ home pid found.0 found.1
+      ];
+    }
+  where
+    child : Option Process
+    child = child_of pid (process_at plain.table pid)
+
+-- a reply, where the machine has gone on to this one before it
+pub replied_goes : (script : Script) (plain base : Plain) (pid : ℕ) (reply : Reply) → IsNext plain base pid → is_alive base.table pid ≡ true
+    → AnswerGoes plain pid (replied script base pid reply)
+replied_goes script plain base pid reply next alive = (answered_next script plain base pid reply next, alive)
+
+by_test : (plain : Plain) (pid : ℕ) (b : Bool) (one other : Answer) → (b ≡ true → AnswerGoes plain pid one) → (b ≡ false → AnswerGoes plain pid other)
+    → AnswerGoes plain pid (cond b one other)
+by_test plain pid true one other this that = this refl
+by_test plain pid false one other this that = that refl
+
+-- a reply that changes the caller's control alone
+told_goes : (script : Script) (plain : Plain) (pid : ℕ) (reply : Reply) → length plain.table ≡ last_pid plain → is_alive plain.table pid ≡ true
+    → AnswerGoes plain pid (replied script plain pid reply)
+told_goes script plain pid reply made alive = replied_goes script plain plain pid reply (same_next plain pid made) alive
+
+waits_goes : (script : Script) (plain : Plain) (pid : ℕ) (which options : ℤ) → length plain.table ≡ last_pid plain → is_alive plain.table pid ≡ true
+    → AnswerGoes plain pid (waitpid script plain pid which options)
+waits_goes script plain pid which options made alive = go (exited_from pid which 1 plain.table) refl
+  where
+    plus_one : (a b : ℕ) → a ≡ 1 + b → a ≡ suc b
+    plus_one a b e = omega arith
+
+    go : (o : Option Exited) → exited_from pid which 1 plain.table ≡ o → AnswerGoes plain pid (waited_for script plain pid which options o)
+    go None e = by_test plain pid (any_from pid which 1 plain.table) (not_yet script plain pid options) (failed script plain pid ECHILD)
+        (λ _. by_test plain pid (is_nohang options) (replied script plain pid (Val (pos 0))) Blocked (λ _. told_goes script plain pid (Val (pos 0)) made alive) (λ _. tt))
+        (λ _. told_goes script plain pid (Fail ECHILD) made alive)
+    go (Some exited) e =
+        let found = exited_has_ended pid which 1 plain.table exited e in
+        let ended : is_alive plain.table exited.pid ≡ false = ap (is_alive plain.table) (plus_one exited.pid found.0 found.1) ∙ found.2 in
+        replied_goes script plain (reaped plain exited.pid) pid (Waited exited.pid exited.status) (reaped_next plain pid exited.pid made)
+        (reaped_keeps plain.table exited.pid pid ended alive)
+
+kills_goes : (script : Script) (plain : Plain) (pid : ℕ) (target signal : ℤ) → length plain.table ≡ last_pid plain → is_alive plain.table pid ≡ true
+    → AnswerGoes plain pid (kill script plain pid target signal)
+kills_goes script plain pid (negsuc n) signal made alive = told_goes script plain pid (Fail ESRCH) made alive
+kills_goes script plain pid (pos target) signal made alive = go (process_at plain.table target)
+  where
+    none : Answer
+    none = replied script plain pid (Val (pos 0))
+
+    not_equal : (a b : ℕ) → (a == b) ≡ false → a ≢ b
+    not_equal a b e same = elim (eqb_tells a b) [ inl is ↦ (let f = is.0 in cc) | inr is ↦ is.1 same ]
+
+    go : (o : Option Process) → AnswerGoes plain pid (sent_to script plain pid target signal o)
+    go None = told_goes script plain pid (Fail ESRCH) made alive
+    go (Some process) = by_test plain pid (is_asking signal) (replied script plain pid (Val (pos 0))) (if target == 1 then failed script plain pid EPERM else ends script plain pid target process)
+        (λ _. told_goes script plain pid (Val (pos 0)) made alive)
+        (λ _. by_test plain pid (target == 1) (failed script plain pid EPERM) (ends script plain pid target process)
+        (λ _. told_goes script plain pid (Fail EPERM) made alive)
+        (λ first. by_test plain pid (runs process.status)
+        (if target == pid then answer.Ended 9 (die plain pid 9) else replied script (die plain target 9) pid (Val (pos 0))) (replied script plain pid (Val (pos 0)))
+        (λ _. by_test plain pid (target == pid) (answer.Ended 9 (die plain pid 9)) (replied script (die plain target 9) pid (Val (pos 0)))
+        (λ _. (die_next plain pid pid 9 made, die_ends plain.table pid 9))
+        (λ apart. replied_goes script plain (die plain target 9) pid (Val (pos 0)) (die_next plain pid target 9 made)
+        (die_keeps plain.table target pid 9 (not_equal target 1 first) (λ same. not_equal target pid apart (sym same)) alive)))
+        (λ _. told_goes script plain pid (Val (pos 0)) made alive)))
+
+-- something is put in the caller's memory
+remembered_next : (plain : Plain) (pid : ℕ) (memory : Memory) → length plain.table ≡ last_pid plain → IsNext plain (remembered plain pid memory) pid
+remembered_next plain pid memory made = record {
+  more = omega arith;
+  one = omega arith;
+  made = length-with_memory plain.table pid memory ∙ made;
+  controls = λ other apart within. refl;
+  revived = λ other within alive. sym (alive_still plain.table pid other memory) ∙ alive;
+  born = λ other past within. absurd (omega arith);
+  home = λ home other process is. let old = found_before plain.table pid other memory process is in old.2.directory ∙ home other old.0 old.1;
+}
+
+-- a reply of a call that puts something in its caller's memory
+remembers_goes : (script : Script) (plain : Plain) (pid : ℕ) (memory : Memory) (reply : Reply) → length plain.table ≡ last_pid plain → is_alive plain.table pid ≡ true
+    → AnswerGoes plain pid (replied script (remembered plain pid memory) pid reply)
+remembers_goes script plain pid memory reply made alive =
+    replied_goes script plain (remembered plain pid memory) pid reply (remembered_next plain pid memory made) (alive_still plain.table pid pid memory ∙ alive)
+
+maps_goes : (script : Script) (plain : Plain) (pid count : ℕ) (first : Option ℕ) → length plain.table ≡ last_pid plain → is_alive plain.table pid ≡ true
+    → AnswerGoes plain pid (mapped_from script plain pid count first)
+maps_goes script plain pid count None made alive = told_goes script plain pid (Fail EMFILE) made alive
+maps_goes script plain pid count (Some first) made alive = remembers_goes script plain pid _ (Val (pos (page_size * first))) made alive
+
+-- every call that is built
+right_goes : (script : Script) (plain : Plain) (pid : ℕ) (which : Call) → length plain.table ≡ last_pid plain → is_alive plain.table pid ≡ true
+    → AnswerGoes plain pid (answer_to script plain pid which)
+right_goes script plain pid call.Getpid made alive = told_goes script plain pid (Val (pos pid)) made alive
+right_goes script plain pid call.Getppid made alive = told_goes script plain pid (Val (pos (parent_of plain.table pid))) made alive
+right_goes script plain pid call.SchedYield made alive = told_goes script plain pid (Val (pos 0)) made alive
+right_goes script plain pid call.Fork made alive =
+    by_test plain pid (is_full plain) (failed script plain pid EAGAIN) (replied script (with_child script plain pid) pid (Val (pos (last_pid plain + 1))))
+    (λ _. told_goes script plain pid (Fail EAGAIN) made alive)
+    (λ _. replied_goes script plain (with_child script plain pid) pid (Val (pos (last_pid plain + 1))) (child_next script plain pid made alive)
+    (still_alive plain.table (child_of pid (process_at plain.table pid)) pid alive))
+right_goes script plain pid (call.Exit status) made alive =
+    (die_next plain pid pid (exit_status status) made, die_ends plain.table pid (exit_status status))
+right_goes script plain pid (call.Waitpid which options) made alive = waits_goes script plain pid which options made alive
+right_goes script plain pid (call.Kill target signal) made alive = kills_goes script plain pid target signal made alive
+right_goes script plain pid (call.Mmap size) made alive = maps_goes script plain pid (pages_in (count_of size)) (lowest_run (memory_of plain.table pid) (pages_in (count_of size))) made alive
+right_goes script plain pid (call.Munmap addr size) made alive = remembers_goes script plain pid (without_pages (memory_of plain.table pid) (count_of addr / page_size) (pages_touched (count_of addr) (count_of size))) (Val (pos 0)) made alive
+right_goes script plain pid (call.Store addr bytes) made alive =
+    by_test plain pid (is_mapped_range (memory_of plain.table pid) (count_of addr) (length bytes))
+    (replied script (remembered plain pid (stored (memory_of plain.table pid) (count_of addr) bytes)) pid (Val (pos (length bytes)))) (failed script plain pid EFAULT)
+    (λ _. remembers_goes script plain pid (stored (memory_of plain.table pid) (count_of addr) bytes) (Val (pos (length bytes))) made alive) (λ _. told_goes script plain pid (Fail EFAULT) made alive)
+right_goes script plain pid (call.Load addr n) made alive =
+    by_test plain pid (is_mapped_range (memory_of plain.table pid) (count_of addr) (count_of n))
+    (replied script plain pid (Bytes (loaded (memory_of plain.table pid) (count_of addr) (count_of n)))) (failed script plain pid EFAULT)
+    (λ _. told_goes script plain pid (Bytes (loaded (memory_of plain.table pid) (count_of addr) (count_of n))) made alive) (λ _. told_goes script plain pid (Fail EFAULT) made alive)
+right_goes script plain pid _ made alive = told_goes script plain pid (Fail EINVAL) made alive
+
+pub posix_goes : (script : Script) (plain : Plain) (pid : ℕ) (which : Call) → length plain.table ≡ last_pid plain → is_alive plain.table pid ≡ true
+    → AnswerGoes plain pid (machine script plain pid which)
+posix_goes script plain pid which made alive = go (argument_fault which)
+  where
+    go : (fault : Option Errno) → AnswerGoes plain pid (unless_wrong script plain pid fault (answer_to script plain pid which))
+    go None = right_goes script plain pid which made alive
+    go (Some errno) = told_goes script plain pid (Fail errno) made alive
