@@ -106,7 +106,7 @@ with_pipe files place pipe = with_pipes files (slice_set files.pipes place pipe)
 -- ---- at the beginning
 
 -- the first process has nothing open, and the tree is that of a new disk
-unfoldable pub boot_files : ℕ → Files
+abbrev pub boot_files : ℕ → Files
 boot_files blocks = record { descriptors = none_open ∷ []; descriptions = []; tree = new_tree blocks; pipes = []; sockets = [] }
 
 -- a child has open what its parent has open; the descriptions are the same ones
