@@ -4,7 +4,9 @@ use Rattle.std.specs.Int.{w64, cast_unsigned}
 use Rattle.posix_defs.specs.ByPid.{with_pid}
 use Rattle.posix_defs.specs.Memory.{no_memory}
 use Rattle.posix_defs.specs.Process.{Table, Process, Status, Alive, Ended, process_at}
-use Rattle.posix_defs.specs.Plain.{Plain, with_table}
+use Rattle.posix_defs.specs.Plain.{Plain, with_files, with_table}
+use Rattle.posix_defs.specs.Files.State.{Files}
+use Rattle.posix_defs.specs.Files.Closing.{after_all_end, after_end_of}
 
 -- what becomes of a child whose parent ends: one that ended is reaped, one that runs gets the first process as parent
 abbrev pub left_child : Status → Process → Option Process
@@ -28,9 +30,14 @@ abbrev pub die_in : Table → ℕ → ℕ → Table
 die_in table (suc zero) status = map (λ _. None) table
 die_in table pid status = leaves table pid status
 
+-- what an ended process had open is closed; with the first process all close what they have
+abbrev pub closed_by : Files → ℕ → Files
+closed_by files (suc zero) = after_all_end files
+closed_by files pid = after_end_of files pid
+
 -- the plain machine after a process has ended
 abbrev pub die : Plain → ℕ → ℕ → Plain
-die plain pid status = with_table plain (die_in plain.table pid status)
+die plain pid status = with_files (with_table plain (die_in plain.table pid status)) (closed_by plain.files pid)
 
 -- the wait status of a process that ends by `exit`: only the lowest eight bits of its operand are told
 abbrev pub exit_status : ℤ → ℕ

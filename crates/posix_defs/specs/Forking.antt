@@ -6,6 +6,7 @@ use Rattle.kabi_types.specs.declared.scripts.Script.{Script}
 use Rattle.posix_defs.specs.Process.{Process, how_many, process_at}
 use Rattle.posix_defs.specs.Plain.{Plain, control_of, last_pid}
 use Rattle.posix_defs.specs.Control as program
+use Rattle.posix_defs.specs.Files.State.{with_heir}
 use Rattle.posix_defs.specs.Answer.{Answer, failed, replied}
 
 -- how many processes may be there, alive or ended and not waited for
@@ -26,11 +27,12 @@ child_of parent None = None
 child_of parent (Some process) = Some (record process { parent = parent })
 
 -- the machine with a child of a process, which gets the next pid; its registers are those of its parent, and its own
--- call of `fork` gives 0
+-- call of `fork` gives 0; it has open what its parent has
 abbrev pub with_child : Script → Plain → ℕ → Plain
 with_child script plain pid = record plain {
   table = plain.table ++ child_of pid (process_at plain.table pid) ∷ [];
   controls = plain.controls ++ program.after script (control_of plain pid) (Val (pos 0)) ∷ [];
+  files = with_heir plain.files pid;
 }
 
 -- the child's pid, or EAGAIN where nobody more can be made

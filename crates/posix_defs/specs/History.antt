@@ -22,7 +22,8 @@ use Rattle.posix_defs.specs.Answer.{Answer, Blocked, Done, Part, Ended}
 use Rattle.posix_defs.specs.Ending.{die}
 use Rattle.posix_defs.specs.Killing.{sigkill}
 use Rattle.posix_defs.specs.Machine.{machine, would_block}
-use Rattle.posix_defs.specs.World.{Account, base, forget_dead, no_account, pins}
+use Rattle.posix_defs.specs.Account.{Account, account_on, base, no_account}
+use Rattle.posix_defs.specs.World.{pins}
 use Rattle.posix_defs.specs.Turn.{account_after}
 use Rattle.posix_defs.specs.Victim.{victim_of}
 
@@ -134,7 +135,7 @@ pub record IsKilled (script : Script) (past : Past) (pid waiter need live : ℕ)
   pub fits_ever : need ≤ room script.heap
   pub all_pinned : live ≡ base past.plain past.account + size class.Vnode * pins past.plain
   pub too_much : script.heap < live + reserve + need
-  pub leads : next ≡ moves_on script past (die past.plain pid sigkill) (forget_dead (die past.plain pid sigkill) past.account) (others pid past.asleep)
+  pub leads : next ≡ moves_on script past (die past.plain pid sigkill) (account_on past.plain (die past.plain pid sigkill) past.account) (others pid past.asleep)
 
 -- An object that a call has put into a cache goes.
 pub record IsEvicted (script : Script) (past : Past) (what : Cached) (next : Past) : Type 0 where

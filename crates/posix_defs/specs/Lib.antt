@@ -26,6 +26,11 @@ pub mod Waiting
 pub mod Killing
 pub mod MemoryCalls
 pub mod Machine
+pub mod Files
+pub mod Calls
+pub mod Posix
+pub mod Account
+pub mod Reaching
 pub mod World
 pub mod Turn
 pub mod Relief

@@ -8,7 +8,7 @@ use Rattle.kabi_values.specs.declared.replies.Reply.{Reply}
 use Rattle.kabi_values.specs.declared.replies.Reply.TheVariants.{Val, Bytes}
 use Rattle.kabi_types.specs.declared.scripts.Script.{Script}
 use Rattle.posix_defs.specs.Needs.{pages_in, pages_touched}
-use Rattle.posix_defs.specs.Memory.{Frames, Memory, after_fork, after_map, after_put, after_unmap, is_mapped_range, loaded, lowest_run, stored, with_pages, without_pages}
+use Rattle.posix_defs.specs.Memory.{Frames, Memory, after_clear, after_fork, after_map, after_put, after_unmap, is_mapped_range, loaded, lowest_run, stored, with_pages, without_pages}
 use Rattle.posix_defs.specs.Process.{memory_of, with_memory}
 use Rattle.posix_defs.specs.Plain.{Plain, with_table}
 use Rattle.posix_defs.specs.Answer.{Answer, failed, replied}
@@ -58,6 +58,10 @@ frames_of frames pid call.Fork child = after_fork frames pid
 frames_of frames pid (call.Mmap length) addr = after_map frames pid (addr / page_size) (pages_in (count_of length))
 frames_of frames pid (call.Munmap addr length) none = after_unmap frames pid (count_of addr / page_size) (pages_touched (count_of addr) (count_of length))
 frames_of frames pid (call.Store addr bytes) stored = after_put frames pid (count_of addr) (length bytes)
+frames_of frames pid (call.Read fd addr n) count = after_put frames pid (count_of addr) count
+frames_of frames pid (call.Pread fd addr n at) count = after_put frames pid (count_of addr) count
+frames_of frames pid (call.Readdir fd addr n) count = after_put frames pid (count_of addr) count
+frames_of frames pid (call.Exec path) none = after_clear frames pid
 frames_of frames pid _ value = frames
 
 -- what a call with this reply did to the frames: one that failed did nothing

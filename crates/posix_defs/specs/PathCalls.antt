@@ -151,13 +151,19 @@ rmdir_path tree cwd path busy =
 abbrev pub is_held : Tree → (ℕ → Bool) → ℕ → Bool
 is_held tree opened number = opened number && not (is_directory tree number || is_socket tree number)
 
-abbrev pub unlink_led : Tree → (ℕ → Bool) → Walked → Result Tree Errno
+-- a node that loses a link: its number where it is the name of a socket and the link is the last, since that is freed then
+abbrev pub freed_by : Tree → ℕ → Option ℕ
+freed_by tree number = if is_socket tree number && links_at tree number == 1 then Some number else None
+
+abbrev pub unlink_led : Tree → (ℕ → Bool) → Walked → Result (Option ℕ × Tree) Errno
 unlink_led tree opened (walked.Node _) = Err EPERM
-unlink_led tree opened (walked.Named dir name number _) = unless (is_directory tree number) EPERM (Ok (unlink tree dir name number (is_held tree opened number)))
+unlink_led tree opened (walked.Named dir name number _) =
+    unless (is_directory tree number) EPERM (Ok (freed_by tree number, unlink tree dir name number (is_held tree opened number)))
 unlink_led tree opened (walked.Free _ _ _) = Err ENOENT
 unlink_led tree opened (walked.Fail errno) = Err errno
 
-abbrev pub unlink_path : Tree → ℕ → List ℕ → (ℕ → Bool) → Result Tree Errno
+-- the number of a socket's name that was freed, and the tree then
+abbrev pub unlink_path : Tree → ℕ → List ℕ → (ℕ → Bool) → Result (Option ℕ × Tree) Errno
 unlink_path tree cwd path opened = unlink_led tree opened (resolve tree cwd path)
 
 -- ---- link
@@ -178,28 +184,28 @@ link_path tree cwd old new = link_from tree (node_led (resolve tree cwd old)) (r
 -- ---- rename
 
 -- over a name that is there
-abbrev pub rename_onto : Tree → (ℕ → Bool) → (ℕ → Bool) → ℕ → List ℕ → ℕ → ℕ → List ℕ → ℕ → Result Tree Errno
+abbrev pub rename_onto : Tree → (ℕ → Bool) → (ℕ → Bool) → ℕ → List ℕ → ℕ → ℕ → List ℕ → ℕ → Result (Option ℕ × Tree) Errno
 rename_onto tree opened busy dir name number to new replaced =
-    if number == replaced then Ok tree
+    if number == replaced then Ok (None, tree)
     else unless (is_directory tree replaced && not (is_directory tree number)) EISDIR
     (unless (is_directory tree number && not (is_directory tree replaced)) ENOTDIR
     (unless (is_directory tree replaced && not (is_empty tree replaced)) ENOTEMPTY
     (unless (is_directory tree replaced && busy replaced) EBUSY
-    (Ok (rename_over tree dir name number to new replaced (is_held tree opened replaced))))))
+    (Ok (freed_by tree replaced, rename_over tree dir name number to new replaced (is_held tree opened replaced))))))
 
 -- to a name that is missing: an entry is needed in another directory
-abbrev pub rename_away : Tree → ℕ → List ℕ → ℕ → ℕ → List ℕ → Bool → Result Tree Errno
+abbrev pub rename_away : Tree → ℕ → List ℕ → ℕ → ℕ → List ℕ → Bool → Result (Option ℕ × Tree) Errno
 rename_away tree dir name number to new slashed =
     unless (slashed && not (is_directory tree number)) ENOTDIR
     (unless (not (dir == to) && not (takes_entry tree to 0)) ENOSPC
-    (Ok (rename_to tree dir name number to new)))
+    (Ok (None, rename_to tree dir name number to new)))
 
 -- a directory doesn't go to itself or below
 abbrev pub goes_below : Tree → ℕ → ℕ → Bool
 goes_below tree number to = is_directory tree number && is_at_or_above tree number to
 
 -- the name of the old path, and where the new one leads. One of slashes alone leads to the root.
-abbrev pub rename_named : Tree → (ℕ → Bool) → (ℕ → Bool) → ℕ → List ℕ → ℕ → Walked → Result Tree Errno
+abbrev pub rename_named : Tree → (ℕ → Bool) → (ℕ → Bool) → ℕ → List ℕ → ℕ → Walked → Result (Option ℕ × Tree) Errno
 rename_named tree opened busy dir name number (walked.Node _) = Err EBUSY
 rename_named tree opened busy dir name number (walked.Named to new replaced _) =
     unless (goes_below tree number to) EINVAL (rename_onto tree opened busy dir name number to new replaced)
@@ -208,18 +214,19 @@ rename_named tree opened busy dir name number (walked.Free to new slashed) =
 rename_named tree opened busy dir name number (walked.Fail errno) = Err errno
 
 -- the root is the old path, unless the walk of the new one fails
-abbrev pub rename_root : Walked → Result Tree Errno
+abbrev pub rename_root : Walked → Result (Option ℕ × Tree) Errno
 rename_root (walked.Fail errno) = Err errno
 rename_root _ = Err EBUSY
 
-abbrev pub rename_led : Tree → (ℕ → Bool) → (ℕ → Bool) → Walked → Walked → Result Tree Errno
+abbrev pub rename_led : Tree → (ℕ → Bool) → (ℕ → Bool) → Walked → Walked → Result (Option ℕ × Tree) Errno
 rename_led tree opened busy (walked.Node _) new = rename_root new
 rename_led tree opened busy (walked.Named dir name number _) new = rename_named tree opened busy dir name number new
 rename_led tree opened busy (walked.Free _ _ _) new = Err ENOENT
 rename_led tree opened busy (walked.Fail errno) new = Err errno
 
--- `opened` where a description opens a node, `busy` where that or a process works in it
-abbrev pub rename_path : Tree → ℕ → List ℕ → List ℕ → (ℕ → Bool) → (ℕ → Bool) → Result Tree Errno
+-- `opened` where a description opens a node, `busy` where that or a process works in it. The number of a socket's name that
+-- was freed is told, and the tree then.
+abbrev pub rename_path : Tree → ℕ → List ℕ → List ℕ → (ℕ → Bool) → (ℕ → Bool) → Result (Option ℕ × Tree) Errno
 rename_path tree cwd old new opened busy = rename_led tree opened busy (resolve tree cwd old) (resolve tree cwd new)
 
 -- ---- exec, and what is read

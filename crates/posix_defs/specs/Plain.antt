@@ -1,4 +1,4 @@
--- The plain machine: what there is of processes, with unlimited memory and no cache.
+-- The plain machine: what there is of processes and files, with unlimited memory and no cache.
 use Rattle.std.specs.Prelude.{ℕ, ◌+◌, pos, if◌then◌else◌, List, [], ◌∷◌, length, replicate, Some, unwrap_or, codes}
 use Rattle.std.specs.Str.{bytes_eq}
 use Rattle.kabi_calls.specs.declared.calls.Call.{Call}
@@ -10,11 +10,14 @@ use Rattle.posix_defs.specs.ByPid.{at_pid, with_pid}
 use Rattle.posix_defs.specs.Memory.{no_memory}
 use Rattle.posix_defs.specs.Process.{Table, Process, Alive}
 use Rattle.posix_defs.specs.Control as program
+use Rattle.posix_defs.specs.Files.State.{Files, boot_files}
+pub use Rattle.posix_defs.specs.Tree.{root}
 
 pub record Plain : Type 0 where
   pub table : Table
   -- of each process ever made, also after it ended
   pub controls : List Control
+  pub files : Files
 
 -- the pid of the youngest process ever made
 abbrev pub last_pid : Plain → ℕ
@@ -29,6 +32,9 @@ with_control plain pid control = record plain { controls = with_pid plain.contro
 -- at the beginning of a program, all registers 0
 abbrev pub at_start : ℕ → Control
 at_start program = record { program = program; place = 0; regs = replicate 16 (pos 0); done = 0 }
+
+abbrev pub with_files : Plain → Files → Plain
+with_files plain files = record plain { files = files }
 
 -- a process's control
 abbrev pub control_of : Plain → ℕ → Control
@@ -47,10 +53,6 @@ abbrev pub place_of : List ℕ → List Program → ℕ
 place_of name [] = 0
 place_of name (program ∷ programs) = if bytes_eq program.name name then 0 else place_of name programs + 1
 
--- the root's node
-abbrev pub root : ℕ
-root = 1
-
 -- the process that was not forked
 abbrev pub first_process : Process
 first_process = record { parent = 0; directory = root; status = Alive; memory = no_memory }
@@ -60,4 +62,5 @@ abbrev pub boot_plain : Script → Plain
 boot_plain script = record {
   table = Some first_process ∷ [];
   controls = at_start (place_of (codes "init") script.programs) ∷ [];
+  files = boot_files script.disk;
 }

@@ -2,6 +2,7 @@
 use Rattle.std.specs.Prelude.{ℕ, Bool, true, false, List, count_by, Option, None, Some, unwrap_or}
 use Rattle.posix_defs.specs.ByPid.{at_pid, with_pid}
 use Rattle.posix_defs.specs.Memory.{Memory, no_memory}
+use Rattle.posix_defs.specs.Tree.{root}
 
 -- whether a process runs, or has ended with a wait status and waits for its parent
 pub data Status : Type 0 where
@@ -61,6 +62,22 @@ remembering memory (Some process) = Some (record process { memory = memory })
 -- the table, where a process has something else in memory
 abbrev pub with_memory : Table → ℕ → Memory → Table
 with_memory table pid memory = with_pid table pid (remembering memory (process_at table pid))
+
+abbrev pub directory_in : Option Process → ℕ
+directory_in None = root
+directory_in (Some process) = process.directory
+
+-- the working directory of a process
+abbrev pub directory_of : Table → ℕ → ℕ
+directory_of table pid = directory_in (process_at table pid)
+
+abbrev pub working_in : ℕ → Option Process → Option Process
+working_in directory None = None
+working_in directory (Some process) = Some (record process { directory = directory })
+
+-- the table, where a process works in another directory
+abbrev pub with_directory : Table → ℕ → ℕ → Table
+with_directory table pid directory = with_pid table pid (working_in directory (process_at table pid))
 
 -- how many processes are there, alive or ended and not waited for
 abbrev pub how_many : Table → ℕ

@@ -9,7 +9,9 @@ use Rattle.kabi_types.specs.declared.scripts.Script.{Script}
 use Rattle.posix_defs.specs.Plain.{Plain, answered}
 use Rattle.posix_defs.specs.Ending.{die}
 use Rattle.posix_defs.specs.Killing.{sigkill}
-use Rattle.posix_defs.specs.World.{Kept, MayKeep, World, forget_dead, live_of, pinned_nodes}
+use Rattle.posix_defs.specs.Account.{account_on}
+use Rattle.posix_defs.specs.Reaching.{ends_node}
+use Rattle.posix_defs.specs.World.{Kept, MayKeep, World, live_of, pinned_nodes}
 
 -- a call is answered ENOMEM: its caller goes on behind it, and nothing else changes
 abbrev pub refused_in : Script → World → ℕ → World
@@ -30,20 +32,22 @@ LosesFrom plain old Vnode new =
     (gone : ℕ) × (list_any (λ pinned. pinned == gone) (pinned_nodes plain) ≡ false) × LosesOne old.vnodes gone new.vnodes
     × (new ≡ record old { vnodes = new.vnodes })
 
--- An object that isn't pinned goes from a cache, and the machine stays.
+-- An object that isn't pinned goes from a cache; the machine stays, and nothing is read.
 pub record Evicts (old : World) (what : Cached) (new : World) : Type 0 where
   pub plain : new.plain ≡ old.plain
   pub account : new.account ≡ old.account
   pub kept : LosesFrom old.plain old.kept what new.kept
-  pub reads : old.reads ≤ new.reads
+  pub reads : new.reads ≡ old.reads
 
--- A process ends by signal 9, and nothing more is kept for it.
+-- A process ends by signal 9, and nothing more is kept for it. Where no description of a node ends with it, what is kept stays
+-- and nothing is read.
 pub record Kills (old : World) (pid : ℕ) (new : World) : Type 0 where
   pub plain : new.plain ≡ die old.plain pid sigkill
-  pub account : new.account ≡ forget_dead new.plain old.account
+  pub account : new.account ≡ account_on old.plain new.plain old.account
   pub may_keep : MayKeep new.plain new.kept
   pub live : live_of new ≤ live_of old
   pub names : length new.kept.names ≤ length old.kept.names
   pub blocks : length new.kept.blocks ≤ length old.kept.blocks
   pub vnodes : length new.kept.vnodes ≤ length old.kept.vnodes
   pub reads : old.reads ≤ new.reads
+  pub untouched : ends_node old.plain.files new.plain.files ≡ false → (new.kept ≡ old.kept) × (new.reads ≡ old.reads)

@@ -1,6 +1,7 @@
 -- What a turn of a call may do to a world.
 use Rattle.std.specs.Prelude.{ℕ, ◌+◌, ◌≡◌, ◌≤◌, Bool, true, false, length}
 use Rattle.kabi_calls.specs.declared.calls.Call.{Call}
+use Rattle.kabi_values.specs.declared.replies.Reply.{Reply}
 use Rattle.kabi_types.specs.declared.scripts.Script.{Script}
 use Rattle.posix_defs.specs.declared.turner.Turned.{Turned}
 use Rattle.posix_defs.specs.declared.turner.Turned.TheVariants as turned
@@ -10,7 +11,9 @@ use Rattle.posix_defs.specs.Plain.{Plain}
 use Rattle.posix_defs.specs.Answer.{Answer, Blocked, Done, Part, Ended}
 use Rattle.posix_defs.specs.Machine.{machine}
 use Rattle.posix_defs.specs.MemoryCalls.{frames_after}
-use Rattle.posix_defs.specs.World.{World, Account, MayKeep, forget_dead, live_of}
+use Rattle.posix_defs.specs.Account.{account_on, with_frames}
+use Rattle.posix_defs.specs.Reaching.{reaches_node, name_to_leave, knows_way, has_succeeded, IsLeft}
+use Rattle.posix_defs.specs.World.{World, Account, MayKeep, live_of}
 
 -- what is told, and the plain machine after it, where POSIX gives this answer
 abbrev pub Tells : Answer → Plain → Turned → Plain → Type 0
@@ -19,19 +22,20 @@ Tells (Done reply next) old told new = (told ≡ turned.Done reply) × (new ≡ 
 Tells (Part moved next) old told new = (told ≡ turned.Part moved) × (new ≡ next)
 Tells (Ended status next) old told new = (told ≡ turned.Ended status) × (new ≡ next)
 
--- what a process's call that is over, or did a part, did to the account
-abbrev pub touched : Account → Plain → ℕ → Call → Answer → Account
-touched account plain pid call (Done reply next) = frames_after account pid call reply
-touched account plain pid call _ = account
+-- what a process's call that is over did to the frames
+abbrev pub touched : Account → ℕ → Call → Reply → Account
+touched account pid call reply = with_frames account (frames_after account.frames pid call reply)
 
--- the account after an answer: a call that would block leaves it, and what belonged to processes that have ended is forgotten
+-- the account after an answer: a call that would block leaves it, one that is over may have put bytes in memory, and the
+-- machine has gone on
 abbrev pub account_after : Account → Plain → ℕ → Call → Answer → Account
 account_after account plain pid call Blocked = account
-account_after account plain pid call (Done reply next) = forget_dead next (touched account plain pid call (Done reply next))
-account_after account plain pid call (Part moved next) = forget_dead next (touched account plain pid call (Part moved next))
-account_after account plain pid call (Ended status next) = forget_dead next account
+account_after account plain pid call (Done reply next) = account_on plain next (touched account pid call reply)
+account_after account plain pid call (Part moved next) = account_on plain next account
+account_after account plain pid call (Ended status next) = account_on plain next account
 
--- A call of a live process is answered as POSIX answers it. It may change what is kept, by no more than its need has.
+-- A call of a live process is answered as POSIX answers it. It may change what is kept, by no more than its need has; one that
+-- reaches no node leaves what is kept and reads nothing.
 pub record Answers (script : Script) (old : World) (pid : ℕ) (call : Call) (told : Turned) (new : World) : Type 0 where
   pub answer : Tells (machine script old.plain pid call) old.plain told new.plain
   pub account : new.account ≡ account_after old.account old.plain pid call (machine script old.plain pid call)
@@ -41,6 +45,9 @@ pub record Answers (script : Script) (old : World) (pid : ℕ) (call : Call) (to
   pub blocks : length new.kept.blocks ≤ length old.kept.blocks + (need_of call).block
   pub vnodes : length new.kept.vnodes ≤ length old.kept.vnodes + (need_of call).vnode
   pub reads : old.reads ≤ new.reads
+  pub untouched : reaches_node old.plain pid call new.plain ≡ false → (new.kept ≡ old.kept) × (new.reads ≡ old.reads)
+  pub left : has_succeeded told ≡ true → IsLeft new.plain.files.tree new.kept (name_to_leave old.plain pid call)
+  pub known : knows_way old.plain old.kept pid call ≡ true → new.reads ≡ old.reads
 
 abbrev pub TurnsWhere : Bool → Script → World → ℕ → Call → Turned → World → Type 0
 TurnsWhere true script old pid call told new = Answers script old pid call told new

@@ -8,20 +8,22 @@ use Rattle.kabi_types.specs.declared.scripts.Policy.TheVariants.{Heaviest, Young
 use Rattle.posix_defs.specs.Memory.{frames_in, nodes_in, places_of}
 use Rattle.posix_defs.specs.Process.{Table, is_alive_in}
 use Rattle.posix_defs.specs.Plain.{Plain}
-use Rattle.posix_defs.specs.World.{Account}
+use Rattle.posix_defs.specs.Account.{Account}
+use Rattle.posix_defs.specs.Files.Descriptors.{open_count}
+use Rattle.posix_defs.specs.Files.State.{descriptors_of}
 
 -- how much a process weighs under a policy
 abbrev pub score_of : Policy → Weight → ℕ
 score_of Heaviest w = size class.Proc + size class.Page * w.frames + size class.Node * w.nodes + size class.Desc * w.descs
 score_of Youngest w = w.pid
 
--- what a process holds: beside itself its memory, until it can open files
+-- what a process holds beside itself: frames and groups of pages of its memory, and open descriptors
 abbrev pub weight_of : Plain → Account → ℕ → Weight
 weight_of plain account pid = record {
   pid = pid;
-  frames = frames_in (places_of account pid);
-  nodes = nodes_in (places_of account pid);
-  descs = 0;
+  frames = frames_in (places_of account.frames pid);
+  nodes = nodes_in (places_of account.frames pid);
+  descs = open_count (descriptors_of plain.files pid);
 }
 
 -- the weights of the live processes from this pid on, but the first

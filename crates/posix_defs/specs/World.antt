@@ -1,18 +1,17 @@
 -- What the core knows of a store: the plain machine, its account, what the caches keep, and the count of reads.
-use Rattle.std.specs.Prelude.{ℕ, ◌+◌, ◌*◌, ◌==◌, ◌≡◌, ◌≢◌, Bool, true, not, if◌then◌else◌, List, [], ◌∷◌, length, None, Some}
+use Rattle.std.specs.Prelude.{ℕ, ◌+◌, ◌*◌, ◌==◌, ◌≡◌, ◌≢◌, ◌<◌, Bool, true, false, not, if◌then◌else◌, List, [], ◌∷◌, ◌++◌, length, None, Some, is_some}
 use Rattle.std.specs.List.{AllByRecursion, list_any}
 use Rattle.kabi_values.specs.Class.{size}
 use Rattle.kabi_values.specs.declared.classes.Class.TheVariants as class
 use Rattle.kabi_types.specs.declared.entries.Cached.{Cached}
 use Rattle.kabi_types.specs.declared.entries.Cached.TheVariants.{Name, Block, Vnode}
 use Rattle.kabi_types.specs.declared.scripts.Script.{Script}
-use Rattle.posix_defs.specs.Memory.{Frames, boot_frames, frames_named, nodes_named, without_dead}
-use Rattle.posix_defs.specs.Process.{Table, is_alive, runs, how_many}
-use Rattle.posix_defs.specs.Plain.{Plain, root, boot_plain}
-
--- What memory and queues take, which the plain machine doesn't tell: so far the frames that its pages name.
-abbrev pub Account : Type 0
-Account = Frames
+use Rattle.kabi_calls.specs.PathParts.{is_dots}
+use Rattle.posix_defs.specs.Process.{Table, runs}
+use Rattle.posix_defs.specs.Tree.{Tree, root, found, is_in_use}
+use Rattle.posix_defs.specs.Plain.{Plain, boot_plain}
+use Rattle.posix_defs.specs.Files.State.{opened_nodes}
+pub use Rattle.posix_defs.specs.Account.{Account, no_account, base}
 
 -- what the three caches keep: directory entries, numbers of blocks, numbers of nodes
 pub record Kept : Type 0 where
@@ -26,19 +25,6 @@ pub record World : Type 0 where
   pub kept : Kept
   pub reads : ℕ
 
--- the first process has mapped nothing yet
-abbrev pub no_account : Account
-no_account = boot_frames
-
--- the account without what processes held that have ended
-abbrev pub forget_dead : Plain → Account → Account
-forget_dead plain account = without_dead (is_alive plain.table) account
-
--- the heap that processes, memory, descriptions, pipes, sockets and queues take: of these there are processes and memory so far
-abbrev pub base : Plain → Account → ℕ
-base plain account =
-    how_many plain.table * size class.Proc + nodes_named account * size class.Node + frames_named account * size class.Page
-
 -- the working directories of live processes, and before them the root
 abbrev pub directories_of : Table → List ℕ
 directories_of [] = []
@@ -50,9 +36,9 @@ abbrev pub distinct : List ℕ → List ℕ
 distinct [] = []
 distinct (n ∷ ns) = if list_any (λ m. m == n) ns then distinct ns else n ∷ distinct ns
 
--- the nodes that have to stay cached
+-- the nodes that have to stay cached: the root, those that descriptions open, and the working directories of live processes
 abbrev pub pinned_nodes : Plain → List ℕ
-pinned_nodes plain = distinct (root ∷ directories_of plain.table)
+pinned_nodes plain = distinct (root ∷ opened_nodes plain.files ++ directories_of plain.table)
 
 -- how many these are
 abbrev pub pins : Plain → ℕ
@@ -81,12 +67,20 @@ AreOnce (x ∷ xs) = AllByRecursion (λ y. x ≢ y) xs × AreOnce xs
 abbrev pub is_in : ℕ → List ℕ → Bool
 is_in n ns = list_any (λ m. m == n) ns
 
--- What caches may keep: nothing twice, and every node that is pinned.
+-- a directory has an entry of this name, which is neither `.` nor `..`
+pub record IsTrueName (tree : Tree) (name : ℕ × List ℕ) : Type 0 where
+  pub there : is_some (found tree name.0 name.1) ≡ true
+  pub proper : is_dots name.1 ≡ false
+
+-- What caches may keep: nothing twice; names of true entries, blocks of the disk, and nodes in use, every pinned one among them.
 pub record MayKeep (plain : Plain) (kept : Kept) : Type 0 where
   pub names : AreOnce kept.names
   pub blocks : AreOnce kept.blocks
   pub vnodes : AreOnce kept.vnodes
   pub pinned : (node : ℕ) → is_in node (pinned_nodes plain) ≡ true → is_in node kept.vnodes ≡ true
+  pub true_names : AllByRecursion (IsTrueName plain.files.tree) kept.names
+  pub on_disk : AllByRecursion (λ block. block < plain.files.tree.blocks) kept.blocks
+  pub in_use : AllByRecursion (λ node. is_in_use plain.files.tree node ≡ true) kept.vnodes
 
 -- only the root's node is kept
 abbrev pub boot_kept : Kept

@@ -1,0 +1,15 @@
+use Rattle.std.proofs.Common.{refl}
+use Rattle.posix_defs.specs.Files.Descriptors.{none_open}
+use Rattle.posix_defs.specs.Memory.{no_memory, no_places, lowest_free_run, zero_page}
+use Rattle.posix_defs.specs.Files.Closing.{after_end_of}
+use Rattle.posix_defs.specs.DiskContents.{zeros}
+use Rattle.posix_defs.specs.DiskFormat.{entry_bytes}
+use Rattle.posix_defs.specs.Calls.OnDescriptors.{close, fcntl}
+use Rattle.posix_defs.specs.Calls.OnPipes.{pipe}
+use Rattle.posix_defs.specs.Calls.Reading.{read}
+use Rattle.posix_defs.specs.Calls.Writing.{write}
+use Rattle.machine_traces.proofs.pipes.parts_that_end_are_told.Goals as goal
+
+pub returns : goal.returns
+unfolding none_open no_memory no_places lowest_free_run zero_page after_end_of zeros entry_bytes close fcntl pipe read write
+returns c = refl

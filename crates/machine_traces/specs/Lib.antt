@@ -1,0 +1,9 @@
+pub mod Trace
+pub mod Pipes
+pub mod Polls
+pub mod Pairs
+pub mod Opens
+pub mod Paths
+pub mod Starts
+pub mod Sockets
+pub mod Lives
