@@ -5,10 +5,13 @@ use borrow.Author.Tests.{eqb-true, eq-eqb}
 use Rattle.kabi_types.specs.declared.entries.Cached.{Cached}
 use Rattle.kabi_types.specs.declared.entries.Cached.TheVariants.{Name, Block, Vnode}
 use Rattle.posix_defs.specs.Plain.{Plain, root}
-use Rattle.posix_defs.specs.World.{AreOnce, Kept, MayKeep, World, base, boot_kept, cached, can_evict, directories_of, distinct, is_in, live_of, pinned_nodes, pins}
+use Rattle.posix_defs.specs.World.{AreOnce, IsTrueName, Kept, MayKeep, World, base, boot_kept, cached, can_evict, directories_of, distinct, is_in, live_of, pinned_nodes, pins}
 use Rattle.posix_defs.specs.Licence.{can_evict_any}
 use Rattle.posix_defs.specs.Relief.{Evicts, LosesFrom, LosesOne}
 use Rattle.posix_defs.specs.Process.{Process, Table, runs}
+use Rattle.posix_defs.specs.Tree.{Tree, is_in_use, new_tree}
+use Rattle.posix_defs.specs.Files.State.{Files, nodes_among, opened_nodes}
+use Rattle.posix_defs.specs.Files.Bare.{IsBare}
 use Rattle.posix_defs.specs.SoundTasks.{AllAtHome}
 use Rattle.std.proofs.lemmas.Bool.Decides.{eqb_tells}
 
@@ -99,7 +102,7 @@ once-distinct (m ∷ ms) = go (list_any (λ k. k == m) ms) refl (once-distinct m
     go false e rest = (all_apart m (distinct ms) (λ found. not_both (is_in m ms) (in-distinct m ms found) e), rest)
 
 pub once_pinned : (plain : Plain) → AreOnce (pinned_nodes plain)
-once_pinned plain = once-distinct (root ∷ directories_of plain.table)
+once_pinned plain = once-distinct (root ∷ opened_nodes plain.files ++ directories_of plain.table)
 
 -- the root's node is pinned, so one is
 some_distinct : (n : ℕ) (ns : List ℕ) → 0 < length (distinct (n ∷ ns))
@@ -111,7 +114,7 @@ some_distinct n (m ∷ ms) = go (list_any (λ k. k == n) (m ∷ ms)) (some_disti
     go false some = omega arith
 
 pub root_is_pinned : (plain : Plain) → 0 < pins plain
-root_is_pinned plain = some_distinct root (directories_of plain.table)
+root_is_pinned plain = some_distinct root (opened_nodes plain.files ++ directories_of plain.table)
 
 -- no fewer nodes are kept than are pinned
 pub pins_kept : (plain : Plain) (kept : Kept) → MayKeep plain kept → pins plain ≤ length kept.vnodes
@@ -250,6 +253,15 @@ sizes_left plain old Name new loses = (length_left old.names loses.0 new.names l
 sizes_left plain old Block new loses = (ap (λ k. length k.names) loses.2, length_left old.blocks loses.0 new.blocks loses.1, ap (λ k. length k.vnodes) loses.2)
 sizes_left plain old Vnode new loses = (ap (λ k. length k.names) loses.3, ap (λ k. length k.blocks) loses.3, length_left old.vnodes loses.0 new.vnodes loses.2)
 
+-- what holds of each holds of each that is left
+all_fewer : {X : Type 0} (holds : X → Type 0) (front back : List X) (gone : X) → AllByRecursion holds (front ++ gone ∷ back) → AllByRecursion holds (front ++ back)
+all_fewer holds [] back gone all = all.1
+all_fewer holds (x ∷ front) back gone all = (all.0, all_fewer holds front back gone all.1)
+
+all_left : {X : Type 0} (holds : X → Type 0) (old : List X) (gone : X) (new : List X) → LosesOne old gone new → AllByRecursion holds old → AllByRecursion holds new
+all_left holds old gone new loses all =
+    subst (AllByRecursion holds) (sym loses.is) (all_fewer holds loses.front loses.back gone (subst (AllByRecursion holds) loses.was all))
+
 -- what is left after an eviction may be kept
 pub keeps_left : (plain : Plain) (old : Kept) (what : Cached) (new : Kept) → LosesFrom plain old what new → MayKeep plain old → MayKeep plain new
 keeps_left plain old Name new loses may = record {
@@ -257,18 +269,27 @@ keeps_left plain old Name new loses may = record {
   blocks = subst AreOnce (sym (ap (λ k. k.blocks) loses.2)) may.blocks;
   vnodes = subst AreOnce (sym (ap (λ k. k.vnodes) loses.2)) may.vnodes;
   pinned = λ n e. ap (λ k. is_in n k.vnodes) loses.2 ∙ may.pinned n e;
+  true_names = all_left (IsTrueName plain.files.tree) old.names loses.0 new.names loses.1 may.true_names;
+  on_disk = subst (AllByRecursion (λ block. block < plain.files.tree.blocks)) (sym (ap (λ k. k.blocks) loses.2)) may.on_disk;
+  in_use = subst (AllByRecursion (λ node. is_in_use plain.files.tree node ≡ true)) (sym (ap (λ k. k.vnodes) loses.2)) may.in_use;
 }
 keeps_left plain old Block new loses may = record {
   names = subst AreOnce (sym (ap (λ k. k.names) loses.2)) may.names;
   blocks = once_left old.blocks loses.0 new.blocks loses.1 may.blocks;
   vnodes = subst AreOnce (sym (ap (λ k. k.vnodes) loses.2)) may.vnodes;
   pinned = λ n e. ap (λ k. is_in n k.vnodes) loses.2 ∙ may.pinned n e;
+  true_names = subst (AllByRecursion (IsTrueName plain.files.tree)) (sym (ap (λ k. k.names) loses.2)) may.true_names;
+  on_disk = all_left (λ block. block < plain.files.tree.blocks) old.blocks loses.0 new.blocks loses.1 may.on_disk;
+  in_use = subst (AllByRecursion (λ node. is_in_use plain.files.tree node ≡ true)) (sym (ap (λ k. k.vnodes) loses.2)) may.in_use;
 }
 keeps_left plain old Vnode new loses may = record {
   names = subst AreOnce (sym (ap (λ k. k.names) loses.3)) may.names;
   blocks = subst AreOnce (sym (ap (λ k. k.blocks) loses.3)) may.blocks;
   vnodes = once_left old.vnodes loses.0 new.vnodes loses.2 may.vnodes;
   pinned = λ n e. in_left old.vnodes loses.0 new.vnodes loses.2 n (apart n e) (may.pinned n e);
+  true_names = subst (AllByRecursion (IsTrueName plain.files.tree)) (sym (ap (λ k. k.names) loses.3)) may.true_names;
+  on_disk = subst (AllByRecursion (λ block. block < plain.files.tree.blocks)) (sym (ap (λ k. k.blocks) loses.3)) may.on_disk;
+  in_use = all_left (λ node. is_in_use plain.files.tree node ≡ true) old.vnodes loses.0 new.vnodes loses.2 may.in_use;
 }
   where
     apart : (n : ℕ) → is_in n (pinned_nodes plain) ≡ true → n ≢ loses.0
@@ -305,14 +326,27 @@ roots (Some process ∷ table) home = go (runs process.status) (roots table (fur
     go true rest = (home 1 process refl, rest)
     go false rest = rest
 
-pub root_pinned : (plain : Plain) → AllAtHome plain.table → pinned_nodes plain ≡ root ∷ []
-root_pinned plain home = one_pinned (directories_of plain.table) (roots plain.table home)
+-- and where nothing is open no description opens a node
+none_opened : (files : Files) → files.descriptions ≡ [] → opened_nodes files ≡ []
+none_opened files none = ap (nodes_among files) none
 
--- where everybody works in the root, a store may keep the root alone
-pub root_may_keep : (plain : Plain) → AllAtHome plain.table → MayKeep plain boot_kept
-root_may_keep plain home = record {
+pub root_pinned : (plain : Plain) → AllAtHome plain.table → IsBare plain.files → pinned_nodes plain ≡ root ∷ []
+root_pinned plain home bare =
+    ap (λ opened. distinct (root ∷ opened ++ directories_of plain.table)) (none_opened plain.files bare.descriptions)
+    ∙ one_pinned (directories_of plain.table) (roots plain.table home)
+
+-- the root of a new tree is in use
+root_in_use : (tree : Tree) → tree ≡ new_tree tree.blocks → is_in_use tree root ≡ true
+root_in_use tree new = ap (λ t. is_in_use t root) new
+
+-- where everybody works in the root, and nothing is open, a store may keep the root alone
+pub root_may_keep : (plain : Plain) → AllAtHome plain.table → IsBare plain.files → MayKeep plain boot_kept
+root_may_keep plain home bare = record {
   names = tt;
   blocks = tt;
   vnodes = (tt, tt);
-  pinned = λ node e. subst (λ nodes. is_in node nodes ≡ true) (root_pinned plain home) e;
+  pinned = λ node e. subst (λ nodes. is_in node nodes ≡ true) (root_pinned plain home bare) e;
+  true_names = tt;
+  on_disk = tt;
+  in_use = (root_in_use plain.files.tree bare.tree, tt);
 }

@@ -11,6 +11,8 @@ use Rattle.posix_defs.specs.declared.phases.Phase.TheVariants.{User, Waiting, Ad
 use Rattle.posix_defs.specs.declared.turner.Turned.TheVariants as turned
 use Rattle.posix_defs.specs.Memory.{no_places}
 use Rattle.posix_defs.specs.Needs.{bound}
+use Rattle.posix_defs.specs.Files.Descriptors.{none_open}
+use Rattle.posix_defs.specs.Files.Closing.{after_end_of}
 use Rattle.posix_defs.specs.Plain.{answered, boot_plain, call_of}
 use Rattle.posix_defs.specs.Ending.{die}
 use Rattle.posix_defs.specs.CoreState.{CoreState, boot_state, charged_in, with_phase}
@@ -80,7 +82,7 @@ unfolding no_places
 tells_pid = record {
   enabled = record { asked = for_pid; is = refl };
   told = turned.Done (Val (pos 1));
-  answers = record { answer = (refl, refl); account = refl; may_keep = record { names = tt; blocks = tt; vnodes = (tt, tt); pinned = λ node e. e }; live = grows_by 640 _; names = grows_by 0 _; blocks = grows_by 0 _; vnodes = grows_by 1 _; reads = grows_by 0 0 };
+  answers = record { answer = (refl, refl); account = refl; may_keep = record { names = tt; blocks = tt; vnodes = (tt, tt); pinned = λ node e. e; true_names = tt; on_disk = tt; in_use = (refl, tt) }; live = grows_by 640 _; names = grows_by 0 _; blocks = grows_by 0 _; vnodes = grows_by 1 _; reads = grows_by 0 0; untouched = λ _. (refl, refl); left = λ _. tt; known = λ _. refl };
   tasks = refl;
   noted_so = refl;
 }
@@ -94,17 +96,17 @@ unfolding no_places
 admits_exit = record { enabled = record { waits = record { asked = for_exit; is = refl }; room = has_room }; after = refl; noted_so = refl }
 
 exits : Steps first_script after_five (noted (Turn 1) kind.Exit (Some (entry.Ended 1 kind.Exit 0)) 2304) after_six
-unfolding no_places
+unfolding no_places none_open after_end_of
 exits = record {
   enabled = record { asked = for_exit; is = refl };
   told = turned.Ended 0;
-  answers = record { answer = (refl, refl); account = refl; may_keep = record { names = tt; blocks = tt; vnodes = (tt, tt); pinned = λ node e. e }; live = falls_to 0 _; names = grows_by 0 _; blocks = grows_by 0 _; vnodes = grows_by 1 _; reads = grows_by 0 0 };
+  answers = record { answer = (refl, refl); account = refl; may_keep = record { names = tt; blocks = tt; vnodes = (tt, tt); pinned = λ node e. e; true_names = tt; on_disk = tt; in_use = (refl, tt) }; live = falls_to 0 _; names = grows_by 0 _; blocks = grows_by 0 _; vnodes = grows_by 1 _; reads = grows_by 0 0; untouched = λ _. (refl, refl); left = λ _. tt; known = λ _. refl };
   tasks = refl;
   noted_so = refl;
 }
 
 pub first_is_run : IsCoreRun first_script 1000 first_run after_six
-unfolding no_places
+unfolding no_places none_open after_end_of
 first_is_run = goes_on _ _ _ _ (goes_on _ _ _ _ (goes_on _ _ _ _ (goes_on _ _ _ _ (goes_on _ _ _ _ (goes_on [] _ _ _ boots refl tt asks_pid) refl tt admits_pid) refl tt tells_pid) refl tt asks_exit) refl tt admits_exit) refl tt exits
 
 two_is_not_one : ◌≡◌ {A = ℕ} 2 1 → ⊥

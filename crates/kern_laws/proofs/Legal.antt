@@ -32,7 +32,8 @@ use Rattle.posix_defs.specs.Plain.{Plain, answered, call_of, last_pid}
 use Rattle.posix_defs.specs.Ending.{die}
 use Rattle.posix_defs.specs.Answer.{Answer, Blocked, Done, Part, Ended}
 use Rattle.posix_defs.specs.Machine.{machine, would_block}
-use Rattle.posix_defs.specs.World.{Account, base, forget_dead, live_of, pins, Kept}
+use Rattle.posix_defs.specs.World.{Account, base, live_of, pins, Kept}
+use Rattle.posix_defs.specs.Account.{account_on}
 use Rattle.posix_defs.specs.Victim.{victim_of}
 use Rattle.posix_defs.specs.Turn.{Tells, account_after}
 use Rattle.posix_defs.specs.CoreState.{CoreState, asked_by, boot_state, charged_in, fits, held, is_admitted, is_waiting, lives, none_admitted, phase_in, phase_of, reserved_in, some_fits, some_wait_in_vain, waits_and_fits, with_phase_in}
@@ -514,7 +515,7 @@ step_killed script run old pid noted new step sound stands =
     let up = is_awake script old past step.waiter stands.sleepers fits.phase.0 (λ a e. different phase e) in
     let licence = licensed script old step.enabled.licensed in
     let after = die past.plain pid 9 in
-    let next : Past = moves_on script past after (forget_dead after past.account) (others pid past.asleep) in
+    let next : Past = moves_on script past after (account_on past.plain after past.account) (others pid past.asleep) in
     let plain : after ≡ new.world.plain = ap (λ p. die p pid 9) stands.plain_is ∙ sym step.kills.plain in
     let told = entry.Killed pid step.waiter step.asked.bound (live_of old.world) in
     let unfit : fits_now script old step.asked ≡ false =
@@ -539,7 +540,8 @@ step_killed script run old pid noted new step sound stands =
             leads = refl;
           }));
       plain_is = plain;
-      account_is = ap (λ p. forget_dead p past.account) plain ∙ ap (forget_dead new.world.plain) stands.account_is ∙ sym step.kills.account;
+      account_is = ap (λ p. account_on past.plain p past.account) plain ∙ ap (λ p. account_on p new.world.plain past.account) stands.plain_is
+          ∙ ap (account_on old.world.plain new.world.plain) stands.account_is ∙ sym step.kills.account;
       sleepers = λ other found.
           let among = among_filter (would_block script after) (others pid past.asleep) other found in
           let before = among_others pid other past.asleep among.1 in

@@ -1,6 +1,7 @@
 pub mod TablePlaces
 pub mod LivingVictim
 pub mod Remembering
+pub mod Bareness
 pub mod Families
 pub mod Errors
 pub mod TwoRun

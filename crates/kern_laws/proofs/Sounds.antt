@@ -361,7 +361,7 @@ refuse_sound script old pid sound alive =
           }) sound.each;
       all = λ other lives. any_with old.tasks pid other User ∙ sound.all other lives;
       home = next.home sound.home;
-      may_keep = record { names = sound.may_keep.names; blocks = sound.may_keep.blocks; vnodes = sound.may_keep.vnodes; pinned = sound.may_keep.pinned };
+      may_keep = record { names = sound.may_keep.names; blocks = sound.may_keep.blocks; vnodes = sound.may_keep.vnodes; pinned = sound.may_keep.pinned; true_names = sound.may_keep.true_names; on_disk = sound.may_keep.on_disk; in_use = sound.may_keep.in_use };
     }
 
 abandon_sound : (script : Script) (old : CoreState) (pid : ℕ) → IsSound script old → is_alive old.world.plain.table pid ≡ false
@@ -430,7 +430,7 @@ boot_sound script = record {
   each = (record { made = let h : 1 ≤ 1 = omega arith in h; phase = refl }, tt);
   all = first_alone;
   home = at_home;
-  may_keep = record { names = tt; blocks = tt; vnodes = (tt, tt); pinned = λ node e. e };
+  may_keep = record { names = tt; blocks = tt; vnodes = (tt, tt); pinned = λ node e. e; true_names = tt; on_disk = tt; in_use = (refl, tt) };
 }
   where
     at_home : (pid : ℕ) (process : Process) → process_at (Some first_process ∷ []) pid ≡ Some process → process.directory ≡ root

@@ -1,3 +1,4 @@
+pub mod StayingBare
 pub mod Sleeping
 pub mod WorkedFamily
 pub mod TwoProcesses

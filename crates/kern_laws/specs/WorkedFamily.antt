@@ -4,6 +4,7 @@ use Rattle.kabi_values.specs.declared.classes.Weight.{Weight}
 use Rattle.posix_defs.specs.Memory.{no_memory}
 use Rattle.posix_defs.specs.Process.{Table, Process, Status, Alive, Ended}
 use Rattle.posix_defs.specs.Plain.{Plain}
+use Rattle.posix_defs.specs.Files.State.{boot_files}
 
 -- a process with this parent, in this directory, without memory
 abbrev pub member : ℕ → ℕ → Status → Option Process
@@ -18,7 +19,7 @@ abbrev pub alone : Table
 alone = member 0 1 Alive ∷ member 1 5 (Ended 0) ∷ []
 
 abbrev pub as_plain : Table → Plain
-as_plain table = record { table = table; controls = [] }
+as_plain table = record { table = table; controls = []; files = boot_files 16 }
 
 -- what the process of this pid holds
 abbrev pub weight : ℕ → ℕ → ℕ → ℕ → Weight
