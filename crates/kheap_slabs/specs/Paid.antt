@@ -23,6 +23,10 @@ pub record IsPaid (old : Heap) (before : Purse) (new : Heap) (after : Purse) : T
   pub heap : new.heap ≡ old.heap
   pub marks : new.marks ≡ old.marks
 
+-- of a class exactly those are paid for that are made: what is there and what the purse has left make up what they were
+abbrev pub PaysExactly : Class → Heap → Purse → Heap → Purse → Type 0
+PaysExactly class old before new after = counted (counts_of new) class + counted after.left class ≡ counted (counts_of old) class + counted before.left class
+
 -- a call without a purse: of no class are more objects there than before, and high stays what it was
 pub record TakesNothing (old new : Heap) : Type 0 where
   pub counts : (class : Class) → counted (counts_of new) class ≤ counted (counts_of old) class
