@@ -1,12 +1,15 @@
 -- How many chunks a queue has, and the bytes that they take of the heap.
-use Rattle.std.proofs.Common.{◌≡◌, ◌≢◌, ◌⊎◌, inl, inr, ℕ, suc, ◌+◌, ◌*◌, ◌/◌, List, [], ◌∷◌, Option, None, Some, length, refl, sym, ap, ◌∙◌, arith, Contains, length-append}
+use Rattle.std.proofs.Common.{◌≡◌, ◌≢◌, ◌⊎◌, inl, inr, ℕ, suc, ◌+◌, ◌*◌, ◌/◌, List, [], ◌∷◌, ◌++◌, Option, None, Some, length, map, sum_by, refl, sym, ap, ◌∙◌, arith, Contains, length-append}
 use Rattle.std.proofs.lemmas.Bool.{cases_eq}
+use Rattle.std.proofs.lemmas.List.Elements.{Contains-append_right}
+use Rattle.std.proofs.lemmas.List.Sums.{sum_by-cons}
 use Rattle.kheap_shelves.specs.Objects.{InUse, count, without}
+use Rattle.kheap_shelves.specs.declared.objects.Chunk.{Chunk}
 use Rattle.kheap_shelves.specs.declared.objects.QueueParts.{QueueParts}
 use Rattle.kheap_slabs.specs.Heap.{Heap, live_bytes}
 use Rattle.kheap_slabs.specs.Keys.{AreKeysOf}
-use Rattle.kheap_slabs.specs.Owners.{Owners, with_queue, chunk_keys, IsOwned}
-use Rattle.kheap_slabs.specs.Queues.{OwnsChunks}
+use Rattle.kheap_slabs.specs.Owners.{Owners, with_queue, chunk_keys, IsOwned, OwnsItsObjects, pipe_queues, sock_queues}
+use Rattle.kheap_slabs.specs.Queues.{OwnedQueue, OwnsChunks}
 use Rattle.kheap_shelves.proofs.ObjectLemmas.{object-without_other, count-without}
 use Rattle.kheap_laws.proofs.OnceLemmas.{IsOnce-head, IsOnce-tail}
 use Rattle.posix_defs.specs.QueuePlace.{chunks_of}
@@ -41,17 +44,34 @@ module _ {X : Type 0} where
       listed_still used other there (inr differs) = behind other differs (Contains-cons_cases key other rest (all.listed other (rw (object-without_other objects key other differs) at there)))
 
 -- a queue has as many chunks as its place and its bytes ask for
-pub chunks_are : (h : Heap) (keys : List ℕ) (parts : QueueParts) (owners : Owners) → IsOwned h (with_queue (owned parts keys) owners) → length keys ≡ chunks_of (place_of parts)
-chunks_are h keys parts owners is = by_len (cases_eq parts.len 0)
+chunks_are_of : (chunks : List (Option Chunk)) (queue : OwnedQueue) → OwnsChunks chunks queue → length queue.chunks ≡ chunks_of (place_of queue.parts)
+chunks_are_of chunks queue mine = by_len (cases_eq queue.parts.len 0)
   where
-    mine : OwnsChunks h.chunks (owned parts keys)
-    mine = owns h keys parts owners is
-
-    by_len : (parts.len ≡ 0) ⊎ (parts.len ≢ 0) → length keys ≡ chunks_of (place_of parts)
+    by_len : (queue.parts.len ≡ 0) ⊎ (queue.parts.len ≢ 0) → length queue.chunks ≡ chunks_of (place_of queue.parts)
     by_len (inl none) = let front = mine.empty none in rw none (omega (arith, front, none, mine.needed, mine.enough))
     by_len (inr some) =
-        let whole : (parts.place + parts.len + 511) / 512 ≡ length keys = omega (arith, mine.enough, mine.needed) in
-        sym (chunks_some parts.place parts.len (omega arith) ∙ whole)
+        let whole : (queue.parts.place + queue.parts.len + 511) / 512 ≡ length queue.chunks = omega (arith, mine.enough, mine.needed) in
+        sym (chunks_some queue.parts.place queue.parts.len (omega arith) ∙ whole)
+
+pub chunks_are : (h : Heap) (keys : List ℕ) (parts : QueueParts) (owners : Owners) → IsOwned h (with_queue (owned parts keys) owners) → length keys ≡ chunks_of (place_of parts)
+chunks_are h keys parts owners is = chunks_are_of h.chunks (owned parts keys) (owns h keys parts owners is)
+
+-- and so all queues together
+chunks_of_all : (chunks : List (Option Chunk)) (queues : List OwnedQueue) → ((queue : OwnedQueue) → Contains queues queue → OwnsChunks chunks queue) → length (chunk_keys queues) ≡ sum_by (λ parts. chunks_of (place_of parts)) (map (λ (queue : OwnedQueue). queue.parts) queues)
+chunks_of_all chunks [] each = refl
+chunks_of_all chunks (queue ∷ rest) each =
+    let here = chunks_are_of chunks queue (each queue (0, omega arith, refl)) in
+    let behind = chunks_of_all chunks rest (λ other there. each other (Contains-append_right (queue ∷ []) rest other there)) in
+    let whole = length-append queue.chunks (chunk_keys rest) in
+    let sum = sum_by-cons (λ (parts : QueueParts). chunks_of (place_of parts)) queue.parts (map (λ (q : OwnedQueue). q.parts) rest) in
+    omega (arith, here, behind, whole, sum)
+
+-- the chunks of the heap are those that the queues of its pipes and sockets ask for
+pub chunks_of_heap : (h : Heap) → OwnsItsObjects h → count h.chunks ≡ sum_by (λ parts. chunks_of (place_of parts)) (pipe_queues h.pipes ++ sock_queues h.socks)
+chunks_of_heap h owned =
+    count-keys h.chunks (chunk_keys owned.0.queues) owned.2.chunks
+    ∙ chunks_of_all h.chunks owned.0.queues owned.2.queues
+    ∙ ap (λ parts. sum_by (λ (queue : QueueParts). chunks_of (place_of queue)) parts) owned.1.queues
 
 -- where one queue is another one now, live differs by their chunks
 pub live_of_queue : (old new : Heap) (keys now_keys : List ℕ) (queue now : QueueParts) (owners : Owners) → IsOwned old (with_queue (owned queue keys) owners) → IsOwned new (with_queue (owned now now_keys) owners) → OnlyChunks old new → live_bytes new + 576 * chunks_of (place_of queue) ≡ live_bytes old + 576 * chunks_of (place_of now)

@@ -1,12 +1,12 @@
 //! Laws of queues in the heap. Each is the contract of a function that does nothing.
 
-ghost use Rattle.std.specs.Prelude.{◌≡◌, ℕ, ◌+◌, ◌*◌, List, Some, []};
-ghost use Rattle.kheap_shelves.specs.Objects.{object, put, without};
+ghost use Rattle.std.specs.Prelude.{◌≡◌, ℕ, ◌+◌, ◌*◌, ◌++◌, List, Some, [], sum_by};
+ghost use Rattle.kheap_shelves.specs.Objects.{object, count, put, without};
 ghost use Rattle.kheap_shelves.specs.declared.objects.Pipe.{Pipe};
 ghost use Rattle.kheap_shelves.specs.declared.objects.QueueParts.{QueueParts};
 ghost use Rattle.kheap_shelves.specs.declared.objects.Sock.{Sock};
 ghost use Rattle.kheap_slabs.specs.Heap.{Heap, live_bytes};
-ghost use Rattle.kheap_slabs.specs.Owners.{Owners, with_queue, IsOwned, OwnsItsObjects};
+ghost use Rattle.kheap_slabs.specs.Owners.{Owners, with_queue, IsOwned, OwnsItsObjects, pipe_queues, sock_queues};
 ghost use Rattle.kheap_slabs.specs.Queues.{empty_queue};
 ghost use Rattle.posix_defs.specs.QueuePlace.{chunks_of};
 ghost use Rattle.chunk_queue.specs.Chained.{owned, place_of, IsQueueIn, Turns, OnlyChunks};
@@ -68,4 +68,11 @@ pub fn live_follows_the_account()
         → IsOwned old (with_queue (owned queue keys) owners) → IsOwned new (with_queue (owned now now_keys) owners)
         → OnlyChunks old new
         → live_bytes new + 576 * chunks_of (place_of queue) ≡ live_bytes old + 576 * chunks_of (place_of now) }
+{}
+
+/// The chunks of the heap are those of its queues: as many as the places and the lengths of the queues of all pipes and
+/// of all sockets ask for, together.
+pub fn chunks_are_those_of_all_queues()
+    ensures { (h : Heap) → OwnsItsObjects h
+        → count h.chunks ≡ sum_by (λ parts. chunks_of (place_of parts)) (pipe_queues h.pipes ++ sock_queues h.socks) }
 {}

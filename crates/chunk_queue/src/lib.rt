@@ -6,9 +6,13 @@
 
 pub mod laws;
 mod moved;
+mod polled;
 mod queue;
+mod room;
 #[cfg(test)]
 mod tests;
 
 pub use moved::Moved;
+pub use polled::{POLLERR, POLLHUP, POLLIN, POLLOUT, event_if};
 pub use queue::Queue;
+pub use room::{fitting, room_in};

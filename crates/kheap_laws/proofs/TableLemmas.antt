@@ -36,6 +36,14 @@ module _ {X : Type 0} where
         let behind = each_of-splits f rest key value is in
         record { before = f x ∷ behind.before; after = behind.after; whole_is = ap (λ items. f x ∷ items) behind.whole_is; rest_is = ap (λ items. f x ∷ items) behind.rest_is }
 
+    -- what all have is the same where one object becomes another that has the same
+    pub each_of-put : (f : X → Y) (objects : List (Option X)) (key : ℕ) (was now : X) → object objects key ≡ Some was → f now ≡ f was → each_of f (put objects key now) ≡ each_of f objects
+    each_of-put f [] key was now is same = absurd (cc)
+    each_of-put f (None ∷ rest) zero was now is same = absurd (cc)
+    each_of-put f (Some x ∷ rest) zero was now is same = let one : x ≡ was = cc in ap (λ first. first ∷ each_of f rest) (same ∙ ap f (sym one))
+    each_of-put f (None ∷ rest) (suc key) was now is same = each_of-put f rest key was now is same
+    each_of-put f (Some x ∷ rest) (suc key) was now is same = ap (λ items. f x ∷ items) (each_of-put f rest key was now is same)
+
   -- what maps to two parts is in two parts
   record Parts {Y : Type 0} (f : X → Y) (items : List X) (front back : List Y) : Type 0 where
     first : List X
@@ -244,3 +252,17 @@ OwnsItsObjects-sock_goes old new key sock there none is owns =
     let found = AreOwnersOf-sock_out old owns.0 key sock there owns.1 in
     let left = IsOwned-queue_leaves old found.1 found.0 (ap (λ (q : QueueParts). q.len) found.2 ∙ none) (found.3.same.there old owns.2) in
     (found.1, rw is found.3.rest_are, IsOwned-same old new found.1 (ap (λ (h : Heap). h.nodes) is) (ap (λ (h : Heap). h.pages) is) (ap (λ (h : Heap). h.chunks) is) left)
+
+-- where what owns and what is owned are the same, all own what they owned
+pub OwnsItsObjects-along : (old new : Heap) → spaces_of new.procs ≡ spaces_of old.procs → pipe_queues new.pipes ≡ pipe_queues old.pipes → sock_queues new.socks ≡ sock_queues old.socks → new.nodes ≡ old.nodes → new.pages ≡ old.pages → new.chunks ≡ old.chunks → OwnsItsObjects old → OwnsItsObjects new
+OwnsItsObjects-along old new spaces pipes socks nodes pages chunks owns = (owns.0, AreOwnersOf-along old new owns.0 spaces pipes socks owns.1, IsOwned-same old new owns.0 nodes pages chunks owns.2)
+
+-- and so where a process, a pipe or a socket becomes another that owns the same
+pub OwnsItsObjects-proc_set : (old new : Heap) (key : ℕ) (was now : Proc) → object old.procs key ≡ Some was → now.nodes ≡ was.nodes → new ≡ record old { procs = put old.procs key now } → OwnsItsObjects old → OwnsItsObjects new
+OwnsItsObjects-proc_set old new key was now there same is owns = rw is (OwnsItsObjects-along old (record old { procs = put old.procs key now }) (each_of-put (λ (p : Proc). p.nodes) old.procs key was now there same) refl refl refl refl refl owns)
+
+pub OwnsItsObjects-pipe_set : (old new : Heap) (key : ℕ) (was now : Pipe) → object old.pipes key ≡ Some was → now.queue ≡ was.queue → new ≡ record old { pipes = put old.pipes key now } → OwnsItsObjects old → OwnsItsObjects new
+OwnsItsObjects-pipe_set old new key was now there same is owns = rw is (OwnsItsObjects-along old (record old { pipes = put old.pipes key now }) refl (each_of-put (λ (p : Pipe). p.queue) old.pipes key was now there same) refl refl refl refl owns)
+
+pub OwnsItsObjects-sock_set : (old new : Heap) (key : ℕ) (was now : Sock) → object old.socks key ≡ Some was → now.queue ≡ was.queue → new ≡ record old { socks = put old.socks key now } → OwnsItsObjects old → OwnsItsObjects new
+OwnsItsObjects-sock_set old new key was now there same is owns = rw is (OwnsItsObjects-along old (record old { socks = put old.socks key now }) refl refl (each_of-put (λ (s : Sock). s.queue) old.socks key was now there same) refl refl refl owns)

@@ -4,7 +4,7 @@ ghost use Rattle.kheap_shelves.specs.declared.objects.Pipe.{Pipe};
 ghost use Rattle.kheap_shelves.specs.declared.objects.Proc.{Proc};
 ghost use Rattle.kheap_shelves.specs.declared.objects.Sock.{Sock};
 ghost use Rattle.kheap_slabs.specs.Heap.{Heap};
-ghost use Rattle.kheap_slabs.specs.Owners.{Owners, AreOwnersOf, HasSpaceOut, HasQueueOut, OwnsItsObjects};
+ghost use Rattle.kheap_slabs.specs.Owners.{Owners, AreOwnersOf, HasSpaceOut, HasQueueOut, OwnsItsObjects, spaces_of, pipe_queues, sock_queues};
 ghost use Rattle.kheap_slabs.specs.Queues.{OwnedQueue, empty_queue};
 ghost use Rattle.kheap_slabs.specs.Spaces.{keys_in};
 
@@ -79,5 +79,28 @@ pub fn empty_objects_go()
     ensures socket { (old : Heap) (new : Heap) (key : ℕ) (sock : Sock)
         → object old.socks key ≡ Some sock → sock.queue.len ≡ 0
         → new ≡ record old { socks = without old.socks key }
+        → OwnsItsObjects old → OwnsItsObjects new }
+{}
+
+/// Everything has its owner still where the processes have the same nodes, the pipes and sockets the same queues, and
+/// nodes, pages and chunks are the same, whatever descriptions there are and whatever the caches keep; and where one
+/// process, pipe or socket becomes another that owns the same.
+pub fn owned_objects_stay()
+    ensures others { (old : Heap) (new : Heap)
+        → spaces_of new.procs ≡ spaces_of old.procs → pipe_queues new.pipes ≡ pipe_queues old.pipes
+        → sock_queues new.socks ≡ sock_queues old.socks
+        → new.nodes ≡ old.nodes → new.pages ≡ old.pages → new.chunks ≡ old.chunks
+        → OwnsItsObjects old → OwnsItsObjects new }
+    ensures process { (old : Heap) (new : Heap) (key : ℕ) (was : Proc) (now : Proc)
+        → object old.procs key ≡ Some was → now.nodes ≡ was.nodes
+        → new ≡ record old { procs = put old.procs key now }
+        → OwnsItsObjects old → OwnsItsObjects new }
+    ensures pipe { (old : Heap) (new : Heap) (key : ℕ) (was : Pipe) (now : Pipe)
+        → object old.pipes key ≡ Some was → now.queue ≡ was.queue
+        → new ≡ record old { pipes = put old.pipes key now }
+        → OwnsItsObjects old → OwnsItsObjects new }
+    ensures socket { (old : Heap) (new : Heap) (key : ℕ) (was : Sock) (now : Sock)
+        → object old.socks key ≡ Some was → now.queue ≡ was.queue
+        → new ≡ record old { socks = put old.socks key now }
         → OwnsItsObjects old → OwnsItsObjects new }
 {}

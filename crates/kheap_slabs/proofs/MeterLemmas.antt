@@ -1,4 +1,4 @@
--- What the heap keeps: at boot, and where a page or a node is changed in its place.
+-- What the heap keeps: at boot, and where a process, a page or a node is changed in its place.
 use Rattle.std.proofs.Common.{◌≡◌, ℕ, ◌+◌, ◌/◌, ◌≤◌, List, Option, Some, None, length, replicate, refl, sym, ◌∙◌, inl, inr, arith, length-append, length-drop}
 use Rattle.std.proofs.lemmas.Bool.{cases_eq}
 use Rattle.std.proofs.lemmas.List.{length-replicate, length-set, length-take}
@@ -8,6 +8,7 @@ use Rattle.kheap_shelves.specs.Objects.{object, count, put}
 use Rattle.kheap_shelves.specs.Pages.{with_bytes}
 use Rattle.kheap_shelves.specs.declared.objects.Node.{Node}
 use Rattle.kheap_shelves.specs.declared.objects.Page.{Page}
+use Rattle.kheap_shelves.specs.declared.objects.Proc.{Proc}
 use Rattle.kheap_slabs.specs.Heap.{Heap, empty_heap, live_bytes}
 use Rattle.kheap_slabs.specs.Metered.{IsMetered}
 use Rattle.kheap_shelves.proofs.ObjectLemmas.{InUse-within, count-none, count-put_used, object-none, object-put, object-put_other}
@@ -26,12 +27,50 @@ IsMetered-boot heap most = record {
     live_within = rw none_live (omega arith);
     high_within = omega arith;
     limit = most;
+    descriptors = λ key process is. absurd (object-none (heap / size class.Proc) key process is);
+    spaces = λ key process is. absurd (object-none (heap / size class.Proc) key process is);
     entries = λ key node is. absurd (object-none (heap / size class.Node) key node is);
     page_bytes = λ key page is. absurd (object-none (heap / size class.Page) key page is);
     chunk_bytes = λ key chunk is. absurd (object-none (heap / size class.Chunk) key chunk is);
+    waiting = λ key sock is. absurd (object-none (heap / size class.Sock) key sock is);
   };
   keys = simp length-replicate;
 }
+
+-- a row is as long in all objects, and stays so where one becomes another with a row as long
+stay_long : {X : Type 0} (measured : X → ℕ) (long : ℕ) (objects : List (Option X)) (key : ℕ) (was now : X) → object objects key ≡ Some was → measured now ≡ long
+    → ((other : ℕ) (value : X) → object objects other ≡ Some value → measured value ≡ long)
+    → (other : ℕ) (value : X) → object (put objects key now) other ≡ Some value → measured value ≡ long
+stay_long {X} measured long objects key was now is same all other value there = elim (cases_eq other key) [
+  | inl equal ↦ (
+      let stored = object-put objects key now (InUse-within objects key (rw is refl)) in
+      let named : object (put objects key now) key ≡ Some value = rw equal at there in
+      let one : value ≡ now = grind arith in
+      rw one same
+      )
+  | inr differs ↦ all other value (sym (object-put_other objects key other now differs) ∙ there)
+]
+
+-- a process is changed in its place and keeps as many descriptors and nodes
+pub IsMetered-proc : (h : Heap) (live key : ℕ) (procs : List (Option Proc)) (was now : Proc) → IsMetered h live → object h.procs key ≡ Some was → length now.descriptors ≡ 32 → length now.nodes ≡ 4 → procs ≡ put h.procs key now → IsMetered (record h { procs = procs }) live
+IsMetered-proc h live key procs was now metered is descriptors four put_is = rw put_is (record {
+  live_is = metered.live_is ∙ sym same_live;
+  well_formed = record {
+    live_within = rw same_live metered.well_formed.live_within;
+    high_within = metered.well_formed.high_within;
+    limit = metered.well_formed.limit;
+    descriptors = stay_long (λ (p : Proc). length p.descriptors) 32 h.procs key was now is descriptors metered.well_formed.descriptors;
+    spaces = stay_long (λ (p : Proc). length p.nodes) 4 h.procs key was now is four metered.well_formed.spaces;
+    entries = metered.well_formed.entries;
+    page_bytes = metered.well_formed.page_bytes;
+    chunk_bytes = metered.well_formed.chunk_bytes;
+    waiting = metered.well_formed.waiting;
+  };
+  keys = rw (length-set h.procs key (Some now)) metered.keys;
+})
+  where
+    same_live : live_bytes (record h { procs = put h.procs key now }) ≡ live_bytes h
+    same_live = rw (count-put_used h.procs key now (rw is refl)) refl
 
 -- a page is changed in its place and keeps as many bytes
 pub IsMetered-page : (h : Heap) (live key : ℕ) (pages : List (Option Page)) (was now : Page) → IsMetered h live → object h.pages key ≡ Some was → length now.bytes ≡ length was.bytes → pages ≡ put h.pages key now → IsMetered (record h { pages = pages }) live
@@ -41,26 +80,18 @@ IsMetered-page h live key pages was now metered is long put_is = rw put_is (reco
     live_within = rw same_live metered.well_formed.live_within;
     high_within = metered.well_formed.high_within;
     limit = metered.well_formed.limit;
+    descriptors = metered.well_formed.descriptors;
+    spaces = metered.well_formed.spaces;
     entries = metered.well_formed.entries;
-    page_bytes = λ other page there. bytes_of other page there;
+    page_bytes = stay_long (λ (p : Page). length p.bytes) 4096 h.pages key was now is (long ∙ metered.well_formed.page_bytes key was is) metered.well_formed.page_bytes;
     chunk_bytes = metered.well_formed.chunk_bytes;
+    waiting = metered.well_formed.waiting;
   };
   keys = rw (length-set h.pages key (Some now)) metered.keys;
 })
   where
     same_live : live_bytes (record h { pages = put h.pages key now }) ≡ live_bytes h
     same_live = rw (count-put_used h.pages key now (rw is refl)) refl
-
-    bytes_of : (other : ℕ) (page : Page) → object (put h.pages key now) other ≡ Some page → length page.bytes ≡ 4096
-    bytes_of other page there = elim (cases_eq other key) [
-      | inl same ↦ (
-          let stored = object-put h.pages key now (InUse-within h.pages key (rw is refl)) in
-          let named : object (put h.pages key now) key ≡ Some page = rw same at there in
-          let one : page ≡ now = grind arith in
-          rw one (long ∙ metered.well_formed.page_bytes key was is)
-          )
-      | inr differs ↦ metered.well_formed.page_bytes other page (sym (object-put_other h.pages key other now differs) ∙ there)
-    ]
 
 -- a page has as many bytes as before where some are written
 pub length-with_bytes : (page : Page) (at : ℕ) (bytes : List ℕ) → at + length bytes ≤ length page.bytes → length (with_bytes page at bytes).bytes ≡ length page.bytes
@@ -74,23 +105,15 @@ IsMetered-node h live key nodes was now metered is long put_is = rw put_is (reco
     live_within = rw same_live metered.well_formed.live_within;
     high_within = metered.well_formed.high_within;
     limit = metered.well_formed.limit;
-    entries = λ other node there. entries_of other node there;
+    descriptors = metered.well_formed.descriptors;
+    spaces = metered.well_formed.spaces;
+    entries = stay_long (λ (n : Node). length n.entries) 64 h.nodes key was now is (long ∙ metered.well_formed.entries key was is) metered.well_formed.entries;
     page_bytes = metered.well_formed.page_bytes;
     chunk_bytes = metered.well_formed.chunk_bytes;
+    waiting = metered.well_formed.waiting;
   };
   keys = rw (length-set h.nodes key (Some now)) metered.keys;
 })
   where
     same_live : live_bytes (record h { nodes = put h.nodes key now }) ≡ live_bytes h
     same_live = rw (count-put_used h.nodes key now (rw is refl)) refl
-
-    entries_of : (other : ℕ) (node : Node) → object (put h.nodes key now) other ≡ Some node → length node.entries ≡ 64
-    entries_of other node there = elim (cases_eq other key) [
-      | inl same ↦ (
-          let stored = object-put h.nodes key now (InUse-within h.nodes key (rw is refl)) in
-          let named : object (put h.nodes key now) key ≡ Some node = rw same at there in
-          let one : node ≡ now = grind arith in
-          rw one (long ∙ metered.well_formed.entries key was is)
-          )
-      | inr differs ↦ metered.well_formed.entries other node (sym (object-put_other h.nodes key other now differs) ∙ there)
-    ]

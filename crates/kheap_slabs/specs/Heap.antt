@@ -91,6 +91,9 @@ pub record IsWellFormed (h : Heap) : Type 0 where
   pub live_within : live_bytes h ≤ h.high
   pub high_within : h.high ≤ h.heap
   pub limit : h.heap ≤ 8388608
+  pub descriptors : (key : ℕ) (process : Proc) → object h.procs key ≡ Some process → length process.descriptors ≡ 32
+  pub spaces : (key : ℕ) (process : Proc) → object h.procs key ≡ Some process → length process.nodes ≡ 4
   pub entries : (key : ℕ) (node : Node) → object h.nodes key ≡ Some node → length node.entries ≡ 64
   pub page_bytes : (key : ℕ) (page : Page) → object h.pages key ≡ Some page → length page.bytes ≡ 4096
   pub chunk_bytes : (key : ℕ) (chunk : Chunk) → object h.chunks key ≡ Some chunk → length chunk.bytes ≡ 512
+  pub waiting : (key : ℕ) (sock : Sock) → object h.socks key ≡ Some sock → length sock.waiting ≡ 8

@@ -13,7 +13,7 @@ use Rattle.kheap_slabs.specs.Queues.{empty_queue}
 use Rattle.kheap_shelves.proofs.ObjectLemmas.{object-put_other, object-without_other}
 use Rattle.kheap_laws.proofs.QueueLemmas.{OwnsChunks-fresh}
 use Rattle.chunk_queue.specs.Chained.{place_of, Turns, OnlyChunks, TakesOut}
-use Rattle.chunk_queue.specs.Held.{HasBytes, KeepsChunksBut, PipeGoes}
+use Rattle.chunk_queue.specs.Held.{HasBytes, KeepsChunksBut, PipeGoes, PipeKeepsBytes}
 use Rattle.chunk_queue.proofs.HeldLemmas.{HasBytes-same, HasBytes-one, HasBytes-unique, pipe_out, pipe_turns}
 use Rattle.chunk_queue.proofs.StepLemmas.{owns, len_taken, minus_zero, Turns-none, Turns-as}
 use Rattle.pipe_ends.specs.Standing.{StandsFor, LeavesOthers, Turned, account, ends_of}
@@ -54,6 +54,23 @@ pipe_with bytes readers writers = record { bytes = bytes; readers = readers; wri
 
 same_pipe : (a b : List ℕ) (c d e f : ℕ) → a ≡ b → c ≡ d → e ≡ f → pipe_with a c e ≡ pipe_with b d f
 same_pipe a b c d e f bytes readers writers = rw (bytes, readers, writers) refl
+
+-- it goes on where it is the same and keeps its bytes
+pub stands_on : (old new : Heap) (key : ℕ) (pipe : Pipe) (at : ℕ) → object new.pipes key ≡ object old.pipes key → PipeKeepsBytes old new key → StandsFor old key pipe at → StandsFor new key pipe at
+stands_on old new key pipe at same keeps stands = record {
+  held = stands.held;
+  there = same ∙ stands.there;
+  bytes = keeps stands.held pipe.bytes stands.there stands.bytes;
+  len = stands.len;
+  place = stands.place;
+  readers = stands.readers;
+  writers = stands.writers;
+  within = stands.within;
+}
+
+-- as it does where all chunks are the same
+pub stands_same : (old new : Heap) (key : ℕ) (pipe : Pipe) (at : ℕ) → object new.pipes key ≡ object old.pipes key → new.chunks ≡ old.chunks → StandsFor old key pipe at → StandsFor new key pipe at
+stands_same old new key pipe at same chunks = stands_on old new key pipe at same (λ held bytes there has. HasBytes-same old new held.queue bytes chunks has)
 
 -- it stands for one alone
 pub stands_for_one : (h : Heap) (key : ℕ) (first second : Pipe) (at other : ℕ) → StandsFor h key first at → StandsFor h key second other → (first ≡ second) × (at ≡ other)

@@ -1,17 +1,10 @@
 ghost use Rattle.std.specs.Prelude.{◌≡◌, ℕ, ◌<◌, length, if◌then◌else◌};
-ghost use Rattle.posix_defs.specs.Pipe.{Pipe as PlainPipe, free_in, is_asked as asks, polled_to_read as read_end_polled, polled_to_write as write_end_polled};
+ghost use Rattle.posix_defs.specs.Pipe.{Pipe as PlainPipe, free_in, polled_to_read as read_end_polled, polled_to_write as write_end_polled};
 ghost use Rattle.pipe_ends.specs.Standing.{StandsFor, IsPipeAt};
 
-use crate::{CAPACITY, WHOLE};
+use crate::WHOLE;
+use chunk_queue::{POLLERR, POLLHUP, POLLIN, POLLOUT, event_if, room_in};
 use kheap_slabs::KHeap;
-
-const POLLIN: u8 = 1;
-
-const POLLOUT: u8 = 4;
-
-const POLLERR: u8 = 8;
-
-const POLLHUP: u8 = 16;
 
 /// What `poll` tells of one end of a pipe that it is asked for these events (POSIX poll).
 ///
@@ -24,7 +17,7 @@ pub fn pipe_polled(heap: &KHeap, key: u32, writing: bool, events: i64) -> u8
 {
     let pipe = heap.get_pipe(key);
     if writing {
-        polled_to_write(pipe.readers, CAPACITY - pipe.queue.len, events)
+        polled_to_write(pipe.readers, room_in(&pipe.queue), events)
     } else {
         polled_to_read(pipe.queue.len, pipe.writers, events)
     }
@@ -35,13 +28,8 @@ fn polled_to_read(unread: u32, writers: u32, events: i64) -> u8
     ensures { (pipe : PlainPipe) → length pipe.bytes ≡ unread → pipe.writers ≡ writers
         → result ≡ read_end_polled pipe events }
 {
-    let readable = if is_asked(events, POLLIN) && unread > 0 {
-        POLLIN
-    } else {
-        0
-    };
     let ended = if writers == 0 { POLLHUP } else { 0 };
-    readable + ended
+    event_if(POLLIN, events, unread > 0) + ended
 }
 
 // What is told of a write end of a pipe that has so much room.
@@ -51,17 +39,7 @@ fn polled_to_write(readers: u32, free: u32, events: i64) -> u8
 {
     if readers == 0 {
         POLLERR
-    } else if is_asked(events, POLLOUT) && free >= WHOLE {
-        POLLOUT
     } else {
-        0
+        event_if(POLLOUT, events, free >= WHOLE)
     }
-}
-
-// Whether `poll` is asked for an event, a power of 2.
-fn is_asked(events: i64, event: u8) -> bool
-    requires { 0 < event }
-    ensures { result ≡ asks events event }
-{
-    events.cast_unsigned() / event as u64 % 2 == 1
 }

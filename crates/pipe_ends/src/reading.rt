@@ -3,14 +3,13 @@ ghost use Rattle.kheap_shelves.specs.Objects.{object};
 ghost use Rattle.kheap_shelves.specs.declared.objects.Pipe.{Pipe as HeldPipe};
 ghost use Rattle.kheap_slabs.specs.Owners.{OwnsItsObjects};
 ghost use Rattle.kheap_slabs.specs.Paid.{TakesNothing};
-ghost use Rattle.posix_defs.specs.Pipe.{Pipe as PlainPipe, pipe_read as read_answer, not_now as waiting, after_read};
+ghost use Rattle.posix_defs.specs.Pipe.{Pipe as PlainPipe, pipe_read as read_answer, after_read};
 ghost use Rattle.posix_defs.specs.QueuePlace.{after_take};
 ghost use Rattle.chunk_queue.specs.Chained.{place_of, TakesOut};
-ghost use Rattle.chunk_queue.specs.Moving.{moving_of, moved_by};
+ghost use Rattle.chunk_queue.specs.Moving.{moving_of, moved_by, UnlessMoved, would_wait};
 ghost use Rattle.pipe_ends.specs.Standing.{StandsFor, IsPipeAt, account, LeavesOthers, Turned};
 
 use chunk_queue::{Moved, Queue};
-use kabi_types::Errno;
 use kheap_shelves::Pipe;
 use kheap_slabs::KHeap;
 
@@ -32,6 +31,7 @@ pub fn pipe_read(heap: &mut KHeap, key: u32, nonblock: bool, out: &mut [u8]) -> 
     ensures there { IsPipeAt heap.new key }
     ensures others { LeavesOthers heap.old heap.new key }
     ensures takes { TakesNothing heap.old heap.new }
+    ensures refused { UnlessMoved result ((heap.new ≡ heap.old) × (out.new ≡ out.old)) }
 {
     let pipe = *heap.get_pipe(key);
     if pipe.queue.len > 0 {
@@ -40,20 +40,18 @@ pub fn pipe_read(heap: &mut KHeap, key: u32, nonblock: bool, out: &mut [u8]) -> 
     if pipe.writers == 0 {
         Moved::Bytes(0)
     } else {
-        not_now(nonblock)
+        Moved::not_now(nonblock)
     }
 }
 
-/// What a call that can't go on yet answers.
-pub(crate) fn not_now(nonblock: bool) -> Moved
-    ensures answer { moving_of result ≡ waiting nonblock }
-    ensures nothing { moved_by result ≡ 0 }
+/// Whether a read of a pipe would have to wait: nothing is there, somebody can write, and the reader waits.
+pub fn pipe_read_waits(heap: &KHeap, key: u32, nonblock: bool) -> bool
+    requires { IsPipeAt heap.now key }
+    ensures { (pipe : PlainPipe) (at : ℕ) (n : ℕ) → StandsFor heap.now key pipe at
+        → result ≡ would_wait (read_answer pipe nonblock n) }
 {
-    if nonblock {
-        Moved::Fault(Errno::EAGAIN)
-    } else {
-        Moved::Blocked
-    }
+    let pipe = heap.get_pipe(key);
+    pipe.queue.len == 0 && pipe.writers > 0 && !nonblock
 }
 
 // Takes bytes out of the queue of a pipe. How many they are.

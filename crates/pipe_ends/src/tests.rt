@@ -5,7 +5,9 @@ ghost use Rattle.kheap_slabs.specs.Owners.{OwnsItsObjects};
 ghost use Rattle.kheap_slabs.specs.Paid.{CanPay};
 ghost use Rattle.pipe_ends.specs.Standing.{IsPipeAt, HasEndAt};
 
-use crate::{close_end, pipe_make, pipe_polled, pipe_read, pipe_write};
+use crate::{
+    close_end, pipe_make, pipe_polled, pipe_read, pipe_read_waits, pipe_write, pipe_write_waits,
+};
 use chunk_queue::Moved;
 use kabi_types::{Class, Errno, Memory, Need};
 use kheap_shelves::Purse;
@@ -54,7 +56,7 @@ fn piped(heap: &mut KHeap, purse: &mut Purse) -> u32
     pipe_make(heap, purse)
 }
 
-// Writes all bytes of a write that the purse can pay.
+// Writes all bytes of a write that the purse can pay. It waits just where the test before it said so.
 fn write(
     rt: &impl Abort,
     heap: &mut KHeap,
@@ -73,10 +75,14 @@ fn write(
     let left = purse.left(Class::Chunk);
     assert!(rt; bytes.len() <= 8192);
     assert!(rt; (bytes.len().min(4096) + 511) / 512 <= left as usize);
-    pipe_write(heap, purse, key, nonblock, bytes.len() as u32, bytes)
+    let count = bytes.len() as u32;
+    let waits = pipe_write_waits(heap, key, nonblock, count, count);
+    let answer = pipe_write(heap, purse, key, nonblock, count, bytes);
+    assert!(rt; waits == (answer == Moved::Blocked));
+    answer
 }
 
-// Reads into a buffer that has room.
+// Reads into a buffer that has room. It waits just where the test before it said so.
 fn read(
     rt: &impl Abort,
     heap: &mut KHeap,
@@ -93,7 +99,10 @@ fn read(
     ensures pays { CanPay heap.new purse.now }
 {
     assert!(rt; out.len() > 0);
-    pipe_read(heap, key, nonblock, out)
+    let waits = pipe_read_waits(heap, key, nonblock);
+    let answer = pipe_read(heap, key, nonblock, out);
+    assert!(rt; waits == (answer == Moved::Blocked));
+    answer
 }
 
 // How many descriptions have an end.

@@ -5,12 +5,11 @@ ghost use Rattle.kheap_slabs.specs.Paid.{CanPay, IsPaid};
 ghost use Rattle.posix_defs.specs.Pipe.{Pipe as PlainPipe, capacity, Moves, free_in, not_now as waiting, pipe_write as write_answer, after_write};
 ghost use Rattle.posix_defs.specs.QueuePlace.{chunks_of, after_put};
 ghost use Rattle.chunk_queue.specs.Chained.{place_of, PaysChunks};
-ghost use Rattle.chunk_queue.specs.Moving.{moving_of, moved_by};
+ghost use Rattle.chunk_queue.specs.Moving.{moving_of, moved_by, UnlessMoved, would_wait};
 ghost use Rattle.pipe_ends.specs.Standing.{StandsFor, IsPipeAt, account, LeavesOthers, Turned};
 
-use crate::reading::not_now;
-use crate::{CAPACITY, WHOLE};
-use chunk_queue::{Moved, Queue};
+use crate::WHOLE;
+use chunk_queue::{Moved, Queue, fitting, room_in};
 use kabi_types::Errno;
 use kheap_shelves::{Pipe, Purse};
 use kheap_slabs::KHeap;
@@ -45,37 +44,47 @@ pub fn pipe_write(
     ensures spent { (pipe : PlainPipe) (at : ℕ) → StandsFor heap.old key pipe at
         → purse.new.left.chunk + chunks_of (account (after_write pipe bytes.now (moved_by result)) at)
         ≡ purse.old.left.chunk + chunks_of (account pipe at) }
+    ensures refused { UnlessMoved result ((heap.new ≡ heap.old) × (purse.new ≡ purse.old)) }
 {
     let pipe = *heap.get_pipe(key);
     if pipe.readers == 0 {
         return Moved::Fault(Errno::EPIPE);
     }
-    match fitting(n, bytes.len() as u32, CAPACITY - pipe.queue.len) {
+    match going(n, bytes.len() as u32, room_in(&pipe.queue)) {
         Some(count) => {
             put_in(heap, purse, key, pipe, &bytes[..count as usize]);
             Moved::Bytes(count)
         }
-        None => not_now(nonblock),
+        None => Moved::not_now(nonblock),
     }
 }
 
+/// Whether a write of n bytes to a pipe, of which so many are left, would have to wait: somebody can read, there is no room
+/// for it, and the writer waits.
+pub fn pipe_write_waits(heap: &KHeap, key: u32, nonblock: bool, n: u32, left: u32) -> bool
+    requires there { IsPipeAt heap.now key }
+    requires part { left ≤ n }
+    ensures { (pipe : PlainPipe) (at : ℕ) → StandsFor heap.now key pipe at
+        → result ≡ would_wait (write_answer pipe nonblock n left) }
+{
+    let pipe = heap.get_pipe(key);
+    pipe.readers > 0 && going(n, left, room_in(&pipe.queue)).is_none() && !nonblock
+}
+
 // How many of the bytes that are left of a write of n go into this room; None where none can go yet.
-fn fitting(n: u32, left: u32, free: u32) -> Option<u32>
+fn going(n: u32, left: u32, free: u32) -> Option<u32>
     requires { left ≤ n }
     ensures answer { (pipe : PlainPipe) (nonblock : Bool) → 0 < pipe.readers → free_in pipe ≡ free
         → MatchOption result (write_answer pipe nonblock n left ≡ waiting nonblock)
         (λ count. write_answer pipe nonblock n left ≡ Moves count) }
     ensures within { IfSome result (λ count. (count ≤ left) × (count ≤ free)) }
 {
-    if n <= WHOLE {
-        return if n <= free { Some(left) } else { None };
-    }
-    if left <= free {
+    if n > WHOLE {
+        fitting(left as usize, free)
+    } else if n <= free {
         Some(left)
-    } else if free == 0 {
-        None
     } else {
-        Some(free)
+        None
     }
 }
 

@@ -1,5 +1,5 @@
 -- What all sockets that are reached keep: who is whose peer, who waits where, and who owns them.
-use Rattle.std.specs.Prelude.{◌≡◌, ◌⊎◌, ℕ, ◌≤◌, true, false, List, [], ◌∷◌, length, Some, IsSome}
+use Rattle.std.specs.Prelude.{◌≡◌, ◌≢◌, ◌⊎◌, ℕ, ◌≤◌, true, false, List, [], ◌∷◌, length, Some, IsSome}
 use Rattle.std.specs.List.{Contains}
 use Rattle.posix_defs.specs.Pipe.{capacity}
 use Rattle.posix_defs.specs.Socket.{Stage, Idle, Listening, Connected, peer_of, waiting_of, is_connected}
@@ -35,6 +35,14 @@ pub record AreLinked (sockets : Sockets) : Type 0 where
   pub one_place : (one other place : ℕ) → WaitsFor sockets one place → WaitsFor sockets other place → one ≡ other
   pub backlog : (place : ℕ) → length (waiting_of (stage_at sockets place)) ≤ backlog
   pub room : (place : ℕ) → length (socket_at sockets place).bytes ≤ room_of (stage_at sockets place)
+
+-- a node names at most one socket
+pub record AreNamedOnce (sockets : Sockets) : Type 0 where
+  pub one_socket : (one other number : ℕ) → (socket_at sockets one).node ≡ Some number → (socket_at sockets other).node ≡ Some number → one ≡ other
+
+-- no socket is bound to the node
+abbrev pub NamesNone : Sockets → ℕ → Type 0
+NamesNone sockets number = (place : ℕ) → (socket_at sockets place).node ≢ Some number
 
 -- sockets that are connected, each once, and wait nowhere
 pub record AreLoose (sockets : Sockets) (places : List ℕ) : Type 0 where

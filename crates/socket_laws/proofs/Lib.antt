@@ -1,4 +1,6 @@
 pub mod QueueOrder
+pub mod RoomLemmas
+pub mod SocketNames
 pub mod SocketTable
 pub mod SocketLinked
 pub mod SocketCalls

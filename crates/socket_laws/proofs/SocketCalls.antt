@@ -250,7 +250,7 @@ connect_linked sockets client listener made linked idle there free within room w
     }) linked_two
 
 -- a write that moves bytes had room for them
-fits : (free m k : ℕ) (nonblock : Bool) → write_within free nonblock m ≡ Moves k → k ≤ free
+pub fits : (free m k : ℕ) (nonblock : Bool) → write_within free nonblock m ≡ Moves k → k ≤ free
 fits free m k nonblock is = go (nat_le m free) refl is
   where
     rest : (full : Bool) → (free == 0) ≡ full → (if full then not_now nonblock else Moves free) ≡ Moves k → k ≤ free

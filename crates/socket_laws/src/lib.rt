@@ -1,10 +1,15 @@
 //! The laws of pipes and of Unix stream sockets. Each is the contract of a function that does nothing.
 #![tactic(auto)]
 
+mod names;
 mod pipes;
 mod sockets;
 
-pub use pipes::{bytes_keep_their_order, chunks_follow_the_bytes, writes_keep_to_their_room};
+pub use names::{a_node_names_one_socket, a_socket_moves_no_more_than_it_holds};
+pub use pipes::{
+    a_pipe_moves_no_more_than_it_holds, bytes_keep_their_order, chunks_follow_the_bytes,
+    writes_keep_to_their_room,
+};
 pub use sockets::{
     a_shut_side_is_read_to_its_end, a_socket_stays_connected_after_its_peer,
     each_direction_keeps_its_order, every_socket_has_its_owner, sockets_stand_where_they_stood,

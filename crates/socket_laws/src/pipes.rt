@@ -1,8 +1,7 @@
 //! Laws of pipes and of the queues in them. Each is the contract of a function that does nothing.
 
-ghost use Rattle.std.specs.Prelude.{◌≡◌, ℕ, ◌+◌, ◌/◌, ◌≤◌, Bool, List, [], ◌++◌, length};
-ghost use Rattle.posix_defs.specs.Pipe.{Pipe, capacity, pipe_write, after_write};
-ghost use Rattle.posix_defs.specs.Pipe.{Moves};
+ghost use Rattle.std.specs.Prelude.{◌≡◌, ℕ, ◌+◌, ◌/◌, ◌<◌, ◌≤◌, Bool, List, [], ◌++◌, length, min, take};
+ghost use Rattle.posix_defs.specs.Pipe.{Pipe, Moves, capacity, pipe_read, pipe_write, after_write};
 ghost use Rattle.posix_defs.specs.QueuePlace.{QueuePlace, IsPlace, at_front, chunks_of, after_put, after_take};
 ghost use Rattle.socket_laws.specs.QueueRuns.{QueueStep, left_after, put_in, taken_out};
 
@@ -20,6 +19,18 @@ pub fn writes_keep_to_their_room()
         → length bytes ≤ n → length pipe.bytes ≤ capacity
         → pipe_write pipe nonblock n (length bytes) ≡ Moves k
         → (k ≤ length bytes) × (length (after_write pipe bytes k).bytes ≤ capacity) }
+{}
+
+/// Of a write of more than 512 bytes, and of a read, only the first 4096 bytes matter: a call with just these is answered
+/// the same and leaves the same pipe.
+pub fn a_pipe_moves_no_more_than_it_holds()
+    ensures write { (pipe : Pipe) (nonblock : Bool) (n : ℕ) (m : ℕ)
+        → 512 < n → pipe_write pipe nonblock n m ≡ pipe_write pipe nonblock (min n capacity) (min m capacity) }
+    ensures written { (pipe : Pipe) (nonblock : Bool) (n : ℕ) (bytes : List ℕ) (k : ℕ)
+        → 512 < n → pipe_write pipe nonblock n (length bytes) ≡ Moves k
+        → after_write pipe bytes k ≡ after_write pipe (take capacity bytes) k }
+    ensures read { (pipe : Pipe) (nonblock : Bool) (n : ℕ)
+        → length pipe.bytes ≤ capacity → pipe_read pipe nonblock n ≡ pipe_read pipe nonblock (min n capacity) }
 {}
 
 /// A put of n bytes makes at most as many chunks as n bytes begin, a take makes none, and a queue of which all was taken

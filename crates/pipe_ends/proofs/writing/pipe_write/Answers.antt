@@ -11,13 +11,13 @@ use Rattle.pipe_ends.proofs.writing.pipe_write.Goals as goal
 -- the pipe has the bytes behind its own
 stands : (c : goal.After-put_in) (pipe : Pipe) (at : ℕ) → StandsFor c.args.heap.now c.args.key pipe at → StandsFor c.put_in.new.heap c.args.key (after_write pipe c.args.bytes.now c.in-Some.count) at
 stands c pipe at was =
-    let held = c.get_pipe-pipe.result.now in
+    let held = c.get_pipe.result.now in
     let bytes = c.args.bytes.now in
-    let len = held_len c.args.heap.now c.args.key held pipe at c.get_pipe-pipe.ensures was in
+    let len = held_len c.args.heap.now c.args.key held pipe at c.get_pipe.ensures was in
     let fits = c.in-Some.ensures.within in
     let all : c.in-Some.count ≤ length bytes = fits.0 in
     let some : length (take c.in-Some.count bytes) ≡ c.in-Some.count = length-take-le c.in-Some.count bytes all in
-    stands_written c.args.heap.now c.put_in.new.heap c.args.key held pipe at (take c.in-Some.count bytes) c.get_pipe-pipe.ensures was c.put_in.ensures.turned (omega (arith, was.within, fits.1, len, some))
+    stands_written c.args.heap.now c.put_in.new.heap c.args.key held pipe at (take c.in-Some.count bytes) c.get_pipe.ensures was c.put_in.ensures.turned (omega (arith, was.within, fits.1, len, some))
 
 pub returns-in-Some-clause-stands : goal.returns-in-Some-clause-stands
 returns-in-Some-clause-stands c = stands c
@@ -30,4 +30,4 @@ returns-in-Some-clause-pays c = CanPay-kept c.args.heap.now c.put_in.new.heap c.
 
 pub returns-in-Some-clause-others : goal.returns-in-Some-clause-others
 returns-in-Some-clause-others c =
-    others_turned c.args.heap.now c.put_in.new.heap c.args.key c.get_pipe-pipe.result.now (λ old. old ++ take c.in-Some.count c.args.bytes.now) (after_put (place_of c.get_pipe-pipe.result.now.queue) (length (take c.in-Some.count c.args.bytes.now))) c.get_pipe-pipe.result.now.readers c.get_pipe-pipe.result.now.writers c.get_pipe-pipe.ensures c.put_in.ensures.turned
+    others_turned c.args.heap.now c.put_in.new.heap c.args.key c.get_pipe.result.now (λ old. old ++ take c.in-Some.count c.args.bytes.now) (after_put (place_of c.get_pipe.result.now.queue) (length (take c.in-Some.count c.args.bytes.now))) c.get_pipe.result.now.readers c.get_pipe.result.now.writers c.get_pipe.ensures c.put_in.ensures.turned
