@@ -1,1 +1,2 @@
 pub mod WorkedTrees
+pub mod Untouched
