@@ -7,6 +7,7 @@ mod others;
 mod paths;
 mod trees;
 mod worked;
+mod worked_calls;
 
 pub use calls::{calls_on_paths_leave_a_tree, thirty_bytes_tell_the_program};
 pub use others::{
@@ -26,4 +27,8 @@ pub use worked::{
     a_directory_moves_with_its_parent, a_small_disk_is_full_at_12288_bytes,
     calls_on_paths_answer_these, files_are_read_and_started, paths_lead_to_these,
     renames_leave_these_entries, sizes_take_these_blocks, writes_fit_so_far,
+};
+pub use worked_calls::{
+    names_go_and_come_so, nodes_are_made_so, renames_answer_in_this_order,
+    renames_leave_these_trees, walks_find_these_kinds,
 };
