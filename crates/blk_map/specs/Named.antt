@@ -1,7 +1,8 @@
 -- The blocks of a node as the calls have them in hand: the pointers of its inode, and those of its block of pointers.
-use Rattle.std.specs.Prelude.{ℕ, ◌-◌, ◌≡◌, ◌⊎◌, ◌%◌, List, [], ◌∷◌, slice_index, nat_lt, cond}
+use Rattle.std.specs.Prelude.{ℕ, ◌-◌, ◌<◌, ◌≡◌, ◌⊎◌, ◌%◌, List, [], ◌∷◌, slice_index, nat_lt, cond}
 use Rattle.kabi_values.specs.declared.inodes.Inode.{Inode}
 use Rattle.posix_defs.specs.DiskFormat.{direct_pointers}
+use Rattle.posix_defs.specs.SoundDisk.{IsMarked, IsFreeBlock}
 use Rattle.posix_defs.specs.Tree.{directory}
 
 -- the kind of a file
@@ -19,3 +20,7 @@ pointer_to direct behind index = cond (nat_lt index direct_pointers) (slice_inde
 -- the blocks that are asked for to find a block of a node's bytes
 abbrev pub asked_for : Inode → ℕ → List ℕ
 asked_for inode index = cond (nat_lt index direct_pointers) [] (inode.indirect ∷ [])
+
+-- the blocks that were taken are the lowest of those that were free
+abbrev pub TakesLowest : List (List ℕ) → List (List ℕ) → Type 0
+TakesLowest before after = (block other : ℕ) → IsFreeBlock before block → IsMarked after block → IsFreeBlock after other → block < other

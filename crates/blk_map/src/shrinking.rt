@@ -1,5 +1,5 @@
 ghost use Rattle.std.specs.Prelude.{◌≡◌, ℕ, ◌≤◌};
-ghost use Rattle.posix_defs.specs.SoundDisk.{HasNode, Sound};
+ghost use Rattle.posix_defs.specs.SoundDisk.{HasNode, IsMarked, Sound};
 ghost use Rattle.posix_defs.specs.NodeChange.{Resizes};
 ghost use Rattle.blk_map.specs.Named.{MayHaveSize};
 
@@ -10,13 +10,15 @@ use crate::settling::{put_in_table, settle};
 use kabi_types::Inode;
 use posix_defs::Blocks;
 
-/// Gives a node another size, not above the one that it has; the blocks that it no longer takes are free.
+/// Gives a node another size, not above the one that it has; the blocks that it no longer takes are free, and
+/// it takes no other.
 pub fn shrink<B: Blocks>(b: &mut B, number: u32, inode: &mut Inode, size: u32)
     requires sound { Sound (B.blocks b.old) }
     requires node { HasNode (B.blocks b.old) number inode.old }
     requires kind { MayHaveSize inode.old.kind size }
     requires size { size ≤ inode.old.size }
     ensures resizes { Resizes number (B.blocks b.old) inode.old size (B.blocks b.new) inode.new }
+    ensures takes_none { (block : ℕ) → IsMarked (B.blocks b.new) block → IsMarked (B.blocks b.old) block }
     ensures follows { B.follows b.old b.new }
 {
     if block_count(size) == block_count(inode.size) {
@@ -34,6 +36,7 @@ fn give_blocks<B: Blocks>(b: &mut B, number: u32, inode: &mut Inode, size: u32)
     requires kind { MayHaveSize inode.old.kind size }
     requires size { size ≤ inode.old.size }
     ensures resizes { Resizes number (B.blocks b.old) inode.old size (B.blocks b.new) inode.new }
+    ensures takes_none { (block : ℕ) → IsMarked (B.blocks b.new) block → IsMarked (B.blocks b.old) block }
     ensures follows { B.follows b.old b.new }
 {
     let had = data_count(inode.size);

@@ -25,7 +25,7 @@ none_free (None ∷ nodes) from k at lt = absurd (none-some from (sym at))
 none_free (Some node ∷ nodes) from zero at lt = refl
 none_free (Some node ∷ nodes) from (suc k) at lt = none_free nodes (from + 1) k at (omega (arith, lt))
 
-used_kind : (content : Content) → kind_of content ≢ 0
+pub used_kind : (content : Content) → kind_of content ≢ 0
 used_kind (File bytes) none = omega (arith, none)
 used_kind (Directory parent entries) none = omega (arith, none)
 used_kind SocketName none = omega (arith, none)

@@ -8,3 +8,4 @@ pub mod FreeNodes
 pub mod DiskStands
 pub mod DiskNames
 pub mod DiskFreeNodes
+pub mod DiskNodes

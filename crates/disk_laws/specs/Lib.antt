@@ -1,1 +1,2 @@
 pub mod TrueCaches
+pub mod NodesInUse

@@ -1,11 +1,13 @@
 //! Laws of disks that stand for a tree. Each is the contract of a function that does nothing.
 
 ghost use Rattle.std.specs.Prelude.{◌≡◌, ◌≢◌, ℕ, ◌<◌, ◌≤◌, ◌↔◌, List, Option, Some, None};
+ghost use Rattle.kabi_values.specs.declared.inodes.Inode.{Inode};
 ghost use Rattle.posix_defs.specs.DiskFormat.{table_nodes};
-ghost use Rattle.posix_defs.specs.SoundDisk.{IsFreeNode, IsLowestFreeNode, free_in_map};
+ghost use Rattle.posix_defs.specs.SoundDisk.{HasNode, IsFreeNode, IsLowestFreeNode, free_in_map};
 ghost use Rattle.posix_defs.specs.DiskContents.{IsFormatted, own_name, parent_name};
+ghost use Rattle.disk_laws.specs.NodesInUse.{HasNodeIn, IsNodeIn};
 ghost use Rattle.disk_laws.specs.TrueCaches.{HasName};
-ghost use Rattle.posix_defs.specs.Tree.{Node, Tree, found, free_blocks, free_node, new_tree, with_node};
+ghost use Rattle.posix_defs.specs.Tree.{Node, Tree, found, free_blocks, free_node, new_tree, node_at, with_node};
 ghost use Rattle.posix_defs.specs.DiskTree.{HasThere, StandsFor, ChangesNode};
 
 /// A new disk stands for the new tree.
@@ -30,9 +32,27 @@ pub fn names_of_the_disk_are_those_of_the_tree()
         → (found tree dir name ≡ Some node) ↔ HasName disk dir name node }
 {}
 
-/// The node that the tree makes next is the free one of the disk with the lowest number; where it makes none, none is
-/// free.
+/// The node that the tree makes next is the free one of the disk with the lowest number, and the other way round; it makes
+/// none exactly where none is free.
 pub fn free_nodes_of_the_disk_are_those_of_the_tree()
     ensures lowest { (disk : List (List ℕ)) (tree : Tree) (number : ℕ) → StandsFor disk tree → free_node tree ≡ Some number → IsLowestFreeNode disk number }
     ensures none { (disk : List (List ℕ)) (tree : Tree) (number : ℕ) → StandsFor disk tree → free_node tree ≡ None → ¬ (IsFreeNode disk number) }
+    ensures next { (disk : List (List ℕ)) (tree : Tree) (number : ℕ) → StandsFor disk tree → IsLowestFreeNode disk number → free_node tree ≡ Some number }
+    ensures full { (disk : List (List ℕ)) (tree : Tree) → StandsFor disk tree → ((number : ℕ) → ¬ (IsFreeNode disk number)) → free_node tree ≡ None }
+    ensures free { (disk : List (List ℕ)) (tree : Tree) (number : ℕ) → StandsFor disk tree → IsFreeNode disk number → node_at tree number ≡ None }
+    ensures there { (disk : List (List ℕ)) (tree : Tree) (number : ℕ) → StandsFor disk tree → 0 < number → number ≤ table_nodes tree.blocks → node_at tree number ≡ None
+        → IsFreeNode disk number }
+{}
+
+/// A node in use has an inode on the disk, which says of it what the tree says; and an inode in use is that of the tree's
+/// node.
+pub fn nodes_of_the_disk_are_those_of_the_tree()
+    ensures inode { (disk : List (List ℕ)) (tree : Tree) (number : ℕ) (node : Node) → StandsFor disk tree → node_at tree number ≡ Some node → HasNodeIn disk number node }
+    ensures node { (disk : List (List ℕ)) (tree : Tree) (number : ℕ) (inode : Inode) → StandsFor disk tree → HasNode disk number inode
+        → IsNodeIn disk number inode (node_at tree number) }
+{}
+
+/// A disk stands for one tree at most.
+pub fn a_disk_stands_for_one_tree()
+    ensures { (disk : List (List ℕ)) (one other : Tree) → StandsFor disk one → StandsFor disk other → one ≡ other }
 {}

@@ -6,9 +6,10 @@ mod disk_trees;
 mod disks;
 
 pub use disk_trees::{
-    a_change_of_one_node_stands_for_the_changed_tree, a_new_disk_stands_for_the_new_tree,
-    free_blocks_of_the_disk_are_those_of_the_tree, free_nodes_of_the_disk_are_those_of_the_tree,
-    names_of_the_disk_are_those_of_the_tree,
+    a_change_of_one_node_stands_for_the_changed_tree, a_disk_stands_for_one_tree,
+    a_new_disk_stands_for_the_new_tree, free_blocks_of_the_disk_are_those_of_the_tree,
+    free_nodes_of_the_disk_are_those_of_the_tree, names_of_the_disk_are_those_of_the_tree,
+    nodes_of_the_disk_are_those_of_the_tree,
 };
 pub use disks::{
     a_block_of_a_node_is_written, a_directory_has_32_bytes_for_each_entry,

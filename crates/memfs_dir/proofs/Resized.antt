@@ -14,7 +14,8 @@ use Rattle.posix_defs.specs.NodeChange.{Resizes, Grows}
 use Rattle.posix_defs.specs.TreeChanges.{no_entry}
 use Rattle.disk_laws.proofs.DirectoryEntries.{size_of_entries}
 use Rattle.blk_map.proofs.AndBack.{changes_follow}
-use Rattle.memfs_dir.specs.Listed.{PutsEntry, Relists, TakesLowest}
+use Rattle.blk_map.specs.Named.{TakesLowest}
+use Rattle.memfs_dir.specs.Listed.{PutsEntry, Relists}
 use Rattle.memfs_dir.proofs.DirectoryBytes.{begins, lists, place_within}
 use Rattle.memfs_dir.proofs.Written.{replaced}
 

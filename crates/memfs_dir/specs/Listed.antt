@@ -4,7 +4,7 @@ use Rattle.std.specs.List.{AllPairs, position}
 use Rattle.kabi_values.specs.declared.inodes.Inode.{Inode}
 use Rattle.kabi_values.specs.declared.inodes.DirEntry.{DirEntry}
 use Rattle.posix_defs.specs.DiskFormat.{greatest_size, blocks_of, entry_bytes}
-use Rattle.posix_defs.specs.SoundDisk.{block_bytes, HasNode, IsMarked, IsFreeBlock, Sound, free_in_map}
+use Rattle.posix_defs.specs.SoundDisk.{block_bytes, HasNode, Sound, free_in_map}
 use Rattle.posix_defs.specs.DiskContents.{byte_at, HasEntries}
 use Rattle.posix_defs.specs.DiskTree.{ChangesNode}
 use Rattle.posix_defs.specs.Tree.{has_name}
@@ -39,6 +39,10 @@ place_called name entries = position (has_name name) entries
 abbrev pub IsFull : List (List ℕ) → Inode → Type 0
 IsFull disk inode = (inode.size ≡ greatest_size) ⊎ (free_in_map disk < blocks_of (inode.size + entry_size) - blocks_of inode.size)
 
+-- the same where so many blocks are to be left beside the growth
+abbrev pub IsFullBeside : List (List ℕ) → Inode → ℕ → Type 0
+IsFullBeside disk inode beside = (inode.size ≡ greatest_size) ⊎ (free_in_map disk < blocks_of (inode.size + entry_size) - blocks_of inode.size + beside)
+
 -- a directory alone changes: of its entries it has what the change makes of them, and so many blocks are free as the sizes leave
 pub record Relists (number : ℕ) (before : List (List ℕ)) (old : Inode) (change : List DirEntry → List DirEntry) (after : List (List ℕ)) (new : Inode) : Type 0 where
   pub changes : ChangesNode before after number
@@ -46,10 +50,6 @@ pub record Relists (number : ℕ) (before : List (List ℕ)) (old : Inode) (chan
   pub links : new.nlink ≡ old.nlink
   pub list : (entries : List DirEntry) → HasEntries before old entries → HasEntries after new (change entries)
   pub free : free_in_map after + blocks_of new.size ≡ free_in_map before + blocks_of old.size
-
--- the blocks that were taken are the lowest of those that were free
-abbrev pub TakesLowest : List (List ℕ) → List (List ℕ) → Type 0
-TakesLowest before after = (block other : ℕ) → IsFreeBlock before block → IsMarked after block → IsFreeBlock after other → block < other
 
 -- an entry is written at a place of a directory: nothing else of its bytes changes, and nothing else of the disk
 pub record PutsEntry (number : ℕ) (before : List (List ℕ)) (inode : Inode) (place : ℕ) (entry : DirEntry) (after : List (List ℕ)) : Type 0 where

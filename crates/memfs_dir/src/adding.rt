@@ -3,7 +3,8 @@ ghost use Rattle.kabi_values.specs.declared.errnos.Errno.TheVariants.{ENOSPC};
 ghost use Rattle.posix_defs.specs.DiskFormat.{IsEntry};
 ghost use Rattle.posix_defs.specs.SoundDisk.{HasNode, Sound};
 ghost use Rattle.memfs_dir.specs.Slots.{entry_size};
-ghost use Rattle.memfs_dir.specs.Listed.{IsDirectory, IsFull, IsInUse, PutsEntry, Relists, TakesLowest};
+ghost use Rattle.blk_map.specs.Named.{TakesLowest};
+ghost use Rattle.memfs_dir.specs.Listed.{IsDirectory, IsFull, IsInUse, PutsEntry, Relists};
 
 use crate::slots::{ENTRIES_IN_BLOCK, ENTRY_SIZE, put_entry};
 use blk_map::{block_at, grow};

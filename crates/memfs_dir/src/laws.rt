@@ -12,7 +12,7 @@ ghost use Rattle.posix_defs.specs.Tree.{Tree, entries_at, found, found_among, is
 ghost use Rattle.posix_defs.specs.TreeChanges.{entry_put, entry_taken, entry_aimed, entry_renamed, hung, no_entry, place_of, takes_entry, with_entries};
 ghost use Rattle.memfs_dir.specs.Slots.{entry_size};
 ghost use Rattle.memfs_dir.specs.Looking.{asked_to_find};
-ghost use Rattle.memfs_dir.specs.Listed.{AreDistinct, IsFull, Relists, at_place, place_called};
+ghost use Rattle.memfs_dir.specs.Listed.{AreDistinct, IsFull, IsFullBeside, Relists, at_place, place_called};
 
 /// What is added under a name that was free is found at the end; every other name leads to the node that it led to.
 pub fn an_added_entry_is_found_at_the_end()
@@ -74,9 +74,11 @@ pub fn other_directories_keep_their_entries()
         → HasInode before other inode → HasEntries before inode entries → HasEntries after inode entries }
 {}
 
-/// A directory has no room for an entry exactly where the tree that its disk stands for says so.
+/// A directory has no room for an entry, and for so many blocks beside it, exactly where the tree that its disk stands for
+/// says so.
 pub fn a_full_directory_is_one_of_the_tree()
-    ensures { (disk : List (List ℕ)) (tree : Tree) (number : ℕ) (inode : Inode) → StandsFor disk tree → HasNode disk number inode → IsFull disk inode ↔ (takes_entry tree number 0 ≡ false) }
+    ensures beside { (disk : List (List ℕ)) (tree : Tree) (number beside : ℕ) (inode : Inode) → StandsFor disk tree → HasNode disk number inode → IsFullBeside disk inode beside ↔ (takes_entry tree number beside ≡ false) }
+    ensures alone { (disk : List (List ℕ)) (tree : Tree) (number : ℕ) (inode : Inode) → StandsFor disk tree → HasNode disk number inode → IsFull disk inode ↔ (takes_entry tree number 0 ≡ false) }
 {}
 
 /// A look asks for no block twice.

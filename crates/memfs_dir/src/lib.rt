@@ -25,3 +25,4 @@ pub use laws::{
     other_directories_keep_their_entries,
 };
 pub use removing::dir_remove;
+pub use slots::put_entry;

@@ -13,6 +13,7 @@ cleared number before inode from to count after inside gap count_is puts =
     record {
       changes = puts.changes;
       has = puts.has;
+      map = puts.map;
       free = puts.free;
       zero = λ place le lt last.
           let here : place < from + count = omega (arith, le, lt, last, inside, count_is) in

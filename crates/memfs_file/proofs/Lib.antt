@@ -8,3 +8,4 @@ pub mod Pointers
 pub mod ReadBack
 pub mod Rewriting
 pub mod Written
+pub mod Lowest

@@ -1,12 +1,14 @@
 -- Blocks of a node that are written one after another.
 use Rattle.std.proofs.Common.{◌≡◌, ◌≢◌, ℕ, ◌+◌, ◌-◌, ◌/◌, ◌%◌, ◌<◌, ◌≤◌, ◌⊎◌, inl, inr, List, length, get_or, set, refl, sym, ap, subst, ◌∙◌, arith}
 use Rattle.std.proofs.lemmas.Bool.{cases_eq}
+use Rattle.std.proofs.lemmas.List.{get_or-set_other}
 use Rattle.kabi_values.specs.declared.inodes.Inode.{Inode}
 use Rattle.posix_defs.specs.DiskFormat.{block_size, data_blocks}
-use Rattle.posix_defs.specs.SoundDisk.{block_bytes, HasInode, Sound, free_in_map}
+use Rattle.posix_defs.specs.SoundDisk.{block_bytes, HasInode, Data, Sound, free_in_map}
 use Rattle.posix_defs.specs.DiskContents.{data_block, byte_at}
 use Rattle.posix_defs.specs.DiskTree.{ChangesNode}
 use Rattle.posix_defs.specs.NodeChange.{WritesBlock}
+use Rattle.disk_laws.proofs.FreeBlocks.{named_is_for_files}
 use Rattle.disk_laws.proofs.BlockWritten.{block_written}
 use Rattle.blk_map.proofs.AndBack.{changes_follow}
 use Rattle.memfs_file.specs.FileChange.{Puts}
@@ -19,6 +21,7 @@ pub record PutBefore (number : ℕ) (before : List (List ℕ)) (inode : Inode) (
   pub changes : ChangesNode before now number
   pub has : HasInode now number inode
   pub names : (other : ℕ) → other < data_blocks inode.size → data_block now inode other ≡ data_block before inode other
+  pub map : block_bytes now 0 ≡ block_bytes before 0
   pub free : free_in_map now ≡ free_in_map before
   pub new : (place : ℕ) → at ≤ place → place < at + length bytes → place / block_size < index → byte_at now inode place ≡ get_or bytes (place - at) 0
   pub rest : (place : ℕ) → place < inode.size → (place < at) ⊎ ((at + length bytes ≤ place) ⊎ (index ≤ place / block_size)) → byte_at now inode place ≡ byte_at before inode place
@@ -29,6 +32,7 @@ none_put number disk inode at bytes sound has =
       changes = nothing_changes disk number sound;
       has = has;
       names = λ other lt. refl;
+      map = refl;
       free = refl;
       new = λ place le lt before. absurd (omega (arith, le, before));
       rest = λ place lt off. refl;
@@ -65,6 +69,12 @@ module _ (number : ℕ) (before : List (List ℕ)) (inode : Inode) (at : ℕ) (b
   written =
       let is : after ≡ set now (data_block now inode index) p.block = p.is_set ∙ ap (λ (n : ℕ). set now n p.block) (sym name) in
       subst (λ (disk : List (List ℕ)). WritesBlock number now inode index p.block disk) (sym is) (block_written now number inode index p.block p.sofar.changes.sound p.sofar.has p.within)
+
+  -- a block of a node is none of the map
+  map_stays : block_bytes after 0 ≡ block_bytes now 0
+  map_stays =
+      let files = named_is_for_files now p.sofar.changes.sound number inode (Data index) p.sofar.has p.within in
+      ap (λ (disk : List (List ℕ)). block_bytes disk 0) p.is_set ∙ get_or-set_other {A = List ℕ} now (data_block before inode index) 0 p.block _ (λ e. omega (arith, e, files.0, name))
 
   this : (place : ℕ) → place / block_size ≡ index → byte_at after inode place ≡ get_or (block_bytes after (data_block before inode index)) (place % block_size) 0
   this place e = this_byte written place p.within e ∙ ap (λ (n : ℕ). get_or (block_bytes after n) (place % block_size) 0) name
@@ -106,6 +116,7 @@ module _ (number : ℕ) (before : List (List ℕ)) (inode : Inode) (at : ℕ) (b
         changes = changes_follow number before now after p.sofar.changes written.changes;
         has = written.has;
         names = λ other lt. written.names other lt ∙ p.sofar.names other lt;
+        map = map_stays ∙ p.sofar.map;
         free = written.free ∙ p.sofar.free;
         new = new_byte;
         rest = rest_byte;
@@ -117,6 +128,7 @@ all_put number before inode at bytes index now all p =
     record {
       changes = p.changes;
       has = p.has;
+      map = p.map;
       free = p.free;
       new = λ place le lt. p.new place le lt (omega (arith, lt, all));
       rest = λ place lt off. p.rest place lt (elim off [ inl low ↦ inl low | inr past ↦ inr (inl past) ]);

@@ -2,7 +2,7 @@
 use Rattle.std.specs.Prelude.{ℕ, ◌+◌, ◌-◌, ◌*◌, ◌<◌, ◌≤◌, ◌≡◌, ◌⊎◌, List, length, slice_index}
 use Rattle.kabi_values.specs.declared.inodes.Inode.{Inode}
 use Rattle.posix_defs.specs.DiskFormat.{block_size, data_blocks, blocks_of}
-use Rattle.posix_defs.specs.SoundDisk.{HasInode, HasNode, free_in_map}
+use Rattle.posix_defs.specs.SoundDisk.{block_bytes, HasInode, HasNode, free_in_map}
 use Rattle.posix_defs.specs.DiskContents.{byte_at, node_bytes}
 use Rattle.posix_defs.specs.DiskTree.{ChangesNode}
 
@@ -26,6 +26,7 @@ pub record Rewrites (number : ℕ) (before : List (List ℕ)) (old : Inode) (byt
 pub record Puts (number : ℕ) (before : List (List ℕ)) (inode : Inode) (at : ℕ) (bytes : List ℕ) (after : List (List ℕ)) : Type 0 where
   pub changes : ChangesNode before after number
   pub has : HasInode after number inode
+  pub map : block_bytes after 0 ≡ block_bytes before 0
   pub free : free_in_map after ≡ free_in_map before
   pub new : (place : ℕ) → at ≤ place → place < at + length bytes → byte_at after inode place ≡ slice_index bytes (place - at)
   pub rest : (place : ℕ) → place < inode.size → (place < at) ⊎ (at + length bytes ≤ place) → byte_at after inode place ≡ byte_at before inode place
@@ -34,6 +35,7 @@ pub record Puts (number : ℕ) (before : List (List ℕ)) (inode : Inode) (at : 
 pub record Clears (number : ℕ) (before : List (List ℕ)) (inode : Inode) (from to : ℕ) (after : List (List ℕ)) : Type 0 where
   pub changes : ChangesNode before after number
   pub has : HasInode after number inode
+  pub map : block_bytes after 0 ≡ block_bytes before 0
   pub free : free_in_map after ≡ free_in_map before
   pub zero : (place : ℕ) → from ≤ place → place < to → place < block_size * data_blocks from → byte_at after inode place ≡ 0
   pub rest : (place : ℕ) → place < inode.size → (place < from) ⊎ ((to ≤ place) ⊎ (block_size * data_blocks from ≤ place)) → byte_at after inode place ≡ byte_at before inode place

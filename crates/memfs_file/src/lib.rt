@@ -21,5 +21,6 @@ pub use laws::{
     what_was_written_is_read_back,
 };
 pub use reading::read_at;
+pub use room::free_count;
 pub use sizing::set_size;
 pub use writing::write_at;

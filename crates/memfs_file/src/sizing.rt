@@ -6,7 +6,7 @@ ghost use Rattle.posix_defs.specs.DiskFormat.{greatest_size, blocks_of};
 ghost use Rattle.posix_defs.specs.FileBytes.{resized};
 ghost use Rattle.posix_defs.specs.SoundDisk.{HasNode, Sound};
 ghost use Rattle.posix_defs.specs.DiskContents.{node_bytes};
-ghost use Rattle.blk_map.specs.Named.{file};
+ghost use Rattle.blk_map.specs.Named.{TakesLowest, file};
 ghost use Rattle.memfs_file.specs.FileChange.{blocks_for, Rewrites};
 
 use crate::room::zero_gap;
@@ -14,7 +14,8 @@ use blk_map::{grow, shrink};
 use kabi_types::{Errno, Inode};
 use posix_defs::Blocks;
 
-/// Gives a file another size: it is cut there, or has zeros behind the bytes that it had.
+/// Gives a file another size: it is cut there, or has zeros behind the bytes that it had. The
+/// blocks that it takes are the lowest of those that are free.
 ///
 /// EFBIG exactly where that is above the greatest size, else ENOSPC exactly where the file has and could have fewer blocks
 /// than that takes; nothing is written then. See
@@ -30,6 +31,7 @@ pub fn set_size<B: Blocks>(
     requires kind { inode.old.kind ≡ file }
     ensures ok { OnOk result (Rewrites number (B.blocks b.old) inode.old
         (resized size (node_bytes (B.blocks b.old) inode.old)) (B.blocks b.new) inode.new) }
+    ensures lowest { OnOk result (TakesLowest (B.blocks b.old) (B.blocks b.new)) }
     ensures err { IfErr result (λ fault. ((fault ≡ EFBIG) ⊎ (fault ≡ ENOSPC)) × (B.blocks b.new ≡ B.blocks b.old) × (inode.new ≡ inode.old)) }
     ensures big { (result ≡ Err EFBIG) ↔ (greatest_size < size) }
     ensures full { size ≤ greatest_size → (result ≡ Err ENOSPC) ↔ (blocks_for (B.blocks b.old) inode.old < blocks_of size) }

@@ -6,7 +6,7 @@ ghost use Rattle.posix_defs.specs.DiskFormat.{greatest_size};
 ghost use Rattle.posix_defs.specs.FileBytes.{fitting, overwritten};
 ghost use Rattle.posix_defs.specs.SoundDisk.{HasNode, Sound};
 ghost use Rattle.posix_defs.specs.DiskContents.{node_bytes};
-ghost use Rattle.blk_map.specs.Named.{file};
+ghost use Rattle.blk_map.specs.Named.{TakesLowest, file};
 ghost use Rattle.memfs_file.specs.FileChange.{blocks_for, Rewrites};
 
 use crate::counts::GREATEST_SIZE;
@@ -15,7 +15,8 @@ use crate::room::{make_room, zero_gap};
 use kabi_types::{Errno, Inode};
 use posix_defs::Blocks;
 
-/// Writes bytes into a file from `at` on, as many as there is room for, and answers how many; a gap before `at` is zeros.
+/// Writes bytes into a file from `at` on, as many as there is room for, and answers how many; a gap before `at` is zeros. The
+/// blocks that it takes are the lowest of those that are free.
 ///
 /// EFBIG exactly where the place is at or behind the greatest size, else ENOSPC exactly where there is no room for the gap
 /// and one byte; nothing is written then. See
@@ -34,6 +35,7 @@ pub fn write_at<B: Blocks>(
     ensures count { IfOk result (λ count. count ≡ fitting (blocks_for (B.blocks b.old) inode.old) at (length bytes.now)) }
     ensures ok { IfOk result (λ count. Rewrites number (B.blocks b.old) inode.old
         (overwritten at (take count bytes.now) (node_bytes (B.blocks b.old) inode.old)) (B.blocks b.new) inode.new) }
+    ensures lowest { IfOk result (λ _. TakesLowest (B.blocks b.old) (B.blocks b.new)) }
     ensures err { IfErr result (λ fault. ((fault ≡ EFBIG) ⊎ (fault ≡ ENOSPC)) × (B.blocks b.new ≡ B.blocks b.old) × (inode.new ≡ inode.old)) }
     ensures big { (result ≡ Err EFBIG) ↔ (greatest_size ≤ at) }
     ensures full { at < greatest_size → (result ≡ Err ENOSPC) ↔ (fitting (blocks_for (B.blocks b.old) inode.old) at (length bytes.now) ≡ 0) }

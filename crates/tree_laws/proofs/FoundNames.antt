@@ -31,11 +31,15 @@ found-put entries name node none =
     ∙ cond-true (has_name name (entry_for node name)) (Some (entry_for node name)) None same)
 
 -- found by its place
-found_by_place : (entries : List DirEntry) (name : List ℕ) → place_of name entries < length entries → found_among entries name ≡ Some (get_or entries (place_of name entries) no_entry).node
+pub found_by_place : (entries : List DirEntry) (name : List ℕ) → place_of name entries < length entries → found_among entries name ≡ Some (get_or entries (place_of name entries) no_entry).node
 found_by_place entries name lt = ap (option_map (λ entry. entry.node)) (find_at (has_name name) entries ∙ slice_get-get_or entries (place_of name entries) no_entry lt)
 
-found_past : (entries : List DirEntry) (name : List ℕ) → length entries ≤ place_of name entries → found_among entries name ≡ None
+pub found_past : (entries : List DirEntry) (name : List ℕ) → length entries ≤ place_of name entries → found_among entries name ≡ None
 found_past entries name past = ap (option_map (λ entry. entry.node)) (find_at (has_name name) entries ∙ slice_get_past entries (place_of name entries) past)
+
+-- what stands under a name is found there
+pub found_standing : (entries : List DirEntry) (name : List ℕ) (node : ℕ) → StandsAt entries name node → found_among entries name ≡ Some node
+found_standing entries name node at = found_by_place entries name at.within ∙ ap Some at.aims
 
 pub found-taken : (entries : List DirEntry) (name : List ℕ) (node : ℕ) → AreEntries entries → StandsAt entries name node → found_among (entry_taken name entries) name ≡ None
 found-taken entries name node are at =

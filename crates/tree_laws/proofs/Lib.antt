@@ -14,3 +14,7 @@ pub mod PathLeads
 pub mod FileFits
 pub mod CallsKeep
 pub mod FileBytesLaws
+pub mod OtherNames
+pub mod OtherNodes
+pub mod RenameSteps
+pub mod ReadAndStarted

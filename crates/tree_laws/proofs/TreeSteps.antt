@@ -268,6 +268,8 @@ pub record Hung (old new : Tree) (number to : ℕ) : Type 0 where
   pub others : (m : ℕ) → m ≢ number → parent_at new m ≡ parent_at old m
   pub here : is_directory new number ≡ true → parent_at new number ≡ to
   pub nodes : AreNodes old → AreNodes new
+  pub elsewhere : (m : ℕ) → m ≢ number → node_at new m ≡ node_at old m
+  pub file : is_directory old number ≡ false → (m : ℕ) → node_at new m ≡ node_at old m
 
 hung_node : (tree : Tree) (number to : ℕ) → is_directory tree number ≡ true
     → hung tree number to ≡ with_node tree number (Some (record { links = links_at tree number; content = Directory to (entries_at tree number) }))
@@ -293,6 +295,8 @@ hung_there tree number to is =
       nodes = λ are. nodes-with_node tree number there are (λ n same.
           let old : IsNode (record { links = links_at tree number; content = Directory (parent_at tree number) (entries_at tree number) }) = are number _ was in
           subst IsNode (same_Some node n same) (record { content = old.content; size = old.size; links = old.links; single = λ _. old.single refl }));
+      elsewhere = λ m other. node_at-with_node_other tree number m there other;
+      file = λ not m. absurd (false≢true (sym not ∙ is));
     }
 
 pub hung_is : (tree : Tree) (number to : ℕ) → Hung tree (hung_if_directory tree number to) number to
@@ -310,5 +314,7 @@ hung_is tree number to =
         others = λ m other. refl;
         here = λ dir. absurd (false≢true (sym not_dir ∙ dir));
         nodes = λ are. are;
+        elsewhere = λ m other. refl;
+        file = λ not m. refl;
       })
     ]

@@ -1,1 +1,3 @@
 pub mod WorkedTrees
+pub mod Untouched
+pub mod WorkedStreet

@@ -1,11 +1,12 @@
 //! Laws of the calls on paths. Each is the contract of a function that does nothing.
 
-ghost use Rattle.std.specs.Prelude.{◌≡◌, ℕ, ◌^◌, ◌<◌, Bool, true, List, None, Ok};
+ghost use Rattle.std.specs.Prelude.{◌≡◌, ℕ, ◌^◌, ◌<◌, ◌≤◌, Bool, true, List, None, Ok, length, take};
 ghost use Rattle.std.specs.List.{All};
 ghost use Rattle.kabi_calls.specs.Arguments.{path_fault};
+ghost use Rattle.kabi_types.specs.declared.scripts.Program.{Program};
 ghost use Rattle.posix_defs.specs.Tree.{Tree, is_directory};
 ghost use Rattle.posix_defs.specs.IsTree.{IsTree};
-ghost use Rattle.posix_defs.specs.PathCalls.{Opening, bind_path, link_path, mkdir_path, open_path, rename_path, rmdir_path, unlink_path};
+ghost use Rattle.posix_defs.specs.PathCalls.{Opening, bind_path, link_path, mkdir_path, open_path, program_of, rename_path, rmdir_path, unlink_path};
 
 /// A call on a path leaves a tree. The names that it makes are those of paths that the argument check passes, without a
 /// zero byte.
@@ -24,4 +25,10 @@ pub fn calls_on_paths_leave_a_tree()
         → (path_fault new ≡ None) × All (λ byte. (0 < byte) × (byte < 2 ^ 8)) new → link_path tree cwd old new ≡ Ok after → IsTree after }
     ensures rename { (tree : Tree) (cwd : ℕ) (old new : List ℕ) (opened busy : ℕ → Bool) (after : Tree) → IsTree tree → is_directory tree cwd ≡ true
         → (path_fault new ≡ None) × All (λ byte. (0 < byte) × (byte < 2 ^ 8)) new → rename_path tree cwd old new opened busy ≡ Ok after → IsTree after }
+{}
+
+/// Thirty bytes of a file suffice to find the program that it starts: the line of a program whose name has at most 27 bytes
+/// is no longer.
+pub fn thirty_bytes_tell_the_program()
+    ensures { (programs : List Program) (bytes : List ℕ) → All (λ program. length program.name ≤ 27) programs → program_of programs (take 30 bytes) ≡ program_of programs bytes }
 {}

@@ -8,6 +8,7 @@ ghost use Rattle.posix_defs.specs.FileBytes.{overwritten, resized};
 ghost use Rattle.posix_defs.specs.Tree.{Content, File, Tree, entries_at, found, is_directory, is_in_use, new_tree, node_at};
 ghost use Rattle.posix_defs.specs.TreeChanges.{HasNoRoom, IsAtOrAbove, closed, link, make, rename_over, rename_to, resize, takes_entry, unlink, write};
 ghost use Rattle.posix_defs.specs.IsTree.{IsEntryName, IsNewContent, IsTree};
+ghost use Rattle.posix_defs.specs.PathCalls.{read_node};
 
 /// A disk's new root stands alone in a tree.
 pub fn a_new_root_is_a_tree()
@@ -102,4 +103,10 @@ pub fn bytes_are_read_as_they_were_written()
     ensures len { (at : ℕ) (new old : List ℕ) → length (overwritten at new old) ≡ max (at + length new) (length old) }
     ensures sized { (size : ℕ) (bytes : List ℕ) (k : ℕ) → k < size → slice_index (resized size bytes) k ≡ slice_index bytes k }
     ensures size { (size : ℕ) (bytes : List ℕ) → length (resized size bytes) ≡ size }
+{}
+
+/// What a write put is read of the file.
+pub fn what_was_written_is_read()
+    ensures { (tree : Tree) (number links at : ℕ) (old bytes : List ℕ) (count : ℕ) (after : Tree) → node_at tree number ≡ Some (record { links = links; content = File old })
+        → write tree number at bytes ≡ Ok (count, after) → read_node after number at count ≡ take count bytes }
 {}

@@ -1,8 +1,9 @@
-use Rattle.std.proofs.Common.{◌≡◌, ℕ, inl, inr, List, set, sym, ap, ◌∙◌, arith}
+use Rattle.std.proofs.Common.{◌≡◌, ◌≢◌, ℕ, ◌<◌, length, inl, inr, List, set, sym, ap, ◌∙◌, arith}
 use Rattle.posix_defs.specs.DiskFormat.{data_blocks}
-use Rattle.posix_defs.specs.SoundDisk.{block_bytes, bit_of}
+use Rattle.std.proofs.lemmas.List.{get_or-set_same}
+use Rattle.posix_defs.specs.SoundDisk.{block_bytes, bit_of, Pointers}
 use Rattle.disk_laws.proofs.FreeBlocks.{named_is_for_files}
-use Rattle.blk_map.proofs.Blocks.{got}
+use Rattle.blk_map.proofs.Blocks.{got, in_table}
 use Rattle.blk_map.proofs.Forgetting.{Forgetting, forgetting, each, all, pointers_gone}
 use Rattle.blk_map.proofs.Giving.{gives}
 use Rattle.blk_map.proofs.shrinking.give_blocks.Goals as goal
@@ -68,3 +69,28 @@ returns-clause-resizes g c =
       after_others = c.settle.ensures.others;
     }
     )
+
+pub returns-clause-takes_none : goal.returns-clause-takes_none
+returns-clause-takes_none g c = λ block is.
+    let before : List (List ℕ) = g.B.Blocks.blocks c.args.b.now in
+    let between : List (List ℕ) = g.B.Blocks.blocks c.behind_of-behind.new.b in
+    let cleared : List (List ℕ) = g.B.Blocks.blocks c.set.new.self in
+    let after : List (List ℕ) = g.B.Blocks.blocks c.settle.new.b in
+    let old = c.args.inode.now in
+    let table = in_table (length before) c.args.number c.requires.node.0.number.0 c.requires.node.0.number.1 in
+    let had : c.data_count-had.result ≡ data_blocks old.size = c.data_count-had.ensures in
+    let left : c.data_count-left.result ≡ data_blocks c.args.size = c.data_count-left.ensures in
+    let apart : 10 < data_blocks c.args.size → 0 ≢ c.forget_pointers.new.indirect = λ large e.
+    let stays = c.forget_pointers.ensures.stays (inl (omega (arith, large, left))) in
+    let files = named_is_for_files before c.requires.sound c.args.number old Pointers c.requires.node.0 (omega (arith, large, c.requires.size)) in
+    omega (arith, e, stays.1, files.0)
+    in
+    let kept : g.B.Blocks.blocks c.get-map.new.self ≡ before = c.get-map.ensures.kept ∙ c.behind_of-behind.ensures.kept in
+    let within : 0 < length (g.B.Blocks.blocks c.get-map.new.self) = omega (arith, ap length kept, c.requires.sound.size.0) in
+    let now : block_bytes after 0 ≡ c.unmark_all.new.map =
+    c.settle.ensures.others 0 (λ e. omega (arith, e, table.0)) apart
+    ∙ ap (λ (disk : List (List ℕ)). block_bytes disk 0) c.set.ensures.after
+    ∙ get_or-set_same {A = List ℕ} (g.B.Blocks.blocks c.get-map.new.self) 0 c.unmark_all.new.map _ within in
+    let map : block_bytes before 0 ≡ c.get-map.result =
+    ap (λ (disk : List (List ℕ)). block_bytes disk 0) (sym c.behind_of-behind.ensures.kept) ∙ got between 0 c.get-map.result c.get-map.ensures.value in
+    ap (λ (bytes : List ℕ). bit_of bytes block) map ∙ c.unmark_all.ensures.only block (ap (λ (bytes : List ℕ). bit_of bytes block) (sym now) ∙ is)

@@ -1,5 +1,7 @@
-use Rattle.std.proofs.Common.{◌≡◌, ◌-◌, sym, arith}
+use Rattle.std.proofs.Common.{◌≡◌, ℕ, ◌-◌, List, length, sym, ap, ◌∙◌, arith}
 use Rattle.posix_defs.specs.DiskFormat.{blocks_of}
+use Rattle.posix_defs.specs.SoundDisk.{bit_of}
+use Rattle.blk_map.proofs.Blocks.{in_table}
 use Rattle.blk_map.proofs.Counted.{given_none}
 use Rattle.blk_map.proofs.SameBlocks.{same_resizes}
 use Rattle.blk_map.proofs.shrinking.shrink.Goals as goal
@@ -24,3 +26,8 @@ returns-then-block_count-clause-resizes g c =
       others = c.put_in_table.ensures.others;
     }
     )
+
+pub returns-then-block_count-clause-takes_none : goal.returns-then-block_count-clause-takes_none
+returns-then-block_count-clause-takes_none g c = λ block is.
+    let table = in_table (length (g.B.Blocks.blocks c.args.b.now)) c.args.number c.requires.node.0.number.0 c.requires.node.0.number.1 in
+    sym (ap (λ (map : List ℕ). bit_of map block) (c.put_in_table.ensures.others 0 (λ e. omega (arith, e, table.0)))) ∙ is
