@@ -2,7 +2,7 @@
 use Rattle.std.proofs.Common.{◌≡◌, ◌≢◌, ℕ, ◌+◌, ◌==◌, ◌&&◌, ◌||◌, not, ℤ, pos, negsuc, Bool, true, false, cond, if◌then◌else◌, List, length, Option, None, Some, refl, subst, ap, ◌∙◌}
 use Rattle.std.specs.List.{list_any}
 use Rattle.std.specs.Option.{option_or}
-use Rattle.kabi_calls.specs.Arguments.{argument_fault, count_of, invalid_unless, is_from, is_minus_one, is_number, is_page_range, is_within, lie_in_space, moved_fault, path_fault, paths_fault, placed_fault, range_fault, truncates_unwritten}
+use Rattle.kabi_calls.specs.Arguments.{argument_fault, count_of, invalid_unless, is_from, is_minus_one, is_number, is_page_range, is_within, lie_in_space, may_be_descriptor, moved_fault, path_fault, paths_fault, placed_fault, range_fault, truncates_unwritten}
 use Rattle.kabi_values.specs.OpenFlags.{are_open_flags}
 use Rattle.kabi_calls.specs.PathParts.{components, ends_in_dots, is_long}
 use Rattle.kabi_calls.specs.declared.calls.Call.{Call}
@@ -145,7 +145,7 @@ fault_no_want (call.Munmap addr length) = invalid_no_want (is_from 1 length && i
 fault_no_want (call.Store addr bytes) = range_no_want addr (length bytes)
 fault_no_want (call.Load addr n) = or_no_want (invalid_unless (is_within 0 64 n)) (range_fault addr (count_of n)) (invalid_no_want (is_within 0 64 n)) (range_no_want addr (count_of n))
 fault_no_want (call.OpenFile path flags) = or_no_want (invalid_unless (are_open_flags flags && not (truncates_unwritten flags))) (path_fault path) (invalid_no_want (are_open_flags flags && not (truncates_unwritten flags))) (path_no_want path)
-fault_no_want (call.Fcntl _ cmd arg) = invalid_no_want (is_within 1 4 cmd || (is_number 0 cmd && is_within 0 31 arg))
+fault_no_want (call.Fcntl _ cmd arg) = invalid_no_want (is_within 1 4 cmd || (is_number 0 cmd && may_be_descriptor arg))
 fault_no_want (call.Read _ addr n) = moved_no_want 0 addr n
 fault_no_want (call.Write _ addr n _) = moved_no_want 0 addr n
 fault_no_want (call.Pread _ addr n at) = placed_no_want addr n at
