@@ -182,3 +182,14 @@ taken_at sockets named listener is few =
 
 pub in_words : (place : ℕ) → place < 8 → Fits w64 (place * 8)
 in_words place within = omega (arith, within)
+
+-- a free key is none in use
+free_apart : (socks : List (Option Sock)) (made other : ℕ) → object socks made ≡ None → InUse socks other → made ≢ other
+free_apart socks made other vacant used same = let gone : object socks other ≡ None = ap (object socks) (sym same) ∙ vacant in grind arith
+
+-- the socket that was made is there still where the client and the listener were changed after it
+pub made_used : (old one two three : Heap) (key listener made : ℕ) (added : Sock) → object old.socks made ≡ None → InUse old.socks key → InUse old.socks listener → object one.socks made ≡ Some added
+    → ((other : ℕ) → other ≢ key → object two.socks other ≡ object one.socks other) → ((other : ℕ) → other ≢ listener → object three.socks other ≡ object two.socks other) → InUse three.socks made
+made_used old one two three key listener made added vacant client listens stored second third =
+    let there : object three.socks made ≡ Some added = third made (free_apart old.socks made listener vacant listens) ∙ second made (free_apart old.socks made key vacant client) ∙ stored in
+    rw there refl

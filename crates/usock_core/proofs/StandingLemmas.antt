@@ -8,7 +8,8 @@ use Rattle.posix_defs.specs.Socket.{Socket}
 use Rattle.posix_defs.specs.Sockets.{Sockets, sock_at, socket_at, with_socket}
 use Rattle.socket_laws.proofs.SocketTable.{sock_at-with, sock_at-with_other, length-with_there}
 use Rattle.chunk_queue.specs.Held.{HasBytes, SockKeepsBytes}
-use Rattle.usock_core.specs.Standing.{IsKept, StandsAt, IsTable, LeavesOthers}
+use Rattle.chunk_queue.proofs.HeldLemmas.{HasBytes-same}
+use Rattle.usock_core.specs.Standing.{IsKept, StandsAt, IsTable, StandsFor, IsHeldIn, LeavesOthers}
 
 -- a socket stands for the same where its queue keeps its bytes
 stands_moved : (old new : Heap) (held : Option Sock) (socket : Option Socket) → ((sock : Sock) (bytes : List ℕ) → held ≡ Some sock → HasBytes old sock.queue bytes → HasBytes new sock.queue bytes) → StandsAt old held socket → StandsAt new held socket
@@ -30,6 +31,23 @@ table_update old new key sockets socket table within same here others moves = re
     | inr differs ↦ rw (others other differs, sock_at-with_other sockets key other socket (omega (arith, within, table.places)) differs) (stands_moved old new (object old.socks other) (sock_at sockets other) (λ sock bytes named has. moves other differs sock bytes named has) (table.each other))
   ];
 }
+
+-- the same sockets stand for the same where all queues keep their bytes
+pub table_moved : (old new : Heap) (sockets : Sockets) → new.socks ≡ old.socks → ((key : ℕ) → SockKeepsBytes old new key) → IsTable old sockets → IsTable new sockets
+table_moved old new sockets socks moves table = record {
+  places = table.places ∙ sym (ap length socks);
+  each = λ key. subst (λ (held : Option Sock). StandsAt new held (sock_at sockets key)) (sym (ap (λ (list : List (Option Sock)). object list key) socks)) (stands_moved old new (object old.socks key) (sock_at sockets key) (λ sock bytes named has. moves key sock bytes named has) (table.each key));
+}
+
+pub stands_on : (old new : Heap) (sockets : Sockets) → new.socks ≡ old.socks → ((key : ℕ) → SockKeepsBytes old new key) → StandsFor old sockets → StandsFor new sockets
+stands_on old new sockets socks moves stands = record { table = table_moved old new sockets socks moves stands.table; linked = stands.linked }
+
+-- as they do where all chunks are the same
+pub stands_same : (old new : Heap) (sockets : Sockets) → new.socks ≡ old.socks → new.chunks ≡ old.chunks → StandsFor old sockets → StandsFor new sockets
+stands_same old new sockets socks chunks = stands_on old new sockets socks (λ key sock bytes there has. HasBytes-same old new sock.queue bytes chunks has)
+
+pub held_on : (old new : Heap) (named : List ℕ) → new.socks ≡ old.socks → ((key : ℕ) → SockKeepsBytes old new key) → IsHeldIn old named → IsHeldIn new named
+held_on old new named socks moves is = record { sockets = is.sockets; stands = stands_on old new is.sockets socks moves is.stands; held = is.held }
 
 -- tables with the same sockets at each place stand for the same
 pub table_same : (h : Heap) (one other : Sockets) → length other ≡ length one → ((place : ℕ) → sock_at other place ≡ sock_at one place) → IsTable h one → IsTable h other

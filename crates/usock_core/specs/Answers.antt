@@ -1,7 +1,7 @@
 -- What the calls answer, as the plain machine says it.
-use Rattle.std.specs.Prelude.{◌≡◌, ℕ, List, ◌∷◌, Option, None, Some, Result, Err, IsOk}
+use Rattle.std.specs.Prelude.{◌≡◌, ℕ, Bool, true, false, List, ◌∷◌, Option, None, Some, Result, Err, IsOk}
 use Rattle.kabi_values.specs.declared.errnos.Errno.{Errno}
-use Rattle.kheap_shelves.specs.Objects.{object}
+use Rattle.kheap_shelves.specs.Objects.{object, InUse}
 use Rattle.kheap_slabs.specs.Heap.{Heap}
 use Rattle.posix_defs.specs.Socket.{Accepting, Takes, Waits, Refuses}
 use Rattle.posix_defs.specs.Sockets.{Sockets, after_connect, after_accept}
@@ -18,6 +18,7 @@ Answers result (Some errno) = result ≡ Err errno
 pub record IsConnectedBy (old new : Heap) (key listener : ℕ) : Type 0 where
   pub made : ℕ
   pub vacant : object old.socks made ≡ None
+  pub used : InUse new.socks made
   pub stands : (sockets : Sockets) → StandsFor old sockets → StandsFor new (after_connect sockets key listener made)
 
 -- the plain answer that an answer of accept stands for
@@ -37,3 +38,15 @@ abbrev pub named_after : Accepted → List ℕ → List ℕ
 named_after (accepted.Took key) named = key ∷ named
 named_after accepted.Blocked named = named
 named_after (accepted.Fault errno) named = named
+
+-- this holds unless a socket was taken: the call would have to wait, or was refused
+abbrev pub UnlessTook : Accepted → Type 0 → Type 0
+UnlessTook (accepted.Took key) Holds = Unit {0}
+UnlessTook accepted.Blocked Holds = Holds
+UnlessTook (accepted.Fault errno) Holds = Holds
+
+-- whether an accept that is answered so would have to wait
+abbrev pub accept_would_wait : Accepting → Bool
+accept_would_wait (Takes key) = false
+accept_would_wait Waits = true
+accept_would_wait (Refuses errno) = false

@@ -53,9 +53,9 @@ pub record Turns (old new : Heap) (key : ℕ) (sock : Sock) (next : List ℕ →
   pub becomes : Becomes old new key now next
 
 -- what a write leaves of the peer that it goes to and of all others: the bytes stand behind the others, and the purse paid
--- for the chunks that they take
+-- for the chunks that they take; without a peer nothing is other than before
 abbrev pub Sends : Heap → Purse → Heap → Purse → Option ℕ → ℕ → Type 0
-Sends old before new after None count = (key : ℕ) → queue_at new key ≡ queue_at old key
+Sends old before new after None count = (new ≡ old) × (after ≡ before)
 Sends old before new after (Some peer) count =
     (queue_at new peer ≡ after_put (queue_at old peer) count) × OtherQueuesStay old new peer
     × (after.left.chunk + chunks_of (queue_at new peer) ≡ before.left.chunk + chunks_of (queue_at old peer))

@@ -3,7 +3,7 @@ ghost use Rattle.kheap_slabs.specs.Owners.{OwnsItsObjects};
 ghost use Rattle.kheap_slabs.specs.Paid.{TakesNothing};
 ghost use Rattle.posix_defs.specs.Socket.{accept as plain_accept};
 ghost use Rattle.posix_defs.specs.Sockets.{Sockets, stage_at};
-ghost use Rattle.usock_core.specs.Answers.{accepting_of, after_answer, named_after};
+ghost use Rattle.usock_core.specs.Answers.{accepting_of, after_answer, named_after, UnlessTook, accept_would_wait};
 ghost use Rattle.usock_core.specs.Standing.{IsHeldIn, StandsFor, IsSocketIn, QueuesStay, LeavesOthers};
 
 use crate::Accepted;
@@ -27,6 +27,7 @@ pub fn accept(heap: &mut KHeap, key: u32, room: bool, nonblock: bool) -> Accepte
     ensures others { LeavesOthers heap.old heap.new }
     ensures queues { QueuesStay heap.old heap.new }
     ensures takes { TakesNothing heap.old heap.new }
+    ensures refused { UnlessTook result (heap.new ≡ heap.old) }
 {
     let sock = *heap.get_sock(key);
     let SockState::Listening = sock.state else {
@@ -49,6 +50,19 @@ pub fn accept(heap: &mut KHeap, key: u32, room: bool, nonblock: bool) -> Accepte
         }
         None if nonblock => Accepted::Fault(Errno::EAGAIN),
         None => Accepted::Blocked,
+    }
+}
+
+/// Whether an accept would have to wait: the socket listens, a descriptor is free, none waits, and the caller waits.
+pub fn accept_waits(heap: &KHeap, key: u32, room: bool, nonblock: bool) -> bool
+    requires { IsSocketIn heap.now key }
+    ensures { (sockets : Sockets) → StandsFor heap.now sockets
+        → result ≡ accept_would_wait (plain_accept (stage_at sockets key) room nonblock) }
+{
+    let sock = heap.get_sock(key);
+    match sock.state {
+        SockState::Listening => room && sock.waiting[0].is_none() && !nonblock,
+        SockState::Idle | SockState::Connected { .. } => false,
     }
 }
 

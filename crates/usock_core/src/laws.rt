@@ -7,6 +7,7 @@ ghost use Rattle.kheap_shelves.specs.declared.objects.Sock.{Sock};
 ghost use Rattle.kheap_shelves.specs.declared.objects.SockState.TheVariants as state;
 ghost use Rattle.kheap_slabs.specs.Heap.{Heap, empty_heap};
 ghost use Rattle.posix_defs.specs.Sockets.{Sockets};
+ghost use Rattle.chunk_queue.specs.Held.{SockKeepsBytes};
 ghost use Rattle.usock_core.specs.Standing.{StandsFor, IsSocketIn, IsListeningIn, IsClosableIn, IsHeldIn};
 
 /// A heap without objects has no sockets, and no description names one.
@@ -31,4 +32,17 @@ pub fn named_sockets_are_there()
 pub fn sockets_stand_for_one_table()
     ensures { (h : Heap) (first : Sockets) (second : Sockets)
         → StandsFor h first → StandsFor h second → first ≡ second }
+{}
+
+/// The sockets of a heap go on in another that has the same sockets and chunks, or has the same sockets whose queues keep
+/// their bytes, as calls on pipes leave them.
+pub fn sockets_go_on()
+    ensures same { (old : Heap) (new : Heap) (sockets : Sockets)
+        → new.socks ≡ old.socks → new.chunks ≡ old.chunks → StandsFor old sockets → StandsFor new sockets }
+    ensures kept { (old : Heap) (new : Heap) (sockets : Sockets)
+        → new.socks ≡ old.socks → ((key : ℕ) → SockKeepsBytes old new key)
+        → StandsFor old sockets → StandsFor new sockets }
+    ensures held { (old : Heap) (new : Heap) (named : List ℕ)
+        → new.socks ≡ old.socks → ((key : ℕ) → SockKeepsBytes old new key)
+        → IsHeldIn old named → IsHeldIn new named }
 {}

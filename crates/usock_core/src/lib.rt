@@ -20,14 +20,11 @@ mod tests;
 mod writing;
 
 pub use accepted::Accepted;
-pub use accepting::accept;
+pub use accepting::{accept, accept_waits};
 pub use closing::{close_sock, shutdown};
 pub use connecting::{can_connect, connect};
 pub use making::{sock_make, sock_pair};
 pub use naming::{can_bind, listen, name_sock};
 pub use polling::sock_polled;
-pub use reading::sock_read;
-pub use writing::sock_write;
-
-/// How many bytes a socket holds at most that it is to read.
-const CAPACITY: u32 = 4096;
+pub use reading::{sock_read, sock_read_waits};
+pub use writing::{sock_write, sock_write_waits};

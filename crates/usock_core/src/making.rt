@@ -1,7 +1,7 @@
 ghost use Rattle.std.specs.Prelude.{List, ◌∷◌, ◌≡◌, ◌≢◌, ℕ, ◌-◌, ◌<◌, None};
 ghost use Rattle.kabi_values.specs.declared.classes.Class.TheVariants as class;
 ghost use Rattle.kheap_shelves.specs.Counts.{with_count};
-ghost use Rattle.kheap_shelves.specs.Objects.{object};
+ghost use Rattle.kheap_shelves.specs.Objects.{object, InUse};
 ghost use Rattle.kheap_slabs.specs.Owners.{OwnsItsObjects};
 ghost use Rattle.kheap_slabs.specs.Paid.{CanPay, IsPaid};
 ghost use Rattle.kheap_slabs.specs.Queues.{empty_queue};
@@ -48,6 +48,7 @@ pub fn sock_make(heap: &mut KHeap, purse: &mut Purse) -> u32
     requires pays { CanPay heap.old purse.old }
     requires left { 0 < purse.old.left.sock }
     ensures vacant { object heap.old.socks result ≡ None }
+    ensures used { InUse heap.new.socks result }
     ensures stands { (sockets : Sockets) → StandsFor heap.old sockets → StandsFor heap.new (with_new sockets result) }
     ensures held { (named : List ℕ) → IsHeldIn heap.old named → IsHeldIn heap.new (result ∷ named) }
     ensures owned { OwnsItsObjects heap.new }
@@ -68,6 +69,7 @@ pub fn sock_pair(heap: &mut KHeap, purse: &mut Purse) -> (u32, u32)
     requires left { 1 < purse.old.left.sock }
     ensures vacant { object heap.old.socks result.0 ≡ None }
     ensures vacant_too { object heap.old.socks result.1 ≡ None }
+    ensures used { InUse heap.new.socks result.0 × InUse heap.new.socks result.1 }
     ensures differ { result.0 ≢ result.1 }
     ensures stands { (sockets : Sockets) → StandsFor heap.old sockets
         → StandsFor heap.new (with_pair sockets result.0 result.1) }

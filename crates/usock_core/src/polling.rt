@@ -1,17 +1,11 @@
-ghost use Rattle.std.specs.Prelude.{◌≡◌, ℕ, ◌<◌, ◌≤◌, ◌&&◌, List, Some, length, if◌then◌else◌};
-ghost use Rattle.posix_defs.specs.Pipe.{capacity, is_asked as asks};
+ghost use Rattle.std.specs.Prelude.{◌≡◌, ℕ, ◌≤◌, List, Some, length};
+ghost use Rattle.posix_defs.specs.Pipe.{capacity};
 ghost use Rattle.posix_defs.specs.Sockets.{Sockets, socket_at, sock_polled as plain_polled, polled_connected as plain_polled_connected};
 ghost use Rattle.usock_core.specs.Standing.{IsShape, StandsFor, IsSocketIn};
 
-use crate::CAPACITY;
+use chunk_queue::{POLLHUP, POLLIN, POLLOUT, event_if, room_in};
 use kheap_shelves::{Sock, SockState};
 use kheap_slabs::KHeap;
-
-const POLLIN: u8 = 1;
-
-const POLLOUT: u8 = 4;
-
-const POLLHUP: u8 = 16;
 
 /// What `poll` tells of a socket that is asked for these events (POSIX poll).
 ///
@@ -35,6 +29,7 @@ pub fn sock_polled(heap: &KHeap, key: u32, events: i64) -> u8
 
 // What is told of a connected socket with so many bytes unread, whose peer is there.
 fn polled_connected(unread: u32, peer: &Sock, events: i64) -> u8
+    requires { peer.now.queue.len ≤ capacity }
     ensures { (sockets : Sockets) (key : ℕ) (bytes : List ℕ) → IsShape peer.now (socket_at sockets key)
         → peer.now.queue.len ≡ length (socket_at sockets key).bytes → length bytes ≡ unread
         → length (socket_at sockets key).bytes ≤ capacity
@@ -45,17 +40,5 @@ fn polled_connected(unread: u32, peer: &Sock, events: i64) -> u8
         SockState::Idle | SockState::Listening => false,
     };
     event_if(POLLIN, events, unread > 0 || ended)
-        + event_if(POLLOUT, events, peer.queue.len < CAPACITY)
-}
-
-// An event, a power of 2, where `poll` is asked for it and it holds, else 0.
-fn event_if(event: u8, events: i64, holds: bool) -> u8
-    requires { 0 < event }
-    ensures { result ≡ (if asks events event && holds then event else 0) }
-{
-    if events.cast_unsigned() / event as u64 % 2 == 1 && holds {
-        event
-    } else {
-        0
-    }
+        + event_if(POLLOUT, events, room_in(&peer.queue) > 0)
 }

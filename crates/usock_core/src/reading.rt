@@ -5,10 +5,10 @@ ghost use Rattle.kheap_slabs.specs.Owners.{OwnsItsObjects};
 ghost use Rattle.kheap_slabs.specs.Paid.{TakesNothing};
 ghost use Rattle.posix_defs.specs.QueuePlace.{after_take};
 ghost use Rattle.posix_defs.specs.Sockets.{Sockets, socket_at, sock_read as plain_read, writes_no_more as plain_no_more, after_read};
-ghost use Rattle.chunk_queue.specs.Moving.{moving_of, moved_by};
+ghost use Rattle.chunk_queue.specs.Moving.{moving_of, moved_by, UnlessMoved, would_wait};
 ghost use Rattle.usock_core.specs.Standing.{IsHeldIn, IsTable, StandsFor, IsSocketIn, queue_at, OtherQueuesStay, LeavesOthers};
 
-use crate::steps::{not_now, take_out};
+use crate::steps::take_out;
 use chunk_queue::Moved;
 use kabi_types::Errno;
 use kheap_shelves::SockState;
@@ -34,6 +34,7 @@ pub fn sock_read(heap: &mut KHeap, key: u32, nonblock: bool, out: &mut [u8]) -> 
     ensures owned { OwnsItsObjects heap.new }
     ensures others { LeavesOthers heap.old heap.new }
     ensures takes { TakesNothing heap.old heap.new }
+    ensures refused { UnlessMoved result ((heap.new ≡ heap.old) × (out.new ≡ out.old)) }
 {
     let sock = *heap.get_sock(key);
     let SockState::Connected { shut_read, .. } = sock.state else {
@@ -48,7 +49,22 @@ pub fn sock_read(heap: &mut KHeap, key: u32, nonblock: bool, out: &mut [u8]) -> 
     if writes_no_more(heap, sock.peer) {
         Moved::Bytes(0)
     } else {
-        not_now(nonblock)
+        Moved::not_now(nonblock)
+    }
+}
+
+/// Whether a read of a socket would have to wait: it reads still, nothing is there, something can come, and the reader waits.
+pub fn sock_read_waits(heap: &KHeap, key: u32, nonblock: bool) -> bool
+    requires { IsSocketIn heap.now key }
+    ensures { (sockets : Sockets) (n : ℕ) → StandsFor heap.now sockets
+        → result ≡ would_wait (plain_read sockets key nonblock n) }
+{
+    let sock = heap.get_sock(key);
+    match sock.state {
+        SockState::Connected { shut_read, .. } => {
+            !shut_read && sock.queue.len == 0 && !writes_no_more(heap, sock.peer) && !nonblock
+        }
+        SockState::Idle | SockState::Listening => false,
     }
 }
 

@@ -8,12 +8,10 @@ ghost use Rattle.kheap_slabs.specs.Paid.{CanPay, IsPaid, TakesNothing};
 ghost use Rattle.kheap_slabs.specs.Queues.{empty_queue};
 ghost use Rattle.posix_defs.specs.QueuePlace.{at_front, chunks_of, after_put, after_take};
 ghost use Rattle.chunk_queue.specs.Chained.{place_of, PaysChunks, TakesOut};
-ghost use Rattle.chunk_queue.specs.Moving.{moving_of, moved_by};
-ghost use Rattle.posix_defs.specs.Pipe.{not_now as waiting};
 ghost use Rattle.usock_core.specs.Steps.{KeepsQueue, Becomes, Comes, Goes, Turns};
 
-use chunk_queue::{Moved, Queue};
-use kabi_types::{Class, Errno};
+use chunk_queue::Queue;
+use kabi_types::Class;
 use kheap_shelves::{Purse, Sock};
 use kheap_slabs::KHeap;
 
@@ -117,16 +115,4 @@ pub(crate) fn put_in(heap: &mut KHeap, purse: &mut Purse, key: u32, sock: Sock, 
             ..sock
         },
     );
-}
-
-/// What a call that can't go on yet answers.
-pub(crate) fn not_now(nonblock: bool) -> Moved
-    ensures answer { moving_of result ≡ waiting nonblock }
-    ensures nothing { moved_by result ≡ 0 }
-{
-    if nonblock {
-        Moved::Fault(Errno::EAGAIN)
-    } else {
-        Moved::Blocked
-    }
 }

@@ -1,5 +1,6 @@
 //! Sockets by hand: pairs, the worked listener and client, backlogs, queues that are full, and what poll tells. Each test goes
-//! through a table of calls on a new heap, and looks at each answer, at what was read and at the bytes of the heap.
+//! through a table of calls on a new heap, and looks at each answer, at what was read and at the bytes of the heap. A call
+//! waits just where the test before it said so.
 
 ghost use Rattle.std.specs.Prelude.{◌≡◌, ◌<◌, ℕ, List, [], ◌∷◌, ◌++◌, IfOk, OnOk};
 ghost use Rattle.std.specs.List.{Contains};
@@ -8,8 +9,9 @@ ghost use Rattle.kheap_slabs.specs.Paid.{CanPay};
 ghost use Rattle.usock_core.specs.Standing.{IsSocketIn, IsHeldIn};
 
 use crate::{
-    Accepted, accept, can_bind, can_connect, close_sock, connect, listen, name_sock, shutdown,
-    sock_make, sock_pair, sock_polled, sock_read, sock_write,
+    Accepted, accept, accept_waits, can_bind, can_connect, close_sock, connect, listen, name_sock,
+    shutdown, sock_make, sock_pair, sock_polled, sock_read, sock_read_waits, sock_write,
+    sock_write_waits,
 };
 use chunk_queue::Moved;
 use kabi_types::{Errno, Memory, Need};
@@ -204,7 +206,10 @@ impl Net {
         ensures held { OnOk result (IsHeldIn self.new.heap self.new.named.items) }
     {
         let key = self.key(rt, at);
-        match accept(&mut self.heap, key, room, nonblock) {
+        let waits = accept_waits(&self.heap, key, room, nonblock);
+        let answer = accept(&mut self.heap, key, room, nonblock);
+        assert!(rt; waits == (answer == Accepted::Blocked));
+        match answer {
             Accepted::Took(taken) => {
                 self.named.push(taken)?;
                 Ok(Answer::Taken)
@@ -223,7 +228,9 @@ impl Net {
     {
         let key = self.key(rt, at);
         let mut out = [b'.'; 8];
+        let waits = sock_read_waits(&self.heap, key, nonblock);
         let answer = sock_read(&mut self.heap, key, nonblock, &mut out);
+        assert!(rt; waits == (answer == Moved::Blocked));
         assert!(rt; out.as_slice() == bytes);
         moved(answer)
     }
@@ -236,7 +243,11 @@ impl Net {
     {
         let key = self.key(rt, at);
         let mut purse = purse(rt, &self.heap);
-        moved(sock_write(&mut self.heap, &mut purse, key, nonblock, bytes))
+        assert!(rt; bytes.len() <= 5000);
+        let waits = sock_write_waits(&self.heap, key, nonblock, bytes.len() as u32);
+        let answer = sock_write(&mut self.heap, &mut purse, key, nonblock, bytes);
+        assert!(rt; waits == (answer == Moved::Blocked));
+        moved(answer)
     }
 
     fn fill(&mut self, rt: &impl Abort, at: usize, count: usize) -> Answer

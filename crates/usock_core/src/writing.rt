@@ -1,19 +1,18 @@
-ghost use Rattle.std.specs.Prelude.{List, ◌≡◌, ℕ, ◌+◌, ◌/◌, ◌<◌, ◌≤◌, ◌++◌, Some, length, min, take, Bool, IfSome, MatchOption};
+ghost use Rattle.std.specs.Prelude.{List, ◌≡◌, ℕ, ◌+◌, ◌/◌, ◌<◌, ◌≤◌, ◌++◌, Some, length, min, take};
 ghost use Rattle.kheap_shelves.specs.Objects.{object, InUse};
 ghost use Rattle.kheap_slabs.specs.Owners.{OwnsItsObjects};
 ghost use Rattle.kheap_slabs.specs.Paid.{CanPay, IsPaid};
-ghost use Rattle.posix_defs.specs.Pipe.{capacity, Moves, not_now as waiting};
+ghost use Rattle.posix_defs.specs.Pipe.{capacity};
 ghost use Rattle.posix_defs.specs.QueuePlace.{chunks_of, after_put};
 ghost use Rattle.posix_defs.specs.Socket.{Socket, peer_of, is_shut_read};
-ghost use Rattle.posix_defs.specs.Sockets.{Sockets, stage_at, sock_write as plain_write, write_to as plain_write_to, write_within, after_write, sent_to};
+ghost use Rattle.posix_defs.specs.Sockets.{Sockets, socket_at, stage_at, sock_write as plain_write, write_to as plain_write_to, after_write, sent_to};
 ghost use Rattle.chunk_queue.specs.Chained.{PaysChunks};
-ghost use Rattle.chunk_queue.specs.Moving.{moving_of, moved_by};
+ghost use Rattle.chunk_queue.specs.Moving.{moving_of, moved_by, UnlessMoved, would_wait};
 ghost use Rattle.usock_core.specs.Standing.{IsHeldIn, IsShape, IsTable, StandsFor, IsSocketIn, queue_at, OtherQueuesStay, LeavesOthers};
 ghost use Rattle.usock_core.specs.Steps.{Sends};
 
-use crate::CAPACITY;
-use crate::steps::{not_now, put_in};
-use chunk_queue::Moved;
+use crate::steps::put_in;
+use chunk_queue::{Moved, fitting, room_in};
 use kabi_types::Errno;
 use kheap_shelves::{Purse, Sock, SockState};
 use kheap_slabs::KHeap;
@@ -45,6 +44,7 @@ pub fn sock_write(
     ensures paid { IsPaid heap.old purse.old heap.new purse.new }
     ensures pays { CanPay heap.new purse.new }
     ensures purse { PaysChunks purse.old purse.new }
+    ensures refused { UnlessMoved result ((heap.new ≡ heap.old) × (purse.new ≡ purse.old)) }
 {
     let sock = *heap.get_sock(key);
     let SockState::Connected { shut_write, .. } = sock.state else {
@@ -54,6 +54,32 @@ pub fn sock_write(
         Some(peer) if !shut_write => write_to(heap, purse, peer, nonblock, bytes),
         _ => Moved::Fault(Errno::EPIPE),
     }
+}
+
+/// Whether a write to a socket, of which so many bytes are left, would have to wait: it writes still, its peer is there and
+/// reads still but has no room, and the writer waits.
+pub fn sock_write_waits(heap: &KHeap, key: u32, nonblock: bool, left: u32) -> bool
+    requires { IsSocketIn heap.now key }
+    ensures { (sockets : Sockets) → StandsFor heap.now sockets
+        → result ≡ would_wait (plain_write sockets key nonblock left) }
+{
+    let sock = heap.get_sock(key);
+    match (sock.state, sock.peer) {
+        (SockState::Connected { shut_write, .. }, Some(peer)) => {
+            !shut_write && peer_waits(heap.get_sock(peer), nonblock, left)
+        }
+        _ => false,
+    }
+}
+
+// Whether a write of so many bytes to this peer would have to wait.
+fn peer_waits(peer: &Sock, nonblock: bool, left: u32) -> bool
+    requires { peer.now.queue.len ≤ capacity }
+    ensures { (sockets : Sockets) (key : ℕ) → IsShape peer.now (socket_at sockets key)
+        → peer.now.queue.len ≡ length (socket_at sockets key).bytes
+        → result ≡ would_wait (plain_write_to sockets (Some key) nonblock left) }
+{
+    !reads_no_more(peer) && fitting(left as usize, room_in(&peer.queue)).is_none() && !nonblock
 }
 
 // Writes bytes to a peer that is there.
@@ -72,17 +98,18 @@ fn write_to(heap: &mut KHeap, purse: &mut Purse, peer: u32, nonblock: bool, byte
     ensures paid { IsPaid heap.old purse.old heap.new purse.new }
     ensures pays { CanPay heap.new purse.new }
     ensures purse { PaysChunks purse.old purse.new }
+    ensures refused { UnlessMoved result ((heap.new ≡ heap.old) × (purse.new ≡ purse.old)) }
 {
     let receiver = *heap.get_sock(peer);
     if reads_no_more(&receiver) {
         return Moved::Fault(Errno::EPIPE);
     }
-    match fitting(bytes.len(), (CAPACITY - receiver.queue.len) as usize) {
+    match fitting(bytes.len(), room_in(&receiver.queue)) {
         Some(count) => {
-            put_in(heap, purse, peer, receiver, &bytes[..count]);
-            Moved::Bytes(count as u32)
+            put_in(heap, purse, peer, receiver, &bytes[..count as usize]);
+            Moved::Bytes(count)
         }
-        None => not_now(nonblock),
+        None => Moved::not_now(nonblock),
     }
 }
 
@@ -93,20 +120,5 @@ fn reads_no_more(sock: &Sock) -> bool
     match sock.state {
         SockState::Connected { shut_read, .. } => shut_read,
         SockState::Idle | SockState::Listening => false,
-    }
-}
-
-// How many of so many bytes go into this room; None where none can go yet.
-fn fitting(wanted: usize, free: usize) -> Option<usize>
-    ensures answer { (nonblock : Bool) → MatchOption result (write_within free nonblock wanted ≡ waiting nonblock)
-        (λ count. write_within free nonblock wanted ≡ Moves count) }
-    ensures within { IfSome result (λ count. (count ≤ wanted) × (count ≤ free)) }
-{
-    if wanted <= free {
-        Some(wanted)
-    } else if free == 0 {
-        None
-    } else {
-        Some(free)
     }
 }

@@ -1,6 +1,6 @@
 use Rattle.std.proofs.Common.{refl, arith}
 use Rattle.kheap_laws.proofs.PaidLemmas.{IsPaid-trans, IsPaid-nothing, CanPay-kept}
-use Rattle.usock_core.proofs.ConnectLemmas.{listener_used, listens_still, room_at, in_words, taken_at, backlog_of, idle_now, connected_stands}
+use Rattle.usock_core.proofs.ConnectLemmas.{listener_used, listens_still, room_at, in_words, taken_at, backlog_of, idle_now, connected_stands, made_used}
 use Rattle.posix_defs.specs.Sockets.{Sockets, after_connect}
 use Rattle.usock_core.specs.Standing.{StandsFor}
 use Rattle.usock_core.proofs.HeldLemmas.{held_connected}
@@ -43,6 +43,8 @@ returns-clause-connected c =
     rw c.in-Some.is (record {
       made = c.add-made.result;
       vacant = c.add-made.ensures.comes.vacant;
+      used = made_used c.args.heap.now c.add-made.new.heap c.replace.new.heap c.replace-2.new.heap c.args.key c.in-Some.listener c.add-made.result c.connected_to.result c.add-made.ensures.comes.vacant c.requires.idle.used
+          (listener_used c.args.heap.now c.in-Some.listener (c.requires.listens c.in-Some.listener c.in-Some.is)) c.add-made.ensures.comes.stored c.replace.ensures.becomes.kept c.replace-2.ensures.becomes.kept;
       stands = stands_after c;
     })
 
