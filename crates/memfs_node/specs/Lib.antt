@@ -1,0 +1,3 @@
+pub mod NodeOnDisk
+pub mod Slots
+pub mod Dots

@@ -1,0 +1,19 @@
+-- A block of the table: 16 slots, each with an inode.
+use Rattle.std.specs.Prelude.{ℕ, ◌<◌, ◌≡◌, List}
+use Rattle.kabi_values.specs.declared.inodes.Inode.{Inode}
+use Rattle.posix_defs.specs.DiskFormat.{inodes_in_block, IsInode, inode_bytes}
+use Rattle.posix_defs.specs.SoundDisk.{slot_bytes}
+
+-- a slot has this inode
+pub record HasSlot (blocks : ℕ) (block : List ℕ) (slot : ℕ) (inode : Inode) : Type 0 where
+  pub within : slot < inodes_in_block
+  pub valid : IsInode blocks inode
+  pub bytes : slot_bytes block slot ≡ inode_bytes inode
+
+-- each slot has an inode
+abbrev pub IsTableBlock : ℕ → List ℕ → Type 0
+IsTableBlock blocks block = (slot : ℕ) → slot < inodes_in_block → (inode : Inode) × HasSlot blocks block slot inode
+
+-- a slot has that of a free node
+abbrev pub IsFreeSlot : ℕ → List ℕ → ℕ → Type 0
+IsFreeSlot blocks block slot = (inode : Inode) × HasSlot blocks block slot inode × (inode.kind ≡ 0)
