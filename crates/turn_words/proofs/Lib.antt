@@ -1,0 +1,12 @@
+mod Counts
+mod Ends
+mod Held
+mod Joining
+mod Keeps
+mod Lists
+mod Merging
+mod Notes
+mod Seated
+mod Tickets
+mod Turning
+mod Views
