@@ -1,5 +1,7 @@
-mod Pairs
-mod Sides
-mod Links
-mod Chained
-mod Kept
+pub mod Chained
+pub mod Kept
+pub mod Links
+pub mod Pairs
+pub mod Placed
+pub mod Sides
+pub mod Table

@@ -1,59 +1,72 @@
--- When a chain stands for pairs of a key and a slot, the coldest first.
-use Rattle.std.specs.Prelude.{◌≡◌, ℕ, zero, suc, Bool, false, List, [], ◌∷◌, Option, Some, None}
-use Rattle.std.specs.Option.{option_map_or}
+-- When a chain stands for items at places, the coldest first.
+use Rattle.std.specs.Prelude.{◌≡◌, ℕ, zero, suc, Bool, false, List, [], ◌∷◌, Option, Some, None, nat_eq, slice_index_or}
+use Rattle.std.specs.Option.{option_map, option_map_or}
 use Rattle.std.specs.List.{IsDistinct}
 use Rattle.std.specs.Map.{keys_of, lookup}
-use Rattle.lru_index.specs.declared.chain.Use.{Use}
+use Rattle.lru_index.specs.declared.chain.Link.{Link}
 use Rattle.lru_index.specs.declared.chain.Chain.{Chain}
 
-module _ {K : Type 0} where
-  abbrev pub use_of : ℕ → Option K → Option K → Use K
-  use_of slot colder warmer = record { slot = slot; colder = colder; warmer = warmer }
+-- whether a place is the one that is given
+abbrev pub hits : Option ℕ → ℕ → Bool
+hits None other = false
+hits (Some place) other = nat_eq place other
 
-  abbrev pub with_warmer : Option K → Use K → Use K
-  with_warmer warmer u = use_of u.slot u.colder warmer
+-- an end of the chain, after the link of a place, or of no place, was set
+abbrev pub end_after : Option ℕ → Option ℕ → Option ℕ → Option ℕ
+end_after None to end = to
+end_after (Some place) to end = end
 
-  abbrev pub with_colder : Option K → Use K → Use K
-  with_colder colder u = use_of u.slot colder u.warmer
+module _ {T : Type 0} where
+  abbrev pub link_of : T → Option ℕ → Option ℕ → Link T
+  link_of item colder warmer = record { item = item; colder = colder; warmer = warmer }
 
-  -- whether a key is the one that is given
-  abbrev pub hits : (K → K → Bool) → Option K → K → Bool
-  hits eq None other = false
-  hits eq (Some key) other = eq key other
+  abbrev pub with_warmer : Option ℕ → Link T → Link T
+  with_warmer warmer link = link_of link.item link.colder warmer
 
-  -- an end of the chain, after the link of a key, or of no key, was set
-  abbrev pub end_after : Option K → Option K → Option K → Option K
-  end_after None to end = to
-  end_after (Some key) to end = end
+  abbrev pub with_colder : Option ℕ → Link T → Link T
+  with_colder colder link = link_of link.item colder link.warmer
 
-  -- the first key of pairs, or what comes after them
-  abbrev pub first_or : Option K → List (K × ℕ) → Option K
+  -- what a table has at a place
+  abbrev pub link_at : List (Option (Link T)) → ℕ → Option (Link T)
+  link_at links place = slice_index_or links place None
+
+  -- the item that a table has at a place
+  abbrev pub item_at : List (Option (Link T)) → ℕ → Option T
+  item_at links place = option_map (λ link. link.item) (link_at links place)
+
+  -- the first of items
+  abbrev pub first_item : List (ℕ × T) → Option T
+  first_item [] = None
+  first_item (p ∷ ps) = Some p.1
+
+  -- the first place of items, or what comes after them
+  abbrev pub first_or : Option ℕ → List (ℕ × T) → Option ℕ
   first_or after [] = after
   first_or after (p ∷ ps) = Some p.0
 
-  -- the last key of pairs, or what comes before them
-  abbrev pub last_or : Option K → List (K × ℕ) → Option K
+  -- the last place of items, or what comes before them
+  abbrev pub last_or : Option ℕ → List (ℕ × T) → Option ℕ
   last_or before [] = before
   last_or before (p ∷ ps) = last_or (Some p.0) ps
 
-  -- Each key is kept with its slot and its neighbours, of which the outer ones are given.
-  abbrev pub AreLinked : (K → Option (Use K)) → Option K → List (K × ℕ) → Option K → Type 0
+  -- Each place has its item and its neighbours, of which the outer ones are given.
+  abbrev pub AreLinked : (ℕ → Option (Link T)) → Option ℕ → List (ℕ × T) → Option ℕ → Type 0
   AreLinked kept before [] after = Unit {0}
-  AreLinked kept before (p ∷ ps) after = (kept p.0 ≡ Some (use_of p.1 before (first_or after ps))) × AreLinked kept (Some p.0) ps after
+  AreLinked kept before (p ∷ ps) after = (kept p.0 ≡ Some (link_of p.1 before (first_or after ps))) × AreLinked kept (Some p.0) ps after
 
-  -- The pairs are linked from end to end, and no other key is kept.
-  pub record IsChain (eq : K → K → Bool) (chain : Chain K) (pairs : List (K × ℕ)) : Type 0 where
-    pub linked : AreLinked (λ key. lookup (eq key) chain.uses) None pairs None
-    pub coldest : chain.coldest ≡ first_or None pairs
-    pub warmest : chain.warmest ≡ last_or None pairs
-    pub distinct : IsDistinct eq (keys_of pairs)
-    pub others : (key : K) → lookup (eq key) pairs ≡ None → lookup (eq key) chain.uses ≡ None
+  -- The items are linked from end to end, no two at one place, and no other place is in use.
+  pub record IsChain (chain : Chain T) (items : List (ℕ × T)) : Type 0 where
+    pub linked : AreLinked (link_at chain.links.items) None items None
+    pub coldest : chain.coldest ≡ first_or None items
+    pub warmest : chain.warmest ≡ last_or None items
+    pub distinct : IsDistinct nat_eq (keys_of items)
+    pub others : (place : ℕ) → lookup (nat_eq place) items ≡ None → link_at chain.links.items place ≡ None
 
-  -- the pairs from a key on, along the links to warmer keys, and no more than so many
-  abbrev pub walk : (K → Option (Use K)) → ℕ → Option K → List (K × ℕ)
+  -- the items from a place on, along the links to warmer ones, and no more than so many
+  abbrev pub walk : (ℕ → Option (Link T)) → ℕ → Option ℕ → List (ℕ × T)
   walk kept zero from = []
-  walk kept (suc n) from = option_map_or (λ key. option_map_or (λ u. (key, u.slot) ∷ walk kept n u.warmer) (kept key) []) from []
+  walk kept (suc n) from = option_map_or (λ place. option_map_or (λ link. (place, link.item) ∷ walk kept n link.warmer) (kept place) []) from []
 
-  -- the pairs of a chain that has no more than so many
-  abbrev pub pairs_of : (K → K → Bool) → Chain K → ℕ → List (K × ℕ)
-  pairs_of eq chain most = walk (λ key. lookup (eq key) chain.uses) most chain.coldest
+  -- the items of a chain that has no more than so many
+  abbrev pub items_of : Chain T → ℕ → List (ℕ × T)
+  items_of chain most = walk (link_at chain.links.items) most chain.coldest

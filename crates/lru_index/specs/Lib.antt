@@ -4,4 +4,5 @@ pub mod Keys
 pub mod NameKeys
 pub mod Order
 pub mod Sorted
+pub mod Spares
 pub mod Tree

@@ -17,20 +17,21 @@ module _ {K : Type 0} where
     pub distinct : IsDistinct eq (keys_of o.pairs)
     pub within : length o.pairs ≤ o.capacity
 
+module _ {K V : Type 0} where
   -- the pair whose key passes stands last, and the others as before
-  abbrev pub touched : (K → Bool) → List (K × ℕ) → List (K × ℕ)
+  abbrev pub touched : (K → Bool) → List (K × V) → List (K × V)
   touched test pairs = remove_entry test pairs ++ option_to_list (lookup_entry test pairs)
 
   -- the pairs that are warmer than the one whose key passes
-  abbrev pub warmer : (K → Bool) → List (K × ℕ) → List (K × ℕ)
+  abbrev pub warmer : (K → Bool) → List (K × V) → List (K × V)
   warmer test [] = []
   warmer test (p ∷ pairs) = cond (test p.0) pairs (warmer test pairs)
 
   -- the key of the coldest pair
-  abbrev pub first_key : List (K × ℕ) → Option K
+  abbrev pub first_key : List (K × V) → Option K
   first_key [] = None
   first_key (p ∷ pairs) = Some p.0
 
   -- the coldest key of all, or of those warmer than a given one
-  abbrev pub coldest_of : (K → K → Bool) → Option K → List (K × ℕ) → Option K
+  abbrev pub coldest_of : (K → K → Bool) → Option K → List (K × V) → Option K
   coldest_of eq after pairs = first_key (option_map_or (λ key. warmer (eq key) pairs) after pairs)

@@ -1,169 +1,201 @@
-//! The order of use, as a chain through a tree: each key is kept with its slot, and with the keys
-//! that stand beside it.
+//! A chain of items, the coldest first: a table that has at each place in use an item, with the
+//! places that stand beside it in the chain.
 //!
-//! Each call goes through the tree a few times, and never along the chain.
-ghost use Rattle.std.specs.Prelude.{◌≡◌, ℕ, List, [], ◌∷◌, ◌++◌, None, Some, Option, IsSome, cond, length};
-ghost use Rattle.std.specs.Option.{option_map};
-ghost use Rattle.std.specs.Map.{keys_of, lookup, remove_entry};
-ghost use Rattle.lru_index.specs.Sorted.{IsSorted};
-ghost use Rattle.lru_index.specs.Chain.{IsChain, hits, end_after, with_warmer, with_colder};
-ghost use Rattle.lru_index.specs.Order.{coldest_of, first_key, warmer};
+//! Each call reads and writes a few places of the table, and never goes along the chain.
+ghost use Rattle.std.specs.Prelude.{◌≡◌, ℕ, ◌<◌, List, [], ◌∷◌, ◌++◌, None, Some, Option, IfOk, IsSome, cond, length, nat_eq, slice_set, vec_len};
+ghost use Rattle.std.specs.Option.{option_map, option_and_then};
+ghost use Rattle.std.specs.Map.{lookup, remove_entry};
+ghost use Rattle.lru_index.specs.Chain.{IsChain, link_at, item_at, first_item, hits, end_after, with_warmer, with_colder};
+ghost use Rattle.lru_index.specs.Order.{touched, warmer};
 
-use crate::Key;
-#[cfg(test)]
-use crate::tree::Shape;
-use crate::tree::{Leaves, Tree};
+use kabi_types::Memory;
+use std::alloc::Global;
 
-/// The slot of a key, and the keys that were used just before it and just after it.
+/// An item, and the places of those that were used just before it and just after it.
 #[derive(Clone, Copy)]
-pub struct Use<K: Key> {
-    pub slot: u32,
-    pub colder: Option<K>,
-    pub warmer: Option<K>,
+pub struct Link<T: Copy> {
+    pub item: T,
+    pub colder: Option<u32>,
+    pub warmer: Option<u32>,
 }
 
-/// The keys with their uses, and the two ends of the chain.
+/// The links by their places, and the places of the two ends of the chain.
 #[derive(Drop)]
-pub struct Chain<K: Key> {
-    uses: Tree<K, Use<K>>,
-    coldest: Option<K>,
-    warmest: Option<K>,
+pub struct Chain<T: Copy> {
+    links: Vec<Option<Link<T>>>,
+    coldest: Option<u32>,
+    warmest: Option<u32>,
 }
 
-impl<K: Key> Chain<K> {
-    /// A chain with no key.
-    pub fn new() -> Chain<K>
-        ensures sorted { IsSorted K.cmp (keys_of result.uses) }
-        ensures empty { IsChain K.eq result [] }
+impl<T: Copy> Chain<T> {
+    /// A chain with no item, and so many places.
+    pub fn boot(alloc: Global, places: u32) -> Result<Chain<T>, Memory>
+        ensures empty { IfOk result (λ chain. IsChain chain []) }
+        ensures places { IfOk result (λ chain. vec_len chain.links ≡ places) }
     {
-        Chain {
-            uses: Tree::leaf(),
+        let mut links = Vec::with_capacity(alloc, places as usize)?;
+        for _ in 0..places {
+            links.push_reserved(None);
+        }
+        Ok(Chain {
+            links,
             coldest: None,
             warmest: None,
-        }
+        })
     }
 
-    /// The slot of a key, or None where it is absent.
-    pub fn slot(&self, key: K) -> Option<u32>
-        requires sorted { IsSorted K.cmp (keys_of self.now.uses) }
-        ensures { (pairs : List (K × ℕ)) → IsChain K.eq self.now pairs
-            → result ≡ lookup (K.eq key) pairs }
+    /// The item of a place, or None where it is free.
+    pub fn item(&self, place: u32) -> Option<T>
+        ensures { (items : List (ℕ × T)) → IsChain self.now items
+            → result ≡ lookup (nat_eq place) items }
     {
-        match self.uses.get(key) {
-            Some(entry) => Some(entry.slot),
+        match self.link(place) {
+            Some(link) => Some(link.item),
             None => None,
         }
     }
 
-    /// The coldest key, or the one that was used just after a key.
-    pub fn coldest(&self, after: Option<K>) -> Option<K>
-        requires sorted { IsSorted K.cmp (keys_of self.now.uses) }
-        ensures { (pairs : List (K × ℕ)) → IsChain K.eq self.now pairs
-            → result ≡ coldest_of K.eq after pairs }
+    /// The coldest item.
+    pub fn coldest(&self) -> Option<T>
+        ensures { (items : List (ℕ × T)) → IsChain self.now items → result ≡ first_item items }
     {
-        match after {
-            None => self.coldest,
-            Some(key) => self.warmer(key),
-        }
+        self.item_of(self.coldest)
     }
 
-    /// The key that was used just after another, if there is one.
-    fn warmer(&self, key: K) -> Option<K>
-        requires sorted { IsSorted K.cmp (keys_of self.now.uses) }
-        ensures { (pairs : List (K × ℕ)) → IsChain K.eq self.now pairs
-            → result ≡ first_key (warmer (K.eq key) pairs) }
+    /// The item that was used just after that of a place, if there is one.
+    pub fn warmer(&self, place: u32) -> Option<T>
+        ensures { (items : List (ℕ × T)) → IsChain self.now items
+            → result ≡ first_item (warmer (nat_eq place) items) }
     {
-        match self.uses.get(key) {
-            Some(entry) => entry.warmer,
+        match self.link(place) {
+            Some(link) => self.item_of(link.warmer),
             None => None,
         }
     }
 
-    /// Adds an absent key at the warm end.
-    pub fn add(&mut self, key: K, slot: u32, leaves: Leaves<K, Use<K>>)
-        requires sorted { IsSorted K.cmp (keys_of self.old.uses) }
-        requires absent { lookup (K.eq key) self.old.uses ≡ None }
-        requires left { leaves.left.value ≡ [] }
-        requires right { leaves.right.value ≡ [] }
-        ensures sorted { IsSorted K.cmp (keys_of self.new.uses) }
-        ensures added { (pairs : List (K × ℕ)) → IsChain K.eq self.old pairs
-            → IsChain K.eq self.new (pairs ++ (key, slot) ∷ []) }
+    // The item of a place that may be given.
+    fn item_of(&self, place: Option<u32>) -> Option<T>
+        ensures { result ≡ option_and_then (item_at self.now.links.items) place }
+    {
+        match place {
+            Some(place) => match self.link(place) {
+                Some(link) => Some(link.item),
+                None => None,
+            },
+            None => None,
+        }
+    }
+
+    /// Puts an item at a free place, at the warm end.
+    pub fn add(&mut self, place: u32, item: T)
+        requires within { place < vec_len self.old.links }
+        requires free { link_at self.old.links.items place ≡ None }
+        ensures added { (items : List (ℕ × T)) → IsChain self.old items
+            → IsChain self.new (items ++ (place, item) ∷ []) }
+        ensures places { vec_len self.new.links ≡ vec_len self.old.links }
     {
         let colder = self.warmest;
-        self.set_warmer(colder, Some(key));
-        let last = Use {
-            slot,
+        self.set_warmer(colder, Some(place));
+        let last = Link {
+            item,
             colder,
             warmer: None,
         };
-        self.uses.put(key, last, leaves);
-        self.warmest = Some(key);
+        self.set_link(place, Some(last));
+        self.warmest = Some(place);
     }
 
-    /// Takes a key that is there out, and answers its slot and the leaves that are left over.
-    pub fn remove(&mut self, key: K) -> (u32, Leaves<K, Use<K>>)
-        requires sorted { IsSorted K.cmp (keys_of self.old.uses) }
-        requires there { IsSome (lookup (K.eq key) self.old.uses) }
-        ensures sorted { IsSorted K.cmp (keys_of self.new.uses) }
-        ensures slot { (pairs : List (K × ℕ)) → IsChain K.eq self.old pairs
-            → lookup (K.eq key) pairs ≡ Some result.0 }
-        ensures removed { (pairs : List (K × ℕ)) → IsChain K.eq self.old pairs
-            → IsChain K.eq self.new (remove_entry (K.eq key) pairs) }
-        ensures left { result.1.left.value ≡ [] }
-        ensures right { result.1.right.value ≡ [] }
+    /// Takes the item of a place in use out; the place is free from then on.
+    pub fn remove(&mut self, place: u32) -> T
+        requires there { IsSome (link_at self.old.links.items place) }
+        ensures item { (items : List (ℕ × T)) → IsChain self.old items
+            → lookup (nat_eq place) items ≡ Some result }
+        ensures removed { (items : List (ℕ × T)) → IsChain self.old items
+            → IsChain self.new (remove_entry (nat_eq place) items) }
+        ensures places { vec_len self.new.links ≡ vec_len self.old.links }
+        ensures free { link_at self.new.links.items place ≡ None }
     {
-        let taken = self.uses.take(key);
-        let gone = taken.value;
+        let Some(gone) = self.link(place) else {
+            unreachable!()
+        };
+        self.set_link(place, None);
         self.set_warmer(gone.colder, gone.warmer);
         self.set_colder(gone.warmer, gone.colder);
-        (gone.slot, taken.leaves)
+        gone.item
     }
 
-    /// The shape of the tree.
-    #[cfg(test)]
-    pub fn shape(&self) -> Option<Shape> {
-        self.uses.shape()
-    }
-
-    /// Links a key to what is used just after it, or names the coldest where no key is given.
-    fn set_warmer(&mut self, of: Option<K>, to: Option<K>)
-        requires sorted { IsSorted K.cmp (keys_of self.old.uses) }
-        ensures sorted { IsSorted K.cmp (keys_of self.new.uses) }
-        ensures uses { (other : K)
-            → lookup (K.eq other) self.new.uses ≡ cond (hits K.eq of other)
-            (option_map (with_warmer to) (lookup (K.eq other) self.old.uses))
-            (lookup (K.eq other) self.old.uses) }
-        ensures coldest { self.new.coldest ≡ end_after of to self.old.coldest }
-        ensures warmest { self.new.warmest ≡ self.old.warmest }
+    /// Moves the item of a place in use to the warm end, and answers it.
+    pub fn warm(&mut self, place: u32) -> T
+        requires there { IsSome (link_at self.old.links.items place) }
+        ensures item { (items : List (ℕ × T)) → IsChain self.old items
+            → lookup (nat_eq place) items ≡ Some result }
+        ensures warmed { (items : List (ℕ × T)) → IsChain self.old items
+            → IsChain self.new (touched (nat_eq place) items) }
+        ensures places { vec_len self.new.links ≡ vec_len self.old.links }
     {
-        let Some(key) = of else {
-            self.coldest = to;
-            return;
-        };
-        if let Some(mut linked) = self.uses.get(key) {
-            linked.warmer = to;
-            self.uses.set(key, linked);
+        let item = self.remove(place);
+        self.add(place, item);
+        item
+    }
+
+    /// What stands at a place.
+    fn link(&self, place: u32) -> Option<Link<T>>
+        ensures value { result ≡ link_at self.now.links.items place }
+        ensures within { IsSome result → place < vec_len self.now.links }
+    {
+        match self.links.get(place as usize) {
+            Some(link) => *link,
+            None => None,
         }
     }
 
-    /// Links a key to what is used just before it, or names the warmest where no key is given.
-    fn set_colder(&mut self, of: Option<K>, to: Option<K>)
-        requires sorted { IsSorted K.cmp (keys_of self.old.uses) }
-        ensures sorted { IsSorted K.cmp (keys_of self.new.uses) }
-        ensures uses { (other : K)
-            → lookup (K.eq other) self.new.uses ≡ cond (hits K.eq of other)
-            (option_map (with_colder to) (lookup (K.eq other) self.old.uses))
-            (lookup (K.eq other) self.old.uses) }
+    fn set_link(&mut self, place: u32, link: Option<Link<T>>)
+        requires { place < vec_len self.old.links }
+        ensures links { self.new.links.items ≡ slice_set self.old.links.items place link }
+        ensures places { vec_len self.new.links ≡ vec_len self.old.links }
+        ensures coldest { self.new.coldest ≡ self.old.coldest }
+        ensures warmest { self.new.warmest ≡ self.old.warmest }
+    {
+        self.links[place as usize] = link;
+    }
+
+    /// Links a place to what is used just after it, or names the coldest where no place is given.
+    fn set_warmer(&mut self, of: Option<u32>, to: Option<u32>)
+        ensures links { (other : ℕ)
+            → link_at self.new.links.items other ≡ cond (hits of other)
+            (option_map (with_warmer to) (link_at self.old.links.items other))
+            (link_at self.old.links.items other) }
+        ensures places { vec_len self.new.links ≡ vec_len self.old.links }
+        ensures coldest { self.new.coldest ≡ end_after of to self.old.coldest }
+        ensures warmest { self.new.warmest ≡ self.old.warmest }
+    {
+        let Some(place) = of else {
+            self.coldest = to;
+            return;
+        };
+        if let Some(mut linked) = self.link(place) {
+            linked.warmer = to;
+            self.set_link(place, Some(linked));
+        }
+    }
+
+    /// Links a place to what is used just before it, or names the warmest where no place is given.
+    fn set_colder(&mut self, of: Option<u32>, to: Option<u32>)
+        ensures links { (other : ℕ)
+            → link_at self.new.links.items other ≡ cond (hits of other)
+            (option_map (with_colder to) (link_at self.old.links.items other))
+            (link_at self.old.links.items other) }
+        ensures places { vec_len self.new.links ≡ vec_len self.old.links }
         ensures coldest { self.new.coldest ≡ self.old.coldest }
         ensures warmest { self.new.warmest ≡ end_after of to self.old.warmest }
     {
-        let Some(key) = of else {
+        let Some(place) = of else {
             self.warmest = to;
             return;
         };
-        if let Some(mut linked) = self.uses.get(key) {
+        if let Some(mut linked) = self.link(place) {
             linked.colder = to;
-            self.uses.set(key, linked);
+            self.set_link(place, Some(linked));
         }
     }
 }

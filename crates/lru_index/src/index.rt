@@ -1,27 +1,28 @@
 //! `Index` and its calls. A clause sees an index as its `pairs`, the coldest first, and its
 //! `capacity`.
-ghost use Rattle.std.specs.Prelude.{◌≡◌, ◌<◌, [], ◌∷◌, ◌++◌, length, Some, None, IfOk, IfSome, IsSome, cond, vec_capacity};
+ghost use Rattle.std.specs.Prelude.{◌≡◌, ◌<◌, [], ◌∷◌, ◌++◌, length, Some, None, IfOk, IfSome, IsSome, cond};
 ghost use Rattle.std.specs.Bool.{MatchBool};
-ghost use Rattle.std.specs.Option.{ForSome};
-ghost use Rattle.std.specs.List.{AllByRecursion};
+ghost use Rattle.std.specs.Option.{ForSome, option_map};
 ghost use Rattle.std.specs.Map.{lookup, remove_entry};
 ghost use Rattle.lru_index.specs.Order.{order, IsOrder, touched, coldest_of};
-ghost use Rattle.lru_index.specs.Index.{AreLeaves};
 
 use crate::Key;
-use crate::chain::{Chain, Use};
+use crate::chain::Chain;
+use crate::spares::{Spare, spares_for};
 #[cfg(test)]
 use crate::tree::Shape;
-use crate::tree::{Leaves, Tree};
+use crate::tree::Tree;
 use kabi_types::Memory;
 use std::alloc::Global;
 use std::marker::Model;
 
 /// Keys with their slots, in the order of their last use.
 pub struct Index<K: Key> {
-    chain: Chain<K>,
-    // Leaves for each pair that there is still room for. Nothing is allocated after they are.
-    spare: Vec<Leaves<K, Use<K>>>,
+    // The place of each key in the chain.
+    places: Tree<K, u32>,
+    chain: Chain<(K, u32)>,
+    // What each pair will take that there is still room for. Nothing is allocated after it is.
+    spare: Vec<Spare<K>>,
 }
 
 impl<K: Key> Model for Index<K> {
@@ -30,18 +31,25 @@ impl<K: Key> Model for Index<K> {
 
     ghost Value = { Order K };
 
-    ghost use Rattle.lru_index.specs.Chain.{pairs_of};
-    ghost use Rattle.lru_index.specs.Index.{IsIndex};
+    ghost use Rattle.lru_index.specs.Chain.{items_of};
+    ghost use Rattle.lru_index.specs.Index.{IsIndex, pairs_in};
 
-    ghost view = { λ index. order (pairs_of K.eq index.chain (vec_capacity index.spare)) (vec_capacity index.spare) };
+    ghost view = { λ index.
+        order (pairs_in (items_of index.chain (vec_capacity index.spare)))
+        (vec_capacity index.spare) };
 
-    ghost invariant = { λ index. IsIndex K.eq K.cmp index.chain index.spare.items (vec_capacity index.spare) };
+    ghost invariant = { λ index.
+        IsIndex K.eq K.cmp index.places index.chain index.spare.items (vec_capacity index.spare) };
 }
 
 // By hand, so that a caller sees one call and not the trees.
 impl<K: Key> Drop for Index<K> {
     fn drop(self) {
-        let Index { chain: _, spare: _ } = self;
+        let Index {
+            places: _,
+            chain: _,
+            spare: _,
+        } = self;
     }
 }
 
@@ -50,9 +58,11 @@ impl<K: Key> Index<K> {
     pub fn boot(alloc: Global, capacity: u32) -> Result<Index<K>, Memory>
         ensures empty { IfOk result (λ index. index ≡ order [] capacity) }
     {
-        let spare = spare_leaves(alloc, capacity)?;
+        let chain = Chain::boot(alloc, capacity)?;
+        let spare = spares_for(alloc, capacity)?;
         Ok(Index {
-            chain: Chain::new(),
+            places: Tree::leaf(),
+            chain,
             spare,
         })
     }
@@ -70,7 +80,25 @@ impl<K: Key> Index<K> {
         ensures slot { result ≡ lookup (K.eq key) self.now.pairs }
         ensures valid { IsOrder K.eq self.now }
     {
-        self.chain.slot(key)
+        match self.places.get(key) {
+            Some(place) => slot_in(self.chain.item(place)),
+            None => None,
+        }
+    }
+
+    /// The slot of a key, which is the warmest from then on; None where it is absent. The same as
+    /// `find` and then `touch`, at the cost of one of them.
+    pub fn used(&mut self, key: K) -> Option<u32>
+        ensures slot { result ≡ lookup (K.eq key) self.old.pairs }
+        ensures pairs { self.new ≡ order (touched (K.eq key) self.old.pairs) self.old.capacity }
+        ensures finds { (other : K)
+            → lookup (K.eq other) self.new.pairs ≡ lookup (K.eq other) self.old.pairs }
+        ensures valid { IsOrder K.eq self.new }
+    {
+        match self.places.get(key) {
+            Some(place) => Some(self.chain.warm(place).1),
+            None => None,
+        }
     }
 
     /// Makes a key that is there the warmest.
@@ -81,8 +109,7 @@ impl<K: Key> Index<K> {
             → lookup (K.eq other) self.new.pairs ≡ lookup (K.eq other) self.old.pairs }
         ensures valid { IsOrder K.eq self.new }
     {
-        let slot = self.drop_key(key);
-        self.put(key, slot);
+        let _slot = self.used(key);
     }
 
     /// Takes a key that is there out, and answers its slot.
@@ -97,9 +124,13 @@ impl<K: Key> Index<K> {
         ensures room { length self.new.pairs < self.new.capacity }
         ensures valid { IsOrder K.eq self.new }
     {
-        let (slot, leaves) = self.chain.remove(key);
-        self.spare.push_reserved(leaves);
-        slot
+        let taken = self.places.take(key);
+        let pair = self.chain.remove(taken.value);
+        self.spare.push_reserved(Spare {
+            place: taken.value,
+            leaves: taken.leaves,
+        });
+        pair.1
     }
 
     /// Adds an absent key with its slot as the warmest. There is room for it.
@@ -112,16 +143,17 @@ impl<K: Key> Index<K> {
             (lookup (K.eq other) self.old.pairs) }
         ensures valid { IsOrder K.eq self.new }
     {
-        let Some(leaves) = self.spare.pop() else {
+        let Some(spare) = self.spare.pop() else {
             unreachable!()
         };
-        self.chain.add(key, slot, leaves);
+        self.places.put(key, spare.place, spare.leaves);
+        self.chain.add(spare.place, (key, slot));
     }
 
     /// The shape of the tree.
     #[cfg(test)]
     pub fn shape(&self) -> Option<Shape> {
-        self.chain.shape()
+        self.places.shape()
     }
 
     /// The coldest key, or the coldest of those warmer than a key that is there; None where there
@@ -132,21 +164,32 @@ impl<K: Key> Index<K> {
         ensures is_there { IfSome result (λ key. IsSome (lookup (K.eq key) self.now.pairs)) }
         ensures valid { IsOrder K.eq self.now }
     {
-        self.chain.coldest(after)
+        match after {
+            None => key_in(self.chain.coldest()),
+            Some(key) => match self.places.get(key) {
+                Some(place) => key_in(self.chain.warmer(place)),
+                None => None,
+            },
+        }
     }
 }
 
-/// Leaves for so many pairs.
-fn spare_leaves<K: Key>(alloc: Global, capacity: u32) -> Result<Vec<Leaves<K, Use<K>>>, Memory>
-    ensures length { IfOk result (λ spare. length spare.items ≡ capacity) }
-    ensures capacity { IfOk result (λ spare. vec_capacity spare ≡ capacity) }
-    ensures leaves { IfOk result (λ spare. AllByRecursion AreLeaves spare.items) }
+/// The key of a pair that may be there.
+fn key_in<K: Key>(pair: Option<(K, u32)>) -> Option<K>
+    ensures { result ≡ option_map (λ pair. pair.0) pair }
 {
-    let mut spare = Vec::with_capacity(alloc, capacity as usize)?;
-    for _ in 0..capacity {
-        let left = Box::new(alloc, Tree::leaf())?;
-        let right = Box::new(alloc, Tree::leaf())?;
-        spare.push_reserved(Leaves { left, right });
+    match pair {
+        Some(pair) => Some(pair.0),
+        None => None,
     }
-    Ok(spare)
+}
+
+/// The slot of a pair that may be there.
+fn slot_in<K: Key>(pair: Option<(K, u32)>) -> Option<u32>
+    ensures { result ≡ option_map (λ pair. pair.1) pair }
+{
+    match pair {
+        Some(pair) => Some(pair.1),
+        None => None,
+    }
 }

@@ -62,7 +62,7 @@ fn call_both<K: Key>(
     pick: u32,
 ) -> Result<bool, Memory> {
     if index.find(key).is_none() {
-        if plain.find(key).is_some() {
+        if plain.find(key).is_some() || index.used(key).is_some() {
             return Ok(false);
         }
         if !index.is_full() {
@@ -75,7 +75,11 @@ fn call_both<K: Key>(
     if pick % 3 == 0 {
         return Ok(Some(index.drop_key(key)) == slot);
     }
-    index.touch(key);
+    if pick % 3 == 1 {
+        index.touch(key);
+    } else if index.used(key) != slot {
+        return Ok(false);
+    }
     match slot {
         Some(slot) => plain.put(key, slot)?,
         None => return Ok(false),
@@ -131,6 +135,10 @@ fn touched_key_is_the_warmest(rt: HostRuntime) -> Result<(), Fail> {
     assert!(rt; index.coldest(Some(7)) == Some(5));
     assert!(rt; index.coldest(Some(5)) == None);
     assert!(rt; index.find(7) == Some(1));
+    assert!(rt; index.used(7) == Some(1));
+    assert!(rt; index.coldest(None) == Some(5));
+    assert!(rt; index.used(6) == None);
+    index.touch(5);
     assert!(rt; index.drop_key(7) == 1);
     assert!(rt; index.find(7) == None);
     assert!(rt; index.coldest(None) == Some(5));

@@ -1,16 +1,20 @@
-use Rattle.std.proofs.Common.{ap, ◌∙◌}
+use Rattle.std.proofs.Common.{◌≡◌, ◌<◌, None, Some, length, IsSome, ap, ◌∙◌, refl, sym, subst}
 use Rattle.std.specs.Option.{option_map}
 use Rattle.std.specs.Map.{lookup}
-use Rattle.lru_index.specs.Chain.{end_after}
-use Rattle.lru_index.proofs.Chained.{chain_removed, chain_slot}
+use Rattle.std.specs.Prelude.{nat_eq}
+use Rattle.lru_index.specs.Chain.{link_at, end_after}
+use Rattle.lru_index.proofs.Table.{set_at, within_table}
+use Rattle.lru_index.proofs.Chained.{chain_removed, chain_item}
 use Rattle.lru_index.proofs.chain.Chain.remove.Goals as goal
 
-pub returns-clause-slot : goal.returns-clause-slot
-returns-clause-slot g c pairs h = chain_slot g.met.K.Eq.laws g.met.K.Key.same c.args.self.now pairs h c.args.key ∙ ap (option_map (λ u. u.slot)) c.take-taken.ensures.value
+pub returns-clause-item : goal.returns-clause-item
+returns-clause-item g c items h = chain_item c.args.self.now items h c.args.place ∙ ap (option_map (λ u. u.item)) (sym c.link.ensures.value ∙ c.in-Some.is)
 
 pub returns-clause-removed : goal.returns-clause-removed
-returns-clause-removed g c pairs h =
-    let found = chain_slot g.met.K.Eq.laws g.met.K.Key.same c.args.self.now pairs h c.args.key ∙ ap (option_map (λ u. u.slot)) c.take-taken.ensures.value in
-    let at1 = λ (q : g.row.K.Denot). lookup (g.K.PartialEq.eq q) c.take-taken.new.self in
-    let at2 = λ (q : g.row.K.Denot). lookup (g.K.PartialEq.eq q) c.set_warmer.new.self.uses in
-    chain_removed g.met.K.Eq.laws g.met.K.Key.same c.args.self.now c.set_colder.new.self at1 at2 c.args.key c.take-taken.result.value pairs h found c.take-taken.ensures.value c.take-taken.ensures.finds c.set_warmer.ensures.uses c.set_colder.ensures.uses (c.set_colder.ensures.coldest ∙ c.set_warmer.ensures.coldest) (c.set_colder.ensures.warmest ∙ ap (end_after c.take-taken.result.value.warmer c.take-taken.result.value.colder) c.set_warmer.ensures.warmest)
+returns-clause-removed g c items h =
+    let old = c.args.self.now in
+    let gone = c.in-Some.gone in
+    let there : link_at old.links.items c.args.place ≡ Some gone = sym c.link.ensures.value ∙ c.in-Some.is in
+    let found = chain_item old items h c.args.place ∙ ap (option_map (λ u. u.item)) there in
+    let within : c.args.place < length old.links.items = within_table old.links.items c.args.place c.requires.there in
+    chain_removed old c.set_colder.new.self (link_at c.set_link.new.self.links.items) (link_at c.set_warmer.new.self.links.items) c.args.place gone items h found there (λ q. ap (λ links. link_at links q) c.set_link.ensures.links ∙ set_at old.links.items c.args.place None within q) c.set_warmer.ensures.links c.set_colder.ensures.links (c.set_colder.ensures.coldest ∙ c.set_warmer.ensures.coldest ∙ ap (end_after gone.colder gone.warmer) c.set_link.ensures.coldest) (c.set_colder.ensures.warmest ∙ ap (end_after gone.warmer gone.colder) (c.set_warmer.ensures.warmest ∙ c.set_link.ensures.warmest))

@@ -1,54 +1,81 @@
-use Rattle.std.proofs.Common.{◌≡◌, suc, ◌+◌, ◌∷◌, [], length, IsSome, sym, ap, ◌∙◌, subst, arith, length-append}
+use Rattle.std.proofs.Common.{◌≡◌, ◌+◌, ◌<◌, ◌∷◌, ◌++◌, [], Some, IsSome, length, nat_eq, sym, ap, ◌∙◌, subst, arith, length-append}
 use Rattle.std.specs.Prelude.{vec_capacity}
-use Rattle.std.specs.List.{AllByRecursion}
+use Rattle.std.specs.Option.{option_map}
 use Rattle.std.specs.Map.{lookup, remove_entry}
-use Rattle.lru_index.specs.Chain.{pairs_of}
-use Rattle.lru_index.specs.Order.{order, IsOrder}
-use Rattle.lru_index.specs.Index.{AreLeaves}
-use Rattle.lru_index.proofs.Kept.{IsSeen, seen, index_order, all_push, kept_there}
-use Rattle.lru_index.proofs.Pairs.{found_removed, length_removed}
+use Rattle.lru_index.specs.Chain.{items_of}
+use Rattle.lru_index.specs.Order.{IsOrder, order}
+use Rattle.lru_index.specs.Index.{IsKept, pairs_in}
+use Rattle.lru_index.specs.declared.spares.Spare.{Spare}
+use Rattle.lru_index.proofs.Kept.{IsSeen, seen, kept_removed, kept_order, in_use}
+use Rattle.lru_index.proofs.Pairs.{found_removed}
+use Rattle.lru_index.proofs.Placed.{agree, slot_found, some_placed, place_there, pairs_removed, length_pairs}
 use Rattle.lru_index.proofs.index.Index.drop_key.Goals as goal
 
-pub remove-slot-requires-clause-there : goal.remove-slot-requires-clause-there
-remove-slot-requires-clause-there g c =
-    let there = subst (λ o. IsSome (lookup (g.K.PartialEq.eq c.args.key) o.pairs)) (sym c.self.view_is) c.requires.there in
-    kept_there g.met.K.Eq.laws g.met.K.Key.same c.self.inside.chain _ c.self.invariant.chained c.args.key there
+pub take-taken-requires-clause-there : goal.take-taken-requires-clause-there
+take-taken-requires-clause-there g c =
+    let test = g.K.PartialEq.eq c.args.key in
+    subst IsSome (sym (c.self.invariant.found c.args.key)) (some_placed test _ (subst (λ o. IsSome (lookup test o.pairs)) (sym c.self.view_is) c.requires.there))
 
--- the pair is gone, and one spare pair of leaves is there more
-now_seen : (g : _) (c : goal.After-push_reserved g) → IsSeen g.K.PartialEq.eq g.K.Ord.cmp c.remove-slot.new.self c.push_reserved.new.self.items (vec_capacity c.push_reserved.new.self) (remove_entry (g.K.PartialEq.eq c.args.key) c.args.self.now.pairs)
+pub remove-pair-requires : goal.remove-pair-requires
+remove-pair-requires g c =
+    let kept = c.self.invariant in
+    let items = items_of c.self.inside.chain (vec_capacity c.self.inside.spare) in
+    let place = c.take-taken.result.value in
+    record { there = in_use c.self.inside.chain items place kept.chained (place_there g.met.K.Eq.laws c.args.key place items (sym (kept.found c.args.key) ∙ c.take-taken.ensures.value)) }
+
+-- the pair is gone, and its place is spare
+now_seen : (g : _) (c : goal.After-push_reserved g) → IsSeen g.K.PartialEq.eq g.K.Ord.cmp c.take-taken.new.self c.remove-pair.new.self c.push_reserved.new.self.items (vec_capacity c.push_reserved.new.self) (remove_entry (nat_eq c.take-taken.result.value) (items_of c.self.inside.chain (vec_capacity c.self.inside.spare)))
 now_seen g c =
     let inside = c.self.inside in
+    let most = vec_capacity inside.spare in
+    let kept = c.self.invariant in
+    let items = items_of inside.chain most in
+    let taken = c.take-taken.result in
+    let spare : Spare g.row.K.Denot = record { place = taken.value; leaves = taken.leaves } in
+    let rest = remove_entry (nat_eq taken.value) items in
+    let made = kept_removed g.met.K.Eq.laws g.K.Ord.cmp inside.places c.take-taken.new.self inside.chain c.remove-pair.new.self inside.spare.items spare most items c.args.key c.remove-pair.result kept c.take-taken.ensures.value (c.remove-pair.ensures.item items kept.chained) c.take-taken.ensures.sorted c.take-taken.ensures.finds (c.remove-pair.ensures.removed items kept.chained) c.remove-pair.ensures.places c.take-taken.ensures.left c.take-taken.ensures.right in
+    let pushed = subst (λ l. IsKept g.K.PartialEq.eq g.K.Ord.cmp c.take-taken.new.self c.remove-pair.new.self l most rest) (sym c.push_reserved.ensures.items) made in
+    seen _ _ _ _ _ _ _ (subst (λ n. IsKept g.K.PartialEq.eq g.K.Ord.cmp c.take-taken.new.self c.remove-pair.new.self c.push_reserved.new.self.items n rest) (sym c.push_reserved.ensures.capacity) pushed)
+
+pairs_are : (g : _) (c : goal.After-push_reserved g) → pairs_in (items_of c.remove-pair.new.self (vec_capacity c.push_reserved.new.self)) ≡ remove_entry (g.K.PartialEq.eq c.args.key) c.args.self.now.pairs
+pairs_are g c =
+    let kept = c.self.invariant in
+    let items = items_of c.self.inside.chain (vec_capacity c.self.inside.spare) in
+    let place = c.take-taken.result.value in
     let test = g.K.PartialEq.eq c.args.key in
-    let old = pairs_of g.K.PartialEq.eq inside.chain (vec_capacity inside.spare) in
-    let there = subst (λ o. IsSome (lookup test o.pairs)) (sym c.self.view_is) c.requires.there in
-    let leaves = subst (AllByRecursion AreLeaves) (sym c.push_reserved.ensures.items) (all_push AreLeaves inside.spare.items c.remove-slot.result.1 c.self.invariant.leaves (c.remove-slot.ensures.left, c.remove-slot.ensures.right)) in
-    let shorter : suc (length (remove_entry test old)) ≡ length old = length_removed test old there in
-    let pushed : length c.push_reserved.new.self.items ≡ length inside.spare.items + 1 = ap length c.push_reserved.ensures.items ∙ length-append inside.spare.items (c.remove-slot.result.1 ∷ []) in
-    let kept : vec_capacity c.push_reserved.new.self ≡ vec_capacity inside.spare = c.push_reserved.ensures.capacity in
-    let room = c.self.invariant.room in
-    let made = seen g.K.PartialEq.eq g.K.Ord.cmp c.remove-slot.new.self c.push_reserved.new.self.items (vec_capacity c.push_reserved.new.self) (remove_entry test old) c.remove-slot.ensures.sorted (c.remove-slot.ensures.removed old c.self.invariant.chained) (omega arith) leaves in
-    subst (λ o. IsSeen g.K.PartialEq.eq g.K.Ord.cmp c.remove-slot.new.self c.push_reserved.new.self.items (vec_capacity c.push_reserved.new.self) (remove_entry test o.pairs)) c.self.view_is made
+    let agrees = agree g.met.K.Eq.laws c.args.key place items kept.distinct kept.chained.distinct (sym (kept.found c.args.key) ∙ c.take-taken.ensures.value) in
+    ap pairs_in (now_seen g c).items_are ∙ pairs_removed test place items agrees ∙ ap (λ o. remove_entry test o.pairs) c.self.view_is
 
 pub invariant_of-self : goal.invariant_of-self
 invariant_of-self g c = (now_seen g c).index
 
+pub returns-clause-slot : goal.returns-clause-slot
+returns-clause-slot g c =
+    let kept = c.self.invariant in
+    let items = items_of c.self.inside.chain (vec_capacity c.self.inside.spare) in
+    let place = c.take-taken.result.value in
+    let test = g.K.PartialEq.eq c.args.key in
+    let agrees = agree g.met.K.Eq.laws c.args.key place items kept.distinct kept.chained.distinct (sym (kept.found c.args.key) ∙ c.take-taken.ensures.value) in
+    sym (ap (λ o. lookup test o.pairs) c.self.view_is) ∙ sym (slot_found test place items agrees) ∙ ap (option_map (λ pair. pair.1)) (c.remove-pair.ensures.item items kept.chained)
+
 pub returns-clause-valid : goal.returns-clause-valid
-returns-clause-valid g c = index_order g.K.PartialEq.eq g.K.Ord.cmp c.remove-slot.new.self c.push_reserved.new.self.items _ (now_seen g c).index
+returns-clause-valid g c = kept_order _ _ _ _ _ _ _ (now_seen g c).index
 
 pub returns-clause-pairs : goal.returns-clause-pairs
 returns-clause-pairs g c =
     let capacity : vec_capacity c.push_reserved.new.self ≡ c.args.self.now.capacity = c.push_reserved.ensures.capacity ∙ ap (λ o. o.capacity) c.self.view_is in
-    λ i. order ((now_seen g c).pairs_are i) (capacity i)
+    λ i. order (pairs_are g c i) (capacity i)
 
 pub returns-clause-finds : goal.returns-clause-finds
 returns-clause-finds g c other =
-    let order_is = subst (IsOrder g.K.PartialEq.eq) c.self.view_is (index_order g.K.PartialEq.eq g.K.Ord.cmp c.self.inside.chain c.self.inside.spare.items _ c.self.invariant) in
-    ap (lookup (g.K.PartialEq.eq other)) (now_seen g c).pairs_are ∙ found_removed g.met.K.Eq.laws c.args.self.now c.args.key order_is other
+    let order_is = subst (IsOrder g.K.PartialEq.eq) c.self.view_is (kept_order _ _ _ _ _ _ _ c.self.invariant) in
+    ap (lookup (g.K.PartialEq.eq other)) (pairs_are g c) ∙ found_removed g.met.K.Eq.laws c.args.self.now.pairs c.args.key order_is.distinct other
 
 pub returns-clause-room : goal.returns-clause-room
 returns-clause-room g c =
-    let pairs_are = (now_seen g c).pairs_are in
-    let index = (now_seen g c).index in
-    let room = index.room in
-    let pushed : length c.push_reserved.new.self.items ≡ length c.self.inside.spare.items + 1 = ap length c.push_reserved.ensures.items ∙ length-append c.self.inside.spare.items (c.remove-slot.result.1 ∷ []) in
+    let items = items_of c.remove-pair.new.self (vec_capacity c.push_reserved.new.self) in
+    let pairs : length (pairs_in items) ≡ length items = length_pairs items in
+    let room = (now_seen g c).index.room in
+    let spare : Spare g.row.K.Denot = record { place = c.take-taken.result.value; leaves = c.take-taken.result.leaves } in
+    let pushed : length c.push_reserved.new.self.items ≡ length c.self.inside.spare.items + 1 = ap length c.push_reserved.ensures.items ∙ length-append c.self.inside.spare.items (spare ∷ []) in
     omega arith
