@@ -7,6 +7,8 @@ use Rattle.kabi_values.specs.declared.errnos.Errno.TheVariants.{EINVAL}
 use Rattle.kabi_values.specs.declared.replies.Reply.TheVariants.{Fail, Val}
 use Rattle.posix_defs.specs.declared.turner.Turned.TheVariants.{Done, Ended}
 use Rattle.posix_defs.specs.Memory.{no_places}
+use Rattle.posix_defs.specs.Files.Closing.{after_end_of}
+use Rattle.posix_defs.specs.Files.Descriptors.{none_open}
 use Rattle.posix_defs.specs.Needs.{bound, need_of, slack}
 use Rattle.posix_defs.specs.Process.{is_alive}
 use Rattle.posix_defs.specs.Plain.{call_of}
@@ -20,30 +22,30 @@ not_alike e = omega (arith, e)
 
 -- what is cached may be kept
 may_keep : (place blocks : ℕ) → MayKeep (caching_at place blocks).plain (caching_at place blocks).kept
-may_keep place zero = record { names = tt; blocks = tt; vnodes = (tt, tt); pinned = λ node e. e }
-may_keep place (suc zero) = record { names = tt; blocks = (tt, tt); vnodes = (tt, tt); pinned = λ node e. e }
-may_keep place (suc (suc n)) = record { names = tt; blocks = ((not_alike, tt), (tt, tt)); vnodes = (tt, tt); pinned = λ node e. e }
+may_keep place zero = record { names = tt; blocks = tt; vnodes = (tt, tt); pinned = λ node e. e; true_names = tt; on_disk = tt; in_use = (refl, tt) }
+may_keep place (suc zero) = record { names = tt; blocks = (tt, tt); vnodes = (tt, tt); pinned = λ node e. e; true_names = tt; on_disk = (lit≤ tt, tt); in_use = (refl, tt) }
+may_keep place (suc (suc n)) = record { names = tt; blocks = ((not_alike, tt), (tt, tt)); vnodes = (tt, tt); pinned = λ node e. e; true_names = tt; on_disk = (lit≤ tt, (lit≤ tt, tt)); in_use = (refl, tt) }
 
 -- a turn of the process that caches
 answers_at : (place blocks : ℕ) → place ≤ 3 → blocks ≤ 2
     → Answers caching (caching_at place blocks) 1 (call_of caching (caching_at place blocks).plain 1) (Done (Fail EINVAL))
     (caching_at (next_place place) (next_blocks place blocks))
 unfolding bound need_of no_places
-answers_at zero zero few less = record { answer = (refl, refl); account = refl; may_keep = may_keep 1 2; live = lit≤ tt; names = lit≤ tt; blocks = lit≤ tt; vnodes = lit≤ tt; reads = lit≤ tt }
-answers_at zero (suc zero) few less = record { answer = (refl, refl); account = refl; may_keep = may_keep 1 2; live = lit≤ tt; names = lit≤ tt; blocks = lit≤ tt; vnodes = lit≤ tt; reads = lit≤ tt }
-answers_at zero (suc (suc zero)) few less = record { answer = (refl, refl); account = refl; may_keep = may_keep 1 2; live = lit≤ tt; names = lit≤ tt; blocks = lit≤ tt; vnodes = lit≤ tt; reads = lit≤ tt }
+answers_at zero zero few less = record { answer = (refl, refl); account = refl; may_keep = may_keep 1 2; live = lit≤ tt; names = lit≤ tt; blocks = lit≤ tt; vnodes = lit≤ tt; reads = lit≤ tt; untouched = λ e. cc; left = λ _. tt; known = λ _. refl }
+answers_at zero (suc zero) few less = record { answer = (refl, refl); account = refl; may_keep = may_keep 1 2; live = lit≤ tt; names = lit≤ tt; blocks = lit≤ tt; vnodes = lit≤ tt; reads = lit≤ tt; untouched = λ e. cc; left = λ _. tt; known = λ _. refl }
+answers_at zero (suc (suc zero)) few less = record { answer = (refl, refl); account = refl; may_keep = may_keep 1 2; live = lit≤ tt; names = lit≤ tt; blocks = lit≤ tt; vnodes = lit≤ tt; reads = lit≤ tt; untouched = λ e. cc; left = λ _. tt; known = λ _. refl }
 answers_at zero (suc (suc (suc n))) few less = absurd (let l : suc (suc (suc n)) ≤ 2 = less in omega arith)
-answers_at (suc zero) zero few less = record { answer = (refl, refl); account = refl; may_keep = may_keep 2 0; live = lit≤ tt; names = lit≤ tt; blocks = lit≤ tt; vnodes = lit≤ tt; reads = lit≤ tt }
-answers_at (suc zero) (suc zero) few less = record { answer = (refl, refl); account = refl; may_keep = may_keep 2 1; live = lit≤ tt; names = lit≤ tt; blocks = lit≤ tt; vnodes = lit≤ tt; reads = lit≤ tt }
-answers_at (suc zero) (suc (suc zero)) few less = record { answer = (refl, refl); account = refl; may_keep = may_keep 2 2; live = lit≤ tt; names = lit≤ tt; blocks = lit≤ tt; vnodes = lit≤ tt; reads = lit≤ tt }
+answers_at (suc zero) zero few less = record { answer = (refl, refl); account = refl; may_keep = may_keep 2 0; live = lit≤ tt; names = lit≤ tt; blocks = lit≤ tt; vnodes = lit≤ tt; reads = lit≤ tt; untouched = λ _. (refl, refl); left = λ _. tt; known = λ _. refl }
+answers_at (suc zero) (suc zero) few less = record { answer = (refl, refl); account = refl; may_keep = may_keep 2 1; live = lit≤ tt; names = lit≤ tt; blocks = lit≤ tt; vnodes = lit≤ tt; reads = lit≤ tt; untouched = λ _. (refl, refl); left = λ _. tt; known = λ _. refl }
+answers_at (suc zero) (suc (suc zero)) few less = record { answer = (refl, refl); account = refl; may_keep = may_keep 2 2; live = lit≤ tt; names = lit≤ tt; blocks = lit≤ tt; vnodes = lit≤ tt; reads = lit≤ tt; untouched = λ _. (refl, refl); left = λ _. tt; known = λ _. refl }
 answers_at (suc zero) (suc (suc (suc n))) few less = absurd (let l : suc (suc (suc n)) ≤ 2 = less in omega arith)
-answers_at (suc (suc zero)) zero few less = record { answer = (refl, refl); account = refl; may_keep = may_keep 3 0; live = lit≤ tt; names = lit≤ tt; blocks = lit≤ tt; vnodes = lit≤ tt; reads = lit≤ tt }
-answers_at (suc (suc zero)) (suc zero) few less = record { answer = (refl, refl); account = refl; may_keep = may_keep 3 1; live = lit≤ tt; names = lit≤ tt; blocks = lit≤ tt; vnodes = lit≤ tt; reads = lit≤ tt }
-answers_at (suc (suc zero)) (suc (suc zero)) few less = record { answer = (refl, refl); account = refl; may_keep = may_keep 3 2; live = lit≤ tt; names = lit≤ tt; blocks = lit≤ tt; vnodes = lit≤ tt; reads = lit≤ tt }
+answers_at (suc (suc zero)) zero few less = record { answer = (refl, refl); account = refl; may_keep = may_keep 3 0; live = lit≤ tt; names = lit≤ tt; blocks = lit≤ tt; vnodes = lit≤ tt; reads = lit≤ tt; untouched = λ _. (refl, refl); left = λ _. tt; known = λ _. refl }
+answers_at (suc (suc zero)) (suc zero) few less = record { answer = (refl, refl); account = refl; may_keep = may_keep 3 1; live = lit≤ tt; names = lit≤ tt; blocks = lit≤ tt; vnodes = lit≤ tt; reads = lit≤ tt; untouched = λ _. (refl, refl); left = λ _. tt; known = λ _. refl }
+answers_at (suc (suc zero)) (suc (suc zero)) few less = record { answer = (refl, refl); account = refl; may_keep = may_keep 3 2; live = lit≤ tt; names = lit≤ tt; blocks = lit≤ tt; vnodes = lit≤ tt; reads = lit≤ tt; untouched = λ _. (refl, refl); left = λ _. tt; known = λ _. refl }
 answers_at (suc (suc zero)) (suc (suc (suc n))) few less = absurd (let l : suc (suc (suc n)) ≤ 2 = less in omega arith)
-answers_at (suc (suc (suc zero))) zero few less = record { answer = (refl, refl); account = refl; may_keep = may_keep 1 2; live = lit≤ tt; names = lit≤ tt; blocks = lit≤ tt; vnodes = lit≤ tt; reads = lit≤ tt }
-answers_at (suc (suc (suc zero))) (suc zero) few less = record { answer = (refl, refl); account = refl; may_keep = may_keep 1 2; live = lit≤ tt; names = lit≤ tt; blocks = lit≤ tt; vnodes = lit≤ tt; reads = lit≤ tt }
-answers_at (suc (suc (suc zero))) (suc (suc zero)) few less = record { answer = (refl, refl); account = refl; may_keep = may_keep 1 2; live = lit≤ tt; names = lit≤ tt; blocks = lit≤ tt; vnodes = lit≤ tt; reads = lit≤ tt }
+answers_at (suc (suc (suc zero))) zero few less = record { answer = (refl, refl); account = refl; may_keep = may_keep 1 2; live = lit≤ tt; names = lit≤ tt; blocks = lit≤ tt; vnodes = lit≤ tt; reads = lit≤ tt; untouched = λ e. cc; left = λ _. tt; known = λ _. refl }
+answers_at (suc (suc (suc zero))) (suc zero) few less = record { answer = (refl, refl); account = refl; may_keep = may_keep 1 2; live = lit≤ tt; names = lit≤ tt; blocks = lit≤ tt; vnodes = lit≤ tt; reads = lit≤ tt; untouched = λ e. cc; left = λ _. tt; known = λ _. refl }
+answers_at (suc (suc (suc zero))) (suc (suc zero)) few less = record { answer = (refl, refl); account = refl; may_keep = may_keep 1 2; live = lit≤ tt; names = lit≤ tt; blocks = lit≤ tt; vnodes = lit≤ tt; reads = lit≤ tt; untouched = λ e. cc; left = λ _. tt; known = λ _. refl }
 answers_at (suc (suc (suc zero))) (suc (suc (suc n))) few less = absurd (let l : suc (suc (suc n)) ≤ 2 = less in omega arith)
 answers_at (suc (suc (suc (suc n)))) blocks few less = absurd (let l : suc (suc (suc (suc n))) ≤ 3 = few in omega arith)
 
@@ -63,13 +65,13 @@ block_goes place (suc zero) Block less can = record {
   plain = refl;
   account = refl;
   kept = (7, record { front = []; back = []; was = refl; is = refl }, refl);
-  reads = lit≤ tt;
+  reads = refl;
 }
 block_goes place (suc (suc zero)) Block less can = record {
   plain = refl;
   account = refl;
   kept = (8, record { front = 7 ∷ []; back = []; was = refl; is = refl }, refl);
-  reads = lit≤ tt;
+  reads = refl;
 }
 block_goes place (suc (suc (suc n))) Block less can = absurd (let l : suc (suc (suc n)) ≤ 2 = less in omega arith)
 
@@ -81,10 +83,10 @@ some_more : (n k : ℕ) → n ≤ n + k
 some_more n k = omega arith
 
 ends_at : (place : ℕ) → place ≢ 0 → place ≤ 2 → Answers sample (world_at place true boot_kept) 1 (call_of sample (world_at place true boot_kept).plain 1) (Ended 0) (world_at place false boot_kept)
-unfolding no_places
+unfolding no_places none_open after_end_of
 ends_at zero other few = absurd (other refl)
-ends_at (suc zero) other few = record { answer = (refl, refl); account = refl; may_keep = record { names = tt; blocks = tt; vnodes = (tt, tt); pinned = λ node e. e }; live = falls _; names = some_more 0 _; blocks = some_more 0 _; vnodes = some_more 1 _; reads = lit≤ tt }
-ends_at (suc (suc zero)) other few = record { answer = (refl, refl); account = refl; may_keep = record { names = tt; blocks = tt; vnodes = (tt, tt); pinned = λ node e. e }; live = falls _; names = some_more 0 _; blocks = some_more 0 _; vnodes = some_more 1 _; reads = lit≤ tt }
+ends_at (suc zero) other few = record { answer = (refl, refl); account = refl; may_keep = record { names = tt; blocks = tt; vnodes = (tt, tt); pinned = λ node e. e; true_names = tt; on_disk = tt; in_use = (refl, tt) }; live = falls _; names = some_more 0 _; blocks = some_more 0 _; vnodes = some_more 1 _; reads = lit≤ tt; untouched = λ _. (refl, refl); left = λ _. tt; known = λ _. refl }
+ends_at (suc (suc zero)) other few = record { answer = (refl, refl); account = refl; may_keep = record { names = tt; blocks = tt; vnodes = (tt, tt); pinned = λ node e. e; true_names = tt; on_disk = tt; in_use = (refl, tt) }; live = falls _; names = some_more 0 _; blocks = some_more 0 _; vnodes = some_more 1 _; reads = lit≤ tt; untouched = λ _. (refl, refl); left = λ _. tt; known = λ _. refl }
 ends_at (suc (suc (suc n))) other few = absurd (let l : suc (suc (suc n)) ≤ 2 = few in omega arith)
 
 pub sample_ends : (place pid : ℕ) (lives : Bool) (which : Call) → place ≢ 0 → place ≤ 2 → is_alive (world_at place lives boot_kept).plain.table pid ≡ true
@@ -106,7 +108,7 @@ sample_live place false = refl
 
 asks_at : Answers sample (world_at 0 true boot_kept) 1 (call_of sample (world_at 0 true boot_kept).plain 1) (Done (Val (pos 1))) (world_at 1 true boot_kept)
 unfolding bound need_of no_places
-asks_at = record { answer = (refl, refl); account = refl; may_keep = record { names = tt; blocks = tt; vnodes = (tt, tt); pinned = λ node e. e }; live = lit≤ tt; names = lit≤ tt; blocks = lit≤ tt; vnodes = lit≤ tt; reads = lit≤ tt }
+asks_at = record { answer = (refl, refl); account = refl; may_keep = record { names = tt; blocks = tt; vnodes = (tt, tt); pinned = λ node e. e; true_names = tt; on_disk = tt; in_use = (refl, tt) }; live = lit≤ tt; names = lit≤ tt; blocks = lit≤ tt; vnodes = lit≤ tt; reads = lit≤ tt; untouched = λ _. (refl, refl); left = λ _. tt; known = λ _. refl }
 
 -- it asks for its pid
 pub sample_asks : (place pid : ℕ) (lives : Bool) (which : Call) → place ≡ 0 → is_alive (world_at place lives boot_kept).plain.table pid ≡ true

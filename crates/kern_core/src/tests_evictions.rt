@@ -5,12 +5,12 @@ ghost use Rattle.kern_core.specs.Sample.{caching, caching_at, next_blocks, next_
 
 use crate::picks::picked;
 use crate::{Choosing, Core, Relief};
-use kabi_types::{Cached, Call, Chooser, Entry, Errno, Event, Need, Noted, Reply};
+use kabi_types::{Cached, Call, Chooser, Entry, Errno, Event, Need, Noted, Path, Reply};
 use posix_defs::{Turned, Turner};
 use std::test::Fail;
 
-/// A store of one process, which cuts a file, writes much and reads a byte, over and over: no call that it makes is built, so
-/// each is answered EINVAL. To cut the file two blocks are cached. It has the place behind the call that the process made last,
+/// A store of one process, which makes a directory, writes much and reads a byte, over and over: no call that it makes is
+/// built, so each is answered EINVAL. To make the directory two blocks are cached. It has the place behind the call that the process made last,
 /// and how many blocks are cached.
 #[derive(Drop)]
 struct Caching {
@@ -65,7 +65,9 @@ impl Turner for Caching {
                 addr: 0,
                 n: 1,
             },
-            _ => Call::Ftruncate { fd: 3, length: 0 },
+            _ => Call::Mkdir {
+                path: Path::of(b"/d").unwrap(),
+            },
         }
     }
 
@@ -130,7 +132,7 @@ fn at_boot() -> Caching
 }
 
 /// What the events so far say: how many of its calls the process has behind it, how far it is with the next one, and how many
-/// blocks are cached. By hand from the prices: 2176 bytes to cut, 4608 to write, and to read more than the heap can give.
+/// blocks are cached. By hand from the prices: 2560 bytes to make a directory, 4608 to write, and to read more than the heap can give.
 #[derive(Clone, Copy)]
 struct Told {
     call: u32,
@@ -141,7 +143,7 @@ struct Told {
 impl Told {
     /// The process's own event, if it may be taken.
     fn own(self) -> Option<Event> {
-        let bound: u64 = if self.call == 0 { 2176 } else { 4608 };
+        let bound: u64 = if self.call == 0 { 2560 } else { 4608 };
         match self.phase {
             0 => Some(Event::Ask(1)),
             1 if self.blocks < 3 && 2816 + 1088 * self.blocks + bound <= 8192 => {
