@@ -1,5 +1,5 @@
 -- A mark of the heap changes nothing that a store stands for.
-use Rattle.std.proofs.Common.{ℕ, refl}
+use Rattle.std.proofs.Common.{◌≡◌, ℕ, ◌≤◌, refl, arith}
 use Rattle.kabi_types.specs.declared.scripts.Script.{Script}
 use Rattle.kheap_slabs.specs.Heap.{Heap}
 use Rattle.kheap_slabs.specs.Owners.{Owners, IsOwned}
@@ -67,3 +67,7 @@ stands_marked script objects high marks world stands = record {
   cached = stands.cached;
   reads = stands.reads;
 }
+
+-- from a mark on high is no less than what was taken at it
+pub since_mark : (old marked high of : ℕ) → marked ≡ old → old ≡ of → marked ≤ high → of ≤ high
+since_mark old marked high of same is rises = omega arith

@@ -1,5 +1,5 @@
 -- How much of the heap a call uses.
-use Rattle.std.proofs.Common.{◌≡◌, ℕ, ◌+◌, ◌≤◌, max, false, None, ap, sym, ◌∙◌, arith}
+use Rattle.std.proofs.Common.{◌≡◌, ℕ, ◌+◌, ◌≤◌, max, false, None, ap, le_refl, le_trans, sym, ◌∙◌, arith}
 use Rattle.kabi_calls.specs.Arguments.{argument_fault}
 use Rattle.kabi_calls.specs.Call.{kind_of}
 use Rattle.kabi_calls.specs.declared.calls.Call.{Call}
@@ -14,33 +14,69 @@ use Rattle.posix_defs.specs.Sizes.{bytes_of}
 use Rattle.posix_defs.proofs.PriceLemmas.{right_needs, sums}
 use Rattle.call_run.specs.Uses.{UsesAtMost}
 
-more_high : (new old live bytes : ℕ) → new ≤ old → new ≤ max old (live + bytes)
-more_high new old live bytes less = omega arith
-
 more_live : (new old bytes : ℕ) → new ≤ old → new ≤ old + bytes
 more_live new old bytes less = omega arith
 
+below : (old new n : ℕ) → new ≡ old → new ≤ max old n
+below old new n same = omega arith
+
 -- what takes nothing uses no more than any number of bytes
-pub uses_nothing : (old new : Heap) (bytes : ℕ) → TakesNothing old new → UsesAtMost old new bytes
-uses_nothing old new bytes takes = record {
+pub uses_nothing : (old new : Heap) (bytes meanwhile : ℕ) → TakesNothing old new → UsesAtMost old new bytes meanwhile
+uses_nothing old new bytes meanwhile takes = record {
   live = more_live (live_bytes new) (live_bytes old) bytes (TakesNothing-bytes old new takes);
-  high = more_high new.high old.high (live_bytes old) bytes takes.high;
+  high = below old.high new.high (live_bytes old + bytes + meanwhile) takes.high;
+  rises = rw takes.high (le_refl _);
   heap = takes.heap;
+  marks = takes.marks;
 }
 
 still_live : (new left old bytes was : ℕ) → new + left ≤ old + was → was ≡ bytes → new ≤ old + bytes
 still_live new left old bytes was less same = omega arith
 
 -- what is paid uses no more than the purse had
-pub uses_paid : (old new : Heap) (before after : Purse) (bytes : ℕ) → IsPaid old before new after → left_bytes before ≡ bytes → UsesAtMost old new bytes
-uses_paid old new before after bytes paid had = record {
+pub uses_paid : (old new : Heap) (before after : Purse) (bytes meanwhile : ℕ) → IsPaid old before new after → left_bytes before ≡ bytes → UsesAtMost old new bytes meanwhile
+uses_paid old new before after bytes meanwhile paid had = record {
   live = still_live (live_bytes new) (left_bytes after) (live_bytes old) bytes (left_bytes before) (IsPaid-bytes old new before after paid) had;
-  high = still_high new.high old.high (live_bytes old) bytes (left_bytes before) paid.high had;
+  high = still_high new.high old.high (live_bytes old) bytes (left_bytes before) meanwhile paid.high had;
+  rises = paid.rises;
   heap = paid.heap;
+  marks = paid.marks;
 }
   where
-    still_high : (new old live bytes was : ℕ) → new ≤ max old (live + was) → was ≡ bytes → new ≤ max old (live + bytes)
-    still_high new old live bytes was less same = omega arith
+    still_high : (new old live bytes was more : ℕ) → new ≤ max old (live + was) → was ≡ bytes → new ≤ max old (live + bytes + more)
+    still_high new old live bytes was more less same = omega arith
+
+-- two steps that give back what they use are one
+pub uses_then : (old mid new : Heap) (meanwhile : ℕ) → UsesAtMost old mid 0 meanwhile → UsesAtMost mid new 0 meanwhile → UsesAtMost old new 0 meanwhile
+uses_then old mid new meanwhile first second = record {
+  live = no_more (live_bytes old) (live_bytes mid) (live_bytes new) first.live second.live;
+  high = no_higher old.high mid.high new.high (live_bytes old) (live_bytes mid) meanwhile first.live first.high second.high;
+  rises = le_trans first.rises second.rises;
+  heap = second.heap ∙ first.heap;
+  marks = second.marks ∙ first.marks;
+}
+  where
+    no_more : (a b c : ℕ) → b ≤ a + 0 → c ≤ b + 0 → c ≤ a + 0
+    no_more a b c first second = omega arith
+
+    no_higher : (a b c live then more : ℕ) → then ≤ live + 0 → b ≤ max a (live + 0 + more) → c ≤ max b (then + 0 + more) → c ≤ max a (live + 0 + more)
+    no_higher a b c live then more less first second = omega arith
+
+-- what a step gives back it may as well keep
+pub uses_more : (old new : Heap) (bytes meanwhile : ℕ) → UsesAtMost old new 0 meanwhile → UsesAtMost old new bytes meanwhile
+uses_more old new bytes meanwhile uses = record {
+  live = more (live_bytes old) (live_bytes new) bytes uses.live;
+  high = higher old.high new.high (live_bytes old) bytes meanwhile uses.high;
+  rises = uses.rises;
+  heap = uses.heap;
+  marks = uses.marks;
+}
+  where
+    more : (a b n : ℕ) → b ≤ a + 0 → b ≤ a + n
+    more a b n less = omega arith
+
+    higher : (a b live n more : ℕ) → b ≤ max a (live + 0 + more) → b ≤ max a (live + n + more)
+    higher a b live n more less = omega arith
 
 same_bytes : (n : Need) → need_bytes n ≡ bytes_of n
 same_bytes n = omega arith

@@ -14,9 +14,10 @@ ghost use Rattle.posix_defs.specs.Ending.{die, exit_status};
 ghost use Rattle.posix_defs.specs.Forking.{fork};
 ghost use Rattle.posix_defs.specs.Killing.{kill, struck};
 ghost use Rattle.posix_defs.specs.Machine.{answer_to, blocks, machine};
-ghost use Rattle.posix_defs.specs.Needs.{bound, need_of};
+ghost use Rattle.posix_defs.specs.Needs.{bound, need_of, slack};
 ghost use Rattle.posix_defs.specs.Plain.{Plain, answered};
 ghost use Rattle.posix_defs.specs.Process.{is_alive};
+ghost use Rattle.posix_defs.specs.Sizes.{reserve};
 ghost use Rattle.posix_defs.specs.Waiting.{is_nohang, waitpid};
 ghost use Rattle.posix_defs.specs.World.{Account};
 ghost use Rattle.posix_defs.specs.declared.turner.Turned.TheVariants as turned;
@@ -144,7 +145,7 @@ fn strike(script: &Script, objects: &mut Objects, pid: u32, control: Control, ta
     requires other { target ≢ 1 }
     requires there { IsAlive (procs_of objects.old) target }
     ensures kept { AreKept script.now objects.new }
-    ensures takes { TakesNothing objects.old.heap objects.new.heap }
+    ensures uses { UsesAtMost objects.old.heap objects.new.heap 0 reserve }
     ensures does { (call : Call) → TouchesNothing call → Does script.now objects.old pid call (λ plain. struck script.now plain pid target) result objects.new }
 {
     end(objects, target, SIGKILL);
@@ -166,7 +167,7 @@ fn send(
     requires kept { AreKept script.now objects.old }
     requires runs { Runs objects.old pid control }
     ensures kept { AreKept script.now objects.new }
-    ensures takes { TakesNothing objects.old.heap objects.new.heap }
+    ensures uses { UsesAtMost objects.old.heap objects.new.heap 0 reserve }
     ensures does { Does script.now objects.old pid (Call.Kill target signal) (λ plain. kill script.now plain pid target signal) result objects.new }
 {
     match objects.procs.may_kill(&objects.heap, pid, target, signal) {
@@ -185,7 +186,7 @@ fn exit(objects: &mut Objects, pid: u32, status: i64) -> Turned
     requires runs { IsAlive (procs_of objects.old) pid }
     requires holds { Holds objects.old.heap objects.old.procs }
     ensures kept { (script : Script) → AreKept script objects.old → AreKept script objects.new }
-    ensures takes { TakesNothing objects.old.heap objects.new.heap }
+    ensures uses { UsesAtMost objects.old.heap objects.new.heap 0 reserve }
     ensures does { (script : Script) → AreKept script objects.old
         → Does script objects.old pid (Call.Exit status) (λ plain. Ended (exit_status status) (die plain pid (exit_status status))) result objects.new }
 {
@@ -215,7 +216,7 @@ fn run_right(
     requires needed { need ≡ need_of call.now }
     requires room { live_bytes objects.old.heap + bound call.now ≤ objects.old.heap.heap }
     ensures kept { AreKept script.now objects.new }
-    ensures uses { UsesAtMost objects.old.heap objects.new.heap (bound call.now) }
+    ensures uses { UsesAtMost objects.old.heap objects.new.heap (bound call.now) (slack call.now) }
     ensures does { Does script.now objects.old caller.now.pid call.now (λ plain. answer_to script.now plain caller.now.pid call.now) result objects.new }
 {
     let pid = caller.pid;
@@ -238,7 +239,7 @@ fn run_free(script: &Script, objects: &mut Objects, caller: &Caller, call: &Call
     requires right { argument_fault call.now ≡ None }
     requires free { MakesNothing call.now }
     ensures kept { AreKept script.now objects.new }
-    ensures takes { TakesNothing objects.old.heap objects.new.heap }
+    ensures uses { UsesAtMost objects.old.heap objects.new.heap 0 (slack call.now) }
     ensures does { Does script.now objects.old caller.now.pid call.now (λ plain. answer_to script.now plain caller.now.pid call.now) result objects.new }
 {
     let pid = caller.pid;
@@ -281,7 +282,7 @@ pub fn run(
     requires needed { need ≡ need_of call.now }
     requires room { live_bytes objects.old.heap + bound call.now ≤ objects.old.heap.heap }
     ensures kept { AreKept script.now objects.new }
-    ensures uses { UsesAtMost objects.old.heap objects.new.heap (bound call.now) }
+    ensures uses { UsesAtMost objects.old.heap objects.new.heap (bound call.now) (slack call.now) }
     ensures does { Does script.now objects.old caller.now.pid call.now (λ plain. machine script.now plain caller.now.pid call.now) result objects.new }
 {
     match call.checked() {

@@ -3,11 +3,11 @@
 ghost use Rattle.std.specs.Prelude.{◌≡◌, ◌≢◌, ◌<◌, ℕ, IfSome, None, false};
 ghost use Rattle.kabi_types.specs.declared.scripts.Control.{Control};
 ghost use Rattle.kabi_types.specs.declared.scripts.Script.{Script};
-ghost use Rattle.kheap_slabs.specs.Paid.{TakesNothing};
 ghost use Rattle.posix_defs.specs.Ending.{die};
 ghost use Rattle.posix_defs.specs.Memory.{Frames};
 ghost use Rattle.posix_defs.specs.Plain.{Plain};
 ghost use Rattle.posix_defs.specs.Process.{Table};
+ghost use Rattle.posix_defs.specs.Sizes.{reserve};
 ghost use Rattle.posix_defs.specs.World.{Account, forget_dead};
 ghost use Rattle.proc_table.specs.Accounting.{HasAccount};
 ghost use Rattle.proc_table.specs.Procs.{IsAlive};
@@ -16,6 +16,7 @@ ghost use Rattle.proc_table.specs.Table.{Holds};
 ghost use Rattle.call_run.specs.Endings.{ClearsSome, IsLowestBehind};
 ghost use Rattle.call_run.specs.Objects.{AreKept, Runs, is_running, procs_of};
 ghost use Rattle.call_run.specs.Standing.{StandFor};
+ghost use Rattle.call_run.specs.Uses.{UsesAtMost};
 
 use crate::objects::Objects;
 
@@ -42,7 +43,7 @@ fn live_behind(objects: &Objects, pid: u32) -> Option<u32>
 /// Ends all that run behind the first process, by rising pid.
 fn end_others(objects: &mut Objects)
     requires holds { Holds objects.old.heap objects.old.procs }
-    ensures takes { TakesNothing objects.old.heap objects.new.heap }
+    ensures uses { UsesAtMost objects.old.heap objects.new.heap 0 reserve }
     ensures kept { (script : Script) → AreKept script objects.old → AreKept script objects.new }
     ensures last { objects.new.procs.last ≡ objects.old.procs.last }
     ensures table { (table : Table) → IsTable objects.old.heap objects.old.procs table
@@ -62,7 +63,7 @@ pub fn end(objects: &mut Objects, pid: u32, status: u16)
     requires holds { Holds objects.old.heap objects.old.procs }
     requires alive { IsAlive (procs_of objects.old) pid }
     ensures kept { (script : Script) → AreKept script objects.old → AreKept script objects.new }
-    ensures takes { TakesNothing objects.old.heap objects.new.heap }
+    ensures uses { UsesAtMost objects.old.heap objects.new.heap 0 reserve }
     ensures others { pid ≢ 1 → (other : ℕ) (control : Control) → other ≢ pid → Runs objects.old other control → Runs objects.new other control }
     ensures dies { (script : Script) (plain : Plain) (account : Account) → AreKept script objects.old → StandFor script objects.old plain account
         → StandFor script objects.new (die plain pid status) (forget_dead (die plain pid status) account) }

@@ -119,6 +119,8 @@ impl Turner for Store {
 
     ghost stands = { λ store world. StandsFor store.script store.objects world };
 
+    ghost marks = { λ store. store.objects.heap.marks };
+
     ghost high = { λ store. store.objects.heap.high };
 
     // A call has room for two paths: each function that hands one on pays for that room once more.

@@ -1,8 +1,8 @@
 //! Turns over a script and its objects, as the core asks for them.
 
-ghost use Rattle.std.specs.Prelude.{◌≡◌, ◌≢◌, ◌+◌, ◌≤◌, true, false};
+ghost use Rattle.std.specs.Prelude.{◌≡◌, ◌≢◌, ◌+◌, ◌%◌, ◌^◌, ◌≤◌, true, false};
 ghost use Rattle.kabi_types.specs.declared.scripts.Script.{Script};
-ghost use Rattle.posix_defs.specs.Needs.{bound, need_of};
+ghost use Rattle.posix_defs.specs.Needs.{bound, need_of, slack};
 ghost use Rattle.posix_defs.specs.Plain.{call_of};
 ghost use Rattle.posix_defs.specs.Process.{is_alive};
 ghost use Rattle.posix_defs.specs.Relief.{Kills, refused_in};
@@ -52,7 +52,9 @@ pub fn turn(script: &Script, objects: &mut Objects, pid: u32, call: &Call, need:
     ensures kept { AreKept script.now objects.new }
     ensures turned { (world : World) → StandsFor script.now objects.old world
         → (after : World) × StandsFor script.now objects.new after × TurnsTo script.now world pid call.now result after }
-    ensures high { (world : World) → StandsFor script.now objects.old world → objects.new.heap.high ≤ live_of world + bound call.now }
+    ensures marked { objects.new.heap.marks ≡ (objects.old.heap.marks + 1) % 2 ^ 64 }
+    ensures since { (world : World) → StandsFor script.now objects.old world → live_of world ≤ objects.new.heap.high }
+    ensures high { (world : World) → StandsFor script.now objects.old world → objects.new.heap.high ≤ live_of world + bound call.now + slack call.now }
 {
     // the heap knows how long the rows of its objects are
     let _ = objects.heap.heap();
@@ -71,6 +73,8 @@ pub fn refuse(script: &Script, objects: &mut Objects, pid: u32)
     ensures kept { AreKept script.now objects.new }
     ensures refused { (world : World) → StandsFor script.now objects.old world → is_alive world.plain.table pid ≡ true
         → StandsFor script.now objects.new (refused_in script.now world pid) }
+    ensures marked { objects.new.heap.marks ≡ (objects.old.heap.marks + 1) % 2 ^ 64 }
+    ensures since { (world : World) → StandsFor script.now objects.old world → live_of world ≤ objects.new.heap.high }
     ensures high { (world : World) → StandsFor script.now objects.old world → objects.new.heap.high ≤ live_of world }
 {
     // the heap knows how long the rows of its objects are
@@ -92,7 +96,9 @@ pub fn kill(objects: &mut Objects, pid: u32)
     ensures gone { (script : Script) (world : World) → StandsFor script objects.old world → is_alive world.plain.table pid ≡ false
         → StandsFor script objects.new world }
     ensures first { (script : Script) (world : World) → StandsFor script objects.old world → pid ≡ 1 → StandsFor script objects.new world }
-    ensures high { (script : Script) (world : World) → StandsFor script objects.old world → objects.new.heap.high ≤ live_of world }
+    ensures marked { objects.new.heap.marks ≡ (objects.old.heap.marks + 1) % 2 ^ 64 }
+    ensures since { (script : Script) (world : World) → StandsFor script objects.old world → live_of world ≤ objects.new.heap.high }
+    ensures high { (script : Script) (world : World) → StandsFor script objects.old world → objects.new.heap.high ≤ live_of world + reserve }
 {
     // the heap knows how long the rows of its objects are
     let _ = objects.heap.heap();
@@ -109,6 +115,8 @@ pub fn kill(objects: &mut Objects, pid: u32)
 pub fn evict(objects: &mut Objects)
     ensures kept { (script : Script) → AreKept script objects.old → AreKept script objects.new }
     ensures same { (script : Script) (world : World) → StandsFor script objects.old world → StandsFor script objects.new world }
+    ensures marked { objects.new.heap.marks ≡ (objects.old.heap.marks + 1) % 2 ^ 64 }
+    ensures since { (script : Script) (world : World) → StandsFor script objects.old world → live_of world ≤ objects.new.heap.high }
     ensures high { (script : Script) (world : World) → StandsFor script objects.old world → objects.new.heap.high ≤ live_of world }
 {
     // the heap knows how long the rows of its objects are

@@ -13,7 +13,7 @@ use Rattle.posix_defs.specs.Licence.{is_licensed}
 use Rattle.kern_tasks.specs.Room.{first_going}
 use Rattle.kern_events.specs.declared.reliefs.Relief.{Relief}
 use Rattle.kern_events.specs.declared.reliefs.Relief.TheVariants.{NoneWaiting, Fits, Outstanding, Evicted, Killed, Starved, Spent}
-use Rattle.kern_tasks.specs.View.{CoreView, StaysInside, Took}
+use Rattle.kern_tasks.specs.View.{CoreView, Took}
 
 -- the first cache that keeps something that isn't pinned
 abbrev pub first_evictable : World → Option Cached
@@ -50,12 +50,6 @@ abbrev pub Relieves : {T : Type 0} → (T → World → Type 0) → Script → C
 Relieves stands_for script old (Evicted what) new = (noted : Noted) × Took stands_for script old (Evict what) noted new
 Relieves stands_for script old (Killed pid) new = (noted : Noted) × Took stands_for script old (Kill pid) noted new
 Relieves stands_for script old _ new = new ≡ old
-
--- what the event of a relief may do to the heap while it runs
-abbrev pub HelpsInside : Relief → ℕ → ℕ → ℕ → Type 0
-HelpsInside (Evicted what) high reserved heap = StaysInside (Evict what) high reserved heap
-HelpsInside (Killed pid) high reserved heap = StaysInside (Kill pid) high reserved heap
-HelpsInside _ high reserved heap = Unit {0}
 
 -- that nothing helps is told by an end
 abbrev pub NeverStarves : Relief → Type 0

@@ -16,9 +16,9 @@ ghost use Rattle.posix_defs.specs.declared.turner.Turned.TheVariants.{Sleep};
 ghost use Rattle.posix_defs.specs.Licence.{can_evict_any, is_licensed};
 ghost use Rattle.posix_defs.specs.Ends.{all_asleep, end_of, starves_for, sleeps_on};
 ghost use Rattle.posix_defs.specs.Choice.{asks_nothing, default_of, events_of, enabled_in, default_in, kills_in, named_by, others_in};
-ghost use Rattle.kern_tasks.specs.View.{IsAt, IsAskedFor, IsSleep, HasRun, HasBooted, Has, CanTake, GoesOn, MayTake, StaysInside, Takes, Took};
+ghost use Rattle.kern_tasks.specs.View.{IsAt, IsAskedFor, IsSleep, HasRun, HasBooted, Has, CanTake, GoesOn, IsInside, MayTake, StaysInside, Takes, Took};
 ghost use Rattle.kern_tasks.specs.Others.{eviction, present};
-ghost use Rattle.kern_events.specs.Reliefs.{HelpsInside, NeverStarves, Relieves, first_evictable, relief_of};
+ghost use Rattle.kern_events.specs.Reliefs.{NeverStarves, Relieves, first_evictable, relief_of};
 
 use crate::reliefs::Relief;
 use kabi_types::{Cached, Call, End, Entry, Event, Memory, Noted};
@@ -414,7 +414,7 @@ impl<T: Turner + Drop> Core<T> {
         requires { MayTake T.stands (T.script self.old.store) self.old event }
         ensures script { T.script self.new.store ≡ T.script self.old.store }
         ensures took { Took T.stands (T.script self.old.store) self.old event result self.new }
-        ensures inside { StaysInside event (T.high self.new.store) self.new.reserved (T.script self.old.store).heap }
+        ensures inside { StaysInside T.marks T.high (T.script self.old.store).heap self.old self.new }
     {
         self.take(event);
         last_noted(self.run())
@@ -425,7 +425,7 @@ impl<T: Turner + Drop> Core<T> {
         requires { MayTake T.stands (T.script self.old.store) self.old event }
         ensures script { T.script self.new.store ≡ T.script self.old.store }
         ensures took { Takes T.stands (T.script self.old.store) self.old event self.new }
-        ensures inside { StaysInside event (T.high self.new.store) self.new.reserved (T.script self.old.store).heap }
+        ensures inside { StaysInside T.marks T.high (T.script self.old.store).heap self.old self.new }
     {
         match event {
             Event::Ask(pid) => self.ask(pid),
@@ -442,6 +442,7 @@ impl<T: Turner + Drop> Core<T> {
         requires { MayTake T.stands (T.script self.old.store) self.old (Ask pid) }
         ensures script { T.script self.new.store ≡ T.script self.old.store }
         ensures took { Takes T.stands (T.script self.old.store) self.old (Ask pid) self.new }
+        ensures inside { StaysInside T.marks T.high (T.script self.old.store).heap self.old self.new }
     {
         let asked = asked_of(&self.store.next(pid));
         if asked.bound > self.heap - FIXED {
@@ -458,6 +459,7 @@ impl<T: Turner + Drop> Core<T> {
         requires never { room (T.script self.old.store).heap < asked.bound }
         ensures script { T.script self.new.store ≡ T.script self.old.store }
         ensures took { Takes T.stands (T.script self.old.store) self.old (Ask pid) self.new }
+        ensures inside { IsInside T.marks T.high (T.script self.old.store).heap self.old self.new }
     {
         self.store.refuse(pid);
         set_phase(&mut self.tasks, pid, Phase::User);
@@ -477,6 +479,7 @@ impl<T: Turner + Drop> Core<T> {
         requires ever { asked.bound ≤ room (T.script self.old.store).heap }
         ensures script { T.script self.new.store ≡ T.script self.old.store }
         ensures took { Takes T.stands (T.script self.old.store) self.old (Ask pid) self.new }
+        ensures same { self.new.store ≡ self.old.store }
     {
         set_phase(&mut self.tasks, pid, Phase::Waiting(asked));
         let noted = noted_of(Event::Ask(pid), asked, None, self.charged);
@@ -487,6 +490,7 @@ impl<T: Turner + Drop> Core<T> {
         requires { MayTake T.stands (T.script self.old.store) self.old (Admit pid) }
         ensures script { T.script self.new.store ≡ T.script self.old.store }
         ensures took { Takes T.stands (T.script self.old.store) self.old (Admit pid) self.new }
+        ensures same { self.new.store ≡ self.old.store }
     {
         let Phase::Waiting(asked) = phase_of(self.tasks.as_slice(), pid) else {
             unreachable!()
@@ -502,7 +506,7 @@ impl<T: Turner + Drop> Core<T> {
         requires { MayTake T.stands (T.script self.old.store) self.old (Turn pid) }
         ensures script { T.script self.new.store ≡ T.script self.old.store }
         ensures took { Takes T.stands (T.script self.old.store) self.old (Turn pid) self.new }
-        ensures inside { T.high self.new.store + self.new.reserved ≤ (T.script self.old.store).heap }
+        ensures inside { IsInside T.marks T.high (T.script self.old.store).heap self.old self.new }
     {
         let Phase::Admitted(asked) = phase_of(self.tasks.as_slice(), pid) else {
             unreachable!()
@@ -526,6 +530,7 @@ impl<T: Turner + Drop> Core<T> {
         requires { MayTake T.stands (T.script self.old.store) self.old (Wake pid) }
         ensures script { T.script self.new.store ≡ T.script self.old.store }
         ensures took { Takes T.stands (T.script self.old.store) self.old (Wake pid) self.new }
+        ensures same { self.new.store ≡ self.old.store }
     {
         let Phase::Asleep(asked) = phase_of(self.tasks.as_slice(), pid) else {
             unreachable!()
@@ -539,6 +544,7 @@ impl<T: Turner + Drop> Core<T> {
         requires { MayTake T.stands (T.script self.old.store) self.old (Abandon pid) }
         ensures script { T.script self.new.store ≡ T.script self.old.store }
         ensures took { Takes T.stands (T.script self.old.store) self.old (Abandon pid) self.new }
+        ensures same { self.new.store ≡ self.old.store }
     {
         let Phase::Stranded(asked) = phase_of(self.tasks.as_slice(), pid) else {
             unreachable!()
@@ -555,7 +561,7 @@ impl<T: Turner + Drop> Core<T> {
         requires { MayTake T.stands (T.script self.old.store) self.old (Kill pid) }
         ensures script { T.script self.new.store ≡ T.script self.old.store }
         ensures took { Takes T.stands (T.script self.old.store) self.old (Kill pid) self.new }
-        ensures inside { T.high self.new.store + self.new.reserved ≤ (T.script self.old.store).heap }
+        ensures inside { IsInside T.marks T.high (T.script self.old.store).heap self.old self.new }
     {
         let Some(first) = first_waiting(self.tasks.as_slice()) else {
             unreachable!()
@@ -586,7 +592,7 @@ impl<T: Turner + Drop> Core<T> {
         requires { MayTake T.stands (T.script self.old.store) self.old (Evict what) }
         ensures script { T.script self.new.store ≡ T.script self.old.store }
         ensures took { Takes T.stands (T.script self.old.store) self.old (Evict what) self.new }
-        ensures inside { T.high self.new.store + self.new.reserved ≤ (T.script self.old.store).heap }
+        ensures inside { IsInside T.marks T.high (T.script self.old.store).heap self.old self.new }
     {
         self.store.evict(what);
         self.charged = self.store.live() + RESERVE + self.reserved;
@@ -632,7 +638,7 @@ impl<T: Turner + Drop> Core<T> {
         ensures script { T.script self.new.store ≡ T.script self.old.store }
         ensures told { (s : CoreState) → IsAt T.stands self.old s → IsSound (T.script self.old.store) s → result ≡ relief_of (T.script self.old.store) s }
         ensures leads { Relieves T.stands (T.script self.old.store) self.old result self.new }
-        ensures inside { HelpsInside result (T.high self.new.store) self.new.reserved (T.script self.old.store).heap }
+        ensures inside { StaysInside T.marks T.high (T.script self.old.store).heap self.old self.new }
         ensures never { NeverStarves result }
     {
         if !self.some_wait() {

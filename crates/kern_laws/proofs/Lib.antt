@@ -17,6 +17,7 @@ pub mod Sleepers
 pub mod Picking
 pub mod Progress
 pub mod Legal
+pub mod EndsWaiting
 pub mod Refusals
 pub mod LastStep
 pub mod FirstRun

@@ -1,9 +1,7 @@
 -- What was noted last of a run.
 use Rattle.std.proofs.Common.{◌≡◌, ℕ, ◌-◌, ◌<◌, List, [], ◌∷◌, ◌++◌, length, Some, slice_get, ap, sym, subst, ◌∙◌, arith, length-append}
-use Rattle.kabi_types.specs.declared.entries.Event.{Event}
 use Rattle.kabi_types.specs.declared.entries.Noted.{Noted}
 use Rattle.kern_laws.proofs.EnabledEvents.{get_behind}
-use Rattle.kern_tasks.specs.View.{LastStaysInside, StaysInside}
 
 longer : (run front : List Noted) (noted : Noted) → run ≡ front ++ noted ∷ [] → length run - 1 ≡ length front
 longer run front noted is =
@@ -23,10 +21,3 @@ pub noted_last : (run front : List Noted) (noted last : Noted) → run ≡ front
 noted_last run front noted last is found =
     let same : Some last ≡ Some noted = found ∙ last_found run front noted is in
     cc
-
--- where the event that was taken stayed inside, the last one of the longer run did
-pub last_inside : (run before : List Noted) (noted : Noted) (event : Event) (high reserved heap : ℕ) → run ≡ before ++ noted ∷ [] → noted.event ≡ event
-    → StaysInside event high reserved heap → LastStaysInside run high reserved heap
-last_inside run before noted event high reserved heap is taken stays = λ front last ends.
-    let same : noted ≡ last = noted_last run before noted last is (sym (last_found run front last ends)) in
-    subst (λ e. StaysInside e high reserved heap) (sym taken ∙ ap (λ n. n.event) same) stays

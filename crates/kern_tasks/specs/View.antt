@@ -1,8 +1,7 @@
 -- What contracts see of a core, and the state that it is in.
-use Rattle.std.specs.Prelude.{ℕ, ◌≡◌, true, ◌+◌, ◌<◌, ◌≤◌, List, [], ◌∷◌, ◌++◌, length, None, Some, IsSome, slice_get}
+use Rattle.std.specs.Prelude.{ℕ, ◌≡◌, ◌⊎◌, true, ◌+◌, ◌%◌, ◌^◌, ◌<◌, ◌≤◌, List, [], ◌∷◌, ◌++◌, length, None, Some, IsSome, slice_get}
 use Rattle.kabi_types.specs.declared.entries.End.{End}
 use Rattle.kabi_types.specs.declared.entries.Event.{Event}
-use Rattle.kabi_types.specs.declared.entries.Event.TheVariants.{Turn, Evict, Kill}
 use Rattle.kabi_types.specs.declared.entries.Noted.{Noted}
 use Rattle.kabi_types.specs.declared.scripts.Script.{Script}
 use Rattle.posix_defs.specs.declared.phases.Asked.{Asked}
@@ -81,18 +80,21 @@ pub record Took {T : Type 0} (stands_for : T → World → Type 0) (script : Scr
 abbrev pub Takes : {T : Type 0} → (T → World → Type 0) → Script → CoreView T → Event → CoreView T → Type 0
 Takes stands_for script old event new = (noted : Noted) × Took stands_for script old event noted new
 
--- At no moment of a turn, of an eviction or of a kill did the heap in use and what is reserved for all other calls together
+-- The store was marked once, and at no moment since did the heap in use and what is reserved for all other calls together
 -- pass the heap.
-abbrev pub StaysInside : Event → ℕ → ℕ → ℕ → Type 0
-StaysInside (Turn pid) high reserved heap = high + reserved ≤ heap
-StaysInside (Evict what) high reserved heap = high + reserved ≤ heap
-StaysInside (Kill pid) high reserved heap = high + reserved ≤ heap
-StaysInside _ high reserved heap = Unit {0}
+pub record IsInside {T : Type 0} (marks high : T → ℕ) (heap : ℕ) (old new : CoreView T) : Type 0 where
+  pub marked : marks new.store ≡ (marks old.store + 1) % 2 ^ 64
+  pub within : high new.store + new.reserved ≤ heap
 
--- the same of the last event of a run
-abbrev pub LastStaysInside : List Noted → ℕ → ℕ → ℕ → Type 0
-LastStaysInside run high reserved heap =
-    (front : List Noted) (last : Noted) → run ≡ front ++ last ∷ [] → StaysInside last.event high reserved heap
+-- What an event did to the store while it ran: nothing at all, or it stayed inside the heap.
+abbrev pub StaysInside : {T : Type 0} → (T → ℕ) → (T → ℕ) → ℕ → CoreView T → CoreView T → Type 0
+StaysInside marks high heap old new = (new.store ≡ old.store) ⊎ IsInside marks high heap old new
+
+-- The core goes from one view to another by events, of which each stays inside.
+pub data GoesInside {T : Type 0} (stands_for : T → World → Type 0) (marks high : T → ℕ) (script : Script) (first : CoreView T) : CoreView T → Type 0 where
+  begins : GoesInside stands_for marks high script first first
+  goes_on : (old new : CoreView T) (event : Event) → GoesInside stands_for marks high script first old
+      → Takes stands_for script old event new → StaysInside marks high script.heap old new → GoesInside stands_for marks high script first new
 
 -- nothing has happened yet
 pub record HasBooted {T : Type 0} (stands_for : T → World → Type 0) (script : Script) (core : CoreView T) : Type 0 where

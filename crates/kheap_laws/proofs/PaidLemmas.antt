@@ -44,7 +44,7 @@ sums_join : (a b c d e f : ℕ) → c + d ≤ a + b → e + f ≤ c + d → e + 
 sums_join a b c d e f first second = omega arith
 
 pub IsPaid-refl : (h : Heap) (p : Purse) → IsPaid h p h p
-IsPaid-refl h p = record { counts = λ class. same _; need = refl; high = below_first h.high _; heap = refl; marks = refl }
+IsPaid-refl h p = record { counts = λ class. same _; need = refl; high = below_first h.high _; rises = le_refl _; heap = refl; marks = refl }
   where
     same : (n : ℕ) → n ≤ n
     same n = omega arith
@@ -54,6 +54,7 @@ IsPaid-trans a p b q c r first second = record {
   counts = λ class. sums_join (counted (counts_of a) class) (counted p.left class) (counted (counts_of b) class) (counted q.left class) _ _ (first.counts class) (second.counts class);
   need = second.need ∙ first.need;
   high = below_max a.high (live_bytes a + left_bytes p) b.high (live_bytes b + left_bytes q) c.high (IsPaid-bytes a b p q first) first.high second.high;
+  rises = le_trans first.rises second.rises;
   heap = second.heap ∙ first.heap;
   marks = second.marks ∙ first.marks;
 }
@@ -122,6 +123,7 @@ IsPaid-spend of old new before after makes some left need = record {
       let more : live_bytes new ≡ live_bytes old + size of = ap need_bytes makes.counts ∙ need_bytes-more (counts_of old) of in
       let paid = need_bytes-less before.left of some in
       rw makes.high (within (size of) (live_bytes old) (live_bytes new) (left_bytes before) (need_bytes (with_count before.left of (counted before.left of - 1))) old.high more paid);
+  rises = rw makes.high (below_first old.high _);
   heap = makes.heap;
   marks = makes.marks;
 }
@@ -135,6 +137,7 @@ IsPaid-give of old new before after frees left need = record {
   counts = λ other. rw (frees.counts, left) (one_given of other (counts_of new) before.left);
   need = need;
   high = rw frees.high (below_first old.high _);
+  rises = rw frees.high (le_refl _);
   heap = frees.heap;
   marks = frees.marks;
 }
@@ -144,7 +147,8 @@ pub IsPaid-nothing : (old new : Heap) (before after : Purse) → TakesNothing ol
 IsPaid-nothing old new before after takes left need = record {
   counts = λ class. rw left (added (counted (counts_of old) class) (counted (counts_of new) class) (counted before.left class) (takes.counts class));
   need = need;
-  high = below (live_bytes old + left_bytes before) old.high new.high takes.high;
+  high = rw takes.high (below_first old.high _);
+  rises = rw takes.high (le_refl _);
   heap = takes.heap;
   marks = takes.marks;
 }
@@ -152,11 +156,8 @@ IsPaid-nothing old new before after takes left need = record {
     added : (a b c : ℕ) → b ≤ a → b + c ≤ a + c
     added a b c less = omega arith
 
-    below : (n a b : ℕ) → b ≤ a → b ≤ max a n
-    below n a b less = omega arith
-
 pub TakesNothing-refl : (h : Heap) → TakesNothing h h
-TakesNothing-refl h = record { counts = λ class. same _; high = same h.high; heap = refl; marks = refl }
+TakesNothing-refl h = record { counts = λ class. same _; high = refl; heap = refl; marks = refl }
   where
     same : (n : ℕ) → n ≤ n
     same n = omega arith
@@ -164,7 +165,7 @@ TakesNothing-refl h = record { counts = λ class. same _; high = same h.high; he
 pub TakesNothing-trans : (a b c : Heap) → TakesNothing a b → TakesNothing b c → TakesNothing a c
 TakesNothing-trans a b c first second = record {
   counts = λ class. le_trans (second.counts class) (first.counts class);
-  high = le_trans second.high first.high;
+  high = second.high ∙ first.high;
   heap = second.heap ∙ first.heap;
   marks = second.marks ∙ first.marks;
 }
@@ -173,7 +174,7 @@ TakesNothing-trans a b c first second = record {
 pub TakesNothing-freed : (of : Class) (old new : Heap) → Frees of old new → TakesNothing old new
 TakesNothing-freed of old new frees = record {
   counts = λ other. rw frees.counts (one_less of other (counts_of new));
-  high = rw frees.high (le_refl _);
+  high = frees.high;
   heap = frees.heap;
   marks = frees.marks;
 }
@@ -181,7 +182,7 @@ TakesNothing-freed of old new frees = record {
 pub TakesNothing-set : (old new : Heap) → counts_of new ≡ counts_of old → new.high ≡ old.high → new.heap ≡ old.heap → new.marks ≡ old.marks → TakesNothing old new
 TakesNothing-set old new counts high heap marks = record {
   counts = λ class. rw counts (le_refl _);
-  high = rw high (le_refl _);
+  high = high;
   heap = heap;
   marks = marks;
 }

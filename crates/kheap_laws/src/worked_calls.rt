@@ -8,9 +8,10 @@ ghost use Rattle.kheap_shelves.specs.Objects.{object, InUse};
 ghost use Rattle.kheap_shelves.specs.declared.objects.Node.{Node as NodeOf};
 ghost use Rattle.kheap_shelves.specs.declared.objects.PageEntry.TheVariants as entry;
 ghost use Rattle.kheap_slabs.specs.Owners.{Owners, with_space, IsOwned, OwnsItsObjects};
-ghost use Rattle.kheap_slabs.specs.Paid.{CanPay, IsPaid, TakesNothing};
+ghost use Rattle.kheap_slabs.specs.Paid.{CanPay, IsPaid, PaysExactly, TakesNothing};
 ghost use Rattle.kheap_slabs.specs.Queues.{empty_queue};
-ghost use Rattle.kheap_slabs.specs.Spaces.{keys_in, KeepsBytes};
+ghost use Rattle.kheap_laws.specs.Worked.{three_pages};
+ghost use Rattle.kheap_slabs.specs.Spaces.{keys_in, count_at, names_page, KeepsBytes};
 
 use kabi_types::Class;
 use kheap_shelves::{Node, PageEntry, Pipe, Purse, QueueParts};
@@ -18,7 +19,9 @@ use kheap_slabs::KHeap;
 
 // A pipe without bytes.
 fn pipe_of(readers: u32) -> Pipe
-    ensures { result.queue ≡ empty_queue }
+    ensures queue { result.queue ≡ empty_queue }
+    ensures readers { result.readers ≡ readers }
+    ensures writers { result.writers ≡ 1 }
 {
     let queue = QueueParts {
         first: None,
@@ -45,6 +48,8 @@ pub fn share(heap: &mut KHeap, key: u32, at: usize, page: u32)
         ≡ Some (record node { entries = slice_set node.entries at (entry.Frame page) }) }
     ensures pages { (other : ℕ) → InUse heap.old.pages other → InUse heap.new.pages other }
     ensures bytes { KeepsBytes [] heap.old.pages heap.new.pages }
+    ensures counts { (other : ℕ) → count_at heap.new.pages other
+        ≡ count_at heap.old.pages other + names_page other (entry.Frame page) }
     ensures takes { TakesNothing heap.old heap.new }
     ensures owners { (owners : Owners) (space : List (Option ℕ)) → Contains (keys_in space) key
         → IsOwned heap.old (with_space space owners) → IsOwned heap.new (with_space space owners) }
@@ -63,10 +68,10 @@ pub fn begin(heap: &mut KHeap, purse: &mut Purse) -> u32
     requires pays { CanPay heap.old purse.old }
     requires some { 0 < counted purse.old.left class.Node }
     ensures paid { IsPaid heap.old purse.old heap.new purse.new }
-    ensures first { IsSomeAnd (object heap.new.nodes result)
-        (λ node. slice_index_or node.entries 1 entry.Zero ≡ entry.Zero) }
-    ensures second { IsSomeAnd (object heap.new.nodes result)
-        (λ node. slice_index_or node.entries 2 entry.Zero ≡ entry.Zero) }
+    ensures exact { PaysExactly class.Node heap.old purse.old heap.new purse.new }
+    ensures vacant { object heap.old.nodes result ≡ None }
+    ensures node { object heap.new.nodes result
+        ≡ Some (record { entries = three_pages entry.Zero entry.Zero }) }
     ensures pages { heap.new.pages ≡ heap.old.pages }
     ensures owners { (owners : Owners) → IsOwned heap.old owners
         → IsOwned heap.new (with_space (Some result ∷ []) owners) }
@@ -90,7 +95,12 @@ pub fn fork(heap: &mut KHeap, purse: &mut Purse, one: u32, other: u32) -> u32
     requires one_used { InUse heap.old.pages one }
     requires other_used { InUse heap.old.pages other }
     ensures paid { IsPaid heap.old purse.old heap.new purse.new }
+    ensures vacant { object heap.old.nodes result ≡ None }
+    ensures node { object heap.new.nodes result
+        ≡ Some (record { entries = three_pages (entry.Frame one) (entry.Frame other) }) }
     ensures bytes { KeepsBytes [] heap.old.pages heap.new.pages }
+    ensures counts { (page : ℕ) → count_at heap.new.pages page
+        ≡ count_at heap.old.pages page + names_page page (entry.Frame one) + names_page page (entry.Frame other) }
     ensures owners { (owners : Owners) → IsOwned heap.old owners
         → IsOwned heap.new (with_space (Some result ∷ []) owners) }
 {
@@ -105,6 +115,9 @@ pub fn new_pipe(heap: &mut KHeap, purse: &mut Purse) -> u32
     requires pays { CanPay heap.old purse.old }
     requires some { 0 < counted purse.old.left class.Pipe }
     ensures paid { IsPaid heap.old purse.old heap.new purse.new }
+    ensures vacant { object heap.old.pipes result ≡ None }
+    ensures pipe { IsSomeAnd (object heap.new.pipes result)
+        (λ pipe. (pipe.queue ≡ empty_queue) × (pipe.readers ≡ 1) × (pipe.writers ≡ 1)) }
     ensures owned { OwnsItsObjects heap.old → OwnsItsObjects heap.new }
 {
     let key = heap.insert_pipe(pipe_of(1));

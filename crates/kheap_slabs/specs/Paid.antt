@@ -13,18 +13,24 @@ abbrev pub CanPay : Heap → Purse → Type 0
 CanPay h purse = live_bytes h + left_bytes purse ≤ h.heap
 
 -- a call that pays from its purse: of each class, the objects that are there and those that the purse has left are
--- together no more than they were; at no moment were more bytes taken than at its start with all that it could spend
+-- together no more than they were; at no moment were more bytes taken than at its start with all that it could spend; it
+-- makes no mark, so what high was it still counts
 pub record IsPaid (old : Heap) (before : Purse) (new : Heap) (after : Purse) : Type 0 where
   pub counts : (class : Class) → counted (counts_of new) class + counted after.left class ≤ counted (counts_of old) class + counted before.left class
   pub need : after.need ≡ before.need
   pub high : new.high ≤ max old.high (live_bytes old + left_bytes before)
+  pub rises : old.high ≤ new.high
   pub heap : new.heap ≡ old.heap
   pub marks : new.marks ≡ old.marks
 
--- a call without a purse: of no class are more objects there than before, and at no moment were more bytes taken
+-- of a class exactly those are paid for that are made: what is there and what the purse has left make up what they were
+abbrev pub PaysExactly : Class → Heap → Purse → Heap → Purse → Type 0
+PaysExactly class old before new after = counted (counts_of new) class + counted after.left class ≡ counted (counts_of old) class + counted before.left class
+
+-- a call without a purse: of no class are more objects there than before, and high stays what it was
 pub record TakesNothing (old new : Heap) : Type 0 where
   pub counts : (class : Class) → counted (counts_of new) class ≤ counted (counts_of old) class
-  pub high : new.high ≤ old.high
+  pub high : new.high ≡ old.high
   pub heap : new.heap ≡ old.heap
   pub marks : new.marks ≡ old.marks
 

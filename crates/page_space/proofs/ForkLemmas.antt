@@ -3,14 +3,14 @@ use Rattle.std.proofs.Common.{◌≡◌, ◌≢◌, ℕ, zero, suc, ◌+◌, ◌
 use Rattle.std.proofs.lemmas.Bool.{cases_eq, false≢true, true≢false}
 use Rattle.kabi_values.specs.declared.classes.Class.TheVariants as class
 use Rattle.kheap_shelves.specs.Counts.{with_count}
-use Rattle.kheap_shelves.specs.Objects.{object, InUse}
+use Rattle.kheap_shelves.specs.Objects.{count, object, InUse}
 use Rattle.kheap_shelves.specs.Purse.{Purse}
 use Rattle.kheap_shelves.specs.declared.objects.Page.{Page}
 use Rattle.kheap_shelves.specs.declared.objects.PageEntry.{PageEntry}
 use Rattle.kheap_shelves.specs.declared.objects.PageEntry.TheVariants as entry
 use Rattle.kheap_slabs.specs.Heap.{Heap}
 use Rattle.kheap_slabs.specs.Owners.{Owners, with_space, IsOwned}
-use Rattle.kheap_slabs.specs.Paid.{IsPaid, TakesNothing}
+use Rattle.kheap_slabs.specs.Paid.{IsPaid, PaysExactly, TakesNothing}
 use Rattle.kheap_slabs.specs.Spaces.{is_mapped, keys_in, OwnsNodes, count_at, names_page}
 use Rattle.kheap_laws.proofs.OwnerLemmas.{first_there, IsOwned-space, IsOwned-space_to_front, IsOwned-space_joins}
 use Rattle.kheap_laws.proofs.PaidLemmas.{IsPaid-refl, IsPaid-trans, IsPaid-nothing}
@@ -48,6 +48,7 @@ IsForking-none h purse of empty none free = record {
     rest = λ page from. entry_none h.nodes empty page (free page);
     kept = refl;
     paid = IsPaid-refl h purse;
+    exact = refl;
     spent = refl;
   };
   left = omega arith;
@@ -72,6 +73,7 @@ IsForking-unmapped old before mid between of now others page forking owned low u
     rest = λ at from. forking.forked.rest at (omega arith);
     kept = forking.forked.kept;
     paid = forking.forked.paid;
+    exact = forking.forked.exact;
     spent = forking.forked.spent;
   };
   left = ⊎_elim
@@ -136,7 +138,7 @@ module _ (old mid between_heap new : Heap) (before between after : Purse) (of no
     (rest : (key : ℕ) → names_page key e ≡ 0 → object between_heap.pages key ≡ object mid.pages key)
     (shared : between_heap ≡ record mid { pages = between_heap.pages }) (takes : TakesNothing mid between_heap)
     (turns : PageTurns between_heap.nodes new.nodes now then page entry.Unmapped e)
-    (kept : new ≡ record between_heap { nodes = new.nodes; high = new.high }) (paid : IsPaid between_heap between new after)
+    (kept : new ≡ record between_heap { nodes = new.nodes; high = new.high }) (paid : IsPaid between_heap between new after) (exact : PaysExactly class.Node between_heap between new after)
     (spent : after ≡ record between { left = with_count between.left class.Node (between.left.node - cond (is_some (key_of now page)) 0 1) }) where
   abbrev with_of : Owners
   with_of = with_space of others
@@ -220,6 +222,7 @@ module _ (old mid between_heap new : Heap) (before between after : Purse) (of no
       kept = moves.kept ∙ ap (λ (h : Heap). record h { nodes = new.nodes; pages = new.pages; high = new.high }) forking.forked.kept;
       paid = IsPaid-trans old before mid between new after forking.forked.paid
           (IsPaid-trans mid between between_heap between new after (IsPaid-nothing mid between_heap between between takes refl refl) paid);
+      exact = exact ∙ ap (λ nodes. count nodes + between.left.node) nodes_same ∙ forking.forked.exact;
       spent = spent
           ∙ (ap (λ (p : Purse). record p { left = with_count p.left class.Node (between.left.node - cond (is_some (key_of now page)) 0 1) }) forking.forked.spent
           ∙ ap (λ (n : ℕ). record before { left = with_count before.left class.Node n }) (sym node_count));

@@ -13,7 +13,7 @@ use Rattle.kheap_shelves.specs.declared.objects.PageEntry.TheVariants as entry
 use Rattle.kheap_shelves.specs.Objects.{object}
 use Rattle.kheap_slabs.specs.Heap.{Heap}
 use Rattle.kheap_slabs.specs.Owners.{with_space, IsOwned}
-use Rattle.kheap_slabs.specs.Paid.{IsPaid}
+use Rattle.kheap_slabs.specs.Paid.{IsPaid, PaysExactly}
 use Rattle.kheap_slabs.specs.Spaces.{is_mapped, IsCounted, count_at, bytes_at}
 use Rattle.kheap_laws.proofs.PaidLemmas.{IsPaid-refl, IsPaid-trans}
 use Rattle.page_space.specs.Accounts.{turned_at, AccountFollows}
@@ -87,6 +87,7 @@ IsFilling-none h purse space first = record {
     own = OwnChanges-refl h space;
     account = AccountFollows-unranged h space first Zero;
     paid = IsPaid-refl h purse;
+    exact = refl;
     spent = refl;
   };
   fresh = λ same. omega arith;
@@ -111,7 +112,7 @@ node_left old before mid between space now first page end filling from below wit
 module _ (old mid new : Heap) (before between after : Purse) (space now then : List (Option ℕ)) (first page : ℕ)
     (filling : IsFilling old before mid between space now first page) (from : first ≤ page) (below : page < 256) (owned : IsOwnedWith old space)
     (turns : PageTurns mid.nodes new.nodes now then page entry.Unmapped entry.Zero)
-    (kept : new ≡ record mid { nodes = new.nodes; high = new.high }) (paid : IsPaid mid between new after)
+    (kept : new ≡ record mid { nodes = new.nodes; high = new.high }) (paid : IsPaid mid between new after) (exact : PaysExactly class.Node mid between new after)
     (spent : after ≡ record between { left = with_count between.left class.Node (between.left.node - cond (is_some (key_of now page)) 0 1) }) where
   pages_same : new.pages ≡ mid.pages
   pages_same = ap (λ h. h.pages) kept
@@ -189,6 +190,7 @@ module _ (old mid new : Heap) (before between after : Purse) (space now then : L
       own = OwnChanges-trans old mid new space now then filling.filled.own own;
       account = AccountFollows-ranged old mid new space now then first page Zero filling.filled.moves filling.filled.account account from below;
       paid = IsPaid-trans old before mid between new after filling.filled.paid paid;
+      exact = exact ∙ filling.filled.exact;
       spent = spent
           ∙ (ap (λ (p : Purse). record p { left = with_count p.left class.Node (between.left.node - cond (is_some (key_of now page)) 0 1) }) filling.filled.spent
           ∙ ap (λ (n : ℕ). record before { left = with_count before.left class.Node n }) (sym node_count));

@@ -10,7 +10,7 @@ use Rattle.kheap_shelves.specs.Purse.{Purse}
 use Rattle.kheap_shelves.specs.declared.objects.Page.{Page}
 use Rattle.kheap_shelves.specs.declared.objects.PageEntry.{PageEntry}
 use Rattle.kheap_shelves.specs.declared.objects.PageEntry.TheVariants as entry
-use Rattle.kheap_slabs.specs.Paid.{IsPaid, TakesNothing}
+use Rattle.kheap_slabs.specs.Paid.{IsPaid, PaysExactly, TakesNothing}
 use Rattle.kheap_slabs.specs.Spaces.{bytes_at}
 use Rattle.page_space.specs.Accounts.{IsAccounted, AccountFollows, AccountLeaves}
 use Rattle.page_space.specs.Changes.{OwnChanges, OwnGoes}
@@ -63,7 +63,7 @@ pub record SpaceLeaves (old new : Heap) (space : List (Option ℕ)) : Type 0 whe
   pub kept : new ≡ record old { nodes = new.nodes; pages = new.pages; high = new.high }
 
 -- The pages of the space from one up to below another are mapped now and zero, its other pages have what they had, and
--- nodes alone are paid for.
+-- nodes alone are paid for, just those that are made.
 pub record IsFilled (old : Heap) (before : Purse) (new : Heap) (after : Purse) (space now : List (Option ℕ)) (first end : ℕ) : Type 0 where
   pub moves : SpaceMoves old new space now
   pub zeros : (page : ℕ) → first ≤ page → page < end → content_at new now page ≡ Some zero_page
@@ -72,10 +72,12 @@ pub record IsFilled (old : Heap) (before : Purse) (new : Heap) (after : Purse) (
   pub own : OwnChanges old new space now
   pub account : AccountFollows old new space now (λ frames pid. after_map frames pid first (end - first))
   pub paid : IsPaid old before new after
+  pub exact : PaysExactly class.Node old before new after
   pub spent : after ≡ record before { left = with_count before.left class.Node after.left.node }
 
 -- A new space has what another has in its pages up to one, and none behind it is mapped. Both own what they own beside
--- whoever else did, all other spaces have in their pages what they had, and nodes alone are paid for.
+-- whoever else did, all other spaces have in their pages what they had, and nodes alone are paid
+-- for, just those that are made.
 pub record IsForked (old : Heap) (before : Purse) (new : Heap) (after : Purse) (of now : List (Option ℕ)) (end : ℕ) : Type 0 where
   pub owners : (others : Owners) → IsOwned old (with_space of others) → IsOwned new (with_space now (with_space of others))
   pub others : (others : Owners) (other : List (Option ℕ)) → IsOwned old (with_space of others) → Contains (of ∷ others.spaces) other
@@ -84,4 +86,5 @@ pub record IsForked (old : Heap) (before : Purse) (new : Heap) (after : Purse) (
   pub rest : (page : ℕ) → end ≤ page → entry_at new.nodes now page ≡ entry.Unmapped
   pub kept : new ≡ record old { nodes = new.nodes; pages = new.pages; high = new.high }
   pub paid : IsPaid old before new after
+  pub exact : PaysExactly class.Node old before new after
   pub spent : after ≡ record before { left = with_count before.left class.Node after.left.node }

@@ -1,7 +1,8 @@
 ghost use Rattle.std.specs.Prelude.{IfOk, IfSome, OnErr, ok_or, ◌≡◌, ◌≢◌, ℕ, ◌+◌, ◌-◌, ◌/◌, ◌%◌, ◌<◌, ◌≤◌, IsSome, MatchBool, None, Some, length, true, is_some, if◌then◌else◌, slice_set, slice_index_or};
 ghost use Rattle.kabi_values.specs.declared.classes.Class.TheVariants as class;
 ghost use Rattle.kheap_shelves.specs.Counts.{counted, with_count};
-ghost use Rattle.kheap_slabs.specs.Paid.{CanPay, IsPaid, TakesNothing};
+ghost use Rattle.kheap_shelves.specs.Objects.{count};
+ghost use Rattle.kheap_slabs.specs.Paid.{CanPay, IsPaid, PaysExactly, TakesNothing};
 ghost use Rattle.kheap_slabs.specs.Spaces.{is_mapped, mapped_count, OwnsNodes};
 ghost use Rattle.page_space.specs.Accounts.{turned_at, IsAccounted, AccountFollows, AccountForks};
 ghost use Rattle.page_space.specs.Changes.{OwnChanges, OwnForks};
@@ -84,6 +85,7 @@ impl Space {
         ensures turns { PageTurns heap.old.nodes heap.new.nodes self.old self.new page PageEntry.Unmapped entry }
         ensures kept { heap.new ≡ record heap.old { nodes = heap.new.nodes; high = heap.new.high } }
         ensures paid { IsPaid heap.old purse.old heap.new purse.new }
+        ensures exact { PaysExactly class.Node heap.old purse.old heap.new purse.new }
         ensures spent { purse.new ≡ record purse.old { left = with_count purse.old.left class.Node (purse.old.left.node - 1) } }
     {
         let mut entries = [PageEntry::Unmapped; 64];
@@ -100,6 +102,7 @@ impl Space {
         requires mapped { is_mapped entry ≡ true }
         ensures turns { PageTurns heap.old.nodes heap.new.nodes self.now self.now page (entry_at heap.old.nodes self.now page) entry }
         ensures kept { heap.new ≡ record heap.old { nodes = heap.new.nodes } }
+        ensures count { count heap.new.nodes ≡ count heap.old.nodes }
         ensures takes { TakesNothing heap.old heap.new }
     {
         match self.nodes[(page / GROUP) as usize] {
@@ -146,6 +149,7 @@ impl Space {
         ensures turns { PageTurns heap.old.nodes heap.new.nodes self.old self.new page PageEntry.Unmapped entry }
         ensures kept { heap.new ≡ record heap.old { nodes = heap.new.nodes; high = heap.new.high } }
         ensures paid { IsPaid heap.old purse.old heap.new purse.new }
+        ensures exact { PaysExactly class.Node heap.old purse.old heap.new purse.new }
         ensures spent { purse.new ≡ record purse.old {
           left = with_count purse.old.left class.Node
               (purse.old.left.node - (if is_some (key_of self.old page) then 0 else 1));
@@ -285,6 +289,7 @@ impl Space {
         ensures moves { SpaceMoves heap.old heap.new self.old self.new }
         ensures own { OwnChanges heap.old heap.new self.old self.new }
         ensures paid { IsPaid heap.old purse.old heap.new purse.new }
+        ensures exact { PaysExactly class.Node heap.old purse.old heap.new purse.new }
         ensures spent { purse.new ≡ record purse.old { left = with_count purse.old.left class.Node purse.new.left.node } }
     {
         match self.lowest_run(heap, pages) {

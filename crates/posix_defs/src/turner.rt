@@ -1,4 +1,4 @@
-ghost use Rattle.std.specs.Prelude.{◌≡◌, ◌≢◌, ℕ, ◌+◌, ◌≤◌, true, false, not};
+ghost use Rattle.std.specs.Prelude.{◌≡◌, ◌≢◌, ℕ, ◌+◌, ◌%◌, ◌^◌, ◌≤◌, true, false, not};
 ghost use Rattle.kabi_types.specs.declared.scripts.Script.{Script};
 ghost use Rattle.posix_defs.specs.Needs.{bound, need_of, slack};
 ghost use Rattle.posix_defs.specs.Sizes.{reserve};
@@ -38,7 +38,10 @@ pub trait Turner {
     /// The store stands for this world.
     ghost stands: { Self → World → Type 0 };
 
-    /// The most bytes of kernel heap that were in use at a moment since the last call that may change them began.
+    /// How often the kernel heap was marked, modulo 2^64. Each call that may change the store marks it once, at its begin.
+    ghost marks: { Self → ℕ };
+
+    /// The most bytes of kernel heap that were in use at a moment since the last mark, that at the mark among them.
     ghost high: { Self → ℕ };
 
     /// The call that a live process makes next.
@@ -57,6 +60,8 @@ pub trait Turner {
         ensures script { script self.new ≡ script self.old }
         ensures turned { (world : World) → stands self.old world
             → (after : World) × stands self.new after × TurnsTo (script self.old) world pid call.now result after }
+        ensures marked { marks self.new ≡ (marks self.old + 1) % 2 ^ 64 }
+        ensures since { (world : World) → stands self.old world → live_of world ≤ high self.new }
         ensures high { (world : World) → stands self.old world → high self.new ≤ live_of world + bound call.now + slack call.now };
 
     /// Answers a live process's next call ENOMEM: its bound is above what the heap can ever give.
@@ -65,6 +70,8 @@ pub trait Turner {
         ensures script { script self.new ≡ script self.old }
         ensures refused { (world : World) → stands self.old world → is_alive world.plain.table pid ≡ true
             → stands self.new (refused_in (script self.old) world pid) }
+        ensures marked { marks self.new ≡ (marks self.old + 1) % 2 ^ 64 }
+        ensures since { (world : World) → stands self.old world → live_of world ≤ high self.new }
         ensures high { (world : World) → stands self.old world → high self.new ≤ live_of world };
 
     /// Whether a live process's next call wouldn't block now.
@@ -85,6 +92,8 @@ pub trait Turner {
             → (after : World) × stands self.new after × Evicts world what after }
         ensures kept { (world : World) → stands self.old world → can_evict world.plain world.kept what ≡ false
             → stands self.new world }
+        ensures marked { marks self.new ≡ (marks self.old + 1) % 2 ^ 64 }
+        ensures since { (world : World) → stands self.old world → live_of world ≤ high self.new }
         ensures high { (world : World) → stands self.old world → high self.new ≤ live_of world };
 
     /// The process that is to be killed where heap has to be freed; None exactly where none but the first is alive.
@@ -101,6 +110,8 @@ pub trait Turner {
         ensures gone { (world : World) → stands self.old world → is_alive world.plain.table pid ≡ false
             → stands self.new world }
         ensures first { (world : World) → stands self.old world → pid ≡ 1 → stands self.new world }
+        ensures marked { marks self.new ≡ (marks self.old + 1) % 2 ^ 64 }
+        ensures since { (world : World) → stands self.old world → live_of world ≤ high self.new }
         ensures high { (world : World) → stands self.old world → high self.new ≤ live_of world + reserve };
 
     /// Whether a process is there and has not ended.

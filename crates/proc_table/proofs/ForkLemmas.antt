@@ -2,7 +2,8 @@
 use Rattle.std.proofs.Common.{◌≡◌, ℕ, ◌+◌, ◌<◌, List, [], ◌∷◌, ◌++◌, length, Option, None, Some, refl, sym, ap, ◌∙◌, subst, arith, Contains, length-append}
 use Rattle.std.specs.List.{AllByRecursion}
 use Rattle.std.specs.Option.{option_map}
-use Rattle.kheap_shelves.specs.Objects.{put}
+use Rattle.kabi_values.specs.declared.classes.Class.TheVariants as class
+use Rattle.kheap_shelves.specs.Objects.{count, put}
 use Rattle.kheap_shelves.specs.Purse.{Purse}
 use Rattle.kheap_shelves.specs.declared.objects.Node.{Node}
 use Rattle.kheap_shelves.specs.declared.objects.Page.{Page}
@@ -10,7 +11,7 @@ use Rattle.kheap_shelves.specs.declared.objects.Proc.{Proc}
 use Rattle.kheap_slabs.specs.Heap.{Heap}
 use Rattle.kheap_slabs.specs.Keys.{ChangesKeys, Splits}
 use Rattle.kheap_slabs.specs.Owners.{Owners, with_space, IsOwned}
-use Rattle.kheap_slabs.specs.Paid.{IsPaid}
+use Rattle.kheap_slabs.specs.Paid.{IsPaid, PaysExactly}
 use Rattle.kheap_laws.proofs.OwnerLemmas.{IsOwned-space_from_front, IsOwned-space_to_front}
 use Rattle.kheap_laws.proofs.PaidLemmas.{IsPaid-trans}
 use Rattle.page_space.specs.Accounts.{AccountForks, IsAccounted}
@@ -148,6 +149,11 @@ module _ (old mid new : Heap) (before between after : Purse) (was now : TableVie
 
   pub forked-paid : IsPaid old before new after
   forked-paid = IsPaid-trans old before mid between new after forked.paid added.paid
+
+  -- the Proc changes no node
+  pub forked-exact : PaysExactly class.Node old before new after
+  forked-exact =
+      ap (λ (h : Heap). count h.nodes + after.left.node) added.kept ∙ ap (λ (purse : Purse). count mid.nodes + purse.left.node) added.spent ∙ forked.exact
 
   pub forked-table : (table : Table) → IsTable old was table → IsTable new now (table ++ child_of pid (process_at table pid) ∷ [])
   forked-table table is =

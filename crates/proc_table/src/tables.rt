@@ -8,7 +8,7 @@ ghost use Rattle.kheap_shelves.specs.Counts.{with_count};
 ghost use Rattle.kheap_shelves.specs.Objects.{object, InUse};
 ghost use Rattle.kheap_slabs.specs.Heap.{Heap, live_bytes, Makes};
 ghost use Rattle.kheap_slabs.specs.Owners.{Owners, IsOwned};
-ghost use Rattle.kheap_slabs.specs.Paid.{CanPay, IsPaid, TakesNothing};
+ghost use Rattle.kheap_slabs.specs.Paid.{CanPay, IsPaid, PaysExactly, TakesNothing};
 ghost use Rattle.posix_defs.specs.Killing.{kill};
 ghost use Rattle.posix_defs.specs.Plain.{Plain, first_process};
 ghost use Rattle.posix_defs.specs.Process.{Table};
@@ -184,6 +184,7 @@ impl ProcTable {
         ensures account { (frames : Frames) → HasAccount heap.old self.old frames → HasAccount heap.new self.new (forked_account frames pid result) }
         ensures moves { TableMoves heap.old self.old heap.new self.new }
         ensures paid { IsPaid heap.old purse.old heap.new purse.new }
+        ensures exact { PaysExactly class.Node heap.old purse.old heap.new purse.new }
         ensures spent { OnOk result (purse.new ≡ record purse.old {
           left = with_count (with_count purse.old.left class.Node purse.new.left.node) class.Proc (purse.old.left.proc - 1);
         }) }

@@ -10,7 +10,7 @@ pub go_on-requires-clause-runs : goal.go_on-requires-clause-runs
 go_on-requires-clause-runs c = caller_runs c.args.objects.now c.args.caller.now.pid c.args.caller.now c.requires.caller
 
 pub returns-in-Err-clause-uses : goal.returns-in-Err-clause-uses
-returns-in-Err-clause-uses c = uses_nothing c.args.objects.now.heap c.go_on.new.objects.heap _ c.go_on.ensures.takes
+returns-in-Err-clause-uses c = uses_nothing c.args.objects.now.heap c.go_on.new.objects.heap _ _ c.go_on.ensures.takes
 
 pub returns-in-Err-clause-does : goal.returns-in-Err-clause-does
 returns-in-Err-clause-does c =

@@ -3,7 +3,10 @@ use Rattle.std.proofs.lemmas.Int.{to_z-of_z}
 use mir.Val.{of_z, to_z}
 use Rattle.kabi_calls.specs.declared.calls.Call.TheVariants as call
 use Rattle.kabi_values.specs.declared.errnos.Errno.TheVariants.{EINVAL}
+use Rattle.posix_defs.specs.Needs.{slack}
 use Rattle.posix_defs.specs.Process.{parent_of}
+use Rattle.call_run.specs.Uses.{UsesAtMost}
+use Rattle.call_run.proofs.Paying.{uses_nothing}
 use Rattle.call_run.proofs.Replies.{DoesCall, does_fail, does_tell, does_that, others_fail, parent_is}
 use Rattle.call_run.proofs.calls.run_free.Goals as goal
 
@@ -84,3 +87,30 @@ returns-in_default-clause-does c =
     c.go_on-in_default.ensures.kept c.go_on-in_default.ensures.told c.go_on-in_default.ensures.does
     (λ plain. others_fail c.args.script.now plain c.args.caller.now.pid c.args.call.now c.requires.free c.in_default.not-Getpid c.in_default.not-Getppid c.in_default.not-SchedYield
     c.in_default.not-Exit c.in_default.not-Waitpid c.in_default.not-Kill c.in_default.not-Munmap c.in_default.not-Load)
+
+pub returns-in-Getpid-clause-uses : goal.returns-in-Getpid-clause-uses
+returns-in-Getpid-clause-uses c = uses_nothing c.args.objects.now.heap c.go_on.new.objects.heap 0 _ c.go_on.ensures.takes
+
+pub returns-in-Getppid-clause-uses : goal.returns-in-Getppid-clause-uses
+returns-in-Getppid-clause-uses c = uses_nothing c.args.objects.now.heap c.go_on-in-Getppid.new.objects.heap 0 _ c.go_on-in-Getppid.ensures.takes
+
+pub returns-in-SchedYield-clause-uses : goal.returns-in-SchedYield-clause-uses
+returns-in-SchedYield-clause-uses c = uses_nothing c.args.objects.now.heap c.go_on-in-SchedYield.new.objects.heap 0 _ c.go_on-in-SchedYield.ensures.takes
+
+pub returns-in-Waitpid-clause-uses : goal.returns-in-Waitpid-clause-uses
+returns-in-Waitpid-clause-uses c = uses_nothing c.args.objects.now.heap c.wait.new.objects.heap 0 _ c.wait.ensures.takes
+
+pub returns-in-Munmap-clause-uses : goal.returns-in-Munmap-clause-uses
+returns-in-Munmap-clause-uses c = uses_nothing c.args.objects.now.heap c.munmap.new.objects.heap 0 _ c.munmap.ensures.takes
+
+pub returns-in-Load-clause-uses : goal.returns-in-Load-clause-uses
+returns-in-Load-clause-uses c = uses_nothing c.args.objects.now.heap c.load.new.objects.heap 0 _ c.load.ensures.takes
+
+pub returns-in_default-clause-uses : goal.returns-in_default-clause-uses
+returns-in_default-clause-uses c = uses_nothing c.args.objects.now.heap c.go_on-in_default.new.objects.heap 0 _ c.go_on-in_default.ensures.takes
+
+pub returns-in-Exit-clause-uses : goal.returns-in-Exit-clause-uses
+returns-in-Exit-clause-uses c = subst (λ which. UsesAtMost c.args.objects.now.heap c.exit.new.objects.heap 0 (slack which)) (sym c.in-Exit.is) c.exit.ensures.uses
+
+pub returns-in-Kill-clause-uses : goal.returns-in-Kill-clause-uses
+returns-in-Kill-clause-uses c = subst (λ which. UsesAtMost c.args.objects.now.heap c.send.new.objects.heap 0 (slack which)) (sym c.in-Kill.is) c.send.ensures.uses

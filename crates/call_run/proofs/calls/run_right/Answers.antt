@@ -7,7 +7,7 @@ use Rattle.kabi_calls.specs.declared.calls.Call.TheVariants as call
 use Rattle.kabi_values.specs.declared.classes.Need.{Need}
 use Rattle.kheap_shelves.specs.Purse.{left_bytes}
 use Rattle.posix_defs.specs.Needs.{bound, is_write, nodes_for, objects_of, pages_in, pages_touched}
-use Rattle.call_run.proofs.Paying.{can_pay, left_is, purse_has, uses_nothing, uses_paid}
+use Rattle.call_run.proofs.Paying.{can_pay, left_is, purse_has, uses_more, uses_paid}
 use Rattle.call_run.proofs.Replies.{DoesCall, does_that, makes_none}
 use Rattle.call_run.proofs.calls.run_right.Goals as goal
 
@@ -33,7 +33,7 @@ pub returns-in-Fork-clause-uses : goal.returns-in-Fork-clause-uses
 returns-in-Fork-clause-uses c =
     let has : left_bytes c.of-purse.result ≡ bound c.args.call.now =
     purse_has c.of-purse.result c.args.need c.args.call.now c.of-purse.ensures.bytes c.requires.needed (ap (λ which. is_write (kind_of which)) c.in-Fork.is) in
-    uses_paid c.args.objects.now.heap c.fork.new.objects.heap c.of-purse.result c.fork.new.purse (bound c.args.call.now) c.fork.ensures.paid has
+    uses_paid c.args.objects.now.heap c.fork.new.objects.heap c.of-purse.result c.fork.new.purse (bound c.args.call.now) _ c.fork.ensures.paid has
 
 pub returns-in-Fork-clause-does : goal.returns-in-Fork-clause-does
 returns-in-Fork-clause-does c =
@@ -58,7 +58,7 @@ pub returns-in-Mmap-clause-uses : goal.returns-in-Mmap-clause-uses
 returns-in-Mmap-clause-uses c =
     let has : left_bytes c.of-purse.result ≡ bound c.args.call.now =
     purse_has c.of-purse.result c.args.need c.args.call.now c.of-purse.ensures.bytes c.requires.needed (ap (λ which. is_write (kind_of which)) c.in-Mmap.is) in
-    uses_paid c.args.objects.now.heap c.mmap.new.objects.heap c.of-purse.result c.mmap.new.purse (bound c.args.call.now) c.mmap.ensures.paid has
+    uses_paid c.args.objects.now.heap c.mmap.new.objects.heap c.of-purse.result c.mmap.new.purse (bound c.args.call.now) _ c.mmap.ensures.paid has
 
 pub returns-in-Mmap-clause-does : goal.returns-in-Mmap-clause-does
 returns-in-Mmap-clause-does c =
@@ -84,7 +84,7 @@ pub returns-in-Store-clause-uses : goal.returns-in-Store-clause-uses
 returns-in-Store-clause-uses c =
     let has : left_bytes c.of-purse.result ≡ bound c.args.call.now =
     purse_has c.of-purse.result c.args.need c.args.call.now c.of-purse.ensures.bytes c.requires.needed (ap (λ which. is_write (kind_of which)) c.in-Store.is) in
-    uses_paid c.args.objects.now.heap c.store.new.objects.heap c.of-purse.result c.store.new.purse (bound c.args.call.now) c.store.ensures.paid has
+    uses_paid c.args.objects.now.heap c.store.new.objects.heap c.of-purse.result c.store.new.purse (bound c.args.call.now) _ c.store.ensures.paid has
 
 pub returns-in-Store-clause-does : goal.returns-in-Store-clause-does
 returns-in-Store-clause-does c =
@@ -93,7 +93,7 @@ returns-in-Store-clause-does c =
     (subst (λ z. DoesCall c.args.script.now c.args.objects.now c.args.caller.now.pid (call.Store z c.in-Store.bytes) c.store.result c.store.new.objects) addr c.store.ensures.does)
 
 pub returns-in_default-clause-uses : goal.returns-in_default-clause-uses
-returns-in_default-clause-uses c = uses_nothing c.args.objects.now.heap c.run_free.new.objects.heap _ c.run_free.ensures.takes
+returns-in_default-clause-uses c = uses_more c.args.objects.now.heap c.run_free.new.objects.heap _ _ c.run_free.ensures.uses
 
 pub run_free-requires-clause-free : goal.run_free-requires-clause-free
 run_free-requires-clause-free c = makes_none c.args.call.now c.in_default.not-Fork c.in_default.not-Mmap c.in_default.not-Store

@@ -5,11 +5,13 @@ use Rattle.kabi_calls.specs.declared.calls.Call.TheVariants as call
 use Rattle.kabi_values.specs.declared.replies.Reply.TheVariants.{Fail, Val}
 use Rattle.posix_defs.specs.Killing.{kill, struck}
 use Rattle.posix_defs.specs.Plain.{Plain}
+use Rattle.posix_defs.specs.Sizes.{reserve}
 use Rattle.proc_table.specs.Procs.{IsAlive}
 use Rattle.proc_table.specs.Standing.{IsTable, answered_by, pid_of}
 use Rattle.call_run.specs.Objects.{procs_of}
 use Rattle.call_run.specs.Standing.{Does}
 use Rattle.call_run.proofs.EndingOthers.{alive_made}
+use Rattle.call_run.proofs.Paying.{uses_nothing}
 use Rattle.call_run.proofs.Striking.{IsStruck, answered_as, does_strike, does_tell, number_of, struck_by}
 use Rattle.call_run.proofs.calls.send.Goals as goal
 
@@ -85,3 +87,9 @@ returns-in-Ok-true-clause-does c =
     (λ plain is. answers plain is ∙ ap (answered_by script plain pid c.args.target) (c.in-Ok-true.is ∙ ap Ok c.in-Ok-true.field-0-test))
     (subst (λ n. Does script objects pid (call.Kill c.args.target c.args.signal) (λ plain. struck script plain pid n) c.strike.result c.strike.new.objects) number
     (c.strike.ensures.does (call.Kill c.args.target c.args.signal) tt))
+
+pub returns-in-Err-clause-uses : goal.returns-in-Err-clause-uses
+returns-in-Err-clause-uses c = uses_nothing c.args.objects.now.heap c.go_on.new.objects.heap 0 reserve c.go_on.ensures.takes
+
+pub returns-in-Ok-false-clause-uses : goal.returns-in-Ok-false-clause-uses
+returns-in-Ok-false-clause-uses c = uses_nothing c.args.objects.now.heap c.go_on-in-Ok-false.new.objects.heap 0 reserve c.go_on-in-Ok-false.ensures.takes

@@ -1,4 +1,6 @@
 use Rattle.std.proofs.Common.{refl, sym}
+use Rattle.posix_defs.specs.Sizes.{reserve}
+use Rattle.call_run.proofs.Paying.{uses_nothing, uses_then}
 use Rattle.call_run.proofs.Striking.{does_another, does_itself}
 use Rattle.call_run.proofs.calls.strike.Goals as goal
 
@@ -20,3 +22,8 @@ pub returns-clause-does : goal.returns-clause-does
 returns-clause-does c = λ which free.
     does_another c.args.script.now c.args.objects.now c.end.new.objects c.go_on.new.objects c.args.pid c.args.target which c.go_on.result c.requires.other c.if-target-pid.false free
     (λ plain account stands. c.end.ensures.dies c.args.script.now plain account c.requires.kept stands) c.go_on.ensures.told c.go_on.ensures.does
+
+pub returns-clause-uses : goal.returns-clause-uses
+returns-clause-uses c =
+    uses_then c.args.objects.now.heap c.end.new.objects.heap c.go_on.new.objects.heap reserve c.end.ensures.uses
+    (uses_nothing c.end.new.objects.heap c.go_on.new.objects.heap 0 reserve c.go_on.ensures.takes)

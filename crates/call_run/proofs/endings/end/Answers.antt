@@ -1,5 +1,7 @@
+use Rattle.posix_defs.specs.Sizes.{reserve}
 use Rattle.call_run.proofs.Dying.{dies_other, dies_with_all}
 use Rattle.call_run.proofs.EndingProcs.{kept_ended, runs_ended}
+use Rattle.call_run.proofs.Paying.{uses_nothing, uses_then}
 use Rattle.call_run.proofs.endings.end.Goals as goal
 
 pub returns-then-pid-eq-INIT-clause-kept : goal.returns-then-pid-eq-INIT-clause-kept
@@ -36,3 +38,11 @@ pub returns-else-pid-eq-INIT-clause-others : goal.returns-else-pid-eq-INIT-claus
 returns-else-pid-eq-INIT-clause-others c = λ _ other control apart runs.
     let old = c.args.objects.now in
     runs_ended old (record old { heap = c.end.new.heap; procs = c.end.new.self }) c.args.pid c.args.status other control apart c.end.ensures.ended runs
+
+pub returns-then-pid-eq-INIT-clause-uses : goal.returns-then-pid-eq-INIT-clause-uses
+returns-then-pid-eq-INIT-clause-uses c =
+    let old = c.args.objects.now in
+    uses_then old.heap c.end.new.heap c.end_others.new.objects.heap reserve (uses_nothing old.heap c.end.new.heap 0 reserve c.end.ensures.takes) c.end_others.ensures.uses
+
+pub returns-else-pid-eq-INIT-clause-uses : goal.returns-else-pid-eq-INIT-clause-uses
+returns-else-pid-eq-INIT-clause-uses c = uses_nothing c.args.objects.now.heap c.end.new.heap 0 reserve c.end.ensures.takes

@@ -1,16 +1,18 @@
 use Rattle.std.proofs.Common.{◌≡◌, ◌∙◌, ◌<◌, [], refl, arith}
-use Rattle.kheap_laws.proofs.PaidLemmas.{TakesNothing-refl, TakesNothing-trans}
+use Rattle.kheap_laws.proofs.PaidLemmas.{TakesNothing-refl}
 use Rattle.posix_defs.specs.Memory.{after_clear}
+use Rattle.posix_defs.specs.Sizes.{reserve}
 use Rattle.call_run.specs.Endings.{IsLowestBehind}
 use Rattle.call_run.specs.Objects.{procs_of}
 use Rattle.call_run.proofs.EndingOthers.{alive_made, begins, clears_one, ends_all, ends_one}
 use Rattle.call_run.proofs.EndingProcs.{kept_ended}
+use Rattle.call_run.proofs.Paying.{uses_nothing, uses_then}
 use Rattle.call_run.proofs.endings.end_others.Goals as goal
 
 pub loop-next-init : goal.loop-next-init
 loop-next-init c = record {
   holds = c.requires.holds;
-  takes = TakesNothing-refl c.args.objects.now.heap;
+  uses = uses_nothing c.args.objects.now.heap c.args.objects.now.heap 0 reserve (TakesNothing-refl c.args.objects.now.heap);
   kept = λ script kept. kept;
   last = refl;
   table = begins c.args.objects.now;
@@ -31,7 +33,7 @@ loop-next-preserved c =
     let new = record mid { heap = c.end.new.heap; procs = c.end.new.self } in
     record {
       holds = c.end.ensures.moves.holds;
-      takes = TakesNothing-trans c.args.objects.now.heap mid.heap c.end.new.heap c.loop-next.invariant.takes c.end.ensures.takes;
+      uses = uses_then c.args.objects.now.heap mid.heap c.end.new.heap reserve c.loop-next.invariant.uses (uses_nothing mid.heap c.end.new.heap 0 reserve c.end.ensures.takes);
       kept = λ script kept. kept_ended script mid new c.in-Some.next 9 (c.loop-next.invariant.kept script kept) c.end.ensures.moves c.end.ensures.ended;
       last = c.end.ensures.last ∙ c.loop-next.invariant.last;
       table = λ table is. ends_one c.args.objects.now mid new c.loop-next.pid c.in-Some.next table c.loop-next.invariant.holds c.loop-next.invariant.last c.in-Some.ensures.lowest

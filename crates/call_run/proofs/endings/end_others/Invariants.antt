@@ -1,13 +1,14 @@
 use Rattle.std.proofs.Common.{◌≡◌, ◌-◌}
 use Rattle.kabi_types.specs.declared.scripts.Script.{Script}
-use Rattle.kheap_slabs.specs.Paid.{TakesNothing}
 use Rattle.posix_defs.specs.Memory.{Frames}
 use Rattle.posix_defs.specs.Process.{Table}
+use Rattle.posix_defs.specs.Sizes.{reserve}
 use Rattle.proc_table.specs.Accounting.{HasAccount}
 use Rattle.proc_table.specs.Standing.{IsTable}
 use Rattle.proc_table.specs.Table.{Holds}
 use Rattle.call_run.specs.Endings.{ClearsSome}
 use Rattle.call_run.specs.Objects.{AreKept}
+use Rattle.call_run.specs.Uses.{UsesAtMost}
 use Rattle.call_run.proofs.EndingOthers.{EndsOn}
 use Rattle.call_run.proofs.endings.end_others.Given as goal
 
@@ -15,7 +16,7 @@ use Rattle.call_run.proofs.endings.end_others.Given as goal
 abbrev pub invariant-loop-next : goal.invariant-loop-next
 invariant-loop-next l = record {
   holds : Holds l.objects.heap l.objects.procs;
-  takes : TakesNothing l.fn.objects.heap l.objects.heap;
+  uses : UsesAtMost l.fn.objects.heap l.objects.heap 0 reserve;
   kept : (script : Script) → AreKept script l.fn.objects → AreKept script l.objects;
   last : l.objects.procs.last ≡ l.fn.objects.procs.last;
   table : (table : Table) → IsTable l.fn.objects.heap l.fn.objects.procs table → EndsOn l.fn.objects l.objects l.pid table;

@@ -1,9 +1,9 @@
-use Rattle.std.proofs.Common.{◌≡◌, ◌≤◌, ◌∙◌, ap, false, sym, true, arith}
-use Rattle.kheap_slabs.specs.Heap.{live_bytes}
+use Rattle.std.proofs.Common.{◌≡◌, ◌≤◌, ◌∙◌, ap, false, le_refl, sym, true, arith}
+use Rattle.kheap_slabs.specs.Heap.{Heap, live_bytes}
 use Rattle.posix_defs.specs.World.{live_of}
 use Rattle.call_run.specs.Standing.{StandFor}
 use Rattle.call_run.proofs.LiveIs.{live_is}
-use Rattle.call_run.proofs.Marking.{kept_marked, stand_marked}
+use Rattle.call_run.proofs.Marking.{kept_marked, since_mark, stand_marked}
 use Rattle.call_run.proofs.RunningProcs.{alive_is}
 use Rattle.call_run.proofs.turns.refuse.Goals as goal
 
@@ -17,7 +17,7 @@ go_on-requires-clause-kept c =
 
 pub returns-clause-high : goal.returns-clause-high
 returns-clause-high c = λ world stands.
-    let high : c.go_on.new.objects.heap.high ≤ c.mark.new.self.high = c.go_on.ensures.takes.high in
+    let high : c.go_on.new.objects.heap.high ≡ c.mark.new.self.high = c.go_on.ensures.takes.high in
     let mark : c.mark.new.self.high ≡ live_bytes c.args.objects.now.heap = ap (λ h. h.high) c.mark.ensures in
     let live : live_bytes c.args.objects.now.heap ≡ live_of world = live_is c.args.script.now c.args.objects.now world stands c.heap.ensures.well_formed in
     omega arith
@@ -39,3 +39,11 @@ unreachable-requires c =
     let marked : StandFor c.args.script.now (record { heap = c.mark.new.self; procs = c.args.objects.now.procs }) alive.0.plain alive.0.account =
     rw c.mark.ensures (stand_marked c.args.script.now c.args.objects.now _ _ alive.0.plain alive.0.account alive.1.plain) in
     never (sym alive.2 ∙ alive_is c.args.script.now _ alive.0.plain alive.0.account c.args.pid marked ∙ c.caller.ensures.none c.in_default.is)
+
+pub returns-clause-marked : goal.returns-clause-marked
+returns-clause-marked c = c.go_on.ensures.takes.marks ∙ ap (λ (h : Heap). h.marks) c.mark.ensures
+
+pub returns-clause-since : goal.returns-clause-since
+returns-clause-since c = λ world stands.
+    since_mark (live_bytes c.args.objects.now.heap) c.mark.new.self.high c.go_on.new.objects.heap.high (live_of world) (ap (λ (h : Heap). h.high) c.mark.ensures)
+    (live_is c.args.script.now c.args.objects.now world stands c.heap.ensures.well_formed) (rw c.go_on.ensures.takes.high (le_refl _))

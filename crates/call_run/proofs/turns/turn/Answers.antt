@@ -1,7 +1,7 @@
-use Rattle.std.proofs.Common.{◌≡◌, ◌+◌, ◌≤◌, ◌∙◌, max, ℕ, ap, subst, arith}
+use Rattle.std.proofs.Common.{◌≡◌, ◌+◌, ◌≤◌, ◌∙◌, max, ℕ, ap, le_refl, subst, arith}
 use Rattle.kheap_slabs.specs.Heap.{Heap, live_bytes}
 use Rattle.posix_defs.specs.Machine.{machine}
-use Rattle.posix_defs.specs.Needs.{bound}
+use Rattle.posix_defs.specs.Needs.{bound, slack}
 use Rattle.posix_defs.specs.Sizes.{reserve}
 use Rattle.posix_defs.specs.World.{live_of}
 use Rattle.call_run.specs.declared.objects.Objects.{Objects}
@@ -9,7 +9,7 @@ use Rattle.call_run.specs.Objects.{IsCaller}
 use Rattle.call_run.specs.Standing.{Does, StandsFor}
 use Rattle.call_run.proofs.Callers.{caller_of, caller_running}
 use Rattle.call_run.proofs.LiveIs.{live_is}
-use Rattle.call_run.proofs.Marking.{kept_marked, stands_marked}
+use Rattle.call_run.proofs.Marking.{kept_marked, since_mark, stands_marked}
 use Rattle.call_run.proofs.RunningProcs.{alive_is}
 use Rattle.call_run.proofs.Worlds.{gone_on, turns_on}
 use Rattle.call_run.proofs.turns.turn.Goals as goal
@@ -41,9 +41,9 @@ returns-in_default-clause-turned c = λ world stands.
     gone_on c.args.script.now new world c.args.pid c.args.call.now marked
     (alive_is c.args.script.now new world.plain world.account c.args.pid marked.plain ∙ c.caller.ensures.none c.in_default.is)
 
--- no more than at the mark and the call's bound
-at_most : (high mark marked bytes live of : ℕ) → high ≤ max mark (marked + bytes) → mark ≡ live → marked ≡ live → live ≡ of → high ≤ of + bytes
-at_most high mark marked bytes live of less same still is = omega arith
+-- no more than at the mark, the call's bound and what it may use meanwhile
+at_most : (high mark marked bytes meanwhile live of : ℕ) → high ≤ max mark (marked + bytes + meanwhile) → mark ≡ live → marked ≡ live → live ≡ of → high ≤ of + bytes + meanwhile
+at_most high mark marked bytes meanwhile live of less same still is = omega arith
 
 pub returns-in_default-clause-high : goal.returns-in_default-clause-high
 returns-in_default-clause-high c = λ world stands.
@@ -69,6 +69,22 @@ returns-clause-turned c = λ world stands.
 
 pub returns-clause-high : goal.returns-clause-high
 returns-clause-high c = λ world stands.
-    at_most c.run-turned.new.objects.heap.high c.mark.new.self.high (live_bytes c.mark.new.self) (bound c.args.call.now) (live_bytes c.args.objects.now.heap) (live_of world)
+    at_most c.run-turned.new.objects.heap.high c.mark.new.self.high (live_bytes c.mark.new.self) (bound c.args.call.now) (slack c.args.call.now) (live_bytes c.args.objects.now.heap) (live_of world)
     c.run-turned.ensures.uses.high (ap (λ (h : Heap). h.high) c.mark.ensures) (ap live_bytes c.mark.ensures)
     (live_is c.args.script.now c.args.objects.now world stands c.heap.ensures.well_formed)
+
+pub returns-clause-marked : goal.returns-clause-marked
+returns-clause-marked c = c.run-turned.ensures.uses.marks ∙ ap (λ (h : Heap). h.marks) c.mark.ensures
+
+pub returns-clause-since : goal.returns-clause-since
+returns-clause-since c = λ world stands.
+    since_mark (live_bytes c.args.objects.now.heap) c.mark.new.self.high c.run-turned.new.objects.heap.high (live_of world) (ap (λ (h : Heap). h.high) c.mark.ensures)
+    (live_is c.args.script.now c.args.objects.now world stands c.heap.ensures.well_formed) c.run-turned.ensures.uses.rises
+
+pub returns-in_default-clause-marked : goal.returns-in_default-clause-marked
+returns-in_default-clause-marked c = ap (λ (h : Heap). h.marks) c.mark.ensures
+
+pub returns-in_default-clause-since : goal.returns-in_default-clause-since
+returns-in_default-clause-since c = λ world stands.
+    since_mark (live_bytes c.args.objects.now.heap) c.mark.new.self.high c.mark.new.self.high (live_of world) (ap (λ (h : Heap). h.high) c.mark.ensures)
+    (live_is c.args.script.now c.args.objects.now world stands c.heap.ensures.well_formed) (le_refl _)

@@ -1,11 +1,12 @@
-use Rattle.std.proofs.Common.{◌≡◌, ℕ, ◌+◌, ◌<◌, List, Option, Some, length, set, get_or, refl, ap, ◌∙◌, arith, Contains}
+use Rattle.std.proofs.Common.{◌≡◌, ℕ, ◌+◌, ◌<◌, List, Option, Some, length, set, get_or, refl, ap, sym, subst, ◌∙◌, inl, inr, arith, Contains}
+use Rattle.std.proofs.lemmas.Bool.Decides.{eqb_tells}
 use Rattle.kheap_shelves.specs.Objects.{object, put}
 use Rattle.kheap_shelves.specs.declared.objects.Node.{Node}
 use Rattle.kheap_shelves.specs.declared.objects.Page.{Page}
 use Rattle.kheap_shelves.specs.declared.objects.PageEntry.TheVariants as entry
 use Rattle.kheap_slabs.specs.Heap.{Heap}
 use Rattle.kheap_slabs.specs.Owners.{Owners, with_space, IsOwned}
-use Rattle.kheap_slabs.specs.Spaces.{keys_in, page_count, mapped_count, EntryChanges}
+use Rattle.kheap_slabs.specs.Spaces.{keys_in, page_count, mapped_count, count_at, names_page, CountRises, EntryChanges}
 use Rattle.kheap_shelves.proofs.ObjectLemmas.{InUse-within, InUse-put, object-put}
 use Rattle.kheap_laws.proofs.OwnerLemmas.{IsOwned-space_changes, SpaceChanges-sets}
 use Rattle.kheap_laws.proofs.PaidLemmas.{TakesNothing-trans}
@@ -63,6 +64,21 @@ pub returns-clause-bytes : goal.returns-clause-bytes
 returns-clause-bytes c =
     let shares = shared c.args.heap.now c.set_node.new.self c.set_page_count.new.self c.args.key c.args.at c.args.page c.get_node.result.now c.get_page.result.now c.get_page.ensures c.set_node.ensures.kept c.set_page_count.ensures.kept in
     rw shares.pages (KeepsBytes-count c.args.heap.now.pages c.args.page c.get_page.result.now (record c.get_page.result.now { count = c.get_page.result.now.count + 1 }) c.get_page.ensures refl)
+
+named_more : (old new : List (Option Page)) (page other : ℕ) → CountRises old new page → count_at new other ≡ count_at old other + names_page other (entry.Frame page)
+named_more old new page other rises = elim (eqb_tells page other) [
+  | inl is ↦ rw is.0 (subst (λ key. count_at new key ≡ count_at old key + 1) is.1 rises.more)
+  | inr is ↦ rw is.0 (ap page_count (rises.others other (λ same. is.1 (sym same))) ∙ sym (plus_none (count_at old other)))
+]
+  where
+    plus_none : (n : ℕ) → n + 0 ≡ n
+    plus_none n = omega arith
+
+pub returns-clause-counts : goal.returns-clause-counts
+returns-clause-counts c other =
+    let shares = shared c.args.heap.now c.set_node.new.self c.set_page_count.new.self c.args.key c.args.at c.args.page c.get_node.result.now c.get_page.result.now c.get_page.ensures c.set_node.ensures.kept c.set_page_count.ensures.kept in
+    let rises = CountRises-set c.args.heap.now.pages c.args.page c.get_page.result.now (record c.get_page.result.now { count = c.get_page.result.now.count + 1 }) c.get_page.ensures refl in
+    named_more c.args.heap.now.pages c.set_page_count.new.self.pages c.args.page other (rw shares.pages rises)
 
 pub returns-clause-takes : goal.returns-clause-takes
 returns-clause-takes c = TakesNothing-trans c.args.heap.now c.set_node.new.self c.set_page_count.new.self c.set_node.ensures.takes c.set_page_count.ensures.takes

@@ -20,3 +20,7 @@ returns-clause-kept c = λ world stands _.
 pub returns-clause-high : goal.returns-clause-high
 returns-clause-high c = λ world stands.
     c.evict.ensures.high c.self.inside.script world (subst (λ store. StandsFor store.script store.objects world) (sym c.self.view_is) stands)
+
+pub returns-clause-since : goal.returns-clause-since
+returns-clause-since c = λ world stands.
+    c.evict.ensures.since c.self.inside.script world (subst (λ store. StandsFor store.script store.objects world) (sym c.self.view_is) stands)

@@ -1,5 +1,4 @@
-use Rattle.std.proofs.Common.{◌≤◌, sym, subst, arith}
-use Rattle.posix_defs.specs.World.{live_of}
+use Rattle.std.proofs.Common.{sym, subst}
 use Rattle.call_run.specs.Standing.{StandsFor}
 use Rattle.call_run.proofs.store.StoreTurner.kill.Goals as goal
 
@@ -20,6 +19,8 @@ returns-clause-first c = λ world stands.
 
 pub returns-clause-high : goal.returns-clause-high
 returns-clause-high c = λ world stands.
-    let most : c.kill.new.objects.heap.high ≤ live_of world =
-    c.kill.ensures.high c.self.inside.script world (subst (λ store. StandsFor store.script store.objects world) (sym c.self.view_is) stands) in
-    omega arith
+    c.kill.ensures.high c.self.inside.script world (subst (λ store. StandsFor store.script store.objects world) (sym c.self.view_is) stands)
+
+pub returns-clause-since : goal.returns-clause-since
+returns-clause-since c = λ world stands.
+    c.kill.ensures.since c.self.inside.script world (subst (λ store. StandsFor store.script store.objects world) (sym c.self.view_is) stands)

@@ -56,4 +56,4 @@ returns-clause-inside g c =
     let may = subst (λ core. MayTake g.T.Turner.stands (g.T.Turner.script core.store) core (Evict c.args.what)) (sym c.self.view_is) c.requires in
     let fits = inside g.T.Turner.stands _ _ _ _ _ may.state c.self.invariant may.is_at in
     let high = c.evict.ensures.high may.state.world may.is_at.stands in
-    rw (← c.self.view_is) (omega arith)
+    rw (← c.self.view_is) (record { marked = c.evict.ensures.marked; within = omega arith })

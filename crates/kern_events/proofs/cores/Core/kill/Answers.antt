@@ -89,4 +89,4 @@ returns-clause-inside g c =
     let may = subst (λ core. MayTake g.T.Turner.stands (g.T.Turner.script core.store) core (Kill c.args.pid)) (sym c.self.view_is) c.requires in
     let fits = inside g.T.Turner.stands _ _ _ _ _ may.state c.self.invariant may.is_at in
     let high = c.kill.ensures.high may.state.world may.is_at.stands in
-    rw (← c.self.view_is) (omega arith)
+    rw (← c.self.view_is) (record { marked = c.kill.ensures.marked; within = omega arith })

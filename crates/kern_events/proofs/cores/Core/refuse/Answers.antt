@@ -1,10 +1,11 @@
-use Rattle.std.proofs.Common.{◌≡◌, ◌<◌, ◌++◌, ◌∷◌, [], max, length, vec_capacity, refl, sym, subst, ap, ◌∙◌, arith}
+use Rattle.std.proofs.Common.{◌≡◌, ◌<◌, ◌≤◌, ◌+◌, ◌++◌, ◌∷◌, [], max, length, vec_capacity, refl, sym, subst, ap, ◌∙◌, arith}
 use Rattle.kabi_types.specs.declared.entries.Event.TheVariants.{Ask}
 use Rattle.posix_defs.specs.declared.phases.Phase.TheVariants.{User}
 use Rattle.posix_defs.specs.Sizes.{room}
 use Rattle.kern_laws.proofs.Sounds.{is_sound}
 use Rattle.kern_laws.proofs.Tasks.{found_fits, length-with}
 use Rattle.kern_tasks.specs.View.{IsAskedFor, MayTake}
+use Rattle.kern_tasks.proofs.HeapBounds.{inside}
 use Rattle.kern_tasks.proofs.NextRun.{refuses, has_room, kept_next, takes_all, rising_now}
 use Rattle.kern_events.proofs.cores.Core.refuse.Goals as goal
 
@@ -53,3 +54,10 @@ returns-clause-took g c =
 
 pub set_phase-requires : goal.set_phase-requires
 set_phase-requires g c = rising_now g.T.Turner.stands _ _ c.self.invariant.has_run
+
+pub returns-clause-inside : goal.returns-clause-inside
+returns-clause-inside g c =
+    let may = subst (λ core. MayTake g.T.Turner.stands (g.T.Turner.script core.store) core (Ask c.args.pid)) (sym c.self.view_is) c.requires.may in
+    let fits = inside g.T.Turner.stands _ _ _ _ _ may.state c.self.invariant may.is_at in
+    let high = c.refuse.ensures.high may.state.world may.is_at.stands in
+    rw (← c.self.view_is) (record { marked = c.refuse.ensures.marked; within = omega arith })

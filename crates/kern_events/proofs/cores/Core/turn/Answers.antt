@@ -126,7 +126,7 @@ returns-clause-inside g c =
     let fits : live_of may.state.world + bound c.next-call.result + 2176 + (c.self.inside.reserved - c.in-Admitted.asked.bound) ≤ (g.T.Turner.script c.self.inside.store).heap = paid.after in
     let high = c.turn-turned.ensures.high may.state.world may.is_at.stands in
     let little = little_slack c.next-call.result in
-    rw (← c.self.view_is) (omega arith)
+    rw (← c.self.view_is) (record { marked = c.turn-turned.ensures.marked; within = omega arith })
 
 pub invariant_of-self : goal.invariant_of-self
 invariant_of-self g c =

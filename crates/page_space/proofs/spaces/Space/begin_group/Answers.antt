@@ -1,6 +1,8 @@
-use Rattle.std.proofs.Common.{◌≡◌, ◌/◌, ◌%◌, ◌<◌, ℕ, List, Option, length, replicate, get_or, set, None, Some, refl, sym, ap, subst, arith}
+use Rattle.std.proofs.Common.{◌≡◌, ◌/◌, ◌%◌, ◌<◌, ◌+◌, ◌-◌, ℕ, List, Option, length, replicate, get_or, set, None, Some, refl, sym, ap, subst, arith}
 use Rattle.std.proofs.lemmas.List.{length-replicate}
-use Rattle.kheap_shelves.specs.Objects.{object}
+use Rattle.kabi_values.specs.declared.classes.Need.{Need}
+use Rattle.kheap_shelves.specs.Objects.{count, object}
+use Rattle.kheap_shelves.specs.Purse.{Purse}
 use Rattle.kheap_shelves.specs.declared.objects.Node.{Node}
 use Rattle.kheap_shelves.specs.declared.objects.PageEntry.{PageEntry}
 use Rattle.kheap_shelves.specs.declared.objects.PageEntry.TheVariants as entry
@@ -31,3 +33,10 @@ returns-clause-turns c =
     within refl refl
     (mapped_set empty (page % 64) c.args.entry within c.requires.mapped)) in
     subst (λ (s : List (Option ℕ)). PageTurns nodes c.insert_node.new.self.nodes s now page entry.Unmapped c.args.entry) c.self.view_is turned
+
+pub returns-clause-exact : goal.returns-clause-exact
+returns-clause-exact c =
+    let made : count c.insert_node.new.self.nodes ≡ count c.args.heap.now.nodes + 1 = ap (λ (n : Need). n.node) c.insert_node.ensures.makes.counts in
+    let left : c.spend.new.self.left.node ≡ c.args.purse.now.left.node - 1 = ap (λ (p : Purse). p.left.node) c.spend.ensures.kept in
+    let some : 0 < c.args.purse.now.left.node = c.requires.left in
+    omega arith

@@ -45,7 +45,7 @@ loop-page-preserved-then-next-page c = (
       c.loop-page.invariant.0 c.requires.owned.1 c.loop-page-test.true c.entry-entry.ensures
       (ap is_mapped c.entry-entry.ensures ∙ c.skip_unmapped-next.ensures.mapped c.if-next-page.true)
       c.share_entry.ensures.counts c.share_entry.ensures.kept_named c.share_entry.ensures.bytes c.share_entry.ensures.others c.share_entry.ensures.kept c.share_entry.ensures.takes
-      c.map_page.ensures.turns c.map_page.ensures.kept c.map_page.ensures.paid c.map_page.ensures.spent
+      c.map_page.ensures.turns c.map_page.ensures.kept c.map_page.ensures.paid c.map_page.ensures.exact c.map_page.ensures.spent
       (fork_left c.args.heap.now c.args.purse.now c.loop-page.heap c.loop-page.purse c.args.of.now c.loop-page.space c.loop-page.page c.loop-page.invariant.0 c.loop-page-test.true c.requires.left),
   omega arith,
 )

@@ -21,7 +21,7 @@ pub loop-page-preserved : goal.loop-page-preserved
 loop-page-preserved c =
     IsFilling-more c.args.heap.now c.loop-page.heap c.map_page.new.heap c.args.purse.now c.loop-page.purse c.map_page.new.purse
     c.args.self.now c.loop-page.self c.map_page.new.self c.args.first c.loop-page.page
-    c.loop-page.invariant (omega arith) (omega arith) c.requires.owned c.map_page.ensures.turns c.map_page.ensures.kept c.map_page.ensures.paid c.map_page.ensures.spent
+    c.loop-page.invariant (omega arith) (omega arith) c.requires.owned c.map_page.ensures.turns c.map_page.ensures.kept c.map_page.ensures.paid c.map_page.ensures.exact c.map_page.ensures.spent
     (node_left c.args.heap.now c.args.purse.now c.loop-page.heap c.loop-page.purse c.args.self.now c.loop-page.self c.args.first c.loop-page.page c.args.end
     c.loop-page.invariant (omega arith) c.loop-page-test.true c.requires.within c.requires.left)
 

@@ -1,5 +1,6 @@
-use Rattle.std.proofs.Common.{◌≡◌, ◌/◌, ◌%◌, ℕ, List, Option, get_or, set, None, Some, refl, sym, ap, subst, arith}
-use Rattle.kheap_shelves.proofs.ObjectLemmas.{object_of}
+use Rattle.std.proofs.Common.{◌≡◌, ◌/◌, ◌%◌, ℕ, List, Option, get_or, set, None, Some, refl, sym, ap, ◌∙◌, subst, arith}
+use Rattle.kheap_shelves.specs.Objects.{count}
+use Rattle.kheap_shelves.proofs.ObjectLemmas.{count-put_used, object_of}
 use Rattle.page_space.specs.Entries.{entry_at, PageTurns}
 use Rattle.page_space.proofs.KeyPlaces.{key_there}
 use Rattle.page_space.proofs.TurnLemmas.{turn-set, mapped_set}
@@ -31,3 +32,11 @@ returns-clause-kept c =
     let named : get_or space (c.args.page / 64) None ≡ Some c.in-Some.key = subst (λ (s : List (Option ℕ)). get_or s (c.args.page / 64) None ≡ Some c.in-Some.key) c.self.view_is c.in-Some.is in
     let there = object_of c.args.heap.now.nodes c.in-Some.key (c.requires.owns.used c.in-Some.key (key_there space (c.args.page / 64) c.in-Some.key named)) in
     rw (c.set_node_entry.ensures.kept there.0 there.1) refl
+
+pub returns-clause-count : goal.returns-clause-count
+returns-clause-count c =
+    let space = c.args.self.now in
+    let named : get_or space (c.args.page / 64) None ≡ Some c.in-Some.key = subst (λ (s : List (Option ℕ)). get_or s (c.args.page / 64) None ≡ Some c.in-Some.key) c.self.view_is c.in-Some.is in
+    let used = c.requires.owns.used c.in-Some.key (key_there space (c.args.page / 64) c.in-Some.key named) in
+    let there = object_of c.args.heap.now.nodes c.in-Some.key used in
+    ap (λ h. count h.nodes) (c.set_node_entry.ensures.kept there.0 there.1) ∙ count-put_used c.args.heap.now.nodes c.in-Some.key _ used

@@ -3,7 +3,7 @@ use Rattle.page_space.specs.Contents.{IsOwnedWith}
 use Rattle.kheap_laws.proofs.PaidLemmas.{CanPay-kept}
 use Rattle.proc_table.specs.Moves.{IsForked}
 use Rattle.proc_table.specs.Table.{TableView}
-use Rattle.proc_table.proofs.ForkLemmas.{forked-account, forked-child, forked-moves, forked-paid, forked-table, runs_of}
+use Rattle.proc_table.proofs.ForkLemmas.{forked-account, forked-child, forked-exact, forked-moves, forked-paid, forked-table, runs_of}
 use Rattle.proc_table.proofs.SpaceLemmas.{owned_proc}
 use Rattle.proc_table.proofs.tables.ProcTable.fork.Goals as goal
 
@@ -47,3 +47,9 @@ returns-clause-account c =
     forked-account c.args.heap.now c.fork_from-space.new.heap c.add_child.new.heap c.args.purse.now c.fork_from-space.new.purse c.add_child.new.purse c.args.self.now c.add_child.new.self
     c.args.pid c.in-Some.parent.now c.of.result c.fork_from-space.result c.requires.holds (sym c.in-Some.ensures) (runs_of _ c.args.pid c.in-Some.parent.now c.requires.alive (sym c.in-Some.ensures))
     c.of.ensures c.fork_from-space.ensures.forked c.add_child.ensures.added c.fork_from-space.ensures.account
+
+pub returns-clause-exact : goal.returns-clause-exact
+returns-clause-exact c =
+    forked-exact c.args.heap.now c.fork_from-space.new.heap c.add_child.new.heap c.args.purse.now c.fork_from-space.new.purse c.add_child.new.purse c.args.self.now c.add_child.new.self
+    c.args.pid c.in-Some.parent.now c.of.result c.fork_from-space.result c.requires.holds (sym c.in-Some.ensures) (runs_of _ c.args.pid c.in-Some.parent.now c.requires.alive (sym c.in-Some.ensures))
+    c.of.ensures c.fork_from-space.ensures.forked c.add_child.ensures.added
