@@ -1,5 +1,5 @@
 -- What the processes of the tests do, by cases.
-use Rattle.std.proofs.Common.{◌≡◌, ◌≢◌, ℕ, zero, suc, ◌+◌, ◌-◌, ◌*◌, ◌≤◌, pos, Bool, true, false, [], ◌∷◌, lit≤, refl, sym, subst, arith}
+use Rattle.std.proofs.Common.{◌≡◌, ◌≢◌, ℕ, zero, suc, ◌+◌, ◌-◌, ◌*◌, ◌≤◌, max, ap, ◌∙◌, pos, Bool, true, false, [], ◌∷◌, lit≤, refl, sym, subst, arith}
 use Rattle.kabi_calls.specs.declared.calls.Call.{Call}
 use Rattle.kabi_types.specs.declared.entries.Cached.{Cached}
 use Rattle.kabi_types.specs.declared.entries.Cached.TheVariants.{Name, Block, Vnode}
@@ -12,7 +12,7 @@ use Rattle.posix_defs.specs.Files.Descriptors.{none_open}
 use Rattle.posix_defs.specs.Needs.{bound, need_of, slack}
 use Rattle.posix_defs.specs.Process.{is_alive}
 use Rattle.posix_defs.specs.Plain.{call_of}
-use Rattle.posix_defs.specs.World.{MayKeep, boot_kept, can_evict, live_of}
+use Rattle.posix_defs.specs.World.{MayKeep, World, boot_kept, can_evict, live_of}
 use Rattle.posix_defs.specs.Relief.{Evicts}
 use Rattle.posix_defs.specs.Turn.{Answers, TurnsTo}
 use Rattle.kern_core.specs.Sample.{caching, caching_at, next_blocks, next_place, sample, world_at, live_at}
@@ -74,6 +74,10 @@ block_goes place (suc (suc zero)) Block less can = record {
   reads = refl;
 }
 block_goes place (suc (suc (suc n))) Block less can = absurd (let l : suc (suc (suc n)) ≤ 2 = less in omega arith)
+
+-- worlds of the process that asks for its pid are the same where its place and its life are
+pub same_world : {place other : ℕ} {lives living : Bool} → place ≡ other → lives ≡ living → world_at place lives boot_kept ≡ world_at other living boot_kept
+same_world {other = other} {lives = lives} at life = ap (λ n. world_at n lives boot_kept) at ∙ ap (λ b. world_at other b boot_kept) life
 
 -- the process that asks for its pid ends
 falls : (k : ℕ) → 128 ≤ 640 + k
@@ -137,8 +141,8 @@ few_next (suc zero) blocks less = less
 few_next (suc (suc zero)) blocks less = less
 few_next (suc (suc (suc n))) blocks less = lit≤ tt
 
--- a turn of it takes no more than its call may
-pub caching_high : (place blocks after : ℕ) (which : Call) → place ≤ 3 → blocks ≤ 2 → after ≡ next_blocks place blocks
+-- a turn of it takes no more than its call may: what it has cached then, and what it had before
+pub caching_high : (place blocks after : ℕ) (which : Call) → place ≤ 3 → blocks ≤ 2 → after ≡ max blocks (next_blocks place blocks)
     → which ≡ call_of caching (caching_at place blocks).plain 1 → 640 + 1088 * after ≤ live_of (caching_at place blocks) + bound which + slack which
 caching_high place blocks after which few less is call =
     let turned : Answers caching (caching_at place blocks) 1 which (Done (Fail EINVAL)) (caching_at (next_place place) (next_blocks place blocks)) =
@@ -146,7 +150,35 @@ caching_high place blocks after which few less is call =
     let live : live_of (caching_at (next_place place) (next_blocks place blocks)) ≤ live_of (caching_at place blocks) + bound which = turned.live in
     let here : live_of (caching_at (next_place place) (next_blocks place blocks)) ≡ 640 + 1088 * next_blocks place blocks =
     caching_live (next_place place) (next_blocks place blocks) (few_next place blocks less) in
-    more after (next_blocks place blocks) (live_of (caching_at place blocks) + bound which) (slack which) is (subst (λ n. n ≤ live_of (caching_at place blocks) + bound which) here live)
+    let before : live_of (caching_at place blocks) ≡ 640 + 1088 * blocks = caching_live place blocks less in
+    more after blocks (next_blocks place blocks) (live_of (caching_at place blocks)) (bound which) (slack which) is before
+    (subst (λ n. n ≤ live_of (caching_at place blocks) + bound which) here live)
   where
-    more : (a b n m : ℕ) → a ≡ b → 640 + 1088 * b ≤ n → 640 + 1088 * a ≤ n + m
-    more a b n m e l = omega arith
+    more : (a b c l n m : ℕ) → a ≡ max b c → l ≡ 640 + 1088 * b → 640 + 1088 * c ≤ l + n → 640 + 1088 * a ≤ l + n + m
+    more a b c l n m e was less = omega arith
+
+-- since a mark as much was taken as at it
+pub caching_since : (world : World) (place blocks most : ℕ) → world ≡ caching_at place blocks → blocks ≤ 2 → blocks ≤ most → live_of world ≤ 640 + 1088 * most
+caching_since world place blocks most is less above =
+    let live : live_of world ≡ 640 + 1088 * blocks = ap live_of is ∙ caching_live place blocks less in omega arith
+
+-- and where nothing more is cached no more
+pub caching_stays : (world : World) (place blocks most : ℕ) → world ≡ caching_at place blocks → blocks ≤ 2 → most ≡ blocks → 640 + 1088 * most ≤ live_of world
+caching_stays world place blocks most is less same =
+    let live : live_of world ≡ 640 + 1088 * blocks = ap live_of is ∙ caching_live place blocks less in omega arith
+
+-- the same of the process that asks for its pid
+pub sample_since : (world : World) (place : ℕ) (lives : Bool) (high : ℕ) → world ≡ world_at place lives boot_kept → high ≡ live_at lives → live_of world ≤ high
+sample_since world place lives high is same =
+    let live : live_of world ≡ live_at lives = ap live_of is ∙ sample_live place lives in
+    at_least (live_of world) (live_at lives) high live same
+  where
+    at_least : (a b c : ℕ) → a ≡ b → c ≡ b → a ≤ c
+    at_least a b c one other = omega arith
+
+-- worlds of the process that caches are the same where its place and its blocks are
+pub same_caching : {place other blocks cached : ℕ} → place ≡ other → blocks ≡ cached → caching_at place blocks ≡ caching_at other cached
+same_caching {other = other} {blocks = blocks} at has = ap (λ n. caching_at n blocks) at ∙ ap (caching_at other) has
+
+pub no_less : {a b : ℕ} → a ≡ b → b ≤ a
+no_less same = omega (arith, same)

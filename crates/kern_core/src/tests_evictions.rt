@@ -1,6 +1,6 @@
 //! A run over a store that has something to evict.
 
-ghost use Rattle.std.specs.Prelude.{◌≡◌, ◌≤◌, ◌-◌, ◌+◌, ◌*◌};
+ghost use Rattle.std.specs.Prelude.{◌≡◌, ◌≤◌, ◌-◌, ◌+◌, ◌*◌, ◌%◌, ◌^◌, max};
 ghost use Rattle.kern_core.specs.Sample.{caching, caching_at, next_blocks, next_place};
 
 use crate::picks::picked;
@@ -10,32 +10,53 @@ use posix_defs::{Turned, Turner};
 use std::test::Fail;
 
 /// A store of one process, which makes a directory, writes much and reads a byte, over and over: no call that it makes is
-/// built, so each is answered EINVAL. To make the directory two blocks are cached. It has the place behind the call that the process made last,
-/// and how many blocks are cached.
+/// built, so each is answered EINVAL. To make the directory two blocks are cached. It has the place behind the call that the
+/// process made last, how many blocks are cached, and of its heap how often that was marked, and the most blocks that were
+/// cached since.
 #[derive(Drop)]
 struct Caching {
     place: u32,
     blocks: u32,
+    marks: u64,
+    most: u32,
     ghost places: { place ≤ 3 },
     ghost few: { blocks ≤ 2 },
+    ghost above: { blocks ≤ most },
 }
 
 impl Caching {
+    /// A call begins.
+    fn mark(&mut self)
+        ensures place { self.new.place ≡ self.old.place }
+        ensures blocks { self.new.blocks ≡ self.old.blocks }
+        ensures most { self.new.most ≡ self.old.blocks }
+        ensures marks { self.new.marks ≡ (self.old.marks + 1) % 2 ^ 64 }
+    {
+        self.marks = self.marks.wrapping_add(1);
+        self.most = self.blocks;
+    }
+
     /// The turn of a call fills the cache.
     fn fill(&mut self)
         ensures place { self.new.place ≡ self.old.place }
         ensures blocks { self.new.blocks ≡ next_blocks self.old.place self.old.blocks }
+        ensures most { self.new.most ≡ max self.old.most self.new.blocks }
+        ensures marks { self.new.marks ≡ self.old.marks }
     {
-        self.blocks = match self.place {
+        let blocks = match self.place {
             1 | 2 => self.blocks,
             _ => 2,
         };
+        self.most = self.most.max(blocks);
+        self.blocks = blocks;
     }
 
     /// The call is over.
     fn go_on(&mut self)
         ensures place { self.new.place ≡ next_place self.old.place }
         ensures blocks { self.new.blocks ≡ self.old.blocks }
+        ensures most { self.new.most ≡ self.old.most }
+        ensures marks { self.new.marks ≡ self.old.marks }
     {
         self.place = match self.place {
             1 => 2,
@@ -50,7 +71,9 @@ impl Turner for Caching {
 
     ghost stands = { λ store world. world ≡ caching_at store.place store.blocks };
 
-    ghost high = { λ store. 640 + 1088 * store.blocks };
+    ghost marks = { λ store. store.marks };
+
+    ghost high = { λ store. 640 + 1088 * store.most };
 
     fn next(&self, _pid: u32) -> Call {
         match self.place {
@@ -72,6 +95,7 @@ impl Turner for Caching {
     }
 
     fn turn(&mut self, pid: u32, _call: &Call, _need: Need) -> Turned {
+        self.mark();
         if pid != 1 {
             return Turned::Gone;
         }
@@ -81,6 +105,7 @@ impl Turner for Caching {
     }
 
     fn refuse(&mut self, _pid: u32) {
+        self.mark();
         self.go_on();
     }
 
@@ -93,6 +118,7 @@ impl Turner for Caching {
     }
 
     fn evict(&mut self, what: Cached) {
+        self.mark();
         if what == Cached::Block && self.blocks > 0 {
             self.blocks -= 1;
         }
@@ -102,7 +128,9 @@ impl Turner for Caching {
         None
     }
 
-    fn kill(&mut self, _pid: u32) {}
+    fn kill(&mut self, _pid: u32) {
+        self.mark();
+    }
 
     fn alive(&self, pid: u32) -> bool {
         pid == 1
@@ -128,6 +156,8 @@ fn at_boot() -> Caching
     Caching {
         place: 0,
         blocks: 0,
+        marks: 0,
+        most: 0,
     }
 }
 
