@@ -29,6 +29,7 @@ use Rattle.posix_defs.specs.Plain.{at_start, boot_plain, control_of, first_proce
 use Rattle.posix_defs.specs.SoundTasks.{AllAtHome}
 use Rattle.posix_defs.specs.ValidScript.{IsValid}
 use Rattle.posix_defs.specs.World.{boot_world}
+use Rattle.kern_laws.proofs.Bareness.{boot_bare}
 use Rattle.kern_laws.proofs.Families.{reached_kept}
 use Rattle.prog_ctl.specs.Runnable.{Rests, Stands}
 use Rattle.proc_table.specs.Accounting.{HasAccount}
@@ -252,7 +253,9 @@ boot_stands_for script copy objects place control same named settles stands rest
         home = boot_home;
         controls = λ pid proc found up. boot_controls script control leads pid proc (ap (λ ps. proc_of ps pid) (sym booted.first) ∙ found);
         accounted = booted.account;
+        bare = boot_bare script.disk;
       };
+      no_queues = record { pipes = refl; sockets = refl };
       cached = refl;
       reads = refl;
     }

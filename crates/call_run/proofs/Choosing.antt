@@ -14,7 +14,9 @@ use Rattle.posix_defs.specs.Memory.{places_of}
 use Rattle.posix_defs.specs.Plain.{Plain}
 use Rattle.posix_defs.specs.Process.{Table, runs}
 use Rattle.posix_defs.specs.Victim.{pid_of_greatest, victim_of, weight_of, weights_from}
-use Rattle.posix_defs.specs.World.{Account}
+use Rattle.posix_defs.specs.Account.{Account}
+use Rattle.posix_defs.specs.Files.Descriptors.{none_open, open_count}
+use Rattle.posix_defs.specs.Files.Bare.{IsBare}
 use Rattle.proc_table.specs.Accounting.{IsPlaced}
 use Rattle.proc_table.specs.Procs.{status_of}
 use Rattle.proc_table.specs.Standing.{AreFrom, nobody, gone, there}
@@ -34,19 +36,24 @@ use Rattle.call_run.proofs.Owning.{Owns, all_own}
 abbrev pub IsWeighed : Heap → Plain → Account → Proc → Type 0
 IsWeighed h plain account proc = weight_of plain account proc.pid ≡ weight_in h proc
 
-weight : ℕ → ℕ → ℕ → Weight
-weight pid frames nodes = record { pid = pid; frames = frames; nodes = nodes; descs = 0 }
+weight : ℕ → ℕ → ℕ → ℕ → Weight
+weight pid frames nodes descs = record { pid = pid; frames = frames; nodes = nodes; descs = descs }
 
-same_weight : (pid frames other nodes more : ℕ) → frames ≡ other → nodes ≡ more → weight pid frames nodes ≡ weight pid other more
-same_weight pid frames other nodes more e f = ap (λ n. weight pid n nodes) e ∙ ap (λ n. weight pid other n) f
+same_weight : (pid frames other nodes more descs : ℕ) → frames ≡ other → nodes ≡ more → descs ≡ 0 → weight pid frames nodes descs ≡ weight pid other more 0
+same_weight pid frames other nodes more descs e f g = ap (λ n. weight pid n nodes descs) e ∙ ap (λ n. weight pid other n descs) f ∙ ap (weight pid other more) g
 
-weighed_so : (h : Heap) (plain : Plain) (account : Account) (number : ℕ → ℕ) (proc : Proc) → IsWellFormed h → IsPlaced number h.nodes account proc → length proc.nodes ≡ 4
-    → OwnsNodes h.nodes proc.nodes → IsWeighed h plain account proc
+none_counted : open_count none_open ≡ 0
+unfolding none_open
+none_counted = refl
+
+weighed_so : (h : Heap) (plain : Plain) (account : Account) (number : ℕ → ℕ) (proc : Proc) → IsWellFormed h → IsPlaced number h.nodes account.frames proc → length proc.nodes ≡ 4
+    → OwnsNodes h.nodes proc.nodes → IsBare plain.files → IsWeighed h plain account proc
 unfolding weight
-weighed_so h plain account number proc whole placed four owns =
-    same_weight proc.pid _ _ _ _
-    (frames_are number h.nodes proc.nodes (places_of account proc.pid) placed.whole placed.places owns whole.entries four)
-    (nodes_by_places h proc.nodes number (places_of account proc.pid) whole owns four placed.places placed.whole)
+weighed_so h plain account number proc whole placed four owns bare =
+    same_weight proc.pid _ _ _ _ _
+    (frames_are number h.nodes proc.nodes (places_of account.frames proc.pid) placed.whole placed.places owns whole.entries four)
+    (nodes_by_places h proc.nodes number (places_of account.frames proc.pid) whole owns four placed.places placed.whole)
+    (ap open_count (bare.descriptors proc.pid) ∙ none_counted)
 
 -- a machine's weights but the first process's are those of the processes in the heap
 weighed : (told : Option ℕ) (pid : ℕ) (w : Weight) (others rest : List Weight) → w.pid ≡ pid → others ≡ filter (λ v. not (v.pid == 1)) rest
@@ -100,15 +107,15 @@ chosen_is h table procs policy plain account (Some pid) are rising all none vict
 
 -- Whom the scores choose among the processes is the machine's victim.
 pub victim_is : (script other : Script) (objects : Objects) (policy : Policy) (plain : Plain) (account : Account) (chosen : Option ℕ) → AreKept other objects → IsWellFormed objects.heap
-    → StandFor script objects plain account
+    → StandFor script objects plain account.frames
     → (IsNone chosen → All (λ w. w.pid ≡ 1) (weights_in objects.heap (procs_of objects))) → IfSome chosen (IsVictim policy (weights_in objects.heap (procs_of objects)))
     → chosen ≡ victim_of policy plain account
 victim_is script other objects policy plain account chosen kept whole stands none victim =
     let has = stands.accounted in
     let procs = procs_of objects in
     let rising = rising_procs objects.heap.procs objects.procs.listed 0 objects.procs.last kept.holds.stored kept.holds.rising in
-    let all = all_weaker (λ (p : Proc). IsPlaced has.number objects.heap.nodes account p × ((length p.nodes ≡ 4) × Owns objects.heap.nodes p)) (IsWeighed objects.heap plain account) procs
-    (λ p known. weighed_so objects.heap plain account has.number p whole known.0 known.1.0 known.1.1)
-    (all_both (IsPlaced has.number objects.heap.nodes account) (λ p. (length p.nodes ≡ 4) × Owns objects.heap.nodes p) procs has.placed
+    let all = all_weaker (λ (p : Proc). IsPlaced has.number objects.heap.nodes account.frames p × ((length p.nodes ≡ 4) × Owns objects.heap.nodes p)) (IsWeighed objects.heap plain account) procs
+    (λ p known. weighed_so objects.heap plain account has.number p whole known.0 known.1.0 known.1.1 stands.bare)
+    (all_both (IsPlaced has.number objects.heap.nodes account.frames) (λ p. (length p.nodes ≡ 4) × Owns objects.heap.nodes p) procs has.placed
     (all_both (λ p. length p.nodes ≡ 4) (Owns objects.heap.nodes) procs kept.groups (all_own objects.heap objects.procs kept.holds))) in
     chosen_is objects.heap plain.table procs policy plain account chosen stands.table.present rising all none victim

@@ -4,13 +4,14 @@ use Rattle.std.specs.List.{AllByRecursion}
 use Rattle.std.specs.Option.{option_map}
 use Rattle.kabi_types.specs.declared.scripts.Script.{Script}
 use Rattle.kheap_shelves.specs.declared.objects.Proc.{Proc}
+use Rattle.posix_defs.specs.Account.{forget_dead}
 use Rattle.posix_defs.specs.Control.{settled}
 use Rattle.posix_defs.specs.Ending.{die}
 use Rattle.posix_defs.specs.Family.{IsKept}
 use Rattle.posix_defs.specs.Memory.{Frames, Places, after_clear, kept_from, no_places, without_dead}
 use Rattle.posix_defs.specs.Plain.{Plain, control_of, last_pid}
 use Rattle.posix_defs.specs.Process.{Table, is_alive, is_alive_in, is_there, process_at}
-use Rattle.posix_defs.specs.World.{Account, forget_dead}
+use Rattle.kern_laws.proofs.Bareness.{die_bare}
 use Rattle.kern_laws.proofs.Families.{dies_on, first_lives}
 use Rattle.kern_laws.proofs.Nexts.{alive_is_there, die_ends, die_next}
 use Rattle.kern_laws.proofs.TablePlaces.{each_changed}
@@ -52,7 +53,7 @@ forget_turns alive frames [] dead = refl
 forget_turns alive frames (pid ∷ pids) dead = forget_turns alive (after_clear frames pid) pids dead ∙ forget_cleared alive frames pid (dead pid)
 
 -- A machine that the objects stand for, in which a process that runs is to end.
-module _ (script : Script) (old : Objects) (plain : Plain) (account : Account) (kept : AreKept script old) (stands : StandFor script old plain account) where
+module _ (script : Script) (old : Objects) (plain : Plain) (account : Frames) (kept : AreKept script old) (stands : StandFor script old plain account) where
   counted : length plain.table ≡ last_pid plain
   counted = stands.table.made ∙ stands.last
 
@@ -112,6 +113,7 @@ module _ (script : Script) (old : Objects) (plain : Plain) (account : Account) (
         home = (let next = die_next plain pid pid status counted in next.home stands.home);
         controls = controls_on new pid status is;
         accounted = has;
+        bare = die_bare plain pid status stands.bare;
       }
 
   -- the first, and with it all
@@ -148,6 +150,7 @@ module _ (script : Script) (old : Objects) (plain : Plain) (account : Account) (
         controls = λ q it found up.
             missing it (sym (nobody q) ∙ process_is new.heap (die plain 1 status).table (procs_of new) q is.present ∙ ap (option_map (process_of new.heap)) found);
         accounted = has;
+        bare = die_bare plain 1 status stands.bare;
       }
 
   -- its own end, and then that of all others

@@ -3,10 +3,10 @@ use Rattle.std.proofs.Common.{◌≡◌, ℕ, suc, ◌+◌, ◌<◌, not, Bool, 
 use Rattle.kabi_types.specs.declared.scripts.Script.{Script}
 use Rattle.kheap_shelves.specs.declared.objects.Proc.{Proc}
 use Rattle.kheap_slabs.specs.Spaces.{keys_in}
-use Rattle.posix_defs.specs.Memory.{Places, kept_from, no_places, places_of}
+use Rattle.posix_defs.specs.Account.{forget_dead}
+use Rattle.posix_defs.specs.Memory.{Frames, Places, kept_from, no_places, places_of}
 use Rattle.posix_defs.specs.Plain.{Plain}
 use Rattle.posix_defs.specs.Process.{is_alive}
-use Rattle.posix_defs.specs.World.{Account, forget_dead}
 use Rattle.proc_table.specs.Accounting.{IsPlaced}
 use Rattle.proc_table.specs.Procs.{HasNoMemoryOnce, IsLight, proc_of}
 use Rattle.proc_table.proofs.AccountLemmas.{only_places}
@@ -33,7 +33,7 @@ some_status : (o : Option ℕ) → not (is_some o) ≡ false → (nodes : List (
 some_status None e nodes light = cc
 some_status (Some status) e nodes light = light
 
-dead_places : (script : Script) (objects : Objects) (plain : Plain) (account : Account) → AreKept script objects → StandFor script objects plain account
+dead_places : (script : Script) (objects : Objects) (plain : Plain) (account : Frames) → AreKept script objects → StandFor script objects plain account
     → (pid : ℕ) → is_alive plain.table pid ≡ false → (o : Option Proc) → proc_of (procs_of objects) pid ≡ o → places_of account pid ≡ no_places
 dead_places script objects plain account kept stands pid dead None is = stands.accounted.gone pid is
 dead_places script objects plain account kept stands pid dead (Some proc) is =
@@ -45,7 +45,7 @@ dead_places script objects plain account kept stands pid dead (Some proc) is =
     ∙ only_places stands.accounted.number objects.heap.nodes proc.nodes (places_of account proc.pid) (some_status proc.status over proc.nodes light.memory) placed.whole placed.places
 
 -- An account that the objects stand for has forgotten the dead.
-pub forgotten : (script : Script) (objects : Objects) (plain : Plain) (account : Account) → AreKept script objects → StandFor script objects plain account
+pub forgotten : (script : Script) (objects : Objects) (plain : Plain) (account : Frames) → AreKept script objects → StandFor script objects plain account
     → forget_dead plain account ≡ account
 forgotten script objects plain account kept stands =
     ap (λ places. record account { places = places })

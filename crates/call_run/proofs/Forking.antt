@@ -12,16 +12,16 @@ use Rattle.kabi_types.specs.declared.scripts.Control.{Control}
 use Rattle.kabi_types.specs.declared.scripts.Script.{Script}
 use Rattle.kheap_shelves.specs.declared.objects.Proc.{Proc}
 use Rattle.kheap_slabs.specs.Heap.{Heap}
+use Rattle.kern_laws.proofs.Bareness.{heir_bare}
 use Rattle.kern_laws.proofs.EnabledEvents.{get_behind}
 use Rattle.kern_laws.proofs.TablePlaces.{get_front}
 use Rattle.posix_defs.specs.Answer.{replied}
 use Rattle.posix_defs.specs.ByPid.{at_pid}
 use Rattle.posix_defs.specs.Control.{after, settled}
 use Rattle.posix_defs.specs.Forking.{fork, with_child}
-use Rattle.posix_defs.specs.Memory.{after_fork}
+use Rattle.posix_defs.specs.Memory.{Frames, after_fork}
 use Rattle.posix_defs.specs.Plain.{Plain, answered, at_start, control_of}
 use Rattle.posix_defs.specs.Process.{Table, is_alive}
-use Rattle.posix_defs.specs.World.{Account}
 use Rattle.posix_defs.specs.declared.turner.Turned.{Turned}
 use Rattle.posix_defs.specs.declared.turner.Turned.TheVariants.{Done}
 use Rattle.prog_ctl.specs.Runnable.{Rests, Stands}
@@ -178,7 +178,7 @@ module _ (script : Script) (old mid moved : Objects) (pid child : ℕ) (control 
     at_call = runs.at_call;
   }
 
-  controls_then : (plain : Plain) (account : Account) → StandFor script old plain account → settled script (after script (control_of plain pid) (Val (pos 0))) ≡ next
+  controls_then : (plain : Plain) (account : Frames) → StandFor script old plain account → settled script (after script (control_of plain pid) (Val (pos 0))) ≡ next
       → (q : ℕ) (it : Proc) → proc_of (procs_of moved) q ≡ Some it → it.status ≡ None → settled script (control_of (with_child script plain pid) q) ≡ it.control
   controls_then plain account stands leads q it found up =
       let was = mapped_from (replaced child now) (proc_of (procs_of old ++ made ∷ []) q) it (sym (found_then q) ∙ found) in
@@ -200,7 +200,7 @@ module _ (script : Script) (old mid moved : Objects) (pid child : ℕ) (control 
       ]
 
   -- The objects stand for the machine with the child.
-  pub stands_forked : (plain : Plain) (account : Account) → StandFor script old plain account → is_alive plain.table pid ≡ true
+  pub stands_forked : (plain : Plain) (account : Frames) → StandFor script old plain account → is_alive plain.table pid ≡ true
       → fork script plain pid ≡ replied script (with_child script plain pid) pid (Val (pos child))
       → IsTable mid.heap mid.procs (with_child script plain pid).table → HasAccount mid.heap mid.procs (after_fork account pid)
       → settled script (after script (control_of plain pid) (Val (pos 0))) ≡ next
@@ -217,15 +217,16 @@ module _ (script : Script) (old mid moved : Objects) (pid child : ℕ) (control 
         controls = controls_then plain account stands leads;
         accounted = subst (λ k. HasAccount moved.heap k (after_fork account pid)) (sym turned.same)
             (on-account mid.heap moved.heap mid.procs child turned.key turned.proc now between.holds turned.turns (after_fork account pid) has);
+        bare = heir_bare plain.files pid stands.bare;
       }
 
   -- From each machine to the one with the child, in which its parent is told the child's pid.
   pub does_fork : (new : Objects) (told : Turned) → AreKept script new → Ok child ≡ forked_as (length old.procs.listed) old.procs.last
       → ((table : Table) → IsTable old.heap old.procs table → IsTable mid.heap mid.procs (forked_in table pid (Ok child)))
-      → ((frames : Account) → HasAccount old.heap old.procs frames → HasAccount mid.heap mid.procs (after_fork frames pid))
+      → ((frames : Frames) → HasAccount old.heap old.procs frames → HasAccount mid.heap mid.procs (after_fork frames pid))
       → ((before : Control) → settled script before ≡ control → settled script (after script before (Val (pos 0))) ≡ next)
       → told ≡ Done (Val (pos child))
-      → ((plain : Plain) (account : Account) → StandFor script moved plain account → is_alive plain.table pid ≡ true
+      → ((plain : Plain) (account : Frames) → StandFor script moved plain account → is_alive plain.table pid ≡ true
       → StandFor script new (answered script plain pid (Val (pos child))) account)
       → Does script old pid call.Fork (λ plain. fork script plain pid) told new
   does_fork new told kept_new answer table has leads tells goes = λ plain account stands alive.
@@ -241,7 +242,7 @@ module _ (script : Script) (old mid moved : Objects) (pid child : ℕ) (control 
 -- From each machine to itself, where nobody more can be made.
 pub does_full : (script : Script) (old new : Objects) (pid : ℕ) (errno : Errno) (told : Turned) → AreKept script old → AreKept script new
     → Err errno ≡ forked_as (length old.procs.listed) old.procs.last → told ≡ Done (Fail errno)
-    → ((plain : Plain) (account : Account) → StandFor script old plain account → is_alive plain.table pid ≡ true → StandFor script new (answered script plain pid (Fail errno)) account)
+    → ((plain : Plain) (account : Frames) → StandFor script old plain account → is_alive plain.table pid ≡ true → StandFor script new (answered script plain pid (Fail errno)) account)
     → Does script old pid call.Fork (λ plain. fork script plain pid) told new
 does_full script old new pid errno told kept kept_new answer tells goes = λ plain account stands alive.
     let answers : fork script plain pid ≡ replied script plain pid (Fail errno) =

@@ -9,10 +9,10 @@ use Rattle.kabi_values.specs.declared.replies.Reply.{Reply}
 use Rattle.kabi_types.specs.declared.scripts.Control.{Control}
 use Rattle.kabi_types.specs.declared.scripts.Script.{Script}
 use Rattle.kheap_shelves.specs.declared.objects.Proc.{Proc}
+use Rattle.posix_defs.specs.Memory.{Frames}
 use Rattle.posix_defs.specs.ByPid.{at_pid, with_pid}
 use Rattle.posix_defs.specs.Control.{after, settled}
 use Rattle.posix_defs.specs.Plain.{Plain, answered, at_start, control_of, last_pid}
-use Rattle.posix_defs.specs.World.{Account}
 use Rattle.prog_ctl.specs.Runnable.{Rests, Stands}
 use Rattle.proc_table.specs.Changes.{replaced}
 use Rattle.proc_table.specs.Moves.{TableMoves}
@@ -83,7 +83,7 @@ at_another controls (suc i) zero control d apart = refl
 at_another controls (suc i) (suc j) control d apart = ap (λ found. unwrap_or found d) (get_set_other controls i j control (λ same. apart (ap (λ k. suc k) same)))
 
 -- a process that is there was made
-pub proc_made : (script : Script) (objects : Objects) (plain : Plain) (account : Account) (pid : ℕ) (proc : Proc) → AreKept script objects → StandFor script objects plain account
+pub proc_made : (script : Script) (objects : Objects) (plain : Plain) (account : Frames) (pid : ℕ) (proc : Proc) → AreKept script objects → StandFor script objects plain account
     → proc_of (procs_of objects) pid ≡ Some proc → (0 < pid) × (pid ≤ last_pid plain)
 proc_made script objects plain account pid proc kept stands is =
     let own : proc.pid ≡ pid = proc_has_pid (procs_of objects) pid proc is in
@@ -118,7 +118,7 @@ kept_moved script old new pid control kept moves stands rests =
     (subst (AreAtCalls script) (sym procs) (all_replaced (λ proc. proc.status ≡ None → IsAtCall script proc) (procs_of old) pid now kept.calls (λ up. record { stands = stands; rests = rests })))
 
 -- the controls of all others are what they were
-pub goes_on : (script : Script) (old new : Objects) (plain : Plain) (account : Account) (pid : ℕ) (reply : Reply) (control : Control) → AreKept script old
+pub goes_on : (script : Script) (old new : Objects) (plain : Plain) (account : Frames) (pid : ℕ) (reply : Reply) (control : Control) → AreKept script old
     → StandFor script old plain account → MovesOn old pid control new → settled script (after script (control_of plain pid) reply) ≡ control
     → StandFor script new (answered script plain pid reply) account
 goes_on script old new plain account pid reply control kept stands moves leads = record {
@@ -128,6 +128,7 @@ goes_on script old new plain account pid reply control kept stands moves leads =
   home = stands.home;
   controls = controls;
   accounted = subst (λ k. HasAccount new.heap k account) (sym moves.same) (on-account old.heap new.heap old.procs pid moves.key moves.proc now kept.holds moves.turns account stands.accounted);
+  bare = stands.bare;
 }
   where
     now : Proc
@@ -164,6 +165,6 @@ at_its_call script objects pid control kept runs =
     (subst (Stands script) runs.at_call at.stands, subst (Rests script) runs.at_call at.rests)
 
 -- its machine's control leads there
-pub led_to : (script : Script) (objects : Objects) (plain : Plain) (account : Account) (pid : ℕ) (control : Control) → Runs objects pid control
+pub led_to : (script : Script) (objects : Objects) (plain : Plain) (account : Frames) (pid : ℕ) (control : Control) → Runs objects pid control
     → StandFor script objects plain account → settled script (control_of plain pid) ≡ control
 led_to script objects plain account pid control runs stands = stands.controls pid runs.proc runs.found runs.up ∙ runs.at_call

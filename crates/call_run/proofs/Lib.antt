@@ -15,6 +15,8 @@ pub mod SpacesBack
 pub mod LongRuns
 pub mod RightNumbers
 pub mod FrameCounts
+pub mod NoQueues
+pub mod LeavingNothing
 pub mod Owning
 pub mod Weighing
 pub mod Choosing

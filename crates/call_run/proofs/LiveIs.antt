@@ -1,5 +1,6 @@
 -- What a store's heap has in use.
-use Rattle.std.proofs.Common.{◌≡◌, ℕ, ◌+◌, ◌*◌, ◌<◌, ◌≤◌, suc, length, Option, None, Some, refl, ap, sym, ◌∙◌, subst, arith}
+use Rattle.std.proofs.Common.{◌≡◌, ℕ, ◌+◌, ◌*◌, ◌<◌, ◌≤◌, suc, map, length, is_some, Option, None, Some, refl, ap, sym, ◌∙◌, subst, arith}
+use Rattle.std.specs.List.{count_by}
 use Rattle.std.proofs.lemmas.List.{length-map}
 use Rattle.kabi_types.specs.declared.scripts.Script.{Script}
 use Rattle.kheap_shelves.specs.Objects.{count}
@@ -11,6 +12,9 @@ use Rattle.page_space.proofs.FrameCounts.{frames_are_pages}
 use Rattle.page_space.proofs.NodeCounts.{count_of_keys, nodes_by_places}
 use Rattle.posix_defs.specs.Memory.{Frames, frames_named, no_places, nodes_in, nodes_named, places_of}
 use Rattle.posix_defs.specs.Process.{how_many}
+use Rattle.posix_defs.specs.Account.{Account, chunks_taken, files_base, pipe_lengths, socket_lengths, unread_in_pipe, unread_in_socket}
+use Rattle.posix_defs.specs.Files.State.{Files}
+use Rattle.posix_defs.specs.Files.Bare.{IsBare}
 use Rattle.posix_defs.specs.World.{World, cached, live_of}
 use Rattle.proc_table.specs.Accounting.{HasAccount, IsPlaced}
 use Rattle.proc_table.specs.Procs.{proc_of}
@@ -60,6 +64,20 @@ nodes_all script objects frames kept whole has =
 length-keys_of : (objects : Objects) → length (keys_of objects.procs.listed) ≡ length objects.procs.listed
 length-keys_of objects = length-map objects.procs.listed _
 
+-- where nothing is open, nothing is taken for it
+no_files_base : (files : Files) (account : Account) → IsBare files → files_base files account ≡ 0
+no_files_base files account bare =
+    let descriptions : count_by is_some files.descriptions ≡ 0 = ap (count_by is_some) bare.descriptions in
+    let pipes : count_by is_some files.pipes ≡ 0 = ap (count_by is_some) bare.pipes in
+    let sockets : count_by is_some files.sockets ≡ 0 = ap (count_by is_some) bare.sockets in
+    let in_pipes : chunks_taken (pipe_lengths files) account.pipes ≡ 0 = ap (λ there. chunks_taken (map unread_in_pipe there) account.pipes) bare.pipes in
+    let in_sockets : chunks_taken (socket_lengths files) account.sockets ≡ 0 = ap (λ there. chunks_taken (map unread_in_socket there) account.sockets) bare.sockets in
+    none (count_by is_some files.descriptions) (count_by is_some files.pipes) (count_by is_some files.sockets)
+    (chunks_taken (pipe_lengths files) account.pipes) (chunks_taken (socket_lengths files) account.sockets) descriptions pipes sockets in_pipes in_sockets
+  where
+    none : (d p s c e : ℕ) → d ≡ 0 → p ≡ 0 → s ≡ 0 → c ≡ 0 → e ≡ 0 → d * 64 + p * 128 + s * 128 + (c + e) * 576 ≡ 0
+    none d p s c e e1 e2 e3 e4 e5 = omega arith
+
 -- What the heap has in use is what the world takes.
 pub live_is : (script : Script) (objects : Objects) (world : World) → StandsFor script objects world → IsWellFormed objects.heap
     → live_bytes objects.heap ≡ live_of world
@@ -69,8 +87,8 @@ live_is script objects world stands whole =
     let procs : count objects.heap.procs ≡ how_many world.plain.table =
     count_of_keys objects.heap.procs _ kept.all ∙ length-keys_of objects
     ∙ sym (length-procs_at objects.heap.procs objects.procs.listed kept.holds.stored) ∙ as_many stands.plain.table.present in
-    let nodes : count objects.heap.nodes ≡ nodes_named world.account = nodes_all script objects world.account kept whole has in
-    let pages : count objects.heap.pages ≡ frames_named world.account = frames_are_pages has.number objects.heap.pages world.account has.numbers
+    let nodes : count objects.heap.nodes ≡ nodes_named world.account.frames = nodes_all script objects world.account.frames kept whole has in
+    let pages : count objects.heap.pages ≡ frames_named world.account.frames = frames_are_pages has.number objects.heap.pages world.account.frames has.numbers
     (λ key used. subst (λ n. 0 < n) (sym (has.numbers.counts key used)) (kept.owned.pages.named key used)) in
     let root = kept.root_alone in
     let vnodes : count objects.heap.vnodes ≡ 1 = root.vnodes in
@@ -83,9 +101,9 @@ live_is script objects world stands whole =
     let caches : cached world.kept ≡ 128 = ap cached stands.cached in
     sum (count objects.heap.procs) (count objects.heap.nodes) (count objects.heap.pages) (count objects.heap.descs) (count objects.heap.vnodes)
     (count objects.heap.names) (count objects.heap.blocks) (count objects.heap.pipes) (count objects.heap.chunks) (count objects.heap.socks)
-    (how_many world.plain.table) (nodes_named world.account) (frames_named world.account) (cached world.kept)
-    procs nodes pages descs vnodes names blocks pipes chunks socks caches
+    (how_many world.plain.table) (nodes_named world.account.frames) (frames_named world.account.frames) (cached world.kept) (files_base world.plain.files world.account)
+    procs nodes pages descs vnodes names blocks pipes chunks socks caches (no_files_base world.plain.files world.account stands.plain.bare)
   where
-    sum : (p n g d v m b i k s p' n' g' c : ℕ) → p ≡ p' → n ≡ n' → g ≡ g' → d ≡ 0 → v ≡ 1 → m ≡ 0 → b ≡ 0 → i ≡ 0 → k ≡ 0 → s ≡ 0 → c ≡ 128
-        → 512 * p + 512 * n + 4096 * g + 64 * d + 128 * v + 64 * m + 1088 * b + 128 * i + 576 * k + 128 * s ≡ p' * 512 + n' * 512 + g' * 4096 + c
-    sum p n g d v m b i k s p' n' g' c e1 e2 e3 e4 e5 e6 e7 e8 e9 e10 e11 = omega arith
+    sum : (p n g d v m b i k s p' n' g' c f : ℕ) → p ≡ p' → n ≡ n' → g ≡ g' → d ≡ 0 → v ≡ 1 → m ≡ 0 → b ≡ 0 → i ≡ 0 → k ≡ 0 → s ≡ 0 → c ≡ 128 → f ≡ 0
+        → 512 * p + 512 * n + 4096 * g + 64 * d + 128 * v + 64 * m + 1088 * b + 128 * i + 576 * k + 128 * s ≡ p' * 512 + n' * 512 + g' * 4096 + f + c
+    sum p n g d v m b i k s p' n' g' c f e1 e2 e3 e4 e5 e6 e7 e8 e9 e10 e11 e12 = omega arith

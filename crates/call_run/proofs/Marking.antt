@@ -3,8 +3,9 @@ use Rattle.std.proofs.Common.{◌≡◌, ℕ, ◌≤◌, refl, arith}
 use Rattle.kabi_types.specs.declared.scripts.Script.{Script}
 use Rattle.kheap_slabs.specs.Heap.{Heap}
 use Rattle.kheap_slabs.specs.Owners.{Owners, IsOwned}
+use Rattle.posix_defs.specs.Memory.{Frames}
 use Rattle.posix_defs.specs.Plain.{Plain}
-use Rattle.posix_defs.specs.World.{Account, World}
+use Rattle.posix_defs.specs.World.{World}
 use Rattle.proc_table.specs.Table.{with_procs}
 use Rattle.proc_table.proofs.LawLemmas.{elsewhere_account, elsewhere_table}
 use Rattle.call_run.specs.declared.objects.Objects.{Objects}
@@ -49,7 +50,7 @@ kept_marked script objects high marks kept = record {
   calls = kept.calls;
 }
 
-pub stand_marked : (script : Script) (objects : Objects) (high marks : ℕ) (plain : Plain) (account : Account) → StandFor script objects plain account
+pub stand_marked : (script : Script) (objects : Objects) (high marks : ℕ) (plain : Plain) (account : Frames) → StandFor script objects plain account
     → StandFor script (marked_as objects high marks) plain account
 stand_marked script objects high marks plain account stands = record {
   table = elsewhere_table objects.heap (marked_as objects high marks).heap objects.procs plain.table refl refl refl stands.table;
@@ -58,12 +59,14 @@ stand_marked script objects high marks plain account stands = record {
   home = stands.home;
   controls = stands.controls;
   accounted = elsewhere_account objects.heap (marked_as objects high marks).heap objects.procs account refl refl refl stands.accounted;
+  bare = stands.bare;
 }
 
 pub stands_marked : (script : Script) (objects : Objects) (high marks : ℕ) (world : World) → StandsFor script objects world → StandsFor script (marked_as objects high marks) world
 stands_marked script objects high marks world stands = record {
   kept = kept_marked script objects high marks stands.kept;
-  plain = stand_marked script objects high marks world.plain world.account stands.plain;
+  plain = stand_marked script objects high marks world.plain world.account.frames stands.plain;
+  no_queues = stands.no_queues;
   cached = stands.cached;
   reads = stands.reads;
 }

@@ -9,11 +9,10 @@ use Rattle.kabi_values.specs.declared.errnos.Errno.TheVariants.{EFAULT}
 use Rattle.kabi_values.specs.declared.replies.Reply.TheVariants.{Bytes, Fail, Val}
 use Rattle.kabi_types.specs.declared.scripts.Script.{Script}
 use Rattle.posix_defs.specs.Answer.{Answer, failed, replied}
-use Rattle.posix_defs.specs.Memory.{after_put, is_mapped_range, loaded, stored}
+use Rattle.posix_defs.specs.Memory.{Frames, after_put, is_mapped_range, loaded, stored}
 use Rattle.posix_defs.specs.MemoryCalls.{in_range, load, remembered, store}
 use Rattle.posix_defs.specs.Plain.{Plain, answered}
 use Rattle.posix_defs.specs.Process.{is_alive, memory_of}
-use Rattle.posix_defs.specs.World.{Account}
 use Rattle.posix_defs.specs.declared.turner.Turned.{Turned}
 use Rattle.posix_defs.specs.declared.turner.Turned.TheVariants.{Done}
 use Rattle.kern_laws.proofs.Remembering.{alive_still}
@@ -45,8 +44,8 @@ range_serves script plain pid addr start n b answer begins is =
 -- a range with a page that isn't mapped
 pub does_fault : {X : Type 0} (script : Script) (old new : Objects) (pid : ℕ) (which : Call) (addr : ℤ) (start n : ℕ) (errno : Errno) (told : Turned)
     (answer : Plain → Answer) (gives : Plain → X) → (0 < n → start ≡ count_of addr) → AreKept script new → told ≡ Done (Fail errno)
-    → ((plain : Plain) (account : Account) → StandFor script old plain account → Err errno ≡ given (is_mapped_range (memory_of plain.table pid) start n) (gives plain))
-    → ((plain : Plain) (account : Account) → StandFor script old plain account → is_alive plain.table pid ≡ true → StandFor script new (answered script plain pid (Fail errno)) account)
+    → ((plain : Plain) (account : Frames) → StandFor script old plain account → Err errno ≡ given (is_mapped_range (memory_of plain.table pid) start n) (gives plain))
+    → ((plain : Plain) (account : Frames) → StandFor script old plain account → is_alive plain.table pid ≡ true → StandFor script new (answered script plain pid (Fail errno)) account)
     → Does script old pid which (λ plain. in_range script plain pid addr n (answer plain)) told new
 does_fault script old new pid which addr start n errno told answer gives begins kept tells mapped goes =
     does_said script old new pid which (Fail errno) told (λ plain. in_range script plain pid addr n (answer plain)) kept tells goes (λ account. refl)
@@ -57,10 +56,10 @@ does_fault script old new pid which addr start n errno told answer gives begins 
 -- bytes that are put in a range that is mapped
 pub does_store : (script : Script) (old mid new : Objects) (pid : ℕ) (addr : ℤ) (bytes : List ℕ) (start : ℕ) (number : ℤ) (told : Turned)
     → (0 < length bytes → start ≡ count_of addr) → number ≡ pos (length bytes) → AreKept script new → told ≡ Done (Val number)
-    → ((plain : Plain) (account : Account) → StandFor script old plain account → Ok tt ≡ given {X = Unit {0}} (is_mapped_range (memory_of plain.table pid) start (length bytes)) tt)
-    → ((plain : Plain) (account : Account) → StandFor script old plain account
+    → ((plain : Plain) (account : Frames) → StandFor script old plain account → Ok tt ≡ given {X = Unit {0}} (is_mapped_range (memory_of plain.table pid) start (length bytes)) tt)
+    → ((plain : Plain) (account : Frames) → StandFor script old plain account
     → StandFor script mid (remembered plain pid (stored (memory_of plain.table pid) start bytes)) (after_put account pid start (length bytes)))
-    → ((plain : Plain) (account : Account) → StandFor script mid plain account → is_alive plain.table pid ≡ true → StandFor script new (answered script plain pid (Val number)) account)
+    → ((plain : Plain) (account : Frames) → StandFor script mid plain account → is_alive plain.table pid ≡ true → StandFor script new (answered script plain pid (Val number)) account)
     → Does script old pid (call.Store addr bytes) (λ plain. store script plain pid addr bytes) told new
 does_store script old mid new pid addr bytes start number told begins is kept tells mapped puts goes = λ plain account stands alive.
     let memory = memory_of plain.table pid in
@@ -81,9 +80,9 @@ does_store script old mid new pid addr bytes start number told begins is kept te
 -- bytes that are taken from one
 pub does_load : (script : Script) (old new : Objects) (pid : ℕ) (addr count : ℤ) (start n : ℕ) (bytes : List ℕ) (told : Turned)
     → n ≡ count_of count → (0 < n → start ≡ count_of addr) → AreKept script new → told ≡ Done (Bytes bytes)
-    → ((plain : Plain) (account : Account) → StandFor script old plain account
+    → ((plain : Plain) (account : Frames) → StandFor script old plain account
     → Ok bytes ≡ given (is_mapped_range (memory_of plain.table pid) start n) (loaded (memory_of plain.table pid) start n))
-    → ((plain : Plain) (account : Account) → StandFor script old plain account → is_alive plain.table pid ≡ true → StandFor script new (answered script plain pid (Bytes bytes)) account)
+    → ((plain : Plain) (account : Frames) → StandFor script old plain account → is_alive plain.table pid ≡ true → StandFor script new (answered script plain pid (Bytes bytes)) account)
     → Does script old pid (call.Load addr count) (λ plain. load script plain pid addr count) told new
 does_load script old new pid addr count start n bytes told is begins kept tells takes goes =
     does_said script old new pid (call.Load addr count) (Bytes bytes) told (λ plain. load script plain pid addr count) kept tells goes (λ account. refl)

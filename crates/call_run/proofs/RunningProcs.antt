@@ -4,9 +4,9 @@ use Rattle.std.specs.Option.{option_map}
 use Rattle.kheap_shelves.specs.declared.objects.Proc.{Proc}
 use Rattle.kheap_slabs.specs.Heap.{Heap}
 use Rattle.kabi_types.specs.declared.scripts.Script.{Script}
+use Rattle.posix_defs.specs.Memory.{Frames}
 use Rattle.posix_defs.specs.Plain.{Plain}
 use Rattle.posix_defs.specs.Process.{is_alive, is_alive_in, runs}
-use Rattle.posix_defs.specs.World.{Account}
 use Rattle.proc_table.specs.Procs.{IsAlive, proc_of, process_of, status_of}
 use Rattle.proc_table.proofs.FamilyLemmas.{process_is}
 use Rattle.call_run.specs.declared.objects.Objects.{Objects}
@@ -46,7 +46,7 @@ alive_as h (Some proc) = go proc.status
     go (Some status) = refl
 
 -- who runs is alive in the machine
-pub alive_is : (script : Script) (objects : Objects) (plain : Plain) (account : Account) (pid : ℕ) → StandFor script objects plain account
+pub alive_is : (script : Script) (objects : Objects) (plain : Plain) (account : Frames) (pid : ℕ) → StandFor script objects plain account
     → is_alive plain.table pid ≡ is_running (procs_of objects) pid
 alive_is script objects plain account pid stands =
     ap is_alive_in (process_is objects.heap plain.table (procs_of objects) pid stands.table.present)
@@ -65,6 +65,6 @@ running procs pid is = go (proc_of procs pid) refl (sym (found_running procs pid
     go None e up = absurd (let f : false ≡ true = sym (ap runs_in e) ∙ up in cc)
     go (Some proc) e up = record { proc = proc; there = e; runs = no_status proc.status (sym (ap runs_in e) ∙ up) }
 
-pub alive_runs : (script : Script) (objects : Objects) (plain : Plain) (account : Account) (pid : ℕ) → StandFor script objects plain account
+pub alive_runs : (script : Script) (objects : Objects) (plain : Plain) (account : Frames) (pid : ℕ) → StandFor script objects plain account
     → is_alive plain.table pid ≡ true → IsAlive (procs_of objects) pid
 alive_runs script objects plain account pid stands alive = running (procs_of objects) pid (sym (alive_is script objects plain account pid stands) ∙ alive)

@@ -7,11 +7,11 @@ use Rattle.kabi_values.specs.declared.errnos.Errno.{Errno}
 use Rattle.kabi_calls.specs.declared.calls.Call.TheVariants as call
 use Rattle.kabi_values.specs.declared.replies.Reply.TheVariants.{Val}
 use Rattle.kabi_types.specs.declared.scripts.Script.{Script}
+use Rattle.posix_defs.specs.Memory.{Frames}
 use Rattle.posix_defs.specs.Answer.{Blocked, replied}
 use Rattle.posix_defs.specs.Machine.{blocks, machine, unless_wrong}
 use Rattle.posix_defs.specs.Plain.{Plain}
 use Rattle.posix_defs.specs.Waiting.{is_nohang, waitpid}
-use Rattle.posix_defs.specs.World.{Account}
 use Rattle.prog_ctl.specs.Waits.{wait_of}
 use Rattle.prog_ctl.specs.declared.waits.Awaited.{Awaited}
 use Rattle.proc_table.specs.Changes.{reaped_of}
@@ -40,7 +40,7 @@ blocks_where script plain pid options Nobody = go (is_nohang options)
     go false = refl
 
 -- a wait blocks by what its caller would be answered
-pub blocks_as_told : (script : Script) (objects : Objects) (plain : Plain) (account : Account) (pid : ℕ) (which options : ℤ) (told : Reaped)
+pub blocks_as_told : (script : Script) (objects : Objects) (plain : Plain) (account : Frames) (pid : ℕ) (which options : ℤ) (told : Reaped)
     → StandFor script objects plain account → reaped_of pid which (procs_of objects) ≡ told → blocks (waitpid script plain pid which options) ≡ sleeps told options
 blocks_as_told script objects plain account pid which options told stands is =
     ap blocks (wait_is script plain pid which options)

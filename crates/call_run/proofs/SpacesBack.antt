@@ -8,11 +8,10 @@ use Rattle.kheap_shelves.specs.declared.objects.Proc.{Proc}
 use Rattle.kheap_slabs.specs.Heap.{Heap}
 use Rattle.page_space.specs.Accounts.{AccountMoves}
 use Rattle.page_space.specs.Contents.{StandsFor}
-use Rattle.posix_defs.specs.Memory.{Memory}
+use Rattle.posix_defs.specs.Memory.{Frames, Memory}
 use Rattle.posix_defs.specs.MemoryCalls.{remembered}
 use Rattle.posix_defs.specs.Plain.{Plain}
 use Rattle.posix_defs.specs.Process.{memory_in, memory_of}
-use Rattle.posix_defs.specs.World.{Account}
 use Rattle.kern_laws.proofs.Remembering.{found_before, remembers_family}
 use Rattle.proc_table.specs.Accounting.{HasAccount}
 use Rattle.proc_table.specs.Changes.{with_nodes}
@@ -106,13 +105,13 @@ runs_back script old new mid pid key proc now kept turns same control runs =
     }
 
 -- what a process has in memory
-pub memory_here : (script : Script) (objects : Objects) (plain : Plain) (account : Account) (pid : ℕ) (proc : Proc) → StandFor script objects plain account
+pub memory_here : (script : Script) (objects : Objects) (plain : Plain) (account : Frames) (pid : ℕ) (proc : Proc) → StandFor script objects plain account
     → proc_of (procs_of objects) pid ≡ Some proc → memory_of plain.table pid ≡ memory_at objects.heap proc.nodes
 memory_here script objects plain account pid proc stands found =
     ap memory_in (process_is objects.heap plain.table (procs_of objects) pid stands.table.present ∙ ap (option_map (process_of objects.heap)) found)
 
 -- The objects stand for the machine with another memory.
-pub stand_back : (script : Script) (old new : Objects) (mid : Heap) (pid key : ℕ) (proc : Proc) (now : List (Option ℕ)) (plain : Plain) (account after : Account) (memory : Memory)
+pub stand_back : (script : Script) (old new : Objects) (mid : Heap) (pid key : ℕ) (proc : Proc) (now : List (Option ℕ)) (plain : Plain) (account after : Frames) (memory : Memory)
     → Holds old.heap old.procs → (stands : StandFor script old plain account) → SpaceTurns old.heap mid new.heap old.procs pid key proc now → new.procs ≡ old.procs
     → StandsFor mid now memory → length memory ≡ 256 → AccountMoves old.heap mid proc.nodes now stands.accounted.number account after pid
     → StandFor script new (remembered plain pid memory) after
@@ -128,4 +127,5 @@ stand_back script old new mid pid key proc now plain account after memory holds 
       stands.controls q old_one.0 old_one.1 (sym old_one.2.status ∙ up) ∙ sym old_one.2.control;
   accounted = subst (λ k. HasAccount new.heap k after) (sym same)
       (back-account old.heap mid new.heap old.procs pid key proc now holds turns account after stands.accounted moved);
+  bare = stands.bare;
 }

@@ -9,12 +9,13 @@ use Rattle.kabi_values.specs.declared.replies.Reply.{Reply}
 use Rattle.kabi_values.specs.declared.replies.Reply.TheVariants.{Val}
 use Rattle.kabi_types.specs.declared.scripts.Script.{Script}
 use Rattle.kheap_shelves.specs.declared.objects.Proc.{Proc}
+use Rattle.posix_defs.specs.Memory.{Frames}
+use Rattle.posix_defs.specs.Account.{forget_dead}
 use Rattle.posix_defs.specs.Answer.{Ended, replied}
 use Rattle.posix_defs.specs.Ending.{die}
 use Rattle.posix_defs.specs.Killing.{is_asking, kill, struck}
 use Rattle.posix_defs.specs.Plain.{Plain, answered}
 use Rattle.posix_defs.specs.Process.{is_alive}
-use Rattle.posix_defs.specs.World.{Account, forget_dead}
 use Rattle.posix_defs.specs.declared.turner.Turned.{Turned}
 use Rattle.posix_defs.specs.declared.turner.Turned.TheVariants as turned
 use Rattle.kern_laws.proofs.Nexts.{die_keeps}
@@ -31,10 +32,10 @@ use Rattle.call_run.proofs.Leading.{led_on, same_frames}
 -- a process has ended: from each machine that the objects stood for, they stand for the one without it
 abbrev pub Dies : Script → Objects → ℕ → ℕ → Objects → Type 0
 Dies script old pid status new =
-    (plain : Plain) (account : Account) → StandFor script old plain account → StandFor script new (die plain pid status) (forget_dead (die plain pid status) account)
+    (plain : Plain) (account : Frames) → StandFor script old plain account → StandFor script new (die plain pid status) (forget_dead (die plain pid status) account)
 
 -- its own call ended it
-pub led_ended : (script : Script) (new : Objects) (plain next : Plain) (account : Account) (pid : ℕ) (which : Call) (status : ℕ) (told : Turned)
+pub led_ended : (script : Script) (new : Objects) (plain next : Plain) (account : Frames) (pid : ℕ) (which : Call) (status : ℕ) (told : Turned)
     → told ≡ turned.Ended status → StandFor script new next (forget_dead next account) → Led script new plain account pid which (Ended status next) told
 led_ended script new plain next account pid which status told tells stands = record { next = next; stands = stands; tells = (tells, refl) }
 
@@ -48,7 +49,7 @@ does_itself script old new pid target which told same dies tells = λ plain acco
 
 pub does_another : (script : Script) (old mid new : Objects) (pid target : ℕ) (which : Call) (told : Turned) → target ≢ 1 → target ≢ pid → TouchesNothing which
     → Dies script old target 9 mid → told ≡ turned.Done (Val (pos 0))
-    → ((plain : Plain) (account : Account) → StandFor script mid plain account → is_alive plain.table pid ≡ true → StandFor script new (answered script plain pid (Val (pos 0))) account)
+    → ((plain : Plain) (account : Frames) → StandFor script mid plain account → is_alive plain.table pid ≡ true → StandFor script new (answered script plain pid (Val (pos 0))) account)
     → Does script old pid which (λ plain. struck script plain pid target) told new
 does_another script old mid new pid target which told other apart free dies tells goes = λ plain account stands alive.
     let base = die plain target 9 in
@@ -66,7 +67,7 @@ does_another script old mid new pid target which told other apart free dies tell
 pub does_tell : (script : Script) (old new : Objects) (pid : ℕ) (target signal : ℤ) (said : Reply) (told : Turned) → AreKept script new
     → ((plain : Plain) → IsTable old.heap old.procs plain.table → kill script plain pid target signal ≡ replied script plain pid said)
     → told ≡ turned.Done said
-    → ((plain : Plain) (account : Account) → StandFor script old plain account → is_alive plain.table pid ≡ true → StandFor script new (answered script plain pid said) account)
+    → ((plain : Plain) (account : Frames) → StandFor script old plain account → is_alive plain.table pid ≡ true → StandFor script new (answered script plain pid said) account)
     → Does script old pid (call.Kill target signal) (λ plain. kill script plain pid target signal) told new
 does_tell script old new pid target signal said told kept answers tells goes = λ plain account stands alive.
     subst (λ answer. Led script new plain account pid (call.Kill target signal) answer told) (sym (answers plain stands.table))

@@ -24,7 +24,7 @@ missing o proc e f = cc
 pub up : (script : Script) (objects : Objects) (world : World) (pid : ℕ) (proc : Proc) → StandsFor script objects world → is_alive world.plain.table pid ≡ true
     → proc_of (procs_of objects) pid ≡ Some proc → proc.status ≡ None
 up script objects world pid proc stands alive found =
-    let runs = alive_runs script objects world.plain world.account pid stands.plain alive in
+    let runs = alive_runs script objects world.plain world.account.frames pid stands.plain alive in
     ap (λ p. p.status) (some_same (proc_of (procs_of objects) pid) proc runs.proc found runs.there) ∙ runs.runs
 
 pub up_at_call : (script : Script) (objects : Objects) (world : World) (pid : ℕ) (proc : Proc) → StandsFor script objects world → is_alive world.plain.table pid ≡ true

@@ -10,6 +10,7 @@ use Rattle.kabi_values.specs.declared.replies.Reply.TheVariants.{Val, Waited}
 use Rattle.kabi_types.specs.declared.scripts.Control.{Control}
 use Rattle.kabi_types.specs.declared.scripts.Script.{Script}
 use Rattle.kheap_shelves.specs.declared.objects.Proc.{Proc}
+use Rattle.posix_defs.specs.Memory.{Frames}
 use Rattle.posix_defs.specs.Answer.{Blocked, replied}
 use Rattle.posix_defs.specs.declared.turner.Turned.{Turned}
 use Rattle.posix_defs.specs.declared.turner.Turned.TheVariants.{Done, Sleep}
@@ -19,7 +20,6 @@ use Rattle.posix_defs.specs.Plain.{Plain, answered, last_pid, with_table}
 use Rattle.posix_defs.specs.Process.{is_alive}
 use Rattle.posix_defs.specs.SoundTasks.{AllAtHome}
 use Rattle.posix_defs.specs.Waiting.{is_nohang, waitpid}
-use Rattle.posix_defs.specs.World.{Account}
 use Rattle.kern_laws.proofs.Families.{answers_on}
 use Rattle.kern_laws.proofs.Nexts.{AnswerGoes, posix_goes}
 use Rattle.proc_table.specs.Accounting.{HasAccount}
@@ -42,7 +42,7 @@ use Rattle.call_run.proofs.Leading.{led_blocked, led_on, same_frames}
 use Rattle.call_run.proofs.RunningProcs.{alive_is, running_as}
 
 -- who is whose child, and who works where, behind a call that is over
-pub kept_by : (script : Script) (objects : Objects) (plain base : Plain) (account : Account) (pid : ℕ) (which : Call) (said : Reply)
+pub kept_by : (script : Script) (objects : Objects) (plain base : Plain) (account : Frames) (pid : ℕ) (which : Call) (said : Reply)
     → StandFor script objects plain account → is_alive plain.table pid ≡ true → machine script plain pid which ≡ replied script base pid said
     → IsFamily base.table × AllAtHome base.table
 kept_by script objects plain base account pid which said stands alive is =
@@ -123,24 +123,24 @@ runs_waited script old mid pid parent control which told kept runs is procs =
         found_other (procs_of old) gone pid (λ same. differ gone status (took_ended old.heap old.procs parent which gone status kept.holds is) same) ∙ runs.found
 
 -- who runs is alive in the machine
-pub alive_there : (script : Script) (objects : Objects) (plain : Plain) (account : Account) (pid : ℕ) (control : Control) → Runs objects pid control
+pub alive_there : (script : Script) (objects : Objects) (plain : Plain) (account : Frames) (pid : ℕ) (control : Control) → Runs objects pid control
     → StandFor script objects plain account → is_alive plain.table pid ≡ true
 alive_there script objects plain account pid control runs stands =
     alive_is script objects plain account pid stands ∙ running_as (procs_of objects) pid runs.proc false runs.found (ap is_some runs.up)
 
 -- what a wait with right operands is answered
-pub waits_as : (script : Script) (objects : Objects) (plain : Plain) (account : Account) (pid : ℕ) (which options : ℤ) (told : Reaped)
+pub waits_as : (script : Script) (objects : Objects) (plain : Plain) (account : Frames) (pid : ℕ) (which options : ℤ) (told : Reaped)
     → StandFor script objects plain account → told ≡ reaped_of pid which (procs_of objects) → waitpid script plain pid which options ≡ answered_wait script plain pid options told
 waits_as script objects plain account pid which options told stands is =
     wait_is script plain pid which options
     ∙ ap (answered_wait script plain pid options) (sym (found_is objects.heap plain.table (procs_of objects) pid which stands.table.present) ∙ sym is)
 
 -- The objects stand for the machine without who was told.
-pub waited_stands : (script : Script) (old mid : Objects) (plain : Plain) (account : Account) (pid : ℕ) (which options : ℤ) (told : Reaped)
+pub waited_stands : (script : Script) (old mid : Objects) (plain : Plain) (account : Frames) (pid : ℕ) (which options : ℤ) (told : Reaped)
     → StandFor script old plain account → is_alive plain.table pid ≡ true → argument_fault (call.Waitpid which options) ≡ None
     → told ≡ reaped_of pid which (procs_of old) → procs_of mid ≡ after_wait told (procs_of old) → mid.procs.last ≡ old.procs.last
     → ((table : _) → IsTable old.heap old.procs table → IsTable mid.heap mid.procs (waited_in table told))
-    → ((frames : Account) → HasAccount old.heap old.procs frames → HasAccount mid.heap mid.procs frames)
+    → ((frames : Frames) → HasAccount old.heap old.procs frames → HasAccount mid.heap mid.procs frames)
     → StandFor script mid (with_table plain (waited_in plain.table told)) account
 waited_stands script old mid plain account pid which options told stands alive right is procs last table has = record {
   table = table plain.table stands.table;
@@ -149,6 +149,7 @@ waited_stands script old mid plain account pid which options told stands alive r
   home = (both told (waits_as script old plain account pid which options told stands is)).1;
   controls = λ q it found up. stands.controls q it (was_found told (procs_of old) q it (ap (λ ps. proc_of ps q) (sym procs) ∙ found)) up;
   accounted = has account stands.accounted;
+  bare = stands.bare;
 }
   where
     both : (told : Reaped) → waitpid script plain pid which options ≡ answered_wait script plain pid options told → IsFamily (waited_in plain.table told) × AllAtHome (waited_in plain.table told)
@@ -163,9 +164,9 @@ pub does_waited : (script : Script) (old mid new : Objects) (pid : ℕ) (control
     → AreKept script old → AreKept script new → Runs old pid control → argument_fault (call.Waitpid which options) ≡ None
     → told ≡ reaped_of pid which (procs_of old) → procs_of mid ≡ after_wait told (procs_of old) → mid.procs.last ≡ old.procs.last
     → ((table : _) → IsTable old.heap old.procs table → IsTable mid.heap mid.procs (waited_in table told))
-    → ((frames : Account) → HasAccount old.heap old.procs frames → HasAccount mid.heap mid.procs frames)
+    → ((frames : Frames) → HasAccount old.heap old.procs frames → HasAccount mid.heap mid.procs frames)
     → turned ≡ Done said
-    → ((plain : Plain) (account : Account) → StandFor script mid plain account → is_alive plain.table pid ≡ true → StandFor script new (answered script plain pid said) account)
+    → ((plain : Plain) (account : Frames) → StandFor script mid plain account → is_alive plain.table pid ≡ true → StandFor script new (answered script plain pid said) account)
     → ((plain : Plain) → answered_wait script plain pid options told ≡ replied script (with_table plain (waited_in plain.table told)) pid said)
     → Does script old pid (call.Waitpid which options) (λ plain. waitpid script plain pid which options) turned new
 does_waited script old mid new pid control which options told said turned kept kept_new runs right is procs last table has tells goes answers = λ plain account stands alive.
@@ -181,7 +182,7 @@ does_waited script old mid new pid control which options told said turned kept k
 pub does_sleep : (script : Script) (old mid : Objects) (pid : ℕ) (which options : ℤ) (told : Reaped) → argument_fault (call.Waitpid which options) ≡ None
     → told ≡ reaped_of pid which (procs_of old) → procs_of mid ≡ after_wait told (procs_of old) → mid.procs.last ≡ old.procs.last
     → ((table : _) → IsTable old.heap old.procs table → IsTable mid.heap mid.procs (waited_in table told))
-    → ((frames : Account) → HasAccount old.heap old.procs frames → HasAccount mid.heap mid.procs frames)
+    → ((frames : Frames) → HasAccount old.heap old.procs frames → HasAccount mid.heap mid.procs frames)
     → told ≡ Nobody → is_nohang options ≡ false
     → Does script old pid (call.Waitpid which options) (λ plain. waitpid script plain pid which options) Sleep mid
 does_sleep script old mid pid which options told right is procs last table has nobody hangs = λ plain account stands alive.

@@ -1,3 +1,4 @@
+pub mod FramesAlone
 pub mod Objects
 pub mod Standing
 pub mod Uses

@@ -8,6 +8,7 @@ ghost use Rattle.kabi_types.specs.declared.scripts.Control.{Control};
 ghost use Rattle.kabi_types.specs.declared.scripts.Script.{Script};
 ghost use Rattle.kheap_slabs.specs.Heap.{live_bytes};
 ghost use Rattle.kheap_slabs.specs.Paid.{CanPay, IsPaid, TakesNothing};
+ghost use Rattle.posix_defs.specs.Memory.{Frames};
 ghost use Rattle.posix_defs.specs.Answer.{Ended};
 ghost use Rattle.posix_defs.specs.Control.{after, settled};
 ghost use Rattle.posix_defs.specs.Ending.{die, exit_status};
@@ -19,7 +20,6 @@ ghost use Rattle.posix_defs.specs.Plain.{Plain, answered};
 ghost use Rattle.posix_defs.specs.Process.{is_alive};
 ghost use Rattle.posix_defs.specs.Sizes.{reserve};
 ghost use Rattle.posix_defs.specs.Waiting.{is_nohang, waitpid};
-ghost use Rattle.posix_defs.specs.World.{Account};
 ghost use Rattle.posix_defs.specs.declared.turner.Turned.TheVariants as turned;
 ghost use Rattle.proc_table.specs.Procs.{IsAlive};
 ghost use Rattle.proc_table.specs.Table.{Holds};
@@ -68,7 +68,7 @@ pub fn go_on(
     ensures kept { AreKept script.now objects.new }
     ensures told { result ≡ turned.Done reply }
     ensures takes { TakesNothing objects.old.heap objects.new.heap }
-    ensures does { (plain : Plain) (account : Account) → StandFor script.now objects.old plain account → is_alive plain.table pid ≡ true
+    ensures does { (plain : Plain) (account : Frames) → StandFor script.now objects.old plain account → is_alive plain.table pid ≡ true
         → StandFor script.now objects.new (answered script.now plain pid reply) account }
 {
     objects.move_on(pid, behind(script, control, &reply));
@@ -300,7 +300,7 @@ pub fn run(
 /// Whether a wait for a child would sleep: one that is asked for is there, none has ended, and the caller wants to wait.
 fn would_sleep(objects: &Objects, pid: u32, which: i64, options: i64) -> bool
     requires { Holds objects.now.heap objects.now.procs }
-    ensures { (script : Script) (plain : Plain) (account : Account) → StandFor script objects.now plain account
+    ensures { (script : Script) (plain : Plain) (account : Frames) → StandFor script objects.now plain account
         → result ≡ blocks (waitpid script plain pid which options) }
 {
     match objects.procs.answer(&objects.heap, pid, which) {
@@ -313,7 +313,7 @@ fn would_sleep(objects: &Objects, pid: u32, which: i64, options: i64) -> bool
 /// `waitpid`.
 pub fn would_block(objects: &Objects, pid: u32, wait: Option<Awaited>) -> bool
     requires { Holds objects.now.heap objects.now.procs }
-    ensures { (script : Script) (plain : Plain) (account : Account) → StandFor script objects.now plain account
+    ensures { (script : Script) (plain : Plain) (account : Frames) → StandFor script objects.now plain account
         → (call : Call) → wait ≡ wait_of call → result ≡ blocks (machine script plain pid call) }
 {
     match wait {

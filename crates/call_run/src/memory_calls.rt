@@ -8,12 +8,11 @@ ghost use Rattle.kabi_types.specs.declared.scripts.Script.{Script};
 ghost use Rattle.kheap_slabs.specs.Paid.{CanPay, IsPaid, TakesNothing};
 ghost use Rattle.page_space.specs.Contents.{IsOwnedWith, StandsFor};
 ghost use Rattle.page_space.specs.Entries.{IsMappedRange};
-ghost use Rattle.posix_defs.specs.Memory.{Memory, after_map, after_put, after_unmap, is_mapped_range, loaded, lowest_run, stored, with_pages, without_pages};
+ghost use Rattle.posix_defs.specs.Memory.{Frames, Memory, after_map, after_put, after_unmap, is_mapped_range, loaded, lowest_run, stored, with_pages, without_pages};
 ghost use Rattle.posix_defs.specs.MemoryCalls.{load, mmap, munmap, remembered, store};
 ghost use Rattle.posix_defs.specs.Needs.{nodes_for, pages_in, pages_touched};
 ghost use Rattle.posix_defs.specs.Plain.{Plain};
 ghost use Rattle.posix_defs.specs.Process.{memory_of};
-ghost use Rattle.posix_defs.specs.World.{Account};
 ghost use Rattle.proc_table.specs.Procs.{IsAlive};
 ghost use Rattle.call_run.specs.Objects.{AreKept, Runs, procs_of};
 ghost use Rattle.call_run.specs.Standing.{Does, StandFor};
@@ -42,9 +41,9 @@ fn map(objects: &mut Objects, purse: &mut Purse, pid: u32, length: u64) -> Resul
     ensures kept { (script : Script) → AreKept script objects.old → AreKept script objects.new }
     ensures runs { (control : Control) → Runs objects.old pid control → Runs objects.new pid control }
     ensures paid { IsPaid objects.old.heap purse.old objects.new.heap purse.new }
-    ensures found { (script : Script) (plain : Plain) (account : Account) → StandFor script objects.old plain account
+    ensures found { (script : Script) (plain : Plain) (account : Frames) → StandFor script objects.old plain account
         → result ≡ ok_or (option_map (λ first. page_size * first) (lowest_run (memory_of plain.table pid) (pages_in length))) EMFILE }
-    ensures mapped { (script : Script) (plain : Plain) (account : Account) (first : ℕ) → StandFor script objects.old plain account → result ≡ Ok (page_size * first)
+    ensures mapped { (script : Script) (plain : Plain) (account : Frames) (first : ℕ) → StandFor script objects.old plain account → result ≡ Ok (page_size * first)
         → StandFor script objects.new (remembered plain pid (with_pages (memory_of plain.table pid) first (pages_in length))) (after_map account pid first (pages_in length)) }
     ensures unchanged { OnErr result (objects.new ≡ objects.old) }
 {
@@ -93,7 +92,7 @@ fn unmap(objects: &mut Objects, pid: u32, page: u32, count: u32)
     ensures kept { (script : Script) → AreKept script objects.old → AreKept script objects.new }
     ensures runs { (control : Control) → Runs objects.old pid control → Runs objects.new pid control }
     ensures takes { TakesNothing objects.old.heap objects.new.heap }
-    ensures unmapped { (script : Script) (plain : Plain) (account : Account) → StandFor script objects.old plain account
+    ensures unmapped { (script : Script) (plain : Plain) (account : Frames) → StandFor script objects.old plain account
         → StandFor script objects.new (remembered plain pid (without_pages (memory_of plain.table pid) page count)) (after_unmap account pid page count) }
 {
     let Some(key) = objects.procs.key_of(pid) else {
@@ -156,9 +155,9 @@ fn put(
     ensures kept { (script : Script) → AreKept script objects.old → AreKept script objects.new }
     ensures runs { (control : Control) → Runs objects.old pid control → Runs objects.new pid control }
     ensures paid { IsPaid objects.old.heap purse.old objects.new.heap purse.new }
-    ensures mapped { (script : Script) (plain : Plain) (account : Account) → StandFor script objects.old plain account
+    ensures mapped { (script : Script) (plain : Plain) (account : Frames) → StandFor script objects.old plain account
         → result ≡ (if is_mapped_range (memory_of plain.table pid) addr (length bytes.now) then Ok tt else Err EFAULT) }
-    ensures stored { OnOk result ((script : Script) (plain : Plain) (account : Account) → StandFor script objects.old plain account
+    ensures stored { OnOk result ((script : Script) (plain : Plain) (account : Frames) → StandFor script objects.old plain account
         → StandFor script objects.new (remembered plain pid (stored (memory_of plain.table pid) addr bytes.now)) (after_put account pid addr (length bytes.now))) }
     ensures unchanged { OnErr result (objects.new ≡ objects.old) }
 {
@@ -227,7 +226,7 @@ fn take(objects: &Objects, pid: u32, addr: u32, count: usize) -> Result<Bytes64,
     requires few { count ≤ 64 }
     requires kept { (script : Script) × AreKept script objects.now }
     requires alive { IsAlive (procs_of objects.now) pid }
-    ensures { (script : Script) (plain : Plain) (account : Account) → StandFor script objects.now plain account
+    ensures { (script : Script) (plain : Plain) (account : Frames) → StandFor script objects.now plain account
         → result ≡ (if is_mapped_range (memory_of plain.table pid) addr count then Ok (loaded (memory_of plain.table pid) addr count) else Err EFAULT) }
 {
     let Some(key) = objects.procs.key_of(pid) else {

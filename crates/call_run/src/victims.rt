@@ -113,7 +113,7 @@ fn chosen<F: Scorer, G: Scorer>(
 /// The process that is killed under this policy; None exactly where none but the first is alive.
 pub fn victim(policy: Policy, objects: &Objects) -> Option<u32>
     requires kept { (script : Script) × AreKept script objects.now }
-    ensures { (script : Script) (plain : Plain) (account : Account) → StandFor script objects.now plain account
+    ensures { (script : Script) (plain : Plain) (account : Account) → StandFor script objects.now plain account.frames
         → result ≡ victim_of policy plain account }
 {
     // the heap knows how long the rows of its objects are

@@ -9,6 +9,7 @@ use Rattle.kabi_types.specs.declared.scripts.Script.{Script}
 use Rattle.kabi_types.specs.declared.scripts.Statement.{Statement}
 use Rattle.kabi_types.specs.declared.scripts.Statement.TheVariants.{Invoke, Jump}
 use Rattle.posix_defs.specs.Plain.{first_process}
+use Rattle.posix_defs.specs.Files.State.{boot_files}
 use Rattle.posix_defs.specs.World.{Kept, World, no_account, boot_kept}
 
 abbrev with_body : List Statement → Script
@@ -29,11 +30,11 @@ abbrev numbers : List ℕ → List Operand
 numbers [] = []
 numbers (n ∷ ns) = Number (pos n) ∷ numbers ns
 
--- `ftruncate 3 0`, `write 3 0 4096` and `read 3 0 1`, over and over by a jump that no script could have
+-- `mkdir "/d"`, `write 3 0 4096` and `read 3 0 1`, over and over by a jump that no script could have
 abbrev pub caching : Script
 caching =
     with_body (
-    Invoke kind.Ftruncate (numbers (3 ∷ 0 ∷ [])) [] None None
+    Invoke kind.Mkdir [] (codes "/d" ∷ []) None None
     ∷ Invoke kind.Write (numbers (3 ∷ 0 ∷ 4096 ∷ [])) [] None None
     ∷ Invoke kind.Read (numbers (3 ∷ 0 ∷ 1 ∷ [])) [] None None
     ∷ Jump 0
@@ -45,6 +46,7 @@ world_at place lives kept = record {
   plain = record {
     table = (if lives then Some first_process else None) ∷ [];
     controls = record { program = 0; place = place; regs = replicate 16 (pos 0); done = 0 } ∷ [];
+    files = boot_files 64;
   };
   account = no_account;
   kept = kept;
@@ -72,7 +74,7 @@ first_blocks zero = []
 first_blocks (suc zero) = 7 ∷ []
 first_blocks _ = 7 ∷ 8 ∷ []
 
--- how many are behind the turn of its next call: to cut the file two are cached
+-- how many are behind the turn of its next call: to make the directory two are cached
 abbrev pub next_blocks : ℕ → ℕ → ℕ
 next_blocks zero blocks = 2
 next_blocks (suc zero) blocks = blocks

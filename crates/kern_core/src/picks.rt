@@ -1,5 +1,5 @@
 ghost use Rattle.std.specs.Prelude.{◌≡◌, None, Some, length};
-ghost use Rattle.kern_tasks.specs.View.{GoesOn, HasBooted, HasEnded, IsAt, LastStaysInside, MayTake};
+ghost use Rattle.kern_tasks.specs.View.{GoesInside, GoesOn, HasBooted, HasEnded, IsAt, MayTake};
 ghost use Rattle.posix_defs.specs.Choice.{named_by};
 ghost use Rattle.posix_defs.specs.CoreState.{CoreState};
 ghost use Rattle.posix_defs.specs.SoundTasks.{IsSound};
@@ -30,7 +30,7 @@ pub fn run_to_end<T: Turner + Drop>(core: &mut Core<T>, chooser: &Chooser) -> En
     ensures script { T.script core.new.store ≡ T.script core.old.store }
     ensures steps { core.new.steps ≡ core.old.steps }
     ensures ended { HasEnded T.stands (T.script core.old.store) core.new result }
-    ensures inside { LastStaysInside core.new.run (T.high core.new.store) core.new.reserved (T.script core.old.store).heap }
+    ensures inside { GoesInside T.stands T.marks T.high (T.script core.old.store) core.old core.new }
 {
     let mut choosing = Choosing::of(chooser);
     loop {

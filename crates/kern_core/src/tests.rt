@@ -1,4 +1,4 @@
-ghost use Rattle.std.specs.Prelude.{◌≡◌, ◌≤◌, true};
+ghost use Rattle.std.specs.Prelude.{◌≡◌, ◌+◌, ◌%◌, ◌^◌, ◌≤◌, false, true};
 ghost use Rattle.posix_defs.specs.World.{boot_kept};
 ghost use Rattle.kern_core.specs.Sample.{live_at, sample, world_at};
 
@@ -8,12 +8,47 @@ use posix_defs::{Turned, Turner};
 use std::alloc::{AllocError, Global};
 use std::test::Fail;
 
-/// A store of one process, which asks for its pid and exits: how many calls are behind it, and whether it lives.
+/// A store of one process, which asks for its pid and exits: how many calls are behind it, whether it lives, and of its heap how
+/// often that was marked, and the most that was taken since.
 #[derive(Drop)]
 struct OnePid {
     place: u32,
     lives: bool,
+    marks: u64,
+    high: u64,
     ghost few: { place ≤ 2 },
+    ghost above: { live_at lives ≤ high },
+}
+
+/// What the process takes of the heap.
+fn taken(lives: bool) -> u64
+    ensures { result ≡ live_at lives }
+{
+    if lives { 640 } else { 128 }
+}
+
+impl OnePid {
+    /// A call begins.
+    fn mark(&mut self)
+        ensures place { self.new.place ≡ self.old.place }
+        ensures lives { self.new.lives ≡ self.old.lives }
+        ensures high { self.new.high ≡ live_at self.old.lives }
+        ensures marks { self.new.marks ≡ (self.old.marks + 1) % 2 ^ 64 }
+    {
+        self.marks = self.marks.wrapping_add(1);
+        self.high = taken(self.lives);
+    }
+
+    /// The process ends.
+    fn end(&mut self)
+        requires { self.old.lives ≡ true }
+        ensures place { self.new.place ≡ self.old.place }
+        ensures lives { self.new.lives ≡ false }
+        ensures high { self.new.high ≡ self.old.high }
+        ensures marks { self.new.marks ≡ self.old.marks }
+    {
+        self.lives = false;
+    }
 }
 
 impl Turner for OnePid {
@@ -21,7 +56,9 @@ impl Turner for OnePid {
 
     ghost stands = { λ store world. world ≡ world_at store.place store.lives boot_kept };
 
-    ghost high = { λ store. live_at store.lives };
+    ghost marks = { λ store. store.marks };
+
+    ghost high = { λ store. store.high };
 
     fn next(&self, _pid: u32) -> Call {
         if self.place == 0 {
@@ -32,6 +69,7 @@ impl Turner for OnePid {
     }
 
     fn turn(&mut self, pid: u32, _call: &Call, _need: Need) -> Turned {
+        self.mark();
         if !self.alive(pid) {
             return Turned::Gone;
         }
@@ -39,12 +77,13 @@ impl Turner for OnePid {
             self.place = 1;
             Turned::Done(Reply::Val(1))
         } else {
-            self.lives = false;
+            self.end();
             Turned::Ended(0)
         }
     }
 
     fn refuse(&mut self, _pid: u32) {
+        self.mark();
         if self.place < 2 {
             self.place += 1;
         }
@@ -58,13 +97,17 @@ impl Turner for OnePid {
         false
     }
 
-    fn evict(&mut self, _what: Cached) {}
+    fn evict(&mut self, _what: Cached) {
+        self.mark();
+    }
 
     fn victim(&self) -> Option<u32> {
         None
     }
 
-    fn kill(&mut self, _pid: u32) {}
+    fn kill(&mut self, _pid: u32) {
+        self.mark();
+    }
 
     fn alive(&self, pid: u32) -> bool {
         pid == 1 && self.lives
@@ -75,7 +118,7 @@ impl Turner for OnePid {
     }
 
     fn live(&self) -> u64 {
-        if self.lives { 640 } else { 128 }
+        taken(self.lives)
     }
 
     fn reads(&self) -> u64 {
@@ -90,6 +133,8 @@ fn at_boot() -> OnePid
     OnePid {
         place: 0,
         lives: true,
+        marks: 0,
+        high: 640,
     }
 }
 

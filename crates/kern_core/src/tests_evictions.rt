@@ -1,41 +1,62 @@
 //! A run over a store that has something to evict.
 
-ghost use Rattle.std.specs.Prelude.{◌≡◌, ◌≤◌, ◌-◌, ◌+◌, ◌*◌};
+ghost use Rattle.std.specs.Prelude.{◌≡◌, ◌≤◌, ◌-◌, ◌+◌, ◌*◌, ◌%◌, ◌^◌, max};
 ghost use Rattle.kern_core.specs.Sample.{caching, caching_at, next_blocks, next_place};
 
 use crate::picks::picked;
 use crate::{Choosing, Core, Relief};
-use kabi_types::{Cached, Call, Chooser, Entry, Errno, Event, Need, Noted, Reply};
+use kabi_types::{Cached, Call, Chooser, Entry, Errno, Event, Need, Noted, Path, Reply};
 use posix_defs::{Turned, Turner};
 use std::test::Fail;
 
-/// A store of one process, which cuts a file, writes much and reads a byte, over and over: no call that it makes is built, so
-/// each is answered EINVAL. To cut the file two blocks are cached. It has the place behind the call that the process made last,
-/// and how many blocks are cached.
+/// A store of one process, which makes a directory, writes much and reads a byte, over and over: no call that it makes is
+/// built, so each is answered EINVAL. To make the directory two blocks are cached. It has the place behind the call that the
+/// process made last, how many blocks are cached, and of its heap how often that was marked, and the most blocks that were
+/// cached since.
 #[derive(Drop)]
 struct Caching {
     place: u32,
     blocks: u32,
+    marks: u64,
+    most: u32,
     ghost places: { place ≤ 3 },
     ghost few: { blocks ≤ 2 },
+    ghost above: { blocks ≤ most },
 }
 
 impl Caching {
+    /// A call begins.
+    fn mark(&mut self)
+        ensures place { self.new.place ≡ self.old.place }
+        ensures blocks { self.new.blocks ≡ self.old.blocks }
+        ensures most { self.new.most ≡ self.old.blocks }
+        ensures marks { self.new.marks ≡ (self.old.marks + 1) % 2 ^ 64 }
+    {
+        self.marks = self.marks.wrapping_add(1);
+        self.most = self.blocks;
+    }
+
     /// The turn of a call fills the cache.
     fn fill(&mut self)
         ensures place { self.new.place ≡ self.old.place }
         ensures blocks { self.new.blocks ≡ next_blocks self.old.place self.old.blocks }
+        ensures most { self.new.most ≡ max self.old.most self.new.blocks }
+        ensures marks { self.new.marks ≡ self.old.marks }
     {
-        self.blocks = match self.place {
+        let blocks = match self.place {
             1 | 2 => self.blocks,
             _ => 2,
         };
+        self.most = self.most.max(blocks);
+        self.blocks = blocks;
     }
 
     /// The call is over.
     fn go_on(&mut self)
         ensures place { self.new.place ≡ next_place self.old.place }
         ensures blocks { self.new.blocks ≡ self.old.blocks }
+        ensures most { self.new.most ≡ self.old.most }
+        ensures marks { self.new.marks ≡ self.old.marks }
     {
         self.place = match self.place {
             1 => 2,
@@ -50,7 +71,9 @@ impl Turner for Caching {
 
     ghost stands = { λ store world. world ≡ caching_at store.place store.blocks };
 
-    ghost high = { λ store. 640 + 1088 * store.blocks };
+    ghost marks = { λ store. store.marks };
+
+    ghost high = { λ store. 640 + 1088 * store.most };
 
     fn next(&self, _pid: u32) -> Call {
         match self.place {
@@ -65,11 +88,14 @@ impl Turner for Caching {
                 addr: 0,
                 n: 1,
             },
-            _ => Call::Ftruncate { fd: 3, length: 0 },
+            _ => Call::Mkdir {
+                path: Path::of(b"/d").unwrap(),
+            },
         }
     }
 
     fn turn(&mut self, pid: u32, _call: &Call, _need: Need) -> Turned {
+        self.mark();
         if pid != 1 {
             return Turned::Gone;
         }
@@ -79,6 +105,7 @@ impl Turner for Caching {
     }
 
     fn refuse(&mut self, _pid: u32) {
+        self.mark();
         self.go_on();
     }
 
@@ -91,6 +118,7 @@ impl Turner for Caching {
     }
 
     fn evict(&mut self, what: Cached) {
+        self.mark();
         if what == Cached::Block && self.blocks > 0 {
             self.blocks -= 1;
         }
@@ -100,7 +128,9 @@ impl Turner for Caching {
         None
     }
 
-    fn kill(&mut self, _pid: u32) {}
+    fn kill(&mut self, _pid: u32) {
+        self.mark();
+    }
 
     fn alive(&self, pid: u32) -> bool {
         pid == 1
@@ -126,11 +156,13 @@ fn at_boot() -> Caching
     Caching {
         place: 0,
         blocks: 0,
+        marks: 0,
+        most: 0,
     }
 }
 
 /// What the events so far say: how many of its calls the process has behind it, how far it is with the next one, and how many
-/// blocks are cached. By hand from the prices: 2176 bytes to cut, 4608 to write, and to read more than the heap can give.
+/// blocks are cached. By hand from the prices: 2560 bytes to make a directory, 4608 to write, and to read more than the heap can give.
 #[derive(Clone, Copy)]
 struct Told {
     call: u32,
@@ -141,7 +173,7 @@ struct Told {
 impl Told {
     /// The process's own event, if it may be taken.
     fn own(self) -> Option<Event> {
-        let bound: u64 = if self.call == 0 { 2176 } else { 4608 };
+        let bound: u64 = if self.call == 0 { 2560 } else { 4608 };
         match self.phase {
             0 => Some(Event::Ask(1)),
             1 if self.blocks < 3 && 2816 + 1088 * self.blocks + bound <= 8192 => {

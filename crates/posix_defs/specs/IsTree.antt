@@ -1,9 +1,10 @@
 -- What every tree that is reached keeps.
-use Rattle.std.specs.Prelude.{ℕ, ◌+◌, ◌^◌, ◌<◌, ◌≤◌, ◌≡◌, ◌≢◌, ◌==◌, Bool, true, false, if◌then◌else◌, List, [], length, Option, Some}
+use Rattle.std.specs.Prelude.{ℕ, ◌+◌, ◌^◌, ◌<◌, ◌≤◌, ◌≡◌, ◌≢◌, ◌==◌, Bool, true, if◌then◌else◌, List, [], length, Option, Some}
 use Rattle.std.specs.List.{All, AllPairs, Contains, count_by, sum_by}
 use Rattle.kabi_values.specs.declared.inodes.DirEntry.{DirEntry}
 use Rattle.posix_defs.specs.DiskFormat.{greatest_size, table_end, table_nodes, IsName}
 use Rattle.posix_defs.specs.DiskContents.{own_name, parent_name}
+use Rattle.posix_defs.specs.PathCalls.{is_socket_kind, kind_of_content}
 use Rattle.posix_defs.specs.Tree.{Content, File, Directory, SocketName, Node, Tree, root, node_at, is_directory, is_directory_content, links_at, entries_in, entries_at, parent_at, climbed, size_of, used_blocks}
 
 -- a name that an entry may have: `.` and `..` stand before all entries
@@ -29,17 +30,13 @@ IsNewContent dir (File bytes) = bytes ≡ []
 IsNewContent dir (Directory parent entries) = (parent ≡ dir) × (entries ≡ [])
 IsNewContent dir SocketName = Unit {0}
 
-abbrev pub is_socket_content : Content → Bool
-is_socket_content SocketName = true
-is_socket_content _ = false
-
 -- a node that may be there: a directory has one link, and a socket's name has links as long as it is there
 pub record IsNode (node : Node) : Type 0 where
   pub content : IsContent node.content
   pub size : size_of node.content ≤ greatest_size
   pub links : node.links ≤ 127
   pub single : is_directory_content node.content ≡ true → node.links ≡ 1
-  pub socket : is_socket_content node.content ≡ true → 0 < node.links
+  pub socket : is_socket_kind (kind_of_content node.content) ≡ true → 0 < node.links
 
 abbrev pub names_node : ℕ → DirEntry → Bool
 names_node number entry = entry.node == number

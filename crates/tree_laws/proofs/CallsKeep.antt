@@ -2,7 +2,7 @@
 use Rattle.std.proofs.Common.{◌≡◌, ◌≢◌, ℕ, zero, suc, ◌^◌, ◌<◌, ◌≤◌, Bool, true, false, cond, not, ◌&&◌, ◌||◌, inl, inr, List, [], length, eqb, Option, Some, None, Result, Ok, Err, refl, sym, ap, subst, ◌∙◌, arith}
 use Rattle.std.specs.Option.{option_map}
 use Rattle.std.specs.List.{All}
-use Rattle.std.proofs.lemmas.Bool.{cases_Bool, cond-true, cond-false, and_right, or_left, and_cases, not-false, eqb-true, eqb-false, both_ways, not_from_true}
+use Rattle.std.proofs.lemmas.Bool.{cases_Bool, cond-true, cond-false, and_right, or_left, or_right, and_cases, not-false, eqb-true, eqb-false, both_ways, not_from_true}
 use Rattle.std.proofs.lemmas.List.{nil_from_length, set-get_or}
 use Rattle.kabi_calls.specs.Arguments.{path_fault}
 use Rattle.kabi_values.specs.declared.errnos.Errno.{Errno}
@@ -16,7 +16,7 @@ use Rattle.posix_defs.specs.Tree.{Content, File, Directory, SocketName, Node, Tr
 use Rattle.posix_defs.specs.TreeChanges.{with_bytes, with_bytes_in, blocks_for, make, link, rename_over, rename_to, takes_entry, is_at_or_above, unlink}
 use Rattle.posix_defs.specs.IsTree.{IsEntryName, IsNewContent, IsTree}
 use Rattle.posix_defs.specs.Paths.{IsLed, resolve}
-use Rattle.posix_defs.specs.PathCalls.{unless, node_led, is_socket, Opening, open_there, open_led, open_path, mkdir_led, mkdir_path, bind_led, bind_path, is_empty, ends_in, rmdir_led, rmdir_path, is_held, unlink_led, unlink_path, link_to, link_from, link_path, rename_onto, rename_away, goes_below, rename_named, rename_root, rename_led, rename_path}
+use Rattle.posix_defs.specs.PathCalls.{unless, node_led, freed_by, is_socket, Opening, open_there, open_led, open_path, mkdir_led, mkdir_path, bind_led, bind_path, is_empty, ends_in, rmdir_led, rmdir_path, is_held, unlink_led, unlink_path, link_to, link_from, link_path, rename_onto, rename_away, goes_below, rename_named, rename_root, rename_led, rename_path}
 use Rattle.tree_laws.proofs.TreeFacts.{found_in_use}
 use Rattle.tree_laws.proofs.TreeKeeps.{make_keeps, unlink_keeps, same_Ok, err-ok}
 use Rattle.tree_laws.proofs.TreeRenames.{rename_over_keeps, rename_to_keeps}
@@ -104,14 +104,24 @@ directory_not_held : (tree : Tree) (opened : ℕ → Bool) (number : ℕ) → is
 directory_not_held tree opened number dir =
     and_right (opened number) (not (is_directory tree number || is_socket tree number)) (not_from_true (is_directory tree number || is_socket tree number) (or_left (is_directory tree number) (is_socket tree number) dir))
 
-unlinks_keep : (tree : Tree) (opened : ℕ → Bool) (led : Walked) (after : Tree) → IsTree tree → IsLed tree led → unlink_led tree opened led ≡ Ok after → IsTree after
-unlinks_keep tree opened (walked.Node n) after is there at = absurd (err-ok errnos.EPERM after at)
-unlinks_keep tree opened (walked.Named dir name number slashed) after is there at =
+-- nor is a socket's name
+socket_not_held : (tree : Tree) (opened : ℕ → Bool) (number : ℕ) → is_socket tree number ≡ true → is_held tree opened number ≡ false
+socket_not_held tree opened number is =
+    and_right (opened number) (not (is_directory tree number || is_socket tree number)) (not_from_true (is_directory tree number || is_socket tree number) (or_right (is_directory tree number) (is_socket tree number) is))
+
+-- the tree of an answer that tells a number too
+told : {freed other : Option ℕ} {tree after : Tree} → ◌≡◌ {A = Result (Option ℕ × Tree) Errno} (Ok (freed, tree)) (Ok (other, after)) → tree ≡ after
+told {freed} {other} {tree} {after} same = ap (λ (p : Option ℕ × Tree). p.1) (same_Ok (freed, tree) (other, after) same)
+
+unlinks_keep : (tree : Tree) (opened : ℕ → Bool) (led : Walked) (freed : Option ℕ) (after : Tree) → IsTree tree → IsLed tree led → unlink_led tree opened led ≡ Ok (freed, after) → IsTree after
+unlinks_keep tree opened (walked.Node n) freed after is there at = absurd (err-ok errnos.EPERM (freed, after) at)
+unlinks_keep tree opened (walked.Named dir name number slashed) freed after is there at =
     let gone : Tree = unlink tree dir name number (is_held tree opened number) in
-    let passed = unless_ok (is_directory tree number) errnos.EPERM (Ok gone) after at in
-    subst IsTree (same_Ok gone after passed.1) (unlink_keeps tree dir name number (is_held tree opened number) is there.1 (λ d. absurd (both_ways (is_directory tree number) passed.0 d)))
-unlinks_keep tree opened (walked.Free dir name slashed) after is there at = absurd (err-ok errnos.ENOENT after at)
-unlinks_keep tree opened (walked.Fail errno) after is there at = absurd (err-ok errno after at)
+    let passed = unless_ok (is_directory tree number) errnos.EPERM (Ok (freed_by tree number, gone)) (freed, after) at in
+    subst IsTree (told passed.1)
+    (unlink_keeps tree dir name number (is_held tree opened number) is there.1 (λ d. absurd (both_ways (is_directory tree number) passed.0 d)) (socket_not_held tree opened number))
+unlinks_keep tree opened (walked.Free dir name slashed) freed after is there at = absurd (err-ok errnos.ENOENT (freed, after) at)
+unlinks_keep tree opened (walked.Fail errno) freed after is there at = absurd (err-ok errno (freed, after) at)
 
 rmdirs_keep : (tree : Tree) (busy : ℕ → Bool) (led : Walked) (after : Tree) → IsTree tree → IsLed tree led → rmdir_led tree busy led ≡ Ok after → IsTree after
 rmdirs_keep tree busy (walked.Node n) after is there at = absurd (err-ok errnos.EBUSY after at)
@@ -122,7 +132,7 @@ rmdirs_keep tree busy (walked.Named dir name number slashed) after is there at =
     let passed = unless_ok (not (is_directory tree number)) errnos.ENOTDIR second after at in
     let passed_empty = unless_ok (not (is_empty tree number)) errnos.ENOTEMPTY third after passed.1 in
     let passed_busy = unless_ok (busy number) errnos.EBUSY (Ok gone) after passed_empty.1 in
-    subst IsTree (same_Ok gone after passed_busy.1) (unlink_keeps tree dir name number false is there.1 (λ _. (empty_is tree number (not-false (is_empty tree number) passed_empty.0), refl)))
+    subst IsTree (same_Ok gone after passed_busy.1) (unlink_keeps tree dir name number false is there.1 (λ _. (empty_is tree number (not-false (is_empty tree number) passed_empty.0), refl)) (λ _. refl))
 rmdirs_keep tree busy (walked.Free dir name slashed) after is there at = absurd (err-ok errnos.ENOENT after at)
 rmdirs_keep tree busy (walked.Fail errno) after is there at = absurd (err-ok errno after at)
 
@@ -154,21 +164,21 @@ not_below tree number to is at fine dir steps way =
       | inr not_above ↦ both_ways (is_at_or_above tree number to) not_above ((above_decides tree number to is at).1 (steps, way))
     ]
 
-onto_keeps : (tree : Tree) (opened busy : ℕ → Bool) (dir : ℕ) (name : List ℕ) (number to : ℕ) (new : List ℕ) (replaced : ℕ) (after : Tree) → IsTree tree → found tree dir name ≡ Some number
-    → (is_directory tree to ≡ true) × (found tree to new ≡ Some replaced) → goes_below tree number to ≡ false → rename_onto tree opened busy dir name number to new replaced ≡ Ok after → IsTree after
-onto_keeps tree opened busy dir name number to new replaced after is at there fine answered =
+onto_keeps : (tree : Tree) (opened busy : ℕ → Bool) (dir : ℕ) (name : List ℕ) (number to : ℕ) (new : List ℕ) (replaced : ℕ) (freed : Option ℕ) (after : Tree) → IsTree tree → found tree dir name ≡ Some number
+    → (is_directory tree to ≡ true) × (found tree to new ≡ Some replaced) → goes_below tree number to ≡ false → rename_onto tree opened busy dir name number to new replaced ≡ Ok (freed, after) → IsTree after
+onto_keeps tree opened busy dir name number to new replaced freed after is at there fine answered =
     let done : Tree = rename_over tree dir name number to new replaced (is_held tree opened replaced) in
-    let fourth : Result Tree Errno = unless (is_directory tree replaced && busy replaced) errnos.EBUSY (Ok done) in
-    let third : Result Tree Errno = unless (is_directory tree replaced && not (is_empty tree replaced)) errnos.ENOTEMPTY fourth in
-    let second : Result Tree Errno = unless (is_directory tree number && not (is_directory tree replaced)) errnos.ENOTDIR third in
-    let first : Result Tree Errno = unless (is_directory tree replaced && not (is_directory tree number)) errnos.EISDIR second in
+    let fourth : Result (Option ℕ × Tree) Errno = unless (is_directory tree replaced && busy replaced) errnos.EBUSY (Ok (freed_by tree replaced, done)) in
+    let third : Result (Option ℕ × Tree) Errno = unless (is_directory tree replaced && not (is_empty tree replaced)) errnos.ENOTEMPTY fourth in
+    let second : Result (Option ℕ × Tree) Errno = unless (is_directory tree number && not (is_directory tree replaced)) errnos.ENOTDIR third in
+    let first : Result (Option ℕ × Tree) Errno = unless (is_directory tree replaced && not (is_directory tree number)) errnos.EISDIR second in
     elim (cases_Bool (eqb number replaced)) [
-      | inl one ↦ subst IsTree (same_Ok tree after (sym (cond-true (eqb number replaced) (Ok tree) first one) ∙ answered)) is
+      | inl one ↦ subst IsTree (told (sym (cond-true (eqb number replaced) (Ok (None, tree)) first one) ∙ answered)) is
       | inr two ↦
-          let p1 = unless_ok (is_directory tree replaced && not (is_directory tree number)) errnos.EISDIR second after (sym (cond-false (eqb number replaced) (Ok tree) first two) ∙ answered) in
-          let p2 = unless_ok (is_directory tree number && not (is_directory tree replaced)) errnos.ENOTDIR third after p1.1 in
-          let p3 = unless_ok (is_directory tree replaced && not (is_empty tree replaced)) errnos.ENOTEMPTY fourth after p2.1 in
-          let p4 = unless_ok (is_directory tree replaced && busy replaced) errnos.EBUSY (Ok done) after p3.1 in
+          let p1 = unless_ok (is_directory tree replaced && not (is_directory tree number)) errnos.EISDIR second (freed, after) (sym (cond-false (eqb number replaced) (Ok (None, tree)) first two) ∙ answered) in
+          let p2 = unless_ok (is_directory tree number && not (is_directory tree replaced)) errnos.ENOTDIR third (freed, after) p1.1 in
+          let p3 = unless_ok (is_directory tree replaced && not (is_empty tree replaced)) errnos.ENOTEMPTY fourth (freed, after) p2.1 in
+          let p4 = unless_ok (is_directory tree replaced && busy replaced) errnos.EBUSY (Ok (freed_by tree replaced, done)) (freed, after) p3.1 in
           let empty : is_directory tree replaced ≡ true → (entries_at tree replaced ≡ []) × (is_held tree opened replaced ≡ false) = λ d. (
             empty_is tree replaced (elim (and_cases (is_directory tree replaced) (not (is_empty tree replaced)) p3.0) [
               | inl not_dir ↦ absurd (both_ways (is_directory tree replaced) not_dir d)
@@ -176,46 +186,46 @@ onto_keeps tree opened busy dir name number to new replaced after is at there fi
             ]),
             directory_not_held tree opened replaced d,
           ) in
-          subst IsTree (same_Ok done after p4.1)
-          (rename_over_keeps tree dir name number to new replaced (is_held tree opened replaced) is at there.1 (eqb-false number replaced two) empty (not_below tree number to is there.0 fine))
+          subst IsTree (told p4.1)
+          (rename_over_keeps tree dir name number to new replaced (is_held tree opened replaced) is at there.1 (eqb-false number replaced two) empty (socket_not_held tree opened replaced) (not_below tree number to is there.0 fine))
     ]
 
-away_keeps : (tree : Tree) (dir : ℕ) (name : List ℕ) (number to : ℕ) (new : List ℕ) (slashed : Bool) (after : Tree) → IsTree tree → found tree dir name ≡ Some number
-    → (is_directory tree to ≡ true) × (found tree to new ≡ None) → IsEntryName new → goes_below tree number to ≡ false → rename_away tree dir name number to new slashed ≡ Ok after → IsTree after
-away_keeps tree dir name number to new slashed after is at there valid fine answered =
+away_keeps : (tree : Tree) (dir : ℕ) (name : List ℕ) (number to : ℕ) (new : List ℕ) (slashed : Bool) (freed : Option ℕ) (after : Tree) → IsTree tree → found tree dir name ≡ Some number
+    → (is_directory tree to ≡ true) × (found tree to new ≡ None) → IsEntryName new → goes_below tree number to ≡ false → rename_away tree dir name number to new slashed ≡ Ok (freed, after) → IsTree after
+away_keeps tree dir name number to new slashed freed after is at there valid fine answered =
     let done : Tree = rename_to tree dir name number to new in
-    let second : Result Tree Errno = unless (not (eqb dir to) && not (takes_entry tree to 0)) errnos.ENOSPC (Ok done) in
-    let p1 = unless_ok (slashed && not (is_directory tree number)) errnos.ENOTDIR second after answered in
-    let p2 = unless_ok (not (eqb dir to) && not (takes_entry tree to 0)) errnos.ENOSPC (Ok done) after p1.1 in
+    let second : Result (Option ℕ × Tree) Errno = unless (not (eqb dir to) && not (takes_entry tree to 0)) errnos.ENOSPC (Ok (None, done)) in
+    let p1 = unless_ok (slashed && not (is_directory tree number)) errnos.ENOTDIR second (freed, after) answered in
+    let p2 = unless_ok (not (eqb dir to) && not (takes_entry tree to 0)) errnos.ENOSPC (Ok (None, done)) (freed, after) p1.1 in
     let takes : dir ≢ to → takes_entry tree to 0 ≡ true = λ apart.
     elim (and_cases (not (eqb dir to)) (not (takes_entry tree to 0)) p2.0) [
       | inl same ↦ absurd (apart (eqb-true dir to (not-false (eqb dir to) same)))
       | inr room ↦ not-false (takes_entry tree to 0) room
     ] in
-    subst IsTree (same_Ok done after p2.1) (rename_to_keeps tree dir name number to new is at there.0 there.1 valid takes (not_below tree number to is there.0 fine))
+    subst IsTree (told p2.1) (rename_to_keeps tree dir name number to new is at there.0 there.1 valid takes (not_below tree number to is there.0 fine))
 
-named_keeps : (tree : Tree) (opened busy : ℕ → Bool) (dir : ℕ) (name : List ℕ) (number : ℕ) (led : Walked) (after : Tree) → IsTree tree → found tree dir name ≡ Some number → IsLed tree led → NamesEntry led
-    → rename_named tree opened busy dir name number led ≡ Ok after → IsTree after
-named_keeps tree opened busy dir name number (walked.Node n) after is at there names answered = absurd (err-ok errnos.EBUSY after answered)
-named_keeps tree opened busy dir name number (walked.Named to new replaced slashed) after is at there names answered =
-    let passed = unless_ok (goes_below tree number to) errnos.EINVAL (rename_onto tree opened busy dir name number to new replaced) after answered in
-    onto_keeps tree opened busy dir name number to new replaced after is at (there.0, there.1) passed.0 passed.1
-named_keeps tree opened busy dir name number (walked.Free to new slashed) after is at there names answered =
-    let passed = unless_ok (goes_below tree number to) errnos.EINVAL (rename_away tree dir name number to new slashed) after answered in
-    away_keeps tree dir name number to new slashed after is at there (names new refl) passed.0 passed.1
-named_keeps tree opened busy dir name number (walked.Fail errno) after is at there names answered = absurd (err-ok errno after answered)
+named_keeps : (tree : Tree) (opened busy : ℕ → Bool) (dir : ℕ) (name : List ℕ) (number : ℕ) (led : Walked) (freed : Option ℕ) (after : Tree) → IsTree tree → found tree dir name ≡ Some number → IsLed tree led → NamesEntry led
+    → rename_named tree opened busy dir name number led ≡ Ok (freed, after) → IsTree after
+named_keeps tree opened busy dir name number (walked.Node n) freed after is at there names answered = absurd (err-ok errnos.EBUSY (freed, after) answered)
+named_keeps tree opened busy dir name number (walked.Named to new replaced slashed) freed after is at there names answered =
+    let passed = unless_ok (goes_below tree number to) errnos.EINVAL (rename_onto tree opened busy dir name number to new replaced) (freed, after) answered in
+    onto_keeps tree opened busy dir name number to new replaced freed after is at (there.0, there.1) passed.0 passed.1
+named_keeps tree opened busy dir name number (walked.Free to new slashed) freed after is at there names answered =
+    let passed = unless_ok (goes_below tree number to) errnos.EINVAL (rename_away tree dir name number to new slashed) (freed, after) answered in
+    away_keeps tree dir name number to new slashed freed after is at there (names new refl) passed.0 passed.1
+named_keeps tree opened busy dir name number (walked.Fail errno) freed after is at there names answered = absurd (err-ok errno (freed, after) answered)
 
-root_stays_there : (led : Walked) (after : Tree) → rename_root led ≡ Ok after → ⊥
-root_stays_there (walked.Node n) after at = err-ok errnos.EBUSY after at
-root_stays_there (walked.Named dir name n slashed) after at = err-ok errnos.EBUSY after at
-root_stays_there (walked.Free dir name slashed) after at = err-ok errnos.EBUSY after at
-root_stays_there (walked.Fail errno) after at = err-ok errno after at
+root_stays_there : (led : Walked) (freed : Option ℕ) (after : Tree) → rename_root led ≡ Ok (freed, after) → ⊥
+root_stays_there (walked.Node n) freed after at = err-ok errnos.EBUSY (freed, after) at
+root_stays_there (walked.Named dir name n slashed) freed after at = err-ok errnos.EBUSY (freed, after) at
+root_stays_there (walked.Free dir name slashed) freed after at = err-ok errnos.EBUSY (freed, after) at
+root_stays_there (walked.Fail errno) freed after at = err-ok errno (freed, after) at
 
-renames_keep : (tree : Tree) (opened busy : ℕ → Bool) (old new : Walked) (after : Tree) → IsTree tree → IsLed tree old → IsLed tree new → NamesEntry new → rename_led tree opened busy old new ≡ Ok after → IsTree after
-renames_keep tree opened busy (walked.Node n) new after is there there_new names at = absurd (root_stays_there new after at)
-renames_keep tree opened busy (walked.Named dir name number slashed) new after is there there_new names at = named_keeps tree opened busy dir name number new after is there.1 there_new names at
-renames_keep tree opened busy (walked.Free dir name slashed) new after is there there_new names at = absurd (err-ok errnos.ENOENT after at)
-renames_keep tree opened busy (walked.Fail errno) new after is there there_new names at = absurd (err-ok errno after at)
+renames_keep : (tree : Tree) (opened busy : ℕ → Bool) (old new : Walked) (freed : Option ℕ) (after : Tree) → IsTree tree → IsLed tree old → IsLed tree new → NamesEntry new → rename_led tree opened busy old new ≡ Ok (freed, after) → IsTree after
+renames_keep tree opened busy (walked.Node n) new freed after is there there_new names at = absurd (root_stays_there new freed after at)
+renames_keep tree opened busy (walked.Named dir name number slashed) new freed after is there there_new names at = named_keeps tree opened busy dir name number new freed after is there.1 there_new names at
+renames_keep tree opened busy (walked.Free dir name slashed) new freed after is there there_new names at = absurd (err-ok errnos.ENOENT (freed, after) at)
+renames_keep tree opened busy (walked.Fail errno) new freed after is there there_new names at = absurd (err-ok errno (freed, after) at)
 
 -- ---- the calls
 
@@ -244,14 +254,14 @@ rmdir_path_keeps tree cwd path busy after is at answered =
     let p2 = unless_ok (ends_in parent_name path) errnos.ENOTEMPTY (rmdir_led tree busy led) after p1.1 in
     rmdirs_keep tree busy led after is (path_led tree cwd path is at) p2.1
 
-pub unlink_path_keeps : (tree : Tree) (cwd : ℕ) (path : List ℕ) (opened : ℕ → Bool) (after : Tree) → IsTree tree → is_directory tree cwd ≡ true → unlink_path tree cwd path opened ≡ Ok after → IsTree after
-unlink_path_keeps tree cwd path opened after is at answered = unlinks_keep tree opened (resolve tree cwd path) after is (path_led tree cwd path is at) answered
+pub unlink_path_keeps : (tree : Tree) (cwd : ℕ) (path : List ℕ) (opened : ℕ → Bool) (freed : Option ℕ) (after : Tree) → IsTree tree → is_directory tree cwd ≡ true → unlink_path tree cwd path opened ≡ Ok (freed, after) → IsTree after
+unlink_path_keeps tree cwd path opened freed after is at answered = unlinks_keep tree opened (resolve tree cwd path) freed after is (path_led tree cwd path is at) answered
 
 pub link_path_keeps : (tree : Tree) (cwd : ℕ) (old new : List ℕ) (after : Tree) → IsTree tree → is_directory tree cwd ≡ true → IsFine new → link_path tree cwd old new ≡ Ok after → IsTree after
 link_path_keeps tree cwd old new after is at fine answered =
     links_keep tree (resolve tree cwd old) (resolve tree cwd new) after is (path_led tree cwd old is at) (path_led tree cwd new is at) (names_of_path tree cwd new fine) answered
 
-pub rename_path_keeps : (tree : Tree) (cwd : ℕ) (old new : List ℕ) (opened busy : ℕ → Bool) (after : Tree) → IsTree tree → is_directory tree cwd ≡ true → IsFine new
-    → rename_path tree cwd old new opened busy ≡ Ok after → IsTree after
-rename_path_keeps tree cwd old new opened busy after is at fine answered =
-    renames_keep tree opened busy (resolve tree cwd old) (resolve tree cwd new) after is (path_led tree cwd old is at) (path_led tree cwd new is at) (names_of_path tree cwd new fine) answered
+pub rename_path_keeps : (tree : Tree) (cwd : ℕ) (old new : List ℕ) (opened busy : ℕ → Bool) (freed : Option ℕ) (after : Tree) → IsTree tree → is_directory tree cwd ≡ true → IsFine new
+    → rename_path tree cwd old new opened busy ≡ Ok (freed, after) → IsTree after
+rename_path_keeps tree cwd old new opened busy freed after is at fine answered =
+    renames_keep tree opened busy (resolve tree cwd old) (resolve tree cwd new) freed after is (path_led tree cwd old is at) (path_led tree cwd new is at) (names_of_path tree cwd new fine) answered

@@ -38,7 +38,7 @@ bytes_keep tree number links old change is at fits most are =
     let old_blocks : blocks_in (node_at tree number) ≡ blocks_of (size_at tree number) = refl in
     subst IsTree (sym is_with) (same_tree tree (with_node tree number there) is same (seen_same links_in tree number there (sym (ap links_in at)))
     (omega (arith, is.room, sum, fits, old_blocks))
-    (nodes-with_node tree number there is.nodes (λ n e. subst IsNode (same_Some node n e) (record { content = are; size = most; links = was.links; single = λ d. absurd (false≢true d) }))))
+    (nodes-with_node tree number there is.nodes (λ n e. subst IsNode (same_Some node n e) (record { content = are; size = most; links = was.links; single = λ d. absurd (false≢true d); socket = λ s. absurd (false≢true s) }))))
 
 -- a write that is answered a count
 pub record Wrote (tree : Tree) (number at : ℕ) (bytes : List ℕ) (count : ℕ) (after : Tree) : Type 0 where
@@ -183,6 +183,7 @@ link_keeps tree dir name number after is is_dir used not_dir valid free answered
                   size = was.size;
                   links = omega (arith, was.links, few);
                   single = λ d. absurd (false≢true (sym not_dir ∙ ap is_directory_in at ∙ d));
+                  socket = λ _. omega arith;
                 })) in
                 let r = relisted between dir (entry_put name number) (same.directories dir ∙ is_dir) in
                 let r_old = subst (λ (es : List DirEntry). Relisted between (with_entries between dir (entry_put name number)) dir (entry_put name number es)) (same.entries dir) r in

@@ -30,6 +30,7 @@ new_root_is_node = record {
   size = omega arith;
   links = omega arith;
   single = λ _. refl;
+  socket = λ s. absurd (false≢true s);
 }
 
 only_root : (blocks number : ℕ) → is_directory (new_tree blocks) number ≡ true → number ≡ root

@@ -11,11 +11,12 @@ use Rattle.posix_defs.specs.DiskFormat.{greatest_size, table_end, table_nodes, b
 use Rattle.posix_defs.specs.DiskContents.{entry_for}
 use Rattle.posix_defs.specs.Tree.{Content, File, Directory, SocketName, Node, Tree, root, node_at, with_node, is_in_use, is_directory, is_directory_in, is_directory_content, links_in, links_at, entries_of, entries_in, entries_at, parent_of, parent_in, parent_at, size_of, size_in, size_at, blocks_in, used_blocks, free_blocks, free_node, found, found_among, climbed}
 use Rattle.posix_defs.specs.TreeChanges.{entry_put, entry_taken, with_entries, with_new, make, make_at, takes_entry, entry_growth, unlink, closed}
+use Rattle.posix_defs.specs.PathCalls.{is_socket}
 use Rattle.posix_defs.specs.IsTree.{AreEntries, IsEntryName, IsNewContent, IsNode, IsTree, names_node, names_of}
 use Rattle.posix_defs.proofs.TreeNodes.{is_number, seen_same, summed, found_in_directory, free_is}
 use Rattle.tree_laws.proofs.TreeFacts.{linked_in_use, found_counts, named_at-le}
 use Rattle.tree_laws.proofs.EntryLists.{count_of, one_at, stands_at, count-put, length-put, put_are, count-taken, length-taken, taken_are, taken_among}
-use Rattle.tree_laws.proofs.TreeSteps.{AreNodes, nodes-with_node, directory_is, Relisted, relisted, Dropped, dropped, one_here, Added, added, SameDirectories, same_directories}
+use Rattle.tree_laws.proofs.TreeSteps.{socket_linked, AreNodes, nodes-with_node, directory_is, Relisted, relisted, Dropped, dropped, one_here, Added, added, SameDirectories, same_directories}
 use Rattle.tree_laws.proofs.Climbing.{IsOff, KeepsParent, climbed_same, climbed_off, climbs_moved, parent_has_entry, one_link, root_unnamed}
 
 -- ---- what a tree says of one directory
@@ -79,8 +80,8 @@ keeps_parent_unlinked tree between after dir number name is at listed dropped_li
 
 unlink_tree : (tree between after : Tree) (dir number : ℕ) (name : List ℕ) → IsTree tree → found tree dir name ≡ Some number
     → Relisted tree between dir (entry_taken name (entries_at tree dir)) → Dropped between after number → (is_directory tree number ≡ true → entries_at tree number ≡ [])
-    → IsTree after
-unlink_tree tree between after dir number name is at listed dropped_link empty =
+    → (is_socket after number ≡ true → 0 < links_at after number) → IsTree after
+unlink_tree tree between after dir number name is at listed dropped_link empty linked =
     let entries : List DirEntry = entries_at tree dir in
     let is_dir = found_in_directory tree dir name number at in
     let stands = stands_at entries name number at in
@@ -95,7 +96,7 @@ unlink_tree tree between after dir number name is at listed dropped_link empty =
       most = subst (λ (n : ℕ). n ≤ 4096) (sym blocks) is.most;
       count = dropped_link.count ∙ listed.count ∙ is.count ∙ ap table_nodes (sym blocks);
       room = subst (λ (n : ℕ). 1 + table_end n + used_blocks after ≤ n) (sym blocks) (omega (arith, is.room, dropped_link.used, listed.used, smaller));
-      nodes = dropped_link.nodes (listed.nodes is.nodes (taken_are entries name number (entries_are tree dir is is_dir) stands) (omega (arith, len, fits)));
+      nodes = dropped_link.nodes (listed.nodes is.nodes (taken_are entries name number (entries_are tree dir is is_dir) stands) (omega (arith, len, fits))) linked;
       links = λ k. omega (arith, is.links k, dropped_link.links k, listed.links k, dropped_link.names k, listed.names k, count-taken entries name number k stands);
       root_directory = ap is_directory_in (dropped_link.others root (λ e. not_root (sym e))) ∙ listed.directories root ∙ is.root_directory;
       root_parent = ap parent_in (dropped_link.others root (λ e. not_root (sym e))) ∙ listed.parents root ∙ is.root_parent;
@@ -142,10 +143,14 @@ unlinked tree dir name number opened is at empty =
     record { between = between; listed = listed; link = dropped between number opened are used linked empty_between }
 
 pub unlink_keeps : (tree : Tree) (dir : ℕ) (name : List ℕ) (number : ℕ) (opened : Bool) → IsTree tree → found tree dir name ≡ Some number
-    → (is_directory tree number ≡ true → (entries_at tree number ≡ []) × (opened ≡ false)) → IsTree (unlink tree dir name number opened)
-unlink_keeps tree dir name number opened is at empty =
+    → (is_directory tree number ≡ true → (entries_at tree number ≡ []) × (opened ≡ false)) → (is_socket tree number ≡ true → opened ≡ false) → IsTree (unlink tree dir name number opened)
+unlink_keeps tree dir name number opened is at empty unopened =
     let parts = unlinked tree dir name number opened is at empty in
+    let listed = relisted tree dir (entry_taken name) (found_in_directory tree dir name number at) in
+    let between : Tree = with_entries tree dir (entry_taken name) in
+    let linked : 0 < links_at between number = omega (arith, listed.links number, is.links number, found_named tree dir name number at) in
     unlink_tree tree parts.between (unlink tree dir name number opened) dir number name is at parts.listed parts.link (λ d. (empty d).0)
+    (socket_linked between number opened (linked_in_use (node_at between number) linked) linked (λ is_name. unopened (sym (listed.sockets number) ∙ is_name)))
 
 -- ---- a new node
 
@@ -162,10 +167,10 @@ entry_linked tree dir entry is among = omega (arith, is.links entry.node, contai
 
 new_is_node : (dir : ℕ) (content : Content) → IsNewContent dir content → IsNode (record { links = 1; content = content })
 new_is_node dir (File bytes) is = subst (λ (b : List ℕ). IsNode (record { links = 1; content = File b })) (sym is)
-    (record { content = λ k d lt. absurd (omega (arith, lt)); size = omega arith; links = omega arith; single = λ _. refl })
+    (record { content = λ k d lt. absurd (omega (arith, lt)); size = omega arith; links = omega arith; single = λ _. refl; socket = λ _. omega arith })
 new_is_node dir (Directory parent entries) is = subst (λ (es : List DirEntry). IsNode (record { links = 1; content = Directory parent es })) (sym is.1)
-    (record { content = record { names = λ k d lt. absurd (omega (arith, lt)); distinct = λ i j d lt within. absurd (omega (arith, within)) }; size = omega arith; links = omega arith; single = λ _. refl })
-new_is_node dir SocketName is = record { content = tt; size = omega arith; links = omega arith; single = λ _. refl }
+    (record { content = record { names = λ k d lt. absurd (omega (arith, lt)); distinct = λ i j d lt within. absurd (omega (arith, within)) }; size = omega arith; links = omega arith; single = λ _. refl; socket = λ _. omega arith })
+new_is_node dir SocketName is = record { content = tt; size = omega arith; links = omega arith; single = λ _. refl; socket = λ _. omega arith }
 
 pub new_entries_none : (dir : ℕ) (content : Content) → IsNewContent dir content → entries_of content ≡ []
 new_entries_none dir (File bytes) is = refl

@@ -12,10 +12,11 @@ use Rattle.posix_defs.specs.DiskFormat.{table_end, table_nodes, blocks_of}
 use Rattle.posix_defs.specs.DiskContents.{entry_for}
 use Rattle.posix_defs.specs.Tree.{Tree, root, node_at, is_directory, is_directory_in, links_at, entries_in, entries_at, parent_in, parent_at, size_at, used_blocks, has_name, found, found_among}
 use Rattle.posix_defs.specs.TreeChanges.{place_of, no_entry, entry_put, entry_taken, entry_aimed, entry_renamed, with_entries, link_dropped, hung_if_directory, rename_over, rename_to, takes_entry}
+use Rattle.posix_defs.specs.PathCalls.{is_socket}
 use Rattle.posix_defs.specs.IsTree.{AreEntries, IsEntryName, IsTree, names_of, unnamed_links}
 use Rattle.tree_laws.proofs.TreeFacts.{linked_in_use, named_at-le}
 use Rattle.tree_laws.proofs.EntryLists.{count_of, StandsAt, stands_at, count-put, length-put, put_are, count-taken, length-taken, taken_are, taken_among, set_among, count-aimed, aimed_are, count-renamed, renamed_are}
-use Rattle.tree_laws.proofs.TreeSteps.{AreNodes, Relisted, relisted, Dropped, dropped, one_here, Hung, hung_is}
+use Rattle.tree_laws.proofs.TreeSteps.{socket_linked, AreNodes, Relisted, relisted, Dropped, dropped, one_here, Hung, hung_is}
 use Rattle.tree_laws.proofs.Climbing.{IsOff, KeepsParent, climbed_same, climbs_moved, parent_has_entry, one_link}
 use Rattle.posix_defs.proofs.TreeNodes.{found_in_directory}
 use Rattle.tree_laws.proofs.TreeKeeps.{entries_are, entries_fit, found_named, found_not_root, none_among, contained_counts, blocks_of-le, Room, room_of}
@@ -163,8 +164,8 @@ aimed_list tree t1 t2 dir to number replaced name new is at at_new other r1 r2 =
 
 over_renamed : (tree t1 t2 t3 after : Tree) (dir to number replaced : ℕ) (name new : List ℕ) → IsTree tree → found tree dir name ≡ Some number → found tree to new ≡ Some replaced → number ≢ replaced
     → Relisted tree t1 to (entry_aimed new number (entries_at tree to)) → Dropped t1 t2 replaced → Relisted t2 t3 dir (entry_taken name (entries_at t2 dir)) → Hung t3 after number to
-    → Renamed tree after number to replaced
-over_renamed tree t1 t2 t3 after dir to number replaced name new is at at_new other r1 r2 r3 h =
+    → (is_socket t2 replaced ≡ true → 0 < links_at t2 replaced) → Renamed tree after number to replaced
+over_renamed tree t1 t2 t3 after dir to number replaced name new is at at_new other r1 r2 r3 h linked =
     let entries : List DirEntry = entries_at tree to in
     let list : List DirEntry = entries_at t2 dir in
     let stands_new = stands_at entries new replaced at_new in
@@ -181,7 +182,7 @@ over_renamed tree t1 t2 t3 after dir to number replaced name new is at at_new ot
       blocks = h.blocks ∙ r3.blocks ∙ r2.blocks ∙ r1.blocks;
       count = h.count ∙ r3.count ∙ r2.count ∙ r1.count;
       room = omega (arith, is.room, h.used, r3.used, smaller, r2.used, r1.used, same_size);
-      nodes = h.nodes (r3.nodes (r2.nodes (r1.nodes is.nodes (aimed_are entries new replaced number (entries_are tree to is is_to) stands_new) (omega (arith, len_aimed, entries_fit tree to is is_to))))
+      nodes = h.nodes (r3.nodes (r2.nodes (r1.nodes is.nodes (aimed_are entries new replaced number (entries_are tree to is is_to) stands_new) (omega (arith, len_aimed, entries_fit tree to is is_to))) linked)
           (taken_are list name number aimed.are aimed.stands) (omega (arith, len_taken, aimed.count, entries_fit tree dir is (found_in_directory tree dir name number at))));
       links = λ k. omega (
         arith,
@@ -240,7 +241,7 @@ not_gone tree dir name number gone at empty same =
     none-some number (sym (ap (λ (es : List DirEntry). found_among es name) (ap (entries_at tree) same ∙ empty is)) ∙ at)
 
 -- over a name that is there: its entry gets the node, the node that it had loses a link, the old entry goes, `..` follows
-pub record RenamedOver (tree after : Tree) (dir : ℕ) (name : List ℕ) (number to : ℕ) (new : List ℕ) (replaced : ℕ) : Type 0 where
+pub record RenamedOver (tree after : Tree) (dir : ℕ) (name : List ℕ) (number to : ℕ) (new : List ℕ) (replaced : ℕ) (opened : Bool) : Type 0 where
   pub t1 : Tree
   pub t2 : Tree
   pub t3 : Tree
@@ -249,9 +250,10 @@ pub record RenamedOver (tree after : Tree) (dir : ℕ) (name : List ℕ) (number
   pub taken : Relisted t2 t3 dir (entry_taken name (entries_at t2 dir))
   pub hung : Hung t3 after number to
   pub stays : to ≢ replaced
+  pub linked : (is_socket tree replaced ≡ true → opened ≡ false) → is_socket t2 replaced ≡ true → 0 < links_at t2 replaced
 
 pub renamed_over : (tree : Tree) (dir : ℕ) (name : List ℕ) (number to : ℕ) (new : List ℕ) (replaced : ℕ) (opened : Bool) → IsTree tree → found tree dir name ≡ Some number → found tree to new ≡ Some replaced
-    → (is_directory tree replaced ≡ true → (entries_at tree replaced ≡ []) × (opened ≡ false)) → RenamedOver tree (rename_over tree dir name number to new replaced opened) dir name number to new replaced
+    → (is_directory tree replaced ≡ true → (entries_at tree replaced ≡ []) × (opened ≡ false)) → RenamedOver tree (rename_over tree dir name number to new replaced opened) dir name number to new replaced opened
 renamed_over tree dir name number to new replaced opened is at at_new empty =
     let entries : List DirEntry = entries_at tree to in
     let is_to = found_in_directory tree to new replaced at_new in
@@ -271,15 +273,26 @@ renamed_over tree dir name number to new replaced opened is at at_new empty =
     let dir_stays = not_gone tree dir name number replaced at (λ d. (empty d).0) in
     let r3 = relisted t2 dir (entry_taken name) (ap is_directory_in (r2.others dir dir_stays) ∙ r1.directories dir ∙ is_dir) in
     let t3 : Tree = with_entries t2 dir (entry_taken name) in
-    record { t1 = t1; t2 = t2; t3 = t3; aim = r1; link = r2; taken = r3; hung = hung_is t3 number to; stays = to_stays }
+    record {
+      t1 = t1;
+      t2 = t2;
+      t3 = t3;
+      aim = r1;
+      link = r2;
+      taken = r3;
+      hung = hung_is t3 number to;
+      stays = to_stays;
+      linked = λ unopened. socket_linked t1 replaced opened (linked_in_use (node_at t1 replaced) linked) linked (λ is_name. unopened (sym (r1.sockets replaced) ∙ is_name));
+    }
 
 pub rename_over_keeps : (tree : Tree) (dir : ℕ) (name : List ℕ) (number to : ℕ) (new : List ℕ) (replaced : ℕ) (opened : Bool) → IsTree tree → found tree dir name ≡ Some number → found tree to new ≡ Some replaced
-    → number ≢ replaced → (is_directory tree replaced ≡ true → (entries_at tree replaced ≡ []) × (opened ≡ false)) → (is_directory tree number ≡ true → IsOff tree number to)
+    → number ≢ replaced → (is_directory tree replaced ≡ true → (entries_at tree replaced ≡ []) × (opened ≡ false)) → (is_socket tree replaced ≡ true → opened ≡ false)
+    → (is_directory tree number ≡ true → IsOff tree number to)
     → IsTree (rename_over tree dir name number to new replaced opened)
-rename_over_keeps tree dir name number to new replaced opened is at at_new other empty off =
+rename_over_keeps tree dir name number to new replaced opened is at at_new other empty unopened off =
     let p = renamed_over tree dir name number to new replaced opened is at at_new empty in
     let after : Tree = rename_over tree dir name number to new replaced opened in
-    rename_tree tree after number to replaced is (over_renamed tree p.t1 p.t2 p.t3 after dir to number replaced name new is at at_new other p.aim p.link p.taken p.hung) (record {
+    rename_tree tree after number to replaced is (over_renamed tree p.t1 p.t2 p.t3 after dir to number replaced name new is at at_new other p.aim p.link p.taken p.hung (p.linked unopened)) (record {
       number_not_root = found_not_root tree dir name number is at;
       gone_not_root = found_not_root tree to new replaced is at_new;
       empty = λ d. (empty d).0;

@@ -1,13 +1,14 @@
 -- What each single change leaves of all that a tree has to keep: other entries in a directory, a link less, a new node, another parent.
 use Rattle.std.proofs.Common.{◌≡◌, ◌≢◌, ℕ, zero, suc, ◌+◌, ◌-◌, ◌*◌, ◌<◌, ◌≤◌, Bool, true, false, cond, not, ◌&&◌, inl, inr, List, [], length, eqb, Option, Some, None, is_some, refl, sym, ap, subst, ◌∙◌, arith}
 use Rattle.std.specs.Option.{option_map}
-use Rattle.std.proofs.lemmas.Bool.{cases_Bool, cond-true, cond-false, false≢true, eq-eqb, ne_eqb, eqb-true, cases_lt, cases_eq, and_parts, and_from, not_from_false}
+use Rattle.std.proofs.lemmas.Bool.{cases_Bool, cond-true, cond-false, false≢true, eq-eqb, ne_eqb, eqb-true, cases_lt, cases_eq, and_parts, and_cases, and_from, eqb-false, not_from_false}
 use Rattle.std.proofs.lemmas.List.{set_past}
 use Rattle.std.proofs.lemmas.Option.{same_Some, none-some}
 use Rattle.kabi_values.specs.declared.inodes.DirEntry.{DirEntry}
 use Rattle.posix_defs.specs.DiskFormat.{greatest_size, blocks_of}
 use Rattle.posix_defs.specs.Tree.{Content, File, Directory, SocketName, Node, Tree, node_at, with_node, is_in_use, is_directory, is_directory_in, is_directory_content, links_in, links_at, entries_of, entries_in, entries_at, parent_of, parent_in, parent_at, size_of, size_in, size_at, blocks_in, used_blocks}
 use Rattle.posix_defs.specs.TreeChanges.{with_entries_in, with_entries, left_of, left_in, link_dropped, under, hung, hung_if_directory}
+use Rattle.posix_defs.specs.PathCalls.{is_socket, is_socket_kind, kind_in, kind_of_content}
 use Rattle.posix_defs.specs.IsTree.{AreEntries, IsNode, named_in, names_of}
 use Rattle.posix_defs.proofs.TreeNodes.{IsNumber, is_number, directory_number, length-with_node, blocks-with_node, node_at-with_node, node_at-with_node_other, seen_same, summed, summed_same}
 use Rattle.tree_laws.proofs.EntryLists.{count_of, one_at}
@@ -50,6 +51,7 @@ pub record Relisted (old new : Tree) (dir : ℕ) (entries : List DirEntry) : Typ
   pub count : length new.nodes ≡ length old.nodes
   pub links : (m : ℕ) → links_at new m ≡ links_at old m
   pub directories : (m : ℕ) → is_directory new m ≡ is_directory old m
+  pub sockets : (m : ℕ) → is_socket new m ≡ is_socket old m
   pub parents : (m : ℕ) → parent_at new m ≡ parent_at old m
   pub here : entries_at new dir ≡ entries
   pub others : (m : ℕ) → m ≢ dir → node_at new m ≡ node_at old m
@@ -73,6 +75,7 @@ relisted_node tree dir entries is =
       count = length-with_node tree dir there;
       links = seen_same links_in tree dir there refl;
       directories = seen_same is_directory_in tree dir there (sym is);
+      sockets = seen_same (λ node. is_socket_kind (kind_in node)) tree dir there (sym (ap (λ (node : Option Node). is_socket_kind (kind_in node)) at));
       parents = seen_same parent_in tree dir there refl;
       here = ap entries_in (node_at-with_node tree dir there number);
       others = λ m other. node_at-with_node_other tree dir m there other;
@@ -81,7 +84,7 @@ relisted_node tree dir entries is =
       size = ap size_in at;
       nodes = λ are is_list fits. nodes-with_node tree dir there are (λ node same.
           let old : IsNode (record { links = links_at tree dir; content = Directory (parent_at tree dir) (entries_at tree dir) }) = are dir _ at in
-          subst IsNode (same_Some (listing tree dir entries) node same) (record { content = is_list; size = fits; links = old.links; single = λ _. old.single refl }));
+          subst IsNode (same_Some (listing tree dir entries) node same) (record { content = is_list; size = fits; links = old.links; single = λ _. old.single refl; socket = λ is_socket. absurd (false≢true is_socket) }));
     }
 
 pub relisted : (tree : Tree) (dir : ℕ) (change : List DirEntry → List DirEntry) → is_directory tree dir ≡ true → Relisted tree (with_entries tree dir change) dir (change (entries_at tree dir))
@@ -100,7 +103,8 @@ pub record Dropped (old new : Tree) (number : ℕ) : Type 0 where
   pub entries : (m : ℕ) → entries_at new m ≡ entries_at old m
   pub names : (k : ℕ) → names_of new k ≡ names_of old k
   pub used : used_blocks new ≤ used_blocks old
-  pub nodes : AreNodes old → AreNodes new
+  -- a socket's name that stays has to have a link
+  pub nodes : AreNodes old → (is_socket new number ≡ true → 0 < links_at new number) → AreNodes new
 
 pub one_here : (n m : ℕ) → m ≡ n → one_at n m ≡ 1
 one_here n m same = ap (λ (b : Bool). cond b 1 0) (eq-eqb n m (sym same))
@@ -110,7 +114,7 @@ one_off n m other = ap (λ (b : Bool). cond b 1 0) (ne_eqb n m (λ e. other (sym
 
 -- the node changes to what has one link less and no other entries
 dropped_to : (tree : Tree) (number : ℕ) (there : Option Node) → IsNumber tree number → links_in there + 1 ≡ links_at tree number → entries_at tree number ≡ [] → entries_in there ≡ []
-    → is_directory_in there ≡ false → blocks_in there ≤ blocks_in (node_at tree number) → (AreNodes tree → (node : Node) → there ≡ Some node → IsNode node)
+    → is_directory_in there ≡ false → blocks_in there ≤ blocks_in (node_at tree number) → (AreNodes tree → (is_socket_kind (kind_in there) ≡ true → 0 < links_in there) → (node : Node) → there ≡ Some node → IsNode node)
     → Dropped tree (with_node tree number there) number
 dropped_to tree number there is one_less none none_left no_directory smaller stays =
     let same_entries : entries_in there ≡ entries_in (node_at tree number) = none_left ∙ sym none in
@@ -134,7 +138,9 @@ dropped_to tree number there is one_less none none_left no_directory smaller sta
       entries = seen_same entries_in tree number there same_entries;
       names = λ k. summed_same (named_in k) tree number there is (ap (count_of k) same_entries);
       used = let sum = summed blocks_in tree number there is in omega (arith, sum, smaller);
-      nodes = λ are. nodes-with_node tree number there are (stays are);
+      nodes = λ are linked. nodes-with_node tree number there are (stays are (λ is_name.
+          let here = node_at-with_node tree number there is in
+          subst (λ (node : Option Node). 0 < links_in node) here (linked (ap (λ (node : Option Node). is_socket_kind (kind_in node)) here ∙ is_name))));
     }
 
 some_of : (there : Option Node) → is_some there ≡ true → (node : Node) × (there ≡ Some node)
@@ -166,7 +172,7 @@ dropped_at tree number opened node are is at linked empty =
           let one_link : node.links ≡ 1 = eqb-true node.links 1 (and_parts (eqb node.links 1) (not opened) goes).0 in
           let was : links_at tree number ≡ 1 = ap links_in at ∙ one_link in
           subst (λ (there : Option Node). Dropped tree (with_node tree number there) number) (sym (cond-true last None (Some fewer) goes))
-          (dropped_to tree number None is (omega (arith, was)) entries refl refl (omega arith) (λ _ n e. absurd (none-some n e)))
+          (dropped_to tree number None is (omega (arith, was)) entries refl refl (omega arith) (λ _ _ n e. absurd (none-some n e)))
       | inr stays ↦
           let no_dir : is_directory_content node.content ≡ false =
           elim (cases_Bool (is_directory_content node.content)) [
@@ -176,8 +182,8 @@ dropped_at tree number opened node are is at linked empty =
           let was : links_at tree number ≡ node.links = ap links_in at in
           let same_blocks : blocks_in (Some fewer) ≡ blocks_in (node_at tree number) = sym (ap blocks_in at) in
           subst (λ (there : Option Node). Dropped tree (with_node tree number there) number) (sym (cond-false last None (Some fewer) stays))
-          (dropped_to tree number (Some fewer) is (omega (arith, was, linked)) entries (no_entries node.content no_dir) no_dir (omega (arith, same_blocks)) (λ _ n e.
-          subst IsNode (same_Some fewer n e) (record { content = valid.content; size = valid.size; links = omega (arith, valid.links); single = λ dir. absurd (false≢true (sym no_dir ∙ dir)) })))
+          (dropped_to tree number (Some fewer) is (omega (arith, was, linked)) entries (no_entries node.content no_dir) no_dir (omega (arith, same_blocks)) (λ _ still_linked n e.
+          subst IsNode (same_Some fewer n e) (record { content = valid.content; size = valid.size; links = omega (arith, valid.links); single = λ dir. absurd (false≢true (sym no_dir ∙ dir)); socket = still_linked })))
     ]
 
 -- a node in use with a link loses one; a directory is empty, and no description keeps it
@@ -189,6 +195,33 @@ dropped tree number opened are used linked empty =
     subst (λ (there : Option Node). Dropped tree (with_node tree number (left_in opened there)) number) (sym at)
     (dropped_at tree number opened node.0 are (is_number tree number used) at (subst (λ (there : Option Node). 0 < links_in there) at linked)
     (subst (λ (there : Option Node). is_directory_in there ≡ true → (entries_in there ≡ []) × (opened ≡ false)) at empty))
+
+-- a socket's name that no description keeps has a link more, or goes
+left_linked : (opened : Bool) (there : Option Node) → 0 < links_in there → (is_socket_kind (kind_in there) ≡ true → opened ≡ false)
+    → is_socket_kind (kind_in (left_in opened there)) ≡ true → 0 < links_in (left_in opened there)
+left_linked opened None linked unopened is = linked
+left_linked opened (Some node) linked unopened is = go (eqb node.links 1 && not opened) refl is
+  where
+    fewer : Node
+    fewer = record node { links = node.links - 1 }
+
+    more_links : is_socket_kind (kind_of_content node.content) ≡ true → (eqb node.links 1 && not opened) ≡ false → 0 < node.links - 1
+    more_links is_name stays = elim (and_cases (eqb node.links 1) (not opened) stays) [
+      | inl more ↦ let several : node.links ≢ 1 = eqb-false node.links 1 more in omega (arith, linked, several)
+      | inr held ↦ absurd (false≢true (sym held ∙ not_from_false opened (unopened is_name)))
+    ]
+
+    go : (last : Bool) → (eqb node.links 1 && not opened) ≡ last → is_socket_kind (kind_in (cond last None (Some (record node { links = node.links - 1 })))) ≡ true
+        → 0 < links_in (cond last None (Some (record node { links = node.links - 1 })))
+    go true goes is_name = absurd (false≢true is_name)
+    go false stays is_name = more_links is_name stays
+
+pub socket_linked : (tree : Tree) (number : ℕ) (opened : Bool) → is_in_use tree number ≡ true → 0 < links_at tree number → (is_socket tree number ≡ true → opened ≡ false)
+    → is_socket (link_dropped tree number opened) number ≡ true → 0 < links_at (link_dropped tree number opened) number
+socket_linked tree number opened used linked unopened is_name =
+    let here = node_at-with_node tree number (left_in opened (node_at tree number)) (is_number tree number used) in
+    subst (λ (node : Option Node). 0 < links_in node) (sym here)
+    (left_linked opened (node_at tree number) linked unopened (sym (ap (λ (node : Option Node). is_socket_kind (kind_in node)) here) ∙ is_name))
 
 -- ---- a new node
 
@@ -294,7 +327,7 @@ hung_there tree number to is =
       here = λ _. ap parent_in (node_at-with_node tree number there at);
       nodes = λ are. nodes-with_node tree number there are (λ n same.
           let old : IsNode (record { links = links_at tree number; content = Directory (parent_at tree number) (entries_at tree number) }) = are number _ was in
-          subst IsNode (same_Some node n same) (record { content = old.content; size = old.size; links = old.links; single = λ _. old.single refl }));
+          subst IsNode (same_Some node n same) (record { content = old.content; size = old.size; links = old.links; single = λ _. old.single refl; socket = λ is_socket. absurd (false≢true is_socket) }));
       elsewhere = λ m other. node_at-with_node_other tree number m there other;
       file = λ not m. absurd (false≢true (sym not ∙ is));
     }

@@ -1,6 +1,6 @@
 //! Laws of the calls on paths. Each is the contract of a function that does nothing.
 
-ghost use Rattle.std.specs.Prelude.{◌≡◌, ℕ, ◌^◌, ◌<◌, ◌≤◌, Bool, true, List, None, Ok, length, take};
+ghost use Rattle.std.specs.Prelude.{◌≡◌, ℕ, ◌^◌, ◌<◌, ◌≤◌, Bool, true, List, None, Ok, Option, length, take};
 ghost use Rattle.std.specs.List.{All};
 ghost use Rattle.kabi_calls.specs.Arguments.{path_fault};
 ghost use Rattle.kabi_types.specs.declared.scripts.Program.{Program};
@@ -19,12 +19,12 @@ pub fn calls_on_paths_leave_a_tree()
         → (path_fault path ≡ None) × All (λ byte. (0 < byte) × (byte < 2 ^ 8)) path → bind_path tree cwd path ≡ Ok (number, after) → IsTree after }
     ensures rmdir { (tree : Tree) (cwd : ℕ) (path : List ℕ) (busy : ℕ → Bool) (after : Tree) → IsTree tree → is_directory tree cwd ≡ true
         → rmdir_path tree cwd path busy ≡ Ok after → IsTree after }
-    ensures unlink { (tree : Tree) (cwd : ℕ) (path : List ℕ) (opened : ℕ → Bool) (after : Tree) → IsTree tree → is_directory tree cwd ≡ true
-        → unlink_path tree cwd path opened ≡ Ok after → IsTree after }
+    ensures unlink { (tree : Tree) (cwd : ℕ) (path : List ℕ) (opened : ℕ → Bool) (freed : Option ℕ) (after : Tree) → IsTree tree → is_directory tree cwd ≡ true
+        → unlink_path tree cwd path opened ≡ Ok (freed, after) → IsTree after }
     ensures link { (tree : Tree) (cwd : ℕ) (old new : List ℕ) (after : Tree) → IsTree tree → is_directory tree cwd ≡ true
         → (path_fault new ≡ None) × All (λ byte. (0 < byte) × (byte < 2 ^ 8)) new → link_path tree cwd old new ≡ Ok after → IsTree after }
-    ensures rename { (tree : Tree) (cwd : ℕ) (old new : List ℕ) (opened busy : ℕ → Bool) (after : Tree) → IsTree tree → is_directory tree cwd ≡ true
-        → (path_fault new ≡ None) × All (λ byte. (0 < byte) × (byte < 2 ^ 8)) new → rename_path tree cwd old new opened busy ≡ Ok after → IsTree after }
+    ensures rename { (tree : Tree) (cwd : ℕ) (old new : List ℕ) (opened busy : ℕ → Bool) (freed : Option ℕ) (after : Tree) → IsTree tree → is_directory tree cwd ≡ true
+        → (path_fault new ≡ None) × All (λ byte. (0 < byte) × (byte < 2 ^ 8)) new → rename_path tree cwd old new opened busy ≡ Ok (freed, after) → IsTree after }
 {}
 
 /// Thirty bytes of a file suffice to find the program that it starts: the line of a program whose name has at most 27 bytes

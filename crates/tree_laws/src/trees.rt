@@ -7,6 +7,7 @@ ghost use Rattle.posix_defs.specs.DiskFormat.{greatest_size};
 ghost use Rattle.posix_defs.specs.FileBytes.{overwritten, resized};
 ghost use Rattle.posix_defs.specs.Tree.{Content, File, Tree, entries_at, found, is_directory, is_in_use, new_tree, node_at};
 ghost use Rattle.posix_defs.specs.TreeChanges.{HasNoRoom, IsAtOrAbove, closed, link, make, rename_over, rename_to, resize, takes_entry, unlink, write};
+ghost use Rattle.posix_defs.specs.PathCalls.{is_socket};
 ghost use Rattle.posix_defs.specs.IsTree.{IsEntryName, IsNewContent, IsTree};
 ghost use Rattle.posix_defs.specs.PathCalls.{read_node};
 
@@ -26,18 +27,19 @@ pub fn what_is_made_is_found()
         → make tree dir name content ≡ Ok (number, after) → IsTree after }
 {}
 
-/// A name that goes is free, and leaves a tree. A directory that goes with it is empty, and no description keeps it.
+/// A name that goes is free, and leaves a tree. A directory that goes with it is empty, and no description keeps it,
+/// nor a socket's name.
 pub fn a_removed_name_is_free()
     ensures free { (tree : Tree) (dir : ℕ) (name : List ℕ) (number : ℕ) (opened : Bool) → IsTree tree → found tree dir name ≡ Some number
         → (is_directory tree number ≡ true → (entries_at tree number ≡ []) × (opened ≡ false))
         → found (unlink tree dir name number opened) dir name ≡ None }
     ensures kept { (tree : Tree) (dir : ℕ) (name : List ℕ) (number : ℕ) (opened : Bool) → IsTree tree → found tree dir name ≡ Some number
-        → (is_directory tree number ≡ true → (entries_at tree number ≡ []) × (opened ≡ false))
+        → (is_directory tree number ≡ true → (entries_at tree number ≡ []) × (opened ≡ false)) → (is_socket tree number ≡ true → opened ≡ false)
         → IsTree (unlink tree dir name number opened) }
 {}
 
 /// After a rename over a name that is there, that name leads to the node and the old one is free, in a tree. A directory
-/// that goes is empty, and none is moved below itself.
+/// that goes is empty, and none is moved below itself; no description keeps a socket's name that goes.
 pub fn a_rename_over_a_name_moves_the_node()
     ensures found { (tree : Tree) (dir : ℕ) (name : List ℕ) (number to : ℕ) (new : List ℕ) (replaced : ℕ) (opened : Bool) → IsTree tree
         → found tree dir name ≡ Some number → found tree to new ≡ Some replaced → number ≢ replaced
@@ -49,7 +51,7 @@ pub fn a_rename_over_a_name_moves_the_node()
         → found (rename_over tree dir name number to new replaced opened) dir name ≡ None }
     ensures kept { (tree : Tree) (dir : ℕ) (name : List ℕ) (number to : ℕ) (new : List ℕ) (replaced : ℕ) (opened : Bool) → IsTree tree
         → found tree dir name ≡ Some number → found tree to new ≡ Some replaced → number ≢ replaced
-        → (is_directory tree replaced ≡ true → (entries_at tree replaced ≡ []) × (opened ≡ false))
+        → (is_directory tree replaced ≡ true → (entries_at tree replaced ≡ []) × (opened ≡ false)) → (is_socket tree replaced ≡ true → opened ≡ false)
         → (is_directory tree number ≡ true → ¬ (IsAtOrAbove tree number to))
         → IsTree (rename_over tree dir name number to new replaced opened) }
 {}

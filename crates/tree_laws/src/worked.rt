@@ -97,7 +97,7 @@ pub fn calls_on_paths_answer_these()
     ensures below { rename_path with_b 1 (codes "/a") (codes "/a/b/c") nowhere nowhere ≡ Err EINVAL }
     ensures opened { open_path with_b 1 (codes "/f") to_write ≡ Ok (4, with_f) }
     ensures linked { link_path with_f 1 (codes "/f") (codes "/g") ≡ Ok with_g }
-    ensures one_node { rename_path with_g 1 (codes "/f") (codes "/g") nowhere nowhere ≡ Ok with_g }
+    ensures one_node { rename_path with_g 1 (codes "/f") (codes "/g") nowhere nowhere ≡ Ok (None, with_g) }
     ensures told { stat_path with_g 1 (codes "/f") ≡ Ok (record { kind = kinds.File; number = 4; nlink = 2; size = 0 }) }
     ensures kinds { (rename_path with_g 1 (codes "/a") (codes "/f") nowhere nowhere ≡ Err ENOTDIR)
         × (rename_path with_g 1 (codes "/f") (codes "/a") nowhere nowhere ≡ Err EISDIR) }

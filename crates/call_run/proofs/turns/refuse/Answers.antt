@@ -24,11 +24,12 @@ returns-clause-high c = λ world stands.
 
 pub returns-clause-refused : goal.returns-clause-refused
 returns-clause-refused c = λ world stands alive.
-    let marked : StandFor c.args.script.now (record { heap = c.mark.new.self; procs = c.args.objects.now.procs }) world.plain world.account =
-    rw c.mark.ensures (stand_marked c.args.script.now c.args.objects.now _ _ world.plain world.account stands.plain) in
+    let marked : StandFor c.args.script.now (record { heap = c.mark.new.self; procs = c.args.objects.now.procs }) world.plain world.account.frames =
+    rw c.mark.ensures (stand_marked c.args.script.now c.args.objects.now _ _ world.plain world.account.frames stands.plain) in
     record {
       kept = c.go_on.ensures.kept;
-      plain = c.go_on.ensures.does world.plain world.account marked alive;
+      plain = c.go_on.ensures.does world.plain world.account.frames marked alive;
+      no_queues = stands.no_queues;
       cached = stands.cached;
       reads = stands.reads;
     }
@@ -36,9 +37,9 @@ returns-clause-refused c = λ world stands alive.
 pub unreachable-requires : goal.unreachable-requires
 unreachable-requires c =
     let alive = c.requires in
-    let marked : StandFor c.args.script.now (record { heap = c.mark.new.self; procs = c.args.objects.now.procs }) alive.0.plain alive.0.account =
-    rw c.mark.ensures (stand_marked c.args.script.now c.args.objects.now _ _ alive.0.plain alive.0.account alive.1.plain) in
-    never (sym alive.2 ∙ alive_is c.args.script.now _ alive.0.plain alive.0.account c.args.pid marked ∙ c.caller.ensures.none c.in_default.is)
+    let marked : StandFor c.args.script.now (record { heap = c.mark.new.self; procs = c.args.objects.now.procs }) alive.0.plain alive.0.account.frames =
+    rw c.mark.ensures (stand_marked c.args.script.now c.args.objects.now _ _ alive.0.plain alive.0.account.frames alive.1.plain) in
+    never (sym alive.2 ∙ alive_is c.args.script.now _ alive.0.plain alive.0.account.frames c.args.pid marked ∙ c.caller.ensures.none c.in_default.is)
 
 pub returns-clause-marked : goal.returns-clause-marked
 returns-clause-marked c = c.go_on.ensures.takes.marks ∙ ap (λ (h : Heap). h.marks) c.mark.ensures

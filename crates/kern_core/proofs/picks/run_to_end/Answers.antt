@@ -2,8 +2,8 @@ use Rattle.std.proofs.Common.{◌≡◌, ◌∙◌, ap, subst, sym, refl, length
 use Rattle.posix_defs.specs.Choice.{chosen, named_by}
 use Rattle.posix_defs.specs.SoundTasks.{IsSound}
 use Rattle.posix_defs.specs.Ends.{end_of}
-use Rattle.kern_tasks.specs.View.{StaysInside, Took}
-use Rattle.kern_tasks.proofs.LastNoted.{last_inside, some_noted}
+use Rattle.kern_tasks.specs.View.{StaysInside, Takes, Took}
+use Rattle.kern_tasks.specs.View.{begins, goes_on}
 use Rattle.kern_core.proofs.PickedRuns.{chooses_more, chooses_next, has_ended, picked_boot, picked_more}
 use Rattle.kern_core.proofs.picks.run_to_end.Goals as goal
 
@@ -17,9 +17,7 @@ loop-end-init g c = record {
       let same : suc i ≡ suc (length c.args.core.now.run + i) = omega (arith, none) in
       c.of-choosing.ensures i ∙ ap (λ chooser. chosen chooser (suc i)) c.requires.chooser
       ∙ ap (chosen (g.T.Turner.script c.args.core.now.store).chooser) same;
-  inside = λ front last is.
-      let none : length c.args.core.now.run ≡ 0 = ap length c.requires.booted.run in
-      absurd (omega (arith, some_noted _ front last is));
+  inside = begins;
 }
 
 pub loop-end-preserved : goal.loop-end-preserved
@@ -41,8 +39,9 @@ loop-end-preserved g c =
           (subst (λ sc. Took stands sc old c.picked-event.result c.take.ensures.took.0 c.take.new.self) same c.take.ensures.took.1);
       chooses = chooses_more c.loop-end.choosing c.next-number.result.1 chooser old.run c.take.new.self.run c.take.ensures.took.0
           c.loop-end.invariant.chooses c.next-number.ensures.rest c.take.ensures.took.1.run;
-      inside = last_inside c.take.new.self.run old.run c.take.ensures.took.0 c.picked-event.result _ _ _ c.take.ensures.took.1.run c.take.ensures.took.1.taken
-          (subst (λ sc. StaysInside c.picked-event.result (g.T.Turner.high c.take.new.self.store) c.take.new.self.reserved sc.heap) same c.take.ensures.inside);
+      inside = goes_on old c.take.new.self c.picked-event.result c.loop-end.invariant.inside
+          (subst (λ sc. Takes stands sc old c.picked-event.result c.take.new.self) same c.take.ensures.took)
+          (subst (λ sc. StaysInside g.T.Turner.marks g.T.Turner.high sc.heap old c.take.new.self) same c.take.ensures.inside);
     }
 
 pub returns-in-Some-clause-ended : goal.returns-in-Some-clause-ended

@@ -1,5 +1,5 @@
 use Rattle.std.proofs.Common.{◌≡◌, ◌-◌, length}
-use Rattle.kern_tasks.specs.View.{HasPicked, LastStaysInside}
+use Rattle.kern_tasks.specs.View.{GoesInside, HasPicked}
 use Rattle.kern_core.proofs.PickedRuns.{ChoosesFrom}
 use Rattle.kern_core.proofs.picks.run_to_end.Given as goal
 
@@ -10,7 +10,7 @@ invariant-loop-end g l = record {
   steps : l.core.steps ≡ l.initial.core.steps;
   picked : HasPicked g.T.Turner.stands (g.T.Turner.script l.initial.core.store) l.core;
   chooses : ChoosesFrom l.choosing (g.T.Turner.script l.initial.core.store).chooser (length l.core.run);
-  inside : LastStaysInside l.core.run (g.T.Turner.high l.core.store) l.core.reserved (g.T.Turner.script l.initial.core.store).heap;
+  inside : GoesInside g.T.Turner.stands g.T.Turner.marks g.T.Turner.high (g.T.Turner.script l.initial.core.store) l.initial.core l.core;
 }
 
 abbrev pub decreases-loop-end : goal.decreases-loop-end

@@ -9,4 +9,4 @@ pub returns-clause-free : goal.returns-clause-free
 returns-clause-free c = over_free
 
 pub returns-clause-kept : goal.returns-clause-kept
-returns-clause-kept c = λ tree dir name number to new replaced opened is at at_new other empty off. rename_over_keeps tree dir name number to new replaced opened is at at_new other empty (λ d steps e. off d (steps, e))
+returns-clause-kept c = λ tree dir name number to new replaced opened is at at_new other empty unopened off. rename_over_keeps tree dir name number to new replaced opened is at at_new other empty unopened (λ d steps e. off d (steps, e))
