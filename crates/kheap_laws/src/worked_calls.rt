@@ -8,7 +8,7 @@ ghost use Rattle.kheap_shelves.specs.Objects.{object, InUse};
 ghost use Rattle.kheap_shelves.specs.declared.objects.Node.{Node as NodeOf};
 ghost use Rattle.kheap_shelves.specs.declared.objects.PageEntry.TheVariants as entry;
 ghost use Rattle.kheap_slabs.specs.Owners.{Owners, with_space, IsOwned, OwnsItsObjects};
-ghost use Rattle.kheap_slabs.specs.Paid.{CanPay, IsPaid, PaysExactly, TakesNothing};
+ghost use Rattle.kheap_slabs.specs.Paid.{CanPay, IsPaid, TakesNothing};
 ghost use Rattle.kheap_slabs.specs.Queues.{empty_queue};
 ghost use Rattle.kheap_laws.specs.Worked.{three_pages};
 ghost use Rattle.kheap_slabs.specs.Spaces.{keys_in, count_at, names_page, KeepsBytes};
@@ -68,7 +68,6 @@ pub fn begin(heap: &mut KHeap, purse: &mut Purse) -> u32
     requires pays { CanPay heap.old purse.old }
     requires some { 0 < counted purse.old.left class.Node }
     ensures paid { IsPaid heap.old purse.old heap.new purse.new }
-    ensures exact { PaysExactly class.Node heap.old purse.old heap.new purse.new }
     ensures vacant { object heap.old.nodes result ≡ None }
     ensures node { object heap.new.nodes result
         ≡ Some (record { entries = three_pages entry.Zero entry.Zero }) }

@@ -1,7 +1,5 @@
-use Rattle.std.proofs.Common.{◌≡◌, ℕ, ◌+◌, ◌-◌, ◌<◌, [], ◌∷◌, None, Some, replicate, set, refl, sym, ap, ◌∙◌, arith}
-use Rattle.kabi_values.specs.declared.classes.Need.{Need}
-use Rattle.kheap_shelves.specs.Objects.{count, object, put}
-use Rattle.kheap_shelves.specs.Purse.{Purse}
+use Rattle.std.proofs.Common.{◌≡◌, ℕ, [], ◌∷◌, None, Some, replicate, set, refl, sym, ap, ◌∙◌, arith}
+use Rattle.kheap_shelves.specs.Objects.{object, put}
 use Rattle.kheap_shelves.specs.declared.objects.Node.{Node}
 use Rattle.kheap_shelves.specs.declared.objects.PageEntry.TheVariants as entry
 use Rattle.kheap_slabs.specs.Heap.{Heap}
@@ -35,13 +33,6 @@ begun old new owners key vacant stored kept owned =
 pub returns-clause-owners : goal.returns-clause-owners
 returns-clause-owners c owners owned =
     begun c.args.heap.now c.insert_node-key.new.self owners c.insert_node-key.result c.insert_node-key.ensures.vacant c.insert_node-key.ensures.stored c.insert_node-key.ensures.kept owned
-
-pub returns-clause-exact : goal.returns-clause-exact
-returns-clause-exact c =
-    let made : count c.insert_node-key.new.self.nodes ≡ count c.args.heap.now.nodes + 1 = ap (λ (n : Need). n.node) c.insert_node-key.ensures.makes.counts in
-    let left : c.spend.new.self.left.node ≡ c.args.purse.now.left.node - 1 = ap (λ (p : Purse). p.left.node) c.spend.ensures.kept in
-    let some : 0 < c.args.purse.now.left.node = c.requires.some in
-    omega arith
 
 pub returns-clause-node : goal.returns-clause-node
 returns-clause-node c = c.insert_node-key.ensures.stored
