@@ -207,15 +207,20 @@ impl Net {
     {
         let key = self.key(rt, at);
         let waits = accept_waits(&self.heap, key, room, nonblock);
-        let answer = accept(&mut self.heap, key, room, nonblock);
-        assert!(rt; waits == (answer == Accepted::Blocked));
-        match answer {
+        match accept(&mut self.heap, key, room, nonblock) {
             Accepted::Took(taken) => {
+                assert!(rt; !waits);
                 self.named.push(taken)?;
                 Ok(Answer::Taken)
             }
-            Accepted::Blocked => Ok(Answer::Blocked),
-            Accepted::Fault(errno) => Ok(Answer::Fault(errno)),
+            Accepted::Blocked => {
+                assert!(rt; waits);
+                Ok(Answer::Blocked)
+            }
+            Accepted::Fault(errno) => {
+                assert!(rt; !waits);
+                Ok(Answer::Fault(errno))
+            }
         }
     }
 
