@@ -1,12 +1,14 @@
 -- What a call makes of a directory's list is what the tree that the disk stands for makes of its entries.
-use Rattle.std.proofs.Common.{◌≡◌, ◌≢◌, ℕ, ◌+◌, ◌<◌, ◌≤◌, true, List, [], ◌∷◌, ◌++◌, set, Option, None, Some, refl, sym, ap, subst, ◌∙◌, arith}
+use Rattle.std.proofs.Common.{◌≡◌, ◌≢◌, ℕ, suc, ◌+◌, ◌*◌, ◌/◌, ◌<◌, ◌≤◌, true, List, [], ◌∷◌, ◌++◌, get_or, set, take, drop, slice_get, Option, None, Some, refl, sym, ap, subst, ◌∙◌, arith}
 use Rattle.std.specs.List.{swap_remove}
 use Rattle.std.specs.Option.{option_map}
+use Rattle.std.proofs.lemmas.Option.{none-some, same_Some, slice_get-get_or}
 use Rattle.kabi_values.specs.declared.inodes.Inode.{Inode}
 use Rattle.kabi_values.specs.declared.inodes.DirEntry.{DirEntry}
 use Rattle.posix_defs.specs.DiskFormat.{table_nodes}
 use Rattle.posix_defs.specs.SoundDisk.{HasNode}
-use Rattle.posix_defs.specs.DiskContents.{HasEntries, entry_for, own_name, parent_name}
+use Rattle.posix_defs.specs.DiskContents.{HasEntries, entry_for, node_bytes, own_name, parent_name}
+use Rattle.posix_defs.specs.PathCalls.{list_node}
 use Rattle.posix_defs.specs.DiskTree.{HasNodeOf, HasThere, StandsFor}
 use Rattle.posix_defs.specs.Tree.{Directory, Node, Tree, node_at, with_node, is_directory, links_at, entries_at, parent_at, found}
 use Rattle.posix_defs.specs.TreeChanges.{no_entry, place_of, entry_put, entry_taken, entry_aimed, entry_renamed, with_entries, hung, under}
@@ -20,17 +22,17 @@ use Rattle.memfs_dir.specs.Listed.{Relists, place_called}
 use Rattle.memfs_dir.proofs.Dots.{whole, found_behind, missing_behind, set_behind, taken_behind}
 
 -- the whole list of a directory of the tree
-abbrev listed : Tree → ℕ → List DirEntry
+abbrev pub listed : Tree → ℕ → List DirEntry
 listed tree dir = whole dir (parent_at tree dir) (entries_at tree dir)
 
 -- a directory of the tree on its disk
-record OnDisk (disk : List (List ℕ)) (tree : Tree) (dir : ℕ) (inode : Inode) : Type 0 where
-  above : 0 < dir
-  within : dir ≤ table_nodes tree.blocks
-  links : inode.nlink ≡ links_at tree dir
-  list : HasEntries disk inode (listed tree dir)
+pub record OnDisk (disk : List (List ℕ)) (tree : Tree) (dir : ℕ) (inode : Inode) : Type 0 where
+  pub above : 0 < dir
+  pub within : dir ≤ table_nodes tree.blocks
+  pub links : inode.nlink ≡ links_at tree dir
+  pub list : HasEntries disk inode (listed tree dir)
 
-on_disk : (disk : List (List ℕ)) (tree : Tree) (dir : ℕ) (inode : Inode) → StandsFor disk tree → is_directory tree dir ≡ true → HasNode disk dir inode → OnDisk disk tree dir inode
+pub on_disk : (disk : List (List ℕ)) (tree : Tree) (dir : ℕ) (inode : Inode) → StandsFor disk tree → is_directory tree dir ≡ true → HasNode disk dir inode → OnDisk disk tree dir inode
 on_disk disk tree dir inode stands is has =
     let number = directory_number tree dir is in
     let within : dir ≤ table_nodes tree.blocks = subst (λ (n : ℕ). dir ≤ n) stands.count number.within in
@@ -123,3 +125,45 @@ pub missing_on_disk : (disk : List (List ℕ)) (tree : Tree) (dir : ℕ) (inode 
 missing_on_disk disk tree dir inode entries name stands is has list not_own not_parent none =
     let same : entries ≡ listed tree dir = one_list disk inode entries (listed tree dir) list (on_disk disk tree dir inode stands is has).list in
     ap (λ (es : List DirEntry). place_called name es) same ∙ missing_behind dir (parent_at tree dir) (entries_at tree dir) name not_own not_parent none
+
+-- ---- what is told of a directory
+
+pub told_by_bytes : (disk : List (List ℕ)) (tree : Tree) (dir at count : ℕ) (inode : Inode) → StandsFor disk tree → is_directory tree dir ≡ true → HasNode disk dir inode
+    → list_node tree dir at count ≡ take (32 * (count / 32)) (drop at (node_bytes disk inode))
+told_by_bytes disk tree dir at count inode stands is has = ap (λ (bytes : List ℕ). take (32 * (count / 32)) (drop at bytes)) (sym (on_disk disk tree dir inode stands is has).list.bytes)
+
+-- the entry at the place where a look finds a name is that of the tree
+entry_behind : (entries : List DirEntry) (dir parent k : ℕ) (entry : DirEntry) → slice_get (whole dir parent entries) (k + 2) ≡ Some entry → slice_get entries k ≡ Some entry
+entry_behind entries dir parent k entry is = ap (slice_get (whole dir parent entries)) (two_more k) ∙ is
+  where
+    two_more : (n : ℕ) → suc (suc n) ≡ n + 2
+    two_more n = omega arith
+
+found_from : (disk : List (List ℕ)) (tree : Tree) (dir place : ℕ) (inode : Inode) (name : List ℕ) (entry : DirEntry) (there : Option ℕ) → StandsFor disk tree → is_directory tree dir ≡ true → HasNode disk dir inode → name ≢ own_name
+    → name ≢ parent_name → place_called name (listed tree dir) ≡ Some place → slice_get (listed tree dir) place ≡ Some entry → found tree dir name ≡ there → there ≡ Some entry.node
+found_from disk tree dir place inode name entry None stands is has not_own not_parent at is_entry none =
+    let missing = missing_on_disk disk tree dir inode (listed tree dir) name stands is has (on_disk disk tree dir inode stands is has).list not_own not_parent none in
+    absurd (none-some place (sym missing ∙ at))
+found_from disk tree dir place inode name entry (Some node) stands is has not_own not_parent at is_entry found_node =
+    let entries : List DirEntry = entries_at tree dir in
+    let stands_name = stands_at entries name node found_node in
+    let there = found_on_disk disk tree dir node inode (listed tree dir) name stands is has (on_disk disk tree dir inode stands is has).list not_own not_parent found_node in
+    let same : place ≡ place_of name entries + 2 = same_Some place (place_of name entries + 2) (sym at ∙ there) in
+    let here = entry_behind entries dir (parent_at tree dir) (place_of name entries) entry (ap (slice_get (listed tree dir)) (sym same) ∙ is_entry) in
+    let is_it : get_or entries (place_of name entries) no_entry ≡ entry = same_Some _ _ (sym (slice_get-get_or entries (place_of name entries) no_entry stands_name.within) ∙ here) in
+    ap Some (sym stands_name.aims ∙ ap (λ (e : DirEntry). e.node) is_it)
+
+pub looked_up : (disk : List (List ℕ)) (tree : Tree) (dir place : ℕ) (inode : Inode) (name : List ℕ) (entry : DirEntry) → StandsFor disk tree → is_directory tree dir ≡ true → HasNode disk dir inode → name ≢ own_name
+    → name ≢ parent_name → place_called name (listed tree dir) ≡ Some place → slice_get (listed tree dir) place ≡ Some entry → found tree dir name ≡ Some entry.node
+looked_up disk tree dir place inode name entry stands is has not_own not_parent at is_entry = found_from disk tree dir place inode name entry (found tree dir name) stands is has not_own not_parent at is_entry refl
+
+missing_from : (disk : List (List ℕ)) (tree : Tree) (dir : ℕ) (inode : Inode) (name : List ℕ) (there : Option ℕ) → StandsFor disk tree → is_directory tree dir ≡ true → HasNode disk dir inode → name ≢ own_name → name ≢ parent_name
+    → place_called name (listed tree dir) ≡ None → found tree dir name ≡ there → there ≡ None
+missing_from disk tree dir inode name None stands is has not_own not_parent at none = refl
+missing_from disk tree dir inode name (Some node) stands is has not_own not_parent at found_node =
+    let there = found_on_disk disk tree dir node inode (listed tree dir) name stands is has (on_disk disk tree dir inode stands is has).list not_own not_parent found_node in
+    absurd (none-some _ (sym at ∙ there))
+
+pub not_there : (disk : List (List ℕ)) (tree : Tree) (dir : ℕ) (inode : Inode) (name : List ℕ) → StandsFor disk tree → is_directory tree dir ≡ true → HasNode disk dir inode → name ≢ own_name → name ≢ parent_name
+    → place_called name (listed tree dir) ≡ None → found tree dir name ≡ None
+not_there disk tree dir inode name stands is has not_own not_parent at = missing_from disk tree dir inode name (found tree dir name) stands is has not_own not_parent at refl

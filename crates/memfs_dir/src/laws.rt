@@ -1,13 +1,14 @@
 //! Laws of a directory as a list of entries. Each is the contract of a function that does nothing.
 
-ghost use Rattle.std.specs.Prelude.{◌≡◌, ◌≢◌, ℕ, ◌+◌, ◌*◌, ◌<◌, ◌↔◌, List, [], ◌∷◌, ◌++◌, Option, None, Some, IfSome, false, true, length, slice_index_or, slice_set};
+ghost use Rattle.std.specs.Prelude.{◌≡◌, ◌≢◌, ℕ, ◌+◌, ◌*◌, ◌/◌, ◌<◌, ◌↔◌, List, [], ◌∷◌, ◌++◌, Option, None, Some, IfSome, false, true, length, drop, slice_index_or, slice_set, take};
 ghost use Rattle.std.specs.List.{swap_remove, AllPairs};
 ghost use Rattle.std.specs.List.Sorted.{IsPermutation};
 ghost use Rattle.kabi_values.specs.declared.inodes.DirEntry.{DirEntry};
 ghost use Rattle.kabi_values.specs.declared.inodes.Inode.{Inode};
 ghost use Rattle.posix_defs.specs.SoundDisk.{HasInode, HasNode, Sound};
-ghost use Rattle.posix_defs.specs.DiskContents.{entry_for, own_name, parent_name, Finds, HasEntries};
+ghost use Rattle.posix_defs.specs.DiskContents.{entry_for, own_name, parent_name, node_bytes, Finds, HasEntries};
 ghost use Rattle.posix_defs.specs.DiskTree.{ChangesNode, StandsFor};
+ghost use Rattle.posix_defs.specs.PathCalls.{list_node};
 ghost use Rattle.posix_defs.specs.Tree.{Tree, entries_at, found, found_among, is_directory};
 ghost use Rattle.posix_defs.specs.TreeChanges.{entry_put, entry_taken, entry_aimed, entry_renamed, hung, no_entry, place_of, takes_entry, with_entries};
 ghost use Rattle.memfs_dir.specs.Slots.{entry_size};
@@ -113,4 +114,10 @@ pub fn calls_on_a_directory_change_the_tree()
         → StandsFor after (with_entries tree dir (entry_renamed name other node)) }
     ensures hung { (before after : List (List ℕ)) (tree : Tree) (dir parent : ℕ) (old new : Inode) → StandsFor before tree → is_directory tree dir ≡ true → HasNode before dir old
         → Relists dir before old (λ entries. slice_set entries 1 (entry_for parent parent_name)) after new → StandsFor after (hung tree dir parent) }
+{}
+
+/// What is told of a directory's entries are its bytes, from a place on, whole entries of them.
+pub fn what_is_listed_are_a_directorys_bytes()
+    ensures { (disk : List (List ℕ)) (tree : Tree) (dir at count : ℕ) (inode : Inode) → StandsFor disk tree → is_directory tree dir ≡ true → HasNode disk dir inode
+        → list_node tree dir at count ≡ take (32 * (count / 32)) (drop at (node_bytes disk inode)) }
 {}

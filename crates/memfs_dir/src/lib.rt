@@ -22,7 +22,7 @@ pub use laws::{
     a_removed_entry_is_not_found, adding_and_removing_undo_each_other,
     an_added_entry_is_found_at_the_end, an_entry_put_in_place_changes_no_other_name,
     calls_change_the_entries_behind_the_dots, calls_on_a_directory_change_the_tree,
-    other_directories_keep_their_entries,
+    other_directories_keep_their_entries, what_is_listed_are_a_directorys_bytes,
 };
 pub use removing::dir_remove;
 pub use slots::put_entry;
