@@ -1,4 +1,6 @@
 mod Counts
+mod Desks
+mod Diaries
 mod Ends
 mod Held
 mod Joining

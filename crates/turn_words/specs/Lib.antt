@@ -2,3 +2,4 @@ pub mod Items
 pub mod Laws
 pub mod Rule
 pub mod Seats
+pub mod Worked

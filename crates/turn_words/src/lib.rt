@@ -12,7 +12,10 @@ mod laws;
 mod rule;
 mod seats;
 mod steps;
+#[cfg(test)]
+mod tests;
 mod turns;
+mod worked;
 
 pub use crossing::crosses_threads;
 pub use items::Item;
@@ -20,3 +23,4 @@ pub use laws::{each_ticket_out_stands_in_one_view, what_is_noted_goes_on};
 pub use rule::{Chronicle, TurnView};
 pub use seats::TurnSeat;
 pub use turns::Turns;
+pub use worked::given_and_given_back;
