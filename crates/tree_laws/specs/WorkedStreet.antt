@@ -63,17 +63,17 @@ abbrev pub everywhere : ℕ → Bool
 everywhere _ = true
 
 -- the answers to renames from the root, of a tree that nobody else uses
-abbrev pub renamed : Tree → List (List ℕ × List ℕ) → List (Result Tree Errno)
+abbrev pub renamed : Tree → List (List ℕ × List ℕ) → List (Result (Option ℕ × Tree) Errno)
 renamed tree paths = map (λ path. rename_path tree 1 path.0 path.1 nowhere nowhere) paths
 
 -- and of one in which every directory is busy
-abbrev pub renamed_busy : Tree → List (List ℕ × List ℕ) → List (Result Tree Errno)
+abbrev pub renamed_busy : Tree → List (List ℕ × List ℕ) → List (Result (Option ℕ × Tree) Errno)
 renamed_busy tree paths = map (λ path. rename_path tree 1 path.0 path.1 nowhere everywhere) paths
 
 abbrev pub linked : Tree → List (List ℕ × List ℕ) → List (Result Tree Errno)
 linked tree paths = map (λ path. link_path tree 1 path.0 path.1) paths
 
-abbrev pub unlinked : Tree → List (List ℕ) → List (Result Tree Errno)
+abbrev pub unlinked : Tree → List (List ℕ) → List (Result (Option ℕ × Tree) Errno)
 unlinked tree paths = map (λ path. unlink_path tree 1 path nowhere) paths
 
 abbrev pub rmdirs : Tree → List (List ℕ) → (ℕ → Bool) → List (Result Tree Errno)

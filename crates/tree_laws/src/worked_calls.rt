@@ -21,8 +21,8 @@ pub fn renames_answer_in_this_order()
         ≡ Err EBUSY ∷ Err EBUSY ∷ Err EBUSY ∷ Err EBUSY ∷ [] }
     ensures below { renamed street ((codes "a", codes "a/x") ∷ (codes "a", codes "a/b/x") ∷ (codes "a", codes "a/g") ∷ []) ≡ Err EINVAL ∷ Err EINVAL ∷ Err EINVAL ∷ [] }
     ensures below_busy { (renamed_busy street ((codes "a", codes "a/b") ∷ []) ≡ Err EINVAL ∷ []) × (renamed packed ((codes "d", codes "d/x") ∷ []) ≡ Err EINVAL ∷ []) }
-    ensures one_node { renamed_busy street ((codes "e", codes "e/") ∷ (codes "a", codes "a/b/../../a") ∷ []) ≡ Ok street ∷ Ok street ∷ [] }
-    ensures one_file { renamed packed ((codes "f", codes "d/A") ∷ []) ≡ Ok packed ∷ [] }
+    ensures one_node { renamed_busy street ((codes "e", codes "e/") ∷ (codes "a", codes "a/b/../../a") ∷ []) ≡ Ok (None, street) ∷ Ok (None, street) ∷ [] }
+    ensures one_file { renamed packed ((codes "f", codes "d/A") ∷ []) ≡ Ok (None, packed) ∷ [] }
     ensures over_directory { renamed_busy street ((codes "f", codes "a") ∷ (codes "f", codes "e") ∷ (codes "s", codes "e/") ∷ []) ≡ Err EISDIR ∷ Err EISDIR ∷ Err EISDIR ∷ [] }
     ensures over_file { renamed street ((codes "e", codes "f") ∷ (codes "a", codes "s") ∷ []) ≡ Err ENOTDIR ∷ Err ENOTDIR ∷ [] }
     ensures over_full { (renamed street ((codes "e", codes "a") ∷ []) ≡ Err ENOTEMPTY ∷ []) × (renamed_busy street ((codes "e", codes "a/") ∷ []) ≡ Err ENOTEMPTY ∷ []) }
@@ -36,17 +36,17 @@ pub fn renames_answer_in_this_order()
 /// that is replaced gone though its socket lives, a file opened kept, and `..` of a moved directory.
 pub fn renames_leave_these_trees()
     ensures over { rename_path street 1 (codes "f") (codes "a/g") nowhere nowhere
-        ≡ Ok (tree_of (root_of (entry_a ∷ entry_e ∷ entry_s ∷ []) ∷ a_directory 1 (entry_b ∷ entry_for 5 (codes "g") ∷ []) ∷ a_directory 2 [] ∷ a_directory 1 [] ∷ a_file 1 (7 ∷ []) ∷ a_socket 1 ∷ None ∷ [])) }
+        ≡ Ok (None, tree_of (root_of (entry_a ∷ entry_e ∷ entry_s ∷ []) ∷ a_directory 1 (entry_b ∷ entry_for 5 (codes "g") ∷ []) ∷ a_directory 2 [] ∷ a_directory 1 [] ∷ a_file 1 (7 ∷ []) ∷ a_socket 1 ∷ None ∷ [])) }
     ensures opened { rename_path street 1 (codes "f") (codes "a/g") everywhere nowhere
-        ≡ Ok (tree_of (root_of (entry_a ∷ entry_e ∷ entry_s ∷ []) ∷ a_directory 1 (entry_b ∷ entry_for 5 (codes "g") ∷ []) ∷ a_directory 2 [] ∷ a_directory 1 [] ∷ a_file 1 (7 ∷ []) ∷ a_socket 1 ∷ a_file 0 (8 ∷ []) ∷ [])) }
+        ≡ Ok (None, tree_of (root_of (entry_a ∷ entry_e ∷ entry_s ∷ []) ∷ a_directory 1 (entry_b ∷ entry_for 5 (codes "g") ∷ []) ∷ a_directory 2 [] ∷ a_directory 1 [] ∷ a_file 1 (7 ∷ []) ∷ a_socket 1 ∷ a_file 0 (8 ∷ []) ∷ [])) }
     ensures socket { rename_path street 1 (codes "f") (codes "s") everywhere nowhere
-        ≡ Ok (tree_of (root_of (entry_a ∷ entry_e ∷ entry_for 5 (codes "s") ∷ []) ∷ a_directory 1 (entry_b ∷ entry_g ∷ []) ∷ a_directory 2 [] ∷ a_directory 1 [] ∷ a_file 1 (7 ∷ []) ∷ None ∷ a_file 1 (8 ∷ []) ∷ [])) }
+        ≡ Ok (Some 6, tree_of (root_of (entry_a ∷ entry_e ∷ entry_for 5 (codes "s") ∷ []) ∷ a_directory 1 (entry_b ∷ entry_g ∷ []) ∷ a_directory 2 [] ∷ a_directory 1 [] ∷ a_file 1 (7 ∷ []) ∷ None ∷ a_file 1 (8 ∷ []) ∷ [])) }
     ensures directory { rename_path street 1 (codes "a/b") (codes "e") nowhere nowhere
-        ≡ Ok (tree_of (root_of (entry_a ∷ entry_for 3 (codes "e") ∷ entry_f ∷ entry_s ∷ []) ∷ a_directory 1 (entry_g ∷ []) ∷ a_directory 1 [] ∷ None ∷ a_file 1 (7 ∷ []) ∷ a_socket 1 ∷ a_file 1 (8 ∷ []) ∷ [])) }
+        ≡ Ok (None, tree_of (root_of (entry_a ∷ entry_for 3 (codes "e") ∷ entry_f ∷ entry_s ∷ []) ∷ a_directory 1 (entry_g ∷ []) ∷ a_directory 1 [] ∷ None ∷ a_file 1 (7 ∷ []) ∷ a_socket 1 ∷ a_file 1 (8 ∷ []) ∷ [])) }
     ensures moved { rename_path street 2 (codes "b/") (codes "../e/c/") nowhere everywhere
-        ≡ Ok (tree_of (root_of (entry_a ∷ entry_e ∷ entry_f ∷ entry_s ∷ []) ∷ a_directory 1 (entry_g ∷ []) ∷ a_directory 4 [] ∷ a_directory 1 (entry_for 3 (codes "c") ∷ []) ∷ a_file 1 (7 ∷ []) ∷ a_socket 1 ∷ a_file 1 (8 ∷ []) ∷ [])) }
+        ≡ Ok (None, tree_of (root_of (entry_a ∷ entry_e ∷ entry_f ∷ entry_s ∷ []) ∷ a_directory 1 (entry_g ∷ []) ∷ a_directory 4 [] ∷ a_directory 1 (entry_for 3 (codes "c") ∷ []) ∷ a_file 1 (7 ∷ []) ∷ a_socket 1 ∷ a_file 1 (8 ∷ []) ∷ [])) }
     ensures in_place { rename_path street 1 (codes "e") (codes "x/") nowhere nowhere
-        ≡ Ok (tree_of (root_of (entry_a ∷ entry_for 4 (codes "x") ∷ entry_f ∷ entry_s ∷ []) ∷ a_directory 1 (entry_b ∷ entry_g ∷ []) ∷ a_directory 2 [] ∷ a_directory 1 [] ∷ a_file 1 (7 ∷ []) ∷ a_socket 1 ∷ a_file 1 (8 ∷ []) ∷ [])) }
+        ≡ Ok (None, tree_of (root_of (entry_a ∷ entry_for 4 (codes "x") ∷ entry_f ∷ entry_s ∷ []) ∷ a_directory 1 (entry_b ∷ entry_g ∷ []) ∷ a_directory 2 [] ∷ a_directory 1 [] ∷ a_file 1 (7 ∷ []) ∷ a_socket 1 ∷ a_file 1 (8 ∷ []) ∷ [])) }
 {}
 
 /// `chdir` and `connect`, which look for a node of one kind.
@@ -67,11 +67,11 @@ pub fn names_go_and_come_so()
     ensures kept { unlinked street (codes "a" ∷ codes "a/" ∷ codes "/" ∷ codes "." ∷ codes "x" ∷ codes "x/" ∷ codes "f/" ∷ codes "f/x" ∷ [])
         ≡ Err EPERM ∷ Err EPERM ∷ Err EPERM ∷ Err EPERM ∷ Err ENOENT ∷ Err ENOENT ∷ Err ENOTDIR ∷ Err ENOTDIR ∷ [] }
     ensures gone { unlink_path street 1 (codes "f") nowhere
-        ≡ Ok (tree_of (root_of (entry_a ∷ entry_e ∷ entry_s ∷ []) ∷ a_directory 1 (entry_b ∷ entry_g ∷ []) ∷ a_directory 2 [] ∷ a_directory 1 [] ∷ None ∷ a_socket 1 ∷ a_file 1 (8 ∷ []) ∷ [])) }
+        ≡ Ok (None, tree_of (root_of (entry_a ∷ entry_e ∷ entry_s ∷ []) ∷ a_directory 1 (entry_b ∷ entry_g ∷ []) ∷ a_directory 2 [] ∷ a_directory 1 [] ∷ None ∷ a_socket 1 ∷ a_file 1 (8 ∷ []) ∷ [])) }
     ensures opened { unlink_path street 1 (codes "f") everywhere
-        ≡ Ok (tree_of (root_of (entry_a ∷ entry_e ∷ entry_s ∷ []) ∷ a_directory 1 (entry_b ∷ entry_g ∷ []) ∷ a_directory 2 [] ∷ a_directory 1 [] ∷ a_file 0 (7 ∷ []) ∷ a_socket 1 ∷ a_file 1 (8 ∷ []) ∷ [])) }
+        ≡ Ok (None, tree_of (root_of (entry_a ∷ entry_e ∷ entry_s ∷ []) ∷ a_directory 1 (entry_b ∷ entry_g ∷ []) ∷ a_directory 2 [] ∷ a_directory 1 [] ∷ a_file 0 (7 ∷ []) ∷ a_socket 1 ∷ a_file 1 (8 ∷ []) ∷ [])) }
     ensures socket { unlink_path street 1 (codes "s") everywhere
-        ≡ Ok (tree_of (root_of (entry_a ∷ entry_e ∷ entry_f ∷ []) ∷ a_directory 1 (entry_b ∷ entry_g ∷ []) ∷ a_directory 2 [] ∷ a_directory 1 [] ∷ a_file 1 (7 ∷ []) ∷ None ∷ a_file 1 (8 ∷ []) ∷ [])) }
+        ≡ Ok (Some 6, tree_of (root_of (entry_a ∷ entry_e ∷ entry_f ∷ []) ∷ a_directory 1 (entry_b ∷ entry_g ∷ []) ∷ a_directory 2 [] ∷ a_directory 1 [] ∷ a_file 1 (7 ∷ []) ∷ None ∷ a_file 1 (8 ∷ []) ∷ [])) }
     ensures rmdir { rmdir_path street 1 (codes "e/") nowhere
         ≡ Ok (tree_of (root_of (entry_a ∷ entry_s ∷ entry_f ∷ []) ∷ a_directory 1 (entry_b ∷ entry_g ∷ []) ∷ a_directory 2 [] ∷ None ∷ a_file 1 (7 ∷ []) ∷ a_socket 1 ∷ a_file 1 (8 ∷ []) ∷ [])) }
     ensures not_removed { rmdirs street (codes "e/." ∷ codes "x/." ∷ codes "e/.." ∷ codes "x" ∷ codes "/" ∷ codes "f" ∷ codes "s" ∷ codes "f/" ∷ codes "a" ∷ []) nowhere
