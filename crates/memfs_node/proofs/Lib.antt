@@ -6,3 +6,4 @@ pub mod Made
 pub mod Freed
 pub mod OnTree
 pub mod Named
+pub mod Looking

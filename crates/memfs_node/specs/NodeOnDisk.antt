@@ -7,6 +7,7 @@ use Rattle.posix_defs.specs.SoundDisk.{block_bytes, HasInode, IsFreeNode, free_i
 use Rattle.posix_defs.specs.DiskContents.{node_bytes}
 use Rattle.posix_defs.specs.DiskTree.{HasContent, StandsFor, ChangesNode}
 use Rattle.posix_defs.specs.Tree.{Content, File, Directory, SocketName, Node, Tree, IsInodeOf, size_of}
+use Rattle.posix_defs.specs.IsTree.{IsTree}
 use Rattle.memfs_node.specs.declared.making.NewNode.{NewNode}
 use Rattle.memfs_node.specs.declared.making.NewNode.TheVariants as kinds
 
@@ -59,6 +60,10 @@ pub record Frees (number : ℕ) (before : List (List ℕ)) (old : Inode) (after 
 abbrev pub DropsLink : Bool → ℕ → List (List ℕ) → Inode → List (List ℕ) → Inode → Type 0
 DropsLink true number before old after new = Frees number before old after
 DropsLink false number before old after new = Retags number before old old.kind (old.nlink - 1) after new
+
+-- the disk stands for a tree
+abbrev pub HasTree : List (List ℕ) → Type 0
+HasTree disk = (tree : Tree) × StandsFor disk tree × IsTree tree
 
 -- a call answers what the tree answers, and leaves a disk that stands for the tree after it; where that has a fault, the disk as it was
 abbrev pub AnswersAs : List (List ℕ) → List (List ℕ) → Result (ℕ × Tree) Errno → Result ℕ Errno → Type 0
