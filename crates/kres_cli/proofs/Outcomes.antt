@@ -16,29 +16,30 @@ use Rattle.kres_cli.specs.declared.commands.Task.TheVariants as task
 use Rattle.kres_cli.specs.declared.statuses.Status.{Status}
 use Rattle.kres_cli.specs.declared.statuses.Status.TheVariants as status
 use Rattle.kres_cli.specs.Status.{status_of}
-use Rattle.kres_cli.specs.Tool.{Streams, AnswersText, refuses, makes, AnswersSource, Makes, Wrote, HasPut, whole_text, beginning, OthersEnd, TaskEnds, TellsError, TextEnds, usage_line}
+use Rattle.kres_cli.specs.Tool.{Input, Output, AnswersText, refuses, makes, AnswersSource, Makes, Wrote, HasPut, whole_text, beginning, OthersEnd, TaskEnds, TellsError, TextEnds, usage_line}
 use Rattle.kres_cli.specs.Words.{Asks, IsAllowed, most_rounds, words_of}
 
 -- a run's report was written
-reported : (s : Streams) (asked : Task) (whole : List ℕ) (e : End) → AnswersSource s asked (status_of e) whole → Wrote s whole → TaskEnds s asked (status_of e)
-reported s asked whole end.Finished source wrote = (whole, source, wrote)
-reported s asked whole (end.Starved _ _) source wrote = (whole, source, wrote)
-reported s asked whole end.AllAsleep source wrote = (whole, source, wrote)
-reported s asked whole end.Spent source wrote = (whole, source, wrote)
+reported : (i : Input) (o : Output) (asked : Task) (whole : List ℕ) (e : End) → AnswersSource i asked (status_of e) whole → Wrote o whole
+    → TaskEnds i o asked (status_of e)
+reported i o asked whole end.Finished source wrote = (whole, source, wrote)
+reported i o asked whole (end.Starved _ _) source wrote = (whole, source, wrote)
+reported i o asked whole end.AllAsleep source wrote = (whole, source, wrote)
+reported i o asked whole end.Spent source wrote = (whole, source, wrote)
 
-made : (s : Streams) (asked : Task) (script : Script) (whole : List ℕ) (st : Status) → Makes asked script whole st → AnswersSource s asked st whole
-    → Wrote s whole → TaskEnds s asked st
-made s task.Sim script whole st ran source wrote =
-    subst (TaskEnds s task.Sim) (sym ran.status_is)
-    (reported s task.Sim whole ran.end (subst (λ t. AnswersSource s task.Sim t whole) ran.status_is source) wrote)
-made s task.Print script whole st printed source wrote =
-    subst (TaskEnds s task.Print) (sym printed.1)
-    (whole, subst (λ t. AnswersSource s task.Print t whole) printed.1 source, wrote)
+made : (i : Input) (o : Output) (asked : Task) (script : Script) (whole : List ℕ) (st : Status) → Makes asked script whole st
+    → AnswersSource i asked st whole → Wrote o whole → TaskEnds i o asked st
+made i o task.Sim script whole st ran source wrote =
+    subst (TaskEnds i o task.Sim) (sym ran.status_is)
+    (reported i o task.Sim whole ran.end (subst (λ t. AnswersSource i task.Sim t whole) ran.status_is source) wrote)
+made i o task.Print script whole st printed source wrote =
+    subst (TaskEnds i o task.Print) (sym printed.1)
+    (whole, subst (λ t. AnswersSource i task.Print t whole) printed.1 source, wrote)
 
-written : (s : Streams) (asked : Task) (text whole : List ℕ) (st : Status) → AnswersText text whole asked st → AnswersSource s asked st whole → Wrote s whole
-    → TaskEnds s asked st
-written s asked text whole _ (refuses fault said is) source wrote = (whole, source, wrote)
-written s asked text whole _ (makes script st said made_so) source wrote = made s asked script whole st made_so source wrote
+written : (i : Input) (o : Output) (asked : Task) (text whole : List ℕ) (st : Status) → AnswersText text whole asked st
+    → AnswersSource i asked st whole → Wrote o whole → TaskEnds i o asked st
+written i o asked text whole _ (refuses fault said is) source wrote = (whole, source, wrote)
+written i o asked text whole _ (makes script st said made_so) source wrote = made i o asked script whole st made_so source wrote
 
 -- a text that isn't read is answered by the line of its fault
 pub refused : (text whole : List ℕ) (asked : Task) (st : Status) (why : ParseError) → Outcome (λ script. script) (Err why) (ReadsText text)
@@ -47,19 +48,19 @@ refused text whole asked st (error.Bad fault) said told = subst (AnswersText tex
 refused text whole asked st error.Memory said told = absurd told
 
 -- what was read is answered, whole or in part
-pub task_put : (s : Streams) (asked : Task) (whole : List ℕ) (st told : Status) → AnswersSource s asked st whole → HasPut s whole st told
-    → TaskEnds s asked told
-task_put s asked whole st _ source (whole_text wrote) = written s asked source.text whole st source.answers source wrote
-task_put s asked whole st _ source (beginning broke) = (st, whole, source, broke)
+pub task_put : (i : Input) (o : Output) (asked : Task) (whole : List ℕ) (st told : Status) → AnswersSource i asked st whole → HasPut o whole st told
+    → TaskEnds i o asked told
+task_put i o asked whole st _ source (whole_text wrote) = written i o asked source.text whole st source.answers source wrote
+task_put i o asked whole st _ source (beginning broke) = (st, whole, source, broke)
 
-pub usage_put : (s : Streams) (told : Status) → HasPut s usage_line status.Usage told → OthersEnd s told
-usage_put s _ (whole_text wrote) = wrote
-usage_put s _ (beginning broke) = broke
+pub usage_put : (o : Output) (told : Status) → HasPut o usage_line status.Usage told → OthersEnd o told
+usage_put o _ (whole_text wrote) = wrote
+usage_put o _ (beginning broke) = broke
 
 -- a text that needs no script is written whole or in part
-pub text_put : (s : Streams) (whole : List ℕ) (told : Status) → HasPut s whole status.Finished told → TextEnds s whole told
-text_put s whole _ (whole_text wrote) = wrote
-text_put s whole _ (beginning broke) = broke
+pub text_put : (o : Output) (whole : List ℕ) (told : Status) → HasPut o whole status.Finished told → TextEnds o whole told
+text_put o whole _ (whole_text wrote) = wrote
+text_put o whole _ (beginning broke) = broke
 
 -- the first byte of the first of some words
 first_byte : List (List ℕ) → ℕ

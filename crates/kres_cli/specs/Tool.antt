@@ -1,9 +1,11 @@
 -- What the tool answers to its words, and what it writes.
-use Rattle.std.specs.Prelude.{ℕ, ◌≡◌, ◌<◌, Bool, true, false, List, [], ◌∷◌, length, take, Option, Ok, Err, String, string_bytes, codes}
+use Rattle.std.specs.Prelude.{ℕ, ◌≡◌, ◌<◌, Bool, true, false, List, [], ◌∷◌, length, take, Option, Result, Ok, Err, String, codes}
 use Rattle.std.specs.Io.KnownBytes.{Appends}
 use Rattle.kabi_types.specs.declared.scripts.Script.{Script}
 use Rattle.kabi_types.specs.declared.scripts.ScriptFault.{ScriptFault}
+use Rattle.kio_ports.specs.declared.failed.Failed.{Failed}
 use Rattle.kio_ports.specs.Faults.{HasRisen}
+use Rattle.kio_ports.specs.Offers.{PutsAll}
 use Rattle.posix_defs.specs.Canonical.{canonical}
 use Rattle.posix_defs.specs.Generated.{generated}
 use Rattle.posix_defs.specs.Lines.{fault_line}
@@ -19,24 +21,53 @@ use Rattle.kres_cli.specs.declared.statuses.Status.{Status}
 use Rattle.kres_cli.specs.declared.statuses.Status.TheVariants.{Finished, BadScript, Usage, Starved, AllAsleep, Spent, ReadFault, WriteFault, Memory}
 use Rattle.kres_cli.specs.Read.{HasTaken}
 use Rattle.kres_cli.specs.Run.{IsReport}
+use Rattle.kres_cli.specs.Words.{Asks}
 
 -- what is written where the words aren't the program's
 abbrev pub usage_line : List ℕ
 usage_line = codes "usage: kres sim | threads W | print | table | gen N | load N\n"
 
--- The streams before and after: the bytes that the source has left and those that the sink holds, where they tell them,
--- how many takes and puts have failed, and which texts were offered to the sink, each put all that was left of it, whole
--- or to a put that failed.
-pub record Streams : Type 1 where
+-- The source before and after: the bytes that it has left, where it tells them, how many takes have failed, and that
+-- nothing was asked of it.
+pub record Input : Type 1 where
   pub left : Option (List ℕ)
   pub left' : Option (List ℕ)
-  pub held : Option (List ℕ)
-  pub held' : Option (List ℕ)
   pub takes : ℕ
   pub takes' : ℕ
+  pub untouched : Type 0
+
+-- The sink before and after: the bytes that it holds, where it tells them, how many puts have failed, which texts were
+-- offered to it, each put all that was left of it, whole or to a put that failed, and that nothing was.
+pub record Output : Type 1 where
+  pub held : Option (List ℕ)
+  pub held' : Option (List ℕ)
   pub puts : ℕ
   pub puts' : ℕ
   pub offered : List ℕ → Bool → Type 0
+  pub untouched : Type 0
+
+module _ {S : Type 0} (left : S → Option (List ℕ)) (faults : S → ℕ) where
+  -- from one source to the next
+  abbrev pub input : S → S → Input
+  input old new = record {
+    left = left old;
+    left' = left new;
+    takes = faults old;
+    takes' = faults new;
+    untouched = new ≡ old;
+  }
+
+module _ {K : Type 0} (held : K → Option (List ℕ)) (faults : K → ℕ) (gives : K → List ℕ → Result ℕ Failed → K → Type 0) where
+  -- from one sink to the next
+  abbrev pub output : K → K → Output
+  output old new = record {
+    held = held old;
+    held' = held new;
+    puts = faults old;
+    puts' = faults new;
+    offered = λ text whole. PutsAll gives old text whole new;
+    untouched = new ≡ old;
+  }
 
 -- what a task makes of a script: the report of its run, with that end's status; or the script in its canonical form
 abbrev pub Makes : Task → Script → List ℕ → Status → Type 0
@@ -54,60 +85,67 @@ TellsError (error.Bad fault) whole status = (whole ≡ fault_line fault) × (sta
 TellsError error.Memory whole status = ⊥
 
 -- What was read, to its end or to the byte that is too many, is answered so.
-pub record AnswersSource (s : Streams) (asked : Task) (status : Status) (whole : List ℕ) : Type 0 where
+pub record AnswersSource (i : Input) (asked : Task) (status : Status) (whole : List ℕ) : Type 0 where
   pub text : List ℕ
-  pub taken : HasTaken text s.left s.left'
-  pub no_fault : s.takes' ≡ s.takes
+  pub taken : HasTaken text i.left i.left'
+  pub no_fault : i.takes' ≡ i.takes
   pub answers : AnswersText text whole asked status
 
 -- the whole text was written
-abbrev pub Wrote : Streams → List ℕ → Type 0
-Wrote s whole = Appends s.held s.held' whole × s.offered whole true
+abbrev pub Wrote : Output → List ℕ → Type 0
+Wrote o whole = Appends o.held o.held' whole × o.offered whole true
 
 -- The sink failed, and holds a proper beginning of the text.
-pub record Broke (s : Streams) (whole : List ℕ) : Type 0 where
+pub record Broke (o : Output) (whole : List ℕ) : Type 0 where
   pub count : ℕ
   pub less : count < length whole
-  pub begun : Appends s.held s.held' (take count whole)
-  pub offered : s.offered whole false
-  pub fault : HasRisen s.puts s.puts'
+  pub begun : Appends o.held o.held' (take count whole)
+  pub offered : o.offered whole false
+  pub fault : HasRisen o.puts o.puts'
 
 -- what was read is answered whole, with this status
-abbrev pub Answered : Streams → Task → Status → Type 0
-Answered s asked status = (whole : List ℕ) × AnswersSource s asked status whole × Wrote s whole
+abbrev pub Answered : Input → Output → Task → Status → Type 0
+Answered i o asked status = (whole : List ℕ) × AnswersSource i asked status whole × Wrote o whole
 
 -- what a task may end with
-abbrev pub TaskEnds : Streams → Task → Status → Type 0
-TaskEnds s asked Finished = Answered s asked Finished
-TaskEnds s asked BadScript = Answered s asked BadScript
-TaskEnds s asked Usage = ⊥
-TaskEnds s asked Starved = Answered s asked Starved
-TaskEnds s asked AllAsleep = Answered s asked AllAsleep
-TaskEnds s asked Spent = Answered s asked Spent
-TaskEnds s asked ReadFault = HasRisen s.takes s.takes' × (s.held' ≡ s.held)
-TaskEnds s asked WriteFault = (status : Status) × (whole : List ℕ) × AnswersSource s asked status whole × Broke s whole
-TaskEnds s asked Memory = s.held' ≡ s.held
+abbrev pub TaskEnds : Input → Output → Task → Status → Type 0
+TaskEnds i o asked Finished = Answered i o asked Finished
+TaskEnds i o asked BadScript = Answered i o asked BadScript
+TaskEnds i o asked Usage = ⊥
+TaskEnds i o asked Starved = Answered i o asked Starved
+TaskEnds i o asked AllAsleep = Answered i o asked AllAsleep
+TaskEnds i o asked Spent = Answered i o asked Spent
+TaskEnds i o asked ReadFault = HasRisen i.takes i.takes' × (o.held' ≡ o.held)
+TaskEnds i o asked WriteFault = (status : Status) × (whole : List ℕ) × AnswersSource i asked status whole × Broke o whole
+TaskEnds i o asked Memory = o.held' ≡ o.held
 
 -- what may become of a text that needs no script
-abbrev pub TextEnds : Streams → List ℕ → Status → Type 0
-TextEnds s whole Finished = Wrote s whole
-TextEnds s whole WriteFault = Broke s whole
-TextEnds s whole Memory = s.held' ≡ s.held
-TextEnds s whole _ = ⊥
+abbrev pub TextEnds : Output → List ℕ → Status → Type 0
+TextEnds o whole Finished = Wrote o whole
+TextEnds o whole WriteFault = Broke o whole
+TextEnds o whole Memory = o.held' ≡ o.held
+TextEnds o whole _ = ⊥
 
 -- what a command may end with: `table` writes the price list, and `gen` the generated script in its canonical form
-abbrev pub CommandEnds : Streams → Command → Status → Type 0
-CommandEnds s (OnScript asked) status = TaskEnds s asked status
-CommandEnds s Table status = TextEnds s table_text status
-CommandEnds s (Gen rounds) status = TextEnds s (canonical (generated rounds)) status
+abbrev pub CommandEnds : Input → Output → Command → Status → Type 0
+CommandEnds i o (OnScript asked) status = TaskEnds i o asked status
+CommandEnds i o Table status = TextEnds o table_text status
+CommandEnds i o (Gen rounds) status = TextEnds o (canonical (generated rounds)) status
 
 -- what other words may end with
-abbrev pub OthersEnd : Streams → Status → Type 0
-OthersEnd s Usage = Wrote s usage_line
-OthersEnd s WriteFault = Broke s usage_line
-OthersEnd s _ = ⊥
+abbrev pub OthersEnd : Output → Status → Type 0
+OthersEnd o Usage = Wrote o usage_line
+OthersEnd o WriteFault = Broke o usage_line
+OthersEnd o _ = ⊥
 
 -- The sink got the whole text, and the status stands; or it failed.
-pub data HasPut (s : Streams) (whole : List ℕ) (status : Status) : Status → Type 0 where
-  whole_text : Wrote s whole → HasPut s whole status status
-  beginning : Broke s whole → HasPut s whole status WriteFault
+pub data HasPut (o : Output) (whole : List ℕ) (status : Status) : Status → Type 0 where
+  whole_text : Wrote o whole → HasPut o whole status status
+  beginning : Broke o whole → HasPut o whole status WriteFault
+
+-- What the tool does on these words: what they ask for, or the line that says which words there are. Only what reads a
+-- script touches the source.
+pub record Obeys {A : Type 0} (words : List (String A)) (i : Input) (o : Output) (status : Status) : Type 0 where
+  pub commands : (command : Command) → Asks words command → CommandEnds i o command status
+  pub others : ((command : Command) → Asks words command → ⊥) → OthersEnd o status
+  pub untouched : ((task : Task) → Asks words (OnScript task) → ⊥) → i.untouched

@@ -1,9 +1,8 @@
-ghost use Rattle.std.specs.Prelude.{◌≡◌, ◌≢◌, ℕ, ◌≤◌, List, Option, IfOk, string_bytes};
-ghost use Rattle.kio_ports.specs.Offers.{PutsAll};
+ghost use Rattle.std.specs.Prelude.{◌≡◌, ◌≢◌, ℕ, ◌≤◌, List, IfOk, string_bytes};
 ghost use Rattle.posix_defs.specs.ValidScript.{IsValid};
 ghost use Rattle.kres_cli.specs.Run.{IsReport};
-ghost use Rattle.kres_cli.specs.Tool.{AnswersText, CommandEnds, HasPut, Makes, OthersEnd, TaskEnds, TellsError, TextEnds};
-ghost use Rattle.kres_cli.specs.Words.{Asks, IsAllowed, most_rounds};
+ghost use Rattle.kres_cli.specs.Tool.{AnswersText, CommandEnds, HasPut, Makes, Obeys, OthersEnd, TaskEnds, TellsError, TextEnds, input, output};
+ghost use Rattle.kres_cli.specs.Words.{IsAllowed, most_rounds};
 ghost use Rattle.kres_cli.specs.declared.commands.Command.{Command};
 ghost use Rattle.kres_cli.specs.declared.commands.Command.TheVariants.{OnScript};
 ghost use Rattle.kres_cli.specs.declared.commands.Task.{Task};
@@ -45,50 +44,24 @@ pub fn run_tool<R, S: Source, K: Sink>(
     source: &mut S,
     sink: &mut K,
 ) -> Status
-    ensures commands { (command : Command) → Asks words.now command → CommandEnds (record {
-      left = S.left source.old;
-      left' = S.left source.new;
-      held = K.held sink.old;
-      held' = K.held sink.new;
-      takes = S.faults source.old;
-      takes' = S.faults source.new;
-      puts = K.faults sink.old;
-      puts' = K.faults sink.new;
-      offered = λ text whole. PutsAll K.put_gives sink.old text whole sink.new;
-    }) command result }
-    ensures others { ((command : Command) → Asks words.now command → ⊥) → OthersEnd (record {
-      left = S.left source.old;
-      left' = S.left source.new;
-      held = K.held sink.old;
-      held' = K.held sink.new;
-      takes = S.faults source.old;
-      takes' = S.faults source.new;
-      puts = K.faults sink.old;
-      puts' = K.faults sink.new;
-      offered = λ text whole. PutsAll K.put_gives sink.old text whole sink.new;
-    }) result }
-    // Only what reads a script touches the source.
-    ensures untouched { ((task : Task) → Asks words.now (OnScript task) → ⊥) → source.new ≡ source.old }
+    ensures { Obeys words.now (input S.left S.faults source.old source.new) (output K.held K.faults K.put_gives sink.old sink.new) result }
 {
     match command_of(words) {
         Some(command) => obey(alloc, command, source, sink),
-        None => put(sink, USAGE, Status::Usage),
+        None => tell_usage(sink),
     }
+}
+
+/// Tells which words there are.
+pub fn tell_usage<K: Sink>(sink: &mut K) -> Status
+    ensures { OthersEnd (output K.held K.faults K.put_gives sink.old sink.new) result }
+{
+    put(sink, USAGE, Status::Usage)
 }
 
 /// Writes a text, and answers its status, or that the sink failed.
 fn put<K: Sink>(sink: &mut K, text: &str, status: Status) -> Status
-    ensures { (left left' : Option (List ℕ)) (takes takes' : ℕ) → HasPut (record {
-      left = left;
-      left' = left';
-      held = K.held sink.old;
-      held' = K.held sink.new;
-      takes = takes;
-      takes' = takes';
-      puts = K.faults sink.old;
-      puts' = K.faults sink.new;
-      offered = λ text whole. PutsAll K.put_gives sink.old text whole sink.new;
-    }) text.now status result }
+    ensures { HasPut (output K.held K.faults K.put_gives sink.old sink.new) text.now status result }
 {
     match write_text(sink, text.as_bytes()) {
         Ok(()) => status,
@@ -98,17 +71,7 @@ fn put<K: Sink>(sink: &mut K, text: &str, status: Status) -> Status
 
 /// Writes a text that needs no script, where the host had the memory to make it.
 fn tell<K: Sink>(sink: &mut K, made: Result<String, Memory>) -> Status
-    ensures { (left left' : Option (List ℕ)) (takes takes' : ℕ) (whole : List ℕ) → IfOk made (λ text. string_bytes text ≡ whole) → TextEnds (record {
-      left = left;
-      left' = left';
-      held = K.held sink.old;
-      held' = K.held sink.new;
-      takes = takes;
-      takes' = takes';
-      puts = K.faults sink.old;
-      puts' = K.faults sink.new;
-      offered = λ text whole. PutsAll K.put_gives sink.old text whole sink.new;
-    }) whole result }
+    ensures { (whole : List ℕ) → IfOk made (λ text. string_bytes text ≡ whole) → TextEnds (output K.held K.faults K.put_gives sink.old sink.new) whole result }
 {
     match made {
         Ok(text) => put(sink, text.as_str(), Status::Finished),
@@ -128,17 +91,7 @@ fn generated_text(alloc: Global, rounds: u32) -> Result<String, Memory>
 /// Does what a command asks for.
 fn obey<S: Source, K: Sink>(alloc: Global, command: Command, source: &mut S, sink: &mut K) -> Status
     requires { IsAllowed command }
-    ensures ends { CommandEnds (record {
-      left = S.left source.old;
-      left' = S.left source.new;
-      held = K.held sink.old;
-      held' = K.held sink.new;
-      takes = S.faults source.old;
-      takes' = S.faults source.new;
-      puts = K.faults sink.old;
-      puts' = K.faults sink.new;
-      offered = λ text whole. PutsAll K.put_gives sink.old text whole sink.new;
-    }) command result }
+    ensures ends { CommandEnds (input S.left S.faults source.old source.new) (output K.held K.faults K.put_gives sink.old sink.new) command result }
     ensures untouched { ((task : Task) → command ≢ OnScript task) → source.new ≡ source.old }
 {
     match command {
@@ -155,17 +108,7 @@ fn answer_script<S: Source, K: Sink>(
     source: &mut S,
     sink: &mut K,
 ) -> Status
-    ensures { TaskEnds (record {
-      left = S.left source.old;
-      left' = S.left source.new;
-      held = K.held sink.old;
-      held' = K.held sink.new;
-      takes = S.faults source.old;
-      takes' = S.faults source.new;
-      puts = K.faults sink.old;
-      puts' = K.faults sink.new;
-      offered = λ text whole. PutsAll K.put_gives sink.old text whole sink.new;
-    }) task result }
+    ensures { TaskEnds (input S.left S.faults source.old source.new) (output K.held K.faults K.put_gives sink.old sink.new) task result }
 {
     let text = match read_text(alloc, source) {
         Ok(Text::Read(text)) => text,

@@ -5,14 +5,14 @@ use Rattle.kres_cli.specs.Tool.{whole_text, beginning}
 use Rattle.kres_cli.proofs.tool.put.Goals as goal
 
 pub returns-in-Ok : goal.returns-in-Ok
-returns-in-Ok g c = λ left left' takes takes'.
+returns-in-Ok g c =
     whole_text (
       subst (Appends (g.K.Sink.held c.args.sink.now) (g.K.Sink.held c.write_text.new.sink)) c.as_bytes.ensures.value c.in-Ok.ensures.written,
       subst (λ bytes. PutsAll g.K.Sink.put_gives c.args.sink.now bytes true c.write_text.new.sink) c.as_bytes.ensures.value c.in-Ok.ensures.offered,
     )
 
 pub returns-in-Err : goal.returns-in-Err
-returns-in-Err g c = λ left left' takes takes'.
+returns-in-Err g c =
     let begun = c.in-Err.ensures.begun in
     beginning
     (record {
