@@ -1,6 +1,5 @@
 -- What the program ends with.
-use Rattle.std.specs.Prelude.{ℕ, ⊥, ◌≡◌, ◌≢◌, ◌⊎◌, List, String}
-use Rattle.std.specs.Io.{error_kind}
+use Rattle.std.specs.Prelude.{ℕ, ◌≡◌, ◌⊎◌, List, String}
 use Rattle.kres_cli.specs.declared.statuses.Status.{Status}
 use Rattle.kres_cli.specs.declared.statuses.Status.TheVariants.{Memory}
 use Rattle.kres_cli.specs.Status.{number_of}

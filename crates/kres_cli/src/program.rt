@@ -1,6 +1,6 @@
 //! The program over any arguments and streams: what `main` calls with its own.
 
-ghost use Rattle.std.specs.Prelude.{◌≡◌, ◌≢◌, ◌×◌, ◌⊎◌, drop, IfErr, IfOk};
+ghost use Rattle.std.specs.Prelude.{◌≡◌, ◌≢◌, ◌⊎◌, drop, IfErr, IfOk};
 ghost use Rattle.std.specs.IoError.{error_kind};
 ghost use Rattle.std.specs.Process.{exit_status};
 ghost use Rattle.std.specs.Vec.Iter.{into_iter_items};
@@ -13,8 +13,9 @@ use crate::statuses::Status;
 use crate::tool::{run_tool, tell_usage};
 use kio_ports::{Sink, Source};
 use std::alloc::{AllocError, Global};
+use std::env;
+use std::io::{self, ErrorKind};
 use std::process::ExitCode;
-use std::{env, io};
 
 /// Runs the tool on the words after the program's name, and ends with the number of its status. An argument that is no
 /// text is no word of the program's; 8 is also for arguments that the host had no memory for.
@@ -26,17 +27,18 @@ pub fn run_program<R, S: Source, K: Sink>(
     sink: &mut K,
 ) -> ExitCode
     ensures words { IfOk arguments (λ all. EndsOn (drop 1 (into_iter_items all)) (input S.left S.faults source.old source.new) (output K.held K.faults K.put_gives sink.old sink.new) (exit_status result)) }
-    ensures no_text { IfErr arguments (λ error. error_kind error ≢ io.ErrorKind.OutOfMemory
+    ensures no_text { IfErr arguments (λ error. error_kind error ≢ ErrorKind.OutOfMemory
         → EndsOnNoText (input S.left S.faults source.old source.new) (output K.held K.faults K.put_gives sink.old sink.new) (exit_status result)) }
-    ensures no_memory { IfErr arguments (λ error. error_kind error ≡ io.ErrorKind.OutOfMemory
+    ensures no_memory { IfErr arguments (λ error. error_kind error ≡ ErrorKind.OutOfMemory
         → (exit_status result ≡ number_of Memory) × NothingDone (input S.left S.faults source.old source.new) (output K.held K.faults K.put_gives sink.old sink.new)) }
 {
-    let status = match arguments {
-        Ok(all) => run_words(rt, alloc, all, source, sink),
-        Err(error) if error.kind() == io::ErrorKind::OutOfMemory => Status::Memory,
-        Err(_) => tell_usage(sink),
-    };
-    code_of(status)
+    match arguments {
+        Ok(all) => code_of(run_words(rt, alloc, all, source, sink)),
+        Err(error) => match error.kind() {
+            ErrorKind::OutOfMemory => code_of(Status::Memory),
+            _ => code_of(tell_usage(sink)),
+        },
+    }
 }
 
 /// Runs the tool on the words after the program's name, where the host has the memory for them.
