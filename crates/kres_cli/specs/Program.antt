@@ -1,5 +1,6 @@
 -- What the program ends with.
-use Rattle.std.specs.Prelude.{ℕ, ◌≡◌, ◌⊎◌, List, String}
+use Rattle.std.specs.Prelude.{ℕ, ◌≡◌, ◌⊎◌, List, Option, String}
+use Rattle.call_run.specs.Standing.{StoreView}
 use Rattle.kres_cli.specs.declared.statuses.Status.{Status}
 use Rattle.kres_cli.specs.declared.statuses.Status.TheVariants.{Memory}
 use Rattle.kres_cli.specs.Status.{number_of}
@@ -13,7 +14,7 @@ NothingDone i o = i.untouched × o.untouched
 pub record EndsOn {A : Type 0} (words : List (String A)) (i : Input) (o : Output) (code : ℕ) : Type 0 where
   pub status : Status
   pub code_is : code ≡ number_of status
-  pub ends : Obeys words i o status ⊎ ((status ≡ Memory) × NothingDone i o)
+  pub ends : ((handed : Option StoreView) × Obeys words i o handed status) ⊎ ((status ≡ Memory) × NothingDone i o)
 
 -- The program ends with the number of what the tool does where the words aren't the program's.
 pub record EndsOnNoText (i : Input) (o : Output) (code : ℕ) : Type 0 where

@@ -1,6 +1,10 @@
 //! `kres`: runs scripts of processes on a kernel that reserves its heap before it runs a call.
 #![tactic(auto)]
 
+ghost use Rattle.std.specs.Prelude.{◌≡◌};
+ghost use Rattle.kabi_types.specs.declared.scripts.Policy.TheVariants.{Heaviest, Youngest};
+ghost use Rattle.posix_defs.specs.Victim.{score_of};
+
 mod commands;
 mod lines;
 mod program;
@@ -18,6 +22,7 @@ mod text;
 mod tool;
 mod writing;
 
+use kabi_types::Weight;
 use kio_ports::{StdSink, StdSource};
 use program::run_program;
 use std::env;
@@ -26,5 +31,17 @@ use std::process::ExitCode;
 fn main(rt: HostRuntime) -> ExitCode {
     let mut source = StdSource::new(rt.stdin());
     let mut sink = StdSink::new(rt.stdout());
-    run_program(&rt, rt.alloc(), env::args(&rt), &mut source, &mut sink)
+    run_program(
+        &rt,
+        rt.alloc(),
+        env::args(&rt),
+        &mut source,
+        &mut sink,
+        |w: Weight| -> u64
+            ensures { result ≡ score_of Heaviest w }
+        { 512 + 4096 * u64::from(w.frames) + 512 * u64::from(w.nodes) + 64 * u64::from(w.descs) },
+        |w: Weight| -> u64
+            ensures { result ≡ score_of Youngest w }
+        { u64::from(w.pid) },
+    )
 }

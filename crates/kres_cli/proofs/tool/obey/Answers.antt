@@ -1,23 +1,9 @@
-use Rattle.std.proofs.Common.{◌≡◌, sym, subst}
+use Rattle.std.proofs.Common.{◌≡◌, None, sym, subst}
 use Rattle.posix_defs.specs.Canonical.{canonical}
 use Rattle.posix_defs.specs.Generated.{generated}
 use Rattle.posix_defs.specs.PriceText.{table_text}
 use Rattle.kres_cli.specs.Tool.{CommandEnds, input, output}
 use Rattle.kres_cli.proofs.tool.obey.Goals as goal
-
-pub returns-in-Table-clause-ends : goal.returns-in-Table-clause-ends
-returns-in-Table-clause-ends g c =
-    subst
-    (λ command. CommandEnds (input g.S.Source.left g.S.Source.faults c.args.source.now c.args.source.now)
-    (output g.K.Sink.held g.K.Sink.faults g.K.Sink.put_gives c.args.sink.now c.tell.new.sink) command c.tell.result)
-    (sym c.in-Table.is) (c.tell.ensures table_text c.table.ensures)
-
-pub returns-in-Gen-clause-ends : goal.returns-in-Gen-clause-ends
-returns-in-Gen-clause-ends g c =
-    subst
-    (λ command. CommandEnds (input g.S.Source.left g.S.Source.faults c.args.source.now c.args.source.now)
-    (output g.K.Sink.held g.K.Sink.faults g.K.Sink.put_gives c.args.sink.now c.tell-in-Gen.new.sink) command c.tell-in-Gen.result)
-    (sym c.in-Gen.is) (c.tell-in-Gen.ensures (canonical (generated c.in-Gen.rounds)) c.generated_text.ensures)
 
 pub returns-in-OnScript-clause-untouched : goal.returns-in-OnScript-clause-untouched
 returns-in-OnScript-clause-untouched g c = λ other. absurd (other c.in-OnScript.task c.in-OnScript.is)
