@@ -17,7 +17,7 @@ use Rattle.kres_cli.specs.declared.commands.Task.TheVariants as task
 use Rattle.kres_cli.specs.declared.statuses.Status.{Status}
 use Rattle.kres_cli.specs.declared.statuses.Status.TheVariants as status
 use Rattle.kres_cli.specs.Status.{status_of}
-use Rattle.kres_cli.specs.Tool.{Input, Output, AnswersText, refuses, makes, AnswersSource, HandsOut, Makes, Wrote, whole_text, beginning, TaskEnds, TellsError}
+use Rattle.kres_cli.specs.Tool.{Input, Output, AnswersText, refuses, makes, AnswersSource, Broke, HandsOut, Makes, Wrote, whole_text, beginning, TaskEnds, TellsError}
 use Rattle.kres_cli.specs.Words.{Asks, IsAllowed, most_rounds, words_of}
 
 -- a run's report was written
@@ -53,6 +53,12 @@ pub task_handed : (i : Input) (o : Output) (asked : Task) (whole : List ℕ) (st
     → AnswersSource i asked whole store st → HandsOut o whole store st handed told → TaskEnds i o handed asked told
 task_handed i o asked whole store _ st _ source (whole_text wrote) = written i o asked source.text whole store st source.answers source wrote
 task_handed i o asked whole store _ st _ source (beginning broke) = (whole, store, st, source, broke, refl)
+
+-- where the sink failed no store is handed out
+pub nothing_handed : (o : Output) (whole : List ℕ) (store handed : Option StoreView) (st told : Status) → handed ≡ None → told ≡ status.WriteFault
+    → Broke o whole → HandsOut o whole store st handed told
+nothing_handed o whole store handed st told none is broke =
+    subst (λ h. HandsOut o whole store st h told) (sym none) (subst (HandsOut o whole store st None) (sym is) (beginning broke))
 
 -- the first byte of the first of some words
 first_byte : List (List ℕ) → ℕ
