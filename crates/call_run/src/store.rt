@@ -22,18 +22,21 @@ use posix_defs::{Turned, Turner};
 use proc_table::ProcTable;
 use std::alloc::Global;
 use std::marker::Model;
+use victim_core::{Score, Scorer};
 
 /// The root's node.
 const ROOT: u32 = 1;
 
-/// A store of the processes of a script, in a heap whose room is reserved at boot.
+/// A store of the processes of a script, in a heap whose room is reserved at boot. It is told how processes are scored where
+/// one has to be killed.
 #[derive(Drop)]
-pub struct Store {
+pub struct Store<F: Scorer, G: Scorer> {
     script: Script,
     objects: Objects,
+    score: Score<F, G>,
 }
 
-impl Model for Store {
+impl<F: Scorer, G: Scorer> Model for Store<F, G> {
     ghost use Rattle.call_run.specs.Objects.{AreKept};
     ghost use Rattle.call_run.specs.Standing.{StoreView};
 
@@ -76,10 +79,10 @@ fn booted(alloc: Global, heap: u64, control: Control) -> Result<Objects, Memory>
     Ok(objects)
 }
 
-impl Store {
+impl<F: Scorer, G: Scorer> Store<F, G> {
     /// The first process alone, at the start of the program `init` of the script, of which the store keeps a copy. `Memory`
     /// comes where the host has no memory left, and nothing else.
-    pub fn boot(alloc: Global, script: &Script) -> Result<Store, Memory>
+    pub fn boot(alloc: Global, script: &Script, score: Score<F, G>) -> Result<Store<F, G>, Memory>
         requires { IsValid script.now }
         ensures script { IfOk result (λ store. store.script ≡ script.now) }
         ensures booted { IfOk result (λ store. StandsFor script.now store.objects (boot_world script.now)) }
@@ -93,7 +96,11 @@ impl Store {
         };
         prog_ctl::go_to_call(&script, &mut control);
         let objects = booted(alloc, script.heap, control)?;
-        Ok(Store { script, objects })
+        Ok(Store {
+            script,
+            objects,
+            score,
+        })
     }
 }
 
@@ -114,7 +121,7 @@ fn place_of(programs: &[Program], name: &[u8]) -> u32
     place
 }
 
-impl Turner for Store {
+impl<F: Scorer, G: Scorer> Turner for Store<F, G> {
     ghost script = { λ store. store.script };
 
     ghost stands = { λ store world. StandsFor store.script store.objects world };
@@ -154,7 +161,7 @@ impl Turner for Store {
     }
 
     fn victim(&self) -> Option<u32> {
-        victims::victim(self.script.policy, &self.objects)
+        victims::victim(&self.score, self.script.policy, &self.objects)
     }
 
     fn kill(&mut self, pid: u32) {

@@ -1,15 +1,14 @@
 //! Who is killed where heap has to be freed.
 
-ghost use Rattle.std.specs.Prelude.{◌≡◌, ◌↔◌, ◌≤◌, IfSome, IsNone, count_by, length};
+ghost use Rattle.std.specs.Prelude.{◌≡◌, ◌≤◌, count_by, length};
 ghost use Rattle.std.specs.List.{All};
 ghost use Rattle.kabi_types.specs.declared.scripts.Script.{Script};
-ghost use Rattle.kabi_types.specs.declared.scripts.Policy.TheVariants.{Heaviest, Youngest};
 ghost use Rattle.kheap_slabs.specs.Heap.{IsWellFormed};
 ghost use Rattle.kheap_slabs.specs.Spaces.{OwnsNodes};
 ghost use Rattle.posix_defs.specs.Plain.{Plain};
-ghost use Rattle.posix_defs.specs.Victim.{score_of, victim_of};
+ghost use Rattle.posix_defs.specs.Victim.{victim_of};
 ghost use Rattle.posix_defs.specs.World.{Account};
-ghost use Rattle.victim_core.specs.Victims.{IsInRange, IsVictim};
+ghost use Rattle.victim_core.specs.Victims.{IsInRange};
 ghost use Rattle.call_run.specs.Objects.{AreKept, procs_of};
 ghost use Rattle.call_run.specs.Standing.{StandFor};
 ghost use Rattle.call_run.specs.Weights.{has_frame, weight_in, weights_in};
@@ -94,39 +93,17 @@ fn weights_of(objects: &Objects) -> ArrayVec<Weight, MOST>
     weights
 }
 
-/// Whom these scores choose.
-fn chosen<F: Scorer, G: Scorer>(
-    heaviest: F,
-    youngest: G,
-    policy: Policy,
-    weights: &[Weight],
-) -> Option<u32>
-    requires by_weight { F.scores heaviest Heaviest }
-    requires by_age { G.scores youngest Youngest }
-    requires in_range { All IsInRange weights.now }
-    ensures none { IsNone result ↔ All (λ w. w.pid ≡ 1) weights.now }
-    ensures victim { IfSome result (IsVictim policy weights.now) }
-{
-    Score::new(heaviest, youngest).choose(policy, weights)
-}
-
 /// The process that is killed under this policy; None exactly where none but the first is alive.
-pub fn victim(policy: Policy, objects: &Objects) -> Option<u32>
+pub fn victim<F: Scorer, G: Scorer>(
+    score: &Score<F, G>,
+    policy: Policy,
+    objects: &Objects,
+) -> Option<u32>
     requires kept { (script : Script) × AreKept script objects.now }
     ensures { (script : Script) (plain : Plain) (account : Account) → StandFor script objects.now plain account.frames
         → result ≡ victim_of policy plain account }
 {
     // the heap knows how long the rows of its objects are
     let _ = objects.heap.heap();
-    let weights = weights_of(objects);
-    chosen(
-        |w: Weight| -> u64
-            ensures { result ≡ score_of Heaviest w }
-        { 512 + 4096 * u64::from(w.frames) + 512 * u64::from(w.nodes) + 64 * u64::from(w.descs) },
-        |w: Weight| -> u64
-            ensures { result ≡ score_of Youngest w }
-        { u64::from(w.pid) },
-        policy,
-        weights.as_slice(),
-    )
+    score.choose(policy, weights_of(objects).as_slice())
 }

@@ -1,4 +1,3 @@
 pub mod Outcomes
 pub mod Puts
-pub mod Reports
 pub mod Rounds

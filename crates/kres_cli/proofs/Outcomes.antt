@@ -1,11 +1,12 @@
 -- What a command ends with, from what was read, answered and put.
-use Rattle.std.proofs.Common.{◌≡◌, ℕ, ◌≤◌, List, [], ◌∷◌, Result, Ok, Err, IfOk, refl, sym, ap, ◌∙◌, subst, arith}
+use Rattle.std.proofs.Common.{◌≡◌, ℕ, ◌≤◌, List, [], ◌∷◌, Option, None, Result, Ok, Err, IfOk, refl, sym, ap, ◌∙◌, subst, arith}
 use Rattle.std.specs.Prelude.{String}
 use Rattle.std.proofs.lemmas.Fmt.{decimal_injective}
 use Rattle.kabi_types.specs.declared.entries.End.{End}
 use Rattle.kabi_types.specs.declared.entries.End.TheVariants as end
 use Rattle.kabi_types.specs.declared.scripts.Script.{Script}
 use Rattle.posix_defs.specs.ScriptText.{ReadsText}
+use Rattle.call_run.specs.Standing.{StoreView}
 use Rattle.script_read.specs.Reading.{Outcome}
 use Rattle.script_read.specs.declared.parse_error.ParseError.{ParseError}
 use Rattle.script_read.specs.declared.parse_error.ParseError.TheVariants as error
@@ -16,50 +17,48 @@ use Rattle.kres_cli.specs.declared.commands.Task.TheVariants as task
 use Rattle.kres_cli.specs.declared.statuses.Status.{Status}
 use Rattle.kres_cli.specs.declared.statuses.Status.TheVariants as status
 use Rattle.kres_cli.specs.Status.{status_of}
-use Rattle.kres_cli.specs.Tool.{Streams, AnswersText, refuses, makes, AnswersSource, Makes, Wrote, HasPut, whole_text, beginning, OthersEnd, TaskEnds, TellsError, TextEnds, usage_line}
+use Rattle.kres_cli.specs.Tool.{Input, Output, AnswersText, refuses, makes, AnswersSource, Broke, HandsOut, Makes, Wrote, whole_text, beginning, TaskEnds, TellsError}
 use Rattle.kres_cli.specs.Words.{Asks, IsAllowed, most_rounds, words_of}
 
 -- a run's report was written
-reported : (s : Streams) (asked : Task) (whole : List ℕ) (e : End) → AnswersSource s asked (status_of e) whole → Wrote s whole → TaskEnds s asked (status_of e)
-reported s asked whole end.Finished source wrote = (whole, source, wrote)
-reported s asked whole (end.Starved _ _) source wrote = (whole, source, wrote)
-reported s asked whole end.AllAsleep source wrote = (whole, source, wrote)
-reported s asked whole end.Spent source wrote = (whole, source, wrote)
+reported : (i : Input) (o : Output) (asked : Task) (whole : List ℕ) (handed : Option StoreView) (e : End)
+    → AnswersSource i asked whole handed (status_of e) → Wrote o whole → TaskEnds i o handed asked (status_of e)
+reported i o asked whole handed end.Finished source wrote = (whole, source, wrote)
+reported i o asked whole handed (end.Starved _ _) source wrote = (whole, source, wrote)
+reported i o asked whole handed end.AllAsleep source wrote = (whole, source, wrote)
+reported i o asked whole handed end.Spent source wrote = (whole, source, wrote)
 
-made : (s : Streams) (asked : Task) (script : Script) (whole : List ℕ) (st : Status) → Makes asked script whole st → AnswersSource s asked st whole
-    → Wrote s whole → TaskEnds s asked st
-made s task.Sim script whole st ran source wrote =
-    subst (TaskEnds s task.Sim) (sym ran.status_is)
-    (reported s task.Sim whole ran.end (subst (λ t. AnswersSource s task.Sim t whole) ran.status_is source) wrote)
-made s task.Print script whole st printed source wrote =
-    subst (TaskEnds s task.Print) (sym printed.1)
-    (whole, subst (λ t. AnswersSource s task.Print t whole) printed.1 source, wrote)
+made : (i : Input) (o : Output) (asked : Task) (script : Script) (whole : List ℕ) (handed : Option StoreView) (st : Status)
+    → Makes asked script whole handed st → AnswersSource i asked whole handed st → Wrote o whole → TaskEnds i o handed asked st
+made i o task.Sim script whole handed st ran source wrote =
+    subst (TaskEnds i o handed task.Sim) (sym ran.status_is)
+    (reported i o task.Sim whole handed ran.end (subst (AnswersSource i task.Sim whole handed) ran.status_is source) wrote)
+made i o task.Print script whole handed st printed source wrote =
+    subst (TaskEnds i o handed task.Print) (sym printed.2)
+    (whole, subst (AnswersSource i task.Print whole handed) printed.2 source, wrote)
 
-written : (s : Streams) (asked : Task) (text whole : List ℕ) (st : Status) → AnswersText text whole asked st → AnswersSource s asked st whole → Wrote s whole
-    → TaskEnds s asked st
-written s asked text whole _ (refuses fault said is) source wrote = (whole, source, wrote)
-written s asked text whole _ (makes script st said made_so) source wrote = made s asked script whole st made_so source wrote
+written : (i : Input) (o : Output) (asked : Task) (text whole : List ℕ) (handed : Option StoreView) (st : Status)
+    → AnswersText text whole asked handed st → AnswersSource i asked whole handed st → Wrote o whole → TaskEnds i o handed asked st
+written i o asked text whole handed _ (refuses fault said is none) source wrote = (whole, source, wrote)
+written i o asked text whole handed _ (makes script st said made_so) source wrote = made i o asked script whole handed st made_so source wrote
 
 -- a text that isn't read is answered by the line of its fault
-pub refused : (text whole : List ℕ) (asked : Task) (st : Status) (why : ParseError) → Outcome (λ script. script) (Err why) (ReadsText text)
-    → TellsError why whole st → AnswersText text whole asked st
-refused text whole asked st (error.Bad fault) said told = subst (AnswersText text whole asked) (sym told.1) (refuses fault said told.0)
-refused text whole asked st error.Memory said told = absurd told
+pub refused : (text whole : List ℕ) (asked : Task) (why : ParseError) → Outcome (λ script. script) (Err why) (ReadsText text)
+    → TellsError why whole → AnswersText text whole asked None status.BadScript
+refused text whole asked (error.Bad fault) said told = refuses fault said told refl
+refused text whole asked error.Memory said told = absurd told
 
 -- what was read is answered, whole or in part
-pub task_put : (s : Streams) (asked : Task) (whole : List ℕ) (st told : Status) → AnswersSource s asked st whole → HasPut s whole st told
-    → TaskEnds s asked told
-task_put s asked whole st _ source (whole_text wrote) = written s asked source.text whole st source.answers source wrote
-task_put s asked whole st _ source (beginning broke) = (st, whole, source, broke)
+pub task_handed : (i : Input) (o : Output) (asked : Task) (whole : List ℕ) (store handed : Option StoreView) (st told : Status)
+    → AnswersSource i asked whole store st → HandsOut o whole store st handed told → TaskEnds i o handed asked told
+task_handed i o asked whole store _ st _ source (whole_text wrote) = written i o asked source.text whole store st source.answers source wrote
+task_handed i o asked whole store _ st _ source (beginning broke) = (whole, store, st, source, broke, refl)
 
-pub usage_put : (s : Streams) (told : Status) → HasPut s usage_line status.Usage told → OthersEnd s told
-usage_put s _ (whole_text wrote) = wrote
-usage_put s _ (beginning broke) = broke
-
--- a text that needs no script is written whole or in part
-pub text_put : (s : Streams) (whole : List ℕ) (told : Status) → HasPut s whole status.Finished told → TextEnds s whole told
-text_put s whole _ (whole_text wrote) = wrote
-text_put s whole _ (beginning broke) = broke
+-- where the sink failed no store is handed out
+pub nothing_handed : (o : Output) (whole : List ℕ) (store handed : Option StoreView) (st told : Status) → handed ≡ None → told ≡ status.WriteFault
+    → Broke o whole → HandsOut o whole store st handed told
+nothing_handed o whole store handed st told none is broke =
+    subst (λ h. HandsOut o whole store st h told) (sym none) (subst (HandsOut o whole store st None) (sym is) (beginning broke))
 
 -- the first byte of the first of some words
 first_byte : List (List ℕ) → ℕ

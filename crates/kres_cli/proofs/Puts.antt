@@ -1,8 +1,11 @@
 -- Bytes that are put one piece after another.
-use Rattle.std.proofs.Common.{◌≡◌, ℕ, ◌+◌, ◌-◌, List, ◌++◌, length, take, drop, Option, None, Some, ap, sym, ◌∙◌, subst, append_assoc}
+use Rattle.std.proofs.Common.{◌≡◌, ℕ, ◌+◌, ◌-◌, ◌<◌, true, false, List, ◌++◌, length, take, drop, Option, None, Some, Result, Ok, Err, ap, sym, ◌∙◌, subst, append_assoc}
+use Rattle.std.specs.Prelude.{OnOk, OnErr}
 use Rattle.std.proofs.Math.Seq.{take-add}
 use Rattle.std.proofs.lemmas.List.{take_rest, drop-drop}
 use Rattle.std.specs.Io.KnownBytes.{Appends}
+use Rattle.kio_ports.specs.Faults.{HasRisen}
+use Rattle.kres_cli.specs.Tool.{HasPut, Output}
 
 -- what grew twice grew by both
 pub Appends-join : (old mid new : Option (List ℕ)) (xs ys : List ℕ) → Appends old mid xs → Appends mid new ys → Appends old new (xs ++ ys)
@@ -21,3 +24,17 @@ put_more old mid new text left put count rest first second =
 -- what is left then
 pub left_more : (text left : List ℕ) (put count : ℕ) → left ≡ drop put text → take (length left - count) (drop count left) ≡ drop (put + count) text
 left_more text left put count rest = take_rest left count ∙ ap (drop count) rest ∙ drop-drop count put text
+
+-- what was put is known, whole or up to a fault
+pub has_put : {X E : Type 0} (o : Output) (whole : List ℕ) (answer : Result X E)
+    → OnOk answer (Appends o.held o.held' whole) → OnOk answer (o.offered whole true)
+    → OnErr answer ((n : ℕ) × (n < length whole) × Appends o.held o.held' (take n whole)) → OnErr answer (o.offered whole false)
+    → OnErr answer (HasRisen o.puts o.puts') → HasPut o whole answer
+has_put o whole (Ok x) written offered begun part fault = (written, offered)
+has_put o whole (Err e) written offered begun part fault = record {
+  count = begun.0;
+  less = begun.1;
+  begun = begun.2;
+  offered = part;
+  fault = fault;
+}

@@ -3,3 +3,4 @@ pub mod Run
 pub mod Status
 pub mod Words
 pub mod Tool
+pub mod Program

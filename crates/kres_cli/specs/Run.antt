@@ -1,21 +1,18 @@
--- The report of a run of the core.
-use Rattle.std.specs.Prelude.{ℕ, ◌≡◌, List, length, Some}
+-- A run of the core over the store.
+use Rattle.std.specs.Prelude.{ℕ, ◌≡◌, List, Option, Some}
 use Rattle.kabi_types.specs.declared.entries.End.{End}
-use Rattle.kabi_types.specs.declared.entries.Noted.{Noted}
 use Rattle.kabi_types.specs.declared.scripts.Script.{Script}
-use Rattle.posix_defs.specs.CoreState.{CoreState, charged_in}
-use Rattle.posix_defs.specs.Ends.{end_of}
-use Rattle.posix_defs.specs.CoreRun.{IsPickedRun}
-use Rattle.posix_defs.specs.Lines.{report}
+use Rattle.call_run.specs.Standing.{StandsFor, StoreView}
+use Rattle.run_report.specs.Reports.{IsReport}
 use Rattle.kres_cli.specs.declared.statuses.Status.{Status}
 use Rattle.kres_cli.specs.Status.{status_of}
 
--- The text is the report of a run of the script by the rule of choice, from boot to an end, and the status is that end's.
-pub record IsReport (script : Script) (text : List ℕ) (status : Status) : Type 0 where
-  pub run : List Noted
-  pub state : CoreState
+-- The text is the report of a run of the script, the status is that of its end, and the store that is handed out is the one
+-- that was left: its processes, its account, what it keeps and its reads are those of the world in which the run ended.
+pub record IsRunOf (script : Script) (whole : List ℕ) (handed : Option StoreView) (status : Status) : Type 0 where
   pub end : End
-  pub runs : IsPickedRun script script.steps run state
-  pub ends : end_of script script.steps (length run) state ≡ Some end
-  pub text_is : text ≡ report run end (charged_in state) state.world.reads
+  pub store : StoreView
+  pub handed_is : handed ≡ Some store
+  pub same : store.script ≡ script
+  pub report : IsReport (λ left world. StandsFor left.script left.objects world) script store end whole
   pub status_is : status ≡ status_of end

@@ -1,9 +1,12 @@
 -- What the tool answers to its words, and what it writes.
-use Rattle.std.specs.Prelude.{ℕ, ◌≡◌, ◌<◌, Bool, true, false, List, [], ◌∷◌, length, take, Option, Ok, Err, String, string_bytes, codes}
+use Rattle.std.specs.Prelude.{ℕ, ◌≡◌, ◌<◌, Bool, true, false, List, [], ◌∷◌, length, take, Option, None, Result, Ok, Err, String, codes}
 use Rattle.std.specs.Io.KnownBytes.{Appends}
 use Rattle.kabi_types.specs.declared.scripts.Script.{Script}
 use Rattle.kabi_types.specs.declared.scripts.ScriptFault.{ScriptFault}
+use Rattle.call_run.specs.Standing.{StoreView}
+use Rattle.kio_ports.specs.declared.failed.Failed.{Failed}
 use Rattle.kio_ports.specs.Faults.{HasRisen}
+use Rattle.kio_ports.specs.Offers.{PutsAll}
 use Rattle.posix_defs.specs.Canonical.{canonical}
 use Rattle.posix_defs.specs.Generated.{generated}
 use Rattle.posix_defs.specs.Lines.{fault_line}
@@ -18,96 +21,142 @@ use Rattle.kres_cli.specs.declared.commands.Task.TheVariants as task
 use Rattle.kres_cli.specs.declared.statuses.Status.{Status}
 use Rattle.kres_cli.specs.declared.statuses.Status.TheVariants.{Finished, BadScript, Usage, Starved, AllAsleep, Spent, ReadFault, WriteFault, Memory}
 use Rattle.kres_cli.specs.Read.{HasTaken}
-use Rattle.kres_cli.specs.Run.{IsReport}
+use Rattle.kres_cli.specs.Run.{IsRunOf}
+use Rattle.kres_cli.specs.Words.{Asks}
 
 -- what is written where the words aren't the program's
 abbrev pub usage_line : List ℕ
 usage_line = codes "usage: kres sim | threads W | print | table | gen N | load N\n"
 
--- The streams before and after: the bytes that the source has left and those that the sink holds, where they tell them,
--- how many takes and puts have failed, and which texts were offered to the sink, each put all that was left of it, whole
--- or to a put that failed.
-pub record Streams : Type 1 where
+-- The source before and after: the bytes that it has left, where it tells them, how many takes have failed, and that
+-- nothing was asked of it.
+pub record Input : Type 1 where
   pub left : Option (List ℕ)
   pub left' : Option (List ℕ)
-  pub held : Option (List ℕ)
-  pub held' : Option (List ℕ)
   pub takes : ℕ
   pub takes' : ℕ
+  pub untouched : Type 0
+
+-- The sink before and after: the bytes that it holds, where it tells them, how many puts have failed, which texts were
+-- offered to it, each put all that was left of it, whole or to a put that failed, and that nothing was.
+pub record Output : Type 1 where
+  pub held : Option (List ℕ)
+  pub held' : Option (List ℕ)
   pub puts : ℕ
   pub puts' : ℕ
   pub offered : List ℕ → Bool → Type 0
+  pub untouched : Type 0
 
--- what a task makes of a script: the report of its run, with that end's status; or the script in its canonical form
-abbrev pub Makes : Task → Script → List ℕ → Status → Type 0
-Makes task.Sim script whole status = IsReport script whole status
-Makes task.Print script whole status = (whole ≡ canonical script) × (status ≡ Finished)
+module _ {S : Type 0} (left : S → Option (List ℕ)) (faults : S → ℕ) where
+  -- from one source to the next
+  abbrev pub input : S → S → Input
+  input old new = record {
+    left = left old;
+    left' = left new;
+    takes = faults old;
+    takes' = faults new;
+    untouched = new ≡ old;
+  }
 
--- The text is answered by this one, with this status: the line of its fault, or what the task makes of its script.
-pub data AnswersText (text whole : List ℕ) (asked : Task) : Status → Type 0 where
-  refuses : (fault : ScriptFault) → ReadsText text (Err fault) → whole ≡ fault_line fault → AnswersText text whole asked BadScript
-  makes : (script : Script) (status : Status) → ReadsText text (Ok script) → Makes asked script whole status → AnswersText text whole asked status
+module _ {K : Type 0} (held : K → Option (List ℕ)) (faults : K → ℕ) (gives : K → List ℕ → Result ℕ Failed → K → Type 0) where
+  -- from one sink to the next
+  abbrev pub output : K → K → Output
+  output old new = record {
+    held = held old;
+    held' = held new;
+    puts = faults old;
+    puts' = faults new;
+    offered = λ text whole. PutsAll gives old text whole new;
+    untouched = new ≡ old;
+  }
 
--- the line and the status of a fault; nothing is told where the host has no memory
-abbrev pub TellsError : ParseError → List ℕ → Status → Type 0
-TellsError (error.Bad fault) whole status = (whole ≡ fault_line fault) × (status ≡ BadScript)
-TellsError error.Memory whole status = ⊥
+-- What a task makes of a script: the report of its run, with that end's status and the store as it was left; or the script
+-- in its canonical form.
+abbrev pub Makes : Task → Script → List ℕ → Option StoreView → Status → Type 0
+Makes task.Sim script whole handed status = IsRunOf script whole handed status
+Makes task.Print script whole handed status = (whole ≡ canonical script) × (handed ≡ None) × (status ≡ Finished)
+
+-- The text is answered by this one, with this store and this status: the line of its fault, or what the task makes of its
+-- script.
+pub data AnswersText (text whole : List ℕ) (asked : Task) (handed : Option StoreView) : Status → Type 0 where
+  refuses : (fault : ScriptFault) → ReadsText text (Err fault) → whole ≡ fault_line fault → handed ≡ None
+      → AnswersText text whole asked handed BadScript
+  makes : (script : Script) (status : Status) → ReadsText text (Ok script) → Makes asked script whole handed status
+      → AnswersText text whole asked handed status
+
+-- the line of a fault; nothing is told where the host has no memory
+abbrev pub TellsError : ParseError → List ℕ → Type 0
+TellsError (error.Bad fault) whole = whole ≡ fault_line fault
+TellsError error.Memory whole = ⊥
 
 -- What was read, to its end or to the byte that is too many, is answered so.
-pub record AnswersSource (s : Streams) (asked : Task) (status : Status) (whole : List ℕ) : Type 0 where
+pub record AnswersSource (i : Input) (asked : Task) (whole : List ℕ) (handed : Option StoreView) (status : Status) : Type 0 where
   pub text : List ℕ
-  pub taken : HasTaken text s.left s.left'
-  pub no_fault : s.takes' ≡ s.takes
-  pub answers : AnswersText text whole asked status
+  pub taken : HasTaken text i.left i.left'
+  pub no_fault : i.takes' ≡ i.takes
+  pub answers : AnswersText text whole asked handed status
 
 -- the whole text was written
-abbrev pub Wrote : Streams → List ℕ → Type 0
-Wrote s whole = Appends s.held s.held' whole × s.offered whole true
+abbrev pub Wrote : Output → List ℕ → Type 0
+Wrote o whole = Appends o.held o.held' whole × o.offered whole true
 
 -- The sink failed, and holds a proper beginning of the text.
-pub record Broke (s : Streams) (whole : List ℕ) : Type 0 where
+pub record Broke (o : Output) (whole : List ℕ) : Type 0 where
   pub count : ℕ
   pub less : count < length whole
-  pub begun : Appends s.held s.held' (take count whole)
-  pub offered : s.offered whole false
-  pub fault : HasRisen s.puts s.puts'
+  pub begun : Appends o.held o.held' (take count whole)
+  pub offered : o.offered whole false
+  pub fault : HasRisen o.puts o.puts'
 
--- what was read is answered whole, with this status
-abbrev pub Answered : Streams → Task → Status → Type 0
-Answered s asked status = (whole : List ℕ) × AnswersSource s asked status whole × Wrote s whole
+-- the sink got the whole text, or it failed
+abbrev pub HasPut : {X E : Type 0} → Output → List ℕ → Result X E → Type 0
+HasPut o whole (Ok _) = Wrote o whole
+HasPut o whole (Err _) = Broke o whole
 
--- what a task may end with
-abbrev pub TaskEnds : Streams → Task → Status → Type 0
-TaskEnds s asked Finished = Answered s asked Finished
-TaskEnds s asked BadScript = Answered s asked BadScript
-TaskEnds s asked Usage = ⊥
-TaskEnds s asked Starved = Answered s asked Starved
-TaskEnds s asked AllAsleep = Answered s asked AllAsleep
-TaskEnds s asked Spent = Answered s asked Spent
-TaskEnds s asked ReadFault = HasRisen s.takes s.takes' × (s.held' ≡ s.held)
-TaskEnds s asked WriteFault = (status : Status) × (whole : List ℕ) × AnswersSource s asked status whole × Broke s whole
-TaskEnds s asked Memory = s.held' ≡ s.held
+-- The sink got the whole text, and the store is handed out with its status; or it failed, and none is.
+pub data HandsOut (o : Output) (whole : List ℕ) (store : Option StoreView) (status : Status) : Option StoreView → Status → Type 0 where
+  whole_text : Wrote o whole → HandsOut o whole store status store status
+  beginning : Broke o whole → HandsOut o whole store status None WriteFault
+
+-- what was read is answered whole, with this store and this status
+abbrev pub Answered : Input → Output → Option StoreView → Task → Status → Type 0
+Answered i o handed asked status = (whole : List ℕ) × AnswersSource i asked whole handed status × Wrote o whole
+
+-- What a task may end with. A store is handed out with an end alone.
+abbrev pub TaskEnds : Input → Output → Option StoreView → Task → Status → Type 0
+TaskEnds i o handed asked Finished = Answered i o handed asked Finished
+TaskEnds i o handed asked BadScript = Answered i o handed asked BadScript
+TaskEnds i o handed asked Usage = ⊥
+TaskEnds i o handed asked Starved = Answered i o handed asked Starved
+TaskEnds i o handed asked AllAsleep = Answered i o handed asked AllAsleep
+TaskEnds i o handed asked Spent = Answered i o handed asked Spent
+TaskEnds i o handed asked ReadFault = HasRisen i.takes i.takes' × (o.held' ≡ o.held) × (handed ≡ None)
+TaskEnds i o handed asked WriteFault =
+    (whole : List ℕ) × (store : Option StoreView) × (status : Status) × AnswersSource i asked whole store status × Broke o whole × (handed ≡ None)
+TaskEnds i o handed asked Memory = (o.held' ≡ o.held) × (handed ≡ None)
 
 -- what may become of a text that needs no script
-abbrev pub TextEnds : Streams → List ℕ → Status → Type 0
-TextEnds s whole Finished = Wrote s whole
-TextEnds s whole WriteFault = Broke s whole
-TextEnds s whole Memory = s.held' ≡ s.held
-TextEnds s whole _ = ⊥
+abbrev pub TextEnds : Output → List ℕ → Status → Type 0
+TextEnds o whole Finished = Wrote o whole
+TextEnds o whole WriteFault = Broke o whole
+TextEnds o whole Memory = o.held' ≡ o.held
+TextEnds o whole _ = ⊥
 
 -- what a command may end with: `table` writes the price list, and `gen` the generated script in its canonical form
-abbrev pub CommandEnds : Streams → Command → Status → Type 0
-CommandEnds s (OnScript asked) status = TaskEnds s asked status
-CommandEnds s Table status = TextEnds s table_text status
-CommandEnds s (Gen rounds) status = TextEnds s (canonical (generated rounds)) status
+abbrev pub CommandEnds : Input → Output → Option StoreView → Command → Status → Type 0
+CommandEnds i o handed (OnScript asked) status = TaskEnds i o handed asked status
+CommandEnds i o handed Table status = TextEnds o table_text status × (handed ≡ None)
+CommandEnds i o handed (Gen rounds) status = TextEnds o (canonical (generated rounds)) status × (handed ≡ None)
 
 -- what other words may end with
-abbrev pub OthersEnd : Streams → Status → Type 0
-OthersEnd s Usage = Wrote s usage_line
-OthersEnd s WriteFault = Broke s usage_line
-OthersEnd s _ = ⊥
+abbrev pub OthersEnd : Output → Status → Type 0
+OthersEnd o Usage = Wrote o usage_line
+OthersEnd o WriteFault = Broke o usage_line
+OthersEnd o _ = ⊥
 
--- The sink got the whole text, and the status stands; or it failed.
-pub data HasPut (s : Streams) (whole : List ℕ) (status : Status) : Status → Type 0 where
-  whole_text : Wrote s whole → HasPut s whole status status
-  beginning : Broke s whole → HasPut s whole status WriteFault
+-- What the tool does on these words: what they ask for, or the line that says which words there are. Only what reads a
+-- script touches the source.
+pub record Obeys {A : Type 0} (words : List (String A)) (i : Input) (o : Output) (handed : Option StoreView) (status : Status) : Type 0 where
+  pub commands : (command : Command) → Asks words command → CommandEnds i o handed command status
+  pub others : ((command : Command) → Asks words command → ⊥) → OthersEnd o status × (handed ≡ None)
+  pub untouched : ((task : Task) → Asks words (OnScript task) → ⊥) → i.untouched

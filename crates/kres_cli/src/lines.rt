@@ -1,31 +1,10 @@
-//! The report of a run, and the line of a text that is no script.
+//! The line of a text that is no script.
 
-ghost use Rattle.std.specs.Prelude.{◌≡◌, ◌^◌, ◌<◌, ◌++◌, length, IfOk, string_bytes};
-ghost use Rattle.posix_defs.specs.Lines.{event_lines, end_line, fault_text, fault_line};
+ghost use Rattle.std.specs.Prelude.{◌≡◌, IfOk, string_bytes};
+ghost use Rattle.posix_defs.specs.Lines.{fault_line, fault_text};
 
-use kabi_types::{End, FaultKind, Noted, ScriptFault};
-use report_text::{push_end_sim, push_events};
+use kabi_types::{FaultKind, ScriptFault};
 use std::alloc::{AllocError, Global};
-
-/// The report of a run that ended so: a line for each of its events, numbered from 1, and the end line, which tells
-/// what is charged at the end, the most that ever was, and the blocks read. An error is want of memory.
-pub fn report(
-    alloc: Global,
-    run: &[Noted],
-    end: End,
-    charged: u64,
-    peak: u64,
-    reads: u64,
-) -> Result<String, AllocError>
-    requires { length run.now < 2 ^ 32 }
-    ensures { IfOk result (λ text. string_bytes text ≡
-        event_lines 1 run.now ++ end_line end (length run.now) charged peak reads) }
-{
-    let mut text = String::new(alloc);
-    push_events(&mut text, run)?;
-    push_end_sim(&mut text, &end, run.len() as u32, charged, peak, reads)?;
-    Ok(text)
-}
 
 /// The line that tells the fault of a text.
 pub fn fault_line(alloc: Global, fault: ScriptFault) -> Result<String, AllocError>

@@ -1,13 +1,13 @@
 //! `kres`: runs scripts of processes on a kernel that reserves its heap before it runs a call.
 #![tactic(auto)]
 
-ghost use Rattle.std.specs.Prelude.{◌≡◌, drop, IfOk};
-ghost use Rattle.std.specs.Process.{exit_status};
-ghost use Rattle.std.specs.Vec.Iter.{into_iter_items};
-ghost use Rattle.kres_cli.specs.Status.{number_of};
+ghost use Rattle.std.specs.Prelude.{◌≡◌};
+ghost use Rattle.kabi_types.specs.declared.scripts.Policy.TheVariants.{Heaviest, Youngest};
+ghost use Rattle.posix_defs.specs.Victim.{score_of};
 
 mod commands;
 mod lines;
+mod program;
 mod reading;
 mod statuses;
 #[cfg(test)]
@@ -22,43 +22,26 @@ mod text;
 mod tool;
 mod writing;
 
+use kabi_types::Weight;
 use kio_ports::{StdSink, StdSource};
-use statuses::Status;
-use std::alloc::{AllocError, Global};
+use program::run_program;
+use std::env;
 use std::process::ExitCode;
-use std::{env, io};
-use tool::run_tool;
-
-/// The words after the program's name, which stands first.
-fn after_name(alloc: Global, all: env::Args) -> Result<Vec<String>, AllocError>
-    ensures { IfOk result (λ words. words.items ≡ drop 1 (into_iter_items all)) }
-{
-    all.skip(1).collect(alloc)
-}
-
-/// What the program ends with: the number of its status.
-fn code_of(status: Status) -> ExitCode
-    ensures { exit_status result ≡ number_of status }
-{
-    ExitCode::from(status.number())
-}
-
-fn words_of(rt: &HostRuntime) -> io::Result<Vec<String>> {
-    Ok(after_name(rt.alloc(), env::args(rt)?)?)
-}
-
-fn run(rt: &HostRuntime, words: &[String]) -> Status {
-    let mut source = StdSource::new(rt.stdin());
-    let mut sink = StdSink::new(rt.stdout());
-    run_tool(rt, rt.alloc(), words, &mut source, &mut sink)
-}
 
 fn main(rt: HostRuntime) -> ExitCode {
-    let status = match words_of(&rt) {
-        Ok(words) => run(&rt, words.as_slice()),
-        Err(error) if error.kind() == io::ErrorKind::OutOfMemory => Status::Memory,
-        // A word that is no text is no word of the program's.
-        Err(_) => run(&rt, &[]),
-    };
-    code_of(status)
+    let mut source = StdSource::new(rt.stdin());
+    let mut sink = StdSink::new(rt.stdout());
+    run_program(
+        &rt,
+        rt.alloc(),
+        env::args(&rt),
+        &mut source,
+        &mut sink,
+        |w: Weight| -> u64
+            ensures { result ≡ score_of Heaviest w }
+        { 512 + 4096 * u64::from(w.frames) + 512 * u64::from(w.nodes) + 64 * u64::from(w.descs) },
+        |w: Weight| -> u64
+            ensures { result ≡ score_of Youngest w }
+        { u64::from(w.pid) },
+    )
 }

@@ -1,8 +1,15 @@
+ghost use Rattle.std.specs.Prelude.{◌≡◌};
+ghost use Rattle.kabi_types.specs.declared.scripts.Policy.TheVariants.{Heaviest, Youngest};
+ghost use Rattle.posix_defs.specs.Victim.{score_of};
+
 use crate::statuses::Status;
 use crate::tool::run_tool;
+use kabi_types::Weight;
 use kio_ports::{MemSink, MemSource};
+use posix_defs::Turner;
 use std::process::Abort;
 use std::test::Fail;
+use victim_core::Scorer;
 
 /// Room for every text that a test writes, in bytes.
 const ROOM: usize = 65536;
@@ -20,6 +27,60 @@ end finished events 6 charged 2304 peak 2816 reads 0
 
 const USAGE: &str = "usage: kres sim | threads W | print | table | gen N | load N\n";
 
+/// What the store that the tool hands out has in use, in bytes, and how many blocks it has read.
+type Left = Option<(u64, u64)>;
+
+fn run_with<F: Scorer, G: Scorer>(
+    rt: &impl AllocGlobal,
+    words: &[String],
+    source: &mut MemSource,
+    sink: &mut MemSink,
+    heaviest: F,
+    youngest: G,
+) -> (Status, Left)
+    requires by_weight { F.scores heaviest Heaviest }
+    requires by_age { G.scores youngest Youngest }
+{
+    let mut store_out = None;
+    let status = run_tool(
+        rt,
+        rt.alloc(),
+        words,
+        source,
+        sink,
+        heaviest,
+        youngest,
+        &mut store_out,
+    );
+    let left = match &store_out {
+        Some(store) => Some((store.live(), store.reads())),
+        None => None,
+    };
+    drop(store_out);
+    (status, left)
+}
+
+/// What the tool answers to these words, and what it leaves.
+pub fn run_words(
+    rt: &impl AllocGlobal,
+    words: &[String],
+    source: &mut MemSource,
+    sink: &mut MemSink,
+) -> (Status, Left) {
+    run_with(
+        rt,
+        words,
+        source,
+        sink,
+        |w: Weight| -> u64
+            ensures { result ≡ score_of Heaviest w }
+        { 512 + 4096 * u64::from(w.frames) + 512 * u64::from(w.nodes) + 64 * u64::from(w.descs) },
+        |w: Weight| -> u64
+            ensures { result ≡ score_of Youngest w }
+        { u64::from(w.pid) },
+    )
+}
+
 /// What the tool answers to a word on a text that comes and goes whole, and what it writes.
 pub fn answer_on(
     rt: &impl AllocGlobal,
@@ -29,7 +90,7 @@ pub fn answer_on(
     let words = vec![in rt.alloc(); word.to_string(rt.alloc())?]?;
     let mut source = MemSource::new(text, Vec::new(rt.alloc()), usize::MAX);
     let mut sink = MemSink::new(rt.alloc(), ROOM, Vec::new(rt.alloc()), usize::MAX)?;
-    let status = run_tool(rt, rt.alloc(), words.as_slice(), &mut source, &mut sink);
+    let (status, _) = run_words(rt, words.as_slice(), &mut source, &mut sink);
     Ok((status, sink))
 }
 
@@ -100,6 +161,28 @@ fn runs_scripts_to_their_ends(rt: HostRuntime) -> Result<(), Fail> {
     expect_answers(&rt, "sim", RUNS)
 }
 
+/// A word, a script, and what is left.
+const STORES: &[(&str, &str, Left)] = &[
+    // The root alone.
+    ("sim", PID_SCRIPT, Some((128, 0))),
+    ("sim", LOOP_SCRIPT, Some((640, 0))),
+    ("sim", "", None),
+    ("print", PID_SCRIPT, None),
+];
+
+#[test]
+fn hands_out_the_store_of_a_run(rt: HostRuntime) -> Result<(), Fail> {
+    for (word, script, wanted) in STORES {
+        let words = vec![in rt.alloc(); word.to_string(rt.alloc())?]?;
+        let text = script.as_bytes().to_vec(rt.alloc())?;
+        let mut source = MemSource::new(text, Vec::new(rt.alloc()), usize::MAX);
+        let mut sink = MemSink::new(rt.alloc(), ROOM, Vec::new(rt.alloc()), usize::MAX)?;
+        let (_, left) = run_words(&rt, words.as_slice(), &mut source, &mut sink);
+        assert!(rt; left == *wanted, "{word} on {script:?}");
+    }
+    Ok(())
+}
+
 const REFUSALS: &[(&str, Status, &str)] = &[
     (PID_SCRIPT, Status::Finished, PID_REPORT),
     (
@@ -122,7 +205,7 @@ fn is_right(rt: &HostRuntime, script: &str, wanted: Status, whole: &str) -> Opti
     let words = vec![in rt.alloc(); word].ok()?;
     let mut source = MemSource::new(text, Vec::new(rt.alloc()), usize::MAX);
     let mut sink = MemSink::new(rt.alloc(), ROOM, Vec::new(rt.alloc()), usize::MAX).ok()?;
-    let status = run_tool(rt, rt.alloc(), words.as_slice(), &mut source, &mut sink);
+    let (status, _) = run_words(rt, words.as_slice(), &mut source, &mut sink);
     let written = sink.bytes();
     Some(match status {
         Status::Memory => whole.as_bytes().starts_with(written),
@@ -314,7 +397,7 @@ fn tells_the_words_that_it_knows(rt: HostRuntime) -> Result<(), Fail> {
         let text = PID_SCRIPT.as_bytes().to_vec(rt.alloc())?;
         let mut source = MemSource::new(text, Vec::new(rt.alloc()), 4096);
         let mut sink = MemSink::new(rt.alloc(), ROOM, Vec::new(rt.alloc()), 4096)?;
-        let status = run_tool(&rt, rt.alloc(), words.as_slice(), &mut source, &mut sink);
+        let (status, _) = run_words(&rt, words.as_slice(), &mut source, &mut sink);
         let right = status == Status::Usage && sink.bytes() == USAGE.as_bytes();
         assert!(rt; right && source.calls() == 0, "on {line:?}");
     }
@@ -335,8 +418,8 @@ pub fn expect_broken(
     let text = script.as_bytes().to_vec(rt.alloc())?;
     let mut source = MemSource::new(text, fails, 4096);
     let mut sink = MemSink::new(rt.alloc(), ROOM, vec![in rt.alloc(); 2]?, most)?;
-    let status = run_tool(rt, rt.alloc(), words.as_slice(), &mut source, &mut sink);
-    let right = status == wanted.0 && sink.bytes() == wanted.1.as_bytes();
+    let (status, left) = run_words(rt, words.as_slice(), &mut source, &mut sink);
+    let right = status == wanted.0 && left.is_none() && sink.bytes() == wanted.1.as_bytes();
     assert!(rt; right, "{word} by {most}");
     Ok(())
 }

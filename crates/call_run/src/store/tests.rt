@@ -1,7 +1,9 @@
 //! Stores by hand, with the heap's bytes at each step.
 
 ghost use Rattle.std.specs.Prelude.{◌≤◌, ◌≡◌, IfOk};
+ghost use Rattle.kabi_types.specs.declared.scripts.Policy.TheVariants.{Heaviest, Youngest};
 ghost use Rattle.posix_defs.specs.ValidScript.{IsValid};
+ghost use Rattle.posix_defs.specs.Victim.{score_of};
 ghost use Rattle.posix_defs.specs.World.{World};
 ghost use Rattle.call_run.specs.Standing.{StandsFor};
 
@@ -10,13 +12,14 @@ use crate::calls::would_block;
 use crate::turns::turn;
 use kabi_types::{
     Bytes64, Cached, Call, Chooser, Errno, Name27, Policy, Program, Programs, Reply, Script,
-    Statements,
+    Statements, Weight,
 };
 use posix_defs::{Turned, Turner};
 use prog_ctl::Awaited;
 use std::alloc::Global;
 use std::process::Abort;
 use std::test::Fail;
+use victim_core::{Score, Scorer};
 
 /// A script whose first process only ends.
 fn script_of(alloc: Global, heap: u64, policy: Policy) -> Result<Script, Fail>
@@ -38,18 +41,6 @@ fn script_of(alloc: Global, heap: u64, policy: Policy) -> Result<Script, Fail>
         chooser: Chooser::Plain,
         programs: Programs::from_vec(programs),
     })
-}
-
-/// A store at boot.
-fn booted(alloc: Global, heap: u64, policy: Policy) -> Result<Store, Fail>
-    requires least { 8192 ≤ heap }
-    requires most { heap ≤ 8388608 }
-    ensures { IfOk result (λ store. (world : World) × StandsFor store.script store.objects world) }
-{
-    let script = script_of(alloc, heap, policy)?;
-    let store = Store::boot(alloc, &script);
-    drop(script);
-    Ok(store?)
 }
 
 /// A call, as the rows write it.
@@ -120,7 +111,12 @@ fn tells(turned: &Turned, told: &Told) -> bool {
 }
 
 /// A turn of a call, for which there has to be room.
-fn take(rt: &impl Abort, store: &mut Store, pid: u32, call: &Call) -> Turned
+fn take<F: Scorer, G: Scorer>(
+    rt: &impl Abort,
+    store: &mut Store<F, G>,
+    pid: u32,
+    call: &Call,
+) -> Turned
     requires { (world : World) × StandsFor store.old.script store.old.objects world }
     ensures { (world : World) × StandsFor store.new.script store.new.objects world }
 {
@@ -139,7 +135,7 @@ fn take(rt: &impl Abort, store: &mut Store, pid: u32, call: &Call) -> Turned
 /// Who makes which call, what is told, and the bytes in use after it.
 type Row = (u32, Ask, Told, u64);
 
-fn go_through(rt: &impl Abort, store: &mut Store, rows: &[Row])
+fn go_through<F: Scorer, G: Scorer>(rt: &impl Abort, store: &mut Store<F, G>, rows: &[Row])
     requires { (world : World) × StandsFor store.old.script store.old.objects world }
     ensures { (world : World) × StandsFor store.new.script store.new.objects world }
 {
@@ -186,22 +182,76 @@ const KILLS: &[Row] = &[
     (1, Ask::Wait(2, 0), Told::Child(2, 9), 640),
 ];
 
-/// Boots a store and takes these turns.
-fn go_from_boot(rt: &impl Abort, alloc: Global, heap: u64, rows: &[Row]) -> Result<(), Fail>
+/// What is tried with a store at boot.
+enum Trial {
+    Turns(&'static [Row]),
+    HeaviestGoes,
+    YoungestGoes,
+    AtBoot,
+    Refusal,
+    Blocking,
+}
+
+/// Boots a store that is told these scores, and tries this with it.
+fn try_with<F: Scorer, G: Scorer>(
+    rt: &(impl Abort + AllocGlobal),
+    heaviest: F,
+    youngest: G,
+    heap: u64,
+    policy: Policy,
+    trial: &Trial,
+) -> Result<(), Fail>
+    requires by_weight { F.scores heaviest Heaviest }
+    requires by_age { G.scores youngest Youngest }
     requires least { 8192 ≤ heap }
     requires most { heap ≤ 8388608 }
 {
-    let mut store = booted(alloc, heap, Policy::Heaviest)?;
-    go_through(rt, &mut store, rows);
+    let score = Score::new(heaviest, youngest);
+    let script = script_of(rt.alloc(), heap, policy)?;
+    let booted = Store::boot(rt.alloc(), &script, score);
+    drop(script);
+    let mut store = booted?;
+    match trial {
+        Trial::Turns(rows) => go_through(rt, &mut store, *rows),
+        Trial::HeaviestGoes => heaviest_goes(rt, &mut store),
+        Trial::YoungestGoes => youngest_goes(rt, &mut store),
+        Trial::AtBoot => is_at_boot(rt, &mut store),
+        Trial::Refusal => refuses(rt, &mut store),
+        Trial::Blocking => only_a_wait_blocks(rt, &mut store),
+    }
     drop(store);
     Ok(())
 }
 
+/// The same with the scores of the kernel.
+fn try_it(
+    rt: &(impl Abort + AllocGlobal),
+    heap: u64,
+    policy: Policy,
+    trial: &Trial,
+) -> Result<(), Fail>
+    requires least { 8192 ≤ heap }
+    requires most { heap ≤ 8388608 }
+{
+    try_with(
+        rt,
+        |w: Weight| -> u64
+            ensures { result ≡ score_of Heaviest w }
+        { 512 + 4096 * u64::from(w.frames) + 512 * u64::from(w.nodes) + 64 * u64::from(w.descs) },
+        |w: Weight| -> u64
+            ensures { result ≡ score_of Youngest w }
+        { u64::from(w.pid) },
+        heap,
+        policy,
+        trial,
+    )
+}
+
 #[test]
 fn calls_of_processes_and_memory(rt: HostRuntime) -> Result<(), Fail> {
-    go_from_boot(&rt, rt.alloc(), 65536, WHOLE)?;
-    go_from_boot(&rt, rt.alloc(), 65536, SHARED)?;
-    go_from_boot(&rt, rt.alloc(), 65536, KILLS)
+    try_it(&rt, 65536, Policy::Heaviest, &Trial::Turns(WHOLE))?;
+    try_it(&rt, 65536, Policy::Heaviest, &Trial::Turns(SHARED))?;
+    try_it(&rt, 65536, Policy::Heaviest, &Trial::Turns(KILLS))
 }
 
 /// The bytes lie on two pages that aren't mapped; the bound of the store is all the room that there is.
@@ -215,8 +265,8 @@ const LEAST_HEAP: &[Row] = &[
 
 #[test]
 fn heaps_that_are_just_enough(rt: HostRuntime) -> Result<(), Fail> {
-    go_from_boot(&rt, rt.alloc(), 11008, JUST_ROOM)?;
-    go_from_boot(&rt, rt.alloc(), 8192, LEAST_HEAP)
+    try_it(&rt, 11008, Policy::Heaviest, &Trial::Turns(JUST_ROOM))?;
+    try_it(&rt, 8192, Policy::Heaviest, &Trial::Turns(LEAST_HEAP))
 }
 
 /// Processes 2 and 3 hold a node and a frame each, process 4 holds a node.
@@ -237,54 +287,66 @@ const LAST: &[Row] = &[
     (1, Ask::Exit(7), Told::Ends(1792), 128),
 ];
 
-#[test]
-fn the_victim_is_the_heaviest(rt: HostRuntime) -> Result<(), Fail> {
-    let mut store = booted(rt.alloc(), 20480, Policy::Heaviest)?;
-    go_through(&rt, &mut store, HOLDERS);
+fn heaviest_goes<F: Scorer, G: Scorer>(rt: &impl Abort, store: &mut Store<F, G>)
+    requires { (world : World) × StandsFor store.old.script store.old.objects world }
+{
+    go_through(rt, store, HOLDERS);
     assert!(rt; store.victim() == Some(3));
     store.kill(3);
     assert!(rt; store.live() == 7296 && !store.alive(3));
     assert!(rt; store.victim() == Some(2));
-    go_through(&rt, &mut store, LAST);
+    go_through(rt, store, LAST);
     assert!(rt; store.victim().is_none() && !store.alive(2) && store.last_pid() == 4);
-    drop(store);
-    Ok(())
+}
+
+#[test]
+fn the_victim_is_the_heaviest(rt: HostRuntime) -> Result<(), Fail> {
+    try_it(&rt, 20480, Policy::Heaviest, &Trial::HeaviestGoes)
+}
+
+fn youngest_goes<F: Scorer, G: Scorer>(rt: &impl Abort, store: &mut Store<F, G>)
+    requires { (world : World) × StandsFor store.old.script store.old.objects world }
+{
+    go_through(rt, store, HOLDERS);
+    assert!(rt; store.victim() == Some(4));
 }
 
 #[test]
 fn the_victim_is_the_youngest(rt: HostRuntime) -> Result<(), Fail> {
-    let mut store = booted(rt.alloc(), 20480, Policy::Youngest)?;
-    go_through(&rt, &mut store, HOLDERS);
-    assert!(rt; store.victim() == Some(4));
-    drop(store);
-    Ok(())
+    try_it(&rt, 20480, Policy::Youngest, &Trial::YoungestGoes)
 }
 
-#[test]
-fn a_store_at_boot(rt: HostRuntime) -> Result<(), Fail> {
-    let mut store = booted(rt.alloc(), 8192, Policy::Heaviest)?;
+fn is_at_boot<F: Scorer, G: Scorer>(rt: &impl Abort, store: &mut Store<F, G>)
+    requires { (world : World) × StandsFor store.old.script store.old.objects world }
+{
     assert!(rt; store.live() == 640 && store.last_pid() == 1 && store.reads() == 0);
     assert!(rt; store.victim().is_none() && !store.alive(2));
     assert!(rt; !store.evictable(Cached::Vnode));
     store.evict(Cached::Vnode);
     assert!(rt; store.live() == 640);
-    drop(store);
-    Ok(())
 }
 
 #[test]
-fn a_refused_call_is_over(rt: HostRuntime) -> Result<(), Fail> {
-    let mut store = booted(rt.alloc(), 8192, Policy::Heaviest)?;
+fn a_store_at_boot(rt: HostRuntime) -> Result<(), Fail> {
+    try_it(&rt, 8192, Policy::Heaviest, &Trial::AtBoot)
+}
+
+fn refuses<F: Scorer, G: Scorer>(rt: &impl Abort, store: &mut Store<F, G>)
+    requires { (world : World) × StandsFor store.old.script store.old.objects world }
+{
     assert!(rt; store.alive(1));
     assert!(rt; store.ready(1));
     store.refuse(1);
     assert!(rt; store.alive(1));
     let call = store.next(1);
     assert!(rt; call == Call::Exit { status: 0 });
-    let turned = take(&rt, &mut store, 1, &call);
+    let turned = take(rt, store, 1, &call);
     assert!(rt; tells(&turned, &Told::Ends(0)) && store.live() == 128);
-    drop(store);
-    Ok(())
+}
+
+#[test]
+fn a_refused_call_is_over(rt: HostRuntime) -> Result<(), Fail> {
+    try_it(&rt, 8192, Policy::Heaviest, &Trial::Refusal)
 }
 
 /// The first process has a child that lives.
@@ -294,16 +356,19 @@ fn waiting(child: i64, options: i64) -> Option<Awaited> {
     Some(Awaited { child, options })
 }
 
-#[test]
-fn only_a_wait_would_block(rt: HostRuntime) -> Result<(), Fail> {
-    let mut store = booted(rt.alloc(), 8192, Policy::Heaviest)?;
-    go_through(&rt, &mut store, PARENT);
+fn only_a_wait_blocks<F: Scorer, G: Scorer>(rt: &impl Abort, store: &mut Store<F, G>)
+    requires { (world : World) × StandsFor store.old.script store.old.objects world }
+{
+    go_through(rt, store, PARENT);
     let wait = waiting(-1, 0);
     assert!(rt; would_block(&store.objects, 1, wait) && !would_block(&store.objects, 2, wait));
     assert!(rt; !would_block(&store.objects, 1, waiting(-1, 1)));
     assert!(rt;
         !would_block(&store.objects, 1, waiting(0, 0)) && !would_block(&store.objects, 1, None)
     );
-    drop(store);
-    Ok(())
+}
+
+#[test]
+fn only_a_wait_would_block(rt: HostRuntime) -> Result<(), Fail> {
+    try_it(&rt, 8192, Policy::Heaviest, &Trial::Blocking)
 }

@@ -1,24 +1,11 @@
-use Rattle.std.proofs.Common.{◌<◌, true, false, length, take, subst}
-use Rattle.std.specs.Io.KnownBytes.{Appends}
-use Rattle.kio_ports.specs.Offers.{PutsAll}
-use Rattle.kres_cli.specs.Tool.{whole_text, beginning}
+use Rattle.std.proofs.Common.{subst}
+use Rattle.kres_cli.specs.Tool.{HasPut, Output, output}
+use Rattle.kres_cli.proofs.Puts.{has_put}
 use Rattle.kres_cli.proofs.tool.put.Goals as goal
 
-pub returns-in-Ok : goal.returns-in-Ok
-returns-in-Ok g c = λ left left' takes takes'.
-    whole_text (
-      subst (Appends (g.K.Sink.held c.args.sink.now) (g.K.Sink.held c.write_text.new.sink)) c.as_bytes.ensures.value c.in-Ok.ensures.written,
-      subst (λ bytes. PutsAll g.K.Sink.put_gives c.args.sink.now bytes true c.write_text.new.sink) c.as_bytes.ensures.value c.in-Ok.ensures.offered,
-    )
-
-pub returns-in-Err : goal.returns-in-Err
-returns-in-Err g c = λ left left' takes takes'.
-    let begun = c.in-Err.ensures.begun in
-    beginning
-    (record {
-      count = begun.0;
-      less = subst (λ bytes. begun.0 < length bytes) c.as_bytes.ensures.value begun.1;
-      begun = subst (λ bytes. Appends (g.K.Sink.held c.args.sink.now) (g.K.Sink.held c.write_text.new.sink) (take begun.0 bytes)) c.as_bytes.ensures.value begun.2;
-      offered = subst (λ bytes. PutsAll g.K.Sink.put_gives c.args.sink.now bytes false c.write_text.new.sink) c.as_bytes.ensures.value c.in-Err.ensures.offered_part;
-      fault = c.in-Err.ensures.fault;
-    })
+pub returns : goal.returns
+returns g c =
+    let o : Output = output g.K.Sink.held g.K.Sink.faults g.K.Sink.put_gives c.args.sink.now c.write_text.new.sink in
+    let put = c.write_text.ensures in
+    subst (λ bytes. HasPut o bytes c.write_text.result) c.as_bytes.ensures.value
+    (has_put o c.as_bytes.result.now c.write_text.result put.written put.offered put.begun put.offered_part put.fault)

@@ -1,13 +1,17 @@
-use Rattle.std.proofs.Common.{ap, sym, ◌∙◌}
-use Rattle.kres_cli.proofs.Reports.{reported}
+use Rattle.std.proofs.Common.{ap, refl, sym, subst, string_bytes, ◌∙◌}
+use Rattle.call_run.specs.Standing.{StandsFor}
+use Rattle.run_report.specs.Reports.{IsReport}
 use Rattle.kres_cli.proofs.tool.run_script.Goals as goal
 
 pub returns : goal.returns
-returns c =
-    let ended = c.run_to_end-end.ensures.ended in
-    reported c.args.script.now _ (ap (λ s. s.script) c.in_ok-core.ensures.store ∙ c.in_ok-store.ensures.script)
-    _ (c.run_to_end-end.ensures.steps ∙ c.in_ok-core.ensures.steps)
-    _ c.run.result.now ended.state c.run_to_end-end.result c.charged.result c.peak.result c.reads.result _ c.of.result
-    ended.runs ended.ends c.run.ensures.same
-    (c.charged.ensures.value ∙ sym ended.is_at.charged) (c.peak.ensures ∙ c.run.ensures.runs.peak) (c.reads.ensures ended.state ended.is_at)
-    c.in_ok-text.ensures c.of.ensures
+returns g c =
+    let reported = c.in_ok-reported.reported in
+    record {
+      end = reported.end;
+      store = c.close-store.result;
+      handed_is = refl;
+      same = ap (λ store. store.script) c.close-store.ensures ∙ c.run_core-reported.ensures.script;
+      report = subst (λ store. IsReport (λ left world. StandsFor left.script left.objects world) c.args.script.now store reported.end (string_bytes reported.text))
+          (sym c.close-store.ensures) c.in_ok-reported.ensures.reported;
+      status_is = c.of.ensures;
+    }

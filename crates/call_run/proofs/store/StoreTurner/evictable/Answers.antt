@@ -3,4 +3,4 @@ use Rattle.call_run.proofs.Worlds.{evicts_nothing}
 use Rattle.call_run.proofs.store.StoreTurner.evictable.Goals as goal
 
 pub returns : goal.returns
-returns c = λ world stands. sym (evicts_nothing c.args.self.now.script c.args.self.now.objects world c.args._what stands)
+returns g c = λ world stands. sym (evicts_nothing c.args.self.now.script c.args.self.now.objects world c.args._what stands)

@@ -5,7 +5,7 @@ use Rattle.call_run.specs.Standing.{StandsFor}
 use Rattle.call_run.proofs.store.StoreTurner.ready.Goals as goal
 
 pub returns : goal.returns
-returns c = λ world stands alive.
+returns g c = λ world stands alive.
     let at = subst (λ store. StandsFor store.script store.objects world) (sym c.self.view_is) stands in
     ap not (c.would_block.ensures c.self.inside.script world.plain world.account.frames at.plain (call_of c.self.inside.script world.plain c.args.pid)
     (c.waits_for.ensures world at alive))

@@ -4,7 +4,7 @@ use Rattle.call_run.specs.Standing.{StandsFor}
 use Rattle.call_run.proofs.store.StoreTurner.turn.Goals as goal
 
 pub returns-clause-turned : goal.returns-clause-turned
-returns-clause-turned c = λ world stands.
+returns-clause-turned g c = λ world stands.
     let at = subst (λ store. StandsFor store.script store.objects world) (sym c.self.view_is) stands in
     let turned = c.turn.ensures.turned world at in (
       turned.0,

@@ -1,18 +1,18 @@
 use Rattle.std.proofs.Common.{◌≡◌, ◌∙◌, sym, true}
 use Rattle.posix_defs.specs.Relief.{refused_in}
-use Rattle.call_run.proofs.store.tests.a_refused_call_is_over.Goals as goal
+use Rattle.call_run.proofs.store.tests.refuses.Goals as goal
 
 pub next-call-requires : goal.next-call-requires
 next-call-requires g c =
-    let before = c.in_ok-store.ensures in
+    let before = c.requires in
     let lived : c.alive.result ≡ true = cc in
     let lives : c.alive-2.result ≡ true = cc in
-    let after = refused_in c.in_ok-store.store.script before.0 1 in
+    let after = refused_in c.args.store.now.script before.0 1 in
     let stands = c.refuse.ensures.refused before.0 before.1 (sym (c.alive.ensures before.0 before.1) ∙ lived) in
     (after, stands, sym (c.alive-2.ensures after stands) ∙ lives)
 
 pub take-turned-requires : goal.take-turned-requires
 take-turned-requires g c =
-    let before = c.in_ok-store.ensures in
+    let before = c.requires in
     let lived : c.alive.result ≡ true = cc in
-    (refused_in c.in_ok-store.store.script before.0 1, c.refuse.ensures.refused before.0 before.1 (sym (c.alive.ensures before.0 before.1) ∙ lived))
+    (refused_in c.args.store.now.script before.0 1, c.refuse.ensures.refused before.0 before.1 (sym (c.alive.ensures before.0 before.1) ∙ lived))

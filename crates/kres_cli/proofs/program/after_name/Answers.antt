@@ -2,7 +2,7 @@ use Rattle.std.proofs.Common.{◌≡◌, length, refl, sym, subst, rules}
 use Rattle.std.proofs.lemmas.Iterator.{YieldsList, items_from_collect}
 use Rattle.std.proofs.lemmas.Iterator.Adapters.{YieldsList-from_skip, YieldsList-from_vec}
 use Rattle.std.specs.Vec.Iter.{into_iter_items, into_iter_len, into_iter_steps}
-use Rattle.kres_cli.proofs.after_name.Goals as goal
+use Rattle.kres_cli.proofs.program.after_name.Goals as goal
 
 pub returns : goal.returns
 returns c =

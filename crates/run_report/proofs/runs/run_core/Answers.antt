@@ -1,0 +1,21 @@
+use Rattle.std.proofs.Common.{◌≡◌, ◌∙◌, length, ap, sym, subst, arith}
+use Rattle.kern_tasks.specs.View.{HasEnded}
+use Rattle.run_report.proofs.Telling.{reported}
+use Rattle.run_report.proofs.runs.run_core.Goals as goal
+
+pub report-requires : goal.report-requires
+report-requires g c =
+    let same : c.run_to_end-end.new.core.steps ≡ c.args.script.now.steps = c.run_to_end-end.ensures.steps ∙ c.requires.steps in
+    let few : length c.run.result.now ≡ length c.run_to_end-end.new.core.run = ap length c.run.ensures.same in
+    let within = c.run.ensures.runs.within in
+    let most = c.requires.valid.most_steps in
+    omega arith
+
+pub returns-clause-reported : goal.returns-clause-reported
+returns-clause-reported g c =
+    let core = c.run_to_end-end.new.core in
+    let ended : HasEnded g.T.Turner.stands c.args.script.now core c.run_to_end-end.result =
+    subst (λ s. HasEnded g.T.Turner.stands s core c.run_to_end-end.result) (sym c.requires.script) c.run_to_end-end.ensures.ended in
+    reported g.T.Turner.stands c.args.script.now core c.run_to_end-end.result c.run.result.now c.charged.result c.peak.result c.reads.result _
+    ended (c.run_to_end-end.ensures.steps ∙ c.requires.steps) c.run.ensures.same c.charged.ensures.value
+    (c.peak.ensures ∙ c.run.ensures.runs.peak) (c.reads.ensures ended.state ended.is_at) c.in_ok-text.ensures
