@@ -12,8 +12,5 @@ map_more : (told : List ℕ) (n : ℕ) → map Live told ++ Live n ∷ [] ≡ ma
 map_more [] n = refl
 map_more (x ∷ told) n = ap (λ l. Live x ∷ l) (map_more told n)
 
-pub one_more : (seen : List Item) (told after : List ℕ) (n : ℕ) → heard seen ≡ map Live told → after ≡ told ++ n ∷ [] → heard seen ++ Live n ∷ [] ≡ map Live after
-one_more seen told after n stands is = ap (λ l. l ++ Live n ∷ []) stands ∙ map_more told n ∙ ap (λ l. map Live l) (sym is)
-
 pub one_told : (seen : List Item) (told after : List ℕ) (n : ℕ) → heard seen ≡ map Live told → after ≡ told ++ n ∷ [] → heard (seen ++ Live n ∷ []) ≡ map Live after
-one_told seen told after n stands is = heard_more seen (Live n) ∙ one_more seen told after n stands is
+one_told seen told after n stands is = heard_more seen (Live n) ∙ (ap (λ l. l ++ Live n ∷ []) stands ∙ map_more told n ∙ ap (λ l. map Live l) (sym is))

@@ -1,17 +1,16 @@
 -- The rule before the first step, and what it tells when all seats are joined.
-use Rattle.std.proofs.Common.{◌≡◌, ◌≢◌, ℕ, zero, suc, ◌+◌, ◌%◌, ◌^◌, ◌<◌, ◌≤◌, ◌⊎◌, Bool, true, false, true≢false, cond, List, [], ◌∷◌, length, set, refl, sym, ap, ◌∙◌, subst, inl, inr, ⊎_elim, arith, length-set}
-use Rattle.std.specs.Prelude.{Option, Some, None, IsSome}
-use mathlib.Core.List.{IsPrefix}
+use Rattle.std.proofs.Common.{◌≡◌, ◌≢◌, ℕ, zero, suc, ◌+◌, ◌<◌, ◌≤◌, true, false, true≢false, List, [], ◌∷◌, set, refl, sym, ap, ◌∙◌, subst, ⊎_elim, arith}
+use Rattle.std.specs.Prelude.{Option, Some, IsSome}
 use mathlib.Core.Logic.{dite}
 use mathlib.Core.Option.{some, some-injective, some-ne-none}
 use native.Mathlib.Decide.{ℕ_discrete}
 use lib.ListN.{get_elem?}
-use Rattle.atomic_table.specs.Table.{State, opening, Final, Seen}
+use Rattle.atomic_table.specs.Table.{opening, Final, Seen}
 use Rattle.atomic_table.proofs.Lists.{set_else}
 use Rattle.turn_words.specs.declared.items.Item.{Item}
 use Rattle.turn_words.specs.declared.rule.TurnView.{TurnView}
-use Rattle.turn_words.specs.Items.{heard, Has}
-use Rattle.turn_words.specs.Rule.{AreIn, Cells, total, in_use, Each, Apart, Fits, IsHome, IsTurns, IsKept, Told, opened, spent}
+use Rattle.turn_words.specs.Items.{heard}
+use Rattle.turn_words.specs.Rule.{AreIn, Cells, total, in_use, Fits, IsHome, IsTurns, IsKept, Told, opened, spent}
 use Rattle.turn_words.proofs.Counts.{total_at_least, total_set}
 use Rattle.turn_words.proofs.Held.{contrary, decide, not_true}
 use Rattle.turn_words.proofs.Views.{live_counts, not_out}
@@ -27,11 +26,11 @@ module _ {T : Type 0} where
   only_live views id by v u one at live other there = ⊎_elim
       (λ (is : u.is_spent ≡ true). is)
       (λ (not : u.is_spent ≡ false).
-          let without = total_set in_use views id v spent at in
-          let mine = live_counts v live in
-          let theirs = live_counts u not in
-          let part = total_at_least in_use (set views id spent) by u (set_else views id by spent other ∙ there) in
-          absurd (omega arith))
+      let without = total_set in_use views id v spent at in
+      let mine = live_counts v live in
+      let theirs = live_counts u not in
+      let part = total_at_least in_use (set views id spent) by u (set_else views id by spent other ∙ there) in
+      absurd (omega arith))
       (decide u.is_spent)
 
 module _ {T : Type 0} (stands : T → List Item → Type 0) where
@@ -81,12 +80,12 @@ module _ {T : Type 0} (stands : T → List Item → Type 0) where
       let same : (by : ℕ) (u : TurnView T) → by ≡ id → get_elem? s.views by ≡ some u → v ≡ u =
       λ by u is e. some-injective v u (sym at ∙ subst (λ (j : ℕ). get_elem? s.views j ≡ some u) is e) in
       let home = r.home (λ by u e. dite (ℕ_discrete by id)
-          (λ (is : by ≡ id). subst (λ z. (z.is_out ≡ false) × (z.has_put ≡ false)) (same by u is e) (idle v (r.each id v at) free))
-          (λ (other : by ≢ id). let f = r.each by u e in idle u f (f.spent (only_live s.views id by v u one at live other e)))) in
+      (λ (is : by ≡ id). subst (λ z. (z.is_out ≡ false) × (z.has_put ≡ false)) (same by u is e) (idle v (r.each id v at) free))
+      (λ (other : by ≢ id). let f = r.each by u e in idle u f (f.spent (only_live s.views id by v u one at live other e)))) in
       let knower : ℕ = r.knower.0 in
       let seen : v.seen ≡ history = dite (ℕ_discrete knower id)
-          (λ (is : knower ≡ id). ap (λ z. z.seen) (same knower r.knower.1 is r.knower.2) ∙ r.knower.4)
-          (λ (other : knower ≢ id). contrary r.knower.1.is_spent (only_live s.views id knower v r.knower.1 one at live other r.knower.2) r.knower.3) in
+      (λ (is : knower ≡ id). ap (λ z. z.seen) (same knower r.knower.1 is r.knower.2) ∙ r.knower.4)
+      (λ (other : knower ≢ id). contrary r.knower.1.is_spent (only_live s.views id knower v r.knower.1 one at live other r.knower.2) r.knower.3) in
       (home.0, home.1, subst (λ l. stands home.0 (heard l)) (sym seen) home.2)
 
   -- the slot has a value, which stands for all that the one seat left has seen

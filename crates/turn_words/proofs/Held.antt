@@ -1,13 +1,12 @@
 -- What is given out after a history, and what a seat holds.
-use Rattle.std.proofs.Common.{◌≡◌, ◌≢◌, ℕ, zero, suc, ◌+◌, ◌<◌, ◌≤◌, ◌⊎◌, Bool, true, false, true≢false, cond, eqb, List, [], ◌∷◌, ◌++◌, length, refl, ap, sym, ◌∙◌, subst, inl, inr, ⊎_elim, arith, append_assoc, eq-eqb}
+use Rattle.std.proofs.Common.{◌≡◌, ℕ, zero, suc, ◌+◌, ◌<◌, ◌≤◌, ◌⊎◌, Bool, true, false, true≢false, cond, eqb, List, [], ◌∷◌, ◌++◌, refl, ap, sym, ◌∙◌, subst, inl, inr, ⊎_elim, arith, eq-eqb}
 use Rattle.std.proofs.lemmas.Bool.{eqb-true}
-use mathlib.Core.List.{IsPrefix}
 use mathlib.Core.Option.{some, some-injective, some-ne-none}
 use lib.ListN.{get_elem?}
 use Rattle.turn_words.specs.declared.items.Item.{Item}
 use Rattle.turn_words.specs.declared.items.Item.TheVariants.{Noted, Cleared, Given, Back, Starved, Live, Quiet}
-use Rattle.turn_words.specs.Items.{is_of, gives, given_after, is_given, said, heard, Placed, Has, Rises, items_of, holds}
-use Rattle.turn_words.specs.Rule.{IsLast, AreIn, AreGiven}
+use Rattle.turn_words.specs.Items.{is_of, gives, given_after, is_given, heard, Placed, Has, Rises, items_of, holds}
+use Rattle.turn_words.specs.Rule.{IsLast}
 
 -- each of two truth values
 pub decide : (b : Bool) → (b ≡ true) ⊎ (b ≡ false)
@@ -102,23 +101,34 @@ holds_at pid before low (p ∷ mine) up given =
     let now : Bool = cond (is_of pid p.1) (gives pid p.1) before in
     ⊎_elim
     (λ (h : (now ≡ true) × ((place : ℕ) (x : Item) → Has mine place x → is_of pid x ≡ false)). ⊎_elim
-        (λ (of : is_of pid p.1 ≡ true).
-            let gave : gives pid p.1 ≡ true = sym (ap (λ (b : Bool). cond b (gives pid p.1) before) of) ∙ h.0 in
-            inr (p.0, inl (refl, only_given pid p.1 gave), λ later x has lt. ⊎_elim
-                (λ (is : (p.0 ≡ later) × (p.1 ≡ x)). let same = is.0 in absurd (omega arith))
-                (λ (rest : Has mine later x). h.1 later x rest)
-                has))
-        (λ (not : is_of pid p.1 ≡ false).
-            inl (sym (ap (λ (b : Bool). cond b (gives pid p.1) before) not) ∙ h.0, λ place x has. ⊎_elim
-                (λ (is : (p.0 ≡ place) × (p.1 ≡ x)). subst (λ y. is_of pid y ≡ false) is.1 not)
-                (λ (rest : Has mine place x). h.1 place x rest)
-                has))
-        (decide (is_of pid p.1)))
+    (λ (of : is_of pid p.1 ≡ true).
+    let gave : gives pid p.1 ≡ true = sym (ap (λ (b : Bool). cond b (gives pid p.1) before) of) ∙ h.0 in
+    inr (
+      p.0,
+      inl (refl, only_given pid p.1 gave),
+      λ later x has lt. ⊎_elim
+          (λ (is : (p.0 ≡ later) × (p.1 ≡ x)). let same = is.0 in absurd (omega arith))
+          (λ (rest : Has mine later x). h.1 later x rest)
+          has,
+    ))
+    (λ (not : is_of pid p.1 ≡ false).
+    inl (
+      sym (ap (λ (b : Bool). cond b (gives pid p.1) before) not) ∙ h.0,
+      λ place x has. ⊎_elim
+          (λ (is : (p.0 ≡ place) × (p.1 ≡ x)). subst (λ y. is_of pid y ≡ false) is.1 not)
+          (λ (rest : Has mine place x). h.1 place x rest)
+          has,
+    ))
+    (decide (is_of pid p.1)))
     (λ (h : (place : ℕ) × Has mine place (Given pid) × ((later : ℕ) (x : Item) → Has mine later x → place < later → is_of pid x ≡ false)).
-        inr (h.0, inr h.1, λ later x has lt. ⊎_elim
-            (λ (is : (p.0 ≡ later) × (p.1 ≡ x)). let same = is.0 in let above = risen (p.0 + 1) mine h.0 (Given pid) up.1 h.1 in absurd (omega arith))
-            (λ (rest : Has mine later x). h.2 later x rest lt)
-            has))
+    inr (
+      h.0,
+      inr h.1,
+      λ later x has lt. ⊎_elim
+          (λ (is : (p.0 ≡ later) × (p.1 ≡ x)). let same = is.0 in let above = risen (p.0 + 1) mine h.0 (Given pid) up.1 h.1 in absurd (omega arith))
+          (λ (rest : Has mine later x). h.2 later x rest lt)
+          has,
+    ))
     (holds_at pid now (p.0 + 1) mine up.1 given)
 
 -- a seat that holds a process has its Given, and no later item of it
@@ -141,14 +151,14 @@ pub held_by : (pid : ℕ) (before : Bool) (low : ℕ) (mine : List Placed) (plac
 held_by pid before low [] place up has none_later = absurd has
 held_by pid before low (p ∷ mine) place up has none_later = ⊎_elim
     (λ (is : (p.0 ≡ place) × (p.1 ≡ Given pid)).
-        let same = is.0 in
-        let of : is_of pid p.1 ≡ true = subst (λ x. is_of pid x ≡ true) (sym is.1) (given_is_of pid) in
-        let given : gives pid p.1 ≡ true = subst (λ x. gives pid x ≡ true) (sym is.1) (given_gives pid) in
-        ap (λ (b : Bool). given_after pid (cond b (gives pid p.1) before) (items_of mine)) of
-        ∙ none_changes pid (gives pid p.1) mine (λ later x rest. none_later later x (inr rest) (let above = risen (p.0 + 1) mine later x up.1 rest in omega arith))
-        ∙ given)
+    let same = is.0 in
+    let of : is_of pid p.1 ≡ true = subst (λ x. is_of pid x ≡ true) (sym is.1) (given_is_of pid) in
+    let given : gives pid p.1 ≡ true = subst (λ x. gives pid x ≡ true) (sym is.1) (given_gives pid) in
+    ap (λ (b : Bool). given_after pid (cond b (gives pid p.1) before) (items_of mine)) of
+    ∙ none_changes pid (gives pid p.1) mine (λ later x rest. none_later later x (inr rest) (let above = risen (p.0 + 1) mine later x up.1 rest in omega arith))
+    ∙ given)
     (λ (rest : Has mine place (Given pid)).
-        held_by pid (cond (is_of pid p.1) (gives pid p.1) before) (p.0 + 1) mine place up.1 rest (λ later x has_later lt. none_later later x (inr has_later) lt))
+    held_by pid (cond (is_of pid p.1) (gives pid p.1) before) (p.0 + 1) mine place up.1 rest (λ later x has_later lt. none_later later x (inr has_later) lt))
     has
 
 items_more : (mine : List Placed) (p : Placed) → items_of (mine ++ p ∷ []) ≡ items_of mine ++ p.1 ∷ []
@@ -175,9 +185,9 @@ has_end [] p place x has = ⊎_elim (λ (is : (p.0 ≡ place) × (p.1 ≡ x)). i
 has_end (q ∷ mine) p place x has = ⊎_elim
     (λ (is : (q.0 ≡ place) × (q.1 ≡ x)). inl (inl is))
     (λ (rest : Has (mine ++ p ∷ []) place x). ⊎_elim
-        (λ (old : Has mine place x). inl (inr old))
-        (λ (is : (p.0 ≡ place) × (p.1 ≡ x)). inr is)
-        (has_end mine p place x rest))
+    (λ (old : Has mine place x). inl (inr old))
+    (λ (is : (p.0 ≡ place) × (p.1 ≡ x)). inr is)
+    (has_end mine p place x rest))
     has
 
 -- places rise on where a later one comes behind them

@@ -1,7 +1,6 @@
 -- Splits and joins keep the turn rule.
-use Rattle.std.proofs.Common.{◌≡◌, ◌≢◌, ℕ, zero, suc, ◌+◌, ◌-◌, ◌%◌, ◌^◌, ◌<◌, ◌≤◌, ◌⊎◌, Bool, true, false, true≢false, cond, List, [], ◌∷◌, ◌++◌, length, set, refl, sym, ap, ◌∙◌, subst, inl, inr, ⊎_elim, arith, length-set}
-use Rattle.std.specs.Prelude.{Option, Some}
-use mathlib.Core.List.{IsPrefix}
+use Rattle.std.proofs.Common.{◌≡◌, ◌≢◌, ℕ, ◌+◌, ◌%◌, ◌^◌, ◌<◌, ◌≤◌, Bool, true, false, true≢false, cond, List, [], ◌∷◌, ◌++◌, length, set, refl, sym, ap, ◌∙◌, subst, ⊎_elim, arith}
+use Rattle.std.specs.Prelude.{Some}
 use mathlib.Core.Logic.{dite}
 use mathlib.Core.Option.{some, some-injective}
 use native.Mathlib.Decide.{ℕ_discrete}
@@ -11,8 +10,8 @@ use Rattle.atomic_table.proofs.Lists.{at_longer, at_set, set_else, set_here}
 use Rattle.turn_words.specs.declared.items.Item.{Item}
 use Rattle.turn_words.specs.declared.items.Item.TheVariants.{Given}
 use Rattle.turn_words.specs.declared.rule.TurnView.{TurnView}
-use Rattle.turn_words.specs.Items.{is_of, is_given, heard, Placed, Has, holds, merged}
-use Rattle.turn_words.specs.Rule.{AreIn, IsLast, Cells, total, in_use, as_boot, waiting, Each, Apart, Fits, IsHome, IsTurns, IsKept, IsPutBack, longer, shorter, with_one_more, newcomer, taken_in, spent}
+use Rattle.turn_words.specs.Items.{Has, holds, merged}
+use Rattle.turn_words.specs.Rule.{IsLast, Cells, total, in_use, as_boot, waiting, Each, Apart, Fits, IsHome, IsTurns, IsKept, longer, with_one_more, newcomer, taken_in, spent}
 use Rattle.turn_words.proofs.Lists.{at_below, at_end, longer_begins, longer_whole_left, longer_whole_right, prefix_get}
 use Rattle.turn_words.proofs.Counts.{total_at_least, total_set, total_snoc}
 use Rattle.turn_words.proofs.Held.{contrary, held_at, held_by, not_true}
@@ -33,13 +32,13 @@ module _ {T : Type 0} where
       → (by other : ℕ) (v u : TurnView T) → by ≢ other → get_elem? (views ++ w ∷ []) by ≡ some v → get_elem? (views ++ w ∷ []) other ≡ some u → Apart v u
   apart_more views w all new by other v u ne e f = ⊎_elim
       (λ (x : get_elem? views by ≡ some v). ⊎_elim
-          (λ (y : get_elem? views other ≡ some u). all by other v u ne x y)
-          (λ (y : (other ≡ length views) × (w ≡ u)). subst (λ z. Apart v z) y.1 (apart_back w v (new v)))
-          (at_end views w u other f))
+      (λ (y : get_elem? views other ≡ some u). all by other v u ne x y)
+      (λ (y : (other ≡ length views) × (w ≡ u)). subst (λ z. Apart v z) y.1 (apart_back w v (new v)))
+      (at_end views w u other f))
       (λ (x : (by ≡ length views) × (w ≡ v)). ⊎_elim
-          (λ (y : get_elem? views other ≡ some u). subst (λ z. Apart z u) x.1 (new u))
-          (λ (y : (other ≡ length views) × (w ≡ u)). absurd (ne (x.0 ∙ sym y.0)))
-          (at_end views w u other f))
+      (λ (y : get_elem? views other ≡ some u). subst (λ z. Apart z u) x.1 (new u))
+      (λ (y : (other ≡ length views) × (w ≡ u)). absurd (ne (x.0 ∙ sym y.0)))
+      (at_end views w u other f))
       (at_end views w v by e)
 
   -- a view with no ticket and no item of its own has nothing in common with any
@@ -103,34 +102,34 @@ module _ {T : Type 0} (stands : T → List Item → Type 0) where
           boot = each_more (λ u. u.is_boot ≡ true → (u.is_spent ≡ false) × (u.others + 1 ≡ total in_use all)) views right
               (λ is. absurd (true≢false (sym is)))
               (each_set (λ u. u.is_boot ≡ true → (u.is_spent ≡ false) × (u.others + 1 ≡ total in_use all)) s.views id left
-                  (λ _. (live, omega arith))
-                  (λ by u other there is. contrary u.is_boot is (only_boot s.views id by v u r.one_boot at boot other there)));
+              (λ _. (live, omega arith))
+              (λ by u other there is. contrary u.is_boot is (only_boot s.views id by v u r.one_boot at boot other there)));
           tickets = subst (λ (n : ℕ). Each all (λ u. u.has_ticket ≡ true → (length history ≤ u.ticket) × (u.ticket < length history + n))) (sym waits)
               (each_more (λ u. u.has_ticket ≡ true → (length history ≤ u.ticket) × (u.ticket < length history + total waiting s.views)) views right
-                  (λ is. absurd (true≢false (sym is)))
-                  (each_set (λ u. u.has_ticket ≡ true → (length history ≤ u.ticket) × (u.ticket < length history + total waiting s.views)) s.views id left
-                      (r.tickets id v at)
-                      (λ by u _ there. r.tickets by u there)));
+              (λ is. absurd (true≢false (sym is)))
+              (each_set (λ u. u.has_ticket ≡ true → (length history ≤ u.ticket) × (u.ticket < length history + total waiting s.views)) s.views id left
+              (r.tickets id v at)
+              (λ by u _ there. r.tickets by u there)));
           each = each_more (Fits stands history) views right (newcomer_fits history v f)
               (each_set (Fits stands history) s.views id left (counting_fits history v f) (λ by u _ there. r.each by u there));
           apart = apart_more views right
               (apart_set s.views id left r.apart (λ by u other there. let a = r.apart id by v u (λ e. other (sym e)) at there in record { tickets = a.tickets; places = a.places }))
               (λ u. apart_blank right u refl refl);
           knower = (
-            let by : ℕ = r.knower.0 in
-            dite (ℕ_discrete by id)
-            (λ (is : by ≡ id).
-                let same : v ≡ r.knower.1 = some-injective v r.knower.1 (sym at ∙ subst (λ (j : ℕ). get_elem? s.views j ≡ some r.knower.1) is r.knower.2) in
-                (id, left, at_longer views (right ∷ []) id left (set_here s.views id left (at_below s.views id v at)), live, ap (λ z. z.seen) same ∙ r.knower.4))
-            (λ (other : by ≢ id). (by, r.knower.1, at_longer views (right ∷ []) by r.knower.1 (set_else s.views id by left other ∙ r.knower.2), r.knower.3, r.knower.4))
-          );
+              let by : ℕ = r.knower.0 in
+              dite (ℕ_discrete by id)
+              (λ (is : by ≡ id).
+              let same : v ≡ r.knower.1 = some-injective v r.knower.1 (sym at ∙ subst (λ (j : ℕ). get_elem? s.views j ≡ some r.knower.1) is r.knower.2) in
+              (id, left, at_longer views (right ∷ []) id left (set_here s.views id left (at_below s.views id v at)), live, ap (λ z. z.seen) same ∙ r.knower.4))
+              (λ (other : by ≢ id). (by, r.knower.1, at_longer views (right ∷ []) by r.knower.1 (set_else s.views id by left other ∙ r.knower.2), r.knower.3, r.knower.4))
+              );
           home = λ none_out. r.home (each_was (λ u. (u.is_out ≡ false) × (u.has_put ≡ false)) s.views id v left at (λ h. h)
               (λ by u there. none_out by u (at_longer views (right ∷ []) by u there)));
           back = each_more (λ u. u.has_put ≡ true → u.is_out ≡ false → (value : T) × (u.value ≡ Some value) × IsHome stands s value) views right
               (λ is. absurd (true≢false (sym is)))
               (each_set (λ u. u.has_put ≡ true → u.is_out ≡ false → (value : T) × (u.value ≡ Some value) × IsHome stands s value) s.views id left
-                  (r.back id v at)
-                  (λ by u _ there. r.back by u there));
+              (r.back id v at)
+              (λ by u _ there. r.back by u there));
         },
       )
 
@@ -143,11 +142,11 @@ module _ {T : Type 0} (stands : T → List Item → Type 0) where
       let last = held_at pid 0 both rises held in
       ⊎_elim
       (λ (ours : Has v.mine last.0 (Given pid)).
-          let known = f.held pid (held_by pid false 0 v.mine last.0 f.mine.0 ours (λ later x has lt. last.2 later x (merged_left v.mine u.mine later x has) lt)) in
-          (known.0, merged_left v.mine u.mine known.0 (Given pid) known.1, known.2))
+      let known = f.held pid (held_by pid false 0 v.mine last.0 f.mine.0 ours (λ later x has lt. last.2 later x (merged_left v.mine u.mine later x has) lt)) in
+      (known.0, merged_left v.mine u.mine known.0 (Given pid) known.1, known.2))
       (λ (theirs : Has u.mine last.0 (Given pid)).
-          let known = g.held pid (held_by pid false 0 u.mine last.0 g.mine.0 theirs (λ later x has lt. last.2 later x (merged_right v.mine u.mine later x has) lt)) in
-          (known.0, merged_right v.mine u.mine known.0 (Given pid) known.1, known.2))
+      let known = g.held pid (held_by pid false 0 u.mine last.0 g.mine.0 theirs (λ later x has lt. last.2 later x (merged_right v.mine u.mine later x has) lt)) in
+      (known.0, merged_right v.mine u.mine known.0 (Given pid) known.1, known.2))
       (merged_has v.mine u.mine last.0 (Given pid) last.1)
 
   joined_fits : (history : List Item) (v u : TurnView T) → Fits stands history v → Fits stands history u → Apart v u → v.is_spent ≡ false → Fits stands history (taken_in v u)
@@ -186,9 +185,9 @@ module _ {T : Type 0} (stands : T → List Item → Type 0) where
   each_joined P views id other both here gone there by w e = ⊎_elim
       (λ (x : (by ≡ other) × (spent ≡ w)). subst P x.1 gone)
       (λ (x : (by ≢ other) × (get_elem? (set views id both) by ≡ some w)). ⊎_elim
-          (λ (y : (by ≡ id) × (both ≡ w)). subst P y.1 here)
-          (λ (y : (by ≢ id) × (get_elem? views by ≡ some w)). there by w y.0 x.0 y.1)
-          (at_set views id by both w x.1))
+      (λ (y : (by ≡ id) × (both ≡ w)). subst P y.1 here)
+      (λ (y : (by ≢ id) × (get_elem? views by ≡ some w)). there by w y.0 x.0 y.1)
+      (at_set views id by both w x.1))
       (at_set (set views id both) other by spent w e)
 
   -- two views that the join has left or changed have nothing in common
@@ -203,18 +202,18 @@ module _ {T : Type 0} (stands : T → List Item → Type 0) where
       ⊎_elim
       (λ (is : (by ≡ other) × (spent ≡ x)). subst (λ z. Apart z y) is.1 (apart_blank spent y refl refl))
       (λ (a : (by ≢ other) × (get_elem? (set views id both) by ≡ some x)). ⊎_elim
-          (λ (is : (one ≡ other) × (spent ≡ y)). subst (λ z. Apart x z) is.1 (apart_back spent x (apart_blank spent x refl refl)))
-          (λ (b : (one ≢ other) × (get_elem? (set views id both) one ≡ some y)). ⊎_elim
-              (λ (c : (by ≡ id) × (both ≡ x)). ⊎_elim
-                  (λ (d : (one ≡ id) × (both ≡ y)). absurd (ne (c.0 ∙ sym d.0)))
-                  (λ (d : (one ≢ id) × (get_elem? views one ≡ some y)). subst (λ z. Apart z y) c.1 (old one y d.0 b.0 d.1))
-                  (at_set views id one both y b.1))
-              (λ (c : (by ≢ id) × (get_elem? views by ≡ some x)). ⊎_elim
-                  (λ (d : (one ≡ id) × (both ≡ y)). subst (λ z. Apart x z) d.1 (apart_back both x (old by x c.0 a.0 c.1)))
-                  (λ (d : (one ≢ id) × (get_elem? views one ≡ some y)). all by one x y ne c.1 d.1)
-                  (at_set views id one both y b.1))
-              (at_set views id by both x a.1))
-          (at_set (set views id both) other one spent y h))
+      (λ (is : (one ≡ other) × (spent ≡ y)). subst (λ z. Apart x z) is.1 (apart_back spent x (apart_blank spent x refl refl)))
+      (λ (b : (one ≢ other) × (get_elem? (set views id both) one ≡ some y)). ⊎_elim
+      (λ (c : (by ≡ id) × (both ≡ x)). ⊎_elim
+      (λ (d : (one ≡ id) × (both ≡ y)). absurd (ne (c.0 ∙ sym d.0)))
+      (λ (d : (one ≢ id) × (get_elem? views one ≡ some y)). subst (λ z. Apart z y) c.1 (old one y d.0 b.0 d.1))
+      (at_set views id one both y b.1))
+      (λ (c : (by ≢ id) × (get_elem? views by ≡ some x)). ⊎_elim
+      (λ (d : (one ≡ id) × (both ≡ y)). subst (λ z. Apart x z) d.1 (apart_back both x (old by x c.0 a.0 c.1)))
+      (λ (d : (one ≢ id) × (get_elem? views one ≡ some y)). all by one x y ne c.1 d.1)
+      (at_set views id one both y b.1))
+      (at_set views id by both x a.1))
+      (at_set (set views id both) other one spent y h))
       (at_set (set views id both) other by spent x e)
 
   joined_knower : (history : List Item) (s : Cells T) (id other : ℕ) (v u : TurnView T) → IsTurns stands history s → get_elem? s.views id ≡ some v → get_elem? s.views other ≡ some u
@@ -225,19 +224,19 @@ module _ {T : Type 0} (stands : T → List Item → Type 0) where
       let f = r.each id v at in
       let g = r.each other u was in
       let stays : get_elem? (set (set s.views id both) other spent) id ≡ some both =
-          set_else (set s.views id both) other id spent (λ e. apart (sym e)) ∙ set_here s.views id both (at_below s.views id v at) in
+      set_else (set s.views id both) other id spent (λ e. apart (sym e)) ∙ set_here s.views id both (at_below s.views id v at) in
       let by : ℕ = r.knower.0 in
       let w = r.knower.1 in
       let there = r.knower.2 in
       dite (ℕ_discrete by id)
       (λ (is : by ≡ id).
-          let same : v ≡ w = some-injective v w (sym at ∙ subst (λ (j : ℕ). get_elem? s.views j ≡ some w) is there) in
-          (id, both, stays, live, longer_whole_left v.seen u.seen history (ap (λ z. z.seen) same ∙ r.knower.4) g.seen))
+      let same : v ≡ w = some-injective v w (sym at ∙ subst (λ (j : ℕ). get_elem? s.views j ≡ some w) is there) in
+      (id, both, stays, live, longer_whole_left v.seen u.seen history (ap (λ z. z.seen) same ∙ r.knower.4) g.seen))
       (λ (ne : by ≢ id). dite (ℕ_discrete by other)
-          (λ (is : by ≡ other).
-              let same : u ≡ w = some-injective u w (sym was ∙ subst (λ (j : ℕ). get_elem? s.views j ≡ some w) is there) in
-              (id, both, stays, live, longer_whole_right v.seen u.seen history f.seen (ap (λ z. z.seen) same ∙ r.knower.4)))
-          (λ (ne' : by ≢ other). (by, w, set_else (set s.views id both) other by spent ne' ∙ (set_else s.views id by both ne ∙ there), r.knower.3, r.knower.4)))
+      (λ (is : by ≡ other).
+      let same : u ≡ w = some-injective u w (sym was ∙ subst (λ (j : ℕ). get_elem? s.views j ≡ some w) is there) in
+      (id, both, stays, live, longer_whole_right v.seen u.seen history f.seen (ap (λ z. z.seen) same ∙ r.knower.4)))
+      (λ (ne' : by ≢ other). (by, w, set_else (set s.views id both) other by spent ne' ∙ (set_else s.views id by both ne ∙ there), r.knower.3, r.knower.4)))
 
   pub joins : (id : ℕ) (v : TurnView T) (other : ℕ) (u : TurnView T) → v.is_spent ≡ false → v.is_boot ≡ true → u.is_spent ≡ false → u.has_ticket ≡ false
       → Joins (IsKept stands) id v other u (taken_in v u) spent
@@ -280,21 +279,21 @@ module _ {T : Type 0} (stands : T → List Item → Type 0) where
               (λ by w ne _ at_w is. contrary w.is_boot is (others by w ne at_w));
           tickets = subst (λ (n : ℕ). Each final (λ w. w.has_ticket ≡ true → (length history ≤ w.ticket) × (w.ticket < length history + n))) (sym waits)
               (each_joined (λ w. w.has_ticket ≡ true → (length history ≤ w.ticket) × (w.ticket < length history + total waiting s.views)) s.views id other both
-                  (r.tickets id v at)
-                  (λ is. absurd (true≢false (sym is)))
-                  (λ by w _ _ at_w. r.tickets by w at_w));
+              (r.tickets id v at)
+              (λ is. absurd (true≢false (sym is)))
+              (λ by w _ _ at_w. r.tickets by w at_w));
           each = each_joined (Fits stands history) s.views id other both (joined_fits history v u f g two live) (spent_fits history) (λ by w _ _ at_w. r.each by w at_w);
           apart = apart_joined s.views id other v u r.apart at was;
           knower = joined_knower history s id other v u r at was apart live;
           home = λ none_out. r.home (λ by w at_w. dite (ℕ_discrete by id)
               (λ (is : by ≡ id).
-                  let same : v ≡ w = some-injective v w (sym at ∙ subst (λ (j : ℕ). get_elem? s.views j ≡ some w) is at_w) in
-                  subst (λ z. (z.is_out ≡ false) × (z.has_put ≡ false)) same (none_out id both stays))
+              let same : v ≡ w = some-injective v w (sym at ∙ subst (λ (j : ℕ). get_elem? s.views j ≡ some w) is at_w) in
+              subst (λ z. (z.is_out ≡ false) × (z.has_put ≡ false)) same (none_out id both stays))
               (λ (ne : by ≢ id). dite (ℕ_discrete by other)
-                  (λ (is : by ≡ other).
-                      let same : u ≡ w = some-injective u w (sym was ∙ subst (λ (j : ℕ). get_elem? s.views j ≡ some w) is at_w) in
-                      subst (λ z. (z.is_out ≡ false) × (z.has_put ≡ false)) same idle)
-                  (λ (ne' : by ≢ other). none_out by w (set_else views other by spent ne' ∙ (set_else s.views id by both ne ∙ at_w)))));
+              (λ (is : by ≡ other).
+              let same : u ≡ w = some-injective u w (sym was ∙ subst (λ (j : ℕ). get_elem? s.views j ≡ some w) is at_w) in
+              subst (λ z. (z.is_out ≡ false) × (z.has_put ≡ false)) same idle)
+              (λ (ne' : by ≢ other). none_out by w (set_else views other by spent ne' ∙ (set_else s.views id by both ne ∙ at_w)))));
           back = each_joined (λ w. w.has_put ≡ true → w.is_out ≡ false → (value : T) × (w.value ≡ Some value) × IsHome stands s value) s.views id other both
               (r.back id v at)
               (λ is. absurd (true≢false (sym is)))

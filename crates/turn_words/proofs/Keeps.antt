@@ -1,23 +1,20 @@
 -- Each kind of step on a word keeps the turn rule.
-use Rattle.std.proofs.Common.{◌≡◌, ◌≢◌, ℕ, zero, suc, ◌+◌, ◌-◌, ◌%◌, ◌^◌, ◌<◌, ◌≤◌, ◌⊎◌, Bool, true, false, true≢false, cond, eqb, List, [], ◌∷◌, ◌++◌, length, set, get_or, refl, sym, ap, ◌∙◌, subst, inl, inr, ⊎_elim, arith, length-set, length-append, get_or-set_other, get_or-set_same, eq-eqb}
+use Rattle.std.proofs.Common.{◌≡◌, ◌≢◌, ℕ, ◌+◌, ◌%◌, ◌^◌, ◌<◌, ◌≤◌, Bool, true, false, true≢false, cond, List, length, set, refl, sym, ap, ◌∙◌, subst, arith, get_or-set_other, get_or-set_same, eq-eqb}
 use Rattle.std.proofs.lemmas.Bool.{eqb-true}
-use Rattle.std.specs.Prelude.{slice_index, Option, Some, None}
+use Rattle.std.specs.Prelude.{slice_index, Option, Some}
 use mathlib.Core.List.{IsPrefix}
 use mathlib.Core.Logic.{dite}
-use mathlib.Core.Option.{none, some, some-injective}
+use mathlib.Core.Option.{none, some}
 use native.Mathlib.Decide.{ℕ_discrete}
 use lib.ListN.{get_elem?}
-use Rattle.atomic_table.specs.Table.{Act, step, keeps, takes, gives, stepped, Allows}
-use Rattle.atomic_table.proofs.Lists.{at_set, set_again, set_else, set_here}
+use Rattle.atomic_table.specs.Table.{step, keeps, stepped, Allows}
 use Rattle.turn_words.specs.declared.items.Item.{Item}
-use Rattle.turn_words.specs.declared.items.Item.TheVariants.{Given}
 use Rattle.turn_words.specs.declared.rule.TurnView.{TurnView}
-use Rattle.turn_words.specs.Items.{is_of, gives as gives_pid, is_given, heard, Has, Rises, holds}
-use Rattle.turn_words.specs.Rule.{AreIn, AreGiven, MayReturn, MayGive, IsLast, Cells, Mine, total, in_use, waiting, Each, Apart, Fits, IsHome, IsTurns, IsKept, IsPutBack, MayPut, Told, drawing, looking, taking, noting, laying, passing, Draws, Looks, TakesOut, Notes, PutsIn, PassesOn, Compares, WasServing}
-use Rattle.turn_words.proofs.Lists.{at_below, at_end, prefix_get, prefix_length, prefix_more, prefix_self}
-use Rattle.turn_words.proofs.Counts.{total_at_least}
-use Rattle.turn_words.proofs.Held.{contrary, decide, given_heard, given_is_of, given_more, given_where_last, gives_is_of, has_end, has_last, has_more, holds_more, not_true, only_given, rises_more}
-use Rattle.turn_words.proofs.Views.{alone, changed, each_set, each_was, few_wait, not_out, still_knows, waiting_is, waiting_not}
+use Rattle.turn_words.specs.Items.{heard, Has, holds}
+use Rattle.turn_words.specs.Rule.{AreIn, IsLast, Cells, Mine, total, waiting, Apart, Fits, IsHome, IsTurns, IsKept, IsPutBack, drawing, looking, Draws, Looks, Compares}
+use Rattle.turn_words.proofs.Lists.{prefix_length}
+use Rattle.turn_words.proofs.Held.{contrary, not_true}
+use Rattle.turn_words.proofs.Views.{changed, each_set, each_was, few_wait, not_out, still_knows, waiting_not}
 
 module _ {T : Type 0} (stands : T → List Item → Type 0) where
   -- a word that is written as it was
@@ -62,8 +59,8 @@ module _ {T : Type 0} (stands : T → List Item → Type 0) where
       (still_knows stands history s id v w r at live' (λ e. seen ∙ e))
       (λ all. r.home (each_was (λ u. (u.is_out ≡ false) × (u.has_put ≡ false)) s.views id v w at (λ h. (sym out ∙ h.0, sym put ∙ h.1)) all))
       (each_set (λ u. u.has_put ≡ true → u.is_out ≡ false → (x : T) × (u.value ≡ Some x) × IsHome stands s x) s.views id w
-          (λ is not. let known = r.back id v at (sym put ∙ is) (sym out ∙ not) in (known.0, value ∙ known.1, known.2))
-          (λ by u _ there. r.back by u there))
+      (λ is not. let known = r.back id v at (sym put ∙ is) (sym out ∙ not) in (known.0, value ∙ known.1, known.2))
+      (λ by u _ there. r.back by u there))
 
   -- a ticket is drawn: its number is that of the tickets and items so far
   pub draws : (slots id : ℕ) (me : Mine T) → me.0.is_spent ≡ false → me.0.has_ticket ≡ false → Allows (IsKept stands) slots id me 1 (λ n. (n + 1) % 2 ^ 64) (Draws (step slots 1 1 0 none) me)
@@ -81,20 +78,26 @@ module _ {T : Type 0} (stands : T → List Item → Type 0) where
       let free_counts = waiting_not v free in
       let seen = prefix_length v.seen history f.seen in
       let no_turn : v.has_turn ≡ false = not_true v.has_turn (λ e. contrary v.has_ticket (f.turn e).0 free) in
-      let idle = not_out stands history v f no_turn in
-      (w, keeps, tt,
-        (history, quietly history s id 1 next (n + 1) me.1 v w r at live live refl refl refl (sym idle.0) (sym idle.1) refl
-            (get_or-set_other s.words 1 0 next 0 (λ e. omega arith) ∙ r.serving)
-            (get_or-set_same s.words 1 next 0 (omega arith) ∙ omega arith)
-            (omega arith)
-            (same_but_turn history v w f live refl refl refl (sym idle.0) (sym idle.1) refl refl (λ e. absurd (true≢false (sym e))) (λ e. contrary v.has_turn e no_turn))
-            (λ _. (omega arith, omega arith))
-            (omega arith)
-            (λ by u other there. let a = r.apart id by v u (λ e. other (sym e)) at there in record {
-              tickets = λ _ has e. let known = r.tickets by u there has in let below = known.1 in let same : n ≡ u.ticket = e in omega arith;
-              places = a.places;
-            })),
-        (n, refl, found, omega arith))
+      let idle = not_out stands history v f no_turn in (
+        w,
+        keeps,
+        tt,
+        (
+          history,
+          quietly history s id 1 next (n + 1) me.1 v w r at live live refl refl refl (sym idle.0) (sym idle.1) refl
+              (get_or-set_other s.words 1 0 next 0 (λ e. omega arith) ∙ r.serving)
+              (get_or-set_same s.words 1 next 0 (omega arith) ∙ omega arith)
+              (omega arith)
+              (same_but_turn history v w f live refl refl refl (sym idle.0) (sym idle.1) refl refl (λ e. absurd (true≢false (sym e))) (λ e. contrary v.has_turn e no_turn))
+              (λ _. (omega arith, omega arith))
+              (omega arith)
+              (λ by u other there. let a = r.apart id by v u (λ e. other (sym e)) at there in record {
+                tickets = λ _ has e. let known = r.tickets by u there has in let below = known.1 in let same : n ≡ u.ticket = e in omega arith;
+                places = a.places;
+              }),
+        ),
+        (n, refl, found, omega arith),
+      )
 
   -- a load of the serving word, whose view w has the same but for looks and turn
   loads : (history : List Item) (s : Cells T) (id : ℕ) (c : List (ℕ × Option T)) (v w : TurnView T) → IsTurns stands history s → get_elem? s.views id ≡ some v
@@ -106,16 +109,16 @@ module _ {T : Type 0} (stands : T → List Item → Type 0) where
       let two = r.two_words in
       let same : waiting w ≡ waiting v = ap (λ (b : Bool). cond b 1 0) has in
       quietly history s id 0 word (length history + total waiting s.views) c v w r at live live' boot others seen out put value
-          (unchanged s.words 0 0 word (omega arith) refl ∙ r.serving)
-          (unchanged s.words 0 1 word (omega arith) refl ∙ r.ticket)
-          (omega arith)
-          fits
-          (λ h. let known = r.tickets id v at (sym has ∙ h) in let low = known.0 in let high = known.1 in (omega arith, omega arith))
-          (omega arith)
-          (λ by u other there. let a = r.apart id by v u (λ e. other (sym e)) at there in record {
-            tickets = λ h h' e. a.tickets (sym has ∙ h) h' (sym number ∙ e);
-            places = λ place x y h h'. a.places place x y (subst (λ l. Has l place x) mine h) h';
-          })
+      (unchanged s.words 0 0 word (omega arith) refl ∙ r.serving)
+      (unchanged s.words 0 1 word (omega arith) refl ∙ r.ticket)
+      (omega arith)
+      fits
+      (λ h. let known = r.tickets id v at (sym has ∙ h) in let low = known.0 in let high = known.1 in (omega arith, omega arith))
+      (omega arith)
+      (λ by u other there. let a = r.apart id by v u (λ e. other (sym e)) at there in record {
+        tickets = λ h h' e. a.tickets (sym has ∙ h) h' (sym number ∙ e);
+        places = λ place x y h h'. a.places place x y (subst (λ l. Has l place x) mine h) h';
+      })
 
   -- the word is the ticket just where the ticket is the number of items
   is_served : (length_now waits ticket word : ℕ) → word ≡ length_now % 2 ^ 64 → length_now ≤ ticket → ticket < length_now + waits → waits ≤ 2 ^ 32 + 1 → word ≡ ticket % 2 ^ 64 → ticket ≡ length_now
@@ -131,12 +134,18 @@ module _ {T : Type 0} (stands : T → List Item → Type 0) where
       let f = r.each id v at in
       let known = r.tickets id v at has in
       let served : w.has_turn ≡ true → (v.has_ticket ≡ true) × (v.ticket ≡ length history) =
-          λ e. (has, is_served (length history) (total waiting s.views) v.ticket word r.serving known.0 known.1 (few_wait stands history s r) (eqb-true word (v.ticket % 2 ^ 64) e)) in
-      let still : v.has_turn ≡ true → word ≡ v.ticket % 2 ^ 64 = λ e. r.serving ∙ ap (λ (n : ℕ). n % 2 ^ 64) (sym (f.turn e).1) in
-      (w, keeps, tt,
-        (history, loads history s id me.1 v w r at live live refl refl refl refl refl refl refl refl refl
-            (same_but_turn history v w f live refl refl refl refl refl refl refl served (λ e. eq-eqb word (v.ticket % 2 ^ 64) (still e)))),
-        (refl, (length history, r.serving, prefix_length v.seen history f.seen, known.0, still)))
+      λ e. (has, is_served (length history) (total waiting s.views) v.ticket word r.serving known.0 known.1 (few_wait stands history s r) (eqb-true word (v.ticket % 2 ^ 64) e)) in
+      let still : v.has_turn ≡ true → word ≡ v.ticket % 2 ^ 64 = λ e. r.serving ∙ ap (λ (n : ℕ). n % 2 ^ 64) (sym (f.turn e).1) in (
+        w,
+        keeps,
+        tt,
+        (
+          history,
+          loads history s id me.1 v w r at live live refl refl refl refl refl refl refl refl refl
+              (same_but_turn history v w f live refl refl refl refl refl refl refl served (λ e. eq-eqb word (v.ticket % 2 ^ 64) (still e))),
+        ),
+        (refl, (length history, r.serving, prefix_length v.seen history f.seen, known.0, still)),
+      )
 
   pub compares : (slots id : ℕ) (me : Mine T) → me.0.is_spent ≡ false → Allows (IsKept stands) slots id me 0 (λ n. n) (Compares (step slots 0 0 0 none) me)
   compares slots id me live s k _ at _ =

@@ -2,12 +2,12 @@ mod Counts
 mod Desks
 mod Diaries
 mod Ends
-mod Held
+pub mod Held
 mod Joining
 mod Keeps
-mod Lists
+pub mod Lists
 mod Merging
-mod Notes
+pub mod Notes
 mod Seated
 mod Tickets
 mod Turning

@@ -1,10 +1,8 @@
 -- What a seat keeps beside its view.
-use Rattle.std.proofs.Common.{◌≡◌, ℕ, ◌%◌, ◌^◌, Bool, true, false, cond, List, [], ◌∷◌, refl, sym, ap, ◌∙◌, subst, eq-eqb}
-use Rattle.std.specs.Prelude.{Option, None}
-use Rattle.atomic_table.specs.Table.{Me}
-use Rattle.turn_words.specs.declared.rule.TurnView.{TurnView}
+use Rattle.std.proofs.Common.{◌≡◌, ℕ, ◌%◌, ◌^◌, Bool, true, false, cond, [], ◌∷◌, sym, ap, ◌∙◌, subst, eq-eqb}
+use Rattle.std.specs.Prelude.{None}
 use Rattle.turn_words.specs.Rule.{Mine, looking}
-use Rattle.turn_words.specs.Seats.{IsSeat, slots_of}
+use Rattle.turn_words.specs.Seats.{IsSeat}
 use Rattle.turn_words.proofs.Held.{contrary, not_true}
 
 module _ {T : Type 0} where

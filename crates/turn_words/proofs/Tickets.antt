@@ -1,5 +1,5 @@
 -- As many tickets are out as there are numbers for them, and no two are the same: so each number is some view's.
-use Rattle.std.proofs.Common.{◌≡◌, ◌≢◌, ℕ, zero, suc, ◌+◌, ◌-◌, ◌<◌, ◌≤◌, ◌⊎◌, Bool, true, false, cond, eqb, List, [], ◌∷◌, length, refl, sym, ap, ◌∙◌, subst, inl, inr, ⊎_elim, arith}
+use Rattle.std.proofs.Common.{◌≡◌, ◌≢◌, ℕ, zero, suc, ◌+◌, ◌<◌, ◌≤◌, ◌⊎◌, Bool, true, false, cond, eqb, List, [], ◌∷◌, length, refl, sym, ap, ◌∙◌, inl, inr, ⊎_elim, arith}
 use Rattle.std.proofs.lemmas.Bool.Decides.{eqb_tells}
 use mathlib.Core.Logic.{dite}
 use mathlib.Core.Option.{some}
@@ -7,10 +7,10 @@ use native.Mathlib.Decide.{ℕ_discrete}
 use lib.ListN.{get_elem?}
 use Rattle.turn_words.specs.declared.items.Item.{Item}
 use Rattle.turn_words.specs.declared.rule.TurnView.{TurnView}
-use Rattle.turn_words.specs.Rule.{Cells, total, waiting, Each, Apart, IsTurns}
-use Rattle.turn_words.specs.Laws.{StandsInOne, EachTicketStandsInOneView}
+use Rattle.turn_words.specs.Rule.{total, waiting}
+use Rattle.turn_words.specs.Laws.{EachTicketStandsInOneView}
 use Rattle.turn_words.proofs.Counts.{total_below}
-use Rattle.turn_words.proofs.Held.{contrary, decide}
+use Rattle.turn_words.proofs.Held.{decide}
 
 -- what isn't at least 1 is nothing
 fewer : (rest here : ℕ) → here ≡ 1 → (1 ≤ rest → ⊥) → here + rest ≤ 1
@@ -30,9 +30,9 @@ module _ {T : Type 0} where
   has_or_not : (n : ℕ) (v : TurnView T) → ((has_number n v ≡ 1) × (v.has_ticket ≡ true) × (v.ticket ≡ n)) ⊎ (has_number n v ≡ 0)
   has_or_not n v = ⊎_elim
       (λ (has : v.has_ticket ≡ true). ⊎_elim
-          (λ is. inl (ap (λ (b : Bool). cond b (cond (eqb v.ticket n) 1 0) 0) has ∙ ap (λ (b : Bool). cond b 1 0) is.0, has, is.1))
-          (λ not. inr (ap (λ (b : Bool). cond b (cond (eqb v.ticket n) 1 0) 0) has ∙ ap (λ (b : Bool). cond b 1 0) not.0))
-          (eqb_tells v.ticket n))
+      (λ is. inl (ap (λ (b : Bool). cond b (cond (eqb v.ticket n) 1 0) 0) has ∙ ap (λ (b : Bool). cond b 1 0) is.0, has, is.1))
+      (λ not. inr (ap (λ (b : Bool). cond b (cond (eqb v.ticket n) 1 0) 0) has ∙ ap (λ (b : Bool). cond b 1 0) not.0))
+      (eqb_tells v.ticket n))
       (λ (free : v.has_ticket ≡ false). inr (ap (λ (b : Bool). cond b (cond (eqb v.ticket n) 1 0) 0) free))
       (decide v.has_ticket)
 
@@ -40,9 +40,9 @@ module _ {T : Type 0} where
   has_it n v has is = ⊎_elim
       (λ (h : (has_number n v ≡ 1) × (v.has_ticket ≡ true) × (v.ticket ≡ n)). h.0)
       (λ (none_of : has_number n v ≡ 0). ⊎_elim
-          (λ same. ap (λ (b : Bool). cond b (cond (eqb v.ticket n) 1 0) 0) has ∙ ap (λ (b : Bool). cond b 1 0) same.0)
-          (λ other. absurd (other.1 is))
-          (eqb_tells v.ticket n))
+      (λ same. ap (λ (b : Bool). cond b (cond (eqb v.ticket n) 1 0) 0) has ∙ ap (λ (b : Bool). cond b 1 0) same.0)
+      (λ other. absurd (other.1 is))
+      (eqb_tells v.ticket n))
       (has_or_not n v)
 
   -- who counts has the ticket
@@ -61,13 +61,13 @@ module _ {T : Type 0} where
   one_at_most n [] apart = omega arith
   one_at_most n (x ∷ views) apart = ⊎_elim
       (λ (h : (has_number n x ≡ 1) × (x.has_ticket ≡ true) × (x.ticket ≡ n)).
-          let others : (1 ≤ total (has_number n) views) → ⊥ =
-          λ some_more. let r = somebody n views some_more in apart zero (suc r.0) x r.1 (λ e. omega arith) refl r.2 h.1 r.3 (h.2 ∙ sym r.4) in
-          let counts = h.0 in
-          fewer (total (has_number n) views) (has_number n x) counts others)
+      let others : (1 ≤ total (has_number n) views) → ⊥ =
+      λ some_more. let r = somebody n views some_more in apart zero (suc r.0) x r.1 (λ e. omega arith) refl r.2 h.1 r.3 (h.2 ∙ sym r.4) in
+      let counts = h.0 in
+      fewer (total (has_number n) views) (has_number n x) counts others)
       (λ (none_of : has_number n x ≡ 0).
-          let r = one_at_most n views (λ by other v w ne e f. apart (suc by) (suc other) v w (λ q. ne (omega arith)) e f) in
-          omega arith)
+      let r = one_at_most n views (λ by other v w ne e f. apart (suc by) (suc other) v w (λ q. ne (omega arith)) e f) in
+      omega arith)
       (has_or_not n x)
 
   total_sum : (f g : TurnView T → ℕ) (views : List (TurnView T)) → total (λ v. f v + g v) views ≡ total f views + total g views
@@ -96,13 +96,13 @@ module _ {T : Type 0} where
       let a = split_among n k views in
       dite (ℕ_discrete t n)
       (λ (is : t ≡ n).
-          let b = so_many_at_most (suc n) k views apart in
-          let c : total (has_number t) views ≡ total (has_number n) views = ap (λ (m : ℕ). total (has_number m) views) is in
-          omega arith)
+      let b = so_many_at_most (suc n) k views apart in
+      let c : total (has_number t) views ≡ total (has_number n) views = ap (λ (m : ℕ). total (has_number m) views) is in
+      omega arith)
       (λ (other : t ≢ n).
-          let b = one_at_most n views apart in
-          let c = without_one (suc n) k t views apart (omega arith) (omega arith) in
-          omega arith)
+      let b = one_at_most n views apart in
+      let c = without_one (suc n) k t views apart (omega arith) (omega arith) in
+      omega arith)
 
   is_counted : (n k : ℕ) (v : TurnView T) → v.has_ticket ≡ true → n ≤ v.ticket → v.ticket < n + k → 1 ≤ is_among n k v
   is_counted n zero v has low high = absurd (omega arith)
@@ -125,7 +125,10 @@ module _ {T : Type 0} (stands : T → List Item → Type 0) where
       let apart : AreDistinct views = λ by other v w ne e f. (r.apart by other v w ne e f).tickets in
       let all = total_below waiting (is_among first many) views (λ by v at. waits_among first many v (r.tickets by v at)) in
       let rest = without_one first many n views apart low high in
-      let found = somebody n views (omega arith) in
-      (found.0, (found.1, found.2, found.3, found.4), λ other w there has is. dite (ℕ_discrete other found.0)
-          (λ (same : other ≡ found.0). same)
-          (λ (ne : other ≢ found.0). absurd (apart other found.0 w found.1 ne there found.2 has found.3 (is ∙ sym found.4))))
+      let found = somebody n views (omega arith) in (
+        found.0,
+        (found.1, found.2, found.3, found.4),
+        λ other w there has is. dite (ℕ_discrete other found.0)
+            (λ (same : other ≡ found.0). same)
+            (λ (ne : other ≢ found.0). absurd (apart other found.0 w found.1 ne there found.2 has found.3 (is ∙ sym found.4))),
+      )

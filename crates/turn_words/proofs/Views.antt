@@ -1,7 +1,6 @@
 -- All views after one of them has changed, and what the rule says of two of them.
-use Rattle.std.proofs.Common.{◌≡◌, ◌≢◌, ℕ, zero, suc, ◌+◌, ◌-◌, ◌%◌, ◌^◌, ◌<◌, ◌≤◌, ◌⊎◌, Bool, true, false, true≢false, cond, List, [], ◌∷◌, ◌++◌, length, set, get_or, refl, sym, ap, ◌∙◌, subst, inl, inr, ⊎_elim, arith, length-set, get_or-set_other, get_or-set_same}
-use Rattle.std.specs.Prelude.{slice_index, Option, Some, None}
-use mathlib.Core.List.{IsPrefix}
+use Rattle.std.proofs.Common.{◌≡◌, ◌≢◌, ℕ, ◌+◌, ◌%◌, ◌^◌, ◌<◌, ◌≤◌, Bool, true, false, cond, List, length, set, sym, ap, ◌∙◌, subst, ⊎_elim, arith, length-set}
+use Rattle.std.specs.Prelude.{slice_index, Option, Some}
 use mathlib.Core.Logic.{dite}
 use mathlib.Core.Option.{some, some-injective}
 use native.Mathlib.Decide.{ℕ_discrete}
@@ -10,7 +9,7 @@ use Rattle.atomic_table.specs.Table.{Act, stepped}
 use Rattle.atomic_table.proofs.Lists.{at_set, set_else, set_here}
 use Rattle.turn_words.specs.declared.items.Item.{Item}
 use Rattle.turn_words.specs.declared.rule.TurnView.{TurnView}
-use Rattle.turn_words.specs.Items.{Has, heard}
+use Rattle.turn_words.specs.Items.{heard}
 use Rattle.turn_words.specs.Rule.{Cells, total, in_use, as_boot, waiting, Each, Apart, Fits, IsHome, IsTurns, spent}
 use Rattle.turn_words.proofs.Lists.{at_below}
 use Rattle.turn_words.proofs.Counts.{total_set, total_at_least, total_below}
@@ -30,8 +29,8 @@ module _ {T : Type 0} where
       → Each (set views id w) P → Each views P
   each_was P views id v w at back all by u e = dite (ℕ_discrete by id)
       (λ (is : by ≡ id).
-          let same : v ≡ u = some-injective v u (sym at ∙ subst (λ (k : ℕ). get_elem? views k ≡ some u) is e) in
-          subst P same (back (all id w (set_here views id w (at_below views id v at)))))
+      let same : v ≡ u = some-injective v u (sym at ∙ subst (λ (k : ℕ). get_elem? views k ≡ some u) is e) in
+      subst P same (back (all id w (set_here views id w (at_below views id v at)))))
       (λ (other : by ≢ id). all by u (set_else views id by w other ∙ e))
 
   pub apart_back : (v w : TurnView T) → Apart v w → Apart w v
@@ -47,13 +46,13 @@ module _ {T : Type 0} where
       → (by other : ℕ) (v u : TurnView T) → by ≢ other → get_elem? (set views id w) by ≡ some v → get_elem? (set views id w) other ≡ some u → Apart v u
   apart_set views id w all new by other v u ne e f = ⊎_elim
       (λ (x : (by ≡ id) × (w ≡ v)). ⊎_elim
-          (λ (y : (other ≡ id) × (w ≡ u)). absurd (ne (x.0 ∙ sym y.0)))
-          (λ (y : (other ≢ id) × (get_elem? views other ≡ some u)). subst (λ z. Apart z u) x.1 (new other u y.0 y.1))
-          (at_set views id other w u f))
+      (λ (y : (other ≡ id) × (w ≡ u)). absurd (ne (x.0 ∙ sym y.0)))
+      (λ (y : (other ≢ id) × (get_elem? views other ≡ some u)). subst (λ z. Apart z u) x.1 (new other u y.0 y.1))
+      (at_set views id other w u f))
       (λ (x : (by ≢ id) × (get_elem? views by ≡ some v)). ⊎_elim
-          (λ (y : (other ≡ id) × (w ≡ u)). subst (λ z. Apart v z) y.1 (apart_back w v (new by v x.0 x.1)))
-          (λ (y : (other ≢ id) × (get_elem? views other ≡ some u)). all by other v u ne x.1 y.1)
-          (at_set views id other w u f))
+      (λ (y : (other ≡ id) × (w ≡ u)). subst (λ z. Apart v z) y.1 (apart_back w v (new by v x.0 x.1)))
+      (λ (y : (other ≢ id) × (get_elem? views other ≡ some u)). all by other v u ne x.1 y.1)
+      (at_set views id other w u f))
       (at_set views id by w v e)
 
   pub live_counts : (v : TurnView T) → v.is_spent ≡ false → in_use v ≡ 1
@@ -97,9 +96,9 @@ module _ {T : Type 0} (stands : T → List Item → Type 0) where
   waits_in_use history v f = ⊎_elim
       (λ (is : v.is_spent ≡ true). let a = spent_counts v is in let b = waiting_not v (f.spent is) in omega arith)
       (λ (not : v.is_spent ≡ false). let a = live_counts v not in ⊎_elim
-          (λ (has : v.has_ticket ≡ true). let b = waiting_is v has in omega arith)
-          (λ (none : v.has_ticket ≡ false). let b = waiting_not v none in omega arith)
-          (decide v.has_ticket))
+      (λ (has : v.has_ticket ≡ true). let b = waiting_is v has in omega arith)
+      (λ (none : v.has_ticket ≡ false). let b = waiting_not v none in omega arith)
+      (decide v.has_ticket))
       (decide v.is_spent)
 
   -- so few tickets are out that none wraps round
@@ -172,6 +171,6 @@ module _ {T : Type 0} (stands : T → List Item → Type 0) where
       let there = r.knower.2 in
       dite (ℕ_discrete by id)
       (λ (is : by ≡ id).
-          let view : v ≡ u = some-injective v u (sym at ∙ subst (λ (k : ℕ). get_elem? s.views k ≡ some u) is there) in
-          (id, w, set_here s.views id w (at_below s.views id v at), live', same (ap (λ z. z.seen) view ∙ r.knower.4)))
+      let view : v ≡ u = some-injective v u (sym at ∙ subst (λ (k : ℕ). get_elem? s.views k ≡ some u) is there) in
+      (id, w, set_here s.views id w (at_below s.views id v at), live', same (ap (λ z. z.seen) view ∙ r.knower.4)))
       (λ (other : by ≢ id). (by, u, set_else s.views id by w other ∙ there, r.knower.3, r.knower.4))

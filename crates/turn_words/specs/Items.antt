@@ -1,5 +1,5 @@
 -- What a list of items says by itself.
-use Rattle.std.specs.Prelude.{◌≡◌, ℕ, ◌+◌, ◌<◌, ◌≤◌, ◌==◌, nat_lt, Bool, true, false, cond, List, [], ◌∷◌, ◌++◌, ◌⊎◌, map}
+use Rattle.std.specs.Prelude.{◌≡◌, ℕ, ◌+◌, ◌≤◌, ◌==◌, nat_lt, Bool, false, cond, List, [], ◌∷◌, ◌++◌, ◌⊎◌, map}
 use Rattle.kabi_types.specs.declared.entries.Entry.{Entry}
 use Rattle.kabi_types.specs.declared.entries.Entry.TheVariants as entry
 use Rattle.turn_words.specs.declared.items.Item.{Item}

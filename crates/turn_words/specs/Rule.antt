@@ -1,5 +1,5 @@
 -- The turn rule, and what each kind of atomic step tells its seat.
-use Rattle.std.specs.Prelude.{◌≡◌, ◌≢◌, ℕ, ◌+◌, ◌-◌, ◌%◌, ◌^◌, ◌<◌, ◌≤◌, ◌==◌, nat_le, Bool, true, false, cond, List, [], ◌∷◌, ◌++◌, length, slice_index, Option, Some, None}
+use Rattle.std.specs.Prelude.{◌≡◌, ◌≢◌, ℕ, ◌+◌, ◌-◌, ◌%◌, ◌^◌, ◌<◌, ◌≤◌, ◌==◌, nat_le, true, false, cond, List, [], ◌∷◌, ◌++◌, length, slice_index, Option, Some, None}
 use mathlib.Core.List.{IsPrefix}
 use mathlib.Core.Option.{some}
 use lib.ListN.{get_elem?}
@@ -74,8 +74,21 @@ module _ {T : Type 0} where
   -- the view of the seat of `boot`, before any step
   abbrev pub opened : TurnView T
   opened = record {
-    seen = []; mine = []; met = []; is_boot = true; is_spent = false; others = 0; looks = 0; last = 0;
-    has_ticket = false; ticket = 0; has_turn = false; is_out = false; has_put = false; value = None; names = [];
+    seen = [];
+    mine = [];
+    met = [];
+    is_boot = true;
+    is_spent = false;
+    others = 0;
+    looks = 0;
+    last = 0;
+    has_ticket = false;
+    ticket = 0;
+    has_turn = false;
+    is_out = false;
+    has_put = false;
+    value = None;
+    names = [];
   }
 
   -- a new seat's view: it has seen what the one that it is split from has seen

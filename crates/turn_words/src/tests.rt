@@ -2,10 +2,10 @@ ghost use Rattle.std.specs.Prelude.{◌≡◌, true, false};
 
 use crate::rule::Chronicle;
 use crate::{Item, TurnSeat, Turns, given_and_given_back};
+use std::sync::Wait;
 use std::test::Fail;
 use std::thread;
 use std::thread::{Threads, join};
-use std::sync::Wait;
 
 /// A value that keeps its own items: the numbers that were told, in order.
 #[derive(Drop)]

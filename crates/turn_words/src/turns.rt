@@ -65,7 +65,10 @@ impl<T: Chronicle> Turns<T> {
         ensures seat { seat.new ≡ seat_of seat.old.turns (drawing seat.old.known seat.new.known.ticket) }
         ensures ticket { (result ≡ seat.new.known.ticket % 2 ^ 64) × (length seat.old.known.seen ≤ seat.new.known.ticket) }
     {
-        let ticket = self.table.shared.fetch_add::<Draw>(&mut seat.seat, TICKET, 1);
+        let ticket = self
+            .table
+            .shared
+            .fetch_add::<Draw>(&mut seat.seat, TICKET, 1);
         seat.ticket = ticket;
         ticket
     }
@@ -93,7 +96,10 @@ impl<T: Chronicle> Turns<T> {
         ensures mine { AreIn seat.old.known.mine seat.new.known.seen × AreGiven seat.old.known.mine (heard seat.new.known.seen) }
     {
         self.table.shared.load::<SlotOut>(&mut seat.seat, SERVING);
-        self.table.shared.exchange(&mut seat.seat, SLOT, None).unwrap()
+        self.table
+            .shared
+            .exchange(&mut seat.seat, SLOT, None)
+            .unwrap()
     }
 
     /// Puts a value back, which stands for what the one that was taken stood for, with at most one item more.
@@ -104,7 +110,11 @@ impl<T: Chronicle> Turns<T> {
         ensures seat { seat.new ≡ seat_of seat.old.turns (putting seat.old.known value seat.new.known.names) }
         ensures names { IsPutBack T.stands (heard seat.old.known.seen) value seat.new.known.names }
     {
-        match self.table.shared.exchange(&mut seat.seat, SLOT, Some(value)) {
+        match self
+            .table
+            .shared
+            .exchange(&mut seat.seat, SLOT, Some(value))
+        {
             None => {}
             Some(_) => unreachable!(),
         }

@@ -1,7 +1,7 @@
-use Rattle.std.proofs.Common.{rules, ◌≡◌, [], ◌∷◌, ◌++◌, map, sym, ap, ◌∙◌, refl, arith}
+use Rattle.std.proofs.Common.{rules, ◌≡◌, ℕ, List, [], ◌∷◌, ◌++◌, map, sym, ap, ◌∙◌}
 use Rattle.turn_words.specs.declared.items.Item.TheVariants.{Live}
-use Rattle.turn_words.specs.Items.{heard}
-use Rattle.turn_words.proofs.Diaries.{nothing_told, one_more, one_told}
+use Rattle.turn_words.proofs.Diaries.{nothing_told, one_told}
+use Rattle.turn_words.proofs.Notes.{may_put}
 use Rattle.turn_words.proofs.tests.tell.Goals as goal
 
 pub put-requires-clause-stands : goal.put-requires-clause-stands
@@ -10,7 +10,7 @@ put-requires-clause-stands c =
     let told = c.take-diary.result.told.items in
     let after = c.push.new.self.items in
     let is : after ≡ told ++ c.args.number ∷ [] = search rules in
-    (heard seen ++ Live c.args.number ∷ [], (one_more seen told after c.args.number c.take-diary.ensures.value is, (Live c.args.number ∷ [], omega arith, refl)))
+    may_put (λ (told : List ℕ) items. items ≡ map Live told) seen after (Live c.args.number) (one_told seen told after c.args.number c.take-diary.ensures.value is)
 
 pub pass_on-requires-clause-more : goal.pass_on-requires-clause-more
 pass_on-requires-clause-more c =

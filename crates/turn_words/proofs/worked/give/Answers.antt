@@ -1,9 +1,10 @@
-use Rattle.std.proofs.Common.{rules, ◌≡◌, [], ◌∷◌, ◌++◌, length, subst, refl, arith}
-use Rattle.std.specs.Prelude.{None}
+use Rattle.std.proofs.Common.{rules, ◌≡◌, length, subst}
+use Rattle.std.specs.Prelude.{None, Some}
 use Rattle.turn_words.specs.declared.items.Item.TheVariants.{Given}
 use Rattle.turn_words.specs.Items.{heard}
 use Rattle.turn_words.specs.Worked.{IsDesk}
-use Rattle.turn_words.proofs.Desks.{given_out, gives_out, held_now, stays}
+use Rattle.turn_words.proofs.Desks.{gives_out, held_now, stays}
+use Rattle.turn_words.proofs.Notes.{may_put}
 use Rattle.turn_words.proofs.worked.give.Goals as goal
 
 pub pass_on-requires-clause-more : goal.pass_on-requires-clause-more
@@ -11,10 +12,10 @@ pass_on-requires-clause-more c = rw c.put.ensures.seat (stays c.take-desk.result
 
 pub put-requires-2-clause-stands : goal.put-requires-2-clause-stands
 put-requires-2-clause-stands c =
-    let heard_so_far = heard c.take-desk.new.seat.known.seen in
+    let seen = c.take-desk.new.seat.known.seen in
     let none_given : c.take-desk.result.given ≡ None = search rules in
-    let free : IsDesk None heard_so_far = subst (λ given. IsDesk given heard_so_far) none_given c.take-desk.ensures.value in
-    (heard_so_far ++ Given c.args.pid ∷ [], (given_out heard_so_far c.args.pid free, (Given c.args.pid ∷ [], omega arith, refl)))
+    let free : IsDesk None (heard seen) = subst (λ given. IsDesk given (heard seen)) none_given c.take-desk.ensures.value in
+    may_put IsDesk seen (Some c.args.pid) (Given c.args.pid) (gives_out seen c.args.pid free)
 
 pub pass_on-requires-2-clause-more : goal.pass_on-requires-2-clause-more
 pass_on-requires-2-clause-more c =

@@ -1,5 +1,5 @@
 use Rattle.std.proofs.Common.{rules, sym, ap, ◌∙◌, ◌∷◌, [], true, ◌≡◌}
-use Rattle.std.specs.Prelude.{Some, None}
+use Rattle.std.specs.Prelude.{Some}
 use Rattle.atomic_table.specs.Table.{rest}
 use Rattle.turn_words.proofs.Seated.{one_slot}
 use Rattle.turn_words.proofs.Turning.{lays, notes}
