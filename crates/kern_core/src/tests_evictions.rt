@@ -241,7 +241,8 @@ fn offers(core: &Core<Caching>, told: Told) -> bool {
     offered == (told.at(0), told.at(1), None)
 }
 
-/// Takes the events that a generator chooses until the run ends, and tells whether what was told was offered before each.
+/// Takes the events that a generator chooses until the run ends, after a thousand of them at most, and tells whether what was
+/// told was offered before each.
 fn offers_what_is_told(core: &mut Core<Caching>) -> bool {
     let mut choosing = Choosing::of(&Chooser::Seed(7));
     let mut told = Told {
@@ -249,7 +250,10 @@ fn offers_what_is_told(core: &mut Core<Caching>) -> bool {
         phase: 0,
         blocks: 0,
     };
-    while core.ended() == None {
+    for _ in 0..=1000 {
+        if core.ended() != None {
+            return true;
+        }
         if !offers(core, told) {
             return false;
         }
@@ -259,7 +263,7 @@ fn offers_what_is_told(core: &mut Core<Caching>) -> bool {
         told = told.after(event);
         choosing = rest;
     }
-    true
+    false
 }
 
 /// How many evictions there are among these events.

@@ -22,5 +22,5 @@ returns-clause-high g c = λ world stands.
     c.evict.ensures.high c.self.inside.script world (subst (λ store. StandsFor store.script store.objects world) (sym c.self.view_is) stands)
 
 pub returns-clause-since : goal.returns-clause-since
-returns-clause-since c = λ world stands.
+returns-clause-since g c = λ world stands.
     c.evict.ensures.since c.self.inside.script world (subst (λ store. StandsFor store.script store.objects world) (sym c.self.view_is) stands)

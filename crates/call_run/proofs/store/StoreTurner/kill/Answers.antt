@@ -3,24 +3,24 @@ use Rattle.call_run.specs.Standing.{StandsFor}
 use Rattle.call_run.proofs.store.StoreTurner.kill.Goals as goal
 
 pub invariant_of-self : goal.invariant_of-self
-invariant_of-self c = c.kill.ensures.kept c.self.inside.script c.self.invariant
+invariant_of-self g c = c.kill.ensures.kept c.self.inside.script c.self.invariant
 
 pub returns-clause-killed : goal.returns-clause-killed
-returns-clause-killed c = λ world stands.
+returns-clause-killed g c = λ world stands.
     c.kill.ensures.killed c.self.inside.script world (subst (λ store. StandsFor store.script store.objects world) (sym c.self.view_is) stands)
 
 pub returns-clause-gone : goal.returns-clause-gone
-returns-clause-gone c = λ world stands.
+returns-clause-gone g c = λ world stands.
     c.kill.ensures.gone c.self.inside.script world (subst (λ store. StandsFor store.script store.objects world) (sym c.self.view_is) stands)
 
 pub returns-clause-first : goal.returns-clause-first
-returns-clause-first c = λ world stands.
+returns-clause-first g c = λ world stands.
     c.kill.ensures.first c.self.inside.script world (subst (λ store. StandsFor store.script store.objects world) (sym c.self.view_is) stands)
 
 pub returns-clause-high : goal.returns-clause-high
-returns-clause-high c = λ world stands.
+returns-clause-high g c = λ world stands.
     c.kill.ensures.high c.self.inside.script world (subst (λ store. StandsFor store.script store.objects world) (sym c.self.view_is) stands)
 
 pub returns-clause-since : goal.returns-clause-since
-returns-clause-since c = λ world stands.
+returns-clause-since g c = λ world stands.
     c.kill.ensures.since c.self.inside.script world (subst (λ store. StandsFor store.script store.objects world) (sym c.self.view_is) stands)
