@@ -1,6 +1,7 @@
 //! `BlockCache` and its calls. A clause sees a cache as its order of use: the pairs of a block's
 //! number and the key of its Block in the heap, the coldest first, and the capacity.
 ghost use Rattle.std.specs.Prelude.{◌≡◌, ◌↔◌, ℕ, ◌<◌, ◌≤◌, [], None, Some, IfOk, IsSome, IsTrue, MatchOption, cond, length, nat_eq};
+ghost use Rattle.std.specs.Bool.{MatchBool};
 ghost use Rattle.kheap_shelves.specs.Objects.{put};
 ghost use Rattle.kheap_slabs.specs.Paid.{CanPay, IsPaid, TakesNothing};
 ghost use Rattle.lru_index.specs.Order.{order, touched};
@@ -43,6 +44,14 @@ impl BlockCache {
         ensures { IsTrue result ↔ IsSome (block_slot self.now number) }
     {
         self.slots.find(number as u64).is_some()
+    }
+
+    /// Whether there is no room for one more block.
+    pub fn is_full(&self) -> bool
+        ensures { MatchBool result (self.now.capacity ≡ length self.now.pairs)
+            (length self.now.pairs < self.now.capacity) }
+    {
+        self.slots.is_full()
     }
 
     /// The bytes of a block, which is the warmest from then on; None where it isn't cached.

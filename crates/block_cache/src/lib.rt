@@ -6,5 +6,7 @@
 
 mod cache;
 pub mod laws;
+#[cfg(test)]
+mod tests;
 
 pub use cache::BlockCache;

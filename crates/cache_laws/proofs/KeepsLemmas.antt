@@ -1,5 +1,5 @@
 -- What a cache keeps after each change of the heap and of the order of use.
-use Rattle.std.proofs.Common.{◌≡◌, ◌≢◌, ℕ, zero, suc, ◌+◌, ◌<◌, Bool, true, false, cond, List, [], ◌∷◌, ◌++◌, length, Option, Some, None, IsSome, refl, sym, ap, ◌∙◌, subst, inl, inr, arith, length-append}
+use Rattle.std.proofs.Common.{◌≡◌, ◌≢◌, ℕ, zero, suc, ◌+◌, ◌<◌, Bool, true, false, cond, List, [], ◌∷◌, ◌++◌, length, Option, Some, None, IsSome, replicate, refl, sym, ap, ◌∙◌, subst, inl, inr, arith, length-append}
 use Rattle.std.specs.Option.{option_map, option_and_then}
 use Rattle.std.specs.Map.{lookup, remove_entry}
 use Rattle.std.specs.Cmp.{IsEquivalence}
@@ -7,7 +7,7 @@ use Rattle.std.specs.Prelude.{slice_set}
 use Rattle.std.proofs.lemmas.Bool.{cases_eq, cases_lt, false≢true}
 use Rattle.std.proofs.lemmas.List.{get_or-set_same, get_or-set_other, set_past}
 use Rattle.kheap_shelves.specs.Objects.{object, InUse, count, put, without}
-use Rattle.kheap_shelves.proofs.ObjectLemmas.{object-put, object-put_other, object-without, object-without_other, count-put_new, count-put_used, count-without, InUse-within, object_of}
+use Rattle.kheap_shelves.proofs.ObjectLemmas.{count-none, object-none, object-put, object-put_other, object-without, object-without_other, count-put_new, count-put_used, count-without, InUse-within, object_of}
 use Rattle.lru_index.specs.Order.{Order, order, touched, first_key}
 use Rattle.lru_index.proofs.Pairs.{length_touched, touched_absent, length_removed}
 use Rattle.cache_laws.specs.Caches.{slot_of, key_at, Keeps, cached, AreTrue, first_fill, fills_kept, left_kept, objects_kept}
@@ -183,3 +183,15 @@ module _ {X : Type 0} (IsTrueOf : X → Type 0) where
   pub true_kept : (slot : Option ℕ) (objects : List (Option X)) → AreTrue IsTrueOf objects → AreTrue IsTrueOf (objects_kept slot objects)
   true_kept None objects are = are
   true_kept (Some slot) objects are = true_without objects slot are
+
+-- an empty cache keeps the objects of a class that has none
+pub keeps_none : {K X : Type 0} (eq : K → K → Bool) (key : X → K) (limit capacity : ℕ) (objects : List (Option X)) → objects ≡ replicate limit None → Keeps eq key objects (order [] capacity)
+keeps_none {K} {X} eq key limit capacity objects empty = record {
+  there = λ k slot is. cc;
+  only = λ k slot at. by_object k slot (object objects slot) refl at;
+  many = sym (count-none objects limit empty);
+}
+  where
+    by_object : (k : K) (slot : ℕ) (o : Option X) → object objects slot ≡ o → option_map key (object objects slot) ≡ Some k → slot_of eq (order [] capacity) k ≡ Some slot
+    by_object k slot None none at = let gone : option_map key (object objects slot) ≡ None = ap (option_map key) none in cc
+    by_object k slot (Some x) some at = absurd (object-none limit slot x (ap (λ l. object l slot) (sym empty) ∙ some))
