@@ -1,4 +1,4 @@
-use Rattle.std.proofs.Common.{◌≡◌, ◌≤◌, ◌∙◌, ap, false, le_refl, sym, true, arith}
+use Rattle.std.proofs.Common.{◌≡◌, ◌∙◌, ap, false, le_refl, sym, true, arith}
 use Rattle.kheap_slabs.specs.Heap.{Heap, live_bytes}
 use Rattle.posix_defs.specs.World.{live_of}
 use Rattle.call_run.specs.Standing.{StandFor}

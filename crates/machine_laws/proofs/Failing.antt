@@ -1,0 +1,53 @@
+-- A call that fails changes its caller's control alone, by its shape.
+use Rattle.std.proofs.Common.{◌≡◌, ◌≢◌, ℕ, Bool, true, false, refl, ap, sym, ◌∙◌, subst}
+use Rattle.kabi_calls.specs.declared.calls.Call.{Call}
+use Rattle.kabi_values.specs.declared.errnos.Errno.{Errno}
+use Rattle.kabi_values.specs.declared.errnos.Errno.TheVariants.{ENOMEM}
+use Rattle.kabi_values.specs.declared.replies.Reply.{Reply}
+use Rattle.kabi_values.specs.declared.replies.Reply.TheVariants.{Fail, Val}
+use Rattle.kabi_types.specs.declared.scripts.Script.{Script}
+use Rattle.posix_defs.specs.Answer.{Answer, Blocked, Done, Part, Ended}
+use Rattle.posix_defs.specs.Plain.{Plain, answered}
+use Rattle.posix_defs.specs.Posix.{posix}
+use Rattle.posix_defs.specs.Reaching.{is_reply}
+use Rattle.machine_laws.specs.Shapes as shape
+use Rattle.machine_laws.specs.Shapes.{HasShape}
+use Rattle.machine_laws.proofs.Shapes.{shape_of}
+
+-- an answer that is an errno leaves the machine as it was but for that, and isn't ENOMEM
+abbrev FailsAlone : Script → Plain → ℕ → Answer → Type 0
+FailsAlone script plain pid (Done (Fail errno) next) = (next ≡ answered script plain pid (Fail errno)) × (errno ≢ ENOMEM)
+FailsAlone script plain pid _ = Unit {0}
+
+-- a reply that is none leaves nothing to show
+told : (script : Script) (plain next : Plain) (pid : ℕ) (said : Reply) → is_reply said ≡ true → FailsAlone script plain pid (Done said next)
+told script plain next pid (Fail errno) is = absurd (no is)
+  where
+    no : false ≡ true → ⊥
+    no e = cc
+told script plain next pid _ is = tt
+
+by_shape : (script : Script) (plain : Plain) (pid : ℕ) (given : Answer) → HasShape script plain pid given → FailsAlone script plain pid given
+by_shape script plain pid given (shape.blocks is) = subst (FailsAlone script plain pid) (sym is) tt
+by_shape script plain pid given (shape.fails errno other is) = subst (FailsAlone script plain pid) (sym is) (refl, other)
+by_shape script plain pid given (shape.tells files said is_said is) = subst (FailsAlone script plain pid) (sym is) (told script plain _ pid said is_said)
+by_shape script plain pid given (shape.puts files memory said is_said is) = subst (FailsAlone script plain pid) (sym is) (told script plain _ pid said is_said)
+by_shape script plain pid given (shape.moves directory is) = subst (FailsAlone script plain pid) (sym is) tt
+by_shape script plain pid given (shape.parts files moved is) = subst (FailsAlone script plain pid) (sym is) tt
+by_shape script plain pid given (shape.starts place is) = subst (FailsAlone script plain pid) (sym is) tt
+by_shape script plain pid given (shape.forks is) = subst (FailsAlone script plain pid) (sym is) tt
+by_shape script plain pid given (shape.reaps child status is) = subst (FailsAlone script plain pid) (sym is) tt
+by_shape script plain pid given (shape.ends status is) = subst (FailsAlone script plain pid) (sym is) tt
+by_shape script plain pid given (shape.ends_another target status first own is) = subst (FailsAlone script plain pid) (sym is) tt
+
+each_alone : (script : Script) (plain : Plain) (pid : ℕ) (which : Call) → FailsAlone script plain pid (posix script plain pid which)
+each_alone script plain pid which = by_shape script plain pid (posix script plain pid which) (shape_of script plain pid which)
+
+pub fails_alone : (script : Script) (plain : Plain) (pid : ℕ) (which : Call) (errno : Errno) (next : Plain)
+    → posix script plain pid which ≡ Done (Fail errno) next → (next ≡ answered script plain pid (Fail errno)) × (errno ≢ ENOMEM)
+fails_alone script plain pid which errno next is = subst (FailsAlone script plain pid) is (each_alone script plain pid which)
+
+pub never_wants : (script : Script) (plain : Plain) (pid : ℕ) (which : Call) (said : Reply) (next : Plain)
+    → posix script plain pid which ≡ Done said next → said ≢ Fail ENOMEM
+never_wants script plain pid which said next is wants =
+    let alone = subst (FailsAlone script plain pid) (is ∙ ap (λ s. Done s next) wants) (each_alone script plain pid which) in alone.1 refl

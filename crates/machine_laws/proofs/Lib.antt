@@ -1,0 +1,3 @@
+pub mod NoWant
+pub mod Shapes
+pub mod Failing
