@@ -1,5 +1,4 @@
 pub mod AccountLemmas
 pub mod HeldLemmas
 pub mod JoinedLemmas
-pub mod MovedLemmas
 pub mod StepLemmas

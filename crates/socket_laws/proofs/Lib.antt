@@ -6,3 +6,4 @@ pub mod SocketLinked
 pub mod SocketCalls
 pub mod SocketLaws
 pub mod SocketHeld
+pub mod ListenerLemmas

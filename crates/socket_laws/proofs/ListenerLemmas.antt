@@ -1,8 +1,8 @@
 -- Who listens under the name of a node, and a name that is taken from its socket.
-use Rattle.std.proofs.Common.{◌≡◌, ◌≢◌, ◌⊎◌, inl, inr, ℕ, zero, suc, ◌+◌, ◌<◌, ◌&&◌, Bool, true, false, List, [], ◌∷◌, length, Option, None, Some, map, unwrap_or, refl, sym, ap, ◌∙◌, arith}
+use Rattle.std.proofs.Common.{◌≡◌, ◌≢◌, ◌⊎◌, inl, inr, ℕ, zero, suc, ◌+◌, ◌<◌, ◌&&◌, Bool, true, false, List, [], ◌∷◌, length, Option, None, Some, map, unwrap_or, refl, sym, subst, ap, ◌∙◌, arith}
 use Rattle.std.specs.List.{position_from}
 use Rattle.std.specs.Option.{option_map}
-use Rattle.std.proofs.lemmas.Bool.{cases_eq, cases_lt}
+use Rattle.std.proofs.lemmas.Bool.{cases_lt}
 use Rattle.std.proofs.lemmas.Bool.Decides.{eqb_tells}
 use Rattle.std.proofs.lemmas.List.{get_or_past}
 use Rattle.posix_defs.specs.Socket.{Stage, Idle, Listening, Connected, Socket, new_socket}
@@ -18,16 +18,16 @@ true_or_false false = inr refl
 -- ---- the first that passes a test
 
 found_from : (test : Option Socket → Bool) (from : ℕ) (sockets : Sockets) (place : ℕ) → test None ≡ false → test (sock_at sockets place) ≡ true → ((other : ℕ) → other < place → test (sock_at sockets other) ≡ false) → position_from test from sockets ≡ Some (from + place)
-found_from test from [] place none yes before = absurd (cc)
-found_from test from (first ∷ rest) zero none yes before = let here : test first ≡ true = yes in rw here (ap Some (omega arith))
-found_from test from (first ∷ rest) (suc place) none yes before =
-    let no : test first ≡ false = before 0 (omega arith) in
-    let behind = found_from test (from + 1) rest place none yes (λ other lt. before (suc other) (omega arith)) in
-    rw no (behind ∙ ap Some (omega arith))
+found_from test from [] place none holds before = absurd (cc)
+found_from test from (first ∷ rest) zero none holds before = let here : test first ≡ true = holds in rw here (ap Some (omega arith))
+found_from test from (first ∷ rest) (suc place) none holds before =
+    let fails : test first ≡ false = before 0 (omega arith) in
+    let behind = found_from test (from + 1) rest place none holds (λ other lt. before (suc other) (omega arith)) in
+    rw fails (behind ∙ ap Some (omega arith))
 
 none_from : (test : Option Socket → Bool) (from : ℕ) (sockets : Sockets) → ((place : ℕ) → test (sock_at sockets place) ≡ false) → position_from test from sockets ≡ None
-none_from test from [] no = refl
-none_from test from (first ∷ rest) no = let here : test first ≡ false = no 0 in rw here (none_from test (from + 1) rest (λ place. no (suc place)))
+none_from test from [] fails = refl
+none_from test from (first ∷ rest) fails = let here : test first ≡ false = fails 0 in rw here (none_from test (from + 1) rest (λ place. fails (suc place)))
 
 -- where the one that was found stands
 record Found (test : Option Socket → Bool) (from : ℕ) (sockets : Sockets) (found : ℕ) : Type 0 where
@@ -38,9 +38,9 @@ record Found (test : Option Socket → Bool) (from : ℕ) (sockets : Sockets) (f
 at_from : (test : Option Socket → Bool) (from : ℕ) (sockets : Sockets) (found : ℕ) → position_from test from sockets ≡ Some found → Found test from sockets found
 at_from test from [] found is = absurd (cc)
 at_from test from (first ∷ rest) found is = elim (true_or_false (test first)) [
-  | inl yes ↦ record { place = 0; is = let same : from ≡ found = let it = rw yes at is in cc in omega arith; passes = yes }
-  | inr no ↦ (
-      let behind = at_from test (from + 1) rest found (rw no at is) in
+  | inl holds ↦ record { place = 0; is = let same : from ≡ found = let it = rw holds at is in cc in omega arith; passes = holds }
+  | inr fails ↦ (
+      let behind = at_from test (from + 1) rest found (rw fails at is) in
       let further = behind.is in
       record { place = suc behind.place; is = omega (arith, further); passes = behind.passes }
       )
@@ -51,21 +51,21 @@ at_from test from (first ∷ rest) found is = elim (true_or_false (test first)) 
 is_number_same : (number : ℕ) (node : Option ℕ) → is_number number node ≡ true → node ≡ Some number
 is_number_same number None is = absurd (cc)
 is_number_same number (Some other) is = elim (eqb_tells other number) [
-  | inl (yes, same) ↦ ap Some same
-  | inr (no, differs) ↦ absurd (cc)
+  | inl (holds, same) ↦ ap Some same
+  | inr (fails, differs) ↦ absurd (cc)
 ]
 
 same_is_number : (number : ℕ) (node : Option ℕ) → node ≡ Some number → is_number number node ≡ true
 same_is_number number None is = absurd (cc)
 same_is_number number (Some other) is = elim (eqb_tells other number) [
-  | inl (yes, same) ↦ yes
-  | inr (no, differs) ↦ absurd (differs (cc))
+  | inl (holds, same) ↦ holds
+  | inr (fails, differs) ↦ absurd (differs (cc))
 ]
 
 other_is_no_number : (number : ℕ) (node : Option ℕ) → node ≢ Some number → is_number number node ≡ false
 other_is_no_number number node differs = elim (true_or_false (is_number number node)) [
-  | inl yes ↦ absurd (differs (is_number_same number node yes))
-  | inr no ↦ no
+  | inl holds ↦ absurd (differs (is_number_same number node holds))
+  | inr fails ↦ fails
 ]
 
 -- what it is that listens: a bound socket, with those that wait for it
@@ -96,10 +96,12 @@ there_listens number (Some socket) waiting bound stage = rw (same_is_number numb
 
 pub listener_found : (sockets : Sockets) (place number : ℕ) (waiting : List ℕ) → AreNamedOnce sockets → (socket_at sockets place).node ≡ Some number → stage_at sockets place ≡ Listening waiting → listener_at sockets number ≡ Some place
 listener_found sockets place number waiting once bound stage =
-    found_from (listens_at number) 0 sockets place refl (there_listens number (sock_at sockets place) waiting bound stage) (λ other lt. elim (true_or_false (listens_at number (sock_at sockets other))) [
-      | inl yes ↦ absurd (let same = once.one_socket other place number (listens_there number (sock_at sockets other) yes).bound bound in omega (arith, same))
-      | inr no ↦ no
-    ])
+    let start : 0 + place ≡ place = omega arith in
+    subst (λ at. listener_at sockets number ≡ Some at) start
+    (found_from (listens_at number) 0 sockets place refl (there_listens number (sock_at sockets place) waiting bound stage) (λ other lt. elim (true_or_false (listens_at number (sock_at sockets other))) [
+      | inl holds ↦ absurd (let same = once.one_socket other place number (listens_there number (sock_at sockets other) holds).bound bound in omega (arith, same))
+      | inr fails ↦ fails
+    ]))
 
 pub listener_is : (sockets : Sockets) (place number : ℕ) → listener_at sockets number ≡ Some place → Listens (socket_at sockets place) number
 listener_is sockets place number is =
@@ -109,8 +111,8 @@ listener_is sockets place number is =
 
 pub nobody_listens : (sockets : Sockets) (number : ℕ) → NamesNone sockets number → listener_at sockets number ≡ None
 nobody_listens sockets number none = none_from (listens_at number) 0 sockets (λ place. elim (true_or_false (listens_at number (sock_at sockets place))) [
-  | inl yes ↦ absurd (none place (listens_there number (sock_at sockets place) yes).bound)
-  | inr no ↦ no
+  | inl holds ↦ absurd (none place (listens_there number (sock_at sockets place) holds).bound)
+  | inr fails ↦ fails
 ])
 
 -- ---- a name is taken from its socket
@@ -167,10 +169,10 @@ no_name_to_free sockets number none = map_same (option_map (unnamed number)) soc
 unnamed_is_unbound : (number : ℕ) (held : Option Socket) → (unwrap_or (option_map (unnamed number) held) new_socket).node ≢ Some number
 unnamed_is_unbound number None is = cc
 unnamed_is_unbound number (Some socket) is = elim (true_or_false (is_number number socket.node)) [
-  | inl yes ↦ (let it = rw yes at is in cc)
-  | inr no ↦ (
-      let still : socket.node ≡ Some number = rw no at is in
-      let yes = same_is_number number socket.node still in
+  | inl holds ↦ (let it = rw holds at is in cc)
+  | inr fails ↦ (
+      let still : socket.node ≡ Some number = rw fails at is in
+      let holds = same_is_number number socket.node still in
       cc
       )
 ]
@@ -186,8 +188,8 @@ freed_once sockets number once = record { one_socket = λ one other name here th
     kept : (held : Option Socket) (name : ℕ) → (unwrap_or (option_map (unnamed number) held) new_socket).node ≡ Some name → (unwrap_or held new_socket).node ≡ Some name
     kept None name is = is
     kept (Some socket) name is = elim (true_or_false (is_number number socket.node)) [
-      | inl yes ↦ absurd (let it = rw yes at is in cc)
-      | inr no ↦ rw no at is
+      | inl holds ↦ absurd (let it = rw holds at is in cc)
+      | inr fails ↦ rw fails at is
     ]
 
     was : (place name : ℕ) → (socket_at (none_bound_to sockets number) place).node ≡ Some name → (socket_at sockets place).node ≡ Some name

@@ -1,7 +1,7 @@
 -- A node names at most one socket, before and after each call.
 use Rattle.std.proofs.Common.{◌≡◌, ◌≢◌, inl, inr, ℕ, ℤ, ◌≤◌, false, List, [], ◌∷◌, ◌++◌, length, take, drop, Option, None, Some, IsSome, refl, sym, ap, ◌∙◌, arith}
 use Rattle.std.proofs.lemmas.Bool.{cases_eq}
-use Rattle.posix_defs.specs.Socket.{Stage, Idle, Listening, Connected, Socket, new_socket, connected_to, peer_of, waiting_of, listening, without_first, without_peer, after_shutdown}
+use Rattle.posix_defs.specs.Socket.{Stage, Listening, Connected, Socket, new_socket, connected_to, peer_of, waiting_of, listening, without_first, after_shutdown}
 use Rattle.posix_defs.specs.Sockets.{Sockets, sock_at, socket_at, stage_at, with_socket, with_stage, with_name, with_new, with_pair, after_listen, after_connect, after_accept, after_read, sent_to, after_write, after_shut, gone, all_gone, after_close}
 use Rattle.posix_defs.specs.SocketLinks.{AreLoose, AreLinked, AreNamedOnce, NamesNone, WaitsNowhere}
 use Rattle.socket_laws.proofs.SocketTable.{length-with, there_within, Changed-with}

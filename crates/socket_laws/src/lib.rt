@@ -5,7 +5,10 @@ mod names;
 mod pipes;
 mod sockets;
 
-pub use names::{a_node_names_one_socket, a_socket_moves_no_more_than_it_holds};
+pub use names::{
+    a_freed_name_is_nobodys, a_node_names_one_socket, a_socket_moves_no_more_than_it_holds,
+    who_listens_is_the_one_that_is_bound,
+};
 pub use pipes::{
     a_pipe_moves_no_more_than_it_holds, bytes_keep_their_order, chunks_follow_the_bytes,
     writes_keep_to_their_room,
