@@ -85,7 +85,7 @@ write_target script plain pid opened addr n done (OnPipe place) =
 write_target script plain pid opened addr n done (OnSocket place) =
     if is_connected (stage_at plain.files.sockets place)
     then write_queue script plain pid opened.is.nonblock n done (put_in_socket plain.files place (bytes_left plain pid addr n done))
-        (sock_write plain.files.sockets place opened.is.nonblock (n - done))
+    (sock_write plain.files.sockets place opened.is.nonblock (n - done))
     else failed script plain pid ENOTCONN
 
 -- n bytes of memory go to what a descriptor is open on, of which some were moved before (POSIX write)
@@ -105,7 +105,7 @@ abbrev pub pwrite_target : Script → Plain → ℕ → ℤ → ℤ → ℕ → 
 pwrite_target script plain pid addr n at (OnNode number) =
     if is_directory plain.files.tree number then failed script plain pid EISDIR
     else of_bytes script plain pid addr n
-        (wrote_at script plain pid (tree_write plain.files.tree number at (bytes_left plain pid addr (count_of n) 0)))
+    (wrote_at script plain pid (tree_write plain.files.tree number at (bytes_left plain pid addr (count_of n) 0)))
 pwrite_target script plain pid addr n at (OnPipe place) = failed script plain pid ESPIPE
 pwrite_target script plain pid addr n at (OnSocket place) = failed script plain pid ESPIPE
 
