@@ -315,7 +315,7 @@ fn would_sleep(objects: &Objects, pid: u32, which: i64, options: i64) -> bool
 pub fn would_block(objects: &Objects, pid: u32, wait: Option<&Awaited>) -> bool
     requires { Holds objects.now.heap objects.now.procs }
     ensures { (script : Script) (plain : Plain) (account : Frames) → StandFor script objects.now plain account
-        → (call : Call) → option_copied wait ≡ wait_of call → result ≡ blocks (machine script plain pid call) }
+        → (call : Call) → option_copied wait.entry ≡ wait_of call → result ≡ blocks (machine script plain pid call) }
 {
     match wait {
         Some(
