@@ -20,16 +20,16 @@ use Rattle.call_run.proofs.WithRanges.{length-with_range}
 use Rattle.call_run.proofs.memory_calls.map.Goals as goal
 
 back_is : (c : goal.After-set_proc_nodes)
-    → c.set_proc_nodes.new.self ≡ record c.map.new.heap { procs = put c.map.new.heap.procs c.space_of.result.0 (record c.space_of.ensures.proc { nodes = c.map.new.self }) }
+    → c.set_proc_nodes.new.self ≡ record c.map.new.heap { procs = put c.map.new.heap.procs c.space_of-key.result.0 (record c.space_of-key.ensures.proc { nodes = c.map.new.self }) }
 back_is c =
-    nodes_back c.args.objects.now c.map.new.heap c.set_proc_nodes.new.self c.args.pid c.space_of.result.0 c.space_of.result.1 c.map.new.self c.nodes.result c.space_of.ensures
+    nodes_back c.args.objects.now c.map.new.heap c.set_proc_nodes.new.self c.args.pid c.space_of-key.result.0 c.space_of-key.result.1 c.map.new.self c.nodes.result c.space_of-key.ensures
     c.map.ensures.moves c.set_proc_nodes.ensures.kept c.nodes.ensures.value
 
 pub map-requires-clause-owned : goal.map-requires-clause-owned
-map-requires-clause-owned c = c.space_of.ensures.owned
+map-requires-clause-owned c = c.space_of-key.ensures.owned
 
 pub set_proc_nodes-requires : goal.set_proc_nodes-requires
-set_proc_nodes-requires c = ap is_some (ap (λ (h : Heap). object h.procs c.space_of.result.0) c.map.ensures.moves.kept ∙ c.space_of.ensures.there)
+set_proc_nodes-requires c = ap is_some (ap (λ (h : Heap). object h.procs c.space_of-key.result.0) c.map.ensures.moves.kept ∙ c.space_of-key.ensures.there)
 
 pub returns-clause-paid : goal.returns-clause-paid
 returns-clause-paid c =
@@ -38,12 +38,12 @@ returns-clause-paid c =
 
 pub returns-clause-kept : goal.returns-clause-kept
 returns-clause-kept c = λ script kept.
-    kept_then c.args.objects.now c.map.new.heap c.set_proc_nodes.new.self c.args.pid c.space_of.result.0 c.space_of.result.1 c.map.new.self c.space_of.ensures c.map.ensures.moves (back_is c)
+    kept_then c.args.objects.now c.map.new.heap c.set_proc_nodes.new.self c.args.pid c.space_of-key.result.0 c.space_of-key.result.1 c.map.new.self c.space_of-key.ensures c.map.ensures.moves (back_is c)
     script kept c.nodes.ensures.groups
 
 pub returns-clause-runs : goal.returns-clause-runs
 returns-clause-runs c =
-    runs_then c.args.objects.now c.map.new.heap c.set_proc_nodes.new.self c.args.pid c.space_of.result.0 c.space_of.result.1 c.map.new.self c.space_of.ensures c.map.ensures.moves (back_is c)
+    runs_then c.args.objects.now c.map.new.heap c.set_proc_nodes.new.self c.args.pid c.space_of-key.result.0 c.space_of-key.result.1 c.map.new.self c.space_of-key.ensures c.map.ensures.moves (back_is c)
     c.requires.kept.0 c.requires.kept.1
 
 answered : Option ℕ → Result ℕ Errno
@@ -80,8 +80,8 @@ returns-then-length-gt-SPACE-clause-found c = λ script plain account stands.
 
 pub overflow_mul-result : goal.overflow_mul-result
 overflow_mul-result c =
-    let memory = memory_at c.args.objects.now.heap c.space_of.result.1 in
-    let known = c.map.ensures.found memory (memory_at-stands c.args.objects.now.heap c.space_of.result.1) in
+    let memory = memory_at c.args.objects.now.heap c.space_of-key.result.1 in
+    let known = c.map.ensures.found memory (memory_at-stands c.args.objects.now.heap c.space_of-key.result.1) in
     let some = was_some (lowest_run memory _) c.in_ok-first.first (sym c.in_ok-first.was ∙ known) in
     let within = run_within (is_mapped memory) _ c.in_ok-first.first some in
     record { fits = small c.in_ok-first.first _ within }
@@ -89,9 +89,9 @@ overflow_mul-result c =
 pub returns-in_err-first-clause-found : goal.returns-in_err-first-clause-found
 unfolding answered
 returns-in_err-first-clause-found c = λ script plain account stands.
-    let memory = memory_at c.args.objects.now.heap c.space_of.result.1 in
-    let here = memory_is script c.args.objects.now plain account c.args.pid c.space_of.result.0 c.space_of.result.1 c.space_of.ensures stands in
-    let known = c.map.ensures.found memory (memory_at-stands c.args.objects.now.heap c.space_of.result.1) in
+    let memory = memory_at c.args.objects.now.heap c.space_of-key.result.1 in
+    let here = memory_is script c.args.objects.now plain account c.args.pid c.space_of-key.result.0 c.space_of-key.result.1 c.space_of-key.ensures stands in
+    let known = c.map.ensures.found memory (memory_at-stands c.args.objects.now.heap c.space_of-key.result.1) in
     let gives : c.from_residual.result ≡ Err c.in_err-first.field-0.0 = search rules in
     gives ∙ told_err (lowest_run memory _) c.in_err-first.field-0.0 (sym c.in_err-first.was ∙ known)
     ∙ ap (λ n. answered (lowest_run memory n)) (many c.args.length _ refl)
@@ -100,25 +100,25 @@ returns-in_err-first-clause-found c = λ script plain account stands.
 pub returns-clause-found : goal.returns-clause-found
 unfolding answered
 returns-clause-found c = λ script plain account stands.
-    let memory = memory_at c.args.objects.now.heap c.space_of.result.1 in
-    let here = memory_is script c.args.objects.now plain account c.args.pid c.space_of.result.0 c.space_of.result.1 c.space_of.ensures stands in
-    let known = c.map.ensures.found memory (memory_at-stands c.args.objects.now.heap c.space_of.result.1) in
+    let memory = memory_at c.args.objects.now.heap c.space_of-key.result.1 in
+    let here = memory_is script c.args.objects.now plain account c.args.pid c.space_of-key.result.0 c.space_of-key.result.1 c.space_of-key.ensures stands in
+    let known = c.map.ensures.found memory (memory_at-stands c.args.objects.now.heap c.space_of-key.result.1) in
     told_ok (lowest_run memory _) c.in_ok-first.first (sym c.in_ok-first.was ∙ known)
     ∙ ap (λ n. answered (lowest_run memory n)) (many c.args.length _ refl)
     ∙ ap (λ m. answered (lowest_run m (pages_in c.args.length))) (sym here)
 
 pub returns-clause-mapped : goal.returns-clause-mapped
 returns-clause-mapped c = λ script plain account first stands is.
-    let memory = memory_at c.args.objects.now.heap c.space_of.result.1 in
-    let known = c.map.ensures.found memory (memory_at-stands c.args.objects.now.heap c.space_of.result.1) in
+    let memory = memory_at c.args.objects.now.heap c.space_of-key.result.1 in
+    let known = c.map.ensures.found memory (memory_at-stands c.args.objects.now.heap c.space_of-key.result.1) in
     let some = was_some (lowest_run memory _) c.in_ok-first.first (sym c.in_ok-first.was ∙ known) in
     let within = run_within (is_mapped memory) _ c.in_ok-first.first some in
     let new : Objects = record { heap = c.set_proc_nodes.new.self; procs = c.args.objects.now.procs } in
-    let whole : length memory ≡ 256 = length-memory_at c.args.objects.now.heap c.space_of.result.1 in
+    let whole : length memory ≡ 256 = length-memory_at c.args.objects.now.heap c.space_of-key.result.1 in
     let count = (c.args.length + 4096 - 1) / 4096 in
     subst (λ n. StandFor script new (remembered plain c.args.pid (with_pages (memory_of plain.table c.args.pid) first n)) (after_map account c.args.pid first n)) (many c.args.length count refl)
     (subst (λ f. StandFor script new (remembered plain c.args.pid (with_pages (memory_of plain.table c.args.pid) f count)) (after_map account c.args.pid f count)) (same_first c.in_ok-first.first first is)
-    (stand_then c.args.objects.now c.map.new.heap c.set_proc_nodes.new.self c.args.pid c.space_of.result.0 c.space_of.result.1 c.map.new.self c.space_of.ensures c.map.ensures.moves (back_is c)
+    (stand_then c.args.objects.now c.map.new.heap c.set_proc_nodes.new.self c.args.pid c.space_of-key.result.0 c.space_of-key.result.1 c.map.new.self c.space_of-key.ensures c.map.ensures.moves (back_is c)
     script plain account (after_map account c.args.pid c.in_ok-first.first count) (λ m. with_pages m c.in_ok-first.first count)
     c.requires.kept.1.holds stands
     (c.in_ok-first.ensures.memory memory whole)
