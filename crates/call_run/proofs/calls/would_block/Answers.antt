@@ -3,6 +3,7 @@ use Rattle.std.proofs.lemmas.Int.{to_z-of_z}
 use mir.Val.{of_z, to_z}
 use Rattle.kabi_calls.specs.declared.calls.Call.TheVariants.{Waitpid}
 use Rattle.posix_defs.specs.Machine.{blocks, machine}
+use Rattle.prog_ctl.specs.declared.waits.Awaited.TheVariants.{Child}
 use Rattle.call_run.proofs.Sleeping.{blocks_as, is_wait, no_fault}
 use Rattle.call_run.proofs.calls.would_block.Goals as goal
 
@@ -10,7 +11,8 @@ pub returns-then-may_wait : goal.returns-then-may_wait
 returns-then-may_wait c = λ script plain account stands call e.
     let child : to_z w64 (of_z w64 c.in-Some-Child.child) ≡ c.in-Some-Child.child = search (rules, to_z-of_z) in
     let options : to_z w64 (of_z w64 c.in-Some-Child.options) ≡ c.in-Some-Child.options = search (rules, to_z-of_z) in
-    let it = is_wait call c.in-Some-Child.child c.in-Some-Child.options (sym (ap option_copied c.in-Some-Child.is ∙ ap Some c.in-Some-Child.field-0-is) ∙ e) in
+    let seen : option_copied c.args.wait ≡ Some (Child c.in-Some-Child.child c.in-Some-Child.options) = search rules in
+    let it = is_wait call c.in-Some-Child.child c.in-Some-Child.options (sym seen ∙ e) in
     let none = no_fault _ (sym c.may_wait.ensures.checked ∙ c.if-may_wait.true) in
     c.would_sleep.ensures script plain account stands
     ∙ sym (blocks_as script plain c.args.pid (to_z w64 (of_z w64 c.in-Some-Child.child)) (to_z w64 (of_z w64 c.in-Some-Child.options)) none)
