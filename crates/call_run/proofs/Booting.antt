@@ -25,7 +25,7 @@ use Rattle.kheap_laws.proofs.OwnerLemmas.{IsOwned-same, empty_heap-owned}
 use Rattle.posix_defs.specs.Control.{settled}
 use Rattle.posix_defs.specs.History.{boots}
 use Rattle.posix_defs.specs.Memory.{boot_frames}
-use Rattle.posix_defs.specs.Plain.{at_start, boot_plain, control_of, first_process, place_of, root}
+use Rattle.posix_defs.specs.Plain.{at_start, boot_plain, control_of, first_process, place_of}
 use Rattle.posix_defs.specs.SoundTasks.{AllAtHome}
 use Rattle.posix_defs.specs.ValidScript.{IsValid}
 use Rattle.posix_defs.specs.World.{boot_world}
@@ -41,7 +41,7 @@ use Rattle.proc_table.specs.Table.{no_table, processes}
 use Rattle.proc_table.proofs.LawLemmas.{on-account, on-moves, on-procs, on-table}
 use Rattle.call_run.specs.declared.objects.Objects.{Objects}
 use Rattle.call_run.specs.Booting.{HasBooted}
-use Rattle.call_run.specs.Objects.{AreAtCalls, AreKept, HasRootAlone, MovesOn, no_owners, procs_of}
+use Rattle.call_run.specs.Objects.{AreAtCalls, AreKept, HasRootAlone, MovesOn, no_owners, procs_of, root_vnode}
 use Rattle.call_run.specs.Standing.{StandsFor}
 use Rattle.call_run.proofs.GoingOn.{some_same}
 use Rattle.call_run.proofs.Keeping.{all_on, root_on}
@@ -84,8 +84,8 @@ empty_owned heap =
     both {xs} {ys} one other = ap (λ zs. zs ++ ys) one ∙ other
 
 -- The root is put in an empty heap.
-module _ (heap key : ℕ) (vnode : Vnode) (empty rooted : Heap) (is_empty : empty ≡ empty_heap heap) (none : object empty.vnodes key ≡ None)
-    (stored : object rooted.vnodes key ≡ Some vnode) (number : vnode.number ≡ root)
+module _ (heap disk key : ℕ) (vnode : Vnode) (empty rooted : Heap) (is_empty : empty ≡ empty_heap heap) (none : object empty.vnodes key ≡ None)
+    (stored : object rooted.vnodes key ≡ Some vnode) (is_root : vnode ≡ root_vnode disk)
     (kept : rooted ≡ record empty { vnodes = put empty.vnodes key vnode; high = rooted.high }) where
   -- what stands there but for the root
   same : {X : Type 0} (of : Heap → X) → ((h : Heap) (vnodes : List (Option Vnode)) (high : ℕ) → of (record h { vnodes = vnodes; high = high }) ≡ of h)
@@ -111,12 +111,10 @@ module _ (heap key : ℕ) (vnode : Vnode) (empty rooted : Heap) (is_empty : empt
       ∙ count-put_new empty.vnodes key vnode (put-within empty.vnodes key vnode (ap (λ vnodes. object vnodes key) (sym put_there) ∙ stored)) none
       ∙ ap (λ n. n + 1) nothing
 
-  pub root_alone : HasRootAlone rooted
+  pub root_alone : HasRootAlone rooted disk
   root_alone = record {
     key = key;
-    vnode = vnode;
-    root_is = stored;
-    number = number;
+    root_is = stored ∙ ap Some is_root;
     vnodes = one;
     descs = ap count (same (λ h. h.descs) (λ h vnodes high. refl)) ∙ count-none _ (heap / size class.Desc) refl;
     names = ap count (same (λ h. h.names) (λ h vnodes high. refl)) ∙ count-none _ (heap / size class.Name) refl;
@@ -130,8 +128,8 @@ module _ (heap key : ℕ) (vnode : Vnode) (empty rooted : Heap) (is_empty : empt
   rooted_size = same (λ h. h.heap) (λ h vnodes high. refl)
 
 -- The first process is put in that heap, and goes on at a control.
-module _ (heap : ℕ) (control : Control) (rooted : Heap) (mid new : Objects)
-    (no_pages : (k : ℕ) → object rooted.pages k ≡ None) (no_procs : AreKeysOf rooted.procs []) (owned : IsOwned rooted no_owners) (alone : HasRootAlone rooted) (bytes : rooted.heap ≡ heap)
+module _ (heap disk : ℕ) (control : Control) (rooted : Heap) (mid new : Objects)
+    (no_pages : (k : ℕ) → object rooted.pages k ≡ None) (no_procs : AreKeysOf rooted.procs []) (owned : IsOwned rooted no_owners) (alone : HasRootAlone rooted disk) (bytes : rooted.heap ≡ heap)
     (procs : procs_of mid ≡ first_proc ∷ []) (last : mid.procs.last ≡ 1)
     (moves : (others : Owners) → IsOwned rooted others → TableMoves rooted no_table mid.heap mid.procs)
     (table : IsTable mid.heap mid.procs (Some first_process ∷ []))
@@ -157,12 +155,12 @@ module _ (heap : ℕ) (control : Control) (rooted : Heap) (mid new : Objects)
       ∙ ap (map (replaced 1 now)) procs
       ∙ ap (λ (p : Proc). record p { control = control } ∷ []) it_is
 
-  pub has_booted : HasBooted new heap control
+  pub has_booted : HasBooted new heap disk control
   has_booted = record {
     holds = goes.holds;
     all = all_on mid new (all_on (record { heap = rooted; procs = no_table }) mid no_procs made) goes;
     owned = goes.owners no_owners (made.owners no_owners owned);
-    root_alone = root_on mid.heap new.heap goes.kept (root_on rooted mid.heap made.kept alone);
+    root_alone = root_on mid.heap new.heap disk goes.kept (root_on rooted mid.heap disk made.kept alone);
     size = ap (λ h. h.heap) goes.kept ∙ ap (λ h. h.heap) made.kept ∙ bytes;
     first = first;
     last = ap (λ t. t.last) turned.same ∙ last;
@@ -203,7 +201,7 @@ boot_stands script control is program place =
     record { valid = is; program = subst (λ p. p < length script.programs) (sym program) (first_program script is); place = omega (arith, place) }
 
 -- what is kept where the first process stands at its call
-pub boot_kept : (script : Script) (objects : Objects) (control : Control) → HasBooted objects script.heap control → Stands script control → Rests script control
+pub boot_kept : (script : Script) (objects : Objects) (control : Control) → HasBooted objects script.heap script.disk control → Stands script control → Rests script control
     → AreKept script objects
 boot_kept script objects control booted stands rests = record {
   holds = booted.holds;
@@ -239,7 +237,7 @@ boot_controls script control leads pid proc is = elim (eqb_tells 1 pid) [
 
 -- At boot the store stands for one process at the start of the program `init`.
 pub boot_stands_for : (script copy : Script) (objects : Objects) (place : ℕ) (control : Control) → copy ≡ script → place ≡ place_of (codes "init") copy.programs
-    → control ≡ settled copy (at_start place) → Stands copy control → Rests copy control → HasBooted objects copy.heap control
+    → control ≡ settled copy (at_start place) → Stands copy control → Rests copy control → HasBooted objects copy.heap copy.disk control
     → StandsFor script objects (boot_world script)
 boot_stands_for script copy objects place control same named settles stands rests booted =
     let leads : settled script (at_start (place_of (codes "init") script.programs)) ≡ control =

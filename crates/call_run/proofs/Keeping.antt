@@ -50,12 +50,10 @@ all_on old new all moves =
     (keys_once new.heap.procs new.procs.listed 0 new.procs.last moves.holds.stored moves.holds.rising))
 
 -- the root stands alone still
-pub root_on : (old new : Heap) → new ≡ record old { procs = new.procs; nodes = new.nodes; pages = new.pages; high = new.high } → HasRootAlone old → HasRootAlone new
-root_on old new kept root = record {
+pub root_on : (old new : Heap) (disk : ℕ) → new ≡ record old { procs = new.procs; nodes = new.nodes; pages = new.pages; high = new.high } → HasRootAlone old disk → HasRootAlone new disk
+root_on old new disk kept root = record {
   key = root.key;
-  vnode = root.vnode;
   root_is = ap (λ h. object h.vnodes root.key) kept ∙ root.root_is;
-  number = root.number;
   vnodes = ap (λ h. count h.vnodes) kept ∙ root.vnodes;
   descs = ap (λ h. count h.descs) kept ∙ root.descs;
   names = ap (λ h. count h.names) kept ∙ root.names;
@@ -73,7 +71,7 @@ kept_on script old new kept moves groups calls = record {
   all = all_on old new kept.all moves;
   owned = moves.owners no_owners kept.owned;
   groups = groups;
-  root_alone = root_on old.heap new.heap moves.kept kept.root_alone;
+  root_alone = root_on old.heap new.heap script.disk moves.kept kept.root_alone;
   size = ap (λ h. h.heap) moves.kept ∙ kept.size;
   calls = calls;
 }

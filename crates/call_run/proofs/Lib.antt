@@ -12,6 +12,7 @@ pub mod Forgetting
 pub mod Leading
 pub mod Waits
 pub mod SpacesBack
+pub mod SpacesInHand
 pub mod LongRuns
 pub mod RightNumbers
 pub mod FrameCounts

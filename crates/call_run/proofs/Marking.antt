@@ -19,12 +19,10 @@ marked_as objects high marks = record { heap = record objects.heap { high = high
 owned_marked : (h : Heap) (high marks : ℕ) (owners : Owners) → IsOwned h owners → IsOwned (record h { high = high; marks = marks }) owners
 owned_marked h high marks owners owned = record { nodes = owned.nodes; mapped = owned.mapped; pages = owned.pages; chunks = owned.chunks; queues = owned.queues }
 
-root_marked : (h : Heap) (high marks : ℕ) → HasRootAlone h → HasRootAlone (record h { high = high; marks = marks })
-root_marked h high marks root = record {
+root_marked : (h : Heap) (high marks disk : ℕ) → HasRootAlone h disk → HasRootAlone (record h { high = high; marks = marks }) disk
+root_marked h high marks disk root = record {
   key = root.key;
-  vnode = root.vnode;
   root_is = root.root_is;
-  number = root.number;
   vnodes = root.vnodes;
   descs = root.descs;
   names = root.names;
@@ -45,7 +43,7 @@ kept_marked script objects high marks kept = record {
   all = kept.all;
   owned = owned_marked objects.heap high marks _ kept.owned;
   groups = kept.groups;
-  root_alone = root_marked objects.heap high marks kept.root_alone;
+  root_alone = root_marked objects.heap high marks script.disk kept.root_alone;
   size = kept.size;
   calls = kept.calls;
 }

@@ -1,8 +1,9 @@
 -- A call that changes nothing but its caller's control.
-use Rattle.std.proofs.Common.{◌≡◌, ℕ, ℤ, true, List, Option, None, Some, refl, ap, sym, ◌∙◌, subst}
+use Rattle.std.proofs.Common.{◌≡◌, ℕ, ℤ, true, List, Option, None, Some, refl, ap, sym, ◌∙◌, subst, w64}
 use Rattle.std.specs.Option.{option_map}
 use Rattle.kabi_calls.specs.declared.calls.Call.{Call}
 use Rattle.kabi_calls.specs.declared.calls.Call.TheVariants as call
+use mir.Val.{of_z, to_z}
 use Rattle.kabi_values.specs.declared.errnos.Errno.{Errno}
 use Rattle.kabi_values.specs.declared.errnos.Errno.TheVariants.{EINVAL}
 use Rattle.kabi_values.specs.declared.replies.Reply.{Reply}
@@ -66,6 +67,19 @@ DoesCall script old pid which told new = Does script old pid which (λ plain. an
 pub does_that : (script : Script) (old new : Objects) (pid : ℕ) (which that : Call) (told : Turned) → which ≡ that
     → DoesCall script old pid that told new → DoesCall script old pid which told new
 does_that script old new pid which that told is does = subst (λ w. DoesCall script old pid w told new) (sym is) does
+
+-- what a call with one operand does, where the operand is handed on as a number of 64 bits
+pub does_one : (script : Script) (old new : Objects) (pid : ℕ) (which : Call) (told : Turned) (of : ℤ → Call) (a : ℤ) → which ≡ of a → to_z w64 (of_z w64 a) ≡ a
+    → DoesCall script old pid (of (to_z w64 (of_z w64 a))) told new → DoesCall script old pid which told new
+does_one script old new pid which told of a is one does = does_that script old new pid which (of (to_z w64 (of_z w64 a))) told (is ∙ ap of (sym one)) does
+
+-- and one with two
+pub does_two : (script : Script) (old new : Objects) (pid : ℕ) (which : Call) (told : Turned) (of : ℤ → ℤ → Call) (a b : ℤ) → which ≡ of a b
+    → to_z w64 (of_z w64 a) ≡ a → to_z w64 (of_z w64 b) ≡ b
+    → DoesCall script old pid (of (to_z w64 (of_z w64 a)) (to_z w64 (of_z w64 b))) told new → DoesCall script old pid which told new
+does_two script old new pid which told of a b is one other does =
+    does_that script old new pid which (of (to_z w64 (of_z w64 a)) (to_z w64 (of_z w64 b))) told
+    (is ∙ ap (λ z. of z b) (sym one) ∙ ap (of (to_z w64 (of_z w64 a))) (sym other)) does
 
 -- a number that is told
 pub does_tell : (script : Script) (old new : Objects) (pid : ℕ) (which : Call) (number : ℤ) (told : Turned) (answer : Plain → Answer) (value : Plain → ℤ)

@@ -1,19 +1,25 @@
 -- Whether a wait for a child would sleep.
-use Rattle.std.proofs.Common.{◌≡◌, ℕ, ℤ, pos, not, Bool, true, false, cond, Option, None, Some, refl, ap, sym, ◌∙◌}
+use Rattle.std.proofs.Common.{◌≡◌, ℕ, ◌==◌, ℤ, pos, negsuc, not, Bool, true, false, cond, length, Option, None, Some, refl, ap, sym, ◌∙◌}
 use Rattle.std.specs.Prelude.{is_none}
-use Rattle.kabi_calls.specs.Arguments.{argument_fault}
+use Rattle.kabi_calls.specs.Arguments.{argument_fault, count_of}
 use Rattle.kabi_calls.specs.declared.calls.Call.{Call}
 use Rattle.kabi_values.specs.declared.errnos.Errno.{Errno}
 use Rattle.kabi_calls.specs.declared.calls.Call.TheVariants as call
 use Rattle.kabi_values.specs.declared.replies.Reply.TheVariants.{Val}
 use Rattle.kabi_types.specs.declared.scripts.Script.{Script}
-use Rattle.posix_defs.specs.Memory.{Frames}
-use Rattle.posix_defs.specs.Answer.{Blocked, replied}
-use Rattle.posix_defs.specs.Machine.{blocks, machine, unless_wrong}
+use Rattle.posix_defs.specs.Memory.{Frames, is_mapped_range, lowest_run}
+use Rattle.posix_defs.specs.MemoryCalls.{mapped_from}
+use Rattle.posix_defs.specs.Answer.{Answer, Blocked, replied}
+use Rattle.posix_defs.specs.Forking.{is_full}
+use Rattle.posix_defs.specs.Killing.{is_asking, sent_to}
+use Rattle.posix_defs.specs.Machine.{answer_to, blocks, machine, unless_wrong}
+use Rattle.posix_defs.specs.Needs.{pages_in}
 use Rattle.posix_defs.specs.Plain.{Plain}
+use Rattle.posix_defs.specs.Process.{Process, memory_of, process_at, runs}
 use Rattle.posix_defs.specs.Waiting.{is_nohang, waitpid}
 use Rattle.prog_ctl.specs.Waits.{wait_of}
 use Rattle.prog_ctl.specs.declared.waits.Awaited.{Awaited}
+use Rattle.prog_ctl.specs.declared.waits.Awaited.TheVariants.{Child}
 use Rattle.proc_table.specs.Changes.{reaped_of}
 use Rattle.proc_table.specs.Standing.{answered_wait}
 use Rattle.proc_table.specs.declared.reaped.Reaped.{Reaped}
@@ -63,12 +69,55 @@ pub no_fault : (fault : Option Errno) → is_none fault ≡ true → fault ≡ N
 no_fault None e = refl
 no_fault (Some errno) e = cc
 
-waited : Option Awaited → Awaited
-waited None = record { child = pos 0; options = pos 0 }
-waited (Some wait) = wait
+-- ---- what a call waits for
 
--- a call that waits for something is that wait
-pub is_wait : (which : Call) (wait : Awaited) → Some wait ≡ wait_of which → call.Waitpid wait.child wait.options ≡ which
-unfolding waited
-is_wait (call.Waitpid child options) wait e = ap (λ o. call.Waitpid (waited o).child (waited o).options) e
-is_wait _ wait e = cc
+waited_pid : Option Awaited → ℤ
+waited_pid (Some (Child child options)) = child
+waited_pid _ = pos 0
+
+waited_options : Option Awaited → ℤ
+waited_options (Some (Child child options)) = options
+waited_options _ = pos 0
+
+-- a call that waits for a child is that wait
+pub is_wait : (which : Call) (child options : ℤ) → Some (Child child options) ≡ wait_of which → call.Waitpid child options ≡ which
+unfolding waited_pid waited_options
+is_wait (call.Waitpid a b) child options e = ap (λ o. call.Waitpid (waited_pid o) (waited_options o)) e
+is_wait _ child options e = cc
+
+abbrev pub waits_for_child : Option Awaited → Bool
+waits_for_child (Some (Child child options)) = true
+waits_for_child _ = false
+
+if_goes_on : (b : Bool) (one other : Answer) → blocks one ≡ false → blocks other ≡ false → blocks (cond b one other) ≡ false
+if_goes_on true one other first second = first
+if_goes_on false one other first second = second
+
+-- Of the calls that are built a wait for a child alone blocks.
+module _ (script : Script) (plain : Plain) (pid : ℕ) where
+  sent_goes_on : (target : ℕ) (signal : ℤ) (there : Option Process) → blocks (sent_to script plain pid target signal there) ≡ false
+  sent_goes_on target signal None = refl
+  sent_goes_on target signal (Some process) =
+      if_goes_on (is_asking signal) _ _ refl (if_goes_on (target == 1) _ _ refl (if_goes_on (runs process.status) _ _ (if_goes_on (target == pid) _ _ refl refl) refl))
+
+  mapped_goes_on : (count : ℕ) (first : Option ℕ) → blocks (mapped_from script plain pid count first) ≡ false
+  mapped_goes_on count None = refl
+  mapped_goes_on count (Some first) = refl
+
+  answer_goes_on : (which : Call) → waits_for_child (wait_of which) ≡ false → blocks (answer_to script plain pid which) ≡ false
+  answer_goes_on call.Fork other = if_goes_on (is_full plain) _ _ refl refl
+  answer_goes_on (call.Waitpid child options) other = cc
+  answer_goes_on (call.Kill (pos target) signal) other = sent_goes_on target signal (process_at plain.table target)
+  answer_goes_on (call.Kill (negsuc target) signal) other = refl
+  answer_goes_on (call.Mmap length) other = mapped_goes_on (pages_in (count_of length)) (lowest_run (memory_of plain.table pid) (pages_in (count_of length)))
+  answer_goes_on (call.Store addr bytes) other = if_goes_on (is_mapped_range (memory_of plain.table pid) (count_of addr) (length bytes)) _ _ refl refl
+  answer_goes_on (call.Load addr n) other = if_goes_on (is_mapped_range (memory_of plain.table pid) (count_of addr) (count_of n)) _ _ refl refl
+  answer_goes_on _ other = refl
+
+  unless_wrong_goes_on : (fault : Option Errno) (answer : Answer) → blocks answer ≡ false → blocks (unless_wrong script plain pid fault answer) ≡ false
+  unless_wrong_goes_on None answer goes = goes
+  unless_wrong_goes_on (Some errno) answer goes = refl
+
+  pub goes_on : (which : Call) (wait : Option Awaited) → wait ≡ wait_of which → waits_for_child wait ≡ false → blocks (machine script plain pid which) ≡ false
+  goes_on which wait is other =
+      unless_wrong_goes_on (argument_fault which) (answer_to script plain pid which) (answer_goes_on which (ap waits_for_child (sym is) ∙ other))

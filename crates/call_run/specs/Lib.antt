@@ -5,3 +5,5 @@ pub mod Uses
 pub mod Endings
 pub mod Booting
 pub mod Weights
+pub mod Purses
+pub mod Spaces

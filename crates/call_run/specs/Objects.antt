@@ -9,6 +9,7 @@ use Rattle.kheap_shelves.specs.declared.objects.Vnode.{Vnode}
 use Rattle.kheap_slabs.specs.Heap.{Heap}
 use Rattle.kheap_slabs.specs.Keys.{AreKeysOf}
 use Rattle.kheap_slabs.specs.Owners.{Owners, IsOwned}
+use Rattle.posix_defs.specs.DiskContents.{new_root}
 use Rattle.posix_defs.specs.Plain.{root}
 use Rattle.kheap_slabs.specs.Paid.{TakesNothing}
 use Rattle.proc_table.specs.Moves.{ProcTurns}
@@ -65,12 +66,14 @@ AreAtCalls script procs = AllByRecursion (λ proc. proc.status ≡ None → IsAt
 abbrev pub no_owners : Owners
 no_owners = record { spaces = []; queues = [] }
 
--- Of all that isn't a process or its memory the heap has the root's vnode alone.
-pub record HasRootAlone (h : Heap) : Type 0 where
+-- the root of a new disk with so many blocks, as it is kept: with its inode, and pinned by itself
+abbrev pub root_vnode : ℕ → Vnode
+root_vnode blocks = record { number = root; inode = new_root blocks; pins = 1 }
+
+-- Of all that isn't a process or its memory the heap has the root's vnode alone, of a disk with so many blocks.
+pub record HasRootAlone (h : Heap) (disk : ℕ) : Type 0 where
   pub key : ℕ
-  pub vnode : Vnode
-  pub root_is : object h.vnodes key ≡ Some vnode
-  pub number : vnode.number ≡ root
+  pub root_is : object h.vnodes key ≡ Some (root_vnode disk)
   pub vnodes : count h.vnodes ≡ 1
   pub descs : count h.descs ≡ 0
   pub names : count h.names ≡ 0
@@ -86,6 +89,6 @@ pub record AreKept (script : Script) (objects : Objects) : Type 0 where
   pub all : AreKeysOf objects.heap.procs (keys_of objects.procs.listed)
   pub owned : IsOwned objects.heap (with_procs (procs_of objects) no_owners)
   pub groups : AllByRecursion (λ proc. length proc.nodes ≡ 4) (procs_of objects)
-  pub root_alone : HasRootAlone objects.heap
+  pub root_alone : HasRootAlone objects.heap script.disk
   pub size : objects.heap.heap ≡ script.heap
   pub calls : AreAtCalls script (procs_of objects)

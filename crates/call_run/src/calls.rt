@@ -1,7 +1,7 @@
 //! What each call does to the heap and to the processes. Every function here stands to the plain machine's definition of its
 //! call.
 
-ghost use Rattle.std.specs.Prelude.{◌≡◌, ◌≢◌, ◌+◌, ◌<◌, ◌≤◌, true, None};
+ghost use Rattle.std.specs.Prelude.{◌≡◌, ◌≢◌, ◌+◌, ◌<◌, ◌≤◌, true, None, option_copied};
 ghost use Rattle.kabi_calls.specs.Arguments.{argument_fault};
 ghost use Rattle.kabi_calls.specs.declared.calls.Call.{Call};
 ghost use Rattle.kabi_types.specs.declared.scripts.Control.{Control};
@@ -32,6 +32,7 @@ ghost use Rattle.call_run.specs.Uses.{UsesAtMost};
 use crate::endings::{SIGKILL, end};
 use crate::memory_calls::{load, mmap, munmap, store};
 use crate::objects::{Caller, Objects};
+use crate::purses::{Target, purse_for};
 use kabi_types::{Call, Control, Errno, Need, Reply, Script, may_wait};
 use kheap_shelves::Purse;
 use posix_defs::Turned;
@@ -221,7 +222,7 @@ fn run_right(
 {
     let pid = caller.pid;
     let control = caller.control;
-    let mut purse = Purse::of(need);
+    let mut purse = purse_for(need, Target::File);
     match call {
         Call::Fork => fork(script, objects, &mut purse, pid, control),
         Call::Mmap { length } => mmap(script, objects, &mut purse, pid, control, *length),
@@ -309,17 +310,24 @@ fn would_sleep(objects: &Objects, pid: u32, which: i64, options: i64) -> bool
     }
 }
 
-/// Whether a process's call would block now. Of the call it asks only for what that waits, which is nothing for any but
-/// `waitpid`.
-pub fn would_block(objects: &Objects, pid: u32, wait: Option<Awaited>) -> bool
+/// Whether a process's call would block now. Of the call it asks only for what that waits for: a call that waits for nothing
+/// never blocks, and none that is built waits for anything but a child.
+pub fn would_block(objects: &Objects, pid: u32, wait: Option<&Awaited>) -> bool
     requires { Holds objects.now.heap objects.now.procs }
     ensures { (script : Script) (plain : Plain) (account : Frames) → StandFor script objects.now plain account
-        → (call : Call) → wait ≡ wait_of call → result ≡ blocks (machine script plain pid call) }
+        → (call : Call) → option_copied wait.entry ≡ wait_of call → result ≡ blocks (machine script plain pid call) }
 {
     match wait {
-        Some(Awaited { child, options }) => {
-            may_wait(child, options) && would_sleep(objects, pid, child, options)
-        }
+        Some(
+            Awaited::Child {
+                pid: child,
+                options,
+            },
+        ) => may_wait(*child, *options) && would_sleep(objects, pid, *child, *options),
+        Some(Awaited::Bytes { .. }) => false,
+        Some(Awaited::Room { .. }) => false,
+        Some(Awaited::Peer { .. }) => false,
+        Some(Awaited::Events { .. }) => false,
         None => false,
     }
 }

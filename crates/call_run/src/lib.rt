@@ -7,10 +7,12 @@ mod endings;
 pub mod laws;
 mod memory_calls;
 mod objects;
+mod purses;
 mod store;
 mod turns;
 mod victims;
 
 pub use calls::{go_on, run, would_block};
 pub use objects::{Caller, Objects};
+pub use purses::{Target, purse_for};
 pub use store::Store;

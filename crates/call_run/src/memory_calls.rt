@@ -15,6 +15,7 @@ ghost use Rattle.posix_defs.specs.Plain.{Plain};
 ghost use Rattle.posix_defs.specs.Process.{memory_of};
 ghost use Rattle.proc_table.specs.Procs.{IsAlive};
 ghost use Rattle.call_run.specs.Objects.{AreKept, Runs, procs_of};
+ghost use Rattle.call_run.specs.Spaces.{HasSpace};
 ghost use Rattle.call_run.specs.Standing.{Does, StandFor};
 
 use crate::calls::go_on;
@@ -30,6 +31,18 @@ const SPACE: u64 = 1048576;
 
 /// How many bytes a page has.
 const PAGE: u32 = 4096;
+
+/// The key of a process that runs, and its address space.
+fn space_of(objects: &Objects, pid: u32) -> (u32, Space)
+    requires kept { (script : Script) × AreKept script objects.now }
+    requires alive { IsAlive (procs_of objects.now) pid }
+    ensures { HasSpace objects.now pid result.0 result.1 }
+{
+    let Some(key) = objects.procs.key_of(pid) else {
+        unreachable!();
+    };
+    (key, Space::of(objects.heap.get_proc(key).nodes))
+}
 
 /// Maps the lowest run of pages that has room for so many bytes, and answers its address; EMFILE where none has.
 fn map(objects: &mut Objects, purse: &mut Purse, pid: u32, length: u64) -> Result<u32, Errno>
@@ -50,11 +63,7 @@ fn map(objects: &mut Objects, purse: &mut Purse, pid: u32, length: u64) -> Resul
     if length > SPACE {
         return Err(Errno::EMFILE);
     }
-    let Some(key) = objects.procs.key_of(pid) else {
-        unreachable!();
-    };
-    let proc = objects.heap.get_proc(key);
-    let mut space = Space::of(proc.nodes);
+    let (key, mut space) = space_of(objects, pid);
     let first = space.map(&mut objects.heap, purse, (length as u32 + PAGE - 1) / PAGE)?;
     objects.heap.set_proc_nodes(key, space.nodes());
     Ok(first * PAGE)
@@ -95,11 +104,7 @@ fn unmap(objects: &mut Objects, pid: u32, page: u32, count: u32)
     ensures unmapped { (script : Script) (plain : Plain) (account : Frames) → StandFor script objects.old plain account
         → StandFor script objects.new (remembered plain pid (without_pages (memory_of plain.table pid) page count)) (after_unmap account pid page count) }
 {
-    let Some(key) = objects.procs.key_of(pid) else {
-        unreachable!();
-    };
-    let proc = objects.heap.get_proc(key);
-    let mut space = Space::of(proc.nodes);
+    let (key, mut space) = space_of(objects, pid);
     space.unmap(&mut objects.heap, page, count);
     objects.heap.set_proc_nodes(key, space.nodes());
 }
@@ -161,10 +166,7 @@ fn put(
         → StandFor script objects.new (remembered plain pid (stored (memory_of plain.table pid) addr bytes.now)) (after_put account pid addr (length bytes.now))) }
     ensures unchanged { OnErr result (objects.new ≡ objects.old) }
 {
-    let Some(key) = objects.procs.key_of(pid) else {
-        unreachable!();
-    };
-    let mut space = Space::of(objects.heap.get_proc(key).nodes);
+    let (_, mut space) = space_of(objects, pid);
     if !space.mapped(&objects.heap, addr, bytes.len() as u32) {
         return Err(Errno::EFAULT);
     }
@@ -229,10 +231,7 @@ fn take(objects: &Objects, pid: u32, addr: u32, count: usize) -> Result<Bytes64,
     ensures { (script : Script) (plain : Plain) (account : Frames) → StandFor script objects.now plain account
         → result ≡ (if is_mapped_range (memory_of plain.table pid) addr count then Ok (loaded (memory_of plain.table pid) addr count) else Err EFAULT) }
 {
-    let Some(key) = objects.procs.key_of(pid) else {
-        unreachable!();
-    };
-    let space = Space::of(objects.heap.get_proc(key).nodes);
+    let (_, space) = space_of(objects, pid);
     if !space.mapped(&objects.heap, addr, count as u32) {
         return Err(Errno::EFAULT);
     }

@@ -7,6 +7,7 @@ ghost use Rattle.posix_defs.specs.ValidScript.{IsValid};
 ghost use Rattle.posix_defs.specs.World.{World, boot_world};
 ghost use Rattle.kabi_types.specs.declared.scripts.Control.{Control};
 ghost use Rattle.call_run.specs.Booting.{HasBooted};
+ghost use Rattle.call_run.specs.Objects.{root_vnode};
 ghost use Rattle.call_run.specs.Standing.{StandsFor};
 
 #[cfg(test)]
@@ -47,32 +48,35 @@ impl<F: Scorer, G: Scorer> Model for Store<F, G> {
     ghost invariant = { λ store. AreKept store.script store.objects };
 }
 
-/// The root as a cache keeps it: pinned for good, as a working directory. Until there are files nothing reads more of it than
-/// its number.
-fn root() -> Vnode
-    ensures { result.number ≡ 1 }
+/// The root as a cache keeps it, of a new disk with so many blocks: a directory with one link, whose two entries lie in the
+/// first block behind the table of inodes, which takes a sixteenth of the disk. Its one pin is its own and stays for good; as
+/// long as no call changes a working directory, those of processes aren't counted beside it.
+fn root(blocks: u32) -> Vnode
+    ensures { result ≡ root_vnode blocks }
 {
+    let mut direct = [0; 10];
+    direct[0] = blocks / 16 + 1;
     Vnode {
         number: ROOT,
         inode: Inode {
             kind: 2,
-            nlink: 2,
+            nlink: 1,
             size: 64,
-            direct: [0; 10],
+            direct,
             indirect: 0,
         },
         pins: 1,
     }
 }
 
-/// A heap of so many bytes, with the root's vnode and the first process, which stands at this control.
-fn booted(alloc: Global, heap: u64, control: Control) -> Result<Objects, Memory>
+/// A heap of so many bytes, with the vnode of the root of a new disk and the first process, which stands at this control.
+fn booted(alloc: Global, heap: u64, blocks: u32, control: Control) -> Result<Objects, Memory>
     requires least { 8192 ≤ heap }
     requires most { heap ≤ 8388608 }
-    ensures { IfOk result (λ objects. HasBooted objects heap control) }
+    ensures { IfOk result (λ objects. HasBooted objects heap blocks control) }
 {
     let mut heap = KHeap::boot(alloc, heap)?;
-    let _ = heap.insert_vnode(root());
+    let _ = heap.insert_vnode(root(blocks));
     let procs = ProcTable::boot(&mut heap);
     let mut objects = Objects { heap, procs };
     objects.move_on(1, control);
@@ -95,7 +99,7 @@ impl<F: Scorer, G: Scorer> Store<F, G> {
             done: 0,
         };
         prog_ctl::go_to_call(&script, &mut control);
-        let objects = booted(alloc, script.heap, control)?;
+        let objects = booted(alloc, script.heap, script.disk, control)?;
         Ok(Store {
             script,
             objects,
@@ -145,11 +149,8 @@ impl<F: Scorer, G: Scorer> Turner for Store<F, G> {
     }
 
     fn ready(&self, pid: u32) -> bool {
-        !would_block(
-            &self.objects,
-            pid,
-            turns::waits_for(&self.script, &self.objects, pid),
-        )
+        let wait = turns::waits_for(&self.script, &self.objects, pid);
+        !would_block(&self.objects, pid, wait.as_ref())
     }
 
     fn evictable(&self, _what: Cached) -> bool {

@@ -32,7 +32,7 @@ pub fn next(script: &Script, objects: &Objects, pid: u32) -> Call
     prog_ctl::call_here(script, &proc.control)
 }
 
-/// The child and the options that a live process's next call waits for; None where that call isn't `waitpid`.
+/// What a live process's next call waits for; None where that call never blocks.
 pub fn waits_for(script: &Script, objects: &Objects, pid: u32) -> Option<Awaited>
     requires { (world : World) × StandsFor script.now objects.now world × (is_alive world.plain.table pid ≡ true) }
     ensures { (world : World) → StandsFor script.now objects.now world → is_alive world.plain.table pid ≡ true

@@ -4,3 +4,4 @@ pub mod SampleIsValid
 pub mod Settling
 pub mod Staying
 pub mod ValidPrograms
+pub mod Waiting

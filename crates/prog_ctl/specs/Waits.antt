@@ -3,8 +3,14 @@ use Rattle.std.specs.Prelude.{Option, None, Some}
 use Rattle.kabi_calls.specs.declared.calls.Call.{Call}
 use Rattle.kabi_calls.specs.declared.calls.Call.TheVariants as call
 use Rattle.prog_ctl.specs.declared.waits.Awaited.{Awaited}
+use Rattle.prog_ctl.specs.declared.waits.Awaited.TheVariants.{Child, Bytes, Room, Peer, Events}
 
--- the pid and the options of a call of `waitpid`; None for any other call
+-- five calls may block: `waitpid` for a child, `read` for bytes, `write` for room, `accept` for a peer, and `poll` for events;
+-- None for any other call, which never does
 abbrev pub wait_of : Call → Option Awaited
-wait_of (call.Waitpid pid options) = Some (record { child = pid; options = options })
+wait_of (call.Waitpid pid options) = Some (Child pid options)
+wait_of (call.Read fd addr n) = Some (Bytes fd addr n)
+wait_of (call.Write fd addr n done) = Some (Room fd addr n done)
+wait_of (call.Accept fd) = Some (Peer fd)
+wait_of (call.Poll timeout entries) = Some (Events timeout entries)
 wait_of _ = None

@@ -79,7 +79,7 @@ pub fn call_here(script: &Script, control: &Control) -> Call
     )
 }
 
-/// The child and the options of the next call of a process that stands at it, where that is `waitpid`; None where it is another.
+/// What the next call of a process that stands at it waits for; None where it is one that never blocks.
 pub fn wait_here(script: &Script, control: &Control) -> Option<Awaited>
     requires stands { Stands script.now control.now }
     requires rests { Rests script.now control.now }

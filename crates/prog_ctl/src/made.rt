@@ -368,23 +368,48 @@ pub fn call_at(control: &Control, statement: Option<&Statement>) -> Call
     made(control, *kind, operands.items(), texts.items())
 }
 
-/// The child and the options of the `waitpid` that a statement makes; None where its call is another one. It tells as much as
-/// the call does, and makes none.
+/// What a call of this kind waits for, with these operands in the order of its fields; None where calls of this kind never
+/// block.
+fn awaited(control: &Control, kind: CallKind, operands: &[Operand]) -> Option<Awaited>
+    requires count { length operands.now ≤ 17 }
+    requires each { AllByRecursion IsOperand operands.now }
+    ensures { (texts : List (List ℕ)) → result ≡ wait_of (spec.made kind (map (value_of control.now) operands.now) texts control.now.done) }
+{
+    match kind {
+        CallKind::Waitpid => Some(Awaited::Child {
+            pid: operand_at(control, operands, 0),
+            options: operand_at(control, operands, 1),
+        }),
+        CallKind::Read => Some(Awaited::Bytes {
+            fd: operand_at(control, operands, 0),
+            addr: operand_at(control, operands, 1),
+            n: operand_at(control, operands, 2),
+        }),
+        CallKind::Write => Some(Awaited::Room {
+            fd: operand_at(control, operands, 0),
+            addr: operand_at(control, operands, 1),
+            n: operand_at(control, operands, 2),
+            done: control.done,
+        }),
+        CallKind::Accept => Some(Awaited::Peer {
+            fd: operand_at(control, operands, 0),
+        }),
+        CallKind::Poll => Some(Awaited::Events {
+            timeout: operand_at(control, operands, 0),
+            entries: entries_of(numbers_of(control, operands).as_slice()),
+        }),
+        _ => None,
+    }
+}
+
+/// What the call that a statement makes waits for; None where that call never blocks. It tells as much as the call does, and
+/// makes none.
 pub fn wait_at(control: &Control, statement: Option<&Statement>) -> Option<Awaited>
     requires { IfSome (option_copied statement) (IsRunnableAt control.now.place) }
     ensures { result ≡ wait_of (call_at control.now (option_copied statement.entry)) }
 {
     match statement {
-        Some(
-            Statement::Invoke {
-                kind: CallKind::Waitpid,
-                operands,
-                ..
-            },
-        ) => Some(Awaited {
-            child: operand_at(control, operands.items(), 0),
-            options: operand_at(control, operands.items(), 1),
-        }),
+        Some(Statement::Invoke { kind, operands, .. }) => awaited(control, *kind, operands.items()),
         Some(_) | None => None,
     }
 }

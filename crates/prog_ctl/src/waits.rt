@@ -1,7 +1,34 @@
-/// What a call of `waitpid` waits for: a child's pid or -1 for any child, and the options, as the script gave them. They
-/// aren't checked yet.
-#[derive(Clone, Copy, Debug, PartialEq, Eq)]
-pub struct Awaited {
-    pub child: i64,
-    pub options: i64,
+use kabi_types::PollList;
+
+/// What a call may wait for, with the operands that tell whether it does: each call that may block has a case. They are as the
+/// script gave them, and aren't checked yet.
+#[derive(Debug, Drop, PartialEq, Eq)]
+pub enum Awaited {
+    /// A child that has ended, for `waitpid`: its pid or -1 for any child, and the options.
+    Child {
+        pid: i64,
+        options: i64,
+    },
+    /// Bytes that can be read, for `read`.
+    Bytes {
+        fd: i64,
+        addr: i64,
+        n: i64,
+    },
+    /// Room for bytes, for `write`: `done` of the `n` are moved.
+    Room {
+        fd: i64,
+        addr: i64,
+        n: i64,
+        done: u32,
+    },
+    /// A peer that connects, for `accept`.
+    Peer {
+        fd: i64,
+    },
+    /// One of several events, for `poll`.
+    Events {
+        timeout: i64,
+        entries: PollList,
+    },
 }

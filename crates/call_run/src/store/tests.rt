@@ -190,6 +190,7 @@ enum Trial {
     AtBoot,
     Refusal,
     Blocking,
+    Heights,
 }
 
 /// Boots a store that is told these scores, and tries this with it.
@@ -218,6 +219,7 @@ fn try_with<F: Scorer, G: Scorer>(
         Trial::AtBoot => is_at_boot(rt, &mut store),
         Trial::Refusal => refuses(rt, &mut store),
         Trial::Blocking => only_a_wait_blocks(rt, &mut store),
+        Trial::Heights => high_begins(rt, &mut store),
     }
     drop(store);
     Ok(())
@@ -352,23 +354,68 @@ fn a_refused_call_is_over(rt: HostRuntime) -> Result<(), Fail> {
 /// The first process has a child that lives.
 const PARENT: &[Row] = &[(1, Ask::Fork, Told::Val(2), 1152)];
 
-fn waiting(child: i64, options: i64) -> Option<Awaited> {
-    Some(Awaited { child, options })
+/// Whether a wait of the first process for a child would block.
+fn waits<F: Scorer, G: Scorer>(store: &Store<F, G>, child: i64, options: i64) -> bool
+    requires { (world : World) × StandsFor store.now.script store.now.objects world }
+{
+    would_block(
+        &store.objects,
+        1,
+        Some(&Awaited::Child {
+            pid: child,
+            options,
+        }),
+    )
 }
 
 fn only_a_wait_blocks<F: Scorer, G: Scorer>(rt: &impl Abort, store: &mut Store<F, G>)
     requires { (world : World) × StandsFor store.old.script store.old.objects world }
 {
     go_through(rt, store, PARENT);
-    let wait = waiting(-1, 0);
-    assert!(rt; would_block(&store.objects, 1, wait) && !would_block(&store.objects, 2, wait));
-    assert!(rt; !would_block(&store.objects, 1, waiting(-1, 1)));
+    assert!(rt; waits(store, -1, 0) && !waits(store, -1, 1) && !waits(store, 0, 0));
+    let child = Awaited::Child {
+        pid: -1,
+        options: 0,
+    };
+    let read = Awaited::Bytes {
+        fd: 0,
+        addr: 4096,
+        n: 1,
+    };
+    assert!(rt; !would_block(&store.objects, 2, Some(&child)));
     assert!(rt;
-        !would_block(&store.objects, 1, waiting(0, 0)) && !would_block(&store.objects, 1, None)
+        !would_block(&store.objects, 1, Some(&read)) && !would_block(&store.objects, 1, None)
     );
 }
 
 #[test]
 fn only_a_wait_would_block(rt: HostRuntime) -> Result<(), Fail> {
     try_it(&rt, 8192, Policy::Heaviest, &Trial::Blocking)
+}
+
+/// The heap grows, shrinks, and stays as it is.
+const GROWS: &[Row] = &[
+    (1, Ask::Fork, Told::Val(2), 1152),
+    (1, Ask::Mmap(4096), Told::Val(4096), 1664),
+];
+
+const SHRINKS: &[Row] = &[(1, Ask::Munmap(4096, 4096), Told::Val(0), 1152)];
+
+const STAYS: &[Row] = &[(1, Ask::Wait(-1, 1), Told::Val(0), 1152)];
+
+fn high_begins<F: Scorer, G: Scorer>(rt: &impl Abort, store: &mut Store<F, G>)
+    requires { (world : World) × StandsFor store.old.script store.old.objects world }
+{
+    go_through(rt, store, GROWS);
+    let grown = store.objects.heap.high();
+    go_through(rt, store, SHRINKS);
+    let shrunk = store.objects.heap.high();
+    go_through(rt, store, STAYS);
+    let stayed = store.objects.heap.high();
+    assert!(rt; (grown, shrunk, stayed) == (1664, 1664, 1152));
+}
+
+#[test]
+fn high_begins_with_each_turn(rt: HostRuntime) -> Result<(), Fail> {
+    try_it(&rt, 8192, Policy::Heaviest, &Trial::Heights)
 }

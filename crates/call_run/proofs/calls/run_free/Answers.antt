@@ -7,7 +7,7 @@ use Rattle.posix_defs.specs.Needs.{slack}
 use Rattle.posix_defs.specs.Process.{parent_of}
 use Rattle.call_run.specs.Uses.{UsesAtMost}
 use Rattle.call_run.proofs.Paying.{uses_nothing}
-use Rattle.call_run.proofs.Replies.{DoesCall, does_fail, does_tell, does_that, others_fail, parent_is}
+use Rattle.call_run.proofs.Replies.{does_fail, does_one, does_tell, does_that, does_two, others_fail, parent_is}
 use Rattle.call_run.proofs.calls.run_free.Goals as goal
 
 pub returns-in-Getpid-clause-does : goal.returns-in-Getpid-clause-does
@@ -40,46 +40,28 @@ returns-in-Exit-clause-kept c = c.exit.ensures.kept c.args.script.now c.requires
 
 pub returns-in-Exit-clause-does : goal.returns-in-Exit-clause-does
 returns-in-Exit-clause-does c =
-    let status : to_z w64 (of_z w64 c.in-Exit.status) ≡ c.in-Exit.status = search (rules, to_z-of_z) in
-    does_that c.args.script.now c.args.objects.now c.exit.new.objects c.args.caller.now.pid c.args.call.now (call.Exit c.in-Exit.status) c.exit.result c.in-Exit.is
-    (subst (λ z. DoesCall c.args.script.now c.args.objects.now c.args.caller.now.pid (call.Exit z) c.exit.result c.exit.new.objects) status
-    (c.exit.ensures.does c.args.script.now c.requires.kept))
+    does_one c.args.script.now c.args.objects.now c.exit.new.objects c.args.caller.now.pid c.args.call.now c.exit.result call.Exit c.in-Exit.status c.in-Exit.is
+    (search (rules, to_z-of_z)) (c.exit.ensures.does c.args.script.now c.requires.kept)
 
 pub returns-in-Waitpid-clause-does : goal.returns-in-Waitpid-clause-does
 returns-in-Waitpid-clause-does c =
-    let which : to_z w64 (of_z w64 c.in-Waitpid.which) ≡ c.in-Waitpid.which = search (rules, to_z-of_z) in
-    let options : to_z w64 (of_z w64 c.in-Waitpid.options) ≡ c.in-Waitpid.options = search (rules, to_z-of_z) in
-    does_that c.args.script.now c.args.objects.now c.wait.new.objects c.args.caller.now.pid c.args.call.now (call.Waitpid c.in-Waitpid.which c.in-Waitpid.options) c.wait.result c.in-Waitpid.is
-    (subst (λ z. DoesCall c.args.script.now c.args.objects.now c.args.caller.now.pid (call.Waitpid c.in-Waitpid.which z) c.wait.result c.wait.new.objects) options
-    (subst (λ z. DoesCall c.args.script.now c.args.objects.now c.args.caller.now.pid (call.Waitpid z (to_z w64 (of_z w64 c.in-Waitpid.options))) c.wait.result c.wait.new.objects) which
-    c.wait.ensures.does))
+    does_two c.args.script.now c.args.objects.now c.wait.new.objects c.args.caller.now.pid c.args.call.now c.wait.result call.Waitpid c.in-Waitpid.which c.in-Waitpid.options c.in-Waitpid.is
+    (search (rules, to_z-of_z)) (search (rules, to_z-of_z)) c.wait.ensures.does
 
 pub returns-in-Kill-clause-does : goal.returns-in-Kill-clause-does
 returns-in-Kill-clause-does c =
-    let target : to_z w64 (of_z w64 c.in-Kill.target) ≡ c.in-Kill.target = search (rules, to_z-of_z) in
-    let signal : to_z w64 (of_z w64 c.in-Kill.signal) ≡ c.in-Kill.signal = search (rules, to_z-of_z) in
-    does_that c.args.script.now c.args.objects.now c.send.new.objects c.args.caller.now.pid c.args.call.now (call.Kill c.in-Kill.target c.in-Kill.signal) c.send.result c.in-Kill.is
-    (subst (λ z. DoesCall c.args.script.now c.args.objects.now c.args.caller.now.pid (call.Kill c.in-Kill.target z) c.send.result c.send.new.objects) signal
-    (subst (λ z. DoesCall c.args.script.now c.args.objects.now c.args.caller.now.pid (call.Kill z (to_z w64 (of_z w64 c.in-Kill.signal))) c.send.result c.send.new.objects) target
-    c.send.ensures.does))
+    does_two c.args.script.now c.args.objects.now c.send.new.objects c.args.caller.now.pid c.args.call.now c.send.result call.Kill c.in-Kill.target c.in-Kill.signal c.in-Kill.is
+    (search (rules, to_z-of_z)) (search (rules, to_z-of_z)) c.send.ensures.does
 
 pub returns-in-Munmap-clause-does : goal.returns-in-Munmap-clause-does
 returns-in-Munmap-clause-does c =
-    let addr : to_z w64 (of_z w64 c.in-Munmap.addr) ≡ c.in-Munmap.addr = search (rules, to_z-of_z) in
-    let length : to_z w64 (of_z w64 c.in-Munmap.length) ≡ c.in-Munmap.length = search (rules, to_z-of_z) in
-    does_that c.args.script.now c.args.objects.now c.munmap.new.objects c.args.caller.now.pid c.args.call.now (call.Munmap c.in-Munmap.addr c.in-Munmap.length) c.munmap.result c.in-Munmap.is
-    (subst (λ z. DoesCall c.args.script.now c.args.objects.now c.args.caller.now.pid (call.Munmap c.in-Munmap.addr z) c.munmap.result c.munmap.new.objects) length
-    (subst (λ z. DoesCall c.args.script.now c.args.objects.now c.args.caller.now.pid (call.Munmap z (to_z w64 (of_z w64 c.in-Munmap.length))) c.munmap.result c.munmap.new.objects) addr
-    c.munmap.ensures.does))
+    does_two c.args.script.now c.args.objects.now c.munmap.new.objects c.args.caller.now.pid c.args.call.now c.munmap.result call.Munmap c.in-Munmap.addr c.in-Munmap.length c.in-Munmap.is
+    (search (rules, to_z-of_z)) (search (rules, to_z-of_z)) c.munmap.ensures.does
 
 pub returns-in-Load-clause-does : goal.returns-in-Load-clause-does
 returns-in-Load-clause-does c =
-    let addr : to_z w64 (of_z w64 c.in-Load.addr) ≡ c.in-Load.addr = search (rules, to_z-of_z) in
-    let count : to_z w64 (of_z w64 c.in-Load.n) ≡ c.in-Load.n = search (rules, to_z-of_z) in
-    does_that c.args.script.now c.args.objects.now c.load.new.objects c.args.caller.now.pid c.args.call.now (call.Load c.in-Load.addr c.in-Load.n) c.load.result c.in-Load.is
-    (subst (λ z. DoesCall c.args.script.now c.args.objects.now c.args.caller.now.pid (call.Load c.in-Load.addr z) c.load.result c.load.new.objects) count
-    (subst (λ z. DoesCall c.args.script.now c.args.objects.now c.args.caller.now.pid (call.Load z (to_z w64 (of_z w64 c.in-Load.n))) c.load.result c.load.new.objects) addr
-    c.load.ensures.does))
+    does_two c.args.script.now c.args.objects.now c.load.new.objects c.args.caller.now.pid c.args.call.now c.load.result call.Load c.in-Load.addr c.in-Load.n c.in-Load.is
+    (search (rules, to_z-of_z)) (search (rules, to_z-of_z)) c.load.ensures.does
 
 pub returns-in_default-clause-does : goal.returns-in_default-clause-does
 returns-in_default-clause-does c =

@@ -1,19 +1,21 @@
-use Rattle.std.proofs.Common.{◌≡◌, ◌∙◌, ap, sym, w64, rules}
+use Rattle.std.proofs.Common.{◌≡◌, ◌∙◌, ap, option_copied, sym, w64, rules, Some}
 use Rattle.std.proofs.lemmas.Int.{to_z-of_z}
 use mir.Val.{of_z, to_z}
 use Rattle.kabi_calls.specs.declared.calls.Call.TheVariants.{Waitpid}
 use Rattle.posix_defs.specs.Machine.{blocks, machine}
+use Rattle.prog_ctl.specs.declared.waits.Awaited.TheVariants.{Child}
 use Rattle.call_run.proofs.Sleeping.{blocks_as, is_wait, no_fault}
 use Rattle.call_run.proofs.calls.would_block.Goals as goal
 
 pub returns-then-may_wait : goal.returns-then-may_wait
 returns-then-may_wait c = λ script plain account stands call e.
-    let child : to_z w64 (of_z w64 c.in-Some.field-0.child) ≡ c.in-Some.field-0.child = search (rules, to_z-of_z) in
-    let options : to_z w64 (of_z w64 c.in-Some.field-0.options) ≡ c.in-Some.field-0.options = search (rules, to_z-of_z) in
-    let it = is_wait call c.in-Some.field-0 (sym c.in-Some.is ∙ e) in
+    let child : to_z w64 (of_z w64 c.in-Some-Child.child) ≡ c.in-Some-Child.child = search (rules, to_z-of_z) in
+    let options : to_z w64 (of_z w64 c.in-Some-Child.options) ≡ c.in-Some-Child.options = search (rules, to_z-of_z) in
+    let seen : option_copied c.args.wait ≡ Some (Child c.in-Some-Child.child c.in-Some-Child.options) = search rules in
+    let it = is_wait call c.in-Some-Child.child c.in-Some-Child.options (sym seen ∙ e) in
     let none = no_fault _ (sym c.may_wait.ensures.checked ∙ c.if-may_wait.true) in
     c.would_sleep.ensures script plain account stands
-    ∙ sym (blocks_as script plain c.args.pid (to_z w64 (of_z w64 c.in-Some.field-0.child)) (to_z w64 (of_z w64 c.in-Some.field-0.options)) none)
-    ∙ ap (λ z. blocks (machine script plain c.args.pid (Waitpid z (to_z w64 (of_z w64 c.in-Some.field-0.options))))) child
-    ∙ ap (λ z. blocks (machine script plain c.args.pid (Waitpid c.in-Some.field-0.child z))) options
+    ∙ sym (blocks_as script plain c.args.pid (to_z w64 (of_z w64 c.in-Some-Child.child)) (to_z w64 (of_z w64 c.in-Some-Child.options)) none)
+    ∙ ap (λ z. blocks (machine script plain c.args.pid (Waitpid z (to_z w64 (of_z w64 c.in-Some-Child.options))))) child
+    ∙ ap (λ z. blocks (machine script plain c.args.pid (Waitpid c.in-Some-Child.child z))) options
     ∙ ap (λ z. blocks (machine script plain c.args.pid z)) it

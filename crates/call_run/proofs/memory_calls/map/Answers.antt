@@ -4,67 +4,32 @@ use Rattle.kabi_values.specs.declared.errnos.Errno.{Errno}
 use Rattle.kabi_values.specs.declared.errnos.Errno.TheVariants.{EMFILE}
 use Rattle.posix_defs.specs.Process.{memory_of}
 use Rattle.std.specs.Prelude.{is_some, option_map, ok_or, Option, None, Some, Ok, Err, Result}
-use Rattle.kheap_shelves.specs.declared.objects.Proc.{Proc}
 use Rattle.kheap_shelves.specs.Objects.{object, put}
 use Rattle.kheap_slabs.specs.Heap.{Heap}
 use Rattle.kheap_laws.proofs.PaidLemmas.{IsPaid-nothing, IsPaid-trans}
 use Rattle.posix_defs.specs.Memory.{after_map, is_mapped, lowest_run, with_pages, zero_page}
-use Rattle.posix_defs.specs.Needs.{pages_in}
-use Rattle.call_run.proofs.LongRuns.{none_long, run_within}
 use Rattle.posix_defs.specs.MemoryCalls.{remembered}
-use Rattle.page_space.specs.Accounts.{AccountMoves, IsAccounted}
-use Rattle.page_space.specs.Contents.{IsOwnedWith, SpaceMoves, StandsFor}
-use Rattle.call_run.proofs.WithRanges.{length-with_range}
-use Rattle.proc_table.specs.Moves.{SpaceTurns}
-use Rattle.proc_table.specs.Procs.{memory_at, proc_of}
-use Rattle.proc_table.proofs.AccountLemmas.{accounted_of}
+use Rattle.posix_defs.specs.Needs.{pages_in}
+use Rattle.proc_table.specs.Procs.{memory_at}
 use Rattle.proc_table.proofs.MemoryLemmas.{length-memory_at, memory_at-stands}
-use Rattle.proc_table.proofs.PlaceLemmas.{key_of-none, key_of-proc}
-use Rattle.proc_table.proofs.SpaceLemmas.{owned_proc}
 use Rattle.call_run.specs.declared.objects.Objects.{Objects}
-use Rattle.call_run.specs.Objects.{procs_of}
 use Rattle.call_run.specs.Standing.{StandFor}
-use Rattle.call_run.proofs.GoingOn.{some_same}
-use Rattle.call_run.proofs.SpacesBack.{kept_back, memory_here, runs_back, stand_back}
+use Rattle.call_run.proofs.LongRuns.{none_long, run_within}
+use Rattle.call_run.proofs.SpacesInHand.{kept_then, memory_is, nodes_back, runs_then, stand_then}
+use Rattle.call_run.proofs.WithRanges.{length-with_range}
 use Rattle.call_run.proofs.memory_calls.map.Goals as goal
 
-missing : (o : Option Proc) (proc : Proc) → o ≡ None → o ≡ Some proc → ⊥
-missing o proc e f = cc
-
-pub unreachable-requires : goal.unreachable-requires
-unreachable-requires c =
-    let kept = c.requires.kept.1 in
-    missing _ c.requires.alive.proc
-    (key_of-none c.args.objects.now.heap.procs c.args.objects.now.procs.listed c.args.pid kept.holds.stored (sym c.key_of.ensures ∙ c.in_default.is)) c.requires.alive.there
-
-pub get_proc-proc-requires : goal.get_proc-proc-requires
-get_proc-proc-requires c =
-    let kept = c.requires.kept.1 in
-    let named = key_of-proc c.args.objects.now.heap.procs c.args.objects.now.procs.listed c.args.pid c.in-Some.key kept.holds.stored (sym c.key_of.ensures ∙ c.in-Some.is) in
-    ap is_some named.1
-
-found_is : (c : goal.After-set_proc_nodes) → proc_of (procs_of c.args.objects.now) c.args.pid ≡ Some c.get_proc-proc.result.now
-found_is c =
-    let kept = c.requires.kept.1 in
-    let named = key_of-proc c.args.objects.now.heap.procs c.args.objects.now.procs.listed c.args.pid c.in-Some.key kept.holds.stored (sym c.key_of.ensures ∙ c.in-Some.is) in
-    named.3 ∙ sym named.1 ∙ c.get_proc-proc.ensures
-
-turns_of : (c : goal.After-set_proc_nodes)
-    → SpaceTurns c.args.objects.now.heap c.map.new.heap c.set_proc_nodes.new.self c.args.objects.now.procs c.args.pid c.in-Some.key c.get_proc-proc.result.now c.map.new.self
-turns_of c = record {
-  found = sym c.key_of.ensures ∙ c.in-Some.is;
-  there = c.get_proc-proc.ensures;
-  runs = ap (λ (p : Proc). p.status) (some_same (proc_of (procs_of c.args.objects.now) c.args.pid) c.get_proc-proc.result.now c.requires.alive.proc (found_is c) c.requires.alive.there) ∙ c.requires.alive.runs;
-  moves = subst (λ s. SpaceMoves c.args.objects.now.heap c.map.new.heap s c.map.new.self) c.of-space.ensures c.map.ensures.moves;
-  after = c.set_proc_nodes.ensures.kept c.get_proc-proc.result.now (ap (λ (h : Heap). object h.procs c.in-Some.key) c.map.ensures.moves.kept ∙ c.get_proc-proc.ensures) ∙ ap (λ ns. record c.map.new.heap { procs = put c.map.new.heap.procs c.in-Some.key (record c.get_proc-proc.result.now { nodes = ns }) }) c.nodes.ensures.value;
-}
+back_is : (c : goal.After-set_proc_nodes)
+    → c.set_proc_nodes.new.self ≡ record c.map.new.heap { procs = put c.map.new.heap.procs c.space_of-key.result.0 (record c.space_of-key.ensures.proc { nodes = c.map.new.self }) }
+back_is c =
+    nodes_back c.args.objects.now c.map.new.heap c.set_proc_nodes.new.self c.args.pid c.space_of-key.result.0 c.space_of-key.result.1 c.map.new.self c.nodes.result c.space_of-key.ensures
+    c.map.ensures.moves c.set_proc_nodes.ensures.kept c.nodes.ensures.value
 
 pub map-requires-clause-owned : goal.map-requires-clause-owned
-map-requires-clause-owned c =
-    let kept = c.requires.kept.1 in
-    let named = key_of-proc c.args.objects.now.heap.procs c.args.objects.now.procs.listed c.args.pid c.in-Some.key kept.holds.stored (sym c.key_of.ensures ∙ c.in-Some.is) in
-    subst (IsOwnedWith c.args.objects.now.heap) (sym c.of-space.ensures)
-    (owned_proc c.args.objects.now.heap c.args.objects.now.procs kept.holds c.args.pid c.get_proc-proc.result.now (named.3 ∙ sym named.1 ∙ c.get_proc-proc.ensures))
+map-requires-clause-owned c = c.space_of-key.ensures.owned
+
+pub set_proc_nodes-requires : goal.set_proc_nodes-requires
+set_proc_nodes-requires c = ap is_some (ap (λ (h : Heap). object h.procs c.space_of-key.result.0) c.map.ensures.moves.kept ∙ c.space_of-key.ensures.there)
 
 pub returns-clause-paid : goal.returns-clause-paid
 returns-clause-paid c =
@@ -73,12 +38,13 @@ returns-clause-paid c =
 
 pub returns-clause-kept : goal.returns-clause-kept
 returns-clause-kept c = λ script kept.
-    kept_back script c.args.objects.now _ c.map.new.heap c.args.pid c.in-Some.key c.get_proc-proc.result.now c.map.new.self kept (turns_of c) refl c.nodes.ensures.groups
+    kept_then c.args.objects.now c.map.new.heap c.set_proc_nodes.new.self c.args.pid c.space_of-key.result.0 c.space_of-key.result.1 c.map.new.self c.space_of-key.ensures c.map.ensures.moves (back_is c)
+    script kept c.nodes.ensures.groups
 
 pub returns-clause-runs : goal.returns-clause-runs
-returns-clause-runs c = λ control runs.
-    let kept = c.requires.kept in
-    runs_back kept.0 c.args.objects.now _ c.map.new.heap c.args.pid c.in-Some.key c.get_proc-proc.result.now c.map.new.self kept.1 (turns_of c) refl control runs
+returns-clause-runs c =
+    runs_then c.args.objects.now c.map.new.heap c.set_proc_nodes.new.self c.args.pid c.space_of-key.result.0 c.space_of-key.result.1 c.map.new.self c.space_of-key.ensures c.map.ensures.moves (back_is c)
+    c.requires.kept.0 c.requires.kept.1
 
 answered : Option ℕ → Result ℕ Errno
 answered o = ok_or (option_map (λ first. page_size * first) o) EMFILE
@@ -114,60 +80,47 @@ returns-then-length-gt-SPACE-clause-found c = λ script plain account stands.
 
 pub overflow_mul-result : goal.overflow_mul-result
 overflow_mul-result c =
-    let h = c.args.objects.now.heap in
-    let nodes = c.get_proc-proc.result.now.nodes in
-    let known = c.map.ensures.found (memory_at h nodes) (subst (λ s. StandsFor h s (memory_at h nodes)) (sym c.of-space.ensures) (memory_at-stands h nodes)) in
-    let some = was_some (lowest_run (memory_at h nodes) _) c.in_ok-first.first (sym c.in_ok-first.was ∙ known) in
-    let within = run_within (is_mapped (memory_at h nodes)) _ c.in_ok-first.first some in
+    let memory = memory_at c.args.objects.now.heap c.space_of-key.result.1 in
+    let known = c.map.ensures.found memory (memory_at-stands c.args.objects.now.heap c.space_of-key.result.1) in
+    let some = was_some (lowest_run memory _) c.in_ok-first.first (sym c.in_ok-first.was ∙ known) in
+    let within = run_within (is_mapped memory) _ c.in_ok-first.first some in
     record { fits = small c.in_ok-first.first _ within }
 
 pub returns-in_err-first-clause-found : goal.returns-in_err-first-clause-found
 unfolding answered
 returns-in_err-first-clause-found c = λ script plain account stands.
-    let h = c.args.objects.now.heap in
-    let nodes = c.get_proc-proc.result.now.nodes in
-    let kept = c.requires.kept.1 in
-    let named = key_of-proc h.procs c.args.objects.now.procs.listed c.args.pid c.in-Some.key kept.holds.stored (sym c.key_of.ensures ∙ c.in-Some.is) in
-    let here = memory_here script c.args.objects.now plain account c.args.pid c.get_proc-proc.result.now stands (named.3 ∙ sym named.1 ∙ c.get_proc-proc.ensures) in
-    let known = c.map.ensures.found (memory_at h nodes) (subst (λ s. StandsFor h s (memory_at h nodes)) (sym c.of-space.ensures) (memory_at-stands h nodes)) in
+    let memory = memory_at c.args.objects.now.heap c.space_of-key.result.1 in
+    let here = memory_is script c.args.objects.now plain account c.args.pid c.space_of-key.result.0 c.space_of-key.result.1 c.space_of-key.ensures stands in
+    let known = c.map.ensures.found memory (memory_at-stands c.args.objects.now.heap c.space_of-key.result.1) in
     let gives : c.from_residual.result ≡ Err c.in_err-first.field-0.0 = search rules in
-    gives ∙ told_err (lowest_run (memory_at h nodes) _) c.in_err-first.field-0.0 (sym c.in_err-first.was ∙ known)
-    ∙ ap (λ n. answered (lowest_run (memory_at h nodes) n)) (many c.args.length _ refl)
+    gives ∙ told_err (lowest_run memory _) c.in_err-first.field-0.0 (sym c.in_err-first.was ∙ known)
+    ∙ ap (λ n. answered (lowest_run memory n)) (many c.args.length _ refl)
     ∙ ap (λ m. answered (lowest_run m (pages_in c.args.length))) (sym here)
 
 pub returns-clause-found : goal.returns-clause-found
 unfolding answered
 returns-clause-found c = λ script plain account stands.
-    let h = c.args.objects.now.heap in
-    let nodes = c.get_proc-proc.result.now.nodes in
-    let here = memory_here script c.args.objects.now plain account c.args.pid c.get_proc-proc.result.now stands (found_is c) in
-    let known = c.map.ensures.found (memory_at h nodes) (subst (λ s. StandsFor h s (memory_at h nodes)) (sym c.of-space.ensures) (memory_at-stands h nodes)) in
-    told_ok (lowest_run (memory_at h nodes) _) c.in_ok-first.first (sym c.in_ok-first.was ∙ known)
-    ∙ ap (λ n. answered (lowest_run (memory_at h nodes) n)) (many c.args.length _ refl)
+    let memory = memory_at c.args.objects.now.heap c.space_of-key.result.1 in
+    let here = memory_is script c.args.objects.now plain account c.args.pid c.space_of-key.result.0 c.space_of-key.result.1 c.space_of-key.ensures stands in
+    let known = c.map.ensures.found memory (memory_at-stands c.args.objects.now.heap c.space_of-key.result.1) in
+    told_ok (lowest_run memory _) c.in_ok-first.first (sym c.in_ok-first.was ∙ known)
+    ∙ ap (λ n. answered (lowest_run memory n)) (many c.args.length _ refl)
     ∙ ap (λ m. answered (lowest_run m (pages_in c.args.length))) (sym here)
 
 pub returns-clause-mapped : goal.returns-clause-mapped
 returns-clause-mapped c = λ script plain account first stands is.
-    let kept = c.requires.kept in
-    let h = c.args.objects.now.heap in
-    let nodes = c.get_proc-proc.result.now.nodes in
-    let known = c.map.ensures.found (memory_at h nodes) (subst (λ s. StandsFor h s (memory_at h nodes)) (sym c.of-space.ensures) (memory_at-stands h nodes)) in
-    let some = was_some (lowest_run (memory_at h nodes) _) c.in_ok-first.first (sym c.in_ok-first.was ∙ known) in
-    let within = run_within (is_mapped (memory_at h nodes)) _ c.in_ok-first.first some in
+    let memory = memory_at c.args.objects.now.heap c.space_of-key.result.1 in
+    let known = c.map.ensures.found memory (memory_at-stands c.args.objects.now.heap c.space_of-key.result.1) in
+    let some = was_some (lowest_run memory _) c.in_ok-first.first (sym c.in_ok-first.was ∙ known) in
+    let within = run_within (is_mapped memory) _ c.in_ok-first.first some in
     let new : Objects = record { heap = c.set_proc_nodes.new.self; procs = c.args.objects.now.procs } in
-    let found = found_is c in
-    let whole : length (memory_at h nodes) ≡ 256 = length-memory_at h nodes in
-    let here = memory_here script c.args.objects.now plain account c.args.pid c.get_proc-proc.result.now stands found in
+    let whole : length memory ≡ 256 = length-memory_at c.args.objects.now.heap c.space_of-key.result.1 in
     let count = (c.args.length + 4096 - 1) / 4096 in
-    subst (λ m. StandFor script new (remembered plain c.args.pid (with_pages m first (pages_in c.args.length))) (after_map account c.args.pid first (pages_in c.args.length))) (sym here)
-    (subst (λ n. StandFor script new (remembered plain c.args.pid (with_pages (memory_at h nodes) first n)) (after_map account c.args.pid first n)) (many c.args.length count refl)
-    (subst (λ f. StandFor script new (remembered plain c.args.pid (with_pages (memory_at h nodes) f count)) (after_map account c.args.pid f count)) (same_first c.in_ok-first.first first is)
-    (stand_back script c.args.objects.now new c.map.new.heap c.args.pid c.in-Some.key c.get_proc-proc.result.now c.map.new.self plain account
-    (after_map account c.args.pid c.in_ok-first.first count) (with_pages (memory_at h nodes) c.in_ok-first.first count)
-    kept.1.holds stands (turns_of c) refl
-    (c.in_ok-first.ensures.memory (memory_at h nodes) whole (subst (λ s. StandsFor h s (memory_at h nodes)) (sym c.of-space.ensures) (memory_at-stands h nodes)))
-    (length-with_range (memory_at h nodes) c.in_ok-first.first count (Some zero_page) (let l : c.in_ok-first.first + count ≤ 256 = within in omega (arith, whole)) ∙ whole)
-    (subst (λ s. AccountMoves h c.map.new.heap s c.map.new.self stands.accounted.number account (after_map account c.args.pid c.in_ok-first.first count) c.args.pid) c.of-space.ensures
-    (c.in_ok-first.ensures.account stands.accounted.number account c.args.pid
-    (subst (IsAccounted h stands.accounted.number account c.args.pid) (sym c.of-space.ensures)
-    (accounted_of h c.args.objects.now.procs account c.args.pid c.get_proc-proc.result.now kept.1.holds stands.accounted found)))))))
+    subst (λ n. StandFor script new (remembered plain c.args.pid (with_pages (memory_of plain.table c.args.pid) first n)) (after_map account c.args.pid first n)) (many c.args.length count refl)
+    (subst (λ f. StandFor script new (remembered plain c.args.pid (with_pages (memory_of plain.table c.args.pid) f count)) (after_map account c.args.pid f count)) (same_first c.in_ok-first.first first is)
+    (stand_then c.args.objects.now c.map.new.heap c.set_proc_nodes.new.self c.args.pid c.space_of-key.result.0 c.space_of-key.result.1 c.map.new.self c.space_of-key.ensures c.map.ensures.moves (back_is c)
+    script plain account (after_map account c.args.pid c.in_ok-first.first count) (λ m. with_pages m c.in_ok-first.first count)
+    c.requires.kept.1.holds stands
+    (c.in_ok-first.ensures.memory memory whole)
+    (length-with_range memory c.in_ok-first.first count (Some zero_page) (let l : c.in_ok-first.first + count ≤ 256 = within in omega (arith, whole)) ∙ whole)
+    (λ number accounted. c.in_ok-first.ensures.account number account c.args.pid accounted)))

@@ -15,22 +15,22 @@ pub move_on-requires-clause-stored : goal.move_on-requires-clause-stored
 move_on-requires-clause-stored c =
     let rooted = c.insert_vnode.new.self in
     let owned : IsOwned rooted no_owners =
-    rooted_owned c.args.heap c.insert_vnode.result c.root.result c.in_ok-heap.heap rooted c.in_ok-heap.ensures.empty
+    rooted_owned c.args.heap c.args.blocks c.insert_vnode.result c.root.result c.in_ok-heap.heap rooted c.in_ok-heap.ensures.empty
     c.insert_vnode.ensures.vacant c.insert_vnode.ensures.stored c.root.ensures c.insert_vnode.ensures.kept in
     (c.boot-procs.ensures.moves no_owners owned).holds.stored
 
 pub returns : goal.returns
 returns c =
     let rooted = c.insert_vnode.new.self in
-    has_booted c.args.heap c.args.control rooted (record { heap = c.boot-procs.new.heap; procs = c.boot-procs.result }) c.move_on.new.self
-    (no_pages c.args.heap c.insert_vnode.result c.root.result c.in_ok-heap.heap rooted c.in_ok-heap.ensures.empty
+    has_booted c.args.heap c.args.blocks c.args.control rooted (record { heap = c.boot-procs.new.heap; procs = c.boot-procs.result }) c.move_on.new.self
+    (no_pages c.args.heap c.args.blocks c.insert_vnode.result c.root.result c.in_ok-heap.heap rooted c.in_ok-heap.ensures.empty
     c.insert_vnode.ensures.vacant c.insert_vnode.ensures.stored c.root.ensures c.insert_vnode.ensures.kept)
-    (no_procs c.args.heap c.insert_vnode.result c.root.result c.in_ok-heap.heap rooted c.in_ok-heap.ensures.empty
+    (no_procs c.args.heap c.args.blocks c.insert_vnode.result c.root.result c.in_ok-heap.heap rooted c.in_ok-heap.ensures.empty
     c.insert_vnode.ensures.vacant c.insert_vnode.ensures.stored c.root.ensures c.insert_vnode.ensures.kept)
-    (rooted_owned c.args.heap c.insert_vnode.result c.root.result c.in_ok-heap.heap rooted c.in_ok-heap.ensures.empty
+    (rooted_owned c.args.heap c.args.blocks c.insert_vnode.result c.root.result c.in_ok-heap.heap rooted c.in_ok-heap.ensures.empty
     c.insert_vnode.ensures.vacant c.insert_vnode.ensures.stored c.root.ensures c.insert_vnode.ensures.kept)
-    (root_alone c.args.heap c.insert_vnode.result c.root.result c.in_ok-heap.heap rooted c.in_ok-heap.ensures.empty
+    (root_alone c.args.heap c.args.blocks c.insert_vnode.result c.root.result c.in_ok-heap.heap rooted c.in_ok-heap.ensures.empty
     c.insert_vnode.ensures.vacant c.insert_vnode.ensures.stored c.root.ensures c.insert_vnode.ensures.kept)
-    (rooted_size c.args.heap c.insert_vnode.result c.root.result c.in_ok-heap.heap rooted c.in_ok-heap.ensures.empty
+    (rooted_size c.args.heap c.args.blocks c.insert_vnode.result c.root.result c.in_ok-heap.heap rooted c.in_ok-heap.ensures.empty
     c.insert_vnode.ensures.vacant c.insert_vnode.ensures.stored c.root.ensures c.insert_vnode.ensures.kept)
     c.boot-procs.ensures.processes c.boot-procs.ensures.last c.boot-procs.ensures.moves c.boot-procs.ensures.table c.boot-procs.ensures.account c.move_on.ensures
