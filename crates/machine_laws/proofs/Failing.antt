@@ -36,7 +36,7 @@ by_shape script plain pid given (shape.moves directory is) = subst (FailsAlone s
 by_shape script plain pid given (shape.parts files moved is) = subst (FailsAlone script plain pid) (sym is) tt
 by_shape script plain pid given (shape.starts place is) = subst (FailsAlone script plain pid) (sym is) tt
 by_shape script plain pid given (shape.forks is) = subst (FailsAlone script plain pid) (sym is) tt
-by_shape script plain pid given (shape.reaps child status is) = subst (FailsAlone script plain pid) (sym is) tt
+by_shape script plain pid given (shape.reaps child status ended is) = subst (FailsAlone script plain pid) (sym is) tt
 by_shape script plain pid given (shape.ends status is) = subst (FailsAlone script plain pid) (sym is) tt
 by_shape script plain pid given (shape.ends_another target status first own is) = subst (FailsAlone script plain pid) (sym is) tt
 

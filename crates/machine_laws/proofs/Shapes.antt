@@ -1,5 +1,5 @@
 -- Each answer of each call has its shape.
-use Rattle.std.proofs.Common.{◌≡◌, ◌≢◌, ℕ, zero, suc, ◌+◌, ◌-◌, ◌*◌, ◌/◌, ◌==◌, ◌&&◌, nat_lt, nat_le, ℤ, pos, negsuc, ◌+ℤ◌, not, Bool, true, false, cond, if◌then◌else◌, List, length, take, Option, None, Some, is_some, Result, Ok, Err, refl, ap, sym, ◌∙◌, subst, ◌⊎◌, inl, inr}
+use Rattle.std.proofs.Common.{◌≡◌, ◌≢◌, ℕ, zero, suc, ◌+◌, ◌-◌, ◌*◌, ◌/◌, ◌==◌, ◌&&◌, nat_lt, nat_le, ℤ, pos, negsuc, ◌+ℤ◌, not, Bool, true, false, cond, if◌then◌else◌, List, length, take, Option, None, Some, is_some, Result, Ok, Err, refl, ap, sym, ◌∙◌, subst, ◌⊎◌, inl, inr, arith}
 use Rattle.std.proofs.lemmas.Bool.Decides.{eqb_tells}
 use Rattle.kabi_calls.specs.Arguments.{argument_fault, count_of, is_minus_one, may_be_descriptor, page_size}
 use Rattle.kabi_calls.specs.declared.calls.Call.{Call}
@@ -24,7 +24,7 @@ use Rattle.posix_defs.specs.Needs.{pages_in, pages_touched}
 use Rattle.posix_defs.specs.Pipe.{Moving, pipe_read, pipe_write}
 use Rattle.posix_defs.specs.Pipe as pipes
 use Rattle.posix_defs.specs.Plain.{Plain, answered, last_pid, with_files}
-use Rattle.posix_defs.specs.Process.{Process, directory_of, memory_of, parent_of, process_at, runs}
+use Rattle.posix_defs.specs.Process.{Process, directory_of, is_alive, memory_of, parent_of, process_at, runs}
 use Rattle.posix_defs.specs.Reaching.{is_reply}
 use Rattle.posix_defs.specs.Socket.{Accepting, is_connected}
 use Rattle.posix_defs.specs.Socket as socket
@@ -51,6 +51,7 @@ use Rattle.posix_defs.specs.Calls.OnSockets as on_sockets
 use Rattle.posix_defs.specs.Calls.Polling.{hits_of, poll, polled, revents_of}
 use Rattle.posix_defs.specs.Posix.{posix, posix_answer}
 use Rattle.kern_laws.proofs.Errors.{wants_no_memory}
+use Rattle.kern_laws.proofs.Families.{exited_has_ended}
 use Rattle.machine_laws.specs.Shapes as shape
 use Rattle.machine_laws.specs.Shapes.{HasShape}
 use Rattle.machine_laws.proofs.NoWant.{IsNoWant, IsNoWantAccept, IsNoWantFault, IsNoWantMove, IsOther, accept_no, bind_fault_no, bind_no, connect_fault_no, enter_no, exec_no, find_no, links_no, listen_fault_no, mkdir_no, open_no, pipe_read_no, pipe_write_no, rename_no, resize_no, rmdir_no, shutdown_fault_no, sock_read_no, sock_write_no, stat_no, unlink_no, write_no}
@@ -418,12 +419,16 @@ module _ (script : Script) (plain : Plain) (pid : ℕ) where
   forks_shaped = either (is_full plain) (failed script plain pid errno.EAGAIN) _ (fails errno.EAGAIN (λ e. cc)) (shape.forks refl)
 
   waits : (which options : ℤ) → Shaped script plain pid (waitpid script plain pid which options)
-  waits which options = go (exited_from pid which 1 plain.table)
+  waits which options = go (exited_from pid which 1 plain.table) refl
     where
-      go : (o : Option Exited) → Shaped script plain pid (waited_for script plain pid which options o)
-      go None = either (any_from pid which 1 plain.table) _ (failed script plain pid errno.ECHILD)
+      ended : (exited : Exited) → exited_from pid which 1 plain.table ≡ Some exited → is_alive plain.table exited.pid ≡ false
+      ended exited is = let found = exited_has_ended pid which 1 plain.table exited is in
+          ap (is_alive plain.table) (let k : exited.pid ≡ 1 + found.0 = found.1 in let e : exited.pid ≡ suc found.0 = omega arith in e) ∙ found.2
+
+      go : (o : Option Exited) → exited_from pid which 1 plain.table ≡ o → Shaped script plain pid (waited_for script plain pid which options o)
+      go None is = either (any_from pid which 1 plain.table) _ (failed script plain pid errno.ECHILD)
           (either (is_nohang options) (replied script plain pid (reply.Val (pos 0))) answer.Blocked (says _ refl) (shape.blocks refl)) (fails errno.ECHILD (λ e. cc))
-      go (Some exited) = shape.reaps exited.pid exited.status refl
+      go (Some exited) is = shape.reaps exited.pid exited.status (ended exited is) refl
 
   kills : (target signal : ℤ) → Shaped script plain pid (kill script plain pid target signal)
   kills (negsuc n) signal = fails errno.ESRCH (λ e. cc)

@@ -1,1 +1,5 @@
 pub mod Shapes
+pub mod FileSteps
+pub mod Queueing
+pub mod Sharing
+pub mod Placed
