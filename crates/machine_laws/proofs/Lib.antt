@@ -10,3 +10,5 @@ pub mod Places
 pub mod SharedOffsets
 pub mod Shutting
 pub mod Placing
+pub mod Naming
+pub mod Reaches

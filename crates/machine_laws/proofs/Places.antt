@@ -15,7 +15,7 @@ use Rattle.kern_laws.proofs.TablePlaces.{below_or_not, get_front, get_set_same, 
 pub not_some : {X : Type 0} {x : X} {o : Option X} → o ≡ None → o ≡ Some x → ⊥
 not_some none some = cc
 
-some_same : {X : Type 0} (o : Option X) (x y : X) → o ≡ Some x → o ≡ Some y → x ≡ y
+pub some_same : {X : Type 0} (o : Option X) (x y : X) → o ≡ Some x → o ≡ Some y → x ≡ y
 some_same o x y e f = cc
 
 -- who has an item at a place stands within the list
@@ -51,15 +51,16 @@ is_none_of (Some x) e = absurd (no e)
     no : false ≡ true → ⊥
     no f = cc
 
--- the lowest number that is free is one of the list, and is free
-pub free_at : (descriptors : Descriptors) (from to : ℕ) → lowest_free_from descriptors from ≡ Some to → (to < length descriptors) × (descriptor_at descriptors to ≡ None)
+-- the lowest number that is free from one on is one of the list, and is free
+pub free_at : (descriptors : Descriptors) (from to : ℕ) → lowest_free_from descriptors from ≡ Some to → (to < length descriptors) × (descriptor_at descriptors to ≡ None) × (from ≤ to)
 free_at descriptors from to e = go (found_at is_none None from (drop from descriptors) to e)
   where
-    go : IsFoundAt is_none from (drop from descriptors) None to → (to < length descriptors) × (descriptor_at descriptors to ≡ None)
+    go : IsFoundAt is_none from (drop from descriptors) None to → (to < length descriptors) × (descriptor_at descriptors to ≡ None) × (from ≤ to)
     go found = (
       let is : to ≡ from + found.behind = found.is in let h : found.behind < length (drop from descriptors) = found.inside in
           let fewer : length (drop from descriptors) ≡ length descriptors - from = length-drop from descriptors in omega arith,
       ap (descriptor_at descriptors) found.is ∙ sym (get_or-drop from descriptors found.behind None) ∙ is_none_of _ found.passes,
+      (let is : to ≡ from + found.behind = found.is in omega arith),
     )
 
 -- ---- descriptors of a process

@@ -244,7 +244,7 @@ fork_placed script plain pid said placed alive = record {
         (λ who beyond gone. past_open (with_heir plain.files pid) who beyond)
 
 -- a control that goes on changes nothing of it
-answered_placed : (script : Script) (plain : Plain) (pid : ℕ) (said : Reply) → IsPlaced plain → IsPlaced (answered script plain pid said)
+pub answered_placed : (script : Script) (plain : Plain) (pid : ℕ) (said : Reply) → IsPlaced plain → IsPlaced (answered script plain pid said)
 answered_placed script plain pid said placed = record {
   counted = placed.counted ∙ sym (length_with plain.controls pid _);
   places = record { counted = before.counted ∙ sym (length_with plain.controls pid _); places = before.places; ended = before.ended };

@@ -39,7 +39,7 @@ shared_names files pid fd opened to is lowest = (ap (opened_by files) free.1, th
     made : (0 < pid) × (pid ≤ length files.descriptors)
     made = opener_made files pid fd named.descriptor named.held
 
-    free : (to < length (descriptors_of files pid)) × (descriptor_of (descriptors_of files pid) (pos to) ≡ None)
+    free : (to < length (descriptors_of files pid)) × (descriptor_of (descriptors_of files pid) (pos to) ≡ None) × (0 ≤ to)
     free = free_at (descriptors_of files pid) 0 to lowest
 
     after : descriptors_of (shared_at files pid opened to) pid ≡ slice_set (descriptors_of files pid) to (Some (record { description = opened.place; cloexec = false }))

@@ -23,7 +23,7 @@ pub record Shuts (pid : ℕ) (old new : Files) : Type 0 where
   pub shut : (who : ℕ) → who ≢ pid → descriptors_of old who ≡ none_open → descriptors_of new who ≡ none_open
 
 -- the same descriptors, whatever else changes
-same_of : (old new : Files) → new.descriptors ≡ old.descriptors → (who : ℕ) → descriptors_of new who ≡ descriptors_of old who
+pub same_of : (old new : Files) → new.descriptors ≡ old.descriptors → (who : ℕ) → descriptors_of new who ≡ descriptors_of old who
 same_of old new same who = ap (λ list. unwrap_or (at_pid list who) none_open) same
 
 pub shuts_same : (pid : ℕ) (old new : Files) → new.descriptors ≡ old.descriptors → Shuts pid old new
@@ -84,7 +84,7 @@ open_shuts files pid fd descriptor = record { counted = counted; places = places
 -- ---- closing
 
 -- what goes with a descriptor is none of the descriptors
-target_same : (files : Files) (access : Access) (target : Target) → (target_closed files access target).descriptors ≡ files.descriptors
+pub target_same : (files : Files) (access : Access) (target : Target) → (target_closed files access target).descriptors ≡ files.descriptors
 target_same files access (OnNode number) = go (opens files number)
   where
     go : (b : Bool) → (cond b files (with_tree files (closed files.tree number))).descriptors ≡ files.descriptors
@@ -93,7 +93,7 @@ target_same files access (OnNode number) = go (opens files number)
 target_same files access (OnPipe place) = refl
 target_same files access (OnSocket place) = refl
 
-released_same : (files : Files) (place : ℕ) → (released files place).descriptors ≡ files.descriptors
+pub released_same : (files : Files) (place : ℕ) → (released files place).descriptors ≡ files.descriptors
 released_same files place = go (is_named files.descriptors place)
   where
     gone : (o : Option Description) → (gone_in files place o).descriptors ≡ files.descriptors
@@ -163,7 +163,7 @@ set_none descriptors fd = elim (below_or_not fd (length descriptors)) [
 ]
 
 -- a number that is closed isn't open, and neither is one that wasn't
-close_one : (files : Files) (pid fd other : ℕ) → (other ≡ fd) ⊎ (descriptor_at (descriptors_of files pid) other ≡ None)
+pub close_one : (files : Files) (pid fd other : ℕ) → (other ≡ fd) ⊎ (descriptor_at (descriptors_of files pid) other ≡ None)
     → descriptor_at (descriptors_of (after_close files pid fd) pid) other ≡ None
 close_one files pid fd other which = go (descriptor_at (descriptors_of files pid) fd) refl
   where
