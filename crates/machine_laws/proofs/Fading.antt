@@ -1,6 +1,6 @@
 -- Closing takes descriptions away and changes none; and where the tree changes with it a description of a node has gone.
-use Rattle.std.proofs.Common.{◌≡◌, ◌≢◌, ℕ, zero, suc, ◌+◌, ◌<◌, ◌≤◌, ◌==◌, ◌&&◌, ◌||◌, Bool, true, false, cond, if◌then◌else◌, List, [], ◌∷◌, length, Option, None, Some, is_some, is_none, refl, ap, sym, ◌∙◌, subst, ◌⊎◌, inl, inr, arith}
-use Rattle.std.specs.List.{list_any, range_with_len, filter}
+use Rattle.std.proofs.Common.{◌≡◌, ℕ, zero, suc, ◌+◌, ◌<◌, ◌≤◌, ◌&&◌, Bool, true, false, cond, List, [], ◌∷◌, length, Option, None, Some, is_some, is_none, refl, ap, sym, ◌∙◌, subst, ◌⊎◌, inl, inr, arith}
+use Rattle.std.specs.List.{range_with_len, filter}
 use Rattle.std.proofs.lemmas.Bool.Decides.{eqb_tells}
 use Rattle.std.proofs.lemmas.List.{get_or-set_same, get_or-set_other, get_or_past, length-set}
 use Rattle.std.proofs.lemmas.List.Folds.{list_any_at}
@@ -11,7 +11,7 @@ use Rattle.posix_defs.specs.TreeChanges.{closed}
 use Rattle.posix_defs.specs.Files.Descriptors.{Descriptor, descriptor_at, is_named, is_cloexec}
 use Rattle.posix_defs.specs.Files.Descriptions.{Target, OnNode, OnPipe, OnSocket, Description, Descriptions, description_at, with_description}
 use Rattle.posix_defs.specs.Files.State.{Files, descriptors_of, node_of, opened_node, opens, with_descriptions, with_open, with_tree}
-use Rattle.posix_defs.specs.Files.Closing.{after_all_end, after_close, after_closes, after_end_of, after_ends_of, after_exec_of, all_numbers, close_in, description_gone, gone_in, left_node, released, target_closed}
+use Rattle.posix_defs.specs.Files.Closing.{after_close, after_closes, after_end_of, after_ends_of, after_exec_of, all_numbers, close_in, description_gone, gone_in, released, target_closed}
 use Rattle.kern_laws.proofs.TablePlaces.{below_or_not}
 
 -- some description has gone

@@ -1,6 +1,4 @@
 -- What holds of the machine that an answer leads to.
-use Rattle.std.proofs.Common.{◌≡◌, ℕ, Option, None, Some}
-use Rattle.kabi_calls.specs.Arguments.{argument_fault}
 use Rattle.posix_defs.specs.Answer as answer
 use Rattle.posix_defs.specs.Answer.{Answer}
 use Rattle.posix_defs.specs.Plain.{Plain}

@@ -1,5 +1,5 @@
 -- What a descriptor names is there, and every description that is there is named, whatever a call is answered.
-use Rattle.std.proofs.Common.{◌≡◌, ◌≢◌, ℕ, zero, suc, ◌+◌, ◌<◌, ◌≤◌, ◌==◌, ◌||◌, ℤ, pos, negsuc, Bool, true, false, cond, List, [], ◌∷◌, ◌++◌, length, Option, None, Some, is_some, is_none, slice_get, slice_index_or, slice_set, unwrap_or, refl, ap, sym, ◌∙◌, subst, ◌⊎◌, inl, inr, arith, length-append}
+use Rattle.std.proofs.Common.{◌≡◌, ◌≢◌, ℕ, zero, suc, ◌+◌, ◌<◌, ◌≤◌, ◌==◌, ◌||◌, ℤ, pos, negsuc, Bool, true, false, cond, List, [], ◌∷◌, ◌++◌, length, Option, None, Some, is_some, slice_index_or, unwrap_or, refl, ap, sym, ◌∙◌, subst, ◌⊎◌, inl, inr, arith, length-append}
 use Rattle.std.specs.List.{filter, list_any, range_with_len}
 use Rattle.std.specs.Option.{option_and_then, option_map}
 use Rattle.std.proofs.lemmas.Bool.Decides.{eqb_tells}
@@ -159,16 +159,26 @@ kept_name files pid fd changed place names apart = record { who = names.who; fd 
 was_name : (files : Files) (pid fd : ℕ) (changed : Option Descriptor) (place : ℕ) → Names (with_open files pid fd changed) place
     → ((descriptor : Descriptor) × (changed ≡ Some descriptor) × (descriptor.description ≡ place)) ⊎ Names files place
 was_name files pid fd changed place names = elim (eqb_tells names.who pid) [
-  | inr other ↦ inr (record { who = names.who; fd = names.fd; descriptor = names.descriptor;
-      held = sym (ap (λ list. descriptor_at list names.fd) (others_after files pid names.who fd changed other.1)) ∙ names.held; names = names.names })
+  | inr other ↦ inr (record {
+    who = names.who;
+    fd = names.fd;
+    descriptor = names.descriptor;
+    held = sym (ap (λ list. descriptor_at list names.fd) (others_after files pid names.who fd changed other.1)) ∙ names.held;
+    names = names.names;
+  })
   | inl alike ↦ own alike.1
 ]
   where
     own : names.who ≡ pid → ((descriptor : Descriptor) × (changed ≡ Some descriptor) × (descriptor.description ≡ place)) ⊎ Names files place
     own same = elim (eqb_tells names.fd fd) [
       | inl both ↦ inl (names.descriptor, here both.1, names.names)
-      | inr other ↦ inr (record { who = pid; fd = names.fd; descriptor = names.descriptor;
-          held = sym (get_or-set_other (descriptors_of files pid) fd names.fd changed None other.1) ∙ set; names = names.names })
+      | inr other ↦ inr (record {
+        who = pid;
+        fd = names.fd;
+        descriptor = names.descriptor;
+        held = sym (get_or-set_other (descriptors_of files pid) fd names.fd changed None other.1) ∙ set;
+        names = names.names;
+      })
     ]
       where
         made : (0 < pid) × (pid ≤ length files.descriptors)
@@ -182,7 +192,7 @@ was_name files pid fd changed place names = elim (eqb_tells names.who pid) [
         here : names.fd ≡ fd → changed ≡ Some names.descriptor
         here both = let at = sym (ap (descriptor_at (with_descriptor (descriptors_of files pid) fd changed)) both) ∙ set in
             sym (get_or-set_same (descriptors_of files pid) fd changed None
-              (subst (λ n. fd < n) (length-set (descriptors_of files pid) fd changed) (there_within (with_descriptor (descriptors_of files pid) fd changed) fd names.descriptor at))) ∙ at
+            (subst (λ n. fd < n) (length-set (descriptors_of files pid) fd changed) (there_within (with_descriptor (descriptors_of files pid) fd changed) fd names.descriptor at))) ∙ at
 
 -- the name of the number that changed
 own_name : (files : Files) (pid fd : ℕ) (descriptor : Descriptor) → 0 < pid → pid ≤ length files.descriptors → fd < length (descriptors_of files pid)
@@ -231,10 +241,10 @@ opened_told files pid fd cloexec description told positive made within free = re
     named : (place : ℕ) → Names (opened_as files pid fd cloexec description) place → is_some (description_at (files.descriptions ++ Some description ∷ []) place) ≡ true
     named place names = elim (was_name files pid fd (Some (record { description = length files.descriptions; cloexec = cloexec })) place
         (names_in (opened_as files pid fd cloexec description) (with_open files pid fd (Some (record { description = length files.descriptions; cloexec = cloexec }))) place refl names)) [
-      | inl new ↦ ap (λ p. is_some (description_at (files.descriptions ++ Some description ∷ []) p))
-          (sym new.2 ∙ ap (λ d. d.description) (some_same (Some new.0) new.0 _ refl (sym new.1))) ∙ ap is_some last
-      | inr old ↦ let some = told.named place old in ap is_some (front place (present_within files.descriptions place some)) ∙ some
-    ]
+          | inl new ↦ ap (λ p. is_some (description_at (files.descriptions ++ Some description ∷ []) p))
+              (sym new.2 ∙ ap (λ d. d.description) (some_same (Some new.0) new.0 _ refl (sym new.1))) ∙ ap is_some last
+          | inr old ↦ let some = told.named place old in ap is_some (front place (present_within files.descriptions place some)) ∙ some
+        ]
 
     there : (place : ℕ) → is_some (description_at (files.descriptions ++ Some description ∷ []) place) ≡ true → Names (opened_as files pid fd cloexec description) place
     there place some = names_in (with_open files pid fd (Some (record { description = length files.descriptions; cloexec = cloexec }))) (opened_as files pid fd cloexec description) place refl
@@ -265,8 +275,13 @@ marked_told : (files : Files) (pid fd : ℕ) (old : Descriptor) (cloexec : Bool)
     → Told (with_open files pid fd (Some (record old { cloexec = cloexec })))
 marked_told files pid fd old cloexec told held = record {
   named = λ place names. elim (was_name files pid fd (Some (record old { cloexec = cloexec })) place names) [
-    | inl new ↦ told.named place (record { who = pid; fd = fd; descriptor = old; held = held;
-        names = sym (ap (λ d. d.description) (some_same (Some new.0) new.0 _ refl (sym new.1))) ∙ new.2 })
+    | inl new ↦ told.named place (record {
+      who = pid;
+      fd = fd;
+      descriptor = old;
+      held = held;
+      names = sym (ap (λ d. d.description) (some_same (Some new.0) new.0 _ refl (sym new.1))) ∙ new.2;
+    })
     | inr before ↦ told.named place before
   ];
   there = λ place some. still place (told.there place some);
@@ -308,10 +323,13 @@ module _ (files : Files) (told : Told files) (pid fd : ℕ) (descriptor : Descri
   were_named place names = elim (was_name files pid fd None place names) [ inl new ↦ absurd (not_some refl new.1) | inr old ↦ told.named place old ]
 
   still_named : is_named (with_open files pid fd None).descriptors descriptor.description ≡ true → Told (with_open files pid fd None)
-  still_named is = record { named = were_named; there = λ place some. elim (eqb_tells place descriptor.description) [
-    | inl alike ↦ subst (Names (with_open files pid fd None)) (sym alike.1) (named_by (with_open files pid fd None) descriptor.description is)
-    | inr apart ↦ others_named place apart.1 (told.there place some)
-  ] }
+  still_named is = record {
+    named = were_named;
+    there = λ place some. elim (eqb_tells place descriptor.description) [
+      | inl alike ↦ subst (Names (with_open files pid fd None)) (sym alike.1) (named_by (with_open files pid fd None) descriptor.description is)
+      | inr apart ↦ others_named place apart.1 (told.there place some)
+    ];
+  }
 
   abbrev without : Files
   without = with_descriptions (with_open files pid fd None) (with_description files.descriptions descriptor.description None)
@@ -320,7 +338,7 @@ module _ (files : Files) (told : Told files) (pid fd : ℕ) (descriptor : Descri
   none_named is = record {
     named = λ place names. let before = names_in without (with_open files pid fd None) place refl names in
         ap is_some (get_or-set_other files.descriptions descriptor.description place None None
-          (λ same. false_true (sym is ∙ by_named (with_open files pid fd None) descriptor.description (subst (Names (with_open files pid fd None)) same before))))
+        (λ same. false_true (sym is ∙ by_named (with_open files pid fd None) descriptor.description (subst (Names (with_open files pid fd None)) same before))))
         ∙ were_named place before;
     there = λ place some. elim (eqb_tells place descriptor.description) [
       | inl alike ↦ absurd (false_true (sym (ap (λ p. is_some (description_at (with_description files.descriptions descriptor.description None) p)) alike.1
@@ -518,9 +536,11 @@ module _ (plain : Plain) (pid : ℕ) (call : Call) (next : Files) (told : Told p
 
 -- who is alive was made
 alive_made : (plain : Plain) (pid : ℕ) → IsPlaced plain → is_alive plain.table pid ≡ true → (0 < pid) × (pid ≤ length plain.files.descriptors)
-alive_made plain pid placed alive = let there = alive_there plain.table pid alive in let made = was_made plain.table pid there.0 there.1 in
-    (made.0, (let places = placed.places in let one : length plain.files.descriptors ≡ last_pid plain = places.counted in let other : length plain.table ≡ last_pid plain = placed.counted in
-      let h : pid ≤ length plain.table = made.1 in omega arith))
+alive_made plain pid placed alive = let there = alive_there plain.table pid alive in let made = was_made plain.table pid there.0 there.1 in (
+  made.0,
+  (let places = placed.places in let one : length plain.files.descriptors ≡ last_pid plain = places.counted in let other : length plain.table ≡ last_pid plain = placed.counted in
+      let h : pid ≤ length plain.table = made.1 in omega arith),
+)
 
 pub answers_described : (script : Script) (plain : Plain) (pid : ℕ) (call : Call) → IsPlaced plain → AreDescribed plain.files → is_alive plain.table pid ≡ true
     → LeadsTo (λ next. AreDescribed next.files) (posix script plain pid call)

@@ -1,31 +1,29 @@
 -- A pipe's bytes go in behind and come out in front, whoever puts and takes them.
-use Rattle.std.proofs.Common.{◌≡◌, ◌≢◌, ℕ, zero, suc, ◌+◌, ◌-◌, ◌<◌, ◌≤◌, ◌==◌, ◌&&◌, ◌||◌, ℤ, pos, negsuc, Bool, true, false, cond, if◌then◌else◌, List, [], ◌∷◌, ◌++◌, length, take, drop, slice_index_or, Option, None, Some, is_some, unwrap_or, refl, ap, sym, ◌∙◌, subst, ◌⊎◌, inl, inr, arith}
+use Rattle.std.proofs.Common.{◌≡◌, ℕ, zero, suc, ◌+◌, ◌-◌, ◌<◌, ◌==◌, ℤ, Bool, true, false, cond, List, [], ◌∷◌, ◌++◌, length, take, drop, slice_index_or, Option, None, Some, is_some, unwrap_or, refl, ap, sym, ◌∙◌, subst, ◌⊎◌, inl, inr, arith}
 use Rattle.std.proofs.lemmas.Bool.Decides.{eqb_tells}
 use Rattle.std.proofs.lemmas.List.{get_or-set_same, get_or-set_other, get_or_past, get_or_append_left}
 use Rattle.kabi_calls.specs.Arguments.{argument_fault, count_of}
 use Rattle.kabi_calls.specs.declared.calls.Call.{Call}
 use Rattle.kabi_calls.specs.declared.calls.Call.TheVariants as calls
 use Rattle.kabi_values.specs.declared.errnos.Errno.{Errno}
-use Rattle.kabi_values.specs.declared.replies.Reply.TheVariants as reply
 use Rattle.kabi_types.specs.declared.scripts.Script.{Script}
-use Rattle.posix_defs.specs.Answer.{Answer, failed, replied}
+use Rattle.posix_defs.specs.Answer.{Answer}
 use Rattle.posix_defs.specs.Machine.{unless_wrong}
 use Rattle.posix_defs.specs.Memory.{is_mapped_range, stored}
-use Rattle.posix_defs.specs.MemoryCalls.{in_range}
 use Rattle.posix_defs.specs.Pipe.{Pipe, Moving, Moves, Blocks, Fails, after_read, after_write, new_pipe, pipe_read, pipe_write}
-use Rattle.posix_defs.specs.Plain.{Plain, with_files}
+use Rattle.posix_defs.specs.Plain.{Plain}
 use Rattle.posix_defs.specs.Process.{memory_of, with_memory}
-use Rattle.posix_defs.specs.Posix.{posix, posix_answer}
+use Rattle.posix_defs.specs.Posix.{posix}
 use Rattle.posix_defs.specs.Files.Descriptions.{OnPipe, description_at, may_read, may_write}
 use Rattle.posix_defs.specs.Files.State.{Files, pipe_at, pipe_there, with_pipe}
-use Rattle.posix_defs.specs.Calls.Opened.{Opened, answer_on, if_readable, if_writable, on_open, opened_at}
-use Rattle.posix_defs.specs.Calls.Reading.{is_directory_target, of_bytes, read, read_from_pipe, read_target}
+use Rattle.posix_defs.specs.Calls.Opened.{Opened, answer_on, on_open, opened_at}
+use Rattle.posix_defs.specs.Calls.Reading.{is_directory_target, read, read_from_pipe, read_target}
 use Rattle.posix_defs.specs.Calls.Writing.{bytes_left, put_in_pipe, write, write_queue, write_target}
 use Rattle.kern_laws.proofs.TablePlaces.{below_or_not}
 use Rattle.machine_laws.specs.FileSteps as step
 use Rattle.machine_laws.specs.FileSteps.{IsStep, LeadsTo}
 use Rattle.machine_laws.specs.Queueing.{NoneGoes, PutsBehind, Queues, TakesFirst, with_bytes}
-use Rattle.machine_laws.proofs.Fading.{Fades, HasLost, close_fades, closed_by_fades, exec_fades}
+use Rattle.machine_laws.proofs.Fading.{Fades, close_fades, closed_by_fades, exec_fades}
 use Rattle.machine_laws.proofs.Leading.{leads_on}
 use Rattle.machine_laws.proofs.Stepping.{step_of}
 

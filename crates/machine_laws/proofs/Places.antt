@@ -1,16 +1,15 @@
 -- What is found among descriptors and descriptions after one of them has changed.
-use Rattle.std.proofs.Common.{◌≡◌, ◌≢◌, ℕ, zero, suc, ◌+◌, ◌-◌, ◌<◌, ◌≤◌, ℤ, pos, negsuc, Bool, true, false, cond, List, [], ◌∷◌, ◌++◌, length, drop, Option, None, Some, is_none, slice_get, slice_index_or, slice_set, unwrap_or, refl, ap, sym, ◌∙◌, subst, ◌⊎◌, inl, inr, arith, length-drop}
+use Rattle.std.proofs.Common.{◌≡◌, ◌≢◌, ℕ, zero, suc, ◌+◌, ◌-◌, ◌<◌, ◌≤◌, ℤ, pos, negsuc, Bool, true, false, cond, List, [], ◌∷◌, length, drop, Option, None, Some, is_none, slice_index_or, unwrap_or, refl, ap, sym, ◌∙◌, inl, inr, arith, length-drop}
 use Rattle.std.specs.List.{position_from}
 use Rattle.std.specs.Option.{option_map}
-use Rattle.std.proofs.lemmas.List.{get_or-set_same, get_or-set_other, get_or_past, get_or-drop, length-set}
+use Rattle.std.proofs.lemmas.List.{get_or_past, get_or-drop}
 use Rattle.std.proofs.lemmas.Option.{slice_get_past}
-use Rattle.posix_defs.specs.ByPid.{at_pid, with_pid}
 use Rattle.posix_defs.specs.Files.Descriptors.{Descriptor, Descriptors, descriptor_at, descriptor_of, lowest_free_from, none_open, with_descriptor}
-use Rattle.posix_defs.specs.Files.Descriptions.{Description, Descriptions, description_at, with_description}
-use Rattle.posix_defs.specs.Files.State.{Files, descriptors_of, with_descriptors, with_open}
+use Rattle.posix_defs.specs.Files.Descriptions.{Description, description_at}
+use Rattle.posix_defs.specs.Files.State.{Files, descriptors_of, with_open}
 use Rattle.posix_defs.specs.Calls.Opened.{Opened, opened_at, opened_by}
 use Rattle.kern_laws.proofs.Bareness.{none_open_at}
-use Rattle.kern_laws.proofs.TablePlaces.{below_or_not, get_front, get_set_same, get_set_other}
+use Rattle.kern_laws.proofs.TablePlaces.{below_or_not, get_set_same, get_set_other}
 
 pub not_some : {X : Type 0} {x : X} {o : Option X} → o ≡ None → o ≡ Some x → ⊥
 not_some none some = cc

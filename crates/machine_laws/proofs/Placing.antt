@@ -1,7 +1,7 @@
 -- Whatever a call is answered, each process has its numbers of descriptors, and one that has ended has none open.
-use Rattle.std.proofs.Common.{◌≡◌, ◌≢◌, ℕ, zero, suc, ◌+◌, ◌<◌, ◌≤◌, pos, Bool, true, false, cond, List, [], ◌∷◌, ◌++◌, length, map, Option, None, Some, refl, ap, sym, ◌∙◌, subst, ◌⊎◌, inl, inr, arith, length-append, unwrap_or}
+use Rattle.std.proofs.Common.{◌≡◌, ◌≢◌, ℕ, zero, suc, ◌+◌, ◌<◌, ◌≤◌, pos, Bool, true, false, cond, List, [], ◌∷◌, ◌++◌, length, map, Option, None, Some, refl, ap, sym, ◌∙◌, subst, inl, inr, arith, length-append}
 use Rattle.std.proofs.lemmas.Bool.Decides.{eqb_tells}
-use Rattle.std.proofs.lemmas.List.{length-map, length-set}
+use Rattle.std.proofs.lemmas.List.{length-map}
 use Rattle.kabi_calls.specs.Arguments.{count_of, most_descriptors}
 use Rattle.kabi_calls.specs.declared.calls.Call.{Call}
 use Rattle.kabi_calls.specs.declared.calls.Call.TheVariants as calls
@@ -9,24 +9,22 @@ use Rattle.kabi_values.specs.declared.replies.Reply.{Reply}
 use Rattle.kabi_values.specs.declared.replies.Reply.TheVariants.{Fail, Val}
 use Rattle.kabi_values.specs.declared.errnos.Errno.TheVariants.{EAGAIN}
 use Rattle.kabi_types.specs.declared.scripts.Script.{Script}
-use Rattle.posix_defs.specs.Answer as answer
 use Rattle.posix_defs.specs.Answer.{Answer, failed, replied}
 use Rattle.posix_defs.specs.ByPid.{with_pid}
 use Rattle.posix_defs.specs.Control as program
 use Rattle.posix_defs.specs.Ending.{closed_by, die, die_in, leaves, left_behind, ended_as}
 use Rattle.posix_defs.specs.Forking.{child_of, is_full, with_child}
 use Rattle.posix_defs.specs.Memory.{no_memory}
-use Rattle.posix_defs.specs.MemoryCalls.{remembered}
-use Rattle.posix_defs.specs.Plain.{Plain, answered, boot_plain, control_of, last_pid, with_files}
+use Rattle.posix_defs.specs.Plain.{Plain, answered, boot_plain, control_of, last_pid}
 use Rattle.posix_defs.specs.Posix.{posix}
-use Rattle.posix_defs.specs.Process.{Alive, Process, Table, is_alive, is_alive_in, process_at, with_directory, with_memory, working_in}
+use Rattle.posix_defs.specs.Process.{Alive, Process, Table, is_alive, is_alive_in, process_at, with_directory, working_in}
 use Rattle.posix_defs.specs.Files.Descriptors.{none_open}
 use Rattle.posix_defs.specs.Files.Descriptions.{Description}
 use Rattle.posix_defs.specs.Files.State.{Files, boot_files, descriptors_of, opened_as, with_heir, with_open}
 use Rattle.posix_defs.specs.Files.Whole.{HasPlaces}
 use Rattle.kern_laws.proofs.Families.{others_live, alive_there}
 use Rattle.kern_laws.proofs.Remembering.{alive_still}
-use Rattle.kern_laws.proofs.TablePlaces.{at_end, below_or_not, is_gone, same_in_front, was_made, with_other, with_same}
+use Rattle.kern_laws.proofs.TablePlaces.{at_end, below_or_not, same_in_front, was_made, with_other, with_same}
 use Rattle.machine_laws.specs.FileSteps as step
 use Rattle.machine_laws.specs.FileSteps.{IsStep, LeadsTo}
 use Rattle.machine_laws.specs.Placed.{IsPlaced}

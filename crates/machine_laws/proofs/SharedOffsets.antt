@@ -1,19 +1,19 @@
 -- Two descriptors that name one description share its offset.
-use Rattle.std.proofs.Common.{◌≡◌, ◌≢◌, ℕ, zero, suc, ◌+◌, ◌<◌, ◌≤◌, ◌==◌, ℤ, pos, negsuc, ◌+ℤ◌, nat_lt, Bool, true, false, cond, List, [], ◌∷◌, ◌++◌, length, Option, None, Some, slice_set, unwrap_or, refl, ap, sym, ◌∙◌, subst, arith}
+use Rattle.std.proofs.Common.{◌≡◌, ℕ, zero, suc, ◌+◌, ◌<◌, ◌≤◌, ◌==◌, ℤ, pos, negsuc, ◌+ℤ◌, nat_lt, false, [], ◌∷◌, length, Option, None, Some, slice_set, unwrap_or, refl, ap, sym, ◌∙◌, subst, arith}
 use Rattle.std.proofs.lemmas.List.{get_or-set_same, get_or-set_other}
 use Rattle.kabi_calls.specs.Arguments.{argument_fault, count_of}
 use Rattle.kabi_calls.specs.declared.calls.Call.TheVariants as calls
 use Rattle.kabi_values.specs.declared.errnos.Errno.{Errno}
 use Rattle.kabi_types.specs.declared.scripts.Script.{Script}
 use Rattle.posix_defs.specs.Answer.{Answer}
-use Rattle.posix_defs.specs.Forking.{fork, is_full}
+use Rattle.posix_defs.specs.Forking.{is_full}
 use Rattle.posix_defs.specs.Machine.{unless_wrong}
 use Rattle.posix_defs.specs.Memory.{is_mapped_range}
 use Rattle.posix_defs.specs.PathCalls.{read_node}
 use Rattle.posix_defs.specs.Plain.{Plain, last_pid}
 use Rattle.posix_defs.specs.Posix.{posix}
 use Rattle.posix_defs.specs.Process.{memory_of}
-use Rattle.posix_defs.specs.Files.Descriptors.{Descriptor, descriptor_of, lowest_free, lowest_free_from, none_open}
+use Rattle.posix_defs.specs.Files.Descriptors.{descriptor_of, lowest_free, lowest_free_from, none_open}
 use Rattle.posix_defs.specs.Files.Descriptions.{Target, OnNode, OnPipe, OnSocket, Description, at_offset, may_read}
 use Rattle.posix_defs.specs.Files.State.{Files, described_as, descriptors_of, with_heir}
 use Rattle.posix_defs.specs.Calls.Opened.{Opened, answer_on, on_open, opened_at, opened_by}

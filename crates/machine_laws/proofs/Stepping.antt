@@ -1,18 +1,14 @@
 -- Each answer of each call leads to files that one step leads to.
-use Rattle.std.proofs.Common.{◌≡◌, ◌≢◌, ℕ, zero, suc, ◌+◌, ◌-◌, ◌*◌, ◌/◌, ◌==◌, ◌&&◌, ◌||◌, nat_lt, nat_le, ℤ, pos, negsuc, ◌+ℤ◌, not, Bool, true, false, cond, if◌then◌else◌, List, length, take, Option, None, Some, is_some, Result, Ok, Err, refl, ap, sym, ◌∙◌, subst}
+use Rattle.std.proofs.Common.{◌≡◌, ℕ, zero, suc, ◌-◌, ◌==◌, ◌&&◌, ◌||◌, nat_lt, ℤ, pos, negsuc, ◌+ℤ◌, Bool, true, false, cond, List, length, Option, None, Some, is_some, Result, Ok, Err, refl, ap, ◌∙◌}
 use Rattle.kabi_calls.specs.Arguments.{argument_fault, count_of, is_minus_one, may_be_descriptor}
 use Rattle.kabi_calls.specs.declared.calls.Call.{Call}
 use Rattle.kabi_calls.specs.declared.calls.Call.TheVariants as call
 use Rattle.kabi_values.specs.declared.errnos.Errno.{Errno}
-use Rattle.kabi_values.specs.declared.replies.Reply.TheVariants as reply
 use Rattle.kabi_values.specs.declared.replies.StatInfo.{StatInfo}
 use Rattle.kabi_types.specs.declared.scripts.Script.{Script}
-use Rattle.posix_defs.specs.Answer as answer
-use Rattle.posix_defs.specs.Answer.{Answer, failed, replied}
-use Rattle.posix_defs.specs.Ending.{die}
+use Rattle.posix_defs.specs.Answer.{Answer}
 use Rattle.posix_defs.specs.Forking.{fork, is_full}
 use Rattle.posix_defs.specs.Killing.{is_asking, kill, sent_to, struck}
-use Rattle.posix_defs.specs.Killing as killing
 use Rattle.posix_defs.specs.Machine.{unless_wrong}
 use Rattle.posix_defs.specs.Memory.{is_mapped_range, lowest_run}
 use Rattle.posix_defs.specs.MemoryCalls.{in_range, mapped_from, mmap}
@@ -24,18 +20,18 @@ use Rattle.posix_defs.specs.Process.{Process, directory_of, memory_of, process_a
 use Rattle.posix_defs.specs.Reaching.{is_on_node}
 use Rattle.posix_defs.specs.Socket.{Accepting, is_connected}
 use Rattle.posix_defs.specs.Socket as socket
-use Rattle.posix_defs.specs.Sockets.{after_listen, after_shut, sock_read, sock_write, stage_at, socket_at, is_refused}
+use Rattle.posix_defs.specs.Sockets.{after_listen, after_shut, sock_read, stage_at, socket_at, is_refused}
 use Rattle.posix_defs.specs.Tree.{Tree, is_directory}
 use Rattle.posix_defs.specs.TreeChanges.{resize}
 use Rattle.posix_defs.specs.TreeChanges as trees
 use Rattle.posix_defs.specs.PathCalls.{bind_path, enter_path, exec_path, find_socket, link_path, mkdir_path, open_path, rename_path, rmdir_path, stat_path, unlink_path}
-use Rattle.posix_defs.specs.Waiting.{Exited, any_from, exited_from, is_nohang, not_yet, waited_for, waitpid}
+use Rattle.posix_defs.specs.Waiting.{Exited, any_from, exited_from, is_nohang, waited_for, waitpid}
 use Rattle.posix_defs.specs.Files.Descriptors.{Two, lowest_free, lowest_free_from, two_lowest_free}
-use Rattle.posix_defs.specs.Files.Descriptions.{Target, OnNode, OnPipe, OnSocket, at_offset, has_flag, may_read, may_write, with_status}
+use Rattle.posix_defs.specs.Files.Descriptions.{Target, OnNode, OnPipe, OnSocket, has_flag, may_read, may_write}
 use Rattle.posix_defs.specs.Files.SocketNames.{listener_at}
 use Rattle.posix_defs.specs.Files.State.{Files, descriptors_of, node_of, opens, pipe_at}
 use Rattle.posix_defs.specs.Calls.Opened.{Opened, answer_on, if_readable, if_writable, on_open, opened_at}
-use Rattle.posix_defs.specs.Calls.OnDescriptors.{close, controlled, dup, dup2, duplicated, duplicated_to, fcntl}
+use Rattle.posix_defs.specs.Calls.OnDescriptors.{close, controlled, dup, dup2, duplicated, fcntl}
 use Rattle.posix_defs.specs.Calls.Reading.{is_directory_target, list_target, of_bytes, pread, pread_target, read, read_from_pipe, read_from_socket, read_target, readdir}
 use Rattle.posix_defs.specs.Calls.Writing.{bytes_left, place_of_write, put_in_pipe, put_in_socket, pwrite, pwrite_target, write, write_queue, write_target, wrote, wrote_at}
 use Rattle.posix_defs.specs.Calls.OnFiles.{fstat, ftruncate, greatest_offset, is_between_entries, lseek, open_at, open_file, opened_node_as, opening_of, origin, resized_to, seek_target, seek_to, truncate_target}

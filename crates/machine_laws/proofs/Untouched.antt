@@ -1,5 +1,5 @@
 -- A call that reaches no node leaves the tree.
-use Rattle.std.proofs.Common.{◌≡◌, ℕ, ◌&&◌, ◌||◌, Bool, true, false, Option, None, Some, is_none, refl, ap, sym, ◌∙◌, subst}
+use Rattle.std.proofs.Common.{◌≡◌, ℕ, ◌&&◌, ◌||◌, Bool, true, false, Option, None, Some, is_none, refl, ap, sym, ◌∙◌}
 use Rattle.kabi_calls.specs.Arguments.{argument_fault}
 use Rattle.kabi_calls.specs.declared.calls.Call.{Call}
 use Rattle.kabi_values.specs.declared.errnos.Errno.{Errno}
@@ -8,7 +8,6 @@ use Rattle.posix_defs.specs.Machine.{unless_wrong}
 use Rattle.posix_defs.specs.Plain.{Plain}
 use Rattle.posix_defs.specs.Posix.{posix, posix_answer}
 use Rattle.posix_defs.specs.Reaching.{ends_node, names_node, reaches_node}
-use Rattle.posix_defs.specs.Tree.{Tree}
 use Rattle.posix_defs.specs.Files.State.{Files}
 use Rattle.machine_laws.specs.FileSteps as step
 use Rattle.machine_laws.specs.FileSteps.{IsStep, LeadsTo}

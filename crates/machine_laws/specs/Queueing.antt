@@ -1,5 +1,5 @@
 -- What becomes of a pipe's bytes in one call of the whole machine.
-use Rattle.std.specs.Prelude.{ℕ, ◌-◌, ◌<◌, ◌≡◌, ◌⊎◌, ◌++◌, ℤ, pos, true, List, take, drop, Option, Some, is_some}
+use Rattle.std.specs.Prelude.{ℕ, ◌-◌, ◌<◌, ◌≡◌, ◌⊎◌, ◌++◌, ℤ, pos, true, List, take, drop, Some, is_some}
 use Rattle.kabi_calls.specs.Arguments.{count_of}
 use Rattle.kabi_calls.specs.declared.calls.Call.{Call}
 use Rattle.kabi_calls.specs.declared.calls.Call.TheVariants.{Read, Write}
