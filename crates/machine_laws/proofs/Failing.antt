@@ -1,12 +1,12 @@
 -- A call that fails changes its caller's control alone, by its shape.
-use Rattle.std.proofs.Common.{◌≡◌, ◌≢◌, ℕ, Bool, true, false, refl, ap, sym, ◌∙◌, subst}
+use Rattle.std.proofs.Common.{◌≡◌, ◌≢◌, ℕ, true, false, refl, ap, sym, ◌∙◌, subst}
 use Rattle.kabi_calls.specs.declared.calls.Call.{Call}
 use Rattle.kabi_values.specs.declared.errnos.Errno.{Errno}
 use Rattle.kabi_values.specs.declared.errnos.Errno.TheVariants.{ENOMEM}
 use Rattle.kabi_values.specs.declared.replies.Reply.{Reply}
-use Rattle.kabi_values.specs.declared.replies.Reply.TheVariants.{Fail, Val}
+use Rattle.kabi_values.specs.declared.replies.Reply.TheVariants.{Fail}
 use Rattle.kabi_types.specs.declared.scripts.Script.{Script}
-use Rattle.posix_defs.specs.Answer.{Answer, Blocked, Done, Part, Ended}
+use Rattle.posix_defs.specs.Answer.{Answer, Done}
 use Rattle.posix_defs.specs.Plain.{Plain, answered}
 use Rattle.posix_defs.specs.Posix.{posix}
 use Rattle.posix_defs.specs.Reaching.{is_reply}
@@ -36,7 +36,7 @@ by_shape script plain pid given (shape.moves directory is) = subst (FailsAlone s
 by_shape script plain pid given (shape.parts files moved is) = subst (FailsAlone script plain pid) (sym is) tt
 by_shape script plain pid given (shape.starts place is) = subst (FailsAlone script plain pid) (sym is) tt
 by_shape script plain pid given (shape.forks is) = subst (FailsAlone script plain pid) (sym is) tt
-by_shape script plain pid given (shape.reaps child status is) = subst (FailsAlone script plain pid) (sym is) tt
+by_shape script plain pid given (shape.reaps child status ended is) = subst (FailsAlone script plain pid) (sym is) tt
 by_shape script plain pid given (shape.ends status is) = subst (FailsAlone script plain pid) (sym is) tt
 by_shape script plain pid given (shape.ends_another target status first own is) = subst (FailsAlone script plain pid) (sym is) tt
 

@@ -1,3 +1,14 @@
 pub mod NoWant
 pub mod Shapes
 pub mod Failing
+pub mod Stepping
+pub mod Leading
+pub mod Fading
+pub mod Untouched
+pub mod PipeQueues
+pub mod Places
+pub mod SharedOffsets
+pub mod Shutting
+pub mod Placing
+pub mod Naming
+pub mod Reaches

@@ -1,5 +1,5 @@
 -- What the tree and the queues refuse is never ENOMEM.
-use Rattle.std.proofs.Common.{◌≡◌, ◌≢◌, ℕ, ◌+◌, ◌-◌, ◌==◌, ◌&&◌, ◌||◌, not, nat_le, nat_lt, Bool, true, false, cond, List, [], ◌∷◌, length, Option, None, Some, is_some, is_none, Result, Ok, Err}
+use Rattle.std.proofs.Common.{◌≢◌, ℕ, ◌==◌, ◌&&◌, ◌||◌, not, nat_le, nat_lt, Bool, true, false, cond, List, [], ◌∷◌, length, Option, None, Some, is_some, is_none, Result, Ok, Err}
 use Rattle.std.specs.Str.{bytes_eq}
 use Rattle.std.specs.Option.{ok_or}
 use Rattle.kabi_calls.specs.PathParts.{components}
@@ -10,14 +10,14 @@ use Rattle.posix_defs.specs.declared.walked.Walked.{Walked}
 use Rattle.posix_defs.specs.declared.walked.Walked.TheVariants as walked
 use Rattle.posix_defs.specs.DiskContents.{own_name, parent_name}
 use Rattle.posix_defs.specs.DiskFormat.{blocks_of, greatest_size}
-use Rattle.posix_defs.specs.FileBytes.{fitting, overwritten, resized}
+use Rattle.posix_defs.specs.FileBytes.{fitting}
 use Rattle.posix_defs.specs.Tree.{Content, File, Directory, SocketName, Tree, found, free_node, is_directory, links_at, parent_at, size_of}
 use Rattle.posix_defs.specs.TreeChanges.{blocks_for, link, make, make_at, most_links, resize, takes_entry, write}
 use Rattle.posix_defs.specs.Paths.{begins_at, ends_in_slash, go_on, last_leads, leads, name_leads, on_from, resolve, step}
-use Rattle.posix_defs.specs.PathCalls.{Opening, bind_led, bind_path, ends_in, enter_path, entered, exec_found, exec_path, find_socket, goes_below, is_empty, is_socket, link_from, link_path, link_to, mkdir_led, mkdir_path, node_led, open_led, open_path, open_there, program_of, rename_away, rename_led, rename_named, rename_onto, rename_path, rename_root, rmdir_led, rmdir_path, socket_found, stat_found, stat_path, unless, unlink_led, unlink_path}
-use Rattle.posix_defs.specs.Pipe.{Blocks, Fails, Moves, Moving, Pipe, free_in, not_now, pipe_read, pipe_write, whole}
-use Rattle.posix_defs.specs.Socket.{Accepting, Connected, Idle, Listening, Refuses, Socket, Stage, Takes, Waits, accept, bind_fault, connect_fault, first_waiting, is_connected, is_shut_read, listen_fault, shutdown_fault}
-use Rattle.posix_defs.specs.Sockets.{Sockets, free_at, is_refused, read_connected, read_in_stage, sock_read, sock_write, socket_at, stage_at, write_in_stage, write_to, write_within, writes_no_more}
+use Rattle.posix_defs.specs.PathCalls.{Opening, bind_led, bind_path, ends_in, enter_path, entered, exec_found, exec_path, find_socket, goes_below, is_empty, is_socket, link_from, link_path, link_to, mkdir_led, mkdir_path, node_led, open_led, open_path, open_there, rename_away, rename_led, rename_named, rename_onto, rename_path, rename_root, rmdir_led, rmdir_path, socket_found, stat_found, stat_path, unless, unlink_led, unlink_path}
+use Rattle.posix_defs.specs.Pipe.{Fails, Moving, Pipe, free_in, not_now, pipe_read, pipe_write, whole}
+use Rattle.posix_defs.specs.Socket.{Accepting, Connected, Idle, Listening, Refuses, Socket, Stage, accept, bind_fault, connect_fault, first_waiting, is_connected, is_shut_read, listen_fault, shutdown_fault}
+use Rattle.posix_defs.specs.Sockets.{Sockets, free_at, read_in_stage, sock_read, sock_write, socket_at, stage_at, write_in_stage, write_to, write_within, writes_no_more}
 
 -- another errno
 abbrev pub IsOther : Errno → Type 0

@@ -1,7 +1,7 @@
 -- Each answer of each call has its shape.
-use Rattle.std.proofs.Common.{◌≡◌, ◌≢◌, ℕ, zero, suc, ◌+◌, ◌-◌, ◌*◌, ◌/◌, ◌==◌, ◌&&◌, nat_lt, nat_le, ℤ, pos, negsuc, ◌+ℤ◌, not, Bool, true, false, cond, if◌then◌else◌, List, length, take, Option, None, Some, is_some, Result, Ok, Err, refl, ap, sym, ◌∙◌, subst, ◌⊎◌, inl, inr}
+use Rattle.std.proofs.Common.{◌≡◌, ◌≢◌, ℕ, zero, suc, ◌+◌, ◌-◌, ◌==◌, ◌&&◌, nat_lt, ℤ, pos, negsuc, ◌+ℤ◌, Bool, true, false, cond, List, length, Option, None, Some, Result, Ok, Err, refl, ap, ◌∙◌, inl, inr, arith}
 use Rattle.std.proofs.lemmas.Bool.Decides.{eqb_tells}
-use Rattle.kabi_calls.specs.Arguments.{argument_fault, count_of, is_minus_one, may_be_descriptor, page_size}
+use Rattle.kabi_calls.specs.Arguments.{argument_fault, count_of, is_minus_one, may_be_descriptor}
 use Rattle.kabi_calls.specs.declared.calls.Call.{Call}
 use Rattle.kabi_calls.specs.declared.calls.Call.TheVariants as call
 use Rattle.kabi_values.specs.declared.errnos.Errno.{Errno}
@@ -12,45 +12,41 @@ use Rattle.kabi_values.specs.declared.replies.StatInfo.{StatInfo}
 use Rattle.kabi_types.specs.declared.scripts.Script.{Script}
 use Rattle.posix_defs.specs.Answer as answer
 use Rattle.posix_defs.specs.Answer.{Answer, failed, replied}
-use Rattle.posix_defs.specs.Control.{after_part}
 use Rattle.posix_defs.specs.Ending.{die, exit_status}
-use Rattle.posix_defs.specs.Forking.{fork, is_full, with_child}
+use Rattle.posix_defs.specs.Forking.{fork, is_full}
 use Rattle.posix_defs.specs.Killing.{is_asking, kill, sent_to, struck}
 use Rattle.posix_defs.specs.Killing as killing
 use Rattle.posix_defs.specs.Machine.{answer_to, unless_wrong}
-use Rattle.posix_defs.specs.Memory.{Memory, is_mapped_range, loaded, lowest_run, stored, with_pages, without_pages}
-use Rattle.posix_defs.specs.MemoryCalls.{in_range, mapped_from, mmap, munmap, load, store, remembered}
-use Rattle.posix_defs.specs.Needs.{pages_in, pages_touched}
+use Rattle.posix_defs.specs.Memory.{Memory, is_mapped_range, lowest_run}
+use Rattle.posix_defs.specs.MemoryCalls.{in_range, mapped_from, mmap, remembered}
+use Rattle.posix_defs.specs.Needs.{pages_in}
 use Rattle.posix_defs.specs.Pipe.{Moving, pipe_read, pipe_write}
 use Rattle.posix_defs.specs.Pipe as pipes
-use Rattle.posix_defs.specs.Plain.{Plain, answered, last_pid, with_files}
-use Rattle.posix_defs.specs.Process.{Process, directory_of, memory_of, parent_of, process_at, runs}
+use Rattle.posix_defs.specs.Plain.{Plain, answered, with_files}
+use Rattle.posix_defs.specs.Process.{Process, directory_of, is_alive, memory_of, process_at, runs}
 use Rattle.posix_defs.specs.Reaching.{is_reply}
 use Rattle.posix_defs.specs.Socket.{Accepting, is_connected}
 use Rattle.posix_defs.specs.Socket as socket
-use Rattle.posix_defs.specs.Sockets.{sock_read, sock_write, stage_at, socket_at, is_refused}
+use Rattle.posix_defs.specs.Sockets.{stage_at, socket_at, is_refused}
 use Rattle.posix_defs.specs.Tree.{Tree, is_directory}
-use Rattle.posix_defs.specs.TreeChanges.{resize}
-use Rattle.posix_defs.specs.TreeChanges as trees
-use Rattle.posix_defs.specs.PathCalls.{bind_path, enter_path, exec_path, find_socket, link_path, mkdir_path, open_path, rename_path, rmdir_path, stat_path, unlink_path}
-use Rattle.posix_defs.specs.Waiting.{Exited, any_from, exited_from, is_nohang, not_yet, waited_for, waitpid}
+use Rattle.posix_defs.specs.Waiting.{Exited, any_from, exited_from, is_nohang, waited_for, waitpid}
 use Rattle.posix_defs.specs.Files.Descriptors.{Two, lowest_free, lowest_free_from, two_lowest_free}
 use Rattle.posix_defs.specs.Files.Descriptions.{Target, OnNode, OnPipe, OnSocket, may_read, may_write}
 use Rattle.posix_defs.specs.Files.State.{Files, descriptors_of, opens, pipe_at}
-use Rattle.posix_defs.specs.Calls.Opened.{Opened, answer_on, if_readable, if_writable, on_open, opened_at, moved_to}
+use Rattle.posix_defs.specs.Calls.Opened.{Opened, answer_on, if_readable, if_writable, on_open, opened_at}
 use Rattle.posix_defs.specs.Calls.OnDescriptors.{close, controlled, dup, dup2, duplicated, duplicated_to, fcntl}
-use Rattle.posix_defs.specs.Calls.Reading.{is_directory_target, list_target, of_bytes, pread, pread_target, put, read, read_from_pipe, read_from_socket, read_target, readdir, unless_directory}
-use Rattle.posix_defs.specs.Calls.Writing.{bytes_left, did_part, place_of_write, put_in_queue, pwrite, pwrite_target, stopped, write, write_file, write_queue, write_target, wrote, wrote_at}
-use Rattle.posix_defs.specs.Calls.OnFiles.{fstat, ftruncate, greatest_offset, info_of, is_between_entries, lseek, open_at, open_file, opened_node_as, opening_of, origin, resized_to, seek_target, seek_to, truncate_target}
+use Rattle.posix_defs.specs.Calls.Reading.{is_directory_target, list_target, of_bytes, pread, pread_target, read, read_from_pipe, read_from_socket, read_target, readdir}
+use Rattle.posix_defs.specs.Calls.Writing.{bytes_left, place_of_write, pwrite, pwrite_target, stopped, write, write_queue, write_target, wrote, wrote_at}
+use Rattle.posix_defs.specs.Calls.OnFiles.{fstat, ftruncate, greatest_offset, is_between_entries, lseek, open_at, open_file, opened_node_as, opening_of, origin, resized_to, seek_target, seek_to, truncate_target}
 use Rattle.posix_defs.specs.Calls.OnNames.{chdir, freed_in, is_busy, link, made_directory, mkdir, rename, retreed, rmdir, stat, told_of, unlink, works_from}
 use Rattle.posix_defs.specs.Calls.Starting.{exec, starts}
-use Rattle.posix_defs.specs.Calls.Starting as starting
 use Rattle.posix_defs.specs.Calls.OnPipes.{pipe, piped_under}
 use Rattle.posix_defs.specs.Calls.OnSockets.{accept, accept_at, accepted_under, bind, bind_at, bound_to, connect, connect_at, connected_by, connected_under, listen, listen_at, listener_under, on_socket, paired_under, resocketed, shutdown, shutdown_at, socket_target, socketed_under, socketpair, unless_fault}
 use Rattle.posix_defs.specs.Calls.OnSockets as on_sockets
-use Rattle.posix_defs.specs.Calls.Polling.{hits_of, poll, polled, revents_of}
+use Rattle.posix_defs.specs.Calls.Polling.{hits_of, poll, revents_of}
 use Rattle.posix_defs.specs.Posix.{posix, posix_answer}
 use Rattle.kern_laws.proofs.Errors.{wants_no_memory}
+use Rattle.kern_laws.proofs.Families.{exited_has_ended}
 use Rattle.machine_laws.specs.Shapes as shape
 use Rattle.machine_laws.specs.Shapes.{HasShape}
 use Rattle.machine_laws.proofs.NoWant.{IsNoWant, IsNoWantAccept, IsNoWantFault, IsNoWantMove, IsOther, accept_no, bind_fault_no, bind_no, connect_fault_no, enter_no, exec_no, find_no, links_no, listen_fault_no, mkdir_no, open_no, pipe_read_no, pipe_write_no, rename_no, resize_no, rmdir_no, shutdown_fault_no, sock_read_no, sock_write_no, stat_no, unlink_no, write_no}
@@ -418,12 +414,16 @@ module _ (script : Script) (plain : Plain) (pid : ℕ) where
   forks_shaped = either (is_full plain) (failed script plain pid errno.EAGAIN) _ (fails errno.EAGAIN (λ e. cc)) (shape.forks refl)
 
   waits : (which options : ℤ) → Shaped script plain pid (waitpid script plain pid which options)
-  waits which options = go (exited_from pid which 1 plain.table)
+  waits which options = go (exited_from pid which 1 plain.table) refl
     where
-      go : (o : Option Exited) → Shaped script plain pid (waited_for script plain pid which options o)
-      go None = either (any_from pid which 1 plain.table) _ (failed script plain pid errno.ECHILD)
+      ended : (exited : Exited) → exited_from pid which 1 plain.table ≡ Some exited → is_alive plain.table exited.pid ≡ false
+      ended exited is = let found = exited_has_ended pid which 1 plain.table exited is in
+          ap (is_alive plain.table) (let k : exited.pid ≡ 1 + found.0 = found.1 in let e : exited.pid ≡ suc found.0 = omega arith in e) ∙ found.2
+
+      go : (o : Option Exited) → exited_from pid which 1 plain.table ≡ o → Shaped script plain pid (waited_for script plain pid which options o)
+      go None is = either (any_from pid which 1 plain.table) _ (failed script plain pid errno.ECHILD)
           (either (is_nohang options) (replied script plain pid (reply.Val (pos 0))) answer.Blocked (says _ refl) (shape.blocks refl)) (fails errno.ECHILD (λ e. cc))
-      go (Some exited) = shape.reaps exited.pid exited.status refl
+      go (Some exited) is = shape.reaps exited.pid exited.status (ended exited is) refl
 
   kills : (target signal : ℤ) → Shaped script plain pid (kill script plain pid target signal)
   kills (negsuc n) signal = fails errno.ESRCH (λ e. cc)

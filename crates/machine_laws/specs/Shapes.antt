@@ -7,7 +7,7 @@ use Rattle.kabi_values.specs.declared.replies.Reply.TheVariants.{Val, Waited}
 use Rattle.kabi_types.specs.declared.scripts.Script.{Script}
 use Rattle.posix_defs.specs.Memory.{Memory}
 use Rattle.posix_defs.specs.MemoryCalls.{remembered}
-use Rattle.posix_defs.specs.Process.{with_directory}
+use Rattle.posix_defs.specs.Process.{is_alive, with_directory}
 use Rattle.posix_defs.specs.Plain.{Plain, last_pid, with_files, with_table}
 use Rattle.posix_defs.specs.Answer.{Answer, Blocked, Done, Ended, failed, replied}
 use Rattle.posix_defs.specs.Ending.{die}
@@ -40,7 +40,7 @@ pub data HasShape (script : Script) (plain : Plain) (pid : ℕ) (answer : Answer
   -- its caller has a child
   forks : answer ≡ replied script (with_child script plain pid) pid (Val (pos (last_pid plain + 1))) → HasShape script plain pid answer
   -- a child goes that has ended
-  reaps : (child status : ℕ) → answer ≡ replied script (reaped plain child) pid (Waited child status) → HasShape script plain pid answer
+  reaps : (child status : ℕ) → is_alive plain.table child ≡ false → answer ≡ replied script (reaped plain child) pid (Waited child status) → HasShape script plain pid answer
   -- its caller ends
   ends : (status : ℕ) → answer ≡ Ended status (die plain pid status) → HasShape script plain pid answer
   -- another process ends, which isn't the first
