@@ -1,5 +1,5 @@
 -- Who is held was made, keeps its control, and isn't given up before its own Gone.
-use Rattle.std.proofs.Common.{◌≡◌, ◌≢◌, ℕ, suc, ◌+◌, ◌<◌, ◌≤◌, ◌==◌, ◌||◌, ◌&&◌, ◌⊎◌, not, Bool, true, false, true≢false, cond, eqb, List, [], ◌∷◌, ◌++◌, length, refl, ap, sym, ◌∙◌, subst, inl, inr, ⊎_elim, arith, append-nil, eq-eqb}
+use Rattle.std.proofs.Common.{◌≡◌, ◌≢◌, ℕ, suc, ◌+◌, ◌<◌, ◌≤◌, ◌==◌, ◌||◌, ◌&&◌, ◌⊎◌, not, Bool, true, false, true≢false, cond, eqb, List, [], ◌∷◌, ◌++◌, length, refl, ap, sym, ◌∙◌, subst, inl, inr, ⊎_elim, arith, append-nil, eq-eqb, length-append}
 use Rattle.std.proofs.lemmas.Bool.{eqb-true}
 use Rattle.kabi_types.specs.declared.entries.Entry.{Entry}
 use Rattle.kabi_types.specs.declared.entries.Entry.TheVariants as entry
@@ -243,3 +243,12 @@ given_up_once script steps items past shared pid =
     most : (n : ℕ) (b : Bool) → n ≡ cond b 1 0 → n ≤ 1
     most n true is = omega arith
     most n false is = omega arith
+
+-- an entry makes one process at most
+pub few_made : (script : Script) (entries : List Entry) (past : Past) → IsRun script entries past → last_pid past.plain ≤ length entries + 1
+few_made script _ _ run.boots = omega arith
+few_made script _ _ (run.goes_on entries past next e before f) =
+    let rest : last_pid past.plain ≤ length entries + 1 = few_made script entries past before in
+    let one : last_pid next.plain ≤ last_pid past.plain + 1 = (goes script past next e 0 (made_in script entries past before) f).one in
+    let more : length (entries ++ e ∷ []) ≡ length entries + 1 = length-append entries (e ∷ []) in
+    omega (arith, rest, one, more)
