@@ -1,0 +1,168 @@
+-- What the kernel's value keeps of a shared run, and when it stands for a list of items.
+use Rattle.std.specs.Prelude.{◌≡◌, ℕ, ◌+◌, ◌<◌, ◌≤◌, Bool, true, false, List, [], ◌∷◌, ◌++◌, length}
+use Rattle.kabi_types.specs.declared.entries.Cached.{Cached}
+use Rattle.kabi_types.specs.declared.entries.Cached.TheVariants as cached
+use Rattle.kabi_calls.specs.Call.{kind_of}
+use Rattle.kabi_types.specs.declared.entries.Entry.{Entry}
+use Rattle.kabi_types.specs.declared.entries.Entry.TheVariants as entry
+use Rattle.kabi_types.specs.declared.scripts.Script.{Script}
+use Rattle.kabi_values.specs.Class.{size}
+use Rattle.kabi_values.specs.declared.classes.Class.{Class}
+use Rattle.kabi_values.specs.declared.classes.Class.TheVariants as class
+use Rattle.posix_defs.specs.declared.turner.Turned.{Turned}
+use Rattle.posix_defs.specs.CoreEvent.{entry_of}
+use Rattle.posix_defs.specs.History.{Past, is_among, others}
+use Rattle.posix_defs.specs.Licence.{can_evict_any}
+use Rattle.posix_defs.specs.Needs.{bound}
+use Rattle.posix_defs.specs.Plain.{call_of}
+use Rattle.posix_defs.specs.Process.{is_alive}
+use Rattle.posix_defs.specs.Sizes.{fixed, reserve, room}
+use Rattle.posix_defs.specs.Turn.{TurnsTo}
+use Rattle.posix_defs.specs.World.{AreOnce, Kept, World, MayKeep, boot_world, can_evict, live_of}
+use Rattle.charge_words.specs.Names.{ChargeWord, SeatState}
+use Rattle.turn_words.specs.declared.items.Item.{Item}
+use Rattle.turn_words.specs.declared.items.Item.TheVariants.{Noted, Cleared, Given, Back, Starved, Live, Quiet}
+use Rattle.turn_words.specs.Items.{is_given, noted}
+use Rattle.kern_shared.specs.Shared.{IsShared, MayGive, Starves, StarvesStill, has_starved}
+
+-- the last of the items, or this where there is none
+abbrev pub last_of : Item → List Item → Item
+last_of x [] = x
+last_of x (y ∷ items) = last_of y items
+
+-- the class of what a cache keeps
+abbrev pub class_of : Cached → Class
+class_of cached.Name = class.Name
+class_of cached.Block = class.Block
+class_of cached.Vnode = class.Vnode
+
+-- the caches that are emptied before this one keep nothing that may go
+abbrev pub NothingBefore : World → Cached → Type 0
+NothingBefore world cached.Name = Unit {0}
+NothingBefore world cached.Block = can_evict world.plain world.kept cached.Name ≡ false
+NothingBefore world cached.Vnode = (can_evict world.plain world.kept cached.Name ≡ false) × (can_evict world.plain world.kept cached.Block ≡ false)
+
+-- what an item tells of the world behind it: Live its live bytes; Cleared those before it, and that the caches were emptied in order
+abbrev pub IsTold : World → Item → Type 0
+IsTold world (Live n) = live_of world ≡ n
+IsTold world (Cleared what live) = (live_of world + size (class_of what) ≡ live) × NothingBefore world what
+IsTold world _ = Unit {0}
+
+-- what is kept and what was evicted are together no more than what was filled, and the root's node
+pub record AreFilled (kept : Kept) (past : Past) : Type 0 where
+  pub names : length kept.names + past.evicted.names ≤ past.filled.names
+  pub blocks : length kept.blocks + past.evicted.blocks ≤ past.filled.blocks
+  pub vnodes : length kept.vnodes + past.evicted.vnodes ≤ past.filled.vnodes + 1
+
+-- The kernel's value: the store, the charge seat of what is live, the entries so far, the processes that passes hold, and whether
+-- Starved was answered; and how many entries and how many held processes it has room for.
+pub record KernelValue (T : Type 0) : Type 0 where
+  pub store : T
+  pub seat : SeatState
+  pub history : List Entry
+  pub held : List ℕ
+  pub starved : Bool
+  pub entry_room : ℕ
+  pub held_room : ℕ
+
+-- an entry of a held process is added, which no pass holds any more
+abbrev pub with_entry : {T : Type 0} → KernelValue T → ℕ → Entry → KernelValue T
+with_entry value pid e = record value { history = value.history ++ e ∷ []; held = others pid value.held }
+
+module _ {T : Type 0} (stands_for : T → World → Type 0) (script_of : T → Script) where
+  -- The value stands for these items: they are shared, it keeps what they say, its store stands for the world that they lead to,
+  -- and its charge seat holds what is live in it and the reserve.
+  pub record Shares (script : Script) (steps : ℕ) (charge : ChargeWord) (value : KernelValue T) (items : List Item) : Type 0 where
+    pub past : Past
+    pub world : World
+    pub shared : IsShared script steps items past
+    pub named : script_of value.store ≡ script
+    pub stands : stands_for value.store world
+    pub plain : world.plain ≡ past.plain
+    pub account : world.account ≡ past.account
+    pub may_keep : MayKeep world.plain world.kept
+    pub filled : AreFilled world.kept past
+    pub history : value.history ≡ noted items
+    pub held : (pid : ℕ) → is_among pid value.held ≡ is_given pid items
+    pub once : AreOnce value.held
+    pub starved : value.starved ≡ has_starved items
+    pub still : StarvesStill script items past
+    pub bare : has_starved items ≡ true → can_evict_any world ≡ false
+    pub told : IsTold world (last_of Quiet items)
+    pub of_charge : value.seat.charge ≡ charge
+    pub boot : value.seat.known.is_boot ≡ true
+    pub holds : value.seat.known.holds ≡ live_of world + reserve
+    pub heap : charge.heap ≡ script.heap
+    pub entry_room : steps ≤ value.entry_room
+    pub held_room : steps + 1 ≤ value.held_room
+
+  -- before the first item, with the seat of a charge that was booted for the script's heap
+  abbrev pub StandsAtBoot : Type 0
+  StandsAtBoot =
+      (store : T) (seat : SeatState) (steps entry_room held_room : ℕ) → stands_for store (boot_world (script_of store)) → seat.known.is_boot ≡ true
+      → seat.known.holds ≡ fixed → seat.charge.heap ≡ (script_of store).heap
+      → steps ≤ entry_room → steps + 1 ≤ held_room
+      → Shares (script_of store) steps seat.charge (record {
+        store = store;
+        seat = seat;
+        history = [];
+        held = [];
+        starved = false;
+        entry_room = entry_room;
+        held_room = held_room;
+      }) []
+
+  -- what holds of a value that stands for some items
+  abbrev pub OfStanding : (Holds : (script : Script) (steps : ℕ) (charge : ChargeWord) (value : KernelValue T) (items : List Item) → Shares script steps charge value items → Type 0) → Type 0
+  OfStanding Holds =
+      (script : Script) (steps : ℕ) (charge : ChargeWord) (value : KernelValue T) (items : List Item) (shares : Shares script steps charge value items)
+      → Holds script steps charge value items shares
+
+  -- there is a process for each entry and one more at most, so the room for who is held is enough
+  abbrev pub FewAreHeld : Type 0
+  FewAreHeld = OfStanding (λ script steps charge value items shares. length value.held ≤ length value.history + 1)
+
+  abbrev pub StandsBehindGiven : Type 0
+  StandsBehindGiven = OfStanding (λ script steps charge value items shares.
+      (pid : ℕ) → MayGive script steps items shares.past pid
+      → Shares script steps charge (record value { held = value.held ++ pid ∷ [] }) (items ++ Given pid ∷ []))
+
+  abbrev pub StandsBehindBack : Type 0
+  StandsBehindBack = OfStanding (λ script steps charge value items shares.
+      (pid : ℕ) → is_given pid items ≡ true
+      → Shares script steps charge (record value { held = others pid value.held }) (items ++ Back pid ∷ []))
+
+  abbrev pub StandsBehindLive : Type 0
+  StandsBehindLive = OfStanding (λ script steps charge value items shares.
+      Shares script steps charge value (items ++ Live (live_of shares.world) ∷ []))
+
+  abbrev pub StandsBehindStarved : Type 0
+  StandsBehindStarved = OfStanding (λ script steps charge value items shares.
+      is_given 1 items ≡ true → Starves script shares.past → can_evict_any shares.world ≡ false
+      → Shares script steps charge (record value { starved = true }) (items ++ Starved ∷ []))
+
+  -- behind the Gone of a held process that has ended, which changes nothing else
+  abbrev pub StandsBehindGone : Type 0
+  StandsBehindGone = OfStanding (λ script steps charge value items shares.
+      (pid : ℕ) → length value.history < steps → is_given pid items ≡ true → is_alive shares.past.plain.table pid ≡ false
+      → Shares script steps charge (with_entry value pid (entry.Gone pid (kind_of (call_of script shares.past.plain pid))))
+      (items ++ Noted (entry.Gone pid (kind_of (call_of script shares.past.plain pid))) ∷ []))
+
+  -- behind a turn of a held live process's call: its bound lies beside what the value's seat holds, and that seat then holds what is
+  -- live and the reserve
+  abbrev pub StandsBehindTurn : Type 0
+  StandsBehindTurn = OfStanding (λ script steps charge value items shares.
+      (store : T) (seat : SeatState) (after : World) (pid : ℕ) (told : Turned) → length value.history < steps → is_given pid items ≡ true
+      → is_alive shares.past.plain.table pid ≡ true → bound (call_of script shares.past.plain pid) ≤ room script.heap
+      → value.seat.known.holds + bound (call_of script shares.past.plain pid) ≤ script.heap
+      → script_of store ≡ script → stands_for store after → TurnsTo script shares.world pid (call_of script shares.past.plain pid) told after
+      → seat.charge ≡ charge → seat.known.is_boot ≡ true → seat.known.holds ≡ live_of after + reserve
+      → Shares script steps charge
+      (record (with_entry value pid (entry_of pid (kind_of (call_of script shares.past.plain pid)) told)) { store = store; seat = seat })
+      (items ++ Noted (entry_of pid (kind_of (call_of script shares.past.plain pid)) told) ∷ []))
+
+  -- where a live process's call was reserved beside what the value's seat holds
+  abbrev pub ReservedBeforeStarved : Type 0
+  ReservedBeforeStarved = OfStanding (λ script steps charge value items shares.
+      (pid : ℕ) → is_alive shares.past.plain.table pid ≡ true
+      → value.seat.known.holds + bound (call_of script shares.past.plain pid) ≤ script.heap → value.starved ≡ false)

@@ -1,0 +1,36 @@
+//! Laws of the value that a shared kernel keeps, over any store. Each is the contract of a function that does nothing.
+ghost use Rattle.kern_shared.specs.Shares.{FewAreHeld, ReservedBeforeStarved, StandsAtBoot, StandsBehindBack, StandsBehindGiven, StandsBehindGone, StandsBehindLive, StandsBehindStarved, StandsBehindTurn};
+
+use posix_defs::Turner;
+
+/// A store at boot, with the seat of a charge that was booted for the heap of its script, stands for no item.
+pub fn a_value_at_boot_stands_for_no_item<T: Turner>()
+    ensures { StandsAtBoot T.stands T.script }
+{}
+
+/// A value that stands for some items stands for them with one that isn't an entry behind them, where that one may come, and
+/// where what is kept of who is held and of Starved goes along. The store and its seat stay.
+pub fn an_item_without_an_entry_leaves_the_store<T: Turner>()
+    ensures given { StandsBehindGiven T.stands T.script }
+    ensures back { StandsBehindBack T.stands T.script }
+    ensures live { StandsBehindLive T.stands T.script }
+    ensures starved { StandsBehindStarved T.stands T.script }
+{}
+
+/// A value that stands for some items stands for them with the entry of a held process behind them: the Gone of one that has
+/// ended, and that of a live one's turn, once the store has made it and the value's seat holds what is live then.
+pub fn an_entry_of_a_held_process_is_kept<T: Turner>()
+    ensures gone { StandsBehindGone T.stands T.script }
+    ensures turned { StandsBehindTurn T.stands T.script }
+{}
+
+/// Where what the value's seat holds and the bound of a live process's call lie within the heap together, as they do at a turn
+/// whose call was reserved, nothing was answered Starved before.
+pub fn a_reserved_call_finds_no_starved<T: Turner>()
+    ensures { ReservedBeforeStarved T.stands T.script }
+{}
+
+/// A value keeps at most one held process more than entries, so what is reserved for as many entries and one more is enough.
+pub fn few_processes_are_held<T: Turner>()
+    ensures { FewAreHeld T.stands T.script }
+{}
