@@ -17,7 +17,7 @@ use Rattle.posix_defs.specs.Files.Descriptors.{descriptor_of, lowest_free, lowes
 use Rattle.posix_defs.specs.Files.Descriptions.{Target, OnNode, OnPipe, OnSocket, Description, at_offset, may_read}
 use Rattle.posix_defs.specs.Files.State.{Files, described_as, descriptors_of, with_heir}
 use Rattle.posix_defs.specs.Calls.Opened.{Opened, answer_on, on_open, opened_at, opened_by}
-use Rattle.posix_defs.specs.Calls.OnDescriptors.{dup, duplicated, shared_at}
+use Rattle.posix_defs.specs.Calls.OnDescriptors.{controlled, dup, duplicated, fcntl, shared_at}
 use Rattle.posix_defs.specs.Calls.OnFiles.{greatest_offset, is_between_entries, lseek, origin, seek_target, seek_to}
 use Rattle.posix_defs.specs.Calls.Reading.{is_directory_target, read, read_target}
 use Rattle.kern_laws.proofs.EnabledEvents.{get_behind}
@@ -29,9 +29,9 @@ use Rattle.machine_laws.proofs.PipeQueues.{choose}
 -- ---- dup
 
 -- a number that was free names what another names, which names it still
-shared_names : (files : Files) (pid : ℕ) (fd : ℤ) (opened : Opened) (to : ℕ) → opened_at files pid fd ≡ Some opened → lowest_free_from (descriptors_of files pid) 0 ≡ Some to
+shared_names : (files : Files) (pid : ℕ) (fd : ℤ) (opened : Opened) (from to : ℕ) → opened_at files pid fd ≡ Some opened → lowest_free_from (descriptors_of files pid) from ≡ Some to
     → (opened_at files pid (pos to) ≡ None) × (opened_at (shared_at files pid opened to) pid (pos to) ≡ Some opened) × (opened_at (shared_at files pid opened to) pid fd ≡ Some opened)
-shared_names files pid fd opened to is lowest = (ap (opened_by files) free.1, there, still fd is named.held)
+shared_names files pid fd opened from to is lowest = (ap (opened_by files) free.1, there, still fd is named.held)
   where
     named : IsNaming files pid fd opened
     named = naming files pid fd opened is
@@ -39,8 +39,8 @@ shared_names files pid fd opened to is lowest = (ap (opened_by files) free.1, th
     made : (0 < pid) × (pid ≤ length files.descriptors)
     made = opener_made files pid fd named.descriptor named.held
 
-    free : (to < length (descriptors_of files pid)) × (descriptor_of (descriptors_of files pid) (pos to) ≡ None) × (0 ≤ to)
-    free = free_at (descriptors_of files pid) 0 to lowest
+    free : (to < length (descriptors_of files pid)) × (descriptor_of (descriptors_of files pid) (pos to) ≡ None) × (from ≤ to)
+    free = free_at (descriptors_of files pid) from to lowest
 
     after : descriptors_of (shared_at files pid opened to) pid ≡ slice_set (descriptors_of files pid) to (Some (record { description = opened.place; cloexec = false }))
     after = own_after files pid to (Some (record { description = opened.place; cloexec = false })) made.0 made.1
@@ -61,19 +61,31 @@ module _ (script : Script) (plain : Plain) (pid : ℕ) (fd : ℤ) (opened : Open
   on_it : (Holds : Answer → Type 0) (given : Opened → Answer) → Holds (given opened) → Holds (on_open script plain pid fd given)
   on_it Holds given rest = subst (λ o. Holds (answer_on script plain pid given o)) (sym named) rest
 
+  duplicate_shares : (from : ℕ) (o : Option ℕ) → lowest_free_from (descriptors_of plain.files pid) from ≡ o → SharesTold plain pid fd opened (duplicated script plain pid opened o)
+  duplicate_shares from None lowest = tt
+  duplicate_shares from (Some to) lowest = shared_names plain.files pid fd opened from to named lowest
+
   dup_shares : SharesTold plain pid fd opened (dup script plain pid fd)
   unfolding dup
-  dup_shares = on_it (SharesTold plain pid fd opened) _ (go (lowest_free (descriptors_of plain.files pid)) refl)
-    where
-      go : (o : Option ℕ) → lowest_free (descriptors_of plain.files pid) ≡ o → SharesTold plain pid fd opened (duplicated script plain pid opened o)
-      go None lowest = tt
-      go (Some to) lowest = shared_names plain.files pid fd opened to named lowest
+  dup_shares = on_it (SharesTold plain pid fd opened) _ (duplicate_shares 0 (lowest_free (descriptors_of plain.files pid)) refl)
+
+  fcntl_shares : (from : ℤ) → SharesTold plain pid fd opened (fcntl script plain pid fd (pos 0) from)
+  unfolding fcntl
+  fcntl_shares from = on_it (SharesTold plain pid fd opened) (controlled script plain pid (count_of fd) (count_of (pos 0)) from)
+      (duplicate_shares (count_of from) (lowest_free_from (descriptors_of plain.files pid) (count_of from)) refl)
 
   pub shares : SharesTold plain pid fd opened (posix script plain pid (calls.Dup fd))
   shares = go (argument_fault (calls.Dup fd))
     where
       go : (fault : Option Errno) → SharesTold plain pid fd opened (unless_wrong script plain pid fault (dup script plain pid fd))
       go None = dup_shares
+      go (Some e) = tt
+
+  pub shares_from : (from : ℤ) → SharesTold plain pid fd opened (posix script plain pid (calls.Fcntl fd (pos 0) from))
+  shares_from from = go (argument_fault (calls.Fcntl fd (pos 0) from))
+    where
+      go : (fault : Option Errno) → SharesTold plain pid fd opened (unless_wrong script plain pid fault (fcntl script plain pid fd (pos 0) from))
+      go None = fcntl_shares from
       go (Some e) = tt
 
 -- ---- fork

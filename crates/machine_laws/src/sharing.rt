@@ -1,7 +1,7 @@
 //! The law of shared descriptions under all forty-one calls. It is the contract of a function that does nothing.
 
-ghost use Rattle.std.specs.Prelude.{◌≡◌, ◌≤◌, ℕ, ℤ, Some, length};
-ghost use Rattle.kabi_calls.specs.declared.calls.Call.TheVariants.{Dup, Fork, Lseek, Read};
+ghost use Rattle.std.specs.Prelude.{◌≡◌, ◌≤◌, ℕ, ℤ, pos, Some, length};
+ghost use Rattle.kabi_calls.specs.declared.calls.Call.TheVariants.{Dup, Fcntl, Fork, Lseek, Read};
 ghost use Rattle.kabi_types.specs.declared.scripts.Script.{Script};
 ghost use Rattle.posix_defs.specs.Plain.{Plain, last_pid};
 ghost use Rattle.posix_defs.specs.Posix.{posix};
@@ -9,11 +9,14 @@ ghost use Rattle.posix_defs.specs.Files.Descriptions.{OnNode};
 ghost use Rattle.posix_defs.specs.Calls.Opened.{Opened, opened_at};
 ghost use Rattle.machine_laws.specs.Sharing.{InheritsTold, SeesTold, SharesTold};
 
-/// After `dup` two descriptors name one description, and after `fork` each descriptor of the child and its parent's do; and
-/// where two name one, of whichever processes, a seek or a read of a file through one moves the offset of the other.
+/// After `dup`, and after `fcntl` with F_DUPFD, two descriptors name one description, and after `fork` each descriptor of the
+/// child and its parent's do; and where two name one, of whichever processes, a seek or a read of a file through one moves
+/// the offset of the other.
 pub fn an_offset_is_shared()
     ensures dup { (script : Script) (plain : Plain) (pid : ℕ) (fd : ℤ) (opened : Opened)
         → opened_at plain.files pid fd ≡ Some opened → SharesTold plain pid fd opened (posix script plain pid (Dup fd)) }
+    ensures fcntl { (script : Script) (plain : Plain) (pid : ℕ) (fd from : ℤ) (opened : Opened)
+        → opened_at plain.files pid fd ≡ Some opened → SharesTold plain pid fd opened (posix script plain pid (Fcntl fd (pos 0) from)) }
     ensures fork { (script : Script) (plain : Plain) (pid : ℕ)
         → length plain.files.descriptors ≡ last_pid plain → pid ≤ last_pid plain → InheritsTold plain pid (posix script plain pid Fork) }
     ensures sought { (script : Script) (plain : Plain) (pid other : ℕ) (fd to offset whence : ℤ) (opened : Opened)

@@ -1,8 +1,11 @@
-use Rattle.machine_laws.proofs.SharedOffsets.{inherits, read_on, shares, sought}
+use Rattle.machine_laws.proofs.SharedOffsets.{inherits, read_on, shares, shares_from, sought}
 use Rattle.machine_laws.proofs.sharing.an_offset_is_shared.Goals as goal
 
 pub returns-clause-dup : goal.returns-clause-dup
 returns-clause-dup c = shares
+
+pub returns-clause-fcntl : goal.returns-clause-fcntl
+returns-clause-fcntl c = λ script plain pid fd from opened named. shares_from script plain pid fd opened named from
 
 pub returns-clause-fork : goal.returns-clause-fork
 returns-clause-fork c = inherits
