@@ -1,28 +1,30 @@
 -- The kernel's value stands for what it stood for, with an item behind it that isn't an entry.
-use Rattle.std.proofs.Common.{◌≡◌, ◌≢◌, ℕ, zero, suc, ◌+◌, ◌<◌, ◌≤◌, ◌==◌, ◌||◌, ◌&&◌, not, ⊎_elim, Bool, true, false, true≢false, cond, eqb, List, [], ◌∷◌, ◌++◌, filter, length, refl, ap, sym, ◌∙◌, subst, arith, append-nil, eq-eqb}
+use Rattle.std.proofs.Common.{◌≡◌, ◌≢◌, ℕ, zero, suc, ◌+◌, ◌<◌, ◌≤◌, ◌==◌, ◌||◌, ◌&&◌, not, ⊎_elim, Bool, true, false, true≢false, cond, List, [], ◌∷◌, ◌++◌, filter, length, refl, ap, sym, ◌∙◌, subst, arith, append-nil, eq-eqb}
 use Rattle.std.proofs.lemmas.Bool.{eqb-true}
 use Rattle.std.proofs.lemmas.Bool.Decides.{leb_tells}
 use Rattle.std.specs.List.{AllByRecursion}
 use Rattle.std.proofs.lemmas.Map.Views.{any-filter_same}
+use Rattle.kabi_types.specs.declared.entries.Entry.{Entry}
 use Rattle.kabi_types.specs.declared.scripts.Script.{Script}
 use Rattle.posix_defs.specs.CoreRun.{IsCoreRun, boots}
 use Rattle.posix_defs.specs.CoreState.{boot_state}
-use Rattle.posix_defs.specs.History.{Past, boot_past, is_among, others}
+use Rattle.posix_defs.specs.History.{boot_past, is_among, others}
 use Rattle.posix_defs.specs.Licence.{can_evict_any}
 use Rattle.posix_defs.specs.Memory.{no_places}
 use Rattle.posix_defs.specs.Needs.{bound}
 use Rattle.posix_defs.specs.Plain.{call_of, last_pid}
 use Rattle.posix_defs.specs.Process.{is_alive}
+use Rattle.posix_defs.specs.Sizes.{fixed}
 use Rattle.posix_defs.specs.World.{AreOnce, World, boot_world, is_in, live_of}
 use Rattle.kern_laws.proofs.Caches.{no_more}
 use Rattle.kern_laws.proofs.Sounds.{is_sound}
-use Rattle.charge_words.specs.Names.{ChargeWord}
+use Rattle.charge_words.specs.Names.{ChargeWord, SeatState}
 use Rattle.turn_words.specs.declared.items.Item.{Item}
 use Rattle.turn_words.specs.declared.items.Item.TheVariants.{Given, Back, Starved, Live, Quiet}
 use Rattle.turn_words.specs.Items.{entry_of, is_given, noted}
 use Rattle.turn_words.proofs.Held.{contrary, given_more}
 use Rattle.turn_words.proofs.Notes.{noted_more}
-use Rattle.kern_shared.specs.Shared.{IsShared, MayShare, StarvesStill, has_starved, is_starved, is_turn, sleeps_on, starts, goes_on}
+use Rattle.kern_shared.specs.Shared.{MayShare, has_starved, is_starved, is_turn, sleeps_on, starts, goes_on}
 use Rattle.kern_shared.specs.Shares.{FewAreHeld, IsTold, KernelValue, ReservedBeforeStarved, Shares, StandsAtBoot, StandsBehindBack, StandsBehindGiven, StandsBehindLive, StandsBehindStarved, last_of}
 use Rattle.kern_shared.proofs.Runs.{entries_run}
 use Rattle.kern_shared.proofs.Standing.{few_made, held_made}
@@ -203,9 +205,9 @@ module _ {T : Type 0} (stands_for : T → World → Type 0) (script_of : T → S
   behind_given script steps charge value items s pid may =
       behind script steps charge value items s (Given pid) (value.held ++ pid ∷ []) value.starved (may, refl) refl refl
       (λ other. among_more value.held pid other ∙ ap (λ (b : Bool). b || (pid == other)) (s.held other)
-          ∙ given (pid == other) (is_given other items) ∙ sym (given_more other false items (Given pid)))
+      ∙ given (pid == other) (is_given other items) ∙ sym (given_more other false items (Given pid)))
       (once_more value.held pid s.once
-          (s.held pid ∙ free_not_held (is_alive s.past.plain.table pid) (is_given pid items) (sleeps_on script items s.past pid) may.free))
+      (s.held pid ∙ free_not_held (is_alive s.past.plain.table pid) (is_given pid items) (sleeps_on script items s.past pid) may.free))
       (s.starved ∙ sym (starved_same items (Given pid) refl)) tt
       (λ starved. s.bare (sym (starved_same items (Given pid) refl) ∙ starved))
     where
@@ -219,7 +221,7 @@ module _ {T : Type 0} (stands_for : T → World → Type 0) (script_of : T → S
   behind_back script steps charge value items s pid is_held =
       behind script steps charge value items s (Back pid) (others pid value.held) value.starved (is_held, refl) refl refl
       (λ other. others_among pid value.held other ∙ ap (λ (b : Bool). not (pid == other) && b) (s.held other)
-          ∙ taken (pid == other) (is_given other items) ∙ sym (given_more other false items (Back pid)))
+      ∙ taken (pid == other) (is_given other items) ∙ sym (given_more other false items (Back pid)))
       (once_filtered (λ other. not (other == pid)) value.held s.once)
       (s.starved ∙ sym (starved_same items (Back pid) refl)) tt
       (λ starved. s.bare (sym (starved_same items (Back pid) refl) ∙ starved))
@@ -251,11 +253,39 @@ module _ {T : Type 0} (stands_for : T → World → Type 0) (script_of : T → S
       s.starved ∙ no_room script items s.past s.world pid s.still s.plain s.account s.may_keep alive
       (subst (λ n. n + bound (call_of script s.past.plain pid) ≤ script.heap) s.holds fits)
 
+  -- the same where the run has names of its own for what is at hand
+  pub named_at_boot : (script : Script) (steps limit : ℕ) (charge : ChargeWord) (store : T) (seat : SeatState) (history : List Entry) (held : List ℕ) (entry_room held_room : ℕ)
+      → script ≡ script_of store → steps ≡ limit → charge ≡ seat.charge → history ≡ [] → held ≡ []
+      → stands_for store (boot_world (script_of store)) → seat.known.is_boot ≡ true → seat.known.holds ≡ fixed → seat.charge.heap ≡ (script_of store).heap
+      → limit ≤ entry_room → limit + 1 ≤ held_room
+      → Shares stands_for script_of script steps charge
+      (record { store = store; seat = seat; history = history; held = held; starved = false; entry_room = entry_room; held_room = held_room }) []
+  named_at_boot script steps limit charge store seat history held entry_room held_room script_is steps_is charge_is history_is held_is stands boot holds heap entries some_held =
+      subst (λ sc. Shares stands_for script_of sc steps charge (value history held) []) (sym script_is)
+      (subst (λ n. Shares stands_for script_of (script_of store) n charge (value history held) []) (sym steps_is)
+      (subst (λ w. Shares stands_for script_of (script_of store) limit w (value history held) []) (sym charge_is)
+      (subst (λ l. Shares stands_for script_of (script_of store) limit seat.charge (value l held) []) (sym history_is)
+      (subst (λ l. Shares stands_for script_of (script_of store) limit seat.charge (value [] l) []) (sym held_is)
+      (at_boot store seat limit entry_room held_room stands boot holds heap entries some_held)))))
+    where
+      value : List Entry → List ℕ → KernelValue T
+      value entries pids = record { store = store; seat = seat; history = entries; held = pids; starved = false; entry_room = entry_room; held_room = held_room }
+
+  -- a process is taken back, in a list with the same room
+  pub released : (script : Script) (steps : ℕ) (charge : ChargeWord) (value : KernelValue T) (pid : ℕ) (held : List ℕ) (held_room : ℕ)
+      → held ≡ others pid value.held → held_room ≡ value.held_room
+      → (items : List Item) → Shares stands_for script_of script steps charge value items → is_given pid items ≡ true
+      → Shares stands_for script_of script steps charge (record value { held = held; held_room = held_room }) (items ++ Back pid ∷ [])
+  released script steps charge value pid held held_room held_is room_is items s is_held =
+      subst (λ l. Shares stands_for script_of script steps charge (record value { held = l; held_room = held_room }) (items ++ Back pid ∷ [])) (sym held_is)
+      (subst (λ n. Shares stands_for script_of script steps charge (record value { held = others pid value.held; held_room = n }) (items ++ Back pid ∷ [])) (sym room_is)
+      (behind_back script steps charge value items s pid is_held))
+
   pub few_held : FewAreHeld stands_for script_of
   few_held script steps charge value items s =
       let last = last_pid s.past.plain in
       let most : length value.held ≤ length (up_to last) = no_more value.held (up_to last) s.once (λ pid among.
-          let made = held_made script steps items s.past s.shared pid (sym (s.held pid) ∙ among) in in_up_to last pid made.0 made.1) in
+      let made = held_made script steps items s.past s.shared pid (sym (s.held pid) ∙ among) in in_up_to last pid made.0 made.1) in
       let all : length (up_to last) ≡ last = length-up_to last in
       let many : last ≤ length (noted items) + 1 = few_made script (noted items) s.past (entries_run script steps items s.past s.shared) in
       let same : length value.history ≡ length (noted items) = ap length s.history in

@@ -1,5 +1,5 @@
 -- The entries of a shared history are a run, and who is held is up.
-use Rattle.std.proofs.Common.{◌≡◌, ℕ, ◌+◌, ◌<◌, ◌≤◌, ◌||◌, ◌&&◌, not, ◌⊎◌, Bool, true, false, true≢false, cond, eqb, List, [], ◌∷◌, ◌++◌, length, refl, ap, sym, ◌∙◌, subst, inl, inr, ⊎_elim, arith, append-nil, length-append, eq-eqb}
+use Rattle.std.proofs.Common.{◌≡◌, ℕ, ◌+◌, ◌<◌, ◌≤◌, ◌||◌, ◌&&◌, not, ◌⊎◌, Bool, true, false, true≢false, cond, eqb, List, [], ◌∷◌, ◌++◌, length, refl, ap, sym, ◌∙◌, subst, inl, inr, ⊎_elim, arith, append-nil, length-append}
 use Rattle.std.proofs.lemmas.Bool.{eqb-true}
 use Rattle.kabi_types.specs.declared.entries.Entry.{Entry}
 use Rattle.kabi_types.specs.declared.entries.Entry.TheVariants as entry
@@ -51,7 +51,7 @@ entries_run script steps _ _ (goes_on items past next added before may) = by_ite
 one_step : (items : List Item) (x : Item) (e : Entry) (steps : ℕ) → entry_of x ≡ e ∷ [] → length (noted items) < steps → length (noted (items ++ x ∷ [])) ≤ steps
 one_step items x e steps is below =
     let more : length (noted (items ++ x ∷ [])) ≡ length (noted items) + 1 =
-        ap length (noted_more items x ∙ ap (λ l. noted items ++ l) is) ∙ length-append (noted items) (e ∷ []) in
+    ap length (noted_more items x ∙ ap (λ l. noted items ++ l) is) ∙ length-append (noted items) (e ∷ []) in
     omega arith
 
 pub same_steps : (items : List Item) (x : Item) → entry_of x ≡ [] → length (noted (items ++ x ∷ [])) ≡ length (noted items)
@@ -103,14 +103,15 @@ both_hold true false false false h = (refl, inr (refl, refl))
 asleep_dozes : (script : Script) (entries : List Entry) (past : Past) → IsRun script entries past → (pid : ℕ) → is_up past pid ≡ false → (dozes pid entries ≡ true) × (would_block script past.plain pid ≡ true)
 asleep_dozes script _ _ run.boots pid down = absurd (true≢false down)
 asleep_dozes script _ _ (run.goes_on entries past next added before may) pid down =
-    let told = both_hold (would_block script next.plain pid) (sleeps_by pid added) (is_of pid added) (is_up past pid) (sym (sleeps_after script past added next pid may) ∙ down) in
-    (⊎_elim
-        (λ (slept : sleeps_by pid added ≡ true).
-            dozes_more pid false entries added ∙ (ap (λ (b : Bool). cond b (sleeps_by pid added) (dozes pid entries)) (sleeps_of pid added slept) ∙ slept))
-        (λ (h : (is_of pid added ≡ false) × (is_up past pid ≡ false)).
-            dozes_more pid false entries added ∙ (ap (λ (b : Bool). cond b (sleeps_by pid added) (dozes pid entries)) h.0 ∙ (asleep_dozes script entries past before pid h.1).0))
-        told.1,
-    told.0)
+    let told = both_hold (would_block script next.plain pid) (sleeps_by pid added) (is_of pid added) (is_up past pid) (sym (sleeps_after script past added next pid may) ∙ down) in (
+      ⊎_elim
+          (λ (slept : sleeps_by pid added ≡ true).
+          dozes_more pid false entries added ∙ (ap (λ (b : Bool). cond b (sleeps_by pid added) (dozes pid entries)) (sleeps_of pid added slept) ∙ slept))
+          (λ (h : (is_of pid added ≡ false) × (is_up past pid ≡ false)).
+          dozes_more pid false entries added ∙ (ap (λ (b : Bool). cond b (sleeps_by pid added) (dozes pid entries)) h.0 ∙ (asleep_dozes script entries past before pid h.1).0))
+          told.1,
+      told.0,
+    )
 
 -- what a free process is
 pub free_is_up : (alive given asleep : Bool) → (alive && not given && not asleep) ≡ true → asleep ≡ false
@@ -167,11 +168,11 @@ held_up script steps _ _ (goes_on items past next added before may) pid given =
     by_item rest (Cleared what live) m h = up_still script past next (entry.Evicted what) pid m.2 refl (rest h)
     by_item rest (Given other) m h = ⊎_elim
         (λ (is : eqb other pid ≡ true).
-            let free : is_free script items past pid ≡ true = subst (λ (k : ℕ). is_free script items past k ≡ true) (eqb-true other pid is) m.0.free in
-            let awake = free_is_up (is_alive past.plain.table pid) (is_given pid items) (sleeps_on script items past pid) free in
-            at_next m.1 (not_false (is_up past pid) (λ down.
-                let d = asleep_dozes script (noted items) past (entries_run script steps items past before) pid down in
-                contrary (sleeps_on script items past pid) (ap (λ (b : Bool). b && would_block script past.plain pid) d.0 ∙ d.1) awake)))
+        let free : is_free script items past pid ≡ true = subst (λ (k : ℕ). is_free script items past k ≡ true) (eqb-true other pid is) m.0.free in
+        let awake = free_is_up (is_alive past.plain.table pid) (is_given pid items) (sleeps_on script items past pid) free in
+        at_next m.1 (not_false (is_up past pid) (λ down.
+        let d = asleep_dozes script (noted items) past (entries_run script steps items past before) pid down in
+        contrary (sleeps_on script items past pid) (ap (λ (b : Bool). b && would_block script past.plain pid) d.0 ∙ d.1) awake)))
         (λ (not : eqb other pid ≡ false). at_next m.1 (rest (sym (ap (λ (b : Bool). cond b b (is_given pid items)) not) ∙ h)))
         (decide (eqb other pid))
     by_item rest (Back other) m h = at_next m.1 (rest (given_before (eqb other pid) (is_given pid items) h).1)

@@ -1,15 +1,14 @@
 -- Who is held was made, keeps its control, and isn't given up before its own Gone.
-use Rattle.std.proofs.Common.{◌≡◌, ◌≢◌, ℕ, suc, ◌+◌, ◌<◌, ◌≤◌, ◌==◌, ◌||◌, ◌&&◌, ◌⊎◌, not, Bool, true, false, true≢false, cond, eqb, List, [], ◌∷◌, ◌++◌, length, refl, ap, sym, ◌∙◌, subst, inl, inr, ⊎_elim, arith, append-nil, eq-eqb, length-append}
+use Rattle.std.proofs.Common.{◌≡◌, ◌≢◌, ℕ, suc, ◌+◌, ◌<◌, ◌≤◌, ◌==◌, ◌||◌, ◌&&◌, ◌⊎◌, not, Bool, true, false, true≢false, cond, eqb, List, [], ◌∷◌, ◌++◌, length, refl, ap, sym, ◌∙◌, subst, inl, inr, ⊎_elim, arith, eq-eqb, length-append}
 use Rattle.std.proofs.lemmas.Bool.{eqb-true}
 use Rattle.kabi_types.specs.declared.entries.Entry.{Entry}
 use Rattle.kabi_types.specs.declared.entries.Entry.TheVariants as entry
 use Rattle.kabi_types.specs.declared.scripts.Script.{Script}
 use Rattle.kabi_values.specs.declared.errnos.Errno.TheVariants.{ENOMEM}
 use Rattle.kabi_values.specs.declared.replies.Reply.TheVariants.{Fail}
-use Rattle.posix_defs.specs.Answer.{Answer, Blocked, Done, Part, Ended}
 use Rattle.posix_defs.specs.History.{Past, IsRun, MayFollow, is_among}
 use Rattle.posix_defs.specs.History as run
-use Rattle.posix_defs.specs.Plain.{Plain, call_of, control_of, last_pid}
+use Rattle.posix_defs.specs.Plain.{call_of, control_of, last_pid}
 use Rattle.posix_defs.specs.Process.{is_alive}
 use Rattle.kern_laws.proofs.Families.{reached_kept}
 use Rattle.kern_laws.proofs.Nexts.{IsNext, AnswerGoes, alive_is_there, answered_next, die_next, posix_goes, same_next}
@@ -19,7 +18,7 @@ use Rattle.turn_words.specs.declared.items.Item.TheVariants.{Noted, Cleared, Giv
 use Rattle.turn_words.specs.Items.{entry_of, gives, is_given, is_own_entry, noted}
 use Rattle.turn_words.specs.Items as item
 use Rattle.turn_words.proofs.Held.{contrary, decide, not_true}
-use Rattle.kern_shared.specs.Shared.{IsShared, MayShare, gives_up, is_free, sleeps_on, starts, goes_on, times_gone}
+use Rattle.kern_shared.specs.Shared.{MayShare, gives_up, is_free, sleeps_on, starts, goes_on, times_gone}
 use Rattle.kern_shared.specs.Laws.{ControlsStand, GivenUpOnce, HeldAreNotGivenUp, HeldWereMade}
 use Rattle.kern_shared.proofs.Runs.{entries_run, given_before, given_behind}
 
@@ -103,8 +102,8 @@ held_made script steps _ _ (goes_on items past next added before may) pid given 
     by_item rest (Cleared what live) m h = still_made script past next (entry.Evicted what) pid counted m.2 (rest h)
     by_item rest (Given other) m h = ⊎_elim
         (λ (is : eqb other pid ≡ true).
-            let free : is_free script items past pid ≡ true = subst (λ (k : ℕ). is_free script items past k ≡ true) (eqb-true other pid is) m.0.free in
-            at_next m.1 (alive_made past pid counted (free_lives (is_alive past.plain.table pid) (is_given pid items) (sleeps_on script items past pid) free)))
+        let free : is_free script items past pid ≡ true = subst (λ (k : ℕ). is_free script items past k ≡ true) (eqb-true other pid is) m.0.free in
+        at_next m.1 (alive_made past pid counted (free_lives (is_alive past.plain.table pid) (is_given pid items) (sleeps_on script items past pid) free)))
         (λ (apart : eqb other pid ≡ false). at_next m.1 (rest (sym (ap (λ (b : Bool). cond b b (is_given pid items)) apart) ∙ h)))
         (decide (eqb other pid))
     by_item rest (Back other) m h = at_next m.1 (rest (given_before (eqb other pid) (is_given pid items) h).1)
@@ -207,10 +206,10 @@ held_not_gone script steps _ _ (goes_on items past next added before may) pid gi
     by_item rest (Cleared what live) m h = by_entry (entry.Evicted what) m.2 refl (rest h)
     by_item rest (Given other) m h = ⊎_elim
         (λ (is : eqb other pid ≡ true).
-            let free : is_free script items past pid ≡ true = subst (λ (k : ℕ). is_free script items past k ≡ true) (eqb-true other pid is) m.0.free in
-            let alive = free_lives (is_alive past.plain.table pid) (is_given pid items) (sleeps_on script items past pid) free in
-            at_next m.1 (not_true (is_among pid past.gone) (λ gone.
-                contrary (is_alive past.plain.table pid) alive (gone_ended script (noted items) past (entries_run script steps items past before) pid gone).0)))
+        let free : is_free script items past pid ≡ true = subst (λ (k : ℕ). is_free script items past k ≡ true) (eqb-true other pid is) m.0.free in
+        let alive = free_lives (is_alive past.plain.table pid) (is_given pid items) (sleeps_on script items past pid) free in
+        at_next m.1 (not_true (is_among pid past.gone) (λ gone.
+        contrary (is_alive past.plain.table pid) alive (gone_ended script (noted items) past (entries_run script steps items past before) pid gone).0)))
         (λ (apart : eqb other pid ≡ false). at_next m.1 (rest (sym (ap (λ (b : Bool). cond b b (is_given pid items)) apart) ∙ h)))
         (decide (eqb other pid))
     by_item rest (Back other) m h = at_next m.1 (rest (given_before (eqb other pid) (is_given pid items) h).1)

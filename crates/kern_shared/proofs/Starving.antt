@@ -1,5 +1,5 @@
 -- What is over stays over, and what stays where Starved was answered.
-use Rattle.std.proofs.Common.{◌≡◌, ◌≢◌, ℕ, ◌+◌, ◌*◌, ◌<◌, ◌≤◌, ◌||◌, ◌&&◌, ◌⊎◌, Bool, true, false, true≢false, List, [], ◌∷◌, ◌++◌, length, refl, ap, sym, ◌∙◌, subst, inl, inr, ⊎_elim, arith, append-nil}
+use Rattle.std.proofs.Common.{◌≡◌, ℕ, ◌+◌, ◌*◌, ◌<◌, ◌≤◌, ◌||◌, ◌&&◌, ◌⊎◌, Bool, true, false, true≢false, List, [], ◌∷◌, ◌++◌, length, refl, ap, sym, ◌∙◌, subst, inl, inr, ⊎_elim, arith, append-nil}
 use Rattle.kabi_types.specs.declared.entries.Entry.{Entry}
 use Rattle.kabi_types.specs.declared.entries.Entry.TheVariants as entry
 use Rattle.kabi_types.specs.declared.scripts.Script.{Script}
@@ -8,9 +8,8 @@ use Rattle.posix_defs.specs.Machine.{would_block}
 use Rattle.posix_defs.specs.Needs.{bound}
 use Rattle.posix_defs.specs.Plain.{Plain, call_of}
 use Rattle.posix_defs.specs.Process.{is_alive}
-use Rattle.posix_defs.specs.Account.{Account}
 use Rattle.posix_defs.specs.Sizes.{reserve, room}
-use Rattle.posix_defs.specs.World.{World, MayKeep, base, live_of, pins}
+use Rattle.posix_defs.specs.World.{base, pins}
 use Rattle.kern_laws.proofs.Caches.{pins_kept}
 use Rattle.kern_laws.proofs.LivingVictim.{victim_lives}
 use Rattle.turn_words.specs.declared.items.Item.{Item}
@@ -18,7 +17,7 @@ use Rattle.turn_words.specs.declared.items.Item.TheVariants.{Noted, Cleared, Giv
 use Rattle.turn_words.specs.Items.{is_given, noted}
 use Rattle.turn_words.proofs.Held.{contrary, decide, given_more, not_true}
 use Rattle.turn_words.proofs.Notes.{noted_more}
-use Rattle.kern_shared.specs.Shared.{AllAsleep, IsOver, IsShared, MayNote, MayShare, NobodyHeld, Starves, StarvesStill, dozes, has_starved, is_starved, is_turn}
+use Rattle.kern_shared.specs.Shared.{AllAsleep, IsOver, MayNote, MayShare, NobodyHeld, Starves, StarvesStill, dozes, has_starved, is_starved, is_turn}
 use Rattle.kern_shared.specs.Laws.{NoRoomWhereStarved, OverStaysOver, StarvedStands}
 use Rattle.kern_shared.proofs.Runs.{same_steps, up_still}
 
@@ -68,10 +67,13 @@ over_stays script steps items past next added _ may over = ⊎_elim
     quiet (Given pid) m none_held ends = absurd (m.0.goes_on (inr (inr (none_held, ends))))
     quiet (Back pid) m none_held ends = contrary (is_given pid items) m.0 (none_held pid)
     quiet Starved m none_held ends = contrary (is_given 1 items) m.0 (none_held 1)
-    quiet (Live n) m none_held ends = inr (inr (λ pid. given_more pid false items (Live n) ∙ none_held pid, ⊎_elim
-        (λ (ended : is_alive past.plain.table 1 ≡ false). inl (subst (λ (p : Past). is_alive p.plain.table 1 ≡ false) (sym m) ended))
-        (λ (all : AllAsleep script items past). inr (told_still script items past next n m all))
-        ends))
+    quiet (Live n) m none_held ends = inr (inr (
+      λ pid. given_more pid false items (Live n) ∙ none_held pid,
+      ⊎_elim
+          (λ (ended : is_alive past.plain.table 1 ≡ false). inl (subst (λ (p : Past). is_alive p.plain.table 1 ≡ false) (sym m) ended))
+          (λ (all : AllAsleep script items past). inr (told_still script items past next n m all))
+          ends,
+    ))
     quiet Quiet m none_held ends = absurd m
 
 -- a Starved stands before one more item, or that is one
@@ -150,5 +152,5 @@ no_room script items past world pid still plain account may alive fits = not_tru
         let same : base world.plain world.account ≡ base past.plain past.account = ap (λ p. base p world.account) plain ∙ ap (base past.plain) account in
         let much : script.heap < base past.plain past.account + 128 * pins past.plain + 2176 + bound (call_of script past.plain 1) = starves.too_much in
         let within : base world.plain world.account + (length world.kept.names * 64 + length world.kept.blocks * 1088 + length world.kept.vnodes * 128) + 2176
-            + bound (call_of script past.plain pid) ≤ script.heap = fits in
+        + bound (call_of script past.plain pid) ≤ script.heap = fits in
         absurd (omega (arith, many, same, call, much, within))

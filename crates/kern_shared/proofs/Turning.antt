@@ -1,18 +1,15 @@
 -- The kernel's value stands for what it stood for, with the entry of a held process behind it.
-use Rattle.std.proofs.Common.{◌≡◌, ℕ, ◌+◌, ◌<◌, ◌≤◌, ◌==◌, ◌||◌, ◌&&◌, not, Bool, true, false, true≢false, cond, List, [], ◌∷◌, ◌++◌, filter, length, refl, ap, sym, ◌∙◌, subst, arith, eq-eqb}
+use Rattle.std.proofs.Common.{◌≡◌, ℕ, ◌+◌, ◌<◌, ◌≤◌, ◌==◌, ◌&&◌, not, Bool, true, false, true≢false, cond, List, [], ◌∷◌, ◌++◌, length, refl, ap, sym, ◌∙◌, subst, arith, eq-eqb}
 use Rattle.kabi_calls.specs.Call.{kind_of}
 use Rattle.kabi_calls.specs.declared.calls.Call.{Call}
 use Rattle.kabi_calls.specs.declared.calls.CallKind.{CallKind}
-use Rattle.kabi_types.specs.declared.entries.Entry.{Entry}
-use Rattle.kabi_types.specs.declared.entries.Entry.TheVariants as entry
 use Rattle.kabi_types.specs.declared.scripts.Script.{Script}
 use Rattle.kabi_values.specs.declared.classes.Need.{Need}
 use Rattle.posix_defs.specs.declared.turner.Turned.{Turned}
 use Rattle.posix_defs.specs.declared.turner.Turned.TheVariants as turned
-use Rattle.posix_defs.specs.Account.{Account}
 use Rattle.posix_defs.specs.Answer.{Answer, Blocked, Done, Part, Ended}
 use Rattle.posix_defs.specs.CoreEvent.{entry_of}
-use Rattle.posix_defs.specs.History.{Past, IsGone, MayFollow, MayRun, fills_after, had_turn, is_among, is_up, moves_on, others}
+use Rattle.posix_defs.specs.History.{Past, IsGone, MayFollow, MayRun, fills_after, had_turn, is_up, moves_on, others}
 use Rattle.posix_defs.specs.Licence.{can_evict_any}
 use Rattle.posix_defs.specs.Machine.{machine}
 use Rattle.posix_defs.specs.Needs.{bound, need_of}
@@ -25,7 +22,7 @@ use Rattle.charge_words.specs.Names.{ChargeWord, SeatState}
 use Rattle.turn_words.specs.declared.items.Item.{Item}
 use Rattle.turn_words.specs.declared.items.Item.TheVariants.{Noted, Quiet}
 use Rattle.turn_words.specs.Items.{is_given, is_own_entry, noted}
-use Rattle.turn_words.proofs.Held.{contrary, given_more, not_true}
+use Rattle.turn_words.proofs.Held.{contrary, given_more}
 use Rattle.turn_words.proofs.Notes.{noted_more}
 use Rattle.kern_shared.specs.Shared.{MayNote, goes_on, has_starved, is_turn}
 use Rattle.kern_shared.specs.Shares.{AreFilled, IsTold, KernelValue, Shares, StandsBehindGone, StandsBehindTurn, with_entry}

@@ -1,6 +1,5 @@
 -- What the laws of shared histories say.
 use Rattle.std.specs.Prelude.{◌≡◌, ℕ, ◌+◌, ◌<◌, ◌≤◌, true, false, List, [], ◌∷◌, ◌++◌, length}
-use Rattle.kabi_types.specs.declared.entries.Entry.{Entry}
 use Rattle.kabi_types.specs.declared.scripts.Script.{Script}
 use Rattle.posix_defs.specs.History.{Past, IsRun, is_among, is_up}
 use Rattle.posix_defs.specs.Needs.{bound}
@@ -10,7 +9,7 @@ use Rattle.posix_defs.specs.Sizes.{reserve}
 use Rattle.posix_defs.specs.World.{World, MayKeep, live_of}
 use Rattle.turn_words.specs.declared.items.Item.{Item}
 use Rattle.turn_words.specs.Items.{is_given, noted}
-use Rattle.kern_shared.specs.Shared.{IsOver, IsShared, MayShare, Starves, StarvesStill, has_starved, is_turn, times_gone}
+use Rattle.kern_shared.specs.Shared.{IsOver, IsShared, MayShare, StarvesStill, has_starved, is_turn, times_gone}
 
 -- what holds of every shared history and of where it has led
 abbrev pub OfEach : (Script → ℕ → List Item → Past → Type 0) → Type 0
