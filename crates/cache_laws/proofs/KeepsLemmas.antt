@@ -1,16 +1,17 @@
 -- What a cache keeps after each change of the heap and of the order of use.
 use Rattle.std.proofs.Common.{◌≡◌, ◌≢◌, ℕ, zero, suc, ◌+◌, ◌<◌, Bool, true, false, cond, List, [], ◌∷◌, ◌++◌, length, Option, Some, None, IsSome, replicate, refl, sym, ap, ◌∙◌, subst, inl, inr, arith, length-append}
-use Rattle.std.specs.Option.{option_map, option_and_then}
+use Rattle.std.specs.List.{Contains}
+use Rattle.std.specs.Option.{option_map, option_map_or, option_and_then}
 use Rattle.std.specs.Map.{lookup, remove_entry}
 use Rattle.std.specs.Cmp.{IsEquivalence}
-use Rattle.std.specs.Prelude.{slice_set}
+use Rattle.std.specs.Prelude.{remove, slice_index_or, slice_set}
 use Rattle.std.proofs.lemmas.Bool.{cases_eq, cases_lt, false≢true}
-use Rattle.std.proofs.lemmas.List.{get_or-set_same, get_or-set_other, set_past}
+use Rattle.std.proofs.lemmas.List.{get_or-set_same, get_or-set_other, get_or_default, set_past}
 use Rattle.kheap_shelves.specs.Objects.{object, InUse, count, put, without}
 use Rattle.kheap_shelves.proofs.ObjectLemmas.{count-none, object-none, object-put, object-put_other, object-without, object-without_other, count-put_new, count-put_used, count-without, InUse-within, object_of}
 use Rattle.lru_index.specs.Order.{Order, order, touched, first_key}
 use Rattle.lru_index.proofs.Pairs.{length_touched, touched_absent, length_removed}
-use Rattle.cache_laws.specs.Caches.{slot_of, key_at, Keeps, cached, AreTrue, first_fill, fills_kept, left_kept, objects_kept}
+use Rattle.cache_laws.specs.Caches.{slot_of, key_at, Keeps, cached, AreTrue, first_fill, fills_kept, left_kept, objects_kept, pairs_kept, objects_without, pairs_without, IsAt}
 
 some_inside : {A B : Type 0} (f : A → B) (o : Option A) (b : B) → option_map f o ≡ Some b → IsSome o
 some_inside f None b = λ h. cc
@@ -121,6 +122,13 @@ module _ {K X : Type 0} {eq : K → K → Bool} (laws : IsEquivalence eq) (same 
         | false ↦ λ t. at
       ]) refl
 
+  -- to take an absent key out changes nothing
+  pub absent_found : (cache : Order K) (k : K) → slot_of eq cache k ≡ None → (q : K) → slot_of eq cache q ≡ cond (eq k q) None (slot_of eq cache q)
+  absent_found cache k none q = (elim (eq k q) as (λ y. eq k q ≡ y → slot_of eq cache q ≡ cond y None (slot_of eq cache q)) [
+    | true ↦ λ t. ap (slot_of eq cache) (sym (same k q t)) ∙ none
+    | false ↦ λ t. refl
+  ]) refl
+
   -- the coldest key and its slot are the first pair, and the others are what is left without it
   pub coldest_pair : (ps : List (K × ℕ)) (k : K) (slot : ℕ) → first_key ps ≡ Some k → lookup (eq k) ps ≡ Some slot → ps ≡ (k, slot) ∷ remove_entry (eq k) ps
   coldest_pair [] k slot first is = cc
@@ -195,3 +203,25 @@ keeps_none {K} {X} eq key limit capacity objects empty = record {
     by_object : (k : K) (slot : ℕ) (o : Option X) → object objects slot ≡ o → option_map key (object objects slot) ≡ Some k → slot_of eq (order [] capacity) k ≡ Some slot
     by_object k slot None none at = let gone : option_map key (object objects slot) ≡ None = ap (option_map key) none in cc
     by_object k slot (Some x) some at = absurd (object-none limit slot x (ap (λ l. object l slot) (sym empty) ∙ some))
+
+module _ {X : Type 0} where
+  -- the first of some slots goes, and then the others
+  pub objects_step : (slots : List ℕ) (objects : List (Option X)) → 0 < length slots → objects_without (remove slots 0) (without objects (slice_index_or slots 0 0)) ≡ objects_without slots objects
+  objects_step [] objects some = absurd (omega arith)
+  objects_step (slot ∷ slots) objects some = refl
+
+pub pairs_step : {K X : Type 0} (eq : K → K → Bool) (key : X → K) (slots : List ℕ) (objects : List (Option X)) (pairs : List (K × ℕ)) → 0 < length slots → pairs_without eq key (remove slots 0) (without objects (slice_index_or slots 0 0)) (pairs_kept eq key objects (Some (slice_index_or slots 0 0)) pairs) ≡ pairs_without eq key slots objects pairs
+pairs_step eq key [] objects pairs some = absurd (omega arith)
+pairs_step eq key (slot ∷ slots) objects pairs some = refl
+
+-- the pair of a key that is kept at the slot of an object
+pub pairs_kept_is : {K X : Type 0} (eq : K → K → Bool) (key : X → K) (objects : List (Option X)) (slot : ℕ) (k : K) (pairs : List (K × ℕ)) → key_at key objects slot ≡ Some k → pairs_kept eq key objects (Some slot) pairs ≡ remove_entry (eq k) pairs
+pairs_kept_is eq key objects slot k pairs is = ap (λ o. option_map_or (λ q. remove_entry (eq q) pairs) o pairs) is
+
+-- a slot that stands at no place is none of them
+pub at_none : (slots : List ℕ) (slot : ℕ) → ((at : ℕ) → IsAt slots slot at → ⊥) → Contains slots slot → ⊥
+at_none slots slot none there = none there.0 (there.1, get_or_default slots there.0 0 slot there.1 ∙ there.2)
+
+pub none_either : {X : Type 0} (b : Bool) → cond {A = Option X} b None None ≡ None
+none_either true = refl
+none_either false = refl

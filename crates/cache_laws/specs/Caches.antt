@@ -1,6 +1,6 @@
 -- What ties a cache to the heap. A cache is an order of use, from keys to slots; a slot is the heap's key of an object
 -- of the cache's class, and each object carries a key of its own.
-use Rattle.std.specs.Prelude.{◌≡◌, ℕ, zero, suc, Bool, List, Option, None, Some, length, remove, slice_index_or}
+use Rattle.std.specs.Prelude.{◌≡◌, ℕ, zero, suc, ◌<◌, Bool, List, [], ◌∷◌, Option, None, Some, length, remove, slice_index_or}
 use Rattle.std.specs.Option.{option_map, option_and_then, option_map_or}
 use Rattle.std.specs.Map.{lookup, remove_entry}
 use Rattle.kheap_shelves.specs.Objects.{object, count, without}
@@ -53,3 +53,18 @@ module _ {X : Type 0} where
 -- the pairs without that of a slot's object, if one is given
 abbrev pub pairs_kept : {K X : Type 0} → (K → K → Bool) → (X → K) → List (Option X) → Option ℕ → List (K × ℕ) → List (K × ℕ)
 pairs_kept eq key objects slot pairs = option_map_or (λ k. remove_entry (eq k) pairs) (option_and_then (key_at key objects) slot) pairs
+
+module _ {X : Type 0} where
+  -- the objects without those of some slots
+  abbrev pub objects_without : List ℕ → List (Option X) → List (Option X)
+  objects_without [] objects = objects
+  objects_without (slot ∷ slots) objects = objects_without slots (without objects slot)
+
+-- the pairs without those of the objects of some slots
+abbrev pub pairs_without : {K X : Type 0} → (K → K → Bool) → (X → K) → List ℕ → List (Option X) → List (K × ℕ) → List (K × ℕ)
+pairs_without eq key [] objects pairs = pairs
+pairs_without eq key (slot ∷ slots) objects pairs = pairs_without eq key slots (without objects slot) (pairs_kept eq key objects (Some slot) pairs)
+
+-- a slot stands at a place of a list
+abbrev pub IsAt : List ℕ → ℕ → ℕ → Type 0
+IsAt slots slot at = (at < length slots) × (slice_index_or slots at 0 ≡ slot)

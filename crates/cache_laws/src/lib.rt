@@ -1,11 +1,11 @@
-//! Laws that hold of every cache over the heap, whatever its class and its keys, each the contract
-//! of a function that does nothing.
+//! What holds of every cache over the heap, whatever its class and its keys: laws, each the contract
+//! of a function that does nothing, and the place of a slot among those that a call filled.
 #![tactic(auto)]
 
-ghost use Rattle.std.specs.Prelude.{◌≡◌, ℕ, ◌+◌, ◌<◌, List, Option, None, Some, cond, length};
+ghost use Rattle.std.specs.Prelude.{◌≡◌, ℕ, ◌+◌, ◌<◌, ◌≤◌, List, Option, None, Some, MatchOption, cond, length};
 ghost use Rattle.kheap_shelves.specs.Objects.{object, put, without};
 ghost use Rattle.lru_index.specs.Order.{Order, order, touched};
-ghost use Rattle.cache_laws.specs.Caches.{slot_of, Keeps};
+ghost use Rattle.cache_laws.specs.Caches.{slot_of, Keeps, IsAt};
 
 use lru_index::Key;
 
@@ -41,3 +41,17 @@ pub fn a_slot_has_one_key<K: Key, T>()
         → Keeps K.eq key objects cache → slot_of K.eq cache k ≡ Some slot
         → slot_of K.eq cache q ≡ Some slot → k ≡ q }
 {}
+
+/// Where a slot stands among those that a call filled; None where the call didn't fill it.
+pub fn place_of(fills: &[u32], slot: u32) -> Option<u32>
+    requires { length fills.now ≤ 4 }
+    ensures { MatchOption result ((at : ℕ) → IsAt fills.now slot at → ⊥)
+        (λ at. IsAt fills.now slot at) }
+{
+    for at in 0..fills.len() as u32 {
+        if fills[at as usize] == slot {
+            return Some(at);
+        }
+    }
+    None
+}
