@@ -1,0 +1,2 @@
+pub mod DescLemmas
+pub mod NumberLemmas
