@@ -1,5 +1,5 @@
 -- The cache of blocks over the heap's Blocks, and what a fill, a removal and an eviction do.
-use Rattle.std.specs.Prelude.{◌≡◌, ◌⊎◌, ℕ, ◌+◌, ◌-◌, ◌<◌, List, [], ◌∷◌, ◌++◌, Option, None, Some, length, nat_eq, slice_get}
+use Rattle.std.specs.Prelude.{◌≡◌, ◌⊎◌, ℕ, ◌+◌, ◌-◌, ◌<◌, List, [], ◌∷◌, ◌++◌, Option, None, Some, length, nat_eq, remove, slice_get, slice_index_or}
 use Rattle.std.specs.Map.{remove_entry}
 use Rattle.kabi_values.specs.declared.classes.Class.TheVariants as class
 use Rattle.kheap_shelves.specs.Counts.{with_count}
@@ -9,7 +9,7 @@ use Rattle.kheap_shelves.specs.declared.objects.Block.{Block}
 use Rattle.kheap_slabs.specs.Heap.{Heap}
 use Rattle.kheap_slabs.specs.Paid.{AreFills}
 use Rattle.lru_index.specs.Order.{Order, order}
-use Rattle.cache_laws.specs.Caches.{slot_of, Keeps, cached, AreTrue, first_fill, fills_kept, left_kept, objects_kept, pairs_kept}
+use Rattle.cache_laws.specs.Caches.{slot_of, Keeps, cached, AreTrue, first_fill, fills_kept, left_kept, objects_kept, pairs_kept, objects_without, pairs_without, IsAt}
 
 abbrev pub block : ℕ → List ℕ → Block
 block number bytes = record { number = number; bytes = bytes }
@@ -45,6 +45,19 @@ block_dropped purse = first_fill purse.left.block purse.blocks
 -- the same purse, with other counts and fills of Blocks
 abbrev pub with_blocks : Purse → ℕ → List ℕ → Purse
 with_blocks purse left fills = record purse { left = with_count purse.left class.Block left; blocks = fills }
+
+-- The Block that was filled at this place has gone from the heap, the purse and the order of use, and the purse has one
+-- more left.
+pub record FillDropped (at : ℕ) (old new : Heap) (before after : Purse) (had has : Order ℕ) : Type 0 where
+  pub heap : new ≡ record old { blocks = without old.blocks (slice_index_or before.blocks at 0) }
+  pub purse : after ≡ with_blocks before (before.left.block + 1) (remove before.blocks at)
+  pub cache : has ≡ order (pairs_kept nat_eq (λ b. b.number) old.blocks (Some (slice_index_or before.blocks at 0)) had.pairs) had.capacity
+
+-- All that were filled have gone, and the purse has as many more left.
+pub record AllDropped (old new : Heap) (before after : Purse) (had has : Order ℕ) : Type 0 where
+  pub heap : new ≡ record old { blocks = objects_without before.blocks old.blocks }
+  pub purse : after ≡ with_blocks before (before.left.block + length before.blocks) []
+  pub cache : has ≡ order (pairs_without nat_eq (λ b. b.number) before.blocks old.blocks had.pairs) had.capacity
 
 -- There is room for a Block: where none was left, the one that was filled first has gone from the heap, the purse and
 -- the order of use, and all else is as before.
@@ -86,3 +99,7 @@ pub record ColdestGone (slot : ℕ) (old new : Heap) (had has : Order ℕ) : Typ
 pub record Unchanged (old new : Heap) (had has : Order ℕ) : Type 0 where
   pub heap : new ≡ old
   pub cache : has ≡ had
+
+-- What was filled at a slot goes back to the purse, which has one more left; where nothing was, the purse stays.
+abbrev pub TakenBack : ℕ → Purse → Purse → Type 0
+TakenBack slot before after = ((at : ℕ) × IsAt before.blocks slot at × (after ≡ with_blocks before (before.left.block + 1) (remove before.blocks at))) ⊎ (((at : ℕ) → IsAt before.blocks slot at → ⊥) × (after ≡ before))

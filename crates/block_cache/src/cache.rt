@@ -1,12 +1,13 @@
 //! `BlockCache` and its calls. A clause sees a cache as its order of use: the pairs of a block's
 //! number and the key of its Block in the heap, the coldest first, and the capacity.
-ghost use Rattle.std.specs.Prelude.{◌≡◌, ◌↔◌, ℕ, ◌<◌, ◌≤◌, [], None, Some, IfOk, IsSome, IsTrue, MatchOption, cond, length, nat_eq};
+ghost use Rattle.std.specs.Prelude.{◌≡◌, ◌↔◌, ℕ, ◌<◌, ◌≤◌, [], None, Some, IfOk, IsSome, IsTrue, MatchOption, cond, length, nat_eq, slice_index_or};
 ghost use Rattle.std.specs.Bool.{MatchBool};
 ghost use Rattle.kheap_shelves.specs.Objects.{put};
 ghost use Rattle.kheap_slabs.specs.Paid.{CanPay, IsPaid, TakesNothing};
 ghost use Rattle.lru_index.specs.Order.{order, touched};
-ghost use Rattle.block_cache.specs.Blocks.{block, block_slot, cached_block, KeepsBlocks, HasBlockFills, MayFill, RoomMade, BlockAdded, BlockFilled, BlockGone, ColdestGone, Unchanged};
+ghost use Rattle.block_cache.specs.Blocks.{block, block_slot, cached_block, KeepsBlocks, HasBlockFills, MayFill, FillDropped, AllDropped, RoomMade, BlockAdded, BlockFilled, BlockGone, ColdestGone, Unchanged, TakenBack};
 
+use cache_laws::place_of;
 use kabi_types::{Class, Memory};
 use kheap_shelves::{Block, Purse};
 use kheap_slabs::KHeap;
@@ -129,10 +130,29 @@ impl BlockCache {
         if purse.left(Class::Block) != 0 {
             return;
         }
-        let slot = purse.drop_fill(Class::Block, 0);
+        let _gone = self.drop_at(heap, purse, 0);
+    }
+
+    // The Block that was filled at a place goes. Answers its slot.
+    fn drop_at(&mut self, heap: &mut KHeap, purse: &mut Purse, at: u32) -> u32
+        requires keeps { KeepsBlocks heap.old.blocks self.old }
+        requires fills { HasBlockFills heap.old purse.old }
+        requires at { at < length purse.old.blocks }
+        ensures slot { result ≡ slice_index_or purse.old.blocks at 0 }
+        ensures dropped { FillDropped at heap.old heap.new purse.old purse.new self.old self.new }
+        ensures slots { (number : ℕ) → block_slot self.old number ≡ Some result → (other : ℕ)
+            → block_slot self.new other ≡ cond (nat_eq number other) None (block_slot self.old other) }
+        ensures absent { (other : ℕ) → block_slot self.old other ≡ None
+            → block_slot self.new other ≡ None }
+        ensures room { length self.new.pairs < self.new.capacity }
+        ensures keeps { KeepsBlocks heap.new.blocks self.new }
+        ensures fills { HasBlockFills heap.new purse.new }
+        ensures paid { IsPaid heap.old purse.old heap.new purse.new }
+    {
+        let slot = purse.drop_fill(Class::Block, at);
         let gone = heap.free_block(slot);
         purse.give(Class::Block);
-        let _slot = self.slots.drop_key(gone.number as u64);
+        self.slots.drop_key(gone.number as u64)
     }
 
     // Makes a Block, of which the purse has one left, as the warmest.
@@ -175,6 +195,45 @@ impl BlockCache {
         };
         let slot = self.slots.drop_key(number as u64);
         let _ = heap.free_block(slot);
+    }
+
+    /// Lets a block go, where it is cached. Where the call filled it, its purse takes it back.
+    pub fn let_go(&mut self, heap: &mut KHeap, purse: &mut Purse, number: u32)
+        requires keeps { KeepsBlocks heap.old.blocks self.old }
+        requires fills { HasBlockFills heap.old purse.old }
+        requires few { purse.old.need.block ≤ 4 }
+        ensures gone { MatchOption (block_slot self.old number)
+            (Unchanged heap.old heap.new self.old self.new × (purse.new ≡ purse.old))
+            (λ slot. BlockGone number slot heap.old heap.new self.old self.new
+            × TakenBack slot purse.old purse.new) }
+        ensures slots { (other : ℕ) → block_slot self.new other
+            ≡ cond (nat_eq number other) None (block_slot self.old other) }
+        ensures keeps { KeepsBlocks heap.new.blocks self.new }
+        ensures fills { HasBlockFills heap.new purse.new }
+        ensures paid { IsPaid heap.old purse.old heap.new purse.new }
+    {
+        let Some(slot) = self.slots.find(number as u64) else {
+            return;
+        };
+        let Some(at) = place_of(purse.fills(Class::Block), slot) else {
+            self.forget(heap, number);
+            return;
+        };
+        let _slot = self.drop_at(heap, purse, at);
+    }
+
+    /// Lets all blocks go that the call filled. Its purse takes them back.
+    pub fn drop_fills(&mut self, heap: &mut KHeap, purse: &mut Purse)
+        requires keeps { KeepsBlocks heap.old.blocks self.old }
+        requires fills { HasBlockFills heap.old purse.old }
+        ensures dropped { AllDropped heap.old heap.new purse.old purse.new self.old self.new }
+        ensures keeps { KeepsBlocks heap.new.blocks self.new }
+        ensures fills { HasBlockFills heap.new purse.new }
+        ensures paid { IsPaid heap.old purse.old heap.new purse.new }
+    {
+        while !purse.fills(Class::Block).is_empty() {
+            let _slot = self.drop_at(heap, purse, 0);
+        }
     }
 
     /// Whether there is a block that may go: each may.
