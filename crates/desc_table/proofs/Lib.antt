@@ -1,2 +1,4 @@
+pub mod CloseLemmas
 pub mod DescLemmas
 pub mod NumberLemmas
+pub mod PipeLemmas

@@ -1,2 +1,4 @@
+pub mod Closing
 pub mod Counted
 pub mod Numbered
+pub mod Polled

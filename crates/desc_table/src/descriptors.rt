@@ -1,12 +1,22 @@
 ghost use Rattle.std.specs.Prelude.{◌≡◌, ◌<◌, IsSome, None, Some, length};
 ghost use Rattle.std.specs.Option.{option_map};
 ghost use Rattle.kabi_calls.specs.Arguments.{most_descriptors};
-ghost use Rattle.posix_defs.specs.Files.Descriptors.{Descriptor as PlainDescriptor, descriptor_at, with_descriptor, lowest_free_from, is_cloexec};
+ghost use Rattle.posix_defs.specs.Files.Descriptors.{Descriptor as PlainDescriptor, descriptor_at, descriptor_of, with_descriptor, lowest_free_from, is_cloexec};
+ghost use Rattle.desc_table.specs.Counted.{access_in};
 ghost use Rattle.desc_table.specs.Numbered.{descriptor_in, descriptors_in};
+ghost use Rattle.desc_table.specs.Polled.{IsOpenIn, IsTargetIn, TellsTarget, TellsOpen, Tells};
 
-use kabi_types::MOST_DESCRIPTORS;
-use kheap_shelves::Descriptor;
+use crate::descriptions::may_write;
+use chunk_queue::{POLLIN, POLLOUT, event_if};
+use kabi_types::{MOST_DESCRIPTORS, PollEntry};
+use kheap_shelves::{Desc, Descriptor, Target};
+use kheap_slabs::KHeap;
+use pipe_ends::pipe_polled;
 use std::marker::Model;
+use usock_core::sock_polled;
+
+/// What `poll` tells of a descriptor that isn't open.
+const POLLNVAL: u8 = 32;
 
 /// The descriptors of one process, by number. A clause sees a descriptor's description as the key of its Desc.
 #[derive(Drop)]
@@ -87,6 +97,35 @@ impl Descs {
         self.descriptor(fd).close_on_exec
     }
 
+    /// What `poll` tells of one entry: nothing of a number below 0, and POLLNVAL of one that isn't open. A file and a
+    /// directory are always ready for what is asked of POLLIN and POLLOUT (POSIX poll).
+    pub fn polled(&self, heap: &KHeap, entry: &PollEntry) -> u8
+        requires { IsOpenIn heap.now (descriptor_of self.now entry.now.fd) }
+        ensures { Tells heap.now self.now entry.now.fd entry.now.events result }
+    {
+        let _ = &self.places;
+        if entry.fd < 0 {
+            0
+        } else {
+            self.polled_at(heap, entry.fd.cast_unsigned(), entry.events)
+        }
+    }
+
+    // What is told of the descriptor of a number.
+    fn polled_at(&self, heap: &KHeap, fd: u64, events: i64) -> u8
+        requires { IsOpenIn heap.now (descriptor_at self.now fd) }
+        ensures { TellsOpen heap.now events result (descriptor_at self.now fd) }
+    {
+        let _ = &self.places;
+        if fd >= u64::from(MOST_DESCRIPTORS) {
+            return POLLNVAL;
+        }
+        match self.at(fd as u32) {
+            Some(descriptor) => polled_desc(heap, heap.get_desc(descriptor.desc), events),
+            None => POLLNVAL,
+        }
+    }
+
     // The open descriptor of a number.
     fn descriptor(&self, fd: u32) -> Descriptor
         requires { IsSome (descriptor_at self.now fd) }
@@ -105,5 +144,17 @@ impl Descs {
         ensures { descriptor_at self.now fd ≡ option_map descriptor_in result }
     {
         self.places[fd as usize]
+    }
+}
+
+// What `poll` tells of a description.
+fn polled_desc(heap: &KHeap, desc: &Desc, events: i64) -> u8
+    requires { IsTargetIn heap.now desc.now.target }
+    ensures { TellsTarget heap.now (access_in desc.now.access) events result desc.now.target }
+{
+    match desc.target {
+        Target::Inode(_) => event_if(POLLIN, events, true) + event_if(POLLOUT, events, true),
+        Target::Pipe(key) => pipe_polled(heap, key, may_write(desc.access), events),
+        Target::Sock(key) => sock_polled(heap, key, events),
     }
 }
