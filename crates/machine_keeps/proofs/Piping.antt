@@ -504,8 +504,8 @@ module _ (plain : Plain) (pid : ℕ) (call : Call) (next : Files) (piped : Holds
   step_piped (step.closes fd opened named is) = by _ is (close_holds Holds closes plain.files pid (count_of fd) piped)
   step_piped (step.describes fd opened description named target access is) = by _ is (described fd opened description named target access)
   step_piped (step.opens path flags fd found which free led is) = by _ is (one _ (λ q. refl) tt)
-  step_piped (step.writes fd opened number at offset bytes written reaches wrote is) = by _ is (described fd opened _ reaches.named refl refl)
-  step_piped (step.writes_at fd opened number at bytes written reaches wrote is) = same _ is refl refl
+  step_piped (step.writes fd addr n done opened number at offset written reaches wrote is) = by _ is (described fd opened _ reaches.named refl refl)
+  step_piped (step.writes_at fd addr n opened number at written reaches wrote is) = same _ is refl refl
   step_piped (step.resizes fd opened number size tree reaches sized is) = same _ is refl refl
   step_piped (step.makes path made which led is) = same _ is refl refl
   step_piped (step.removes path tree which led is) = same _ is refl refl
@@ -526,7 +526,7 @@ module _ (plain : Plain) (pid : ℕ) (call : Call) (next : Files) (piped : Holds
   step_piped (step.sends fd addr n done opened place k which named on moves is) = same _ is refl refl
   step_piped (step.starts is) = by _ is (exec_holds Holds closes plain.files pid piped)
   step_piped (step.forks which is) = same _ is refl refl
-  step_piped (step.ends who is) = by _ is (closed_by_holds Holds closes plain.files who piped)
+  step_piped (step.ends who ending is) = by _ is (closed_by_holds Holds closes plain.files who piped)
 
 -- ---- answers
 

@@ -27,21 +27,21 @@ told script plain next pid (Fail errno) is = absurd (no is)
     no e = cc
 told script plain next pid _ is = tt
 
-by_shape : (script : Script) (plain : Plain) (pid : ℕ) (given : Answer) → HasShape script plain pid given → FailsAlone script plain pid given
-by_shape script plain pid given (shape.blocks is) = subst (FailsAlone script plain pid) (sym is) tt
-by_shape script plain pid given (shape.fails errno other is) = subst (FailsAlone script plain pid) (sym is) (refl, other)
-by_shape script plain pid given (shape.tells files said is_said is) = subst (FailsAlone script plain pid) (sym is) (told script plain _ pid said is_said)
-by_shape script plain pid given (shape.puts files memory said is_said is) = subst (FailsAlone script plain pid) (sym is) (told script plain _ pid said is_said)
-by_shape script plain pid given (shape.moves directory is) = subst (FailsAlone script plain pid) (sym is) tt
-by_shape script plain pid given (shape.parts files moved is) = subst (FailsAlone script plain pid) (sym is) tt
-by_shape script plain pid given (shape.starts place is) = subst (FailsAlone script plain pid) (sym is) tt
-by_shape script plain pid given (shape.forks is) = subst (FailsAlone script plain pid) (sym is) tt
-by_shape script plain pid given (shape.reaps child status ended is) = subst (FailsAlone script plain pid) (sym is) tt
-by_shape script plain pid given (shape.ends status is) = subst (FailsAlone script plain pid) (sym is) tt
-by_shape script plain pid given (shape.ends_another target status first own is) = subst (FailsAlone script plain pid) (sym is) tt
+by_shape : (script : Script) (plain : Plain) (pid : ℕ) (which : Call) (given : Answer) → HasShape script plain pid which given → FailsAlone script plain pid given
+by_shape script plain pid which given (shape.blocks may is) = subst (FailsAlone script plain pid) (sym is) tt
+by_shape script plain pid which given (shape.fails errno other is) = subst (FailsAlone script plain pid) (sym is) (refl, other)
+by_shape script plain pid which given (shape.tells files said is_said is) = subst (FailsAlone script plain pid) (sym is) (told script plain _ pid said is_said)
+by_shape script plain pid which given (shape.puts files memory said is_said what is) = subst (FailsAlone script plain pid) (sym is) (told script plain _ pid said is_said)
+by_shape script plain pid which given (shape.moves path directory called led is) = subst (FailsAlone script plain pid) (sym is) tt
+by_shape script plain pid which given (shape.parts files moved part is) = subst (FailsAlone script plain pid) (sym is) tt
+by_shape script plain pid which given (shape.starts place is) = subst (FailsAlone script plain pid) (sym is) tt
+by_shape script plain pid which given (shape.forks is) = subst (FailsAlone script plain pid) (sym is) tt
+by_shape script plain pid which given (shape.reaps child status ended is) = subst (FailsAlone script plain pid) (sym is) tt
+by_shape script plain pid which given (shape.ends status is) = subst (FailsAlone script plain pid) (sym is) tt
+by_shape script plain pid which given (shape.ends_another target status first own is) = subst (FailsAlone script plain pid) (sym is) tt
 
 each_alone : (script : Script) (plain : Plain) (pid : ℕ) (which : Call) → FailsAlone script plain pid (posix script plain pid which)
-each_alone script plain pid which = by_shape script plain pid (posix script plain pid which) (shape_of script plain pid which)
+each_alone script plain pid which = by_shape script plain pid which (posix script plain pid which) (shape_of script plain pid which)
 
 pub fails_alone : (script : Script) (plain : Plain) (pid : ℕ) (which : Call) (errno : Errno) (next : Plain)
     → posix script plain pid which ≡ Done (Fail errno) next → (next ≡ answered script plain pid (Fail errno)) × (errno ≢ ENOMEM)

@@ -1,6 +1,7 @@
 pub mod NoWant
 pub mod Shapes
 pub mod Failing
+pub mod Blocking
 pub mod Stepping
 pub mod Leading
 pub mod Fading

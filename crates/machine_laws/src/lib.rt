@@ -10,7 +10,7 @@ mod trees;
 
 pub use answers::{
     an_error_changes_the_control_alone_of_all_calls, every_answer_has_a_shape,
-    no_reply_of_any_call_wants_memory,
+    five_calls_alone_may_block, no_reply_of_any_call_wants_memory,
 };
 pub use ended::{
     every_description_is_named, what_is_open_is_named_in_every_machine,
