@@ -2,3 +2,5 @@ pub mod Items
 pub mod Closings
 pub mod Inductions
 pub mod Piping
+pub mod Surviving
+pub mod Halving
