@@ -4,3 +4,6 @@ pub mod Inductions
 pub mod Piping
 pub mod Surviving
 pub mod Halving
+pub mod Named
+pub mod Joining
+pub mod NodesAfter
