@@ -122,7 +122,7 @@ module _ (sockets : Sockets) (number : ℕ) where
 
 -- ---- sockets and descriptions
 
-abbrev Joined : Descriptions → Sockets → Type 0
+abbrev pub Joined : Descriptions → Sockets → Type 0
 Joined descriptions sockets = AreLinked sockets × AreHeld sockets (named_sockets descriptions) × AreOwn descriptions
 
 module _ (descriptions : Descriptions) (sockets : Sockets) (joined : Joined descriptions sockets) where
@@ -290,7 +290,7 @@ module _ (descriptions : Descriptions) (sockets : Sockets) (joined : Joined desc
 abbrev Holds : Files → Type 0
 Holds files = Joined files.descriptions files.sockets
 
-closes : IsClosedUnder anybody Holds
+pub closes : IsClosedUnder anybody Holds
 closes = record { shut = λ files pid fd who joined. joined; gone = λ files place description joined is none. gone files place description joined is description.target refl }
   where
     no_node : (number socket : ℕ) → OnNode number ≡ OnSocket socket → ⊥
@@ -323,13 +323,13 @@ no_node number socket e = cc
 no_pipe : (number socket : ℕ) → OnPipe number ≡ OnSocket socket → ⊥
 no_pipe number socket e = cc
 
-idle_of : (stage : Stage) → connect_fault stage ≡ None → stage ≡ Idle
+pub idle_of : (stage : Stage) → connect_fault stage ≡ None → stage ≡ Idle
 idle_of Idle is = refl
 idle_of (Listening waiting) is = absurd (not_some is refl)
 idle_of (Connected peer shut_read shut_write) is = absurd (not_some is refl)
 
 -- one who accepts somebody listens, and that one waits first
-accepts_first : (stage : Stage) (nonblock : Bool) (taken : ℕ) → accept_in stage true nonblock ≡ Takes taken → (rest : List ℕ) × (stage ≡ Listening (taken ∷ rest))
+pub accepts_first : (stage : Stage) (nonblock : Bool) (taken : ℕ) → accept_in stage true nonblock ≡ Takes taken → (rest : List ℕ) × (stage ≡ Listening (taken ∷ rest))
 accepts_first Idle nonblock taken is = absurd (refused is)
   where
     refused : {e : _} → Refuses e ≡ Takes taken → ⊥
@@ -471,7 +471,7 @@ boot_joined = (
   record { own = λ one other socket this that is_one is_other on_one on_other. absurd (not_some refl is_one); both_ways = λ place socket description is on. absurd (not_some refl is) },
 )
 
-joined_holds : (script : Script) (plain : Plain) → IsReached script plain → Holds plain.files
+pub joined_holds : (script : Script) (plain : Plain) → IsReached script plain → Holds plain.files
 joined_holds script plain reached = by_induction script (λ plain. Holds plain.files) (record {
   boot = boot_joined;
   answer = λ before pid reached joined alive. answers_keep Holds script before pid (call_of script before pid) (λ next stepped. step_joined before pid (call_of script before pid) next joined stepped);

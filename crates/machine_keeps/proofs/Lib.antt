@@ -7,3 +7,9 @@ pub mod Halving
 pub mod Named
 pub mod Joining
 pub mod NodesAfter
+pub mod Openers
+pub mod MovedBytes
+pub mod Rooting
+pub mod Keeping
+pub mod Texting
+pub mod Wholeness
