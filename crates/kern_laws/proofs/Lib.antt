@@ -1,5 +1,6 @@
 pub mod TablePlaces
 pub mod LivingVictim
+pub mod Kin
 pub mod Remembering
 pub mod Bareness
 pub mod Families

@@ -28,9 +28,9 @@ use Rattle.kern_laws.proofs.TablePlaces.{at_end, below_or_not, same_in_front, wa
 use Rattle.machine_laws.specs.FileSteps as step
 use Rattle.machine_laws.specs.FileSteps.{IsStep, LeadsTo}
 use Rattle.machine_laws.specs.Placed.{IsPlaced}
-use Rattle.machine_laws.specs.Shapes as shape
-use Rattle.machine_laws.specs.Shapes.{HasShape}
-use Rattle.machine_laws.proofs.Shapes.{shape_of}
+use Rattle.answer_laws.specs.Shapes as shape
+use Rattle.answer_laws.specs.Shapes.{HasShape}
+use Rattle.answer_laws.proofs.Shapes.{shape_of}
 use Rattle.machine_laws.proofs.SharedOffsets.{heirs_open, stay_open}
 use Rattle.machine_laws.proofs.Shutting.{Shuts, all_none_open, close_shuts, closed_shuts, end_none, exec_shuts, length_with, none_open_length, open_shuts, past_open, shuts_on, shuts_same}
 use Rattle.machine_laws.proofs.Stepping.{step_of}
@@ -253,7 +253,7 @@ answered_placed script plain pid said placed = record {
 
 module _ (script : Script) (plain : Plain) (pid : ℕ) (placed : IsPlaced plain) (alive : is_alive plain.table pid ≡ true) where
   -- of a call that isn't a fork, by its shape and its step
-  by_shape : (call : Call) → call ≢ calls.Fork → (given : Answer) → LeadsTo (λ next. IsStep plain pid call next.files) given → HasShape script plain pid given → LeadsTo IsPlaced given
+  by_shape : (call : Call) → call ≢ calls.Fork → (given : Answer) → LeadsTo (λ next. IsStep plain pid call next.files) given → HasShape script plain pid call given → LeadsTo IsPlaced given
   by_shape call no_fork given stepped (shape.blocks is) = subst (LeadsTo IsPlaced) (sym is) tt
   by_shape call no_fork given stepped (shape.fails errno other is) = subst (LeadsTo IsPlaced) (sym is)
       (placed_on plain _ pid placed alive refl (length_with plain.controls pid _) (λ who gone. gone) (shuts_same pid _ _ refl))
@@ -263,19 +263,19 @@ module _ (script : Script) (plain : Plain) (pid : ℕ) (placed : IsPlaced plain)
   by_shape call no_fork given stepped (shape.puts files memory said is_said is) = subst (LeadsTo IsPlaced) (sym is)
       (placed_on plain _ pid placed alive (length_with plain.table pid _) (length_with plain.controls pid _) (λ who gone. sym (alive_still plain.table pid who memory) ∙ gone)
       (step_shuts plain pid call files no_fork (subst (LeadsTo (λ next. IsStep plain pid call next.files)) is stepped)))
-  by_shape call no_fork given stepped (shape.moves directory is) = subst (LeadsTo IsPlaced) (sym is)
+  by_shape call no_fork given stepped (shape.moves path directory of is) = subst (LeadsTo IsPlaced) (sym is)
       (placed_on plain _ pid placed alive (length_with plain.table pid _) (length_with plain.controls pid _) (λ who gone. sym (alive_moved plain.table pid directory who alive) ∙ gone) (shuts_same pid _ _ refl))
-  by_shape call no_fork given stepped (shape.parts files moved is) = subst (LeadsTo IsPlaced) (sym is)
+  by_shape call no_fork given stepped (shape.parts fd addr n done files moved of is) = subst (LeadsTo IsPlaced) (sym is)
       (placed_on plain _ pid placed alive refl (length_with plain.controls pid _) (λ who gone. gone)
       (step_shuts plain pid call files no_fork (subst (LeadsTo (λ next. IsStep plain pid call next.files)) is stepped)))
-  by_shape call no_fork given stepped (shape.starts place is) = subst (LeadsTo IsPlaced) (sym is)
+  by_shape call no_fork given stepped (shape.starts path place of is) = subst (LeadsTo IsPlaced) (sym is)
       (placed_on plain _ pid placed alive (length_with plain.table pid _) (length_with plain.controls pid _) (λ who gone. sym (alive_still plain.table pid who no_memory) ∙ gone) (exec_shuts pid plain.files pid))
   by_shape call no_fork given stepped (shape.forks is) = subst (LeadsTo IsPlaced) (sym is) (fork_placed script plain pid (Val (pos (last_pid plain + 1))) placed alive)
   by_shape call no_fork given stepped (shape.reaps child status ended is) = subst (LeadsTo IsPlaced) (sym is)
       (placed_on plain _ pid placed alive (length_with plain.table child None) (length_with plain.controls pid _) (λ who gone. alive_reaped plain.table child who ended gone) (shuts_same pid _ _ refl))
   by_shape call no_fork given stepped (shape.ends status is) = subst (LeadsTo IsPlaced) (sym is) (die_placed plain pid status placed)
-  by_shape call no_fork given stepped (shape.ends_another target status first own is) = subst (LeadsTo IsPlaced) (sym is)
-      (answered_placed script (die plain target status) pid (Val (pos 0)) (die_placed plain target status placed))
+  by_shape call no_fork given stepped (shape.ends_another target signal of first own lives is) = subst (LeadsTo IsPlaced) (sym is)
+      (answered_placed script (die plain target 9) pid (Val (pos 0)) (die_placed plain target 9 placed))
 
   fork_on : LeadsTo IsPlaced (posix script plain pid calls.Fork)
   fork_on = go (is_full plain)

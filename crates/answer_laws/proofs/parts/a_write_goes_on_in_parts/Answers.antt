@@ -1,5 +1,5 @@
-use Rattle.prog_ctl.proofs.Parts.{after_part_is, call_part, settled_part}
-use Rattle.prog_ctl.proofs.laws.a_write_goes_on_in_parts.Goals as goal
+use Rattle.answer_laws.proofs.GoingOn.{after_part_is, call_part, settled_part}
+use Rattle.answer_laws.proofs.parts.a_write_goes_on_in_parts.Goals as goal
 
 pub returns-clause-settled : goal.returns-clause-settled
 returns-clause-settled c = settled_part

@@ -10,12 +10,13 @@ ghost use Rattle.kabi_values.specs.declared.replies.Reply.TheVariants.{Fail};
 ghost use Rattle.posix_defs.specs.Plain.{Plain, answered};
 ghost use Rattle.posix_defs.specs.Answer.{Done};
 ghost use Rattle.posix_defs.specs.Posix.{posix};
-ghost use Rattle.machine_laws.specs.Shapes.{HasShape};
+ghost use Rattle.answer_laws.specs.Shapes.{HasShape};
 
 /// Whatever a call is answered, it has one of eleven shapes: of processes nothing changes but its caller's control, memory or
-/// directory, but for a child that is made or reaped, for a program that is started, and for a process that ends.
+/// directory, but for a child that is made or reaped, for a program that is started, and for a process that ends. A directory
+/// changes by `chdir` alone, a part is done of a `write` alone, a program is started by `exec`, another ended by `kill`.
 pub fn every_answer_has_a_shape()
-    ensures { (script : Script) (plain : Plain) (pid : ℕ) (call : Call) → HasShape script plain pid (posix script plain pid call) }
+    ensures { (script : Script) (plain : Plain) (pid : ℕ) (call : Call) → HasShape script plain pid call (posix script plain pid call) }
 {}
 
 /// A call that is answered with an errno leaves all but its caller's control as it was, files and memory too, and the errno
