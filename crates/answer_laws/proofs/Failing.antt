@@ -28,13 +28,13 @@ told script plain next pid (Fail errno) is = absurd (no is)
 told script plain next pid _ is = tt
 
 by_shape : (script : Script) (plain : Plain) (pid : ℕ) (which : Call) (given : Answer) → HasShape script plain pid which given → FailsAlone script plain pid given
-by_shape script plain pid which given (shape.blocks is) = subst (FailsAlone script plain pid) (sym is) tt
+by_shape script plain pid which given (shape.blocks may is) = subst (FailsAlone script plain pid) (sym is) tt
 by_shape script plain pid which given (shape.fails errno other is) = subst (FailsAlone script plain pid) (sym is) (refl, other)
 by_shape script plain pid which given (shape.tells files said is_said is) = subst (FailsAlone script plain pid) (sym is) (told script plain _ pid said is_said)
-by_shape script plain pid which given (shape.puts files memory said is_said is) = subst (FailsAlone script plain pid) (sym is) (told script plain _ pid said is_said)
-by_shape script plain pid which given (shape.moves path directory of is) = subst (FailsAlone script plain pid) (sym is) tt
-by_shape script plain pid which given (shape.parts fd addr n done files moved of is) = subst (FailsAlone script plain pid) (sym is) tt
-by_shape script plain pid which given (shape.starts path place of is) = subst (FailsAlone script plain pid) (sym is) tt
+by_shape script plain pid which given (shape.puts files memory said is_said put is) = subst (FailsAlone script plain pid) (sym is) (told script plain _ pid said is_said)
+by_shape script plain pid which given (shape.moves path directory of entered is) = subst (FailsAlone script plain pid) (sym is) tt
+by_shape script plain pid which given (shape.parts files moved part is) = subst (FailsAlone script plain pid) (sym is) tt
+by_shape script plain pid which given (shape.starts place is) = subst (FailsAlone script plain pid) (sym is) tt
 by_shape script plain pid which given (shape.forks is) = subst (FailsAlone script plain pid) (sym is) tt
 by_shape script plain pid which given (shape.reaps child status ended is) = subst (FailsAlone script plain pid) (sym is) tt
 by_shape script plain pid which given (shape.ends status is) = subst (FailsAlone script plain pid) (sym is) tt

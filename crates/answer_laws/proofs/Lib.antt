@@ -5,3 +5,4 @@ pub mod Shapes
 pub mod Failing
 pub mod Built
 pub mod GoingOn
+pub mod Blocking

@@ -408,20 +408,20 @@ with_files_kept plain files kept = record { family = kept.family; counted = kept
 -- whatever has a shape keeps what is kept
 by_shape : (script : Script) (plain : Plain) (pid : ℕ) (which : Call) (given : Answer) → IsKept plain → is_alive plain.table pid ≡ true
     → HasShape script plain pid which given → KeepsOn plain given
-by_shape script plain pid which given kept alive (shape.blocks is) = subst (KeepsOn plain) (sym is) tt
+by_shape script plain pid which given kept alive (shape.blocks may is) = subst (KeepsOn plain) (sym is) tt
 by_shape script plain pid which given kept alive (shape.fails errno other is) =
     subst (KeepsOn plain) (sym is) (replied_leads script plain plain pid (Fail errno) (stays_put plain kept))
 by_shape script plain pid which given kept alive (shape.tells files reply is_said is) =
     subst (KeepsOn plain) (sym is) (replied_leads script plain (with_files plain files) pid reply
     (files_lead plain (with_files plain files) files (stays_put (with_files plain files) (with_files_kept plain files kept))))
-by_shape script plain pid which given kept alive (shape.puts files memory reply is_said is) =
+by_shape script plain pid which given kept alive (shape.puts files memory reply is_said put is) =
     subst (KeepsOn plain) (sym is) (replied_leads script plain (remembered (with_files plain files) pid memory) pid reply
     (files_lead plain (remembered (with_files plain files) pid memory) files (remembers_on (with_files plain files) pid memory (with_files_kept plain files kept))))
-by_shape script plain pid which given kept alive (shape.moves path directory of is) =
+by_shape script plain pid which given kept alive (shape.moves path directory of entered is) =
     subst (KeepsOn plain) (sym is) (replied_leads script plain (with_table plain (with_directory plain.table pid directory)) pid (Val (pos 0)) (moves_on plain pid directory kept))
-by_shape script plain pid which given kept alive (shape.parts fd addr n done files moved of is) =
+by_shape script plain pid which given kept alive (shape.parts files moved part is) =
     subst (KeepsOn plain) (sym is) (control_leads plain plain files pid (after_part (control_of (with_files plain files) pid) moved) (stays_put plain kept))
-by_shape script plain pid which given kept alive (shape.starts path place of is) =
+by_shape script plain pid which given kept alive (shape.starts place is) =
     subst (KeepsOn plain) (sym is) (control_leads plain (remembered plain pid no_memory) (after_exec_of plain.files pid) pid
     (restarted (settled script (control_of plain pid)) place) (remembers_on plain pid no_memory kept))
 by_shape script plain pid which given kept alive (shape.forks is) =

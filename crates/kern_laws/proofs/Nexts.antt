@@ -393,18 +393,18 @@ remembered_next plain pid memory made = record {
 -- whatever has a shape goes so; in another directory a call works of which so much is known
 by_shape : (script : Script) (plain : Plain) (pid : ℕ) (which : Call) (given : Answer) → length plain.table ≡ last_pid plain → is_alive plain.table pid ≡ true
     → ((path : List ℕ) → which ≡ call.Chdir path → AnswerGoes plain pid given) → HasShape script plain pid which given → AnswerGoes plain pid given
-by_shape script plain pid which given made alive chdir (shape.blocks is) = subst (AnswerGoes plain pid) (sym is) tt
+by_shape script plain pid which given made alive chdir (shape.blocks may is) = subst (AnswerGoes plain pid) (sym is) tt
 by_shape script plain pid which given made alive chdir (shape.fails errno other is) = subst (AnswerGoes plain pid) (sym is) (told_goes script plain pid (Fail errno) made alive)
 by_shape script plain pid which given made alive chdir (shape.tells files reply is_said is) =
     subst (AnswerGoes plain pid) (sym is) (replied_goes script plain (with_files plain files) pid reply (with_files_next plain plain files pid (same_next plain pid made)) alive)
-by_shape script plain pid which given made alive chdir (shape.puts files memory reply is_said is) =
+by_shape script plain pid which given made alive chdir (shape.puts files memory reply is_said put is) =
     subst (AnswerGoes plain pid) (sym is) (replied_goes script plain (remembered (with_files plain files) pid memory) pid reply
     (next_of_files plain (remembered (with_files plain files) pid memory) files pid (remembered_next (with_files plain files) pid memory made)) (alive_still plain.table pid pid memory ∙ alive))
-by_shape script plain pid which given made alive chdir (shape.moves path directory of is) = chdir path of
-by_shape script plain pid which given made alive chdir (shape.parts fd addr n done files moved of is) =
+by_shape script plain pid which given made alive chdir (shape.moves path directory of entered is) = chdir path of
+by_shape script plain pid which given made alive chdir (shape.parts files moved part is) =
     subst (AnswerGoes plain pid) (sym is) (controlled_next plain (with_files plain files) pid (after_part (control_of (with_files plain files) pid) moved)
         (with_files_next plain plain files pid (same_next plain pid made)), alive)
-by_shape script plain pid which given made alive chdir (shape.starts path place of is) =
+by_shape script plain pid which given made alive chdir (shape.starts place is) =
     subst (AnswerGoes plain pid) (sym is) (controlled_next plain (with_files (remembered plain pid no_memory) (after_exec_of plain.files pid)) pid
         (restarted (settled script (control_of plain pid)) place)
         (with_files_next plain (remembered plain pid no_memory) (after_exec_of plain.files pid) pid (remembered_next plain pid no_memory made)), alive_still plain.table pid pid no_memory ∙ alive)

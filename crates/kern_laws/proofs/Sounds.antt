@@ -128,14 +128,14 @@ part_costs script old next pid moved some within is = go (machine_shape script o
         omega arith
 
     go : HasShape script old pid (call_of script old pid) (machine script old pid (call_of script old pid)) → bound (call_of script next pid) ≤ bound (call_of script old pid)
-    go (shape.blocks e) = absurd (blocked_no_part moved next (sym e ∙ is))
+    go (shape.blocks may e) = absurd (blocked_no_part moved next (sym e ∙ is))
     go (shape.fails errno other e) = absurd (done_no_part _ _ moved next (sym e ∙ is))
     go (shape.tells files reply said e) = absurd (done_no_part _ _ moved next (sym e ∙ is))
-    go (shape.puts files memory reply said e) = absurd (done_no_part _ _ moved next (sym e ∙ is))
-    go (shape.moves path directory of e) = absurd (done_no_part _ _ moved next (sym e ∙ is))
-    go (shape.parts fd addr n done files k of e) =
-        further_on fd addr n done k files of (same_part k moved (with_control (with_files old files) pid (after_part (control_of old pid) k)) next (sym e ∙ is))
-    go (shape.starts path place of e) = absurd (done_no_part _ _ moved next (sym e ∙ is))
+    go (shape.puts files memory reply said put e) = absurd (done_no_part _ _ moved next (sym e ∙ is))
+    go (shape.moves path directory of entered e) = absurd (done_no_part _ _ moved next (sym e ∙ is))
+    go (shape.parts files k part e) =
+        further_on part.fd part.addr part.n part.done k files part.which (same_part k moved (with_control (with_files old files) pid (after_part (control_of old pid) k)) next (sym e ∙ is))
+    go (shape.starts place e) = absurd (done_no_part _ _ moved next (sym e ∙ is))
     go (shape.forks e) = absurd (done_no_part _ _ moved next (sym e ∙ is))
     go (shape.reaps child status ended e) = absurd (done_no_part _ _ moved next (sym e ∙ is))
     go (shape.ends status e) = absurd (ended_no_part _ _ moved next (sym e ∙ is))

@@ -49,13 +49,13 @@ Stays plain (answer.Ended status next) = Unit {0}
 
 -- by its shape: another process is ended by `kill` alone
 by_shape : (script : Script) (plain : Plain) (pid : ℕ) (which : Call) (given : Answer) → is_kill (kind_of which) ≡ false → HasShape script plain pid which given → Stays plain given
-by_shape script plain pid which given calm (shape.blocks is) = subst (Stays plain) (sym is) tt
+by_shape script plain pid which given calm (shape.blocks may is) = subst (Stays plain) (sym is) tt
 by_shape script plain pid which given calm (shape.fails errno apart is) = subst (Stays plain) (sym is) (λ other alive. alive)
 by_shape script plain pid which given calm (shape.tells files reply said is) = subst (Stays plain) (sym is) (λ other alive. alive)
-by_shape script plain pid which given calm (shape.puts files memory reply said is) = subst (Stays plain) (sym is) (λ other alive. alive_still plain.table pid other memory ∙ alive)
-by_shape script plain pid which given calm (shape.moves path directory of is) = subst (Stays plain) (sym is) (λ other alive. alive_working plain.table pid other directory ∙ alive)
-by_shape script plain pid which given calm (shape.parts fd addr n done files moved of is) = subst (Stays plain) (sym is) (λ other alive. alive)
-by_shape script plain pid which given calm (shape.starts path place of is) = subst (Stays plain) (sym is) (λ other alive. alive_still plain.table pid other no_memory ∙ alive)
+by_shape script plain pid which given calm (shape.puts files memory reply said put is) = subst (Stays plain) (sym is) (λ other alive. alive_still plain.table pid other memory ∙ alive)
+by_shape script plain pid which given calm (shape.moves path directory of entered is) = subst (Stays plain) (sym is) (λ other alive. alive_working plain.table pid other directory ∙ alive)
+by_shape script plain pid which given calm (shape.parts files moved part is) = subst (Stays plain) (sym is) (λ other alive. alive)
+by_shape script plain pid which given calm (shape.starts place is) = subst (Stays plain) (sym is) (λ other alive. alive_still plain.table pid other no_memory ∙ alive)
 by_shape script plain pid which given calm (shape.forks is) = subst (Stays plain) (sym is) (λ other alive. still_alive plain.table (child_of pid (process_at plain.table pid)) other alive)
 by_shape script plain pid which given calm (shape.reaps child status ended is) = subst (Stays plain) (sym is) (λ other alive. reaped_keeps plain.table child other ended alive)
 by_shape script plain pid which given calm (shape.ends status is) = subst (Stays plain) (sym is) tt

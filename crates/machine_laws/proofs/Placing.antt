@@ -77,8 +77,8 @@ module _ (plain : Plain) (pid : ℕ) (call : Call) (next : Files) (no_fork : cal
   step_shuts (step.closes fd opened named is) = by _ is (close_shuts pid plain.files pid (count_of fd))
   step_shuts (step.describes fd opened description named target access is) = same _ is refl
   step_shuts (step.opens path flags fd found which free led is) = by _ is (opens_one _ fd _ _ refl)
-  step_shuts (step.writes fd opened number at offset bytes written reaches wrote is) = same _ is refl
-  step_shuts (step.writes_at fd opened number at bytes written reaches wrote is) = same _ is refl
+  step_shuts (step.writes fd addr n done opened number at offset written reaches wrote is) = same _ is refl
+  step_shuts (step.writes_at fd addr n opened number at written reaches wrote is) = same _ is refl
   step_shuts (step.resizes fd opened number size tree reaches sized is) = same _ is refl
   step_shuts (step.makes path made which led is) = same _ is refl
   step_shuts (step.removes path tree which led is) = same _ is refl
@@ -99,7 +99,7 @@ module _ (plain : Plain) (pid : ℕ) (call : Call) (next : Files) (no_fork : cal
   step_shuts (step.sends fd addr n done opened place k which named on moves is) = same _ is refl
   step_shuts (step.starts is) = by _ is (exec_shuts pid plain.files pid)
   step_shuts (step.forks which is) = absurd (no_fork which)
-  step_shuts (step.ends who is) = by _ is (closed_shuts pid plain.files who)
+  step_shuts (step.ends who ending is) = by _ is (closed_shuts pid plain.files who)
 
 -- ---- answers
 
@@ -254,27 +254,27 @@ answered_placed script plain pid said placed = record {
 module _ (script : Script) (plain : Plain) (pid : ℕ) (placed : IsPlaced plain) (alive : is_alive plain.table pid ≡ true) where
   -- of a call that isn't a fork, by its shape and its step
   by_shape : (call : Call) → call ≢ calls.Fork → (given : Answer) → LeadsTo (λ next. IsStep plain pid call next.files) given → HasShape script plain pid call given → LeadsTo IsPlaced given
-  by_shape call no_fork given stepped (shape.blocks is) = subst (LeadsTo IsPlaced) (sym is) tt
+  by_shape call no_fork given stepped (shape.blocks may is) = subst (LeadsTo IsPlaced) (sym is) tt
   by_shape call no_fork given stepped (shape.fails errno other is) = subst (LeadsTo IsPlaced) (sym is)
       (placed_on plain _ pid placed alive refl (length_with plain.controls pid _) (λ who gone. gone) (shuts_same pid _ _ refl))
   by_shape call no_fork given stepped (shape.tells files said is_said is) = subst (LeadsTo IsPlaced) (sym is)
       (placed_on plain _ pid placed alive refl (length_with plain.controls pid _) (λ who gone. gone)
       (step_shuts plain pid call files no_fork (subst (LeadsTo (λ next. IsStep plain pid call next.files)) is stepped)))
-  by_shape call no_fork given stepped (shape.puts files memory said is_said is) = subst (LeadsTo IsPlaced) (sym is)
+  by_shape call no_fork given stepped (shape.puts files memory said is_said what is) = subst (LeadsTo IsPlaced) (sym is)
       (placed_on plain _ pid placed alive (length_with plain.table pid _) (length_with plain.controls pid _) (λ who gone. sym (alive_still plain.table pid who memory) ∙ gone)
       (step_shuts plain pid call files no_fork (subst (LeadsTo (λ next. IsStep plain pid call next.files)) is stepped)))
-  by_shape call no_fork given stepped (shape.moves path directory of is) = subst (LeadsTo IsPlaced) (sym is)
+  by_shape call no_fork given stepped (shape.moves path directory called led is) = subst (LeadsTo IsPlaced) (sym is)
       (placed_on plain _ pid placed alive (length_with plain.table pid _) (length_with plain.controls pid _) (λ who gone. sym (alive_moved plain.table pid directory who alive) ∙ gone) (shuts_same pid _ _ refl))
-  by_shape call no_fork given stepped (shape.parts fd addr n done files moved of is) = subst (LeadsTo IsPlaced) (sym is)
+  by_shape call no_fork given stepped (shape.parts files moved part is) = subst (LeadsTo IsPlaced) (sym is)
       (placed_on plain _ pid placed alive refl (length_with plain.controls pid _) (λ who gone. gone)
       (step_shuts plain pid call files no_fork (subst (LeadsTo (λ next. IsStep plain pid call next.files)) is stepped)))
-  by_shape call no_fork given stepped (shape.starts path place of is) = subst (LeadsTo IsPlaced) (sym is)
+  by_shape call no_fork given stepped (shape.starts place is) = subst (LeadsTo IsPlaced) (sym is)
       (placed_on plain _ pid placed alive (length_with plain.table pid _) (length_with plain.controls pid _) (λ who gone. sym (alive_still plain.table pid who no_memory) ∙ gone) (exec_shuts pid plain.files pid))
   by_shape call no_fork given stepped (shape.forks is) = subst (LeadsTo IsPlaced) (sym is) (fork_placed script plain pid (Val (pos (last_pid plain + 1))) placed alive)
   by_shape call no_fork given stepped (shape.reaps child status ended is) = subst (LeadsTo IsPlaced) (sym is)
       (placed_on plain _ pid placed alive (length_with plain.table child None) (length_with plain.controls pid _) (λ who gone. alive_reaped plain.table child who ended gone) (shuts_same pid _ _ refl))
   by_shape call no_fork given stepped (shape.ends status is) = subst (LeadsTo IsPlaced) (sym is) (die_placed plain pid status placed)
-  by_shape call no_fork given stepped (shape.ends_another target signal of first own lives is) = subst (LeadsTo IsPlaced) (sym is)
+  by_shape call no_fork given stepped (shape.ends_another target signal called first own lives is) = subst (LeadsTo IsPlaced) (sym is)
       (answered_placed script (die plain target 9) pid (Val (pos 0)) (die_placed plain target 9 placed))
 
   fork_on : LeadsTo IsPlaced (posix script plain pid calls.Fork)

@@ -1,0 +1,4 @@
+pub mod Items
+pub mod Closings
+pub mod Inductions
+pub mod Piping
