@@ -18,6 +18,8 @@ use Rattle.posix_defs.specs.Process.{is_alive}
 use Rattle.posix_defs.specs.Sizes.{reserve, room}
 use Rattle.posix_defs.specs.Turn.{Answers, Tells, TurnsWhere, account_after}
 use Rattle.posix_defs.specs.World.{Kept, World, MayKeep, live_of}
+use Rattle.kern_laws.specs.Filled.{AreFilled}
+use Rattle.kern_laws.proofs.Followed.{TurnLeads, filled_turn, turn_legal}
 use Rattle.charge_words.specs.Names.{ChargeWord, SeatState}
 use Rattle.turn_words.specs.declared.items.Item.{Item}
 use Rattle.turn_words.specs.declared.items.Item.TheVariants.{Noted, Quiet}
@@ -25,54 +27,11 @@ use Rattle.turn_words.specs.Items.{is_given, is_own_entry, noted}
 use Rattle.turn_words.proofs.Held.{contrary, given_more}
 use Rattle.turn_words.proofs.Notes.{noted_more}
 use Rattle.kern_shared.specs.Shared.{MayNote, goes_on, has_starved, is_turn}
-use Rattle.kern_shared.specs.Shares.{AreFilled, IsTold, KernelValue, Shares, StandsBehindGone, StandsBehindTurn, with_entry}
+use Rattle.kern_shared.specs.Shares.{IsTold, KernelValue, Shares, StandsBehindGone, StandsBehindTurn, with_entry}
 use Rattle.kern_shared.proofs.Keeping.{before_starved, last_more, once_filtered, others_among, starved_same}
 use Rattle.kern_shared.proofs.Runs.{held_up}
 use Rattle.kern_shared.proofs.Standing.{held_made, held_not_gone}
 use Rattle.kern_shared.proofs.Starving.{starved_stands}
-
--- where a turn leads a history: the entry that it tells may follow, and the machine, its account and what was filled go along
-record Leads (script : Script) (past : Past) (pid : ℕ) (told : Turned) (new : Plain) : Type 0 where
-  next : Past
-  follows : MayFollow script past (entry_of pid (kind_of (call_of script past.plain pid)) told) next
-  plain : next.plain ≡ new
-  account : next.account ≡ account_after past.account past.plain pid (call_of script past.plain pid) (machine script past.plain pid (call_of script past.plain pid))
-  filled : next.filled ≡ fills_after past.filled (need_of (call_of script past.plain pid))
-  evicted : next.evicted ≡ past.evicted
-
--- the history behind an answer
-abbrev led : Script → Past → ℕ → Plain → Answer → List ℕ → Past
-led script past pid plain answer sleepers =
-    moves_on script (had_turn past (call_of script past.plain pid)) plain (account_after past.account past.plain pid (call_of script past.plain pid) answer) sleepers
-
-turn_leads : (script : Script) (past : Past) (pid : ℕ) (told : Turned) (new : Plain) → is_alive past.plain.table pid ≡ true → is_up past pid ≡ true
-    → bound (call_of script past.plain pid) ≤ room script.heap
-    → Tells (machine script past.plain pid (call_of script past.plain pid)) past.plain told new → Leads script past pid told new
-turn_leads script past pid told new alive up fits tells = by_answer (machine script past.plain pid (call_of script past.plain pid)) refl tells
-  where
-    may_run : MayRun script past pid (kind_of (call_of script past.plain pid))
-    may_run = record { alive = alive; of_kind = refl; fits_ever = fits }
-
-    lead : (answer : Answer) (plain : Plain) (sleepers : List ℕ) (turn : Turned) → machine script past.plain pid (call_of script past.plain pid) ≡ answer
-        → told ≡ turn → new ≡ plain → MayFollow script past (entry_of pid (kind_of (call_of script past.plain pid)) turn) (led script past pid plain answer sleepers)
-        → Leads script past pid told new
-    lead answer plain sleepers turn is tell goes follows = record {
-      next = led script past pid plain answer sleepers;
-      follows = subst (λ t. MayFollow script past (entry_of pid (kind_of (call_of script past.plain pid)) t) (led script past pid plain answer sleepers)) (sym tell) follows;
-      plain = sym goes;
-      account = ap (account_after past.account past.plain pid (call_of script past.plain pid)) (sym is);
-      filled = refl;
-      evicted = refl;
-    }
-
-    by_answer : (answer : Answer) → machine script past.plain pid (call_of script past.plain pid) ≡ answer → Tells answer past.plain told new → Leads script past pid told new
-    by_answer Blocked is t = lead Blocked past.plain (pid ∷ past.asleep) turned.Sleep is t.0 t.1 (record { may_run = may_run; up = up; blocked = is; leads = refl })
-    by_answer (Done reply plain) is t =
-        lead (Done reply plain) plain (others pid past.asleep) (turned.Done reply) is t.0 t.1 (record { may_run = may_run; plain = plain; answers = is; leads = refl })
-    by_answer (Part moved plain) is t =
-        lead (Part moved plain) plain (pid ∷ others pid past.asleep) (turned.Part moved) is t.0 t.1 (record { may_run = may_run; plain = plain; answers = is; leads = refl })
-    by_answer (Ended status plain) is t =
-        lead (Ended status plain) plain (others pid past.asleep) (turned.Ended status) is t.0 t.1 (record { may_run = may_run; plain = plain; answers = is; leads = refl })
 
 -- the entry is of the process, which is held
 told_own : (pid : ℕ) (which : CallKind) (told : Turned) → is_own_entry pid (entry_of pid which told) ≡ true
@@ -96,19 +55,6 @@ only_own pid other which (turned.Part _) = refl
 only_own pid other which turned.Sleep = refl
 only_own pid other which (turned.Ended _) = refl
 only_own pid other which turned.Gone = refl
-
--- a turn fills no more than it needs
-filled_more : (past next : Past) (old new : Kept) (need : Need) → AreFilled old past → next.filled ≡ fills_after past.filled need → next.evicted ≡ past.evicted
-    → length new.names ≤ length old.names + need.name → length new.blocks ≤ length old.blocks + need.block → length new.vnodes ≤ length old.vnodes + need.vnode
-    → AreFilled new next
-filled_more past next old new need filled more same names blocks vnodes =
-    let fn : next.filled.names ≡ past.filled.names + need.name = ap (λ f. f.names) more in
-    let fb : next.filled.blocks ≡ past.filled.blocks + need.block = ap (λ f. f.blocks) more in
-    let fv : next.filled.vnodes ≡ past.filled.vnodes + need.vnode = ap (λ f. f.vnodes) more in
-    let en : next.evicted.names ≡ past.evicted.names = ap (λ f. f.names) same in
-    let eb : next.evicted.blocks ≡ past.evicted.blocks = ap (λ f. f.blocks) same in
-    let ev : next.evicted.vnodes ≡ past.evicted.vnodes = ap (λ f. f.vnodes) same in
-    record { names = omega (arith, filled.names); blocks = omega (arith, filled.blocks); vnodes = omega (arith, filled.vnodes) }
 
 module _ {T : Type 0} (stands_for : T → World → Type 0) (script_of : T → Script) where
   -- an entry that a turn or a Gone tells, and what the store and its seat are then
@@ -172,8 +118,8 @@ module _ {T : Type 0} (stands_for : T → World → Type 0) (script_of : T → S
   pub behind_turn : StandsBehindTurn stands_for script_of
   behind_turn script steps charge value items s store seat after pid told below is_held alive fits reserved named stands turns of_charge boot holds =
       behind_entry script steps charge value items s store seat after leads.next pid told (kind_of call) below is_held leads.follows (λ _. none)
-      named stands (sym leads.plain) account answers.may_keep
-      (filled_more s.past leads.next s.world.kept after.kept (need_of call) s.filled leads.filled leads.evicted answers.names answers.blocks answers.vnodes)
+      named stands (sym leads.plain_is) account answers.may_keep
+      (filled_turn s.past leads.next s.world.kept after.kept (need_of call) s.filled leads.filled leads.evicted answers.names answers.blocks answers.vnodes)
       (λ starved. contrary (has_starved items) starved none) of_charge boot holds
     where
       call : Call
@@ -188,12 +134,12 @@ module _ {T : Type 0} (stands_for : T → World → Type 0) (script_of : T → S
       none : has_starved items ≡ false
       none = sym s.starved ∙ before_starved stands_for script_of script steps charge value items s pid alive reserved
 
-      leads : Leads script s.past pid told after.plain
-      leads = turn_leads script s.past pid told after.plain alive (held_up script steps items s.past s.shared pid is_held) fits
+      leads : TurnLeads script s.past pid told after.plain
+      leads = turn_legal script s.past pid told after.plain alive (held_up script steps items s.past s.shared pid is_held) fits
           (subst (λ p. Tells (machine script p pid (call_of script s.past.plain pid)) p told after.plain) s.plain answers.answer)
 
       account : after.account ≡ leads.next.account
       account = answers.account
           ∙ ap (λ a. account_after a s.world.plain pid (call_of script s.past.plain pid) (machine script s.world.plain pid (call_of script s.past.plain pid))) s.account
           ∙ ap (λ p. account_after s.past.account p pid (call_of script s.past.plain pid) (machine script p pid (call_of script s.past.plain pid))) s.plain
-          ∙ sym leads.account
+          ∙ sym leads.account_is

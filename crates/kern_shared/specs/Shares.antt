@@ -18,7 +18,8 @@ use Rattle.posix_defs.specs.Plain.{call_of}
 use Rattle.posix_defs.specs.Process.{is_alive}
 use Rattle.posix_defs.specs.Sizes.{fixed, reserve, room}
 use Rattle.posix_defs.specs.Turn.{TurnsTo}
-use Rattle.posix_defs.specs.World.{AreOnce, Kept, World, MayKeep, boot_world, can_evict, live_of}
+use Rattle.posix_defs.specs.World.{AreOnce, World, MayKeep, boot_world, can_evict, live_of}
+use Rattle.kern_laws.specs.Filled.{AreFilled}
 use Rattle.charge_words.specs.Names.{ChargeWord, SeatState}
 use Rattle.turn_words.specs.declared.items.Item.{Item}
 use Rattle.turn_words.specs.declared.items.Item.TheVariants.{Noted, Cleared, Given, Back, Starved, Live, Quiet}
@@ -47,12 +48,6 @@ abbrev pub IsTold : World → Item → Type 0
 IsTold world (Live n) = live_of world ≡ n
 IsTold world (Cleared what live) = (live_of world + size (class_of what) ≡ live) × NothingBefore world what
 IsTold world _ = Unit {0}
-
--- what is kept and what was evicted are together no more than what was filled, and the root's node
-pub record AreFilled (kept : Kept) (past : Past) : Type 0 where
-  pub names : length kept.names + past.evicted.names ≤ past.filled.names
-  pub blocks : length kept.blocks + past.evicted.blocks ≤ past.filled.blocks
-  pub vnodes : length kept.vnodes + past.evicted.vnodes ≤ past.filled.vnodes + 1
 
 -- The kernel's value: the store, the charge seat of what is live, the entries so far, the processes that passes hold, and whether
 -- Starved was answered; and how many entries and how many held processes it has room for.
