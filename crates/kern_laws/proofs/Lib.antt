@@ -17,6 +17,7 @@ pub mod EnabledEvents
 pub mod Sleepers
 pub mod Picking
 pub mod Progress
+pub mod Followed
 pub mod Legal
 pub mod EndsWaiting
 pub mod Refusals
