@@ -46,6 +46,12 @@ pub is_picked : {T : Type 0} {stands_for : T → World → Type 0} {marks high :
 is_picked (boots store stands) = picked.boots
 is_picked (goes_on run old new before after noted runs no_end chosen leads stands within) = picked.goes_on run old new noted (is_picked runs) no_end chosen leads
 
+-- and of its store
+pub is_stood_for : {T : Type 0} {stands_for : T → World → Type 0} {marks high : T → ℕ} {script : Script} {steps : ℕ} {run : List Noted} {s : CoreState} {store : T}
+    → IsRunOver stands_for marks high script steps run s store → stands_for store s.world
+is_stood_for (boots store stands) = stands
+is_stood_for (goes_on run old new before after noted runs no_end chosen leads stands within) = stands
+
 pub over_boot : {T : Type 0} (stands_for : T → World → Type 0) (marks high : T → ℕ) (script : Script) (core : CoreView T) → HasBooted stands_for script core
     → HasRunOver stands_for marks high script core
 over_boot stands_for marks high script core booted = record {
