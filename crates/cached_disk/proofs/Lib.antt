@@ -1,3 +1,4 @@
 pub mod Few
 pub mod Filled
 pub mod InTurn
+pub mod LastBlock

@@ -12,6 +12,7 @@ use kheap_slabs::KHeap;
 use posix_defs::Blocks;
 
 /// The blocks of a disk behind a cache, made of what a call lends.
+#[derive(Drop)]
 pub struct CachedBlocks<'a> {
     pub heap: &'a mut KHeap,
     pub purse: &'a mut Purse,

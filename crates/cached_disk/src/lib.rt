@@ -6,5 +6,7 @@
 
 mod blocks;
 pub mod laws;
+mod reading;
 
 pub use blocks::CachedBlocks;
+pub use reading::read_through;
