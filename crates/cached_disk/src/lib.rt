@@ -6,7 +6,10 @@
 
 mod blocks;
 pub mod laws;
-mod reading;
+mod looking;
+#[cfg(test)]
+mod tests;
+mod through;
 
 pub use blocks::CachedBlocks;
-pub use reading::read_through;
+pub use through::read_through;

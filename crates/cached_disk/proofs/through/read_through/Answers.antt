@@ -8,7 +8,7 @@ use Rattle.cached_disk.specs.Lent.{Parts, parts, Asked, IsCached, IsReordered}
 use Rattle.cached_disk.specs.declared.blocks.CachedBlocks.{CachedBlocks}
 use Rattle.cached_disk.proofs.InTurn.{asked_through, nothing_read, last_cached}
 use Rattle.cached_disk.proofs.LastBlock.{read_ends}
-use Rattle.cached_disk.proofs.reading.read_through.Goals as goal
+use Rattle.cached_disk.proofs.through.read_through.Goals as goal
 
 abbrev of : CachedBlocks → Parts
 of b = parts b.heap.now b.purse.now b.cache.now b.disk.now
