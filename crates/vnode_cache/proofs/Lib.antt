@@ -1,0 +1,4 @@
+pub mod HeldLemmas
+pub mod LooseLemmas
+pub mod OrderLemmas
+pub mod TrueLemmas
