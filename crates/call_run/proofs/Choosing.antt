@@ -25,9 +25,9 @@ use Rattle.proc_table.proofs.OwnLemmas.{AreRising, all_weaker, rising_procs}
 use Rattle.proc_table.proofs.PlaceLemmas.{eqb_same}
 use Rattle.victim_core.proofs.GreatestLemmas.{victim-named}
 use Rattle.victim_core.specs.Victims.{IsVictim, RisesByPid}
-use Rattle.call_run.specs.declared.objects.Objects.{Objects}
-use Rattle.call_run.specs.Objects.{AreKept, procs_of}
-use Rattle.call_run.specs.Standing.{StandFor}
+use Rattle.store_objects.specs.declared.objects.Objects.{Objects}
+use Rattle.store_objects.specs.Objects.{AreKept, procs_of}
+use Rattle.store_objects.specs.Standing.{StandFor}
 use Rattle.call_run.specs.Weights.{weight_in, weights_in}
 use Rattle.call_run.proofs.FrameCounts.{frames_are}
 use Rattle.call_run.proofs.Owning.{Owns, all_own}

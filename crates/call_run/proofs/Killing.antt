@@ -7,12 +7,12 @@ use Rattle.posix_defs.specs.Ending.{die}
 use Rattle.posix_defs.specs.Relief.{Kills}
 use Rattle.posix_defs.specs.World.{MayKeep, World, live_of}
 use Rattle.kern_laws.proofs.Caches.{root_may_keep}
-use Rattle.call_run.specs.declared.objects.Objects.{Objects}
-use Rattle.call_run.specs.Objects.{AreKept}
-use Rattle.call_run.specs.Standing.{StandFor, StandsFor}
-use Rattle.call_run.proofs.LiveIs.{live_is}
-use Rattle.call_run.proofs.NoQueues.{no_queues_on}
-use Rattle.call_run.proofs.Marking.{kept_marked, marked_as, stand_marked}
+use Rattle.store_objects.specs.declared.objects.Objects.{Objects}
+use Rattle.store_objects.specs.Objects.{AreKept}
+use Rattle.store_objects.specs.Standing.{StandFor, StandsFor}
+use Rattle.store_objects.proofs.LiveIs.{live_is}
+use Rattle.store_objects.proofs.NoQueues.{no_queues_on}
+use Rattle.store_objects.proofs.Marking.{kept_marked, marked_as, stand_marked}
 
 -- the world after a process has ended by signal 9
 abbrev pub killed_in : World → ℕ → World

@@ -10,11 +10,11 @@ use Rattle.posix_defs.specs.World.{World}
 use Rattle.prog_ctl.proofs.Settling.{rests_settled}
 use Rattle.proc_table.specs.Procs.{proc_of}
 use Rattle.proc_table.proofs.OwnLemmas.{has_it}
-use Rattle.call_run.specs.declared.objects.Objects.{Objects}
-use Rattle.call_run.specs.Objects.{IsAtCall, procs_of}
-use Rattle.call_run.specs.Standing.{StandsFor}
-use Rattle.call_run.proofs.GoingOn.{some_same}
-use Rattle.call_run.proofs.RunningProcs.{alive_runs}
+use Rattle.store_objects.specs.declared.objects.Objects.{Objects}
+use Rattle.store_objects.specs.Objects.{IsAtCall, procs_of}
+use Rattle.store_objects.specs.Standing.{StandsFor}
+use Rattle.store_objects.proofs.GoingOn.{some_same}
+use Rattle.store_objects.proofs.RunningProcs.{alive_runs}
 
 -- who is found isn't missing
 pub missing : (o : Option Proc) (proc : Proc) → o ≡ None → o ≡ Some proc → ⊥

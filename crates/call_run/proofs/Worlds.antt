@@ -16,12 +16,12 @@ use Rattle.posix_defs.specs.declared.turner.Turned.{Turned}
 use Rattle.posix_defs.specs.declared.turner.Turned.TheVariants as turned
 use Rattle.kern_laws.proofs.Bareness.{answers_bare}
 use Rattle.kern_laws.proofs.Caches.{root_may_keep, root_pinned}
-use Rattle.call_run.specs.declared.objects.Objects.{Objects}
-use Rattle.call_run.specs.Objects.{AreKept}
-use Rattle.call_run.specs.Standing.{Led, StandFor, StandsFor}
+use Rattle.store_objects.specs.declared.objects.Objects.{Objects}
+use Rattle.store_objects.specs.Objects.{AreKept}
+use Rattle.store_objects.specs.Standing.{Led, StandFor, StandsFor}
 use Rattle.call_run.proofs.LeavingNothing.{leaves_nothing}
-use Rattle.call_run.proofs.LiveIs.{live_is}
-use Rattle.call_run.proofs.NoQueues.{frames_alone, no_queues_after}
+use Rattle.store_objects.proofs.LiveIs.{live_is}
+use Rattle.store_objects.proofs.NoQueues.{frames_alone, no_queues_after}
 
 -- nothing is cached but the root's node, which is pinned
 pub evicts_nothing : (script : Script) (objects : Objects) (world : World) (what : Cached) → StandsFor script objects world → can_evict world.plain world.kept what ≡ false

@@ -6,7 +6,7 @@ use Rattle.kabi_types.specs.declared.entries.End.{End}
 use Rattle.kabi_types.specs.declared.entries.End.TheVariants as end
 use Rattle.kabi_types.specs.declared.scripts.Script.{Script}
 use Rattle.posix_defs.specs.ScriptText.{ReadsText}
-use Rattle.call_run.specs.Standing.{StoreView}
+use Rattle.store_objects.specs.Standing.{StoreView}
 use Rattle.script_read.specs.Reading.{Outcome}
 use Rattle.script_read.specs.declared.parse_error.ParseError.{ParseError}
 use Rattle.script_read.specs.declared.parse_error.ParseError.TheVariants as error

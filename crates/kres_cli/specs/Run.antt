@@ -2,7 +2,7 @@
 use Rattle.std.specs.Prelude.{ℕ, ◌≡◌, List, Option, Some}
 use Rattle.kabi_types.specs.declared.entries.End.{End}
 use Rattle.kabi_types.specs.declared.scripts.Script.{Script}
-use Rattle.call_run.specs.Standing.{StandsFor, StoreView}
+use Rattle.store_objects.specs.Standing.{StandsFor, StoreView}
 use Rattle.run_report.specs.Reports.{IsReport}
 use Rattle.kres_cli.specs.declared.statuses.Status.{Status}
 use Rattle.kres_cli.specs.Status.{status_of}

@@ -1,9 +1,10 @@
 use Rattle.std.proofs.Common.{◌∙◌, ap, sym}
 use Rattle.std.specs.Result.{result_err}
 use Rattle.posix_defs.specs.Machine.{answer_to}
-use Rattle.call_run.proofs.Callers.{caller_runs}
-use Rattle.call_run.proofs.Paying.{uses_nothing}
-use Rattle.call_run.proofs.Replies.{does_fail, wrong_told}
+use Rattle.store_objects.proofs.Callers.{caller_runs}
+use Rattle.store_objects.proofs.Paying.{uses_nothing}
+use Rattle.store_objects.proofs.Replies.{does_fail}
+use Rattle.call_run.proofs.Dispatch.{wrong_told}
 use Rattle.call_run.proofs.calls.run.Goals as goal
 
 pub go_on-requires-clause-runs : goal.go_on-requires-clause-runs

@@ -5,9 +5,10 @@ use Rattle.kabi_calls.specs.declared.calls.Call.TheVariants as call
 use Rattle.kabi_values.specs.declared.errnos.Errno.TheVariants.{EINVAL}
 use Rattle.posix_defs.specs.Needs.{slack}
 use Rattle.posix_defs.specs.Process.{parent_of}
-use Rattle.call_run.specs.Uses.{UsesAtMost}
-use Rattle.call_run.proofs.Paying.{uses_nothing}
-use Rattle.call_run.proofs.Replies.{does_fail, does_one, does_tell, does_that, does_two, others_fail, parent_is}
+use Rattle.store_objects.specs.Uses.{UsesAtMost}
+use Rattle.store_objects.proofs.Paying.{uses_nothing}
+use Rattle.store_objects.proofs.Replies.{does_fail, does_tell, parent_is}
+use Rattle.call_run.proofs.Dispatch.{does_one, does_that, does_two, others_fail}
 use Rattle.call_run.proofs.calls.run_free.Goals as goal
 
 pub returns-in-Getpid-clause-does : goal.returns-in-Getpid-clause-does
@@ -50,8 +51,8 @@ returns-in-Waitpid-clause-does c =
 
 pub returns-in-Kill-clause-does : goal.returns-in-Kill-clause-does
 returns-in-Kill-clause-does c =
-    does_two c.args.script.now c.args.objects.now c.send.new.objects c.args.caller.now.pid c.args.call.now c.send.result call.Kill c.in-Kill.target c.in-Kill.signal c.in-Kill.is
-    (search (rules, to_z-of_z)) (search (rules, to_z-of_z)) c.send.ensures.does
+    does_two c.args.script.now c.args.objects.now c.signal_process.new.objects c.args.caller.now.pid c.args.call.now c.signal_process.result call.Kill c.in-Kill.target c.in-Kill.signal c.in-Kill.is
+    (search (rules, to_z-of_z)) (search (rules, to_z-of_z)) c.signal_process.ensures.does
 
 pub returns-in-Munmap-clause-does : goal.returns-in-Munmap-clause-does
 returns-in-Munmap-clause-does c =
@@ -95,4 +96,4 @@ pub returns-in-Exit-clause-uses : goal.returns-in-Exit-clause-uses
 returns-in-Exit-clause-uses c = subst (λ which. UsesAtMost c.args.objects.now.heap c.exit.new.objects.heap 0 (slack which)) (sym c.in-Exit.is) c.exit.ensures.uses
 
 pub returns-in-Kill-clause-uses : goal.returns-in-Kill-clause-uses
-returns-in-Kill-clause-uses c = subst (λ which. UsesAtMost c.args.objects.now.heap c.send.new.objects.heap 0 (slack which)) (sym c.in-Kill.is) c.send.ensures.uses
+returns-in-Kill-clause-uses c = subst (λ which. UsesAtMost c.args.objects.now.heap c.signal_process.new.objects.heap 0 (slack which)) (sym c.in-Kill.is) c.signal_process.ensures.uses

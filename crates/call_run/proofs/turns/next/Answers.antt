@@ -1,7 +1,7 @@
 use Rattle.std.proofs.Common.{◌∙◌, ap, option_copied, sym}
 use Rattle.proc_table.specs.Procs.{proc_of}
-use Rattle.call_run.specs.Objects.{procs_of}
-use Rattle.call_run.proofs.RunningProcs.{alive_runs}
+use Rattle.store_objects.specs.Objects.{procs_of}
+use Rattle.store_objects.proofs.RunningProcs.{alive_runs}
 use Rattle.call_run.proofs.Turning.{missing, next_is, up_at_call}
 use Rattle.call_run.proofs.turns.next.Goals as goal
 

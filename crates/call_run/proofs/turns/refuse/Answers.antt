@@ -1,10 +1,10 @@
 use Rattle.std.proofs.Common.{◌≡◌, ◌∙◌, ap, false, le_refl, sym, true, arith}
 use Rattle.kheap_slabs.specs.Heap.{Heap, live_bytes}
 use Rattle.posix_defs.specs.World.{live_of}
-use Rattle.call_run.specs.Standing.{StandFor}
-use Rattle.call_run.proofs.LiveIs.{live_is}
-use Rattle.call_run.proofs.Marking.{kept_marked, since_mark, stand_marked}
-use Rattle.call_run.proofs.RunningProcs.{alive_is}
+use Rattle.store_objects.specs.Standing.{StandFor}
+use Rattle.store_objects.proofs.LiveIs.{live_is}
+use Rattle.store_objects.proofs.Marking.{kept_marked, since_mark, stand_marked}
+use Rattle.store_objects.proofs.RunningProcs.{alive_is}
 use Rattle.call_run.proofs.turns.refuse.Goals as goal
 
 never : true ≡ false → ⊥
@@ -19,7 +19,7 @@ pub returns-clause-high : goal.returns-clause-high
 returns-clause-high c = λ world stands.
     let high : c.go_on.new.objects.heap.high ≡ c.mark.new.self.high = c.go_on.ensures.takes.high in
     let mark : c.mark.new.self.high ≡ live_bytes c.args.objects.now.heap = ap (λ h. h.high) c.mark.ensures in
-    let live : live_bytes c.args.objects.now.heap ≡ live_of world = live_is c.args.script.now c.args.objects.now world stands c.heap.ensures.well_formed in
+    let live : live_bytes c.args.objects.now.heap ≡ live_of world = live_is c.args.script.now c.args.objects.now world stands c.heap_is_well_formed.ensures in
     omega arith
 
 pub returns-clause-refused : goal.returns-clause-refused
@@ -47,4 +47,4 @@ returns-clause-marked c = c.go_on.ensures.takes.marks ∙ ap (λ (h : Heap). h.m
 pub returns-clause-since : goal.returns-clause-since
 returns-clause-since c = λ world stands.
     since_mark (live_bytes c.args.objects.now.heap) c.mark.new.self.high c.go_on.new.objects.heap.high (live_of world) (ap (λ (h : Heap). h.high) c.mark.ensures)
-    (live_is c.args.script.now c.args.objects.now world stands c.heap.ensures.well_formed) (rw c.go_on.ensures.takes.high (le_refl _))
+    (live_is c.args.script.now c.args.objects.now world stands c.heap_is_well_formed.ensures) (rw c.go_on.ensures.takes.high (le_refl _))

@@ -1,5 +1,5 @@
 use Rattle.std.proofs.Common.{ap, refl, sym, subst, string_bytes, ◌∙◌}
-use Rattle.call_run.specs.Standing.{StandsFor}
+use Rattle.store_objects.specs.Standing.{StandsFor}
 use Rattle.run_report.specs.Reports.{IsReport}
 use Rattle.kres_cli.proofs.tool.run_script.Goals as goal
 

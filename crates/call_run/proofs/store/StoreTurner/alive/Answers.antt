@@ -1,6 +1,6 @@
 use Rattle.std.proofs.Common.{◌∙◌, ap, sym}
-use Rattle.call_run.specs.Objects.{is_running, procs_of}
-use Rattle.call_run.proofs.RunningProcs.{alive_is}
+use Rattle.store_objects.specs.Objects.{is_running, procs_of}
+use Rattle.store_objects.proofs.RunningProcs.{alive_is}
 use Rattle.call_run.proofs.store.StoreTurner.alive.Goals as goal
 
 pub returns : goal.returns

@@ -1,7 +1,7 @@
 use Rattle.std.proofs.Common.{ap, not, subst, sym, ◌∙◌}
 use Rattle.posix_defs.specs.Machine.{would_block}
 use Rattle.posix_defs.specs.Plain.{call_of}
-use Rattle.call_run.specs.Standing.{StandsFor}
+use Rattle.store_objects.specs.Standing.{StandsFor}
 use Rattle.call_run.proofs.store.StoreTurner.ready.Goals as goal
 
 pub returns : goal.returns

@@ -1,6 +1,6 @@
 use Rattle.std.proofs.Common.{◌∙◌, ap, subst, sym}
 use Rattle.posix_defs.specs.Victim.{victim_of}
-use Rattle.call_run.specs.Standing.{StandsFor}
+use Rattle.store_objects.specs.Standing.{StandsFor}
 use Rattle.call_run.proofs.store.StoreTurner.victim.Goals as goal
 
 pub returns : goal.returns

@@ -1,0 +1,7 @@
+pub mod FramesAlone
+pub mod Objects
+pub mod Standing
+pub mod Uses
+pub mod Endings
+pub mod Booting
+pub mod Purses
