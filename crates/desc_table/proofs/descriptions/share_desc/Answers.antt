@@ -3,8 +3,9 @@ use Rattle.kheap_shelves.specs.Objects.{put}
 use Rattle.kheap_slabs.specs.Heap.{Heap}
 use Rattle.kheap_slabs.specs.Owners.{OwnsItsObjects}
 use Rattle.kheap_laws.proofs.TableLemmas.{OwnsItsObjects-along}
-use Rattle.desc_table.specs.Counted.{AreDescribed, counting, after_share}
-use Rattle.desc_table.proofs.DescLemmas.{shared_described}
+use Rattle.open_laws.specs.Described.{AreDescribed, after_share}
+use Rattle.open_laws.specs.Described.{counting}
+use Rattle.open_laws.proofs.DescribedLemmas.{shared_described}
 use Rattle.desc_table.proofs.descriptions.share_desc.Goals as goal
 
 pub returns-clause-described : goal.returns-clause-described

@@ -1,4 +1,4 @@
-use Rattle.desc_table.proofs.DescLemmas.{uncounted-shared, uncounted-left, uncounted-gone}
+use Rattle.open_laws.proofs.DescribedLemmas.{uncounted-shared, uncounted-left, uncounted-gone}
 use Rattle.desc_table.proofs.laws.descriptions_go_with_their_last_count.Goals as goal
 
 pub returns : goal.returns
