@@ -89,8 +89,7 @@ socket_closed : (numbers : Numbers) (old new : Heap) (files : Files) (key : ℕ)
     → StandBoth numbers old files → (ArePiped numbers new files.pipes) × (AreSocketed numbers new (sockets_after_close files.sockets (numbers.socks key)))
 socket_closed numbers old new files key closable closes both =
     let are = both.socketed in
-    let held = object_of old.socks key closable.used in
-    (
+    let held = object_of old.socks key closable.used in (
       piped_on numbers old new files.pipes (ap (λ (h : Heap). h.pipes) closes.others.kept) (λ other. pipe_keeps old new new.descs other (closes.others.pipes other)) both.piped,
       record {
         keyed = sockets_after_close are.keyed key;

@@ -83,8 +83,10 @@ gone_renamed number keyed sockets key linked used are =
     (sym (ap peer_of (placed_stage number keyed sockets key are used) ∙ peer_of-by number (stage_at keyed key)))
     (go (peer_of (stage_at keyed key)) refl)
   where
-    without placed : Sockets
+    without : Sockets
     without = with_socket keyed key None
+
+    placed : Sockets
     placed = with_socket sockets (number key) None
 
     left : AreRenamed number without placed
@@ -97,8 +99,8 @@ gone_renamed number keyed sockets key linked used are =
         let apart : peer ≢ key = λ same. peers_differ keyed key peer linked is (sym same) in
         let there : IsSome (sock_at without peer) = subst IsSome (sym (sock_at-with_other keyed key peer None (omega (arith, within)) apart)) (peer_there keyed key peer linked is) in
         let same : to_nobody (socket_at placed (number peer)) ≡ socket_by number (to_nobody (socket_at without peer)) =
-            ap to_nobody (placed_at number without placed peer left there)
-            ∙ ap (λ (stage : Stage). record (socket_at without peer) { stage = stage }) (without_peer-by number (stage_at without peer)) in
+        ap to_nobody (placed_at number without placed peer left there)
+        ∙ ap (λ (stage : Stage). record (socket_at without peer) { stage = stage }) (without_peer-by number (stage_at without peer)) in
         subst (λ (socket : Socket). AreRenamed number (left_alone without (Some peer)) (with_socket placed (number peer) (Some socket))) (sym same)
         (renamed_changed number without placed peer (to_nobody (socket_at without peer)) left there)
 

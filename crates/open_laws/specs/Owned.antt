@@ -3,7 +3,7 @@
 use Rattle.std.specs.Prelude.{◌≡◌, ◌≢◌, ◌+◌, ◌<◌, ◌==◌, ◌&&◌, ℕ, Bool, true, false, List, [], ◌∷◌, Option, None, Some, count_by, sum_by}
 use Rattle.kheap_shelves.specs.Objects.{object, InUse}
 use Rattle.kheap_shelves.specs.declared.objects.Access.{Access}
-use Rattle.kheap_shelves.specs.declared.objects.Access.TheVariants as access
+use Rattle.kheap_shelves.specs.declared.objects.Access.TheVariants.{Both}
 use Rattle.kheap_shelves.specs.declared.objects.Desc.{Desc}
 use Rattle.kheap_shelves.specs.declared.objects.Descriptor.{Descriptor}
 use Rattle.kheap_shelves.specs.declared.objects.Pipe.{Pipe}
@@ -91,7 +91,7 @@ socks_named (desc ∷ descs) = beside (sock_in desc) (socks_named descs)
 -- what a Desc is open on is there: a pipe, of which it has one end, or a socket
 abbrev pub IsThereFor : Heap → Access → Target → Type 0
 IsThereFor h access (target.Inode number) = Unit {0}
-IsThereFor h access (target.Pipe key) = InUse h.pipes key × (access ≢ access.Both)
+IsThereFor h access (target.Pipe key) = InUse h.pipes key × (access ≢ Both)
 IsThereFor h access (target.Sock key) = InUse h.socks key
 
 -- All objects of the heap but what caches keep have their owners: processes their nodes, page entries their pages, queues
