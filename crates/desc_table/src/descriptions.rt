@@ -4,10 +4,11 @@ ghost use Rattle.kheap_shelves.specs.declared.objects.Desc.{Desc as HeldDesc};
 ghost use Rattle.kheap_slabs.specs.Owners.{OwnsItsObjects};
 ghost use Rattle.kheap_slabs.specs.Paid.{TakesNothing};
 ghost use Rattle.posix_defs.specs.Files.Descriptions.{may_write as plain_may_write};
+ghost use Rattle.posix_defs.specs.Files.State.{Files};
 ghost use Rattle.place_laws.specs.Placed.{Numbers};
-ghost use Rattle.open_laws.specs.Described.{CountedList, AreDescribed, access_in, after_share, after_drop};
-ghost use Rattle.open_laws.specs.Described.{counting, node_in, node_left, descs_left};
-ghost use Rattle.open_laws.specs.Closing.{IsClosable, IsDroppable, TargetCloses, EndCloses, SocketCloses, QueuesChange};
+ghost use Rattle.open_laws.specs.Closing.{IsClosable, IsDroppable, Drops, TargetCloses, EndCloses, SocketCloses, QueuesChange};
+ghost use Rattle.open_laws.specs.Described.{CountedList, access_in, counting, after_share, after_drop, node_in, node_left, descs_left};
+ghost use Rattle.open_laws.specs.Open.{AreOpen, files_dropped};
 ghost use Rattle.pipe_ends.specs.Standing.{HasEndAt};
 ghost use Rattle.usock_core.specs.Standing.{IsClosableIn};
 
@@ -20,8 +21,8 @@ use usock_core::close_sock;
 pub fn share_desc(heap: &mut KHeap, desc: u32)
     requires there { InUse heap.old.descs desc }
     requires small { (found : HeldDesc) → object heap.old.descs desc ≡ Some found → found.count < 4294967295 }
-    ensures described { (numbers : Numbers) (list : CountedList) → AreDescribed numbers heap.old.descs list
-        → AreDescribed numbers heap.new.descs (after_share list (numbers.descs desc)) }
+    ensures opened { (numbers : Numbers) (list : CountedList) (files : Files) → AreOpen numbers heap.old list files
+        → AreOpen numbers heap.new (after_share list (numbers.descs desc)) files }
     ensures kept { (found : HeldDesc) → object heap.old.descs desc ≡ Some found
         → heap.new ≡ record heap.old { descs = put heap.old.descs desc (counting found (found.count + 1)) } }
     ensures owned { OwnsItsObjects heap.old → OwnsItsObjects heap.new }
@@ -45,14 +46,9 @@ pub fn drop_desc(heap: &mut KHeap, desc: u32) -> Option<u32>
     requires owned { OwnsItsObjects heap.old }
     requires there { IsDroppable heap.old desc }
     ensures node { (found : HeldDesc) → object heap.old.descs desc ≡ Some found → result ≡ node_left found }
-    ensures described { (numbers : Numbers) (list : CountedList) → AreDescribed numbers heap.old.descs list
-        → AreDescribed numbers heap.new.descs (after_drop list (numbers.descs desc)) }
-    ensures descs { (found : HeldDesc) → object heap.old.descs desc ≡ Some found
-        → heap.new.descs ≡ descs_left heap.old.descs desc found }
-    ensures stays { (found : HeldDesc) → object heap.old.descs desc ≡ Some found → 1 < found.count
-        → heap.new ≡ record heap.old { descs = heap.new.descs } }
-    ensures closes { (found : HeldDesc) → object heap.old.descs desc ≡ Some found → found.count ≡ 1
-        → TargetCloses heap.old heap.new found.access found.target }
+    ensures drops { (found : HeldDesc) → object heap.old.descs desc ≡ Some found → Drops heap.old heap.new desc found }
+    ensures opened { (numbers : Numbers) (list : CountedList) (files : Files) → AreOpen numbers heap.old list files
+        → AreOpen numbers heap.new (after_drop list (numbers.descs desc)) (files_dropped files list (numbers.descs desc)) }
     ensures owned { OwnsItsObjects heap.new }
     ensures kept { heap.new
         ≡ record heap.old { descs = heap.new.descs; pipes = heap.new.pipes; chunks = heap.new.chunks; socks = heap.new.socks } }

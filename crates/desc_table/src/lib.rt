@@ -7,7 +7,6 @@
 
 mod descriptions;
 mod descriptors;
-pub mod laws;
 #[cfg(test)]
 mod tests;
 

@@ -7,7 +7,6 @@ use Rattle.kheap_shelves.specs.declared.objects.Sock.{Sock}
 use Rattle.kheap_shelves.specs.declared.objects.Target.{Target}
 use Rattle.kheap_shelves.specs.declared.objects.Target.TheVariants as target
 use Rattle.kheap_slabs.specs.Heap.{Heap}
-use Rattle.posix_defs.specs.Pipe.{Pipe}
 use Rattle.chunk_queue.proofs.HeldLemmas.{HasBytes-same}
 use Rattle.pipe_ends.specs.Standing.{LeavesOthers as LeavesOtherPipes}
 use Rattle.pipe_ends.proofs.StandingLemmas.{stands_same as pipe_stands_same}

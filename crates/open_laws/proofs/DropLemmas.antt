@@ -1,8 +1,8 @@
 -- What the heap stands for, once a descriptor fewer names a description.
-use Rattle.std.proofs.Common.{◌≡◌, ◌≢◌, ℕ, zero, suc, ◌<◌, Bool, true, false, List, [], ◌∷◌, set, map, cond, eqb, Option, None, Some, IsSome, refl, sym, ap, subst, ◌∙◌, arith, eq-eqb, ne_eqb, inl, inr}
+use Rattle.std.proofs.Common.{◌≡◌, ◌≢◌, ℕ, zero, suc, ◌+◌, ◌<◌, Bool, true, false, List, [], ◌∷◌, cond, Option, None, Some, IsSome, refl, sym, ap, subst, ◌∙◌, arith, eq-eqb, ne_eqb, inl, inr}
 use Rattle.std.proofs.lemmas.Bool.{cases_eq}
 use Rattle.std.specs.Option.{option_map}
-use Rattle.kheap_shelves.specs.Objects.{object, InUse}
+use Rattle.kheap_shelves.specs.Objects.{object, InUse, put}
 use Rattle.kheap_shelves.specs.declared.objects.Access.{Access}
 use Rattle.kheap_shelves.specs.declared.objects.Desc.{Desc}
 use Rattle.kheap_shelves.specs.declared.objects.Target.{Target}
@@ -23,12 +23,12 @@ use Rattle.usock_core.proofs.OneTable.{nowhere_in}
 use Rattle.kheap_shelves.proofs.ObjectLemmas.{object_of}
 use Rattle.place_laws.specs.Placed.{Numbers}
 use Rattle.place_laws.proofs.PlaceLemmas.{placed_unchanged}
-use Rattle.open_laws.specs.Described.{Counted, CountedList, counted_in, access_in, target_in, AreDescribed, after_drop, descs_left, uncounted}
+use Rattle.open_laws.specs.Described.{Counted, CountedList, counted_in, access_in, target_in, AreDescribed, after_share, after_drop, counting, descs_left, uncounted}
 use Rattle.open_laws.specs.Piped.{ArePiped, end_closed}
 use Rattle.open_laws.specs.Socketed.{AreSocketed}
 use Rattle.open_laws.specs.Open.{AreOpen, dropped_in, files_dropped}
-use Rattle.open_laws.specs.Closing.{IsClosable, EndCloses, SocketCloses, TargetCloses}
-use Rattle.open_laws.proofs.DescribedLemmas.{at_place, dropped_described, uncounted-left, uncounted-gone}
+use Rattle.open_laws.specs.Closing.{IsClosable, IsDroppable, EndCloses, SocketCloses, TargetCloses, Drops}
+use Rattle.open_laws.proofs.DescribedLemmas.{at_place, one_desc, dropped_described, shared_described, uncounted-shared, uncounted-left, uncounted-gone}
 use Rattle.open_laws.proofs.CloseLemmas.{described}
 use Rattle.open_laws.proofs.PipeLemmas.{closed_at_place}
 use Rattle.open_laws.proofs.SocketLemmas.{closed_renamed}
@@ -135,18 +135,13 @@ description_in [] (suc place) = refl
 description_in (first ∷ list) zero = refl
 description_in (first ∷ list) (suc place) = description_in list place
 
--- what is known of the heap before and after
-pub record Drops (old new : Heap) (key : ℕ) (desc : Desc) : Type 0 where
-  pub there : object old.descs key ≡ Some desc
-  pub named : 0 < desc.count
-  pub closable : IsClosable old desc.access desc.target
-  pub descs : new.descs ≡ descs_left old.descs key desc
-  pub stays : 1 < desc.count → new ≡ described old new.descs
-  pub closes : desc.count ≡ 1 → TargetCloses old new desc.access desc.target
+-- the Desc that is meant is the one that a key names
+named_one : (old : Heap) (key : ℕ) (desc : Desc) → object old.descs key ≡ Some desc → (is : IsDroppable old key) → is.desc ≡ desc
+named_one old key desc there is = one_desc old.descs key is.desc desc is.there there
 
-pub open_dropped : (numbers : Numbers) (old new : Heap) (list : CountedList) (files : Files) (key : ℕ) (desc : Desc) → Drops old new key desc
+pub open_dropped : (numbers : Numbers) (old new : Heap) (list : CountedList) (files : Files) (key : ℕ) (desc : Desc) → object old.descs key ≡ Some desc → IsDroppable old key → Drops old new key desc
     → AreOpen numbers old list files → AreOpen numbers new (after_drop list (numbers.descs key)) (files_dropped files list (numbers.descs key))
-open_dropped numbers old new list files key desc drops are =
+open_dropped numbers old new list files key desc there can drops are =
     subst (λ (counted : Option Counted). AreOpen numbers new (after_drop list place) (dropped_in files place counted)) (sym at) (elim (cases_eq desc.count 1) [
       | inl last ↦ subst (λ (b : Bool). AreOpen numbers new (after_drop list place) (cond b (description_gone files place) files)) (sym (eq-eqb desc.count 1 last)) (gone last)
       | inr more ↦ subst (λ (b : Bool). AreOpen numbers new (after_drop list place) (cond b (description_gone files place) files)) (sym (ne_eqb desc.count 1 more)) (stays more)
@@ -155,18 +150,24 @@ open_dropped numbers old new list files key desc drops are =
     place : ℕ
     place = numbers.descs key
 
+    closable : IsClosable old desc.access desc.target
+    closable = subst (λ (d : Desc). IsClosable old d.access d.target) (named_one old key desc there can) can.closable
+
+    some : 0 < desc.count
+    some = subst (λ (d : Desc). 0 < d.count) (named_one old key desc there can) can.named
+
     at : object list place ≡ Some (counted_in numbers desc)
-    at = at_place numbers old.descs list key desc drops.there are.described
+    at = at_place numbers old.descs list key desc there are.described
 
     now : AreDescribed numbers new.descs (after_drop list place)
-    now = subst (λ (d : List (Option Desc)). AreDescribed numbers d (after_drop list place)) (sym drops.descs) (dropped_described numbers old.descs list key desc drops.there are.described)
+    now = subst (λ (d : List (Option Desc)). AreDescribed numbers d (after_drop list place)) (sym drops.descs) (dropped_described numbers old.descs list key desc there are.described)
 
     both : StandBoth numbers old files
     both = record { piped = are.piped; socketed = are.socketed }
 
     stays : desc.count ≢ 1 → AreOpen numbers new (after_drop list place) files
     stays more =
-        let after = both_beside numbers old new files (drops.stays (let some = drops.named in omega (arith, some, more))) both in
+        let after = both_beside numbers old new files (drops.stays (omega (arith, some, more))) both in
         record {
           described = now;
           descriptions = are.descriptions ∙ sym (uncounted-left list place (counted_in numbers desc) at more);
@@ -183,7 +184,7 @@ open_dropped numbers old new list files key desc drops are =
 
     gone : desc.count ≡ 1 → AreOpen numbers new (after_drop list place) (description_gone files place)
     gone last =
-        let after = target_closes numbers old new without desc.access desc.target drops.closable (drops.closes last) (record { piped = both.piped; socketed = both.socketed }) in
+        let after = target_closes numbers old new without desc.access desc.target closable (drops.closes last) (record { piped = both.piped; socketed = both.socketed }) in
         let left = ap (λ (d : List (Option Description)). with_description d place None) are.descriptions ∙ sym (uncounted-gone list place (counted_in numbers desc) at last) in
         subst (λ (description : Option Description). AreOpen numbers new (after_drop list place) (gone_in files place description)) (sym is_there) (record {
           described = now;
@@ -191,3 +192,29 @@ open_dropped numbers old new list files key desc drops are =
           piped = after.piped;
           socketed = after.socketed;
         })
+
+pub open_shared : (numbers : Numbers) (old : Heap) (list : CountedList) (files : Files) (key : ℕ) (desc : Desc) → object old.descs key ≡ Some desc
+    → AreOpen numbers old list files
+    → AreOpen numbers (described old (put old.descs key (counting desc (desc.count + 1)))) (after_share list (numbers.descs key)) files
+open_shared numbers old list files key desc there are = record {
+  described = shared_described numbers old.descs list key desc there are.described;
+  descriptions = are.descriptions ∙ sym (uncounted-shared list (numbers.descs key));
+  piped = piped_beside numbers old (put old.descs key (counting desc (desc.count + 1))) files.pipes are.piped;
+  socketed = socketed_beside numbers old (put old.descs key (counting desc (desc.count + 1))) files.sockets are.socketed;
+}
+
+-- where another descriptor names it still
+pub drops_more : (old new : Heap) (key : ℕ) (desc : Desc) → 1 < desc.count → new ≡ described old (descs_left old.descs key desc) → Drops old new key desc
+drops_more old new key desc more is = record {
+  descs = ap (λ (h : Heap). h.descs) is;
+  stays = λ still. subst (λ (h : Heap). h ≡ described old h.descs) (sym is) refl;
+  closes = λ last. absurd (omega (arith, more, last));
+}
+
+-- with the last one
+pub drops_last : (old new : Heap) (key : ℕ) (desc : Desc) → desc.count ≡ 1 → new.descs ≡ descs_left old.descs key desc → TargetCloses old new desc.access desc.target → Drops old new key desc
+drops_last old new key desc last descs closes = record {
+  descs = descs;
+  stays = λ more. absurd (omega (arith, more, last));
+  closes = λ is. closes;
+}

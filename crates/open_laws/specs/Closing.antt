@@ -12,7 +12,7 @@ use Rattle.posix_defs.specs.Sockets.{Sockets, after_close as sockets_after_close
 use Rattle.posix_defs.specs.Files.Descriptions.{may_write}
 use Rattle.pipe_ends.specs.Standing.{StandsFor as PipeStandsFor, HasEndAt, place_with, LeavesOthers as LeavesOtherPipes}
 use Rattle.usock_core.specs.Standing.{StandsFor as SocketsStandFor, IsClosableIn, IsHeldIn, QueuesStay, LeavesOthers as LeavesOtherThanSockets}
-use Rattle.open_laws.specs.Described.{access_in}
+use Rattle.open_laws.specs.Described.{access_in, descs_left}
 
 -- the target of a description can be closed: the side of a pipe that it opens has an end, and a socket waits in no backlog
 abbrev pub IsClosable : Heap → HeldAccess → HeldTarget → Type 0
@@ -52,3 +52,10 @@ TargetCloses old new access (target.Sock key) = SocketCloses old new key
 -- of the heap's objects only pipes, sockets and chunks are others
 abbrev pub QueuesChange : Heap → Heap → Type 0
 QueuesChange old new = new ≡ record old { pipes = new.pipes; chunks = new.chunks; socks = new.socks }
+
+-- A descriptor fewer names a Desc. Where another one names it still, its count falls and nothing else is other than before; with
+-- the last one it goes, and what it was open on is closed.
+pub record Drops (old new : Heap) (key : ℕ) (desc : Desc) : Type 0 where
+  pub descs : new.descs ≡ descs_left old.descs key desc
+  pub stays : 1 < desc.count → new ≡ record old { descs = new.descs }
+  pub closes : desc.count ≡ 1 → TargetCloses old new desc.access desc.target

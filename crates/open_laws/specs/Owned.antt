@@ -1,6 +1,6 @@
 -- Who owns what is open in the heap: Descs are named by descriptors, the ends of a pipe by Descs, and a socket by a Desc or by
 -- the backlog that it waits in.
-use Rattle.std.specs.Prelude.{◌≡◌, ◌≢◌, ◌+◌, ◌<◌, ◌==◌, ◌&&◌, ℕ, Bool, true, false, List, [], ◌∷◌, Option, None, Some, count_by, sum_by}
+use Rattle.std.specs.Prelude.{◌≡◌, ◌≢◌, ◌+◌, ◌<◌, ◌==◌, ◌&&◌, ℕ, Bool, false, List, [], ◌∷◌, Option, None, Some, count_by, sum_by}
 use Rattle.kheap_shelves.specs.Objects.{object, InUse}
 use Rattle.kheap_shelves.specs.declared.objects.Access.{Access}
 use Rattle.kheap_shelves.specs.declared.objects.Access.TheVariants.{Both}

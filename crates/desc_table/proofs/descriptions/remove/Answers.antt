@@ -13,10 +13,12 @@ use Rattle.desc_table.proofs.descriptions.remove.Goals as goal
 pub close_target-requires : goal.close_target-requires
 close_target-requires c =
     let descs = without c.args.heap.now.descs c.args.key in
-    subst (λ (h : Heap). OwnsItsObjects h × (IsClosable h c.args.found.access c.args.found.target × Unit {0})) (sym c.free_desc-gone.ensures.kept) (
-      OwnsItsObjects-along c.args.heap.now (described c.args.heap.now descs) refl refl refl refl refl refl c.requires.owned,
-      (closable_without c.args.heap.now descs c.args.found.access c.args.found.target c.requires.closable, tt),
-    )
+    record {
+      owned = subst (λ (h : Heap). OwnsItsObjects h) (sym c.free_desc-gone.ensures.kept)
+          (OwnsItsObjects-along c.args.heap.now (described c.args.heap.now descs) refl refl refl refl refl refl c.requires.owned);
+      there = subst (λ (h : Heap). IsClosable h c.args.found.access c.args.found.target) (sym c.free_desc-gone.ensures.kept)
+          (closable_without c.args.heap.now descs c.args.found.access c.args.found.target c.requires.closable);
+    }
 
 pub returns-clause-left : goal.returns-clause-left
 returns-clause-left c =
