@@ -1,0 +1,5 @@
+pub mod CloseLemmas
+pub mod DescribedLemmas
+pub mod DropLemmas
+pub mod PipeLemmas
+pub mod SocketLemmas
