@@ -1,4 +1,4 @@
-ghost use Rattle.std.specs.Prelude.{◌≡◌, ◌+◌, ◌<◌, Some};
+ghost use Rattle.std.specs.Prelude.{◌≡◌, ◌+◌, ◌<◌, ℕ, List, ◌∷◌, Some};
 ghost use Rattle.kheap_shelves.specs.Objects.{object, InUse, put};
 ghost use Rattle.kheap_shelves.specs.declared.objects.Desc.{Desc as HeldDesc};
 ghost use Rattle.kheap_slabs.specs.Owners.{OwnsItsObjects};
@@ -9,6 +9,7 @@ ghost use Rattle.place_laws.specs.Placed.{Numbers};
 ghost use Rattle.open_laws.specs.Closing.{IsClosable, IsDroppable, Drops, TargetCloses, EndCloses, SocketCloses, QueuesChange};
 ghost use Rattle.open_laws.specs.Described.{CountedList, access_in, counting, after_share, after_drop, node_in, node_left, descs_left};
 ghost use Rattle.open_laws.specs.Open.{AreOpen, files_dropped};
+ghost use Rattle.open_laws.specs.Owned.{HasItsOwners};
 ghost use Rattle.pipe_ends.specs.Standing.{HasEndAt};
 ghost use Rattle.usock_core.specs.Standing.{IsClosableIn};
 
@@ -23,6 +24,7 @@ pub fn share_desc(heap: &mut KHeap, desc: u32)
     requires small { (found : HeldDesc) → object heap.old.descs desc ≡ Some found → found.count < 4294967295 }
     ensures opened { (numbers : Numbers) (list : CountedList) (files : Files) → AreOpen numbers heap.old list files
         → AreOpen numbers heap.new (after_share list (numbers.descs desc)) files }
+    ensures owners { (hand : List ℕ) → HasItsOwners heap.old hand → HasItsOwners heap.new (desc ∷ hand) }
     ensures kept { (found : HeldDesc) → object heap.old.descs desc ≡ Some found
         → heap.new ≡ record heap.old { descs = put heap.old.descs desc (counting found (found.count + 1)) } }
     ensures owned { OwnsItsObjects heap.old → OwnsItsObjects heap.new }
@@ -49,6 +51,7 @@ pub fn drop_desc(heap: &mut KHeap, desc: u32) -> Option<u32>
     ensures drops { (found : HeldDesc) → object heap.old.descs desc ≡ Some found → Drops heap.old heap.new desc found }
     ensures opened { (numbers : Numbers) (list : CountedList) (files : Files) → AreOpen numbers heap.old list files
         → AreOpen numbers heap.new (after_drop list (numbers.descs desc)) (files_dropped files list (numbers.descs desc)) }
+    ensures owners { (hand : List ℕ) → HasItsOwners heap.old (desc ∷ hand) → HasItsOwners heap.new hand }
     ensures owned { OwnsItsObjects heap.new }
     ensures kept { heap.new
         ≡ record heap.old { descs = heap.new.descs; pipes = heap.new.pipes; chunks = heap.new.chunks; socks = heap.new.socks } }

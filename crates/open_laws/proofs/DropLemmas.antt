@@ -51,10 +51,10 @@ socketed_on numbers old new sockets same keeps are = record {
 }
 
 -- what keeps its bytes in a heap with other Descs keeps them
-pipe_keeps : (old new : Heap) (descs : List (Option Desc)) (key : ℕ) → PipeKeepsBytes (described old descs) new key → PipeKeepsBytes old new key
+pub pipe_keeps : (old new : Heap) (descs : List (Option Desc)) (key : ℕ) → PipeKeepsBytes (described old descs) new key → PipeKeepsBytes old new key
 pipe_keeps old new descs key keeps held bytes is has = keeps held bytes is (HasBytes-same old (described old descs) held.queue bytes refl has)
 
-sock_keeps : (old new : Heap) (descs : List (Option Desc)) (key : ℕ) → SockKeepsBytes (described old descs) new key → SockKeepsBytes old new key
+pub sock_keeps : (old new : Heap) (descs : List (Option Desc)) (key : ℕ) → SockKeepsBytes (described old descs) new key → SockKeepsBytes old new key
 sock_keeps old new descs key keeps held bytes is has = keeps held bytes is (HasBytes-same old (described old descs) held.queue bytes refl has)
 
 -- other Descs alone leave pipes and sockets
@@ -136,7 +136,7 @@ description_in (first ∷ list) zero = refl
 description_in (first ∷ list) (suc place) = description_in list place
 
 -- the Desc that is meant is the one that a key names
-named_one : (old : Heap) (key : ℕ) (desc : Desc) → object old.descs key ≡ Some desc → (is : IsDroppable old key) → is.desc ≡ desc
+pub named_one : (old : Heap) (key : ℕ) (desc : Desc) → object old.descs key ≡ Some desc → (is : IsDroppable old key) → is.desc ≡ desc
 named_one old key desc there is = one_desc old.descs key is.desc desc is.there there
 
 pub open_dropped : (numbers : Numbers) (old new : Heap) (list : CountedList) (files : Files) (key : ℕ) (desc : Desc) → object old.descs key ≡ Some desc → IsDroppable old key → Drops old new key desc

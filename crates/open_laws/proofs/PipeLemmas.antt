@@ -21,7 +21,7 @@ use Rattle.open_laws.proofs.CloseLemmas.{described}
 abbrev Says : Heap → ℕ → HeldPipe → Pipe → Type 0
 Says h key held pipe = (at : ℕ) × StandsFor h key pipe at
 
-other_stands : (old new : Heap) (key other : ℕ) (writing : Bool) (pipe : Pipe) (at : ℕ) → other ≢ key → EndCloses old new key writing → StandsFor old other pipe at → StandsFor new other pipe at
+pub other_stands : (old new : Heap) (key other : ℕ) (writing : Bool) (pipe : Pipe) (at : ℕ) → other ≢ key → EndCloses old new key writing → StandsFor old other pipe at → StandsFor new other pipe at
 other_stands old new key other writing pipe at apart closes stands =
     stands_on old new other pipe at (closes.others.objects other (λ there. apart (sym (Contains-single key other there))))
     (λ held bytes is has. closes.others.pipes other apart held bytes is (HasBytes-same old (described old new.descs) held.queue bytes refl has)) stands

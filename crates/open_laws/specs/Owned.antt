@@ -94,13 +94,17 @@ IsThereFor h access (target.Inode number) = Unit {0}
 IsThereFor h access (target.Pipe key) = InUse h.pipes key × (access ≢ Both)
 IsThereFor h access (target.Sock key) = InUse h.socks key
 
--- All objects of the heap but what caches keep have their owners: processes their nodes, page entries their pages, queues
--- their chunks, descriptors the Descs, also those in hand; Descs the ends of pipes; and a socket is one Desc's or waits.
-pub record HasItsOwners (h : Heap) (hand : List ℕ) : Type 0 where
-  pub objects : OwnsItsObjects h
-  pub named : CountsItsNames h hand
+-- What Descs are open on is there; a pipe has the ends that Descs are open on, and a socket is one Desc's or waits for a listener.
+pub record IsHeldOpen (h : Heap) : Type 0 where
   pub targets : (key : ℕ) (desc : Desc) → object h.descs key ≡ Some desc → IsThereFor h desc.access desc.target
   pub pipes : (key : ℕ) (pipe : Pipe) → object h.pipes key ≡ Some pipe → HasItsEnds h.descs key pipe
   pub stand : (key : ℕ) → InUse h.pipes key → IsPipeAt h key
   pub socks : IsHeldIn h (socks_named h.descs)
   pub once : (one other sock : ℕ) → sock_in (object h.descs one) ≡ Some sock → sock_in (object h.descs other) ≡ Some sock → one ≡ other
+
+-- All objects of the heap but the processes and what caches keep have their owners: nodes, pages and chunks; Descs the descriptors
+-- that name them, also those in hand; pipes and sockets the Descs that are open on them.
+pub record HasItsOwners (h : Heap) (hand : List ℕ) : Type 0 where
+  pub objects : OwnsItsObjects h
+  pub named : CountsItsNames h hand
+  pub held : IsHeldOpen h

@@ -7,6 +7,7 @@ use Rattle.open_laws.specs.Closing.{IsClosable, Drops}
 use Rattle.open_laws.specs.Described.{descs_left, node_left}
 use Rattle.open_laws.proofs.CloseLemmas.{described}
 use Rattle.open_laws.proofs.DescribedLemmas.{one_desc, counts_alike, node_more, node_last}
+use Rattle.open_laws.proofs.OwnerLemmas.{owners_dropped}
 use Rattle.open_laws.proofs.DropLemmas.{open_dropped, drops_more, drops_last}
 use Rattle.desc_table.proofs.descriptions.drop_desc.Goals as goal
 
@@ -36,6 +37,14 @@ returns-then-found-gt1-clause-owned c =
 pub returns-then-found-gt1-clause-kept : goal.returns-then-found-gt1-clause-kept
 returns-then-found-gt1-clause-kept c =
     subst (λ (h : Heap). h ≡ record c.args.heap.now { descs = h.descs; pipes = h.pipes; chunks = h.chunks; socks = h.socks }) (sym c.name_less.ensures.left) refl
+
+pub returns-then-found-gt1-clause-owners : goal.returns-then-found-gt1-clause-owners
+returns-then-found-gt1-clause-owners c = λ hand owners.
+    let left = descs_left c.args.heap.now.descs c.args.desc c.get_desc-found.result.now in
+    let same = OwnsItsObjects-along c.args.heap.now (described c.args.heap.now left) refl refl refl refl refl refl c.requires.owned in
+    owners_dropped c.args.heap.now c.name_less.new.heap hand c.args.desc c.get_desc-found.result.now c.get_desc-found.ensures c.requires.there
+    (drops_more c.args.heap.now c.name_less.new.heap c.args.desc c.get_desc-found.result.now (omega arith) c.name_less.ensures.left)
+    (ap (λ (h : Heap). h.procs) c.name_less.ensures.left) (subst (λ (h : Heap). OwnsItsObjects h) (sym c.name_less.ensures.left) same) owners
 
 -- ---- no other does
 
@@ -73,3 +82,11 @@ returns-else-found-gt1-clause-opened c = λ numbers list files are.
     let alike = counts_alike c.args.heap.now.descs c.args.desc c.get_desc-found.result.now there.desc c.get_desc-found.ensures there.there in
     open_dropped numbers c.args.heap.now c.remove.new.heap list files c.args.desc c.get_desc-found.result.now c.get_desc-found.ensures there
     (drops_last c.args.heap.now c.remove.new.heap c.args.desc c.get_desc-found.result.now (omega (arith, alike, there.named)) c.remove.ensures.left c.remove.ensures.closes) are
+
+pub returns-else-found-gt1-clause-owners : goal.returns-else-found-gt1-clause-owners
+returns-else-found-gt1-clause-owners c = λ hand owners.
+    let there = c.requires.there in
+    let alike = counts_alike c.args.heap.now.descs c.args.desc c.get_desc-found.result.now there.desc c.get_desc-found.ensures there.there in
+    owners_dropped c.args.heap.now c.remove.new.heap hand c.args.desc c.get_desc-found.result.now c.get_desc-found.ensures there
+    (drops_last c.args.heap.now c.remove.new.heap c.args.desc c.get_desc-found.result.now (omega (arith, alike, there.named)) c.remove.ensures.left c.remove.ensures.closes)
+    (ap (λ (h : Heap). h.procs) c.remove.ensures.kept) c.remove.ensures.owned owners
