@@ -16,23 +16,24 @@ use Rattle.machine_laws.specs.Reached as reached
 use Rattle.machine_laws.proofs.Leading.{leads_on}
 use Rattle.machine_laws.proofs.Stepping.{step_of}
 
--- It holds at the beginning, and is kept by the answers to the calls that live processes make, by refusals and by kills.
+-- It holds at the beginning, and where it holds in a machine that is reached it is kept by the answers to the calls that live
+-- processes make, by refusals and by kills.
 pub record IsInductive (script : Script) (Holds : Plain → Type 0) : Type 0 where
   pub boot : Holds (boot_plain script)
-  pub answer : (plain : Plain) (pid : ℕ) → Holds plain → is_alive plain.table pid ≡ true → LeadsTo Holds (posix script plain pid (call_of script plain pid))
-  pub refuse : (plain : Plain) (pid : ℕ) → Holds plain → Holds (answered script plain pid (Fail ENOMEM))
-  pub kill : (plain : Plain) (pid status : ℕ) → Holds plain → Holds (die plain pid status)
+  pub answer : (plain : Plain) (pid : ℕ) → IsReached script plain → Holds plain → is_alive plain.table pid ≡ true → LeadsTo Holds (posix script plain pid (call_of script plain pid))
+  pub refuse : (plain : Plain) (pid : ℕ) → IsReached script plain → Holds plain → Holds (answered script plain pid (Fail ENOMEM))
+  pub kill : (plain : Plain) (pid status : ℕ) → IsReached script plain → Holds plain → Holds (die plain pid status)
 
 pub by_induction : (script : Script) (Holds : Plain → Type 0) → IsInductive script Holds → {plain : Plain} → IsReached script plain → Holds plain
 by_induction script Holds inductive reached.boots = inductive.boot
 by_induction script Holds inductive (reached.replies plain pid reply next before alive is) =
-    subst (LeadsTo Holds) is (inductive.answer plain pid (by_induction script Holds inductive before) alive)
+    subst (LeadsTo Holds) is (inductive.answer plain pid before (by_induction script Holds inductive before) alive)
 by_induction script Holds inductive (reached.moves plain pid moved next before alive is) =
-    subst (LeadsTo Holds) is (inductive.answer plain pid (by_induction script Holds inductive before) alive)
+    subst (LeadsTo Holds) is (inductive.answer plain pid before (by_induction script Holds inductive before) alive)
 by_induction script Holds inductive (reached.ends plain pid status next before alive is) =
-    subst (LeadsTo Holds) is (inductive.answer plain pid (by_induction script Holds inductive before) alive)
-by_induction script Holds inductive (reached.refuses plain pid before) = inductive.refuse plain pid (by_induction script Holds inductive before)
-by_induction script Holds inductive (reached.kills plain pid status before) = inductive.kill plain pid status (by_induction script Holds inductive before)
+    subst (LeadsTo Holds) is (inductive.answer plain pid before (by_induction script Holds inductive before) alive)
+by_induction script Holds inductive (reached.refuses plain pid before) = inductive.refuse plain pid before (by_induction script Holds inductive before)
+by_induction script Holds inductive (reached.kills plain pid status before) = inductive.kill plain pid status before (by_induction script Holds inductive before)
 
 -- what each step of files keeps each answer keeps
 pub answers_keep : (Holds : Files → Type 0) (script : Script) (plain : Plain) (pid : ℕ) (call : Call)

@@ -2,3 +2,8 @@ pub mod Items
 pub mod Closings
 pub mod Inductions
 pub mod Piping
+pub mod Surviving
+pub mod Halving
+pub mod Named
+pub mod Joining
+pub mod NodesAfter

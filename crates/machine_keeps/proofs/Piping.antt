@@ -24,8 +24,7 @@ use Rattle.machine_laws.specs.Reached.{IsReached}
 use Rattle.machine_laws.proofs.Places.{not_some, some_same, there_within, naming}
 use Rattle.machine_keeps.specs.Piped.{ArePiped, IsCounted, IsEnd, pipe_in}
 use Rattle.machine_keeps.proofs.Items.{changed_is, count_kept, count_less, count_none, count_pushed, count_some, pushed_front, pushed_is, some_is, some_there, true_false}
-use Rattle.machine_keeps.proofs.Closings.{close_holds, closed_by_holds, exec_holds}
-use Rattle.machine_keeps.proofs.Closings as closings
+use Rattle.machine_keeps.proofs.Closings.{IsClosedUnder, anybody, close_holds, closed_by_holds, exec_holds}
 use Rattle.machine_keeps.proofs.Inductions.{answers_keep, by_induction}
 
 abbrev Pipes : Type 0
@@ -430,8 +429,8 @@ write_fits pipe nonblock n m k part moves room =
 abbrev Holds : Files → Type 0
 Holds files = ArePiped files.descriptions files.pipes
 
-closes : closings.IsClosedUnder Holds
-closes = record { shut = λ files pid fd piped. piped; gone = λ files place description piped is. gone files place description piped is description.target refl }
+closes : IsClosedUnder anybody Holds
+closes = record { shut = λ files pid fd who piped. piped; gone = λ files place description piped is none. gone files place description piped is description.target refl }
   where
     gone : (files : Files) (place : ℕ) (description : Description) → Holds files → description_at files.descriptions place ≡ Some description → (target : Target) → description.target ≡ target
         → Holds (target_closed (with_descriptions files (with_description files.descriptions place None)) description.access target)
@@ -499,9 +498,9 @@ module _ (plain : Plain) (pid : ℕ) (call : Call) (next : Files) (piped : Holds
   step_piped : IsStep plain pid call next → Holds next
   step_piped (step.stays is) = same _ is refl refl
   step_piped (step.shares fd opened from to named free is) = same _ is refl refl
-  step_piped (step.shares_over fd to opened named may apart is) = by _ is (close_holds Holds closes plain.files pid (count_of to) piped)
+  step_piped (step.shares_over fd to opened named may apart is) = by _ is (close_holds anybody Holds closes plain.files pid (count_of to) tt piped)
   step_piped (step.marks fd opened cloexec named is) = same _ is refl refl
-  step_piped (step.closes fd opened named is) = by _ is (close_holds Holds closes plain.files pid (count_of fd) piped)
+  step_piped (step.closes fd opened named is) = by _ is (close_holds anybody Holds closes plain.files pid (count_of fd) tt piped)
   step_piped (step.describes fd opened description named target access is) = by _ is (described fd opened description named target access)
   step_piped (step.opens path flags fd found which free led is) = by _ is (one _ (λ q. refl) tt)
   step_piped (step.writes fd addr n done opened number at offset written reaches wrote is) = by _ is (described fd opened _ reaches.named refl refl)
@@ -524,9 +523,9 @@ module _ (plain : Plain) (pid : ℕ) (call : Call) (next : Files) (piped : Holds
   step_piped (step.accepts fd opened place to taken_one named on free first is) = by _ is (one _ (λ q. refl) tt)
   step_piped (step.receives fd addr n opened place k which named on moves is) = same _ is refl refl
   step_piped (step.sends fd addr n done opened place k which named on moves is) = same _ is refl refl
-  step_piped (step.starts is) = by _ is (exec_holds Holds closes plain.files pid piped)
+  step_piped (step.starts is) = by _ is (exec_holds anybody Holds closes plain.files pid tt piped)
   step_piped (step.forks which is) = same _ is refl refl
-  step_piped (step.ends who ending is) = by _ is (closed_by_holds Holds closes plain.files who piped)
+  step_piped (step.ends who ending is) = by _ is (closed_by_holds anybody Holds closes plain.files who (λ pid. tt) piped)
 
 -- ---- answers
 
@@ -534,7 +533,7 @@ pub answers_piped : (script : Script) (plain : Plain) (pid : ℕ) (call : Call) 
 answers_piped script plain pid call piped = answers_keep Holds script plain pid call (λ next stepped. step_piped plain pid call next piped stepped)
 
 pub die_piped : (plain : Plain) (pid status : ℕ) → Holds plain.files → Holds (die plain pid status).files
-die_piped plain pid status piped = closed_by_holds Holds closes plain.files pid piped
+die_piped plain pid status piped = closed_by_holds anybody Holds closes plain.files pid (λ pid. tt) piped
 
 pub boot_piped : (script : Script) → Holds (boot_plain script).files
 boot_piped script = record { ends = λ place description is. absurd (not_some refl is); counted = λ place pipe is. absurd (not_some refl is); some_end = λ place pipe is. absurd (not_some refl is) }
@@ -542,7 +541,7 @@ boot_piped script = record { ends = λ place description is. absurd (not_some re
 pub reached_piped : (script : Script) (plain : Plain) → IsReached script plain → Holds plain.files
 reached_piped script plain reached = by_induction script (λ plain. Holds plain.files) (record {
   boot = boot_piped script;
-  answer = λ plain pid piped alive. answers_piped script plain pid (call_of script plain pid) piped;
-  refuse = λ plain pid piped. piped;
-  kill = die_piped;
+  answer = λ plain pid reached piped alive. answers_piped script plain pid (call_of script plain pid) piped;
+  refuse = λ plain pid reached piped. piped;
+  kill = λ plain pid status reached piped. die_piped plain pid status piped;
 }) reached

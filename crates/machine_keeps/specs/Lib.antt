@@ -1,1 +1,2 @@
 pub mod Piped
+pub mod Joined

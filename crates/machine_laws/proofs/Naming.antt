@@ -303,7 +303,7 @@ marked_told files pid fd old cloexec told held = record {
 
 -- ---- closing
 
-target_descriptions : (files : Files) (access : Access) (target : Target) → (target_closed files access target).descriptions ≡ files.descriptions
+pub target_descriptions : (files : Files) (access : Access) (target : Target) → (target_closed files access target).descriptions ≡ files.descriptions
 target_descriptions files access (OnNode number) = go (opens files number)
   where
     go : (b : Bool) → (cond b files (with_tree files (closed files.tree number))).descriptions ≡ files.descriptions

@@ -161,7 +161,7 @@ die_placed plain pid status placed = record {
     ended (suc (suc n)) who gone = one (suc (suc n)) who gone (end_none plain.files (suc (suc n)) before.places)
 
 -- a process in another directory is as alive as before
-alive_moved : (table : Table) (pid directory who : ℕ) → is_alive table pid ≡ true → is_alive (with_directory table pid directory) who ≡ is_alive table who
+pub alive_moved : (table : Table) (pid directory who : ℕ) → is_alive table pid ≡ true → is_alive (with_directory table pid directory) who ≡ is_alive table who
 alive_moved table pid directory who alive = elim (eqb_tells who pid) [
   | inl alike ↦ ap (is_alive (with_directory table pid directory)) alike.1 ∙ own ∙ sym (ap (is_alive table) alike.1)
   | inr apart ↦ ap is_alive_in (with_other table pid who (working_in directory (process_at table pid)) apart.1)
