@@ -11,7 +11,7 @@ use Rattle.posix_defs.specs.Machine.{answer_to, unless_wrong}
 use Rattle.posix_defs.specs.Plain.{Plain}
 use Rattle.posix_defs.specs.declared.turner.Turned.{Turned}
 use Rattle.store_objects.specs.declared.objects.Objects.{Objects}
-use Rattle.store_objects.specs.Standing.{Does, MakesNothing}
+use Rattle.store_objects.specs.Standing.{Performs}
 
 -- a wrong operand is told
 pub wrong_told : (script : Script) (plain : Plain) (pid : ℕ) (fault : Option Errno) (errno : Errno) (answer : Answer) → fault ≡ Some errno
@@ -23,46 +23,40 @@ pub right_told : (script : Script) (plain : Plain) (pid : ℕ) (fault : Option E
 right_told script plain pid fault answer is = ap (λ f. unless_wrong script plain pid f answer) is
 
 -- a call is answered as the machine answers it where no operand is wrong
-abbrev pub DoesCall : Script → Objects → ℕ → Call → Turned → Objects → Type 0
-DoesCall script old pid which told new = Does script old pid which (λ plain. answer_to script plain pid which) told new
+abbrev pub PerformsCall : Script → Objects → ℕ → Call → Turned → Objects → Type 0
+PerformsCall script old pid which told new = Performs script old pid which (λ plain. answer_to script plain pid which) told new
 
 pub does_that : (script : Script) (old new : Objects) (pid : ℕ) (which that : Call) (told : Turned) → which ≡ that
-    → DoesCall script old pid that told new → DoesCall script old pid which told new
-does_that script old new pid which that told is does = subst (λ w. DoesCall script old pid w told new) (sym is) does
+    → PerformsCall script old pid that told new → PerformsCall script old pid which told new
+does_that script old new pid which that told is does = subst (λ w. PerformsCall script old pid w told new) (sym is) does
 
 -- what a call with one operand does, where the operand is handed on as a number of 64 bits
 pub does_one : (script : Script) (old new : Objects) (pid : ℕ) (which : Call) (told : Turned) (of : ℤ → Call) (a : ℤ) → which ≡ of a → to_z w64 (of_z w64 a) ≡ a
-    → DoesCall script old pid (of (to_z w64 (of_z w64 a))) told new → DoesCall script old pid which told new
+    → PerformsCall script old pid (of (to_z w64 (of_z w64 a))) told new → PerformsCall script old pid which told new
 does_one script old new pid which told of a is one does = does_that script old new pid which (of (to_z w64 (of_z w64 a))) told (is ∙ ap of (sym one)) does
 
 -- and one with two
 pub does_two : (script : Script) (old new : Objects) (pid : ℕ) (which : Call) (told : Turned) (of : ℤ → ℤ → Call) (a b : ℤ) → which ≡ of a b
     → to_z w64 (of_z w64 a) ≡ a → to_z w64 (of_z w64 b) ≡ b
-    → DoesCall script old pid (of (to_z w64 (of_z w64 a)) (to_z w64 (of_z w64 b))) told new → DoesCall script old pid which told new
+    → PerformsCall script old pid (of (to_z w64 (of_z w64 a)) (to_z w64 (of_z w64 b))) told new → PerformsCall script old pid which told new
 does_two script old new pid which told of a b is one other does =
     does_that script old new pid which (of (to_z w64 (of_z w64 a)) (to_z w64 (of_z w64 b))) told
     (is ∙ ap (λ z. of z b) (sym one) ∙ ap (of (to_z w64 (of_z w64 a))) (sym other)) does
 
--- a call that makes nothing and is none of these isn't built
-pub others_fail : (script : Script) (plain : Plain) (pid : ℕ) (which : Call) → MakesNothing which → (which ≡ call.Getpid → ⊥) → (which ≡ call.Getppid → ⊥) → (which ≡ call.SchedYield → ⊥)
+-- a call that is none of these isn't built
+pub others_fail : (script : Script) (plain : Plain) (pid : ℕ) (which : Call) → (which ≡ call.Fork → ⊥) → ((a : ℤ) → which ≡ call.Mmap a → ⊥) → ((a : ℤ) (bytes : List ℕ) → which ≡ call.Store a bytes → ⊥)
+    → (which ≡ call.Getpid → ⊥) → (which ≡ call.Getppid → ⊥) → (which ≡ call.SchedYield → ⊥)
     → ((a : ℤ) → which ≡ call.Exit a → ⊥) → ((a b : ℤ) → which ≡ call.Waitpid a b → ⊥) → ((a b : ℤ) → which ≡ call.Kill a b → ⊥) → ((a b : ℤ) → which ≡ call.Munmap a b → ⊥)
     → ((a b : ℤ) → which ≡ call.Load a b → ⊥) → answer_to script plain pid which ≡ failed script plain pid EINVAL
-others_fail script plain pid call.Fork free p q y e w k u l = absurd free
-others_fail script plain pid (call.Mmap length) free p q y e w k u l = absurd free
-others_fail script plain pid (call.Store addr bytes) free p q y e w k u l = absurd free
-others_fail script plain pid call.Getpid free p q y e w k u l = absurd (p refl)
-others_fail script plain pid call.Getppid free p q y e w k u l = absurd (q refl)
-others_fail script plain pid call.SchedYield free p q y e w k u l = absurd (y refl)
-others_fail script plain pid (call.Exit a) free p q y e w k u l = absurd (e a refl)
-others_fail script plain pid (call.Waitpid a b) free p q y e w k u l = absurd (w a b refl)
-others_fail script plain pid (call.Kill a b) free p q y e w k u l = absurd (k a b refl)
-others_fail script plain pid (call.Munmap a b) free p q y e w k u l = absurd (u a b refl)
-others_fail script plain pid (call.Load a b) free p q y e w k u l = absurd (l a b refl)
-others_fail script plain pid _ free p q y e w k u l = refl
-
--- a call that is none of those that make something
-pub makes_none : (which : Call) → (which ≡ call.Fork → ⊥) → ((a : ℤ) → which ≡ call.Mmap a → ⊥) → ((a : ℤ) (bytes : List ℕ) → which ≡ call.Store a bytes → ⊥) → MakesNothing which
-makes_none call.Fork f m s = absurd (f refl)
-makes_none (call.Mmap length) f m s = absurd (m length refl)
-makes_none (call.Store addr bytes) f m s = absurd (s addr bytes refl)
-makes_none _ f m s = tt
+others_fail script plain pid call.Fork f m s p q y e w k u l = absurd (f refl)
+others_fail script plain pid (call.Mmap length) f m s p q y e w k u l = absurd (m length refl)
+others_fail script plain pid (call.Store addr bytes) f m s p q y e w k u l = absurd (s addr bytes refl)
+others_fail script plain pid call.Getpid f m s p q y e w k u l = absurd (p refl)
+others_fail script plain pid call.Getppid f m s p q y e w k u l = absurd (q refl)
+others_fail script plain pid call.SchedYield f m s p q y e w k u l = absurd (y refl)
+others_fail script plain pid (call.Exit a) f m s p q y e w k u l = absurd (e a refl)
+others_fail script plain pid (call.Waitpid a b) f m s p q y e w k u l = absurd (w a b refl)
+others_fail script plain pid (call.Kill a b) f m s p q y e w k u l = absurd (k a b refl)
+others_fail script plain pid (call.Munmap a b) f m s p q y e w k u l = absurd (u a b refl)
+others_fail script plain pid (call.Load a b) f m s p q y e w k u l = absurd (l a b refl)
+others_fail script plain pid _ f m s p q y e w k u l = refl

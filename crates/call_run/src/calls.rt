@@ -1,18 +1,17 @@
 //! A case for each call. A turn of every call stands to the plain machine's definition of its call.
 
-ghost use Rattle.std.specs.Prelude.{◌≡◌, ◌+◌, ◌≤◌, None, option_copied};
+ghost use Rattle.std.specs.Prelude.{◌≡◌, ◌≢◌, ◌+◌, ◌≤◌, ℤ, List, ℕ, None, option_copied};
 ghost use Rattle.kabi_calls.specs.Arguments.{argument_fault};
 ghost use Rattle.kabi_calls.specs.declared.calls.Call.{Call};
 ghost use Rattle.kabi_types.specs.declared.scripts.Script.{Script};
 ghost use Rattle.kheap_slabs.specs.Heap.{live_bytes};
-ghost use Rattle.posix_defs.specs.Memory.{Frames};
 ghost use Rattle.posix_defs.specs.Machine.{answer_to, blocks, machine};
 ghost use Rattle.posix_defs.specs.Needs.{bound, need_of, slack};
-ghost use Rattle.posix_defs.specs.Plain.{Plain};
+ghost use Rattle.posix_defs.specs.World.{World};
 ghost use Rattle.proc_table.specs.Table.{Holds};
 ghost use Rattle.prog_ctl.specs.Waits.{wait_of};
 ghost use Rattle.store_objects.specs.Objects.{AreKept, IsCaller};
-ghost use Rattle.store_objects.specs.Standing.{Does, MakesNothing, StandFor};
+ghost use Rattle.store_objects.specs.Standing.{Performs, StandsFor};
 ghost use Rattle.store_objects.specs.Uses.{UsesAtMost};
 
 use kabi_types::{Call, Errno, Need, Reply, Script, may_wait};
@@ -37,7 +36,7 @@ fn run_right(
     requires room { live_bytes objects.old.heap + bound call.now ≤ objects.old.heap.heap }
     ensures kept { AreKept script.now objects.new }
     ensures uses { UsesAtMost objects.old.heap objects.new.heap (bound call.now) (slack call.now) }
-    ensures does { Does script.now objects.old caller.now.pid call.now (λ plain. answer_to script.now plain caller.now.pid call.now) result objects.new }
+    ensures does { Performs script.now objects.old caller.now.pid call.now (λ plain. answer_to script.now plain caller.now.pid call.now) result objects.new }
 {
     let pid = caller.pid;
     let control = caller.control;
@@ -57,10 +56,12 @@ fn run_free(script: &Script, objects: &mut Objects, caller: &Caller, call: &Call
     requires kept { AreKept script.now objects.old }
     requires caller { IsCaller objects.old caller.now.pid caller.now }
     requires right { argument_fault call.now ≡ None }
-    requires free { MakesNothing call.now }
+    requires not_fork { call.now ≢ Call.Fork }
+    requires not_mmap { (length : ℤ) → call.now ≢ Call.Mmap length }
+    requires not_store { (addr : ℤ) (bytes : List ℕ) → call.now ≢ Call.Store addr bytes }
     ensures kept { AreKept script.now objects.new }
     ensures uses { UsesAtMost objects.old.heap objects.new.heap 0 (slack call.now) }
-    ensures does { Does script.now objects.old caller.now.pid call.now (λ plain. answer_to script.now plain caller.now.pid call.now) result objects.new }
+    ensures does { Performs script.now objects.old caller.now.pid call.now (λ plain. answer_to script.now plain caller.now.pid call.now) result objects.new }
 {
     let pid = caller.pid;
     let control = caller.control;
@@ -103,7 +104,7 @@ pub fn run(
     requires room { live_bytes objects.old.heap + bound call.now ≤ objects.old.heap.heap }
     ensures kept { AreKept script.now objects.new }
     ensures uses { UsesAtMost objects.old.heap objects.new.heap (bound call.now) (slack call.now) }
-    ensures does { Does script.now objects.old caller.now.pid call.now (λ plain. machine script.now plain caller.now.pid call.now) result objects.new }
+    ensures does { Performs script.now objects.old caller.now.pid call.now (λ plain. machine script.now plain caller.now.pid call.now) result objects.new }
 {
     match call.checked() {
         Ok(()) => run_right(script, objects, caller, call, need),
@@ -121,8 +122,8 @@ pub fn run(
 /// never blocks, and none that is built waits for anything but a child.
 pub fn would_block(objects: &Objects, pid: u32, wait: Option<&Awaited>) -> bool
     requires { Holds objects.now.heap objects.now.procs }
-    ensures { (script : Script) (plain : Plain) (account : Frames) → StandFor script objects.now plain account
-        → (call : Call) → option_copied wait.entry ≡ wait_of call → result ≡ blocks (machine script plain pid call) }
+    ensures { (script : Script) (world : World) → StandsFor script objects.now world
+        → (call : Call) → option_copied wait.entry ≡ wait_of call → result ≡ blocks (machine script world.plain pid call) }
 {
     match wait {
         Some(

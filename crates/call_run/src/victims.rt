@@ -5,12 +5,11 @@ ghost use Rattle.std.specs.List.{All};
 ghost use Rattle.kabi_types.specs.declared.scripts.Script.{Script};
 ghost use Rattle.kheap_slabs.specs.Heap.{IsWellFormed};
 ghost use Rattle.kheap_slabs.specs.Spaces.{OwnsNodes};
-ghost use Rattle.posix_defs.specs.Plain.{Plain};
 ghost use Rattle.posix_defs.specs.Victim.{victim_of};
-ghost use Rattle.posix_defs.specs.World.{Account};
+ghost use Rattle.posix_defs.specs.World.{World};
 ghost use Rattle.victim_core.specs.Victims.{IsInRange};
 ghost use Rattle.store_objects.specs.Objects.{AreKept, procs_of};
-ghost use Rattle.store_objects.specs.Standing.{StandFor};
+ghost use Rattle.store_objects.specs.Standing.{StandsFor};
 ghost use Rattle.call_run.specs.Weights.{has_frame, weight_in, weights_in};
 
 use arrayvec::ArrayVec;
@@ -100,8 +99,7 @@ pub fn victim<F: Scorer, G: Scorer>(
     objects: &Objects,
 ) -> Option<u32>
     requires kept { (script : Script) × AreKept script objects.now }
-    ensures { (script : Script) (plain : Plain) (account : Account) → StandFor script objects.now plain account.frames
-        → result ≡ victim_of policy plain account }
+    ensures { (script : Script) (world : World) → StandsFor script objects.now world → result ≡ victim_of policy world.plain world.account }
 {
     objects.heap_is_well_formed();
     score.choose(policy, weights_of(objects).as_slice())

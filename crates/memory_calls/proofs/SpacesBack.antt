@@ -7,11 +7,12 @@ use Rattle.kabi_types.specs.declared.scripts.Script.{Script}
 use Rattle.kheap_shelves.specs.declared.objects.Proc.{Proc}
 use Rattle.kheap_slabs.specs.Heap.{Heap}
 use Rattle.page_space.specs.Accounts.{AccountMoves}
-use Rattle.page_space.specs.Contents.{StandsFor}
+use Rattle.page_space.specs.Contents.{StandsFor as IsMemory}
 use Rattle.posix_defs.specs.Memory.{Frames, Memory}
 use Rattle.posix_defs.specs.MemoryCalls.{remembered}
 use Rattle.posix_defs.specs.Plain.{Plain}
 use Rattle.posix_defs.specs.Process.{memory_in, memory_of}
+use Rattle.posix_defs.specs.World.{World}
 use Rattle.kern_laws.proofs.Remembering.{found_before, remembers_family}
 use Rattle.proc_table.specs.Accounting.{HasAccount}
 use Rattle.proc_table.specs.Changes.{with_nodes}
@@ -23,7 +24,8 @@ use Rattle.proc_table.proofs.FamilyLemmas.{process_is}
 use Rattle.proc_table.proofs.LawLemmas.{back-account, back-moves, back-procs, back-table}
 use Rattle.store_objects.specs.declared.objects.Objects.{Objects}
 use Rattle.store_objects.specs.Objects.{AreAtCalls, AreKept, IsAtCall, Runs, procs_of}
-use Rattle.store_objects.specs.Standing.{StandFor}
+use Rattle.store_objects.specs.Standing.{AreProcesses, StandsFor, remembered_in}
+use Rattle.store_objects.proofs.Families.{fronts_on}
 use Rattle.store_objects.proofs.GoingOn.{some_same}
 use Rattle.store_objects.proofs.Keeping.{kept_on}
 
@@ -105,27 +107,33 @@ runs_back script old new mid pid key proc now kept turns same control runs =
     }
 
 -- what a process has in memory
-pub memory_here : (script : Script) (objects : Objects) (plain : Plain) (account : Frames) (pid : ℕ) (proc : Proc) → StandFor script objects plain account
+pub memory_here : (script : Script) (objects : Objects) (plain : Plain) (pid : ℕ) (proc : Proc) → AreProcesses script objects plain
     → proc_of (procs_of objects) pid ≡ Some proc → memory_of plain.table pid ≡ memory_at objects.heap proc.nodes
-memory_here script objects plain account pid proc stands found =
-    ap memory_in (process_is objects.heap plain.table (procs_of objects) pid stands.table.present ∙ ap (option_map (process_of objects.heap)) found)
+memory_here script objects plain pid proc are found =
+    ap memory_in (process_is objects.heap plain.table (procs_of objects) pid are.table.present ∙ ap (option_map (process_of objects.heap)) found)
 
--- The objects stand for the machine with another memory.
-pub stand_back : (script : Script) (old new : Objects) (mid : Heap) (pid key : ℕ) (proc : Proc) (now : List (Option ℕ)) (plain : Plain) (account after : Frames) (memory : Memory)
-    → Holds old.heap old.procs → (stands : StandFor script old plain account) → SpaceTurns old.heap mid new.heap old.procs pid key proc now → new.procs ≡ old.procs
-    → StandsFor mid now memory → length memory ≡ 256 → AccountMoves old.heap mid proc.nodes now stands.accounted.number account after pid
-    → StandFor script new (remembered plain pid memory) after
-stand_back script old new mid pid key proc now plain account after memory holds stands turns same is whole moved = record {
-  table = subst (λ k. IsTable new.heap k (remembered plain pid memory).table) (sym same)
-      (back-table old.heap mid new.heap old.procs pid key proc now holds turns plain.table memory is whole stands.table);
-  last = ap (λ k. k.last) same ∙ stands.last;
-  family = remembers_family plain.table pid memory stands.family;
-  home = λ q process e. let old = found_before plain.table pid q memory process e in old.2.directory ∙ stands.home q old.0 old.1;
-  controls = λ q it found up.
-      let old_one = was pid now (proc_of (procs_of old) q) it
-      (sym (found_with (procs_of old) pid now q) ∙ ap (λ ps. proc_of ps q) (sym (procs_back script old new mid pid key proc now holds turns same)) ∙ found) in
-      stands.controls q old_one.0 old_one.1 (sym old_one.2.status ∙ up) ∙ sym old_one.2.control;
-  accounted = subst (λ k. HasAccount new.heap k after) (sym same)
-      (back-account old.heap mid new.heap old.procs pid key proc now holds turns account after stands.accounted moved);
-  bare = stands.bare;
+-- The objects stand for the world with another memory.
+pub stand_back : (script : Script) (old new : Objects) (mid : Heap) (pid key : ℕ) (proc : Proc) (now : List (Option ℕ)) (world : World) (after : Frames) (memory : Memory)
+    → (stands : StandsFor script old world) → SpaceTurns old.heap mid new.heap old.procs pid key proc now → new.procs ≡ old.procs → length now ≡ 4
+    → IsMemory mid now memory → length memory ≡ 256 → AccountMoves old.heap mid proc.nodes now stands.memory.number world.account.frames after pid
+    → StandsFor script new (remembered_in world pid memory after)
+stand_back script old new mid pid key proc now world after memory stands turns same four is whole moved = record {
+  kept = kept_back script old new mid pid key proc now stands.kept turns same four;
+  processes = record {
+    table = subst (λ k. IsTable new.heap k (remembered world.plain pid memory).table) (sym same)
+        (back-table old.heap mid new.heap old.procs pid key proc now stands.kept.holds turns world.plain.table memory is whole stands.processes.table);
+    last = ap (λ k. k.last) same ∙ stands.processes.last;
+    controls = λ q it found up.
+        let old_one = was pid now (proc_of (procs_of old) q) it
+        (sym (found_with (procs_of old) pid now q) ∙ ap (λ ps. proc_of ps q) (sym (procs_back script old new mid pid key proc now stands.kept.holds turns same)) ∙ found) in
+        stands.processes.controls q old_one.0 old_one.1 (sym old_one.2.status ∙ up) ∙ sym old_one.2.control;
+  };
+  memory = subst (λ k. HasAccount new.heap k after) (sym same)
+      (back-account old.heap mid new.heap old.procs pid key proc now stands.kept.holds turns world.account.frames after stands.memory moved);
+  files = stands.files;
+  fronts = fronts_on world.account (remembered_in world pid memory after).account refl refl stands.fronts;
+  caches = stands.caches;
+  reads = stands.reads;
+  family = remembers_family world.plain.table pid memory stands.family;
+  home = λ q process e. let old = found_before world.plain.table pid q memory process e in old.2.directory ∙ stands.home q old.0 old.1;
 }

@@ -8,27 +8,26 @@ use Rattle.kheap_shelves.specs.Objects.{object, put}
 use Rattle.kheap_shelves.specs.declared.objects.Proc.{Proc}
 use Rattle.kheap_slabs.specs.Heap.{Heap}
 use Rattle.page_space.specs.Accounts.{AccountMoves, IsAccounted}
-use Rattle.page_space.specs.Contents.{SpaceMoves, StandsFor}
+use Rattle.page_space.specs.Contents.{SpaceMoves, StandsFor as IsMemory}
 use Rattle.posix_defs.specs.Memory.{Frames, Memory}
-use Rattle.posix_defs.specs.MemoryCalls.{remembered}
 use Rattle.posix_defs.specs.Plain.{Plain}
 use Rattle.posix_defs.specs.Process.{memory_of}
+use Rattle.posix_defs.specs.World.{World}
 use Rattle.proc_table.specs.Moves.{SpaceTurns}
 use Rattle.proc_table.specs.Procs.{memory_at}
-use Rattle.proc_table.specs.Table.{Holds}
 use Rattle.proc_table.proofs.AccountLemmas.{accounted_of}
 use Rattle.proc_table.proofs.MemoryLemmas.{memory_at-stands}
 use Rattle.store_objects.specs.declared.objects.Objects.{Objects}
 use Rattle.store_objects.specs.Objects.{AreKept, Runs}
 use Rattle.memory_calls.specs.Spaces.{HasSpace}
-use Rattle.store_objects.specs.Standing.{StandFor}
+use Rattle.store_objects.specs.Standing.{AreProcesses, StandsFor, remembered_in}
 use Rattle.memory_calls.proofs.SpacesBack.{kept_back, memory_here, runs_back, stand_back}
 
 -- what the machine has in the process's memory is what its space has
-pub memory_is : (script : Script) (objects : Objects) (plain : Plain) (account : Frames) (pid key : ℕ) (space : List (Option ℕ)) → HasSpace objects pid key space
-    → StandFor script objects plain account → memory_of plain.table pid ≡ memory_at objects.heap space
-memory_is script objects plain account pid key space has stands =
-    memory_here script objects plain account pid has.proc stands has.found ∙ ap (memory_at objects.heap) has.nodes
+pub memory_is : (script : Script) (objects : Objects) (plain : Plain) (pid key : ℕ) (space : List (Option ℕ)) → HasSpace objects pid key space
+    → AreProcesses script objects plain → memory_of plain.table pid ≡ memory_at objects.heap space
+memory_is script objects plain pid key space has are =
+    memory_here script objects plain pid has.proc are has.found ∙ ap (memory_at objects.heap) has.nodes
 
 -- what is put back as it was changes nothing
 pub back_as_was : (objects : Objects) (mid : Heap) (pid key : ℕ) (space : List (Option ℕ)) → (has : HasSpace objects pid key space) → mid.procs ≡ objects.heap.procs
@@ -68,17 +67,17 @@ module _ (objects : Objects) (mid new : Heap) (pid key : ℕ) (space now : List 
   runs_then script kept control runs = runs_back script objects back mid pid key has.proc now kept turns refl control runs
 
   -- the machine has in memory what was made of it
-  pub stand_then : (script : Script) (plain : Plain) (account next : Frames) (change : Memory → Memory) → Holds objects.heap objects.procs → StandFor script objects plain account
-      → (StandsFor objects.heap space (memory_at objects.heap space) → StandsFor mid now (change (memory_at objects.heap space)))
+  pub stand_then : (script : Script) (world : World) (next : Frames) (change : Memory → Memory) → StandsFor script objects world → length now ≡ 4
+      → (IsMemory objects.heap space (memory_at objects.heap space) → IsMemory mid now (change (memory_at objects.heap space)))
       → length (change (memory_at objects.heap space)) ≡ 256
-      → ((number : ℕ → ℕ) → IsAccounted objects.heap number account pid space → AccountMoves objects.heap mid space now number account next pid)
-      → StandFor script back (remembered plain pid (change (memory_of plain.table pid))) next
-  stand_then script plain account next change holds stands is whole moved =
-      subst (λ memory. StandFor script back (remembered plain pid (change memory)) next)
-      (sym (memory_is script objects plain account pid key space has stands))
-      (stand_back script objects back mid pid key has.proc now plain account next (change (memory_at objects.heap space)) holds stands turns refl
+      → ((number : ℕ → ℕ) → IsAccounted objects.heap number world.account.frames pid space → AccountMoves objects.heap mid space now number world.account.frames next pid)
+      → StandsFor script back (remembered_in world pid (change (memory_of world.plain.table pid)) next)
+  stand_then script world next change stands four is whole moved =
+      subst (λ memory. StandsFor script back (remembered_in world pid (change memory) next))
+      (sym (memory_is script objects world.plain pid key space has stands.processes))
+      (stand_back script objects back mid pid key has.proc now world next (change (memory_at objects.heap space)) stands turns refl four
       (is (memory_at-stands objects.heap space)) whole
-      (subst (λ nodes. AccountMoves objects.heap mid nodes now stands.accounted.number account next pid) (sym has.nodes)
-      (moved stands.accounted.number
-      (subst (IsAccounted objects.heap stands.accounted.number account pid) has.nodes
-      (accounted_of objects.heap objects.procs account pid has.proc holds stands.accounted has.found)))))
+      (subst (λ nodes. AccountMoves objects.heap mid nodes now stands.memory.number world.account.frames next pid) (sym has.nodes)
+      (moved stands.memory.number
+      (subst (IsAccounted objects.heap stands.memory.number world.account.frames pid) has.nodes
+      (accounted_of objects.heap objects.procs world.account.frames pid has.proc stands.kept.holds stands.memory has.found)))))

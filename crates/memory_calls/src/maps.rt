@@ -7,7 +7,7 @@ ghost use Rattle.kheap_slabs.specs.Paid.{CanPay, IsPaid, TakesNothing};
 ghost use Rattle.posix_defs.specs.MemoryCalls.{mmap, munmap};
 ghost use Rattle.posix_defs.specs.Needs.{nodes_for, pages_in};
 ghost use Rattle.store_objects.specs.Objects.{AreKept, Runs};
-ghost use Rattle.store_objects.specs.Standing.{Does};
+ghost use Rattle.store_objects.specs.Standing.{Performs};
 
 use crate::spaces::{map, unmap};
 use kabi_types::{Control, Reply, Script};
@@ -34,7 +34,7 @@ pub fn mmap(
     requires left { nodes_for (pages_in (count_of length)) ≤ purse.old.left.node }
     ensures kept { AreKept script.now objects.new }
     ensures paid { IsPaid objects.old.heap purse.old objects.new.heap purse.new }
-    ensures does { Does script.now objects.old pid (Call.Mmap length) (λ plain. mmap script.now plain pid length) result objects.new }
+    ensures does { Performs script.now objects.old pid (Call.Mmap length) (λ plain. mmap script.now plain pid length) result objects.new }
 {
     match map(objects, purse, pid, length.cast_unsigned()) {
         Ok(addr) => go_on(script, objects, pid, control, Reply::Val(i64::from(addr))),
@@ -56,7 +56,7 @@ pub fn munmap(
     requires right { argument_fault (Call.Munmap addr length) ≡ None }
     ensures kept { AreKept script.now objects.new }
     ensures takes { TakesNothing objects.old.heap objects.new.heap }
-    ensures does { Does script.now objects.old pid (Call.Munmap addr length) (λ plain. munmap script.now plain pid addr length) result objects.new }
+    ensures does { Performs script.now objects.old pid (Call.Munmap addr length) (λ plain. munmap script.now plain pid addr length) result objects.new }
 {
     let page = addr.cast_unsigned() as u32 / PAGE;
     let count = (length.cast_unsigned() as u32 + PAGE - 1) / PAGE;

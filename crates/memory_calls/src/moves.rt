@@ -7,7 +7,7 @@ ghost use Rattle.kheap_slabs.specs.Paid.{CanPay, IsPaid, TakesNothing};
 ghost use Rattle.posix_defs.specs.MemoryCalls.{load, store};
 ghost use Rattle.posix_defs.specs.Needs.{pages_touched};
 ghost use Rattle.store_objects.specs.Objects.{AreKept, Runs};
-ghost use Rattle.store_objects.specs.Standing.{Does};
+ghost use Rattle.store_objects.specs.Standing.{Performs};
 
 use crate::spaces::{put, take};
 use kabi_types::{Bytes64, Control, Reply, Script};
@@ -45,7 +45,7 @@ pub fn store(
     requires left { pages_touched (count_of addr) (length bytes.now) ≤ purse.old.left.page }
     ensures kept { AreKept script.now objects.new }
     ensures paid { IsPaid objects.old.heap purse.old objects.new.heap purse.new }
-    ensures does { Does script.now objects.old pid (Call.Store addr bytes.now) (λ plain. store script.now plain pid addr bytes.now) result objects.new }
+    ensures does { Performs script.now objects.old pid (Call.Store addr bytes.now) (λ plain. store script.now plain pid addr bytes.now) result objects.new }
 {
     let bytes = bytes.items();
     let start = start_of(addr, bytes.len());
@@ -75,7 +75,7 @@ pub fn load(
     requires right { argument_fault (Call.Load addr count) ≡ None }
     ensures kept { AreKept script.now objects.new }
     ensures takes { TakesNothing objects.old.heap objects.new.heap }
-    ensures does { Does script.now objects.old pid (Call.Load addr count) (λ plain. load script.now plain pid addr count) result objects.new }
+    ensures does { Performs script.now objects.old pid (Call.Load addr count) (λ plain. load script.now plain pid addr count) result objects.new }
 {
     let count = count.cast_unsigned() as usize;
     let start = start_of(addr, count);

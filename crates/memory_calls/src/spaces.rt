@@ -6,17 +6,16 @@ ghost use Rattle.kabi_values.specs.declared.errnos.Errno.TheVariants.{EFAULT, EM
 ghost use Rattle.kabi_types.specs.declared.scripts.Control.{Control};
 ghost use Rattle.kabi_types.specs.declared.scripts.Script.{Script};
 ghost use Rattle.kheap_slabs.specs.Paid.{CanPay, IsPaid, TakesNothing};
-ghost use Rattle.page_space.specs.Contents.{IsOwnedWith, StandsFor};
+ghost use Rattle.page_space.specs.Contents.{IsOwnedWith, StandsFor as IsMemory};
 ghost use Rattle.page_space.specs.Entries.{IsMappedRange};
-ghost use Rattle.posix_defs.specs.Memory.{Frames, Memory, after_map, after_put, after_unmap, is_mapped_range, loaded, lowest_run, stored, with_pages, without_pages};
-ghost use Rattle.posix_defs.specs.MemoryCalls.{remembered};
+ghost use Rattle.posix_defs.specs.Memory.{Memory, after_map, after_put, after_unmap, is_mapped_range, loaded, lowest_run, stored, with_pages, without_pages};
 ghost use Rattle.posix_defs.specs.Needs.{nodes_for, pages_in, pages_touched};
-ghost use Rattle.posix_defs.specs.Plain.{Plain};
 ghost use Rattle.posix_defs.specs.Process.{memory_of};
+ghost use Rattle.posix_defs.specs.World.{World};
 ghost use Rattle.proc_table.specs.Procs.{IsAlive};
 ghost use Rattle.store_objects.specs.Objects.{AreKept, Runs, procs_of};
 ghost use Rattle.memory_calls.specs.Spaces.{HasSpace};
-ghost use Rattle.store_objects.specs.Standing.{StandFor};
+ghost use Rattle.store_objects.specs.Standing.{StandsFor, remembered_in};
 
 use kabi_types::{Bytes64, Errno};
 use kheap_shelves::Purse;
@@ -52,10 +51,11 @@ pub fn map(objects: &mut Objects, purse: &mut Purse, pid: u32, length: u64) -> R
     ensures kept { (script : Script) → AreKept script objects.old → AreKept script objects.new }
     ensures runs { (control : Control) → Runs objects.old pid control → Runs objects.new pid control }
     ensures paid { IsPaid objects.old.heap purse.old objects.new.heap purse.new }
-    ensures found { (script : Script) (plain : Plain) (account : Frames) → StandFor script objects.old plain account
-        → result ≡ ok_or (option_map (λ first. page_size * first) (lowest_run (memory_of plain.table pid) (pages_in length))) EMFILE }
-    ensures mapped { (script : Script) (plain : Plain) (account : Frames) (first : ℕ) → StandFor script objects.old plain account → result ≡ Ok (page_size * first)
-        → StandFor script objects.new (remembered plain pid (with_pages (memory_of plain.table pid) first (pages_in length))) (after_map account pid first (pages_in length)) }
+    ensures found { (script : Script) (world : World) → StandsFor script objects.old world
+        → result ≡ ok_or (option_map (λ first. page_size * first) (lowest_run (memory_of world.plain.table pid) (pages_in length))) EMFILE }
+    ensures mapped { (script : Script) (world : World) (first : ℕ) → StandsFor script objects.old world → result ≡ Ok (page_size * first)
+        → StandsFor script objects.new (remembered_in world pid (with_pages (memory_of world.plain.table pid) first (pages_in length))
+        (after_map world.account.frames pid first (pages_in length))) }
     ensures unchanged { OnErr result (objects.new ≡ objects.old) }
 {
     if length > SPACE {
@@ -75,8 +75,8 @@ pub fn unmap(objects: &mut Objects, pid: u32, page: u32, count: u32)
     ensures kept { (script : Script) → AreKept script objects.old → AreKept script objects.new }
     ensures runs { (control : Control) → Runs objects.old pid control → Runs objects.new pid control }
     ensures takes { TakesNothing objects.old.heap objects.new.heap }
-    ensures unmapped { (script : Script) (plain : Plain) (account : Frames) → StandFor script objects.old plain account
-        → StandFor script objects.new (remembered plain pid (without_pages (memory_of plain.table pid) page count)) (after_unmap account pid page count) }
+    ensures unmapped { (script : Script) (world : World) → StandsFor script objects.old world
+        → StandsFor script objects.new (remembered_in world pid (without_pages (memory_of world.plain.table pid) page count) (after_unmap world.account.frames pid page count)) }
 {
     let (key, mut space) = space_of(objects, pid);
     space.unmap(&mut objects.heap, page, count);
@@ -99,10 +99,11 @@ pub fn put(
     ensures kept { (script : Script) → AreKept script objects.old → AreKept script objects.new }
     ensures runs { (control : Control) → Runs objects.old pid control → Runs objects.new pid control }
     ensures paid { IsPaid objects.old.heap purse.old objects.new.heap purse.new }
-    ensures mapped { (script : Script) (plain : Plain) (account : Frames) → StandFor script objects.old plain account
-        → result ≡ (if is_mapped_range (memory_of plain.table pid) addr (length bytes.now) then Ok tt else Err EFAULT) }
-    ensures stored { OnOk result ((script : Script) (plain : Plain) (account : Frames) → StandFor script objects.old plain account
-        → StandFor script objects.new (remembered plain pid (stored (memory_of plain.table pid) addr bytes.now)) (after_put account pid addr (length bytes.now))) }
+    ensures mapped { (script : Script) (world : World) → StandsFor script objects.old world
+        → result ≡ (if is_mapped_range (memory_of world.plain.table pid) addr (length bytes.now) then Ok tt else Err EFAULT) }
+    ensures stored { OnOk result ((script : Script) (world : World) → StandsFor script objects.old world
+        → StandsFor script objects.new (remembered_in world pid (stored (memory_of world.plain.table pid) addr bytes.now)
+        (after_put world.account.frames pid addr (length bytes.now)))) }
     ensures unchanged { OnErr result (objects.new ≡ objects.old) }
 {
     let (_, mut space) = space_of(objects, pid);
@@ -119,7 +120,7 @@ fn bytes_at(space: &Space, heap: &KHeap, addr: u32, room: &mut [u8]) -> Bytes64
     requires few { length room.old ≤ 64 }
     requires owned { IsOwnedWith heap.now space.now }
     requires mapped { IsMappedRange heap.now.nodes space.now addr (length room.old) }
-    ensures { (memory : Memory) → StandsFor heap.now space.now memory → result ≡ loaded memory addr (length room.old) }
+    ensures { (memory : Memory) → IsMemory heap.now space.now memory → result ≡ loaded memory addr (length room.old) }
 {
     space.copy_out(heap, addr, room);
     let Some(bytes) = Bytes64::of(room) else {
@@ -134,8 +135,8 @@ pub fn take(objects: &Objects, pid: u32, addr: u32, count: usize) -> Result<Byte
     requires few { count ≤ 64 }
     requires kept { (script : Script) × AreKept script objects.now }
     requires alive { IsAlive (procs_of objects.now) pid }
-    ensures { (script : Script) (plain : Plain) (account : Frames) → StandFor script objects.now plain account
-        → result ≡ (if is_mapped_range (memory_of plain.table pid) addr count then Ok (loaded (memory_of plain.table pid) addr count) else Err EFAULT) }
+    ensures { (script : Script) (world : World) → StandsFor script objects.now world
+        → result ≡ (if is_mapped_range (memory_of world.plain.table pid) addr count then Ok (loaded (memory_of world.plain.table pid) addr count) else Err EFAULT) }
 {
     let (_, space) = space_of(objects, pid);
     if !space.mapped(&objects.heap, addr, count as u32) {

@@ -15,13 +15,15 @@ use Rattle.kheap_slabs.specs.Heap.{Heap}
 use Rattle.kern_laws.proofs.Bareness.{heir_bare}
 use Rattle.kern_laws.proofs.EnabledEvents.{get_behind}
 use Rattle.kern_laws.proofs.TablePlaces.{get_front}
+use Rattle.posix_defs.specs.Account.{with_frames}
 use Rattle.posix_defs.specs.Answer.{replied}
 use Rattle.posix_defs.specs.ByPid.{at_pid}
 use Rattle.posix_defs.specs.Control.{after, settled}
 use Rattle.posix_defs.specs.Forking.{fork, with_child}
 use Rattle.posix_defs.specs.Memory.{Frames, after_fork}
-use Rattle.posix_defs.specs.Plain.{Plain, answered, at_start, control_of}
+use Rattle.posix_defs.specs.Plain.{Plain, at_start, control_of}
 use Rattle.posix_defs.specs.Process.{Table, is_alive}
+use Rattle.posix_defs.specs.World.{World}
 use Rattle.posix_defs.specs.declared.turner.Turned.{Turned}
 use Rattle.posix_defs.specs.declared.turner.Turned.TheVariants.{Done}
 use Rattle.prog_ctl.specs.Runnable.{Rests, Stands}
@@ -38,11 +40,13 @@ use Rattle.proc_table.proofs.OwnLemmas.{all_append, has_it}
 use Rattle.proc_table.proofs.PlaceLemmas.{eqb_other, eqb_same}
 use Rattle.store_objects.specs.declared.objects.Objects.{Objects}
 use Rattle.store_objects.specs.Objects.{AreAtCalls, AreKept, IsAtCall, MovesOn, Runs, procs_of}
-use Rattle.store_objects.specs.Standing.{Does, Led, StandFor}
+use Rattle.store_objects.specs.Standing.{AreProcesses, Performs, StandsFor, WorldAfter}
+use Rattle.store_objects.proofs.Families.{fronts_on}
 use Rattle.store_objects.proofs.GoingOn.{kept_moved, led_to, mapped_from, proc_made, procs_then, replaced_at, some_same}
 use Rattle.store_objects.proofs.Keeping.{kept_on}
 use Rattle.store_objects.proofs.Leading.{led_on}
-use Rattle.process_calls.proofs.Waits.{alive_there, kept_by}
+use Rattle.store_objects.proofs.Replies.{GoesOn, does_fail}
+use Rattle.process_calls.proofs.Waits.{kept_by}
 
 -- who is found where one more stands behind the others
 found_behind : (procs : List Proc) (child : Proc) (q : ℕ) (found : Proc) → proc_of (procs ++ child ∷ []) q ≡ Some found
@@ -105,6 +109,10 @@ number_of there last child is = go (is_full_at there last) is
     go : (b : Bool) → Ok child ≡ cond b (Err EAGAIN) (Ok (last + 1)) → child ≡ last + 1
     go true e = cc
     go false e = cc
+
+-- the world with a child of a process
+abbrev pub forked_world : Script → World → ℕ → World
+forked_world script world pid = record world { plain = with_child script world.plain pid; account = with_frames world.account (after_fork world.account.frames pid) }
 
 -- The table has made a child.
 module _ (script : Script) (old mid : Objects) (pid child : ℕ) (control : Control) (kept : AreKept script old) (runs : Runs old pid control)
@@ -178,74 +186,78 @@ module _ (script : Script) (old mid moved : Objects) (pid child : ℕ) (control 
     at_call = runs.at_call;
   }
 
-  controls_then : (plain : Plain) (account : Frames) → StandFor script old plain account → settled script (after script (control_of plain pid) (Val (pos 0))) ≡ next
+  controls_then : (plain : Plain) → AreProcesses script old plain → settled script (after script (control_of plain pid) (Val (pos 0))) ≡ next
       → (q : ℕ) (it : Proc) → proc_of (procs_of moved) q ≡ Some it → it.status ≡ None → settled script (control_of (with_child script plain pid) q) ≡ it.control
-  controls_then plain account stands leads q it found up =
+  controls_then plain are leads q it found up =
       let was = mapped_from (replaced child now) (proc_of (procs_of old ++ made ∷ []) q) it (sym (found_then q) ∙ found) in
       let old_pid : was.0.pid ≡ q = proc_has_pid (procs_of old ++ made ∷ []) q was.0 was.1 in
       elim (eqb_tells q child) [
         | inl same ↦
-            let last : q ≡ length plain.controls + 1 = (let n : child ≡ old.procs.last + 1 = number in let l : old.procs.last ≡ length plain.controls = stands.last in let e : q ≡ child = same.1 in omega arith) in
+            let last : q ≡ length plain.controls + 1 = (let n : child ≡ old.procs.last + 1 = number in let l : old.procs.last ≡ length plain.controls = are.last in let e : q ≡ child = same.1 in omega arith) in
             ap (settled script) (at_last plain.controls (after script (control_of plain pid) (Val (pos 0))) (at_start 0) q last)
             ∙ leads ∙ sym (ap (λ p. p.control) (was.2 ∙ ap (λ b. cond b now was.0) (eqb_same was.0.pid child (old_pid ∙ same.1))))
         | inr other ↦
             let same : it ≡ was.0 = was.2 ∙ ap (λ b. cond b now was.0) (eqb_other was.0.pid child (λ e. other.1 (sym old_pid ∙ e))) in
             elim (found_behind (procs_of old) made q was.0 was.1) [
               | inl there ↦
-                  let before = proc_made script old plain account q was.0 kept stands there in
+                  let before = proc_made script old plain q was.0 kept are there in
                   ap (settled script) (at_front plain.controls (after script (control_of plain pid) (Val (pos 0))) (at_start 0) q before.1)
-                  ∙ stands.controls q was.0 there (sym (ap (λ p. p.status) same) ∙ up) ∙ sym (ap (λ p. p.control) same)
+                  ∙ are.controls q was.0 there (sym (ap (λ p. p.status) same) ∙ up) ∙ sym (ap (λ p. p.control) same)
               | inr last ↦ absurd (other.1 (sym last))
             ]
       ]
 
-  -- The objects stand for the machine with the child.
-  pub stands_forked : (plain : Plain) (account : Frames) → StandFor script old plain account → is_alive plain.table pid ≡ true
-      → fork script plain pid ≡ replied script (with_child script plain pid) pid (Val (pos child))
-      → IsTable mid.heap mid.procs (with_child script plain pid).table → HasAccount mid.heap mid.procs (after_fork account pid)
-      → settled script (after script (control_of plain pid) (Val (pos 0))) ≡ next
-      → StandFor script moved (with_child script plain pid) (after_fork account pid)
-  stands_forked plain account stands alive answers table has leads =
-      let family = kept_by script old plain (with_child script plain pid) account pid call.Fork (Val (pos child)) stands alive answers in
+  -- the objects stand for the world with the child
+  pub stands_forked : (world : World) → StandsFor script old world → is_alive world.plain.table pid ≡ true
+      → fork script world.plain pid ≡ replied script (with_child script world.plain pid) pid (Val (pos child))
+      → AreKept script moved
+      → IsTable mid.heap mid.procs (with_child script world.plain pid).table → HasAccount mid.heap mid.procs (after_fork world.account.frames pid)
+      → settled script (after script (control_of world.plain pid) (Val (pos 0))) ≡ next
+      → StandsFor script moved (forked_world script world pid)
+  stands_forked world stands alive answers kept_too table has leads =
+      let plain = world.plain in
+      let family = kept_by script old world (with_child script plain pid) pid call.Fork (Val (pos child)) stands alive answers in
       record {
-        table = subst (λ k. IsTable moved.heap k (with_child script plain pid).table) (sym turned.same)
-            (on-table mid.heap moved.heap mid.procs child turned.key turned.proc now between.holds turned.turns (with_child script plain pid).table refl table);
-        last = ap (λ k. k.last) turned.same ∙ forked.last ∙ number ∙ ap (λ n. n + 1) stands.last
-            ∙ sym (length-append plain.controls (after script (control_of plain pid) (Val (pos 0)) ∷ []));
+        kept = kept_too;
+        processes = record {
+          table = subst (λ k. IsTable moved.heap k (with_child script plain pid).table) (sym turned.same)
+              (on-table mid.heap moved.heap mid.procs child turned.key turned.proc now between.holds turned.turns (with_child script plain pid).table refl table);
+          last = ap (λ k. k.last) turned.same ∙ forked.last ∙ number ∙ ap (λ n. n + 1) stands.processes.last
+              ∙ sym (length-append plain.controls (after script (control_of plain pid) (Val (pos 0)) ∷ []));
+          controls = controls_then plain stands.processes leads;
+        };
+        memory = subst (λ k. HasAccount moved.heap k (after_fork world.account.frames pid)) (sym turned.same)
+            (on-account mid.heap moved.heap mid.procs child turned.key turned.proc now between.holds turned.turns (after_fork world.account.frames pid) has);
+        files = heir_bare plain.files pid stands.files;
+        fronts = fronts_on world.account (forked_world script world pid).account refl refl stands.fronts;
+        caches = stands.caches;
+        reads = stands.reads;
         family = family.0;
         home = family.1;
-        controls = controls_then plain account stands leads;
-        accounted = subst (λ k. HasAccount moved.heap k (after_fork account pid)) (sym turned.same)
-            (on-account mid.heap moved.heap mid.procs child turned.key turned.proc now between.holds turned.turns (after_fork account pid) has);
-        bare = heir_bare plain.files pid stands.bare;
       }
 
-  -- From each machine to the one with the child, in which its parent is told the child's pid.
-  pub does_fork : (new : Objects) (told : Turned) → AreKept script new → Ok child ≡ forked_as (length old.procs.listed) old.procs.last
+  -- from each world to the one with the child, in which its parent is told the child's pid
+  pub does_fork : (new : Objects) (told : Turned) → Stands script next → Rests script next → Ok child ≡ forked_as (length old.procs.listed) old.procs.last
       → ((table : Table) → IsTable old.heap old.procs table → IsTable mid.heap mid.procs (forked_in table pid (Ok child)))
       → ((frames : Frames) → HasAccount old.heap old.procs frames → HasAccount mid.heap mid.procs (after_fork frames pid))
       → ((before : Control) → settled script before ≡ control → settled script (after script before (Val (pos 0))) ≡ next)
-      → told ≡ Done (Val (pos child))
-      → ((plain : Plain) (account : Frames) → StandFor script moved plain account → is_alive plain.table pid ≡ true
-      → StandFor script new (answered script plain pid (Val (pos child))) account)
-      → Does script old pid call.Fork (λ plain. fork script plain pid) told new
-  does_fork new told kept_new answer table has leads tells goes = λ plain account stands alive.
+      → told ≡ Done (Val (pos child)) → GoesOn script moved pid (Val (pos child)) new
+      → Performs script old pid call.Fork (λ plain. fork script plain pid) told new
+  does_fork new told at rests answer table has leads tells goes = λ world stands alive.
+      let plain = world.plain in
       let answers : fork script plain pid ≡ replied script (with_child script plain pid) pid (Val (pos child)) =
-      fork_is script plain old.heap old.procs pid kept.holds stands.table (sym stands.last) ∙ ap (answered_fork script plain pid) (sym answer) in
-      let with_it = stands_forked plain account stands alive answers (table plain.table stands.table) (has account stands.accounted)
-      (leads (control_of plain pid) (led_to script old plain account pid control runs stands)) in
-      subst (λ answer. Led script new plain account pid call.Fork answer told) (sym answers)
-      (led_on script new plain (with_child script plain pid) account (after_fork account pid) pid call.Fork (Val (pos child)) told kept_new tells
-      (goes (with_child script plain pid) (after_fork account pid) with_it (alive_there script moved (with_child script plain pid) (after_fork account pid) pid control runs_still with_it))
-      refl)
+      fork_is script plain old.heap old.procs pid kept.holds stands.processes.table (sym stands.processes.last) ∙ ap (answered_fork script plain pid) (sym answer) in
+      let with_it = stands_forked world stands alive answers (kept_child at rests) (table plain.table stands.processes.table) (has world.account.frames stands.memory)
+      (leads (control_of plain pid) (led_to script old plain pid control runs stands.processes)) in
+      subst (λ answer. WorldAfter script new world pid call.Fork answer told) (sym answers)
+      (led_on script moved new world (forked_world script world pid) pid call.Fork (Val (pos child)) told with_it tells (goes (forked_world script world pid) with_it)
+      refl refl refl refl refl)
 
--- From each machine to itself, where nobody more can be made.
-pub does_full : (script : Script) (old new : Objects) (pid : ℕ) (errno : Errno) (told : Turned) → AreKept script old → AreKept script new
-    → Err errno ≡ forked_as (length old.procs.listed) old.procs.last → told ≡ Done (Fail errno)
-    → ((plain : Plain) (account : Frames) → StandFor script old plain account → is_alive plain.table pid ≡ true → StandFor script new (answered script plain pid (Fail errno)) account)
-    → Does script old pid call.Fork (λ plain. fork script plain pid) told new
-does_full script old new pid errno told kept kept_new answer tells goes = λ plain account stands alive.
-    let answers : fork script plain pid ≡ replied script plain pid (Fail errno) =
-    fork_is script plain old.heap old.procs pid kept.holds stands.table (sym stands.last) ∙ ap (answered_fork script plain pid) (sym answer) in
-    subst (λ answer. Led script new plain account pid call.Fork answer told) (sym answers)
-    (led_on script new plain plain account account pid call.Fork (Fail errno) told kept_new tells (goes plain account stands alive) refl)
+-- From each world to itself, where nobody more can be made.
+pub does_full : (script : Script) (old new : Objects) (pid : ℕ) (errno : Errno) (told : Turned)
+    → Err errno ≡ forked_as (length old.procs.listed) old.procs.last → told ≡ Done (Fail errno) → GoesOn script old pid (Fail errno) new
+    → Performs script old pid call.Fork (λ plain. fork script plain pid) told new
+does_full script old new pid errno told answer tells goes =
+    does_fail script old new pid call.Fork errno told (λ plain. fork script plain pid) tells goes
+    (λ world stands.
+    fork_is script world.plain old.heap old.procs pid stands.kept.holds stands.processes.table (sym stands.processes.last) ∙ ap (answered_fork script world.plain pid) (sym answer))

@@ -2,7 +2,6 @@
 use Rattle.std.proofs.Common.{◌≡◌, ℕ, ℤ, pos, not, Bool, true, false, cond, refl, ap, sym, ◌∙◌}
 use Rattle.kabi_values.specs.declared.replies.Reply.TheVariants.{Val}
 use Rattle.kabi_types.specs.declared.scripts.Script.{Script}
-use Rattle.posix_defs.specs.Memory.{Frames}
 use Rattle.posix_defs.specs.Answer.{Blocked, replied}
 use Rattle.posix_defs.specs.Machine.{blocks}
 use Rattle.posix_defs.specs.Plain.{Plain}
@@ -15,7 +14,7 @@ use Rattle.proc_table.proofs.FamilyLemmas.{found_is}
 use Rattle.proc_table.proofs.LawLemmas.{wait_is}
 use Rattle.store_objects.specs.declared.objects.Objects.{Objects}
 use Rattle.store_objects.specs.Objects.{procs_of}
-use Rattle.store_objects.specs.Standing.{StandFor}
+use Rattle.store_objects.specs.Standing.{AreProcesses}
 
 unfoldable pub sleeps : Reaped → ℤ → Bool
 sleeps Nobody options = not (is_nohang options)
@@ -33,11 +32,11 @@ blocks_where script plain pid options Nobody = go (is_nohang options)
     go false = refl
 
 -- a wait blocks by what its caller would be answered
-pub blocks_as_told : (script : Script) (objects : Objects) (plain : Plain) (account : Frames) (pid : ℕ) (which options : ℤ) (told : Reaped)
-    → StandFor script objects plain account → reaped_of pid which (procs_of objects) ≡ told → blocks (waitpid script plain pid which options) ≡ sleeps told options
-blocks_as_told script objects plain account pid which options told stands is =
+pub blocks_as_told : (script : Script) (objects : Objects) (plain : Plain) (pid : ℕ) (which options : ℤ) (told : Reaped)
+    → AreProcesses script objects plain → reaped_of pid which (procs_of objects) ≡ told → blocks (waitpid script plain pid which options) ≡ sleeps told options
+blocks_as_told script objects plain pid which options told are is =
     ap blocks (wait_is script plain pid which options)
-    ∙ ap (λ r. blocks (answered_wait script plain pid options r)) (sym (found_is objects.heap plain.table (procs_of objects) pid which stands.table.present) ∙ is)
+    ∙ ap (λ r. blocks (answered_wait script plain pid options r)) (sym (found_is objects.heap plain.table (procs_of objects) pid which are.table.present) ∙ is)
     ∙ blocks_where script plain pid options told
 
 pub not_nobody : (told : Reaped) (options : ℤ) → (told ≡ Nobody → ⊥) → sleeps told options ≡ false

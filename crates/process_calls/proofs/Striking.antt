@@ -10,77 +10,60 @@ use Rattle.kabi_values.specs.declared.replies.Reply.TheVariants.{Val}
 use Rattle.kabi_types.specs.declared.scripts.Script.{Script}
 use Rattle.kheap_shelves.specs.declared.objects.Proc.{Proc}
 use Rattle.posix_defs.specs.Memory.{Frames}
-use Rattle.posix_defs.specs.Account.{forget_dead}
 use Rattle.posix_defs.specs.Answer.{Ended, replied}
 use Rattle.posix_defs.specs.Ending.{die}
 use Rattle.posix_defs.specs.Killing.{is_asking, kill, struck}
-use Rattle.posix_defs.specs.Plain.{Plain, answered}
-use Rattle.posix_defs.specs.Process.{is_alive}
+use Rattle.posix_defs.specs.MemoryCalls.{frames_after}
+use Rattle.posix_defs.specs.Plain.{Plain}
+use Rattle.posix_defs.specs.World.{World}
 use Rattle.posix_defs.specs.declared.turner.Turned.{Turned}
 use Rattle.posix_defs.specs.declared.turner.Turned.TheVariants as turned
-use Rattle.kern_laws.proofs.Nexts.{die_keeps}
 use Rattle.proc_table.specs.Changes.{verdict}
 use Rattle.proc_table.specs.Procs.{IsAlive, proc_of, target_of}
 use Rattle.proc_table.specs.Standing.{IsTable, answered_by, pid_of}
 use Rattle.proc_table.proofs.FamilyLemmas.{proc_has_pid}
 use Rattle.proc_table.proofs.PlaceLemmas.{eqb_other, eqb_same}
 use Rattle.store_objects.specs.declared.objects.Objects.{Objects}
-use Rattle.store_objects.specs.Objects.{AreKept}
-use Rattle.store_objects.specs.Standing.{Does, Led, StandFor, TouchesNothing}
-use Rattle.store_objects.proofs.Leading.{led_on, same_frames}
+use Rattle.store_objects.specs.Standing.{Performs, StandsFor, WorldAfter, ended_in}
+use Rattle.store_objects.proofs.Leading.{led_done, led_ended}
+use Rattle.store_objects.proofs.Replies.{GoesOn, does_said}
 
--- a process has ended: from each machine that the objects stood for, they stand for the one without it
+-- a process has ended: from each world that the objects stood for, they stand for the one without it
 abbrev pub Dies : Script → Objects → ℕ → ℕ → Objects → Type 0
-Dies script old pid status new =
-    (plain : Plain) (account : Frames) → StandFor script old plain account → StandFor script new (die plain pid status) (forget_dead (die plain pid status) account)
-
--- its own call ended it
-pub led_ended : (script : Script) (new : Objects) (plain next : Plain) (account : Frames) (pid : ℕ) (which : Call) (status : ℕ) (told : Turned)
-    → told ≡ turned.Ended status → StandFor script new next (forget_dead next account) → Led script new plain account pid which (Ended status next) told
-led_ended script new plain next account pid which status told tells stands = record { next = next; stands = stands; tells = (tells, refl) }
+Dies script old pid status new = (world : World) → StandsFor script old world → StandsFor script new (ended_in world pid status)
 
 pub does_itself : (script : Script) (old new : Objects) (pid target : ℕ) (which : Call) (told : Turned) → target ≡ pid → Dies script old target 9 new
-    → told ≡ turned.Ended 9 → Does script old pid which (λ plain. struck script plain pid target) told new
-does_itself script old new pid target which told same dies tells = λ plain account stands alive.
-    subst (λ answer. Led script new plain account pid which answer told)
-    (sym (ap (λ b. cond b (Ended 9 (die plain pid 9)) (replied script (die plain target 9) pid (Val (pos 0)))) (eqb_same target pid same)))
-    (led_ended script new plain (die plain pid 9) account pid which 9 told tells
-    (subst (λ n. StandFor script new (die plain n 9) (forget_dead (die plain n 9) account)) same (dies plain account stands)))
+    → told ≡ turned.Ended 9 → Performs script old pid which (λ plain. struck script plain pid target) told new
+does_itself script old new pid target which told same dies tells = λ world stands alive.
+    subst (λ answer. WorldAfter script new world pid which answer told)
+    (sym (ap (λ b. cond b (Ended 9 (die world.plain pid 9)) (replied script (die world.plain target 9) pid (Val (pos 0)))) (eqb_same target pid same)))
+    (led_ended script new world pid which 9 told tells (subst (λ n. StandsFor script new (ended_in world n 9)) same (dies world stands)))
 
-pub does_another : (script : Script) (old mid new : Objects) (pid target : ℕ) (which : Call) (told : Turned) → target ≢ 1 → target ≢ pid → TouchesNothing which
-    → Dies script old target 9 mid → told ≡ turned.Done (Val (pos 0))
-    → ((plain : Plain) (account : Frames) → StandFor script mid plain account → is_alive plain.table pid ≡ true → StandFor script new (answered script plain pid (Val (pos 0))) account)
-    → Does script old pid which (λ plain. struck script plain pid target) told new
-does_another script old mid new pid target which told other apart free dies tells goes = λ plain account stands alive.
-    let base = die plain target 9 in
-    let lives : is_alive base.table pid ≡ true = die_keeps plain.table target pid 9 other (λ same. apart (sym same)) alive in
-    let on = goes base (forget_dead base account) (dies plain account stands) lives in
-    let led : Led script new plain account pid which (replied script base pid (Val (pos 0))) told = record {
-      next = answered script base pid (Val (pos 0));
-      stands = subst (StandFor script new (answered script base pid (Val (pos 0)))) (ap (forget_dead base) (same_frames account pid which (Val (pos 0)) free)) on;
-      tells = (tells, refl);
-    } in
-    subst (λ answer. Led script new plain account pid which answer told)
-    (sym (ap (λ b. cond b (Ended 9 (die plain pid 9)) (replied script base pid (Val (pos 0)))) (eqb_other target pid apart))) led
+pub does_another : (script : Script) (old mid new : Objects) (pid target : ℕ) (number signal : ℤ) (told : Turned) → target ≢ pid
+    → Dies script old target 9 mid → told ≡ turned.Done (Val (pos 0)) → GoesOn script mid pid (Val (pos 0)) new
+    → Performs script old pid (call.Kill number signal) (λ plain. struck script plain pid target) told new
+does_another script old mid new pid target number signal told apart dies tells goes = λ world stands alive.
+    let base = ended_in world target 9 in
+    subst (λ answer. WorldAfter script new world pid (call.Kill number signal) answer told)
+    (sym (ap (λ b. cond b (Ended 9 (die world.plain pid 9)) (replied script base.plain pid (Val (pos 0)))) (eqb_other target pid apart)))
+    (led_done script new world base pid (call.Kill number signal) (Val (pos 0)) told tells (goes base (dies world stands)) refl refl refl)
 
 -- a signal that ends nobody
-pub does_tell : (script : Script) (old new : Objects) (pid : ℕ) (target signal : ℤ) (said : Reply) (told : Turned) → AreKept script new
+pub does_tell : (script : Script) (old new : Objects) (pid : ℕ) (target signal : ℤ) (said : Reply) (told : Turned)
     → ((plain : Plain) → IsTable old.heap old.procs plain.table → kill script plain pid target signal ≡ replied script plain pid said)
-    → told ≡ turned.Done said
-    → ((plain : Plain) (account : Frames) → StandFor script old plain account → is_alive plain.table pid ≡ true → StandFor script new (answered script plain pid said) account)
-    → Does script old pid (call.Kill target signal) (λ plain. kill script plain pid target signal) told new
-does_tell script old new pid target signal said told kept answers tells goes = λ plain account stands alive.
-    subst (λ answer. Led script new plain account pid (call.Kill target signal) answer told) (sym (answers plain stands.table))
-    (led_on script new plain plain account account pid (call.Kill target signal) said told kept tells (goes plain account stands alive)
-    (same_frames account pid (call.Kill target signal) said tt))
+    → told ≡ turned.Done said → ((frames : Frames) → frames_after frames pid (call.Kill target signal) said ≡ frames) → GoesOn script old pid said new
+    → Performs script old pid (call.Kill target signal) (λ plain. kill script plain pid target signal) told new
+does_tell script old new pid target signal said told answers tells frames goes =
+    does_said script old new pid (call.Kill target signal) said told (λ plain. kill script plain pid target signal) tells goes frames
+    (λ world stands. answers world.plain stands.processes.table)
 
 -- one that ends its target
 pub does_strike : (script : Script) (old new : Objects) (pid : ℕ) (target signal : ℤ) (told : Turned)
     → ((plain : Plain) → IsTable old.heap old.procs plain.table → kill script plain pid target signal ≡ struck script plain pid (pid_of target))
-    → Does script old pid (call.Kill target signal) (λ plain. struck script plain pid (pid_of target)) told new
-    → Does script old pid (call.Kill target signal) (λ plain. kill script plain pid target signal) told new
-does_strike script old new pid target signal told answers does = λ plain account stands alive.
-    subst (λ answer. Led script new plain account pid (call.Kill target signal) answer told) (sym (answers plain stands.table)) (does plain account stands alive)
+    → Performs script old pid (call.Kill target signal) (λ plain. struck script plain pid (pid_of target)) told new
+    → Performs script old pid (call.Kill target signal) (λ plain. kill script plain pid target signal) told new
+does_strike script old new pid target signal told answers does = λ world stands alive.
+    subst (λ answer. WorldAfter script new world pid (call.Kill target signal) answer told) (sym (answers world.plain stands.processes.table)) (does world stands alive)
 
 -- Whom a signal ends: it runs, and isn't the first.
 pub record IsStruck (procs : List Proc) (target : ℤ) : Type 0 where

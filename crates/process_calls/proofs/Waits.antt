@@ -10,16 +10,19 @@ use Rattle.kabi_values.specs.declared.replies.Reply.TheVariants.{Val, Waited}
 use Rattle.kabi_types.specs.declared.scripts.Control.{Control}
 use Rattle.kabi_types.specs.declared.scripts.Script.{Script}
 use Rattle.kheap_shelves.specs.declared.objects.Proc.{Proc}
+use Rattle.posix_defs.specs.Account.{with_frames}
 use Rattle.posix_defs.specs.Memory.{Frames}
 use Rattle.posix_defs.specs.Answer.{Blocked, replied}
 use Rattle.posix_defs.specs.declared.turner.Turned.{Turned}
 use Rattle.posix_defs.specs.declared.turner.Turned.TheVariants.{Done, Sleep}
 use Rattle.posix_defs.specs.Family.{IsFamily, KeepsOn}
 use Rattle.posix_defs.specs.Machine.{machine, unless_wrong}
-use Rattle.posix_defs.specs.Plain.{Plain, answered, last_pid, with_table}
-use Rattle.posix_defs.specs.Process.{is_alive}
+use Rattle.posix_defs.specs.MemoryCalls.{frames_after}
+use Rattle.posix_defs.specs.Plain.{Plain, last_pid, with_table}
+use Rattle.posix_defs.specs.Process.{Table, is_alive}
 use Rattle.posix_defs.specs.SoundTasks.{AllAtHome}
 use Rattle.posix_defs.specs.Waiting.{is_nohang, waitpid}
+use Rattle.posix_defs.specs.World.{World}
 use Rattle.kern_laws.proofs.Families.{answers_on}
 use Rattle.kern_laws.proofs.Nexts.{AnswerGoes, posix_goes}
 use Rattle.proc_table.specs.Accounting.{HasAccount}
@@ -35,19 +38,20 @@ use Rattle.proc_table.proofs.OwnLemmas.{all_filter}
 use Rattle.proc_table.proofs.WaitLemmas.{took_ended}
 use Rattle.store_objects.specs.declared.objects.Objects.{Objects}
 use Rattle.store_objects.specs.Objects.{AreAtCalls, AreKept, IsAtCall, Runs, procs_of}
-use Rattle.store_objects.specs.Standing.{Does, Led, StandFor}
+use Rattle.store_objects.specs.Standing.{AreProcesses, Performs, StandsFor, WorldAfter}
 use Rattle.store_objects.proofs.GoingOn.{some_same}
 use Rattle.store_objects.proofs.Keeping.{kept_on}
-use Rattle.store_objects.proofs.Leading.{led_blocked, led_on, same_frames}
-use Rattle.store_objects.proofs.RunningProcs.{alive_is, running_as}
+use Rattle.store_objects.proofs.Leading.{led_blocked, led_on}
+use Rattle.store_objects.proofs.Replies.{GoesOn}
 use Rattle.store_objects.proofs.WithoutOne.{found_gone, found_other}
 
 -- who is whose child, and who works where, behind a call that is over
-pub kept_by : (script : Script) (objects : Objects) (plain base : Plain) (account : Frames) (pid : ℕ) (which : Call) (said : Reply)
-    → StandFor script objects plain account → is_alive plain.table pid ≡ true → machine script plain pid which ≡ replied script base pid said
+pub kept_by : (script : Script) (objects : Objects) (world : World) (base : Plain) (pid : ℕ) (which : Call) (said : Reply)
+    → StandsFor script objects world → is_alive world.plain.table pid ≡ true → machine script world.plain pid which ≡ replied script base pid said
     → IsFamily base.table × AllAtHome base.table
-kept_by script objects plain base account pid which said stands alive is =
-    let made : length plain.table ≡ last_pid plain = stands.table.made ∙ stands.last in
+kept_by script objects world base pid which said stands alive is =
+    let plain = world.plain in
+    let made : length plain.table ≡ last_pid plain = stands.processes.table.made ∙ stands.processes.last in
     let keeps = subst (KeepsOn plain) is (answers_on script plain pid which (record { family = stands.family; counted = made }) alive) in
     let goes = subst (AnswerGoes plain pid) is (posix_goes script plain pid which made alive) in
     (keeps.family, goes.0.home stands.home)
@@ -96,74 +100,71 @@ runs_waited script old mid pid parent control which told kept runs is procs =
     still (Took gone status) is =
         found_other (procs_of old) gone pid (λ same. differ gone status (took_ended old.heap old.procs parent which gone status kept.holds is) same) ∙ runs.found
 
--- who runs is alive in the machine
-pub alive_there : (script : Script) (objects : Objects) (plain : Plain) (account : Frames) (pid : ℕ) (control : Control) → Runs objects pid control
-    → StandFor script objects plain account → is_alive plain.table pid ≡ true
-alive_there script objects plain account pid control runs stands =
-    alive_is script objects plain account pid stands ∙ running_as (procs_of objects) pid runs.proc false runs.found (ap is_some runs.up)
-
 -- what a wait with right operands is answered
-pub waits_as : (script : Script) (objects : Objects) (plain : Plain) (account : Frames) (pid : ℕ) (which options : ℤ) (told : Reaped)
-    → StandFor script objects plain account → told ≡ reaped_of pid which (procs_of objects) → waitpid script plain pid which options ≡ answered_wait script plain pid options told
-waits_as script objects plain account pid which options told stands is =
+pub waits_as : (script : Script) (objects : Objects) (plain : Plain) (pid : ℕ) (which options : ℤ) (told : Reaped)
+    → AreProcesses script objects plain → told ≡ reaped_of pid which (procs_of objects) → waitpid script plain pid which options ≡ answered_wait script plain pid options told
+waits_as script objects plain pid which options told are is =
     wait_is script plain pid which options
-    ∙ ap (answered_wait script plain pid options) (sym (found_is objects.heap plain.table (procs_of objects) pid which stands.table.present) ∙ sym is)
+    ∙ ap (answered_wait script plain pid options) (sym (found_is objects.heap plain.table (procs_of objects) pid which are.table.present) ∙ sym is)
 
--- The objects stand for the machine without who was told.
-pub waited_stands : (script : Script) (old mid : Objects) (plain : Plain) (account : Frames) (pid : ℕ) (which options : ℤ) (told : Reaped)
-    → StandFor script old plain account → is_alive plain.table pid ≡ true → argument_fault (call.Waitpid which options) ≡ None
-    → told ≡ reaped_of pid which (procs_of old) → procs_of mid ≡ after_wait told (procs_of old) → mid.procs.last ≡ old.procs.last
-    → ((table : _) → IsTable old.heap old.procs table → IsTable mid.heap mid.procs (waited_in table told))
-    → ((frames : Frames) → HasAccount old.heap old.procs frames → HasAccount mid.heap mid.procs frames)
-    → StandFor script mid (with_table plain (waited_in plain.table told)) account
-waited_stands script old mid plain account pid which options told stands alive right is procs last table has = record {
-  table = table plain.table stands.table;
-  last = last ∙ stands.last;
-  family = (both told (waits_as script old plain account pid which options told stands is)).0;
-  home = (both told (waits_as script old plain account pid which options told stands is)).1;
-  controls = λ q it found up. stands.controls q it (was_found told (procs_of old) q it (ap (λ ps. proc_of ps q) (sym procs) ∙ found)) up;
-  accounted = has account stands.accounted;
-  bare = stands.bare;
-}
-  where
-    both : (told : Reaped) → waitpid script plain pid which options ≡ answered_wait script plain pid options told → IsFamily (waited_in plain.table told) × AllAtHome (waited_in plain.table told)
-    both Nobody e = (stands.family, stands.home)
-    both NoChild e = (stands.family, stands.home)
-    both (Took gone status) e =
-        kept_by script old plain (with_table plain (waited_in plain.table (Took gone status))) account pid (call.Waitpid which options) (Waited gone status) stands alive
-        (ap (λ fault. unless_wrong script plain pid fault (waitpid script plain pid which options)) right ∙ e)
+-- the world without who was told
+abbrev pub waited_world : World → Reaped → World
+waited_world world told = record world { plain = with_table world.plain (waited_in world.plain.table told) }
 
--- A wait that is over: from each machine to the one that its answer leads to.
-pub does_waited : (script : Script) (old mid new : Objects) (pid : ℕ) (control : Control) (which options : ℤ) (told : Reaped) (said : Reply) (turned : Turned)
-    → AreKept script old → AreKept script new → Runs old pid control → argument_fault (call.Waitpid which options) ≡ None
-    → told ≡ reaped_of pid which (procs_of old) → procs_of mid ≡ after_wait told (procs_of old) → mid.procs.last ≡ old.procs.last
-    → ((table : _) → IsTable old.heap old.procs table → IsTable mid.heap mid.procs (waited_in table told))
-    → ((frames : Frames) → HasAccount old.heap old.procs frames → HasAccount mid.heap mid.procs frames)
-    → turned ≡ Done said
-    → ((plain : Plain) (account : Frames) → StandFor script mid plain account → is_alive plain.table pid ≡ true → StandFor script new (answered script plain pid said) account)
-    → ((plain : Plain) → answered_wait script plain pid options told ≡ replied script (with_table plain (waited_in plain.table told)) pid said)
-    → Does script old pid (call.Waitpid which options) (λ plain. waitpid script plain pid which options) turned new
-does_waited script old mid new pid control which options told said turned kept kept_new runs right is procs last table has tells goes answers = λ plain account stands alive.
-    let base = with_table plain (waited_in plain.table told) in
-    let between = waited_stands script old mid plain account pid which options told stands alive right is procs last table has in
-    let up = alive_there script mid base account pid control (runs_waited script old mid pid pid control which told kept runs is procs) between in
-    subst (λ answer. Led script new plain account pid (call.Waitpid which options) answer turned)
-    (sym (waits_as script old plain account pid which options told stands is ∙ answers plain))
-    (led_on script new plain base account account pid (call.Waitpid which options) said turned kept_new tells (goes base account between up)
-    (same_frames account pid (call.Waitpid which options) said tt))
+-- a wait leaves the frames
+waits_leave : (frames : Frames) (pid : ℕ) (which options : ℤ) (said : Reply) → frames_after frames pid (call.Waitpid which options) said ≡ frames
+waits_leave frames pid which options (Val value) = refl
+waits_leave frames pid which options _ = refl
 
--- one that sleeps
-pub does_sleep : (script : Script) (old mid : Objects) (pid : ℕ) (which options : ℤ) (told : Reaped) → argument_fault (call.Waitpid which options) ≡ None
-    → told ≡ reaped_of pid which (procs_of old) → procs_of mid ≡ after_wait told (procs_of old) → mid.procs.last ≡ old.procs.last
-    → ((table : _) → IsTable old.heap old.procs table → IsTable mid.heap mid.procs (waited_in table told))
-    → ((frames : Frames) → HasAccount old.heap old.procs frames → HasAccount mid.heap mid.procs frames)
-    → told ≡ Nobody → is_nohang options ≡ false
-    → Does script old pid (call.Waitpid which options) (λ plain. waitpid script plain pid which options) Sleep mid
-does_sleep script old mid pid which options told right is procs last table has nobody hangs = λ plain account stands alive.
-    let between : StandFor script mid plain account =
-    subst (λ t. StandFor script mid (with_table plain (waited_in plain.table t)) account) nobody
-    (waited_stands script old mid plain account pid which options told stands alive right is procs last table has) in
-    subst (λ answer. Led script mid plain account pid (call.Waitpid which options) answer Sleep)
-    (sym (waits_as script old plain account pid which options told stands is ∙ ap (answered_wait script plain pid options) nobody
-    ∙ ap (λ b. cond b (replied script plain pid (Val (pos 0))) Blocked) hangs))
-    (led_blocked script mid plain account pid (call.Waitpid which options) between)
+-- The table has answered a wait: who is told is gone from it.
+module _ (script : Script) (old mid : Objects) (pid : ℕ) (which options : ℤ) (told : Reaped) (moves : TableMoves old.heap old.procs mid.heap mid.procs)
+    (right : argument_fault (call.Waitpid which options) ≡ None) (is : told ≡ reaped_of pid which (procs_of old)) (procs : procs_of mid ≡ after_wait told (procs_of old))
+    (last : mid.procs.last ≡ old.procs.last) (table : (table : Table) → IsTable old.heap old.procs table → IsTable mid.heap mid.procs (waited_in table told))
+    (has : (frames : Frames) → HasAccount old.heap old.procs frames → HasAccount mid.heap mid.procs frames) where
+  -- the objects stand for the world without who was told
+  waited_stands : (world : World) → StandsFor script old world → is_alive world.plain.table pid ≡ true → StandsFor script mid (waited_world world told)
+  waited_stands world stands alive = record {
+    kept = kept_waited script old mid told stands.kept moves procs;
+    processes = record {
+      table = table world.plain.table stands.processes.table;
+      last = last ∙ stands.processes.last;
+      controls = λ q it found up. stands.processes.controls q it (was_found told (procs_of old) q it (ap (λ ps. proc_of ps q) (sym procs) ∙ found)) up;
+    };
+    memory = has world.account.frames stands.memory;
+    files = stands.files;
+    fronts = stands.fronts;
+    caches = stands.caches;
+    reads = stands.reads;
+    family = (both told (waits_as script old world.plain pid which options told stands.processes is)).0;
+    home = (both told (waits_as script old world.plain pid which options told stands.processes is)).1;
+  }
+    where
+      both : (told : Reaped) → waitpid script world.plain pid which options ≡ answered_wait script world.plain pid options told
+          → IsFamily (waited_in world.plain.table told) × AllAtHome (waited_in world.plain.table told)
+      both Nobody e = (stands.family, stands.home)
+      both NoChild e = (stands.family, stands.home)
+      both (Took gone status) e =
+          kept_by script old world (with_table world.plain (waited_in world.plain.table (Took gone status))) pid (call.Waitpid which options) (Waited gone status) stands alive
+          (ap (λ fault. unless_wrong script world.plain pid fault (waitpid script world.plain pid which options)) right ∙ e)
+
+  -- a wait that is over
+  pub does_waited : (new : Objects) (said : Reply) (turned : Turned) → turned ≡ Done said
+      → GoesOn script mid pid said new
+      → ((plain : Plain) → answered_wait script plain pid options told ≡ replied script (with_table plain (waited_in plain.table told)) pid said)
+      → Performs script old pid (call.Waitpid which options) (λ plain. waitpid script plain pid which options) turned new
+  does_waited new said turned tells goes answers = λ world stands alive.
+      let between = waited_stands world stands alive in
+      subst (λ answer. WorldAfter script new world pid (call.Waitpid which options) answer turned)
+      (sym (waits_as script old world.plain pid which options told stands.processes is ∙ answers world.plain))
+      (led_on script mid new world (waited_world world told) pid (call.Waitpid which options) said turned between tells (goes (waited_world world told) between)
+      refl refl (ap (with_frames world.account) (sym (waits_leave world.account.frames pid which options said))) refl refl)
+
+  -- one that sleeps
+  pub does_sleep : told ≡ Nobody → is_nohang options ≡ false
+      → Performs script old pid (call.Waitpid which options) (λ plain. waitpid script plain pid which options) Sleep mid
+  does_sleep nobody hangs = λ world stands alive.
+      let between : StandsFor script mid world = subst (λ t. StandsFor script mid (waited_world world t)) nobody (waited_stands world stands alive) in
+      subst (λ answer. WorldAfter script mid world pid (call.Waitpid which options) answer Sleep)
+      (sym (waits_as script old world.plain pid which options told stands.processes is ∙ ap (answered_wait script world.plain pid options) nobody
+      ∙ ap (λ b. cond b (replied script world.plain pid (Val (pos 0))) Blocked) hangs))
+      (led_blocked script mid world pid (call.Waitpid which options) between)

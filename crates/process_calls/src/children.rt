@@ -5,14 +5,13 @@ ghost use Rattle.kabi_calls.specs.Arguments.{argument_fault};
 ghost use Rattle.kabi_calls.specs.declared.calls.Call.{Call};
 ghost use Rattle.kabi_types.specs.declared.scripts.Script.{Script};
 ghost use Rattle.kheap_slabs.specs.Paid.{CanPay, IsPaid, TakesNothing};
-ghost use Rattle.posix_defs.specs.Memory.{Frames};
 ghost use Rattle.posix_defs.specs.Forking.{fork};
 ghost use Rattle.posix_defs.specs.Machine.{blocks};
-ghost use Rattle.posix_defs.specs.Plain.{Plain};
 ghost use Rattle.posix_defs.specs.Waiting.{is_nohang, waitpid};
+ghost use Rattle.posix_defs.specs.World.{World};
 ghost use Rattle.proc_table.specs.Table.{Holds};
 ghost use Rattle.store_objects.specs.Objects.{AreKept, Runs};
-ghost use Rattle.store_objects.specs.Standing.{Does, StandFor};
+ghost use Rattle.store_objects.specs.Standing.{Performs, StandsFor};
 
 use kabi_types::{Control, Errno, Reply, Script};
 use kheap_shelves::Purse;
@@ -38,7 +37,7 @@ pub fn fork(
     requires left_nodes { 4 ≤ purse.old.left.node }
     ensures kept { AreKept script.now objects.new }
     ensures paid { IsPaid objects.old.heap purse.old objects.new.heap purse.new }
-    ensures does { Does script.now objects.old pid Call.Fork (λ plain. fork script.now plain pid) result objects.new }
+    ensures does { Performs script.now objects.old pid Call.Fork (λ plain. fork script.now plain pid) result objects.new }
 {
     match objects.procs.fork(&mut objects.heap, purse, pid) {
         Ok(child) => {
@@ -72,7 +71,7 @@ pub fn wait(
     requires runs { Runs objects.old pid control }
     ensures kept { AreKept script.now objects.new }
     ensures takes { TakesNothing objects.old.heap objects.new.heap }
-    ensures does { Does script.now objects.old pid (Call.Waitpid which options) (λ plain. waitpid script.now plain pid which options) result objects.new }
+    ensures does { Performs script.now objects.old pid (Call.Waitpid which options) (λ plain. waitpid script.now plain pid which options) result objects.new }
 {
     match objects.procs.wait(&mut objects.heap, pid, which) {
         Reaped::Took { pid: child, status } => {
@@ -89,8 +88,7 @@ pub fn wait(
 /// Whether a wait for a child would sleep: one that is asked for is there, none has ended, and the caller wants to wait.
 pub fn would_sleep(objects: &Objects, pid: u32, which: i64, options: i64) -> bool
     requires { Holds objects.now.heap objects.now.procs }
-    ensures { (script : Script) (plain : Plain) (account : Frames) → StandFor script objects.now plain account
-        → result ≡ blocks (waitpid script plain pid which options) }
+    ensures { (script : Script) (world : World) → StandsFor script objects.now world → result ≡ blocks (waitpid script world.plain pid which options) }
 {
     match objects.procs.answer(&objects.heap, pid, which) {
         Reaped::Nobody => !is_nohang(options),

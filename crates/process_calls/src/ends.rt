@@ -1,6 +1,6 @@
 //! The calls that end a process: `kill` and `exit`.
 
-ghost use Rattle.std.specs.Prelude.{◌≡◌, ◌≢◌};
+ghost use Rattle.std.specs.Prelude.{◌≡◌, ◌≢◌, ℤ};
 ghost use Rattle.kabi_calls.specs.declared.calls.Call.{Call};
 ghost use Rattle.kabi_types.specs.declared.scripts.Script.{Script};
 ghost use Rattle.posix_defs.specs.Answer.{Ended};
@@ -10,7 +10,7 @@ ghost use Rattle.posix_defs.specs.Sizes.{reserve};
 ghost use Rattle.proc_table.specs.Procs.{IsAlive};
 ghost use Rattle.proc_table.specs.Table.{Holds};
 ghost use Rattle.store_objects.specs.Objects.{AreKept, Runs, procs_of};
-ghost use Rattle.store_objects.specs.Standing.{Does, TouchesNothing};
+ghost use Rattle.store_objects.specs.Standing.{Performs};
 ghost use Rattle.store_objects.specs.Uses.{UsesAtMost};
 
 use kabi_types::{Control, Reply, Script};
@@ -25,7 +25,7 @@ fn strike(script: &Script, objects: &mut Objects, pid: u32, control: Control, ta
     requires there { IsAlive (procs_of objects.old) target }
     ensures kept { AreKept script.now objects.new }
     ensures uses { UsesAtMost objects.old.heap objects.new.heap 0 reserve }
-    ensures does { (call : Call) → TouchesNothing call → Does script.now objects.old pid call (λ plain. struck script.now plain pid target) result objects.new }
+    ensures does { (number signal : ℤ) → Performs script.now objects.old pid (Call.Kill number signal) (λ plain. struck script.now plain pid target) result objects.new }
 {
     end(objects, target, SIGKILL);
     if target == pid {
@@ -47,7 +47,7 @@ pub fn signal_process(
     requires runs { Runs objects.old pid control }
     ensures kept { AreKept script.now objects.new }
     ensures uses { UsesAtMost objects.old.heap objects.new.heap 0 reserve }
-    ensures does { Does script.now objects.old pid (Call.Kill target signal) (λ plain. kill script.now plain pid target signal) result objects.new }
+    ensures does { Performs script.now objects.old pid (Call.Kill target signal) (λ plain. kill script.now plain pid target signal) result objects.new }
 {
     match objects.procs.may_kill(&objects.heap, pid, target, signal) {
         Err(errno) => go_on(script, objects, pid, control, Reply::Fail(errno)),
@@ -65,8 +65,7 @@ pub fn exit(objects: &mut Objects, pid: u32, status: i64) -> Turned
     requires holds { Holds objects.old.heap objects.old.procs }
     ensures kept { (script : Script) → AreKept script objects.old → AreKept script objects.new }
     ensures uses { UsesAtMost objects.old.heap objects.new.heap 0 reserve }
-    ensures does { (script : Script) → AreKept script objects.old
-        → Does script objects.old pid (Call.Exit status) (λ plain. Ended (exit_status status) (die plain pid (exit_status status))) result objects.new }
+    ensures does { (script : Script) → Performs script objects.old pid (Call.Exit status) (λ plain. Ended (exit_status status) (die plain pid (exit_status status))) result objects.new }
 {
     let status = exit_status(status);
     end(objects, pid, status);

@@ -11,6 +11,8 @@ use Rattle.kabi_types.specs.declared.scripts.Control.{Control}
 use Rattle.kabi_types.specs.declared.scripts.Program.{Program}
 use Rattle.kabi_types.specs.declared.scripts.Script.{Script}
 use Rattle.kheap_shelves.specs.Objects.{count, object, put}
+use Rattle.kheap_shelves.specs.declared.objects.Node.{Node}
+use Rattle.kheap_shelves.specs.declared.objects.Page.{Page}
 use Rattle.kheap_shelves.specs.declared.objects.Pipe.{Pipe}
 use Rattle.kheap_shelves.specs.declared.objects.Proc.{Proc}
 use Rattle.kheap_shelves.specs.declared.objects.QueueParts.{QueueParts}
@@ -41,10 +43,11 @@ use Rattle.proc_table.specs.Table.{no_table, processes}
 use Rattle.proc_table.proofs.LawLemmas.{on-account, on-moves, on-procs, on-table}
 use Rattle.store_objects.specs.declared.objects.Objects.{Objects}
 use Rattle.store_objects.specs.Booting.{HasBooted}
-use Rattle.store_objects.specs.Objects.{AreAtCalls, AreKept, HasRootAlone, MovesOn, no_owners, procs_of, root_vnode}
+use Rattle.store_objects.specs.Objects.{AreAtCalls, AreKept, CachesRootAlone, HasNoQueue, HasNothingOpen, MovesOn, no_owners, procs_of, root_vnode}
 use Rattle.store_objects.specs.Standing.{StandsFor}
 use Rattle.store_objects.proofs.GoingOn.{some_same}
-use Rattle.store_objects.proofs.Keeping.{all_on, root_on}
+use Rattle.store_objects.proofs.ClassesOn.{caches_on, opens_on, queues_on}
+use Rattle.store_objects.proofs.Keeping.{all_on}
 
 -- A class without objects: no key names one, and nobody owns any.
 vacant : {X : Type 0} (limit key : ℕ) → object (replicate {A = Option X} limit None) key ≡ None
@@ -111,17 +114,23 @@ module _ (heap disk key : ℕ) (vnode : Vnode) (empty rooted : Heap) (is_empty :
       ∙ count-put_new empty.vnodes key vnode (put-within empty.vnodes key vnode (ap (λ vnodes. object vnodes key) (sym put_there) ∙ stored)) none
       ∙ ap (λ n. n + 1) nothing
 
-  pub root_alone : HasRootAlone rooted disk
-  root_alone = record {
-    key = key;
-    root_is = stored ∙ ap Some is_root;
-    vnodes = one;
-    descs = ap count (same (λ h. h.descs) (λ h vnodes high. refl)) ∙ count-none _ (heap / size class.Desc) refl;
-    names = ap count (same (λ h. h.names) (λ h vnodes high. refl)) ∙ count-none _ (heap / size class.Name) refl;
-    blocks = ap count (same (λ h. h.blocks) (λ h vnodes high. refl)) ∙ count-none _ (heap / size class.Block) refl;
+  pub rooted_opens : HasNothingOpen rooted
+  rooted_opens = record { descs = ap count (same (λ h. h.descs) (λ h vnodes high. refl)) ∙ count-none _ (heap / size class.Desc) refl }
+
+  pub rooted_queues : HasNoQueue rooted
+  rooted_queues = record {
     pipes = ap count (same (λ h. h.pipes) (λ h vnodes high. refl)) ∙ count-none _ (heap / size class.Pipe) refl;
     chunks = ap count (same (λ h. h.chunks) (λ h vnodes high. refl)) ∙ count-none _ (heap / size class.Chunk) refl;
     socks = ap count (same (λ h. h.socks) (λ h vnodes high. refl)) ∙ count-none _ (heap / size class.Sock) refl;
+  }
+
+  pub rooted_caches : CachesRootAlone rooted disk
+  rooted_caches = record {
+    key = key;
+    root_is = stored ∙ ap Some is_root;
+    vnodes = one;
+    names = ap count (same (λ h. h.names) (λ h vnodes high. refl)) ∙ count-none _ (heap / size class.Name) refl;
+    blocks = ap count (same (λ h. h.blocks) (λ h vnodes high. refl)) ∙ count-none _ (heap / size class.Block) refl;
   }
 
   pub rooted_size : rooted.heap ≡ heap
@@ -129,7 +138,8 @@ module _ (heap disk key : ℕ) (vnode : Vnode) (empty rooted : Heap) (is_empty :
 
 -- The first process is put in that heap, and goes on at a control.
 module _ (heap disk : ℕ) (control : Control) (rooted : Heap) (mid new : Objects)
-    (no_pages : (k : ℕ) → object rooted.pages k ≡ None) (no_procs : AreKeysOf rooted.procs []) (owned : IsOwned rooted no_owners) (alone : HasRootAlone rooted disk) (bytes : rooted.heap ≡ heap)
+    (no_pages : (k : ℕ) → object rooted.pages k ≡ None) (no_procs : AreKeysOf rooted.procs []) (owned : IsOwned rooted no_owners)
+    (opens : HasNothingOpen rooted) (queues : HasNoQueue rooted) (caches : CachesRootAlone rooted disk) (bytes : rooted.heap ≡ heap)
     (procs : procs_of mid ≡ first_proc ∷ []) (last : mid.procs.last ≡ 1)
     (moves : (others : Owners) → IsOwned rooted others → TableMoves rooted no_table mid.heap mid.procs)
     (table : IsTable mid.heap mid.procs (Some first_process ∷ []))
@@ -144,6 +154,14 @@ module _ (heap disk : ℕ) (control : Control) (rooted : Heap) (mid new : Object
   goes : TableMoves mid.heap mid.procs new.heap new.procs
   goes = subst (TableMoves mid.heap mid.procs new.heap) (sym turned.same)
       (on-moves mid.heap new.heap mid.procs 1 turned.key turned.proc now made.holds turned.turns)
+
+  -- what isn't a process or its memory is as it was
+  as_was : {X : Type 0} (of : Heap → X)
+      → ((h : Heap) (procs : List (Option Proc)) (nodes : List (Option Node)) (pages : List (Option Page)) (high : ℕ) → of (record h { procs = procs; nodes = nodes; pages = pages; high = high }) ≡ of h)
+      → of new.heap ≡ of rooted
+  as_was of other =
+      ap of goes.kept ∙ other mid.heap new.heap.procs new.heap.nodes new.heap.pages new.heap.high
+      ∙ ap of made.kept ∙ other rooted mid.heap.procs mid.heap.nodes mid.heap.pages mid.heap.high
 
   it_is : turned.proc ≡ first_proc
   it_is = some_same (proc_of (procs_of mid) 1) turned.proc first_proc turned.found (ap (λ ps. proc_of ps 1) procs)
@@ -160,8 +178,12 @@ module _ (heap disk : ℕ) (control : Control) (rooted : Heap) (mid new : Object
     holds = goes.holds;
     all = all_on mid new (all_on (record { heap = rooted; procs = no_table }) mid no_procs made) goes;
     owned = goes.owners no_owners (made.owners no_owners owned);
-    root_alone = root_on mid.heap new.heap disk goes.kept (root_on rooted mid.heap disk made.kept alone);
-    size = ap (λ h. h.heap) goes.kept ∙ ap (λ h. h.heap) made.kept ∙ bytes;
+    opens = opens_on rooted new.heap (as_was (λ h. h.descs) (λ h procs nodes pages high. refl)) opens;
+    queues = queues_on rooted new.heap (as_was (λ h. h.pipes) (λ h procs nodes pages high. refl)) (as_was (λ h. h.chunks) (λ h procs nodes pages high. refl))
+        (as_was (λ h. h.socks) (λ h procs nodes pages high. refl)) queues;
+    caches = caches_on rooted new.heap disk (as_was (λ h. h.vnodes) (λ h procs nodes pages high. refl)) (as_was (λ h. h.names) (λ h procs nodes pages high. refl))
+        (as_was (λ h. h.blocks) (λ h procs nodes pages high. refl)) caches;
+    size = as_was (λ h. h.heap) (λ h procs nodes pages high. refl) ∙ bytes;
     first = first;
     last = ap (λ t. t.last) turned.same ∙ last;
     table = subst (λ k. IsTable new.heap k (Some first_process ∷ [])) (sym turned.same)
@@ -208,9 +230,11 @@ boot_kept script objects control booted stands rests = record {
   all = booted.all;
   owned = booted.owned;
   groups = subst (AllByRecursion (λ proc. length proc.nodes ≡ 4)) (sym booted.first) (refl, tt);
-  root_alone = booted.root_alone;
-  size = booted.size;
   calls = subst (AreAtCalls script) (sym booted.first) ((λ up. record { stands = stands; rests = rests }), tt);
+  opens = booted.opens;
+  queues = booted.queues;
+  caches = booted.caches;
+  size = booted.size;
 }
 
 -- the first process works in the root
@@ -244,16 +268,16 @@ boot_stands_for script copy objects place control same named settles stands rest
     sym (settles ∙ ap (λ n. settled copy (at_start n)) named ∙ ap (λ s. settled s (at_start (place_of (codes "init") s.programs))) same) in
     record {
       kept = subst (λ s. AreKept s objects) same (boot_kept copy objects control booted stands rests);
-      plain = record {
+      processes = record {
         table = booted.table;
         last = booted.last;
-        family = (reached_kept {script = script} boots).family;
-        home = boot_home;
         controls = λ pid proc found up. boot_controls script control leads pid proc (ap (λ ps. proc_of ps pid) (sym booted.first) ∙ found);
-        accounted = booted.account;
-        bare = boot_bare script.disk;
       };
-      no_queues = record { pipes = refl; sockets = refl };
-      cached = refl;
+      memory = booted.account;
+      files = boot_bare script.disk;
+      fronts = record { pipes = refl; sockets = refl };
+      caches = refl;
       reads = refl;
+      family = (reached_kept {script = script} boots).family;
+      home = boot_home;
     }

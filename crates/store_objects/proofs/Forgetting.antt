@@ -7,14 +7,14 @@ use Rattle.posix_defs.specs.Account.{forget_dead}
 use Rattle.posix_defs.specs.Memory.{Frames, Places, kept_from, no_places, places_of}
 use Rattle.posix_defs.specs.Plain.{Plain}
 use Rattle.posix_defs.specs.Process.{is_alive}
-use Rattle.proc_table.specs.Accounting.{IsPlaced}
+use Rattle.proc_table.specs.Accounting.{HasAccount, IsPlaced}
 use Rattle.proc_table.specs.Procs.{HasNoMemoryOnce, IsLight, proc_of}
 use Rattle.proc_table.proofs.AccountLemmas.{only_places}
 use Rattle.proc_table.proofs.FamilyLemmas.{proc_has_pid}
 use Rattle.proc_table.proofs.OwnLemmas.{has_it}
 use Rattle.store_objects.specs.declared.objects.Objects.{Objects}
 use Rattle.store_objects.specs.Objects.{AreKept, procs_of}
-use Rattle.store_objects.specs.Standing.{StandFor}
+use Rattle.store_objects.specs.Standing.{AreProcesses}
 use Rattle.store_objects.proofs.RunningProcs.{alive_is, running_as}
 
 -- where the dead have nothing, forgetting them changes nothing
@@ -33,21 +33,22 @@ some_status : (o : Option ℕ) → not (is_some o) ≡ false → (nodes : List (
 some_status None e nodes light = cc
 some_status (Some status) e nodes light = light
 
-dead_places : (script : Script) (objects : Objects) (plain : Plain) (account : Frames) → AreKept script objects → StandFor script objects plain account
-    → (pid : ℕ) → is_alive plain.table pid ≡ false → (o : Option Proc) → proc_of (procs_of objects) pid ≡ o → places_of account pid ≡ no_places
-dead_places script objects plain account kept stands pid dead None is = stands.accounted.gone pid is
-dead_places script objects plain account kept stands pid dead (Some proc) is =
-    let placed : IsPlaced stands.accounted.number objects.heap.nodes account proc = has_it (IsPlaced stands.accounted.number objects.heap.nodes account) (procs_of objects) pid proc stands.accounted.placed is in
+dead_places : (script : Script) (objects : Objects) (plain : Plain) (frames : Frames) → AreKept script objects → AreProcesses script objects plain
+    → HasAccount objects.heap objects.procs frames → (pid : ℕ) → is_alive plain.table pid ≡ false → (o : Option Proc) → proc_of (procs_of objects) pid ≡ o
+    → places_of frames pid ≡ no_places
+dead_places script objects plain frames kept are has pid dead None is = has.gone pid is
+dead_places script objects plain frames kept are has pid dead (Some proc) is =
+    let placed : IsPlaced has.number objects.heap.nodes frames proc = has_it (IsPlaced has.number objects.heap.nodes frames) (procs_of objects) pid proc has.placed is in
     let light : IsLight proc = has_it IsLight (procs_of objects) pid proc kept.holds.light is in
     let over : not (is_some proc.status) ≡ false =
-    sym (running_as (procs_of objects) pid proc (is_some proc.status) is refl) ∙ sym (alive_is script objects plain account pid stands) ∙ dead in
-    ap (places_of account) (sym (proc_has_pid (procs_of objects) pid proc is))
-    ∙ only_places stands.accounted.number objects.heap.nodes proc.nodes (places_of account proc.pid) (some_status proc.status over proc.nodes light.memory) placed.whole placed.places
+    sym (running_as (procs_of objects) pid proc (is_some proc.status) is refl) ∙ sym (alive_is script objects plain pid are) ∙ dead in
+    ap (places_of frames) (sym (proc_has_pid (procs_of objects) pid proc is))
+    ∙ only_places has.number objects.heap.nodes proc.nodes (places_of frames proc.pid) (some_status proc.status over proc.nodes light.memory) placed.whole placed.places
 
--- An account that the objects stand for has forgotten the dead.
-pub forgotten : (script : Script) (objects : Objects) (plain : Plain) (account : Frames) → AreKept script objects → StandFor script objects plain account
-    → forget_dead plain account ≡ account
-forgotten script objects plain account kept stands =
-    ap (λ places. record account { places = places })
-    (kept_same (is_alive plain.table) account.places 1
-    (λ i less dead. dead_places script objects plain account kept stands (suc i) (ap (is_alive plain.table) (let k : suc i ≡ 1 + i = omega arith in k) ∙ dead) (proc_of (procs_of objects) (suc i)) refl))
+-- An account of the processes in the heap has forgotten the dead.
+pub forgotten : (script : Script) (objects : Objects) (plain : Plain) (frames : Frames) → AreKept script objects → AreProcesses script objects plain
+    → HasAccount objects.heap objects.procs frames → forget_dead plain frames ≡ frames
+forgotten script objects plain frames kept are has =
+    ap (λ places. record frames { places = places })
+    (kept_same (is_alive plain.table) frames.places 1
+    (λ i less dead. dead_places script objects plain frames kept are has (suc i) (ap (is_alive plain.table) (let k : suc i ≡ 1 + i = omega arith in k) ∙ dead) (proc_of (procs_of objects) (suc i)) refl))

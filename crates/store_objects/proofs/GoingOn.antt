@@ -9,10 +9,10 @@ use Rattle.kabi_values.specs.declared.replies.Reply.{Reply}
 use Rattle.kabi_types.specs.declared.scripts.Control.{Control}
 use Rattle.kabi_types.specs.declared.scripts.Script.{Script}
 use Rattle.kheap_shelves.specs.declared.objects.Proc.{Proc}
-use Rattle.posix_defs.specs.Memory.{Frames}
 use Rattle.posix_defs.specs.ByPid.{at_pid, with_pid}
 use Rattle.posix_defs.specs.Control.{after, settled}
 use Rattle.posix_defs.specs.Plain.{Plain, answered, at_start, control_of, last_pid}
+use Rattle.posix_defs.specs.World.{World}
 use Rattle.prog_ctl.specs.Runnable.{Rests, Stands}
 use Rattle.proc_table.specs.Changes.{replaced}
 use Rattle.proc_table.specs.Moves.{TableMoves}
@@ -26,7 +26,7 @@ use Rattle.proc_table.proofs.LawLemmas.{on-account, on-moves, on-procs, on-table
 use Rattle.proc_table.proofs.OwnLemmas.{has_it}
 use Rattle.store_objects.specs.declared.objects.Objects.{Objects}
 use Rattle.store_objects.specs.Objects.{AreAtCalls, AreKept, IsAtCall, MovesOn, Runs, procs_of}
-use Rattle.store_objects.specs.Standing.{StandFor}
+use Rattle.store_objects.specs.Standing.{AreProcesses, StandsFor, answered_in}
 use Rattle.store_objects.proofs.Keeping.{kept_on}
 
 pub some_same : {X : Type 0} (o : Option X) (x y : X) → o ≡ Some x → o ≡ Some y → x ≡ y
@@ -83,13 +83,13 @@ at_another controls (suc i) zero control d apart = refl
 at_another controls (suc i) (suc j) control d apart = ap (λ found. unwrap_or found d) (get_set_other controls i j control (λ same. apart (ap (λ k. suc k) same)))
 
 -- a process that is there was made
-pub proc_made : (script : Script) (objects : Objects) (plain : Plain) (account : Frames) (pid : ℕ) (proc : Proc) → AreKept script objects → StandFor script objects plain account
+pub proc_made : (script : Script) (objects : Objects) (plain : Plain) (pid : ℕ) (proc : Proc) → AreKept script objects → AreProcesses script objects plain
     → proc_of (procs_of objects) pid ≡ Some proc → (0 < pid) × (pid ≤ last_pid plain)
-proc_made script objects plain account pid proc kept stands is =
+proc_made script objects plain pid proc kept are is =
     let own : proc.pid ≡ pid = proc_has_pid (procs_of objects) pid proc is in
     let within : (0 < proc.pid) × (proc.pid ≤ objects.procs.last) = has_it (λ p. (0 < p.pid) × (p.pid ≤ objects.procs.last)) (procs_of objects) pid proc
     (pids_within objects.heap.procs objects.procs.listed 0 objects.procs.last kept.holds.stored kept.holds.rising) is in
-    let last : objects.procs.last ≡ last_pid plain = stands.last in
+    let last : objects.procs.last ≡ last_pid plain = are.last in
     (let l : 0 < proc.pid = within.0 in omega arith, let l : proc.pid ≤ objects.procs.last = within.1 in omega arith)
 
 refl_test : (n : ℕ) → (n == n) ≡ true
@@ -117,44 +117,53 @@ kept_moved script old new pid control kept moves stands rests =
     (subst (AllByRecursion (λ proc. length proc.nodes ≡ 4)) (sym procs) (all_replaced (λ proc. length proc.nodes ≡ 4) (procs_of old) pid now kept.groups (has_it (λ proc. length proc.nodes ≡ 4) (procs_of old) pid moves.proc kept.groups moves.found)))
     (subst (AreAtCalls script) (sym procs) (all_replaced (λ proc. proc.status ≡ None → IsAtCall script proc) (procs_of old) pid now kept.calls (λ up. record { stands = stands; rests = rests })))
 
--- the controls of all others are what they were
-pub goes_on : (script : Script) (old new : Objects) (plain : Plain) (account : Frames) (pid : ℕ) (reply : Reply) (control : Control) → AreKept script old
-    → StandFor script old plain account → MovesOn old pid control new → settled script (after script (control_of plain pid) reply) ≡ control
-    → StandFor script new (answered script plain pid reply) account
-goes_on script old new plain account pid reply control kept stands moves leads = record {
-  table = subst (λ k. IsTable new.heap k plain.table) (sym moves.same) (on-table old.heap new.heap old.procs pid moves.key moves.proc now kept.holds moves.turns plain.table refl stands.table);
-  last = ap (λ k. k.last) moves.same ∙ stands.last ∙ sym (length-with plain.controls pid (after script (control_of plain pid) reply));
+-- The objects stand for the world in which it goes on behind its call: its control is the new one, those of all others are what
+-- they were.
+pub goes_on : (script : Script) (old new : Objects) (world : World) (pid : ℕ) (reply : Reply) (control : Control) → StandsFor script old world
+    → MovesOn old pid control new → Stands script control → Rests script control → settled script (after script (control_of world.plain pid) reply) ≡ control
+    → StandsFor script new (answered_in script world pid reply)
+goes_on script old new world pid reply control stands moves at rests leads = record {
+  kept = kept_moved script old new pid control stands.kept moves at rests;
+  processes = record {
+    table = subst (λ k. IsTable new.heap k world.plain.table) (sym moves.same)
+        (on-table old.heap new.heap old.procs pid moves.key moves.proc now stands.kept.holds moves.turns world.plain.table refl stands.processes.table);
+    last = ap (λ k. k.last) moves.same ∙ stands.processes.last ∙ sym (length-with world.plain.controls pid (after script (control_of world.plain pid) reply));
+    controls = controls;
+  };
+  memory = subst (λ k. HasAccount new.heap k world.account.frames) (sym moves.same)
+      (on-account old.heap new.heap old.procs pid moves.key moves.proc now stands.kept.holds moves.turns world.account.frames stands.memory);
+  files = stands.files;
+  fronts = stands.fronts;
+  caches = stands.caches;
+  reads = stands.reads;
   family = stands.family;
   home = stands.home;
-  controls = controls;
-  accounted = subst (λ k. HasAccount new.heap k account) (sym moves.same) (on-account old.heap new.heap old.procs pid moves.key moves.proc now kept.holds moves.turns account stands.accounted);
-  bare = stands.bare;
 }
   where
     now : Proc
     now = record moves.proc { control = control }
 
-    made : (0 < pid) × (pid ≤ last_pid plain)
-    made = proc_made script old plain account pid moves.proc kept stands moves.found
+    made : (0 < pid) × (pid ≤ last_pid world.plain)
+    made = proc_made script old world.plain pid moves.proc stands.kept stands.processes moves.found
 
     own : now.pid ≡ pid
     own = proc_has_pid (procs_of old) pid moves.proc moves.found
 
     controls : (q : ℕ) (it : Proc) → proc_of (procs_of new) q ≡ Some it → it.status ≡ None
-        → settled script (control_of (answered script plain pid reply) q) ≡ it.control
+        → settled script (control_of (answered script world.plain pid reply) q) ≡ it.control
     controls q it found runs =
         let was = mapped_from (replaced pid now) (proc_of (procs_of old) q) it
-        (sym (replaced_at (procs_of old) pid now q own) ∙ ap (λ procs. proc_of procs q) (sym (procs_then script old new pid control kept moves)) ∙ found) in
+        (sym (replaced_at (procs_of old) pid now q own) ∙ ap (λ procs. proc_of procs q) (sym (procs_then script old new pid control stands.kept moves)) ∙ found) in
         let old_pid : was.0.pid ≡ q = proc_has_pid (procs_of old) q was.0 was.1 in
         elim (eqb_tells q pid) [
           | inl same ↦
-              ap (λ n. settled script (control_of (answered script plain pid reply) n)) same.1
-              ∙ ap (settled script) (at_itself plain.controls pid (after script (control_of plain pid) reply) (at_start 0) made.0 made.1)
+              ap (λ n. settled script (control_of (answered script world.plain pid reply) n)) same.1
+              ∙ ap (settled script) (at_itself world.plain.controls pid (after script (control_of world.plain pid) reply) (at_start 0) made.0 made.1)
               ∙ leads ∙ sym (ap (λ p. p.control) (was.2 ∙ ap (λ b. cond b now was.0) (ap (λ n. n == pid) (old_pid ∙ same.1) ∙ refl_test pid)))
           | inr apart ↦
               let same : it ≡ was.0 = was.2 ∙ ap (λ b. cond b now was.0) (ap (λ n. n == pid) old_pid ∙ apart.0) in
-              ap (settled script) (at_another plain.controls pid q (after script (control_of plain pid) reply) (at_start 0) apart.1)
-              ∙ stands.controls q was.0 was.1 (sym (ap (λ p. p.status) same) ∙ runs) ∙ sym (ap (λ p. p.control) same)
+              ap (settled script) (at_another world.plain.controls pid q (after script (control_of world.plain pid) reply) (at_start 0) apart.1)
+              ∙ stands.processes.controls q was.0 was.1 (sym (ap (λ p. p.status) same) ∙ runs) ∙ sym (ap (λ p. p.control) same)
         ]
 
 -- who runs at a call stands there
@@ -165,6 +174,6 @@ at_its_call script objects pid control kept runs =
     (subst (Stands script) runs.at_call at.stands, subst (Rests script) runs.at_call at.rests)
 
 -- its machine's control leads there
-pub led_to : (script : Script) (objects : Objects) (plain : Plain) (account : Frames) (pid : ℕ) (control : Control) → Runs objects pid control
-    → StandFor script objects plain account → settled script (control_of plain pid) ≡ control
-led_to script objects plain account pid control runs stands = stands.controls pid runs.proc runs.found runs.up ∙ runs.at_call
+pub led_to : (script : Script) (objects : Objects) (plain : Plain) (pid : ℕ) (control : Control) → Runs objects pid control
+    → AreProcesses script objects plain → settled script (control_of plain pid) ≡ control
+led_to script objects plain pid control runs are = are.controls pid runs.proc runs.found runs.up ∙ runs.at_call

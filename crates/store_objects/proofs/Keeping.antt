@@ -2,9 +2,8 @@
 use Rattle.std.proofs.Common.{◌≡◌, ℕ, List, [], ◌∷◌, length, Option, is_some, ap, sym, ◌∙◌, subst, inl, inr, arith, append-nil}
 use Rattle.std.specs.List.{AllByRecursion, Contains}
 use Rattle.kabi_types.specs.declared.scripts.Script.{Script}
-use Rattle.kheap_shelves.specs.Objects.{InUse, count, object}
+use Rattle.kheap_shelves.specs.Objects.{InUse, object}
 use Rattle.kheap_shelves.specs.declared.objects.Proc.{Proc}
-use Rattle.kheap_slabs.specs.Heap.{Heap}
 use Rattle.kheap_slabs.specs.Keys.{AreKeysOf, IsOnce}
 use Rattle.kheap_laws.proofs.KeyLemmas.{AreKeysOf-changes}
 use Rattle.kheap_laws.proofs.OnceLemmas.{IsOnce-cons}
@@ -13,7 +12,8 @@ use Rattle.proc_table.specs.Table.{AreBetween, AreStored, keys_of}
 use Rattle.proc_table.specs.declared.places.Listed.{Listed}
 use Rattle.proc_table.proofs.PlaceLemmas.{Contains-cases, IsAt, Misses, Misses-lower, stored_is}
 use Rattle.store_objects.specs.declared.objects.Objects.{Objects}
-use Rattle.store_objects.specs.Objects.{AreAtCalls, AreKept, HasRootAlone, no_owners, procs_of}
+use Rattle.store_objects.specs.Objects.{AreAtCalls, AreKept, no_owners, procs_of}
+use Rattle.store_objects.proofs.ClassesOn.{caches_on, opens_on, queues_on}
 
 misses_none : (places : List Listed) (key : ℕ) → Misses key places → Contains (keys_of places) key → ⊥
 misses_none [] key misses there = omega (arith, there.1)
@@ -49,20 +49,6 @@ all_on old new all moves =
     (λ key there. keys_used new.heap.procs new.procs.listed key moves.holds.stored there)
     (keys_once new.heap.procs new.procs.listed 0 new.procs.last moves.holds.stored moves.holds.rising))
 
--- the root stands alone still
-pub root_on : (old new : Heap) (disk : ℕ) → new ≡ record old { procs = new.procs; nodes = new.nodes; pages = new.pages; high = new.high } → HasRootAlone old disk → HasRootAlone new disk
-root_on old new disk kept root = record {
-  key = root.key;
-  root_is = ap (λ h. object h.vnodes root.key) kept ∙ root.root_is;
-  vnodes = ap (λ h. count h.vnodes) kept ∙ root.vnodes;
-  descs = ap (λ h. count h.descs) kept ∙ root.descs;
-  names = ap (λ h. count h.names) kept ∙ root.names;
-  blocks = ap (λ h. count h.blocks) kept ∙ root.blocks;
-  pipes = ap (λ h. count h.pipes) kept ∙ root.pipes;
-  chunks = ap (λ h. count h.chunks) kept ∙ root.chunks;
-  socks = ap (λ h. count h.socks) kept ∙ root.socks;
-}
-
 -- The objects are kept where the table moves on, and each process has four groups and stands at its call.
 pub kept_on : (script : Script) (old new : Objects) → AreKept script old → TableMoves old.heap old.procs new.heap new.procs
     → AllByRecursion (λ proc. length proc.nodes ≡ 4) (procs_of new) → AreAtCalls script (procs_of new) → AreKept script new
@@ -71,7 +57,9 @@ kept_on script old new kept moves groups calls = record {
   all = all_on old new kept.all moves;
   owned = moves.owners no_owners kept.owned;
   groups = groups;
-  root_alone = root_on old.heap new.heap script.disk moves.kept kept.root_alone;
-  size = ap (λ h. h.heap) moves.kept ∙ kept.size;
   calls = calls;
+  opens = opens_on old.heap new.heap (ap (λ h. h.descs) moves.kept) kept.opens;
+  queues = queues_on old.heap new.heap (ap (λ h. h.pipes) moves.kept) (ap (λ h. h.chunks) moves.kept) (ap (λ h. h.socks) moves.kept) kept.queues;
+  caches = caches_on old.heap new.heap script.disk (ap (λ h. h.vnodes) moves.kept) (ap (λ h. h.names) moves.kept) (ap (λ h. h.blocks) moves.kept) kept.caches;
+  size = ap (λ h. h.heap) moves.kept ∙ kept.size;
 }

@@ -1,13 +1,15 @@
 pub mod PidSums
 pub mod LiveIs
 pub mod PageNamings
+pub mod ClassesOn
+pub mod Families
 pub mod Keeping
 pub mod GoingOn
 pub mod RunningProcs
 pub mod Marking
 pub mod Forgetting
 pub mod Leading
-pub mod NoQueues
+pub mod NoFronts
 pub mod Paying
 pub mod Replies
 pub mod Callers

@@ -83,26 +83,25 @@ pub live_is : (script : Script) (objects : Objects) (world : World) → StandsFo
     → live_bytes objects.heap ≡ live_of world
 live_is script objects world stands whole =
     let kept = stands.kept in
-    let has = stands.plain.accounted in
+    let has = stands.memory in
     let procs : count objects.heap.procs ≡ how_many world.plain.table =
     count_of_keys objects.heap.procs _ kept.all ∙ length-keys_of objects
-    ∙ sym (length-procs_at objects.heap.procs objects.procs.listed kept.holds.stored) ∙ as_many stands.plain.table.present in
+    ∙ sym (length-procs_at objects.heap.procs objects.procs.listed kept.holds.stored) ∙ as_many stands.processes.table.present in
     let nodes : count objects.heap.nodes ≡ nodes_named world.account.frames = nodes_all script objects world.account.frames kept whole has in
     let pages : count objects.heap.pages ≡ frames_named world.account.frames = frames_are_pages has.number objects.heap.pages world.account.frames has.numbers
     (λ key used. subst (λ n. 0 < n) (sym (has.numbers.counts key used)) (kept.owned.pages.named key used)) in
-    let root = kept.root_alone in
-    let vnodes : count objects.heap.vnodes ≡ 1 = root.vnodes in
-    let descs : count objects.heap.descs ≡ 0 = root.descs in
-    let names : count objects.heap.names ≡ 0 = root.names in
-    let blocks : count objects.heap.blocks ≡ 0 = root.blocks in
-    let pipes : count objects.heap.pipes ≡ 0 = root.pipes in
-    let chunks : count objects.heap.chunks ≡ 0 = root.chunks in
-    let socks : count objects.heap.socks ≡ 0 = root.socks in
-    let caches : cached world.kept ≡ 128 = ap cached stands.cached in
+    let vnodes : count objects.heap.vnodes ≡ 1 = kept.caches.vnodes in
+    let descs : count objects.heap.descs ≡ 0 = kept.opens.descs in
+    let names : count objects.heap.names ≡ 0 = kept.caches.names in
+    let blocks : count objects.heap.blocks ≡ 0 = kept.caches.blocks in
+    let pipes : count objects.heap.pipes ≡ 0 = kept.queues.pipes in
+    let chunks : count objects.heap.chunks ≡ 0 = kept.queues.chunks in
+    let socks : count objects.heap.socks ≡ 0 = kept.queues.socks in
+    let caches : cached world.kept ≡ 128 = ap cached stands.caches in
     sum (count objects.heap.procs) (count objects.heap.nodes) (count objects.heap.pages) (count objects.heap.descs) (count objects.heap.vnodes)
     (count objects.heap.names) (count objects.heap.blocks) (count objects.heap.pipes) (count objects.heap.chunks) (count objects.heap.socks)
     (how_many world.plain.table) (nodes_named world.account.frames) (frames_named world.account.frames) (cached world.kept) (files_base world.plain.files world.account)
-    procs nodes pages descs vnodes names blocks pipes chunks socks caches (no_files_base world.plain.files world.account stands.plain.bare)
+    procs nodes pages descs vnodes names blocks pipes chunks socks caches (no_files_base world.plain.files world.account stands.files)
   where
     sum : (p n g d v m b i k s p' n' g' c f : ℕ) → p ≡ p' → n ≡ n' → g ≡ g' → d ≡ 0 → v ≡ 1 → m ≡ 0 → b ≡ 0 → i ≡ 0 → k ≡ 0 → s ≡ 0 → c ≡ 128 → f ≡ 0
         → 512 * p + 512 * n + 4096 * g + 64 * d + 128 * v + 64 * m + 1088 * b + 128 * i + 576 * k + 128 * s ≡ p' * 512 + n' * 512 + g' * 4096 + f + c

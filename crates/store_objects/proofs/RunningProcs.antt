@@ -3,15 +3,15 @@ use Rattle.std.proofs.Common.{◌≡◌, ◌==◌, not, ℕ, Bool, true, false, 
 use Rattle.std.specs.Option.{option_map}
 use Rattle.kheap_shelves.specs.declared.objects.Proc.{Proc}
 use Rattle.kheap_slabs.specs.Heap.{Heap}
+use Rattle.kabi_types.specs.declared.scripts.Control.{Control}
 use Rattle.kabi_types.specs.declared.scripts.Script.{Script}
-use Rattle.posix_defs.specs.Memory.{Frames}
 use Rattle.posix_defs.specs.Plain.{Plain}
 use Rattle.posix_defs.specs.Process.{is_alive, is_alive_in, runs}
 use Rattle.proc_table.specs.Procs.{IsAlive, proc_of, process_of, status_of}
 use Rattle.proc_table.proofs.FamilyLemmas.{process_is}
 use Rattle.store_objects.specs.declared.objects.Objects.{Objects}
-use Rattle.store_objects.specs.Objects.{is_running, procs_of}
-use Rattle.store_objects.specs.Standing.{StandFor}
+use Rattle.store_objects.specs.Objects.{Runs, is_running, procs_of}
+use Rattle.store_objects.specs.Standing.{AreProcesses}
 
 runs_in : Option Proc → Bool
 runs_in None = false
@@ -46,10 +46,10 @@ alive_as h (Some proc) = go proc.status
     go (Some status) = refl
 
 -- who runs is alive in the machine
-pub alive_is : (script : Script) (objects : Objects) (plain : Plain) (account : Frames) (pid : ℕ) → StandFor script objects plain account
+pub alive_is : (script : Script) (objects : Objects) (plain : Plain) (pid : ℕ) → AreProcesses script objects plain
     → is_alive plain.table pid ≡ is_running (procs_of objects) pid
-alive_is script objects plain account pid stands =
-    ap is_alive_in (process_is objects.heap plain.table (procs_of objects) pid stands.table.present)
+alive_is script objects plain pid are =
+    ap is_alive_in (process_is objects.heap plain.table (procs_of objects) pid are.table.present)
     ∙ alive_as objects.heap (proc_of (procs_of objects) pid) ∙ sym (found_running (procs_of objects) pid)
 
 no_status : (o : Option ℕ) → not (is_some o) ≡ true → o ≡ None
@@ -65,6 +65,12 @@ running procs pid is = go (proc_of procs pid) refl (sym (found_running procs pid
     go None e up = absurd (let f : false ≡ true = sym (ap runs_in e) ∙ up in cc)
     go (Some proc) e up = record { proc = proc; there = e; runs = no_status proc.status (sym (ap runs_in e) ∙ up) }
 
-pub alive_runs : (script : Script) (objects : Objects) (plain : Plain) (account : Frames) (pid : ℕ) → StandFor script objects plain account
+pub alive_runs : (script : Script) (objects : Objects) (plain : Plain) (pid : ℕ) → AreProcesses script objects plain
     → is_alive plain.table pid ≡ true → IsAlive (procs_of objects) pid
-alive_runs script objects plain account pid stands alive = running (procs_of objects) pid (sym (alive_is script objects plain account pid stands) ∙ alive)
+alive_runs script objects plain pid are alive = running (procs_of objects) pid (sym (alive_is script objects plain pid are) ∙ alive)
+
+-- and who runs is alive
+pub alive_there : (script : Script) (objects : Objects) (plain : Plain) (pid : ℕ) (control : Control) → Runs objects pid control
+    → AreProcesses script objects plain → is_alive plain.table pid ≡ true
+alive_there script objects plain pid control runs are =
+    alive_is script objects plain pid are ∙ running_as (procs_of objects) pid runs.proc false runs.found (ap is_some runs.up)

@@ -1,4 +1,3 @@
-pub mod FramesAlone
 pub mod Objects
 pub mod Standing
 pub mod Uses

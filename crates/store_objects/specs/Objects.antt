@@ -70,17 +70,23 @@ no_owners = record { spaces = []; queues = [] }
 abbrev pub root_vnode : ℕ → Vnode
 root_vnode blocks = record { number = root; inode = new_root blocks; pins = 1 }
 
--- Of all that isn't a process or its memory the heap has the root's vnode alone, of a disk with so many blocks.
-pub record HasRootAlone (h : Heap) (disk : ℕ) : Type 0 where
-  pub key : ℕ
-  pub root_is : object h.vnodes key ≡ Some (root_vnode disk)
-  pub vnodes : count h.vnodes ≡ 1
+-- Nothing is open: there is no description.
+pub record HasNothingOpen (h : Heap) : Type 0 where
   pub descs : count h.descs ≡ 0
-  pub names : count h.names ≡ 0
-  pub blocks : count h.blocks ≡ 0
+
+-- There is no pipe and no socket, and so no chunk of a queue.
+pub record HasNoQueue (h : Heap) : Type 0 where
   pub pipes : count h.pipes ≡ 0
   pub chunks : count h.chunks ≡ 0
   pub socks : count h.socks ≡ 0
+
+-- The caches have the root's vnode alone, of a disk with so many blocks.
+pub record CachesRootAlone (h : Heap) (disk : ℕ) : Type 0 where
+  pub key : ℕ
+  pub root_is : object h.vnodes key ≡ Some (root_vnode disk)
+  pub vnodes : count h.vnodes ≡ 1
+  pub names : count h.names ≡ 0
+  pub blocks : count h.blocks ≡ 0
 
 -- What the objects of a store keep, whatever they stand for: the table has every process that is in the heap, their spaces
 -- own all nodes, and of the rest the root's vnode alone is there. Who runs stands at its next call.
@@ -89,6 +95,8 @@ pub record AreKept (script : Script) (objects : Objects) : Type 0 where
   pub all : AreKeysOf objects.heap.procs (keys_of objects.procs.listed)
   pub owned : IsOwned objects.heap (with_procs (procs_of objects) no_owners)
   pub groups : AllByRecursion (λ proc. length proc.nodes ≡ 4) (procs_of objects)
-  pub root_alone : HasRootAlone objects.heap script.disk
-  pub size : objects.heap.heap ≡ script.heap
   pub calls : AreAtCalls script (procs_of objects)
+  pub opens : HasNothingOpen objects.heap
+  pub queues : HasNoQueue objects.heap
+  pub caches : CachesRootAlone objects.heap script.disk
+  pub size : objects.heap.heap ≡ script.heap

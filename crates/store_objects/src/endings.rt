@@ -3,19 +3,17 @@
 ghost use Rattle.std.specs.Prelude.{◌≡◌, ◌≢◌, ◌<◌, ℕ, IfSome, None, false};
 ghost use Rattle.kabi_types.specs.declared.scripts.Control.{Control};
 ghost use Rattle.kabi_types.specs.declared.scripts.Script.{Script};
-ghost use Rattle.posix_defs.specs.Account.{forget_dead};
-ghost use Rattle.posix_defs.specs.Ending.{die};
 ghost use Rattle.posix_defs.specs.Memory.{Frames};
-ghost use Rattle.posix_defs.specs.Plain.{Plain};
 ghost use Rattle.posix_defs.specs.Process.{Table};
 ghost use Rattle.posix_defs.specs.Sizes.{reserve};
+ghost use Rattle.posix_defs.specs.World.{World};
 ghost use Rattle.proc_table.specs.Accounting.{HasAccount};
 ghost use Rattle.proc_table.specs.Procs.{IsAlive};
 ghost use Rattle.proc_table.specs.Standing.{IsTable, ends_from};
 ghost use Rattle.proc_table.specs.Table.{Holds};
 ghost use Rattle.store_objects.specs.Endings.{ClearsSome, IsLowestBehind};
 ghost use Rattle.store_objects.specs.Objects.{AreKept, Runs, is_running, procs_of};
-ghost use Rattle.store_objects.specs.Standing.{StandFor};
+ghost use Rattle.store_objects.specs.Standing.{StandsFor, ended_in};
 ghost use Rattle.store_objects.specs.Uses.{UsesAtMost};
 
 use crate::objects::Objects;
@@ -65,8 +63,7 @@ pub fn end(objects: &mut Objects, pid: u32, status: u16)
     ensures kept { (script : Script) → AreKept script objects.old → AreKept script objects.new }
     ensures uses { UsesAtMost objects.old.heap objects.new.heap 0 reserve }
     ensures others { pid ≢ 1 → (other : ℕ) (control : Control) → other ≢ pid → Runs objects.old other control → Runs objects.new other control }
-    ensures dies { (script : Script) (plain : Plain) (account : Frames) → AreKept script objects.old → StandFor script objects.old plain account
-        → StandFor script objects.new (die plain pid status) (forget_dead (die plain pid status) account) }
+    ensures dies { (script : Script) (world : World) → StandsFor script objects.old world → StandsFor script objects.new (ended_in world pid status) }
 {
     objects.procs.end(&mut objects.heap, pid, status);
     if pid == INIT {

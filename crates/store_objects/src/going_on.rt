@@ -1,16 +1,14 @@
 //! A process goes on behind its call.
 
-ghost use Rattle.std.specs.Prelude.{◌≡◌, true};
+ghost use Rattle.std.specs.Prelude.{◌≡◌};
 ghost use Rattle.kabi_types.specs.declared.scripts.Control.{Control};
 ghost use Rattle.kheap_slabs.specs.Paid.{TakesNothing};
-ghost use Rattle.posix_defs.specs.Memory.{Frames};
 ghost use Rattle.posix_defs.specs.Control.{after, settled};
-ghost use Rattle.posix_defs.specs.Plain.{Plain, answered};
-ghost use Rattle.posix_defs.specs.Process.{is_alive};
+ghost use Rattle.posix_defs.specs.World.{World};
 ghost use Rattle.posix_defs.specs.declared.turner.Turned.TheVariants as turned;
 ghost use Rattle.prog_ctl.specs.Runnable.{Rests, Stands};
 ghost use Rattle.store_objects.specs.Objects.{AreKept, Runs};
-ghost use Rattle.store_objects.specs.Standing.{StandFor};
+ghost use Rattle.store_objects.specs.Standing.{StandsFor, answered_in};
 
 use crate::objects::Objects;
 use kabi_types::{Control, Reply, Script};
@@ -43,8 +41,7 @@ pub fn go_on(
     ensures kept { AreKept script.now objects.new }
     ensures told { result ≡ turned.Done reply }
     ensures takes { TakesNothing objects.old.heap objects.new.heap }
-    ensures does { (plain : Plain) (account : Frames) → StandFor script.now objects.old plain account → is_alive plain.table pid ≡ true
-        → StandFor script.now objects.new (answered script.now plain pid reply) account }
+    ensures goes { (world : World) → StandsFor script.now objects.old world → StandsFor script.now objects.new (answered_in script.now world pid reply) }
 {
     objects.move_on(pid, behind(script, control, &reply));
     Turned::Done(reply)

@@ -16,5 +16,5 @@ returns-in-Err-clause-uses c = uses_nothing c.args.objects.now.heap c.go_on.new.
 pub returns-in-Err-clause-does : goal.returns-in-Err-clause-does
 returns-in-Err-clause-does c =
     does_fail c.args.script.now c.args.objects.now c.go_on.new.objects c.args.caller.now.pid c.args.call.now c.in-Err.errno c.go_on.result _
-    c.go_on.ensures.kept c.go_on.ensures.told c.go_on.ensures.does
-    (λ plain. wrong_told c.args.script.now plain c.args.caller.now.pid _ c.in-Err.errno (answer_to c.args.script.now plain c.args.caller.now.pid c.args.call.now) (sym c.checked.ensures ∙ ap result_err c.in-Err.is))
+    c.go_on.ensures.told c.go_on.ensures.goes
+    (λ world stands. wrong_told c.args.script.now world.plain c.args.caller.now.pid _ c.in-Err.errno (answer_to c.args.script.now world.plain c.args.caller.now.pid c.args.call.now) (sym c.checked.ensures ∙ ap result_err c.in-Err.is))

@@ -2,8 +2,8 @@ use Rattle.std.proofs.Common.{◌≡◌, ap, le_refl, arith}
 use Rattle.kheap_slabs.specs.Heap.{Heap, live_bytes}
 use Rattle.posix_defs.specs.World.{live_of}
 use Rattle.store_objects.proofs.LiveIs.{live_is}
-use Rattle.call_run.proofs.Killing.{high_marked, stands_marked}
-use Rattle.store_objects.proofs.Marking.{kept_marked, since_mark}
+use Rattle.call_run.proofs.Killing.{high_marked}
+use Rattle.store_objects.proofs.Marking.{kept_marked, since_mark, stands_marked}
 use Rattle.call_run.proofs.turns.evict.Goals as goal
 
 pub returns-clause-kept : goal.returns-clause-kept

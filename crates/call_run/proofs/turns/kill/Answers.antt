@@ -4,10 +4,10 @@ use Rattle.posix_defs.specs.Sizes.{reserve}
 use Rattle.posix_defs.specs.World.{live_of}
 use Rattle.store_objects.specs.declared.objects.Objects.{Objects}
 use Rattle.store_objects.specs.Objects.{AreKept, procs_of}
-use Rattle.store_objects.specs.Standing.{StandsFor}
-use Rattle.call_run.proofs.Killing.{high_marked, killed_in, killed_stands, kills_in, stands_marked}
+use Rattle.store_objects.specs.Standing.{StandsFor, ended_in}
+use Rattle.call_run.proofs.Killing.{high_marked, kills_in}
 use Rattle.store_objects.proofs.LiveIs.{live_is}
-use Rattle.store_objects.proofs.Marking.{kept_marked, since_mark}
+use Rattle.store_objects.proofs.Marking.{kept_marked, since_mark, stands_marked}
 use Rattle.store_objects.proofs.RunningProcs.{alive_is, running}
 use Rattle.call_run.proofs.turns.kill.Goals as goal
 use Rattle.call_run.proofs.turns.kill.Goals.{then-pid-eq-INIT-via-then-pid-eq-INIT, then-pid-eq-INIT-via-else-pid-eq-INIT+then-not-runs}
@@ -33,7 +33,7 @@ returns-then-pid-eq-INIT-clause-high c = λ script world stands.
 pub returns-then-pid-eq-INIT-clause-killed : goal.returns-then-pid-eq-INIT-clause-killed
 returns-then-pid-eq-INIT-clause-killed c = λ script world stands alive other.
     let marked : StandsFor script (record { heap = c.mark.new.self; procs = c.args.objects.now.procs }) world = rw c.mark.ensures (stands_marked script c.args.objects.now _ _ world stands) in
-    let lives = alive_is script (record { heap = c.mark.new.self; procs = c.args.objects.now.procs }) world.plain world.account.frames c.args.pid marked.plain in
+    let lives = alive_is script (record { heap = c.mark.new.self; procs = c.args.objects.now.procs }) world.plain c.args.pid marked.processes in
     elim c.then-pid-eq-INIT.branch [
       | then-pid-eq-INIT-via-then-pid-eq-INIT w ↦ absurd (other w.if-pid-eq-INIT.true)
       | then-pid-eq-INIT-via-else-pid-eq-INIT+then-not-runs w ↦ never (sym alive ∙ lives ∙ sym w.runs.ensures ∙ w.if-not-runs.true)
@@ -59,16 +59,16 @@ returns-clause-killed c = λ script world stands _ _.
     let old = c.args.objects.now in
     let mid : Objects = record { heap = c.mark.new.self; procs = old.procs } in
     let marked : StandsFor script mid world = rw c.mark.ensures (stands_marked script old _ _ world stands) in
-    let after = killed_stands script mid c.end.new.objects world c.args.pid marked (c.end.ensures.kept script marked.kept) (c.end.ensures.dies script world.plain world.account.frames marked.kept marked.plain) in
+    let after = c.end.ensures.dies script world marked in
     let less : live_bytes c.end.new.objects.heap ≤ live_bytes c.mark.new.self + 0 = c.end.ensures.uses.live in
     let same : live_bytes c.mark.new.self ≡ live_bytes old.heap = ap live_bytes c.mark.ensures in
-    (killed_in world c.args.pid, after, kills_in script old c.end.new.objects world c.args.pid stands c.heap_is_well_formed.ensures after c.heap_is_well_formed-2.ensures (omega arith))
+    (ended_in world c.args.pid 9, after, kills_in script old c.end.new.objects world c.args.pid stands c.heap_is_well_formed.ensures after c.heap_is_well_formed-2.ensures (omega arith))
 
 pub returns-clause-gone : goal.returns-clause-gone
 returns-clause-gone c = λ script world stands dead.
     let marked : StandsFor script (record { heap = c.mark.new.self; procs = c.args.objects.now.procs }) world = rw c.mark.ensures (stands_marked script c.args.objects.now _ _ world stands) in
     never (sym c.if-not-runs.false ∙ c.runs.ensures
-    ∙ sym (alive_is script (record { heap = c.mark.new.self; procs = c.args.objects.now.procs }) world.plain world.account.frames c.args.pid marked.plain) ∙ dead)
+    ∙ sym (alive_is script (record { heap = c.mark.new.self; procs = c.args.objects.now.procs }) world.plain c.args.pid marked.processes) ∙ dead)
 
 pub returns-clause-high : goal.returns-clause-high
 returns-clause-high c = λ script world stands.

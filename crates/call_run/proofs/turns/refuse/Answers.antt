@@ -1,9 +1,9 @@
 use Rattle.std.proofs.Common.{◌≡◌, ◌∙◌, ap, false, le_refl, sym, true, arith}
 use Rattle.kheap_slabs.specs.Heap.{Heap, live_bytes}
 use Rattle.posix_defs.specs.World.{live_of}
-use Rattle.store_objects.specs.Standing.{StandFor}
+use Rattle.store_objects.specs.Standing.{StandsFor}
 use Rattle.store_objects.proofs.LiveIs.{live_is}
-use Rattle.store_objects.proofs.Marking.{kept_marked, since_mark, stand_marked}
+use Rattle.store_objects.proofs.Marking.{kept_marked, since_mark, stands_marked}
 use Rattle.store_objects.proofs.RunningProcs.{alive_is}
 use Rattle.call_run.proofs.turns.refuse.Goals as goal
 
@@ -23,23 +23,15 @@ returns-clause-high c = λ world stands.
     omega arith
 
 pub returns-clause-refused : goal.returns-clause-refused
-returns-clause-refused c = λ world stands alive.
-    let marked : StandFor c.args.script.now (record { heap = c.mark.new.self; procs = c.args.objects.now.procs }) world.plain world.account.frames =
-    rw c.mark.ensures (stand_marked c.args.script.now c.args.objects.now _ _ world.plain world.account.frames stands.plain) in
-    record {
-      kept = c.go_on.ensures.kept;
-      plain = c.go_on.ensures.does world.plain world.account.frames marked alive;
-      no_queues = stands.no_queues;
-      cached = stands.cached;
-      reads = stands.reads;
-    }
+returns-clause-refused c = λ world stands _.
+    c.go_on.ensures.goes world (rw c.mark.ensures (stands_marked c.args.script.now c.args.objects.now _ _ world stands))
 
 pub unreachable-requires : goal.unreachable-requires
 unreachable-requires c =
     let alive = c.requires in
-    let marked : StandFor c.args.script.now (record { heap = c.mark.new.self; procs = c.args.objects.now.procs }) alive.0.plain alive.0.account.frames =
-    rw c.mark.ensures (stand_marked c.args.script.now c.args.objects.now _ _ alive.0.plain alive.0.account.frames alive.1.plain) in
-    never (sym alive.2 ∙ alive_is c.args.script.now _ alive.0.plain alive.0.account.frames c.args.pid marked ∙ c.caller.ensures.none c.in_default.is)
+    let marked : StandsFor c.args.script.now (record { heap = c.mark.new.self; procs = c.args.objects.now.procs }) alive.0 =
+    rw c.mark.ensures (stands_marked c.args.script.now c.args.objects.now _ _ alive.0 alive.1) in
+    never (sym alive.2 ∙ alive_is c.args.script.now _ alive.0.plain c.args.pid marked.processes ∙ c.caller.ensures.none c.in_default.is)
 
 pub returns-clause-marked : goal.returns-clause-marked
 returns-clause-marked c = c.go_on.ensures.takes.marks ∙ ap (λ (h : Heap). h.marks) c.mark.ensures

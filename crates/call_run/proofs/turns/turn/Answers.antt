@@ -6,7 +6,7 @@ use Rattle.posix_defs.specs.Sizes.{reserve}
 use Rattle.posix_defs.specs.World.{live_of}
 use Rattle.store_objects.specs.declared.objects.Objects.{Objects}
 use Rattle.store_objects.specs.Objects.{IsCaller}
-use Rattle.store_objects.specs.Standing.{Does, StandsFor}
+use Rattle.store_objects.specs.Standing.{Performs, StandsFor}
 use Rattle.store_objects.proofs.Callers.{caller_of, caller_running}
 use Rattle.store_objects.proofs.LiveIs.{live_is}
 use Rattle.store_objects.proofs.Marking.{kept_marked, since_mark, stands_marked}
@@ -39,7 +39,7 @@ returns-in_default-clause-turned c = λ world stands.
     let new : Objects = record { heap = c.mark.new.self; procs = c.args.objects.now.procs } in
     let marked : StandsFor c.args.script.now new world = rw c.mark.ensures (stands_marked c.args.script.now c.args.objects.now _ _ world stands) in
     gone_on c.args.script.now new world c.args.pid c.args.call.now marked
-    (alive_is c.args.script.now new world.plain world.account.frames c.args.pid marked.plain ∙ c.caller.ensures.none c.in_default.is)
+    (alive_is c.args.script.now new world.plain c.args.pid marked.processes ∙ c.caller.ensures.none c.in_default.is)
 
 -- no more than at the mark, the call's bound and what it may use meanwhile
 at_most : (high mark marked bytes meanwhile live of : ℕ) → high ≤ max mark (marked + bytes + meanwhile) → mark ≡ live → marked ≡ live → live ≡ of → high ≤ of + bytes + meanwhile
@@ -60,12 +60,12 @@ returns-clause-turned c = λ world stands.
     let new = c.run-turned.new.objects in
     let stands_marked_too : StandsFor script marked world = rw c.mark.ensures (stands_marked script c.args.objects.now _ _ world stands) in
     let caller : IsCaller marked pid c.in-Some.caller = c.in-Some.ensures.some in
-    let alive = alive_is script marked world.plain world.account.frames pid stands_marked_too.plain ∙ caller_running marked pid c.in-Some.caller caller in
+    let alive = alive_is script marked world.plain pid stands_marked_too.processes ∙ caller_running marked pid c.in-Some.caller caller in
     let live : live_bytes marked.heap ≡ live_of world = ap live_bytes c.mark.ensures ∙ live_is script c.args.objects.now world stands c.heap_is_well_formed.ensures in
-    let does : Does script marked pid which (λ plain. machine script plain pid which) c.run-turned.result new =
-    subst (λ p. Does script marked p which (λ plain. machine script plain p which) c.run-turned.result new) caller.same c.run-turned.ensures.does in
-    turns_on script marked new world pid which c.run-turned.result stands_marked_too alive live c.heap_is_well_formed-2.ensures c.run-turned.ensures.kept c.run-turned.ensures.uses.live
-    (does world.plain world.account.frames stands_marked_too.plain alive)
+    let does : Performs script marked pid which (λ plain. machine script plain pid which) c.run-turned.result new =
+    subst (λ p. Performs script marked p which (λ plain. machine script plain p which) c.run-turned.result new) caller.same c.run-turned.ensures.does in
+    turns_on script marked new world pid which c.run-turned.result alive live c.heap_is_well_formed-2.ensures c.run-turned.ensures.uses.live
+    (does world stands_marked_too alive)
 
 pub returns-clause-high : goal.returns-clause-high
 returns-clause-high c = λ world stands.

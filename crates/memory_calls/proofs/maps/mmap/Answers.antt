@@ -8,14 +8,15 @@ use Rattle.kabi_values.specs.declared.errnos.Errno.{Errno}
 use Rattle.kabi_values.specs.declared.errnos.Errno.TheVariants.{EMFILE}
 use Rattle.kabi_values.specs.declared.replies.Reply.TheVariants.{Fail, Val}
 use Rattle.posix_defs.specs.declared.turner.Turned.TheVariants.{Done}
+use Rattle.posix_defs.specs.Account.{with_frames}
+use Rattle.posix_defs.specs.Answer.{failed}
 use Rattle.posix_defs.specs.Memory.{after_map, lowest_run, with_pages}
-use Rattle.posix_defs.specs.MemoryCalls.{mapped_from, remembered}
+use Rattle.posix_defs.specs.MemoryCalls.{mapped_from, mmap}
 use Rattle.posix_defs.specs.Needs.{pages_in}
-use Rattle.posix_defs.specs.Plain.{answered}
 use Rattle.posix_defs.specs.Process.{memory_of}
-use Rattle.kern_laws.proofs.Remembering.{alive_still}
-use Rattle.store_objects.specs.Standing.{Led, StandFor}
+use Rattle.store_objects.specs.Standing.{StandsFor, WorldAfter, answered_in, remembered_in}
 use Rattle.store_objects.proofs.Leading.{led_on}
+use Rattle.store_objects.proofs.Replies.{GoesOn, does_fail}
 use Rattle.memory_calls.proofs.RightNumbers.{mmap_bytes}
 use Rattle.memory_calls.proofs.maps.mmap.Goals as goal
 
@@ -44,30 +45,28 @@ place_of : (first : ℕ) → (page_size * first) / 4096 ≡ first
 place_of first = let e : (4096 * first) / 4096 ≡ first = omega arith in e
 
 pub returns-in-Ok-clause-does : goal.returns-in-Ok-clause-does
-returns-in-Ok-clause-does c = λ plain account stands alive.
+returns-in-Ok-clause-does c = λ world stands alive.
     let script = c.args.script.now in
     let pid = c.args.pid in
-    let memory = memory_of plain.table pid in
+    let memory = memory_of world.plain.table pid in
     let u : c.cast_unsigned.result ≡ cast_unsigned w64 c.args.length =
     subst (λ z. c.cast_unsigned.result ≡ cast_unsigned w64 z) (to_z-of_z w64 c.args.length c.ranges.length) c.cast_unsigned.ensures in
     let bytes : c.cast_unsigned.result ≡ count_of c.args.length = mmap_bytes c.args.length c.cast_unsigned.result c.requires.right u in
     let means : Mapped (lowest_run memory (pages_in c.cast_unsigned.result)) c.in-Ok.addr =
-    ok_means (lowest_run memory (pages_in c.cast_unsigned.result)) c.in-Ok.addr (sym c.in-Ok.is ∙ c.map.ensures.found script plain account stands) in
+    ok_means (lowest_run memory (pages_in c.cast_unsigned.result)) c.in-Ok.addr (sym c.in-Ok.is ∙ c.map.ensures.found script world stands) in
     let first = means.first in
     let count = pages_in (count_of c.args.length) in
-    let base = remembered plain pid (with_pages memory first count) in
-    let now = after_map account pid first count in
-    let between : StandFor script c.map.new.objects base now =
-    subst (λ n. StandFor script c.map.new.objects (remembered plain pid (with_pages memory first (pages_in n))) (after_map account pid first (pages_in n))) bytes
-    (c.map.ensures.mapped script plain account first stands (c.in-Ok.is ∙ ap Ok means.at)) in
+    let base = remembered_in world pid (with_pages memory first count) (after_map world.account.frames pid first count) in
+    let between : StandsFor script c.map.new.objects base =
+    subst (λ n. StandsFor script c.map.new.objects (remembered_in world pid (with_pages memory first (pages_in n)) (after_map world.account.frames pid first (pages_in n)))) bytes
+    (c.map.ensures.mapped script world first stands (c.in-Ok.is ∙ ap Ok means.at)) in
     let number : _ ≡ pos (page_size * first) = to_z-of_z w64 c.from.result (record { sfits = c.from.type_inv }) ∙ c.from.ensures ∙ ap pos means.at in
-    subst (λ answer. Led script c.go_on.new.objects plain account pid (call.Mmap c.args.length) answer c.go_on.result)
-    (sym (ap (mapped_from script plain pid count) (sym (ap (λ n. lowest_run memory (pages_in n)) bytes) ∙ means.is)))
-    (led_on script c.go_on.new.objects plain base account now pid (call.Mmap c.args.length) (Val (pos (page_size * first))) c.go_on.result
-    c.go_on.ensures.kept (c.go_on.ensures.told ∙ ap (λ z. Done (Val z)) number)
-    (subst (λ z. StandFor script c.go_on.new.objects (answered script base pid (Val z)) now) number
-    (c.go_on.ensures.does base now between (alive_still plain.table pid pid (with_pages memory first count) ∙ alive)))
-    (ap (λ f. after_map account pid f count) (sym (place_of first))))
+    subst (λ answer. WorldAfter script c.go_on.new.objects world pid (call.Mmap c.args.length) answer c.go_on.result)
+    (sym (ap (mapped_from script world.plain pid count) (sym (ap (λ n. lowest_run memory (pages_in n)) bytes) ∙ means.is)))
+    (led_on script c.map.new.objects c.go_on.new.objects world base pid (call.Mmap c.args.length) (Val (pos (page_size * first))) c.go_on.result between
+    (c.go_on.ensures.told ∙ ap (λ z. Done (Val z)) number)
+    (subst (λ z. StandsFor script c.go_on.new.objects (answered_in script base pid (Val z))) number (c.go_on.ensures.goes base between))
+    refl refl (ap (λ f. with_frames world.account (after_map world.account.frames pid f count)) (sym (place_of first))) refl refl)
 
 record Full (o : Option ℕ) (errno : Errno) : Type 0 where
   is : o ≡ None
@@ -78,20 +77,19 @@ err_means None errno e = record { is = refl; at = (cc) }
 err_means (Some first) errno e = cc
 
 pub returns-in-Err-clause-does : goal.returns-in-Err-clause-does
-returns-in-Err-clause-does c = λ plain account stands alive.
+returns-in-Err-clause-does c =
     let script = c.args.script.now in
     let pid = c.args.pid in
-    let memory = memory_of plain.table pid in
+    let goes : GoesOn script c.args.objects.now pid (Fail c.in-Err.errno) c.go_on-in-Err.new.objects =
+    subst (λ o. GoesOn script o pid (Fail c.in-Err.errno) c.go_on-in-Err.new.objects) c.in-Err.ensures.unchanged c.go_on-in-Err.ensures.goes in
+    does_fail script c.args.objects.now c.go_on-in-Err.new.objects pid (call.Mmap c.args.length) c.in-Err.errno c.go_on-in-Err.result (λ plain. mmap script plain pid c.args.length)
+    c.go_on-in-Err.ensures.told goes
+    (λ world stands.
+    let memory = memory_of world.plain.table pid in
     let u : c.cast_unsigned.result ≡ cast_unsigned w64 c.args.length =
     subst (λ z. c.cast_unsigned.result ≡ cast_unsigned w64 z) (to_z-of_z w64 c.args.length c.ranges.length) c.cast_unsigned.ensures in
     let bytes : c.cast_unsigned.result ≡ count_of c.args.length = mmap_bytes c.args.length c.cast_unsigned.result c.requires.right u in
     let means : Full (lowest_run memory (pages_in c.cast_unsigned.result)) c.in-Err.errno =
-    err_means (lowest_run memory (pages_in c.cast_unsigned.result)) c.in-Err.errno (sym c.in-Err.is ∙ c.map.ensures.found script plain account stands) in
-    let count = pages_in (count_of c.args.length) in
-    let between : StandFor script c.map.new.objects plain account = subst (λ o. StandFor script o plain account) (sym c.in-Err.ensures.unchanged) stands in
-    subst (λ answer. Led script c.go_on-in-Err.new.objects plain account pid (call.Mmap c.args.length) answer c.go_on-in-Err.result)
-    (sym (ap (mapped_from script plain pid count) (sym (ap (λ n. lowest_run memory (pages_in n)) bytes) ∙ means.is)))
-    (led_on script c.go_on-in-Err.new.objects plain plain account account pid (call.Mmap c.args.length) (Fail EMFILE) c.go_on-in-Err.result
-    c.go_on-in-Err.ensures.kept (c.go_on-in-Err.ensures.told ∙ ap (λ e. Done (Fail e)) means.at)
-    (subst (λ e. StandFor script c.go_on-in-Err.new.objects (answered script plain pid (Fail e)) account) means.at
-    (c.go_on-in-Err.ensures.does plain account between alive)) refl)
+    err_means (lowest_run memory (pages_in c.cast_unsigned.result)) c.in-Err.errno (sym c.in-Err.is ∙ c.map.ensures.found script world stands) in
+    ap (mapped_from script world.plain pid (pages_in (count_of c.args.length))) (sym (ap (λ n. lowest_run memory (pages_in n)) bytes) ∙ means.is)
+    ∙ ap (failed script world.plain pid) (sym means.at))

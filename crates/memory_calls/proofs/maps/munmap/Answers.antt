@@ -5,11 +5,9 @@ use Rattle.kabi_calls.specs.Arguments.{count_of, page_size}
 use Rattle.kabi_calls.specs.declared.calls.Call.TheVariants as call
 use Rattle.kabi_values.specs.declared.replies.Reply.TheVariants.{Val}
 use Rattle.posix_defs.specs.Memory.{after_unmap, without_pages}
-use Rattle.posix_defs.specs.MemoryCalls.{remembered}
 use Rattle.posix_defs.specs.Needs.{pages_touched}
 use Rattle.posix_defs.specs.Process.{memory_of}
-use Rattle.kern_laws.proofs.Remembering.{alive_still}
-use Rattle.store_objects.specs.Standing.{StandFor}
+use Rattle.store_objects.specs.Standing.{StandsFor, remembered_in}
 use Rattle.store_objects.proofs.Leading.{led_on}
 use Rattle.memory_calls.proofs.RightNumbers.{munmap_pages}
 use Rattle.memory_calls.proofs.maps.munmap.Goals as goal
@@ -21,7 +19,7 @@ pub go_on-requires-clause-runs : goal.go_on-requires-clause-runs
 go_on-requires-clause-runs c = c.unmap.ensures.runs c.args.control c.requires.runs
 
 pub returns-clause-does : goal.returns-clause-does
-returns-clause-does c = λ plain account stands alive.
+returns-clause-does c = λ world stands alive.
     let script = c.args.script.now in
     let pid = c.args.pid in
     let u : c.cast_unsigned.result ≡ cast_unsigned w64 c.args.addr =
@@ -31,12 +29,11 @@ returns-clause-does c = λ plain account stands alive.
     let pages = munmap_pages c.args.addr c.args.length c.cast_unsigned.result c.cast_unsigned-2.result c.requires.right u v in
     let first = count_of c.args.addr / page_size in
     let count = pages_touched (count_of c.args.addr) (count_of c.args.length) in
-    let base = remembered plain pid (without_pages (memory_of plain.table pid) first count) in
-    let now = after_unmap account pid first count in
-    let between : StandFor script c.unmap.new.objects base now =
-    subst (λ n. StandFor script c.unmap.new.objects (remembered plain pid (without_pages (memory_of plain.table pid) first n)) (after_unmap account pid first n)) pages.1
-    (subst (λ n. StandFor script c.unmap.new.objects (remembered plain pid (without_pages (memory_of plain.table pid) n ((c.cast_unsigned-2.result + 4096 - 1) / 4096))) (after_unmap account pid n ((c.cast_unsigned-2.result + 4096 - 1) / 4096))) pages.0
-    (c.unmap.ensures.unmapped script plain account stands)) in
-    led_on script c.go_on.new.objects plain base account now pid (call.Munmap c.args.addr c.args.length) (Val (pos 0)) c.go_on.result
-    c.go_on.ensures.kept c.go_on.ensures.told
-    (c.go_on.ensures.does base now between (alive_still plain.table pid pid (without_pages (memory_of plain.table pid) first count) ∙ alive)) refl
+    let memory = memory_of world.plain.table pid in
+    let base = remembered_in world pid (without_pages memory first count) (after_unmap world.account.frames pid first count) in
+    let between : StandsFor script c.unmap.new.objects base =
+    subst (λ n. StandsFor script c.unmap.new.objects (remembered_in world pid (without_pages memory first n) (after_unmap world.account.frames pid first n))) pages.1
+    (subst (λ n. StandsFor script c.unmap.new.objects (remembered_in world pid (without_pages memory n ((c.cast_unsigned-2.result + 4096 - 1) / 4096)) (after_unmap world.account.frames pid n ((c.cast_unsigned-2.result + 4096 - 1) / 4096)))) pages.0
+    (c.unmap.ensures.unmapped script world stands)) in
+    led_on script c.unmap.new.objects c.go_on.new.objects world base pid (call.Munmap c.args.addr c.args.length) (Val (pos 0)) c.go_on.result
+    between c.go_on.ensures.told (c.go_on.ensures.goes base between) refl refl refl refl refl

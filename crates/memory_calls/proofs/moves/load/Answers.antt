@@ -9,7 +9,7 @@ use Rattle.posix_defs.specs.Answer.{replied}
 use Rattle.posix_defs.specs.Memory.{loaded}
 use Rattle.posix_defs.specs.MemoryCalls.{in_range}
 use Rattle.posix_defs.specs.Process.{memory_of}
-use Rattle.store_objects.specs.Standing.{Does}
+use Rattle.store_objects.specs.Standing.{Performs}
 use Rattle.memory_calls.proofs.MemoryMoves.{does_fault, does_load}
 use Rattle.memory_calls.proofs.RightNumbers.{load_bytes}
 use Rattle.memory_calls.proofs.moves.load.Goals as goal
@@ -40,9 +40,9 @@ returns-in-Ok-clause-does c =
     does_load script c.args.objects.now c.go_on.new.objects c.args.pid c.args.addr c.args.count c.start_of-start.result c.cast_unsigned-count.result c.in-Ok.bytes c.go_on.result
     right.0
     (subst (λ z. 0 < c.cast_unsigned-count.result → c.start_of-start.result ≡ count_of z) (to_z-of_z w64 c.args.addr c.ranges.addr) c.start_of-start.ensures.start)
-    c.go_on.ensures.kept c.go_on.ensures.told
-    (λ plain account stands. sym c.in-Ok.is ∙ c.take.ensures script plain account stands)
-    c.go_on.ensures.does
+    c.go_on.ensures.told
+    (λ world stands. sym c.in-Ok.is ∙ c.take.ensures script world stands)
+    c.go_on.ensures.goes
 
 pub returns-in-Err-clause-does : goal.returns-in-Err-clause-does
 returns-in-Err-clause-does c =
@@ -53,11 +53,11 @@ returns-in-Err-clause-does c =
     let addr = c.args.addr in
     let start = c.start_of-start.result in
     let n = c.cast_unsigned-count.result in
-    subst (λ n. Does script c.args.objects.now pid (call.Load addr c.args.count)
+    subst (λ n. Performs script c.args.objects.now pid (call.Load addr c.args.count)
     (λ plain. in_range script plain pid addr n (replied script plain pid (Bytes (loaded (memory_of plain.table pid) (count_of addr) n)))) c.go_on-in-Err.result c.go_on-in-Err.new.objects) right.0
     (does_fault script c.args.objects.now c.go_on-in-Err.new.objects pid (call.Load addr c.args.count) addr start n c.in-Err.errno c.go_on-in-Err.result
     (λ plain. replied script plain pid (Bytes (loaded (memory_of plain.table pid) (count_of addr) n))) (λ plain. loaded (memory_of plain.table pid) start n)
     (subst (λ z. 0 < n → start ≡ count_of z) (to_z-of_z w64 addr c.ranges.addr) c.start_of-start.ensures.start)
-    c.go_on-in-Err.ensures.kept c.go_on-in-Err.ensures.told
-    (λ plain account stands. sym c.in-Err.is ∙ c.take.ensures script plain account stands)
-    c.go_on-in-Err.ensures.does)
+    c.go_on-in-Err.ensures.told
+    (λ world stands. sym c.in-Err.is ∙ c.take.ensures script world stands)
+    c.go_on-in-Err.ensures.goes)

@@ -8,12 +8,11 @@ use Rattle.kheap_shelves.specs.Objects.{object, put}
 use Rattle.kheap_slabs.specs.Heap.{Heap}
 use Rattle.kheap_laws.proofs.PaidLemmas.{IsPaid-nothing, IsPaid-trans}
 use Rattle.posix_defs.specs.Memory.{after_map, is_mapped, lowest_run, with_pages, zero_page}
-use Rattle.posix_defs.specs.MemoryCalls.{remembered}
 use Rattle.posix_defs.specs.Needs.{pages_in}
 use Rattle.proc_table.specs.Procs.{memory_at}
 use Rattle.proc_table.proofs.MemoryLemmas.{length-memory_at, memory_at-stands}
 use Rattle.store_objects.specs.declared.objects.Objects.{Objects}
-use Rattle.store_objects.specs.Standing.{StandFor}
+use Rattle.store_objects.specs.Standing.{StandsFor, remembered_in}
 use Rattle.memory_calls.proofs.LongRuns.{none_long, run_within}
 use Rattle.memory_calls.proofs.SpacesInHand.{kept_then, memory_is, nodes_back, runs_then, stand_then}
 use Rattle.memory_calls.proofs.WithRanges.{length-with_range}
@@ -74,8 +73,8 @@ same_first a b e = let n : a * 4096 ≡ 4096 * b = (cc) in omega arith
 
 pub returns-then-length-gt-SPACE-clause-found : goal.returns-then-length-gt-SPACE-clause-found
 unfolding answered
-returns-then-length-gt-SPACE-clause-found c = λ script plain account stands.
-    sym (ap answered (none_long (is_mapped (memory_of plain.table c.args.pid)) (pages_in c.args.length)
+returns-then-length-gt-SPACE-clause-found c = λ script world stands.
+    sym (ap answered (none_long (is_mapped (memory_of world.plain.table c.args.pid)) (pages_in c.args.length)
     (let big : 1048576 < c.args.length = c.if-length-gt-SPACE.true in omega arith)))
 
 pub overflow_mul-result : goal.overflow_mul-result
@@ -88,9 +87,9 @@ overflow_mul-result c =
 
 pub returns-in_err-first-clause-found : goal.returns-in_err-first-clause-found
 unfolding answered
-returns-in_err-first-clause-found c = λ script plain account stands.
+returns-in_err-first-clause-found c = λ script world stands.
     let memory = memory_at c.args.objects.now.heap c.space_of-key.result.1 in
-    let here = memory_is script c.args.objects.now plain account c.args.pid c.space_of-key.result.0 c.space_of-key.result.1 c.space_of-key.ensures stands in
+    let here = memory_is script c.args.objects.now world.plain c.args.pid c.space_of-key.result.0 c.space_of-key.result.1 c.space_of-key.ensures stands.processes in
     let known = c.map.ensures.found memory (memory_at-stands c.args.objects.now.heap c.space_of-key.result.1) in
     let gives : c.from_residual.result ≡ Err c.in_err-first.field-0.0 = search rules in
     gives ∙ told_err (lowest_run memory _) c.in_err-first.field-0.0 (sym c.in_err-first.was ∙ known)
@@ -99,16 +98,16 @@ returns-in_err-first-clause-found c = λ script plain account stands.
 
 pub returns-clause-found : goal.returns-clause-found
 unfolding answered
-returns-clause-found c = λ script plain account stands.
+returns-clause-found c = λ script world stands.
     let memory = memory_at c.args.objects.now.heap c.space_of-key.result.1 in
-    let here = memory_is script c.args.objects.now plain account c.args.pid c.space_of-key.result.0 c.space_of-key.result.1 c.space_of-key.ensures stands in
+    let here = memory_is script c.args.objects.now world.plain c.args.pid c.space_of-key.result.0 c.space_of-key.result.1 c.space_of-key.ensures stands.processes in
     let known = c.map.ensures.found memory (memory_at-stands c.args.objects.now.heap c.space_of-key.result.1) in
     told_ok (lowest_run memory _) c.in_ok-first.first (sym c.in_ok-first.was ∙ known)
     ∙ ap (λ n. answered (lowest_run memory n)) (many c.args.length _ refl)
     ∙ ap (λ m. answered (lowest_run m (pages_in c.args.length))) (sym here)
 
 pub returns-clause-mapped : goal.returns-clause-mapped
-returns-clause-mapped c = λ script plain account first stands is.
+returns-clause-mapped c = λ script world first stands is.
     let memory = memory_at c.args.objects.now.heap c.space_of-key.result.1 in
     let known = c.map.ensures.found memory (memory_at-stands c.args.objects.now.heap c.space_of-key.result.1) in
     let some = was_some (lowest_run memory _) c.in_ok-first.first (sym c.in_ok-first.was ∙ known) in
@@ -116,11 +115,11 @@ returns-clause-mapped c = λ script plain account first stands is.
     let new : Objects = record { heap = c.set_proc_nodes.new.self; procs = c.args.objects.now.procs } in
     let whole : length memory ≡ 256 = length-memory_at c.args.objects.now.heap c.space_of-key.result.1 in
     let count = (c.args.length + 4096 - 1) / 4096 in
-    subst (λ n. StandFor script new (remembered plain c.args.pid (with_pages (memory_of plain.table c.args.pid) first n)) (after_map account c.args.pid first n)) (many c.args.length count refl)
-    (subst (λ f. StandFor script new (remembered plain c.args.pid (with_pages (memory_of plain.table c.args.pid) f count)) (after_map account c.args.pid f count)) (same_first c.in_ok-first.first first is)
+    subst (λ n. StandsFor script new (remembered_in world c.args.pid (with_pages (memory_of world.plain.table c.args.pid) first n) (after_map world.account.frames c.args.pid first n))) (many c.args.length count refl)
+    (subst (λ f. StandsFor script new (remembered_in world c.args.pid (with_pages (memory_of world.plain.table c.args.pid) f count) (after_map world.account.frames c.args.pid f count))) (same_first c.in_ok-first.first first is)
     (stand_then c.args.objects.now c.map.new.heap c.set_proc_nodes.new.self c.args.pid c.space_of-key.result.0 c.space_of-key.result.1 c.map.new.self c.space_of-key.ensures c.map.ensures.moves (back_is c)
-    script plain account (after_map account c.args.pid c.in_ok-first.first count) (λ m. with_pages m c.in_ok-first.first count)
-    c.requires.kept.1.holds stands
+    script world (after_map world.account.frames c.args.pid c.in_ok-first.first count) (λ m. with_pages m c.in_ok-first.first count)
+    stands c.nodes.ensures.groups
     (c.in_ok-first.ensures.memory memory whole)
     (length-with_range memory c.in_ok-first.first count (Some zero_page) (let l : c.in_ok-first.first + count ≤ 256 = within in omega (arith, whole)) ∙ whole)
-    (λ number accounted. c.in_ok-first.ensures.account number account c.args.pid accounted)))
+    (λ number accounted. c.in_ok-first.ensures.account number world.account.frames c.args.pid accounted)))

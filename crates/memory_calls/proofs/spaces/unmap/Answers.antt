@@ -36,12 +36,12 @@ pub returns-clause-takes : goal.returns-clause-takes
 returns-clause-takes c = TakesNothing-trans c.args.objects.now.heap c.unmap.new.heap c.set_proc_nodes.new.self c.unmap.ensures.takes c.set_proc_nodes.ensures.takes
 
 pub returns-clause-unmapped : goal.returns-clause-unmapped
-returns-clause-unmapped c = λ script plain account stands.
+returns-clause-unmapped c = λ script world stands.
     let memory = memory_at c.args.objects.now.heap c.space_of-key.result.1 in
     let whole : length memory ≡ 256 = length-memory_at c.args.objects.now.heap c.space_of-key.result.1 in
     stand_then c.args.objects.now c.unmap.new.heap c.set_proc_nodes.new.self c.args.pid c.space_of-key.result.0 c.space_of-key.result.1 c.unmap.new.self c.space_of-key.ensures c.unmap.ensures.moves (back_is c)
-    script plain account (after_unmap account c.args.pid c.args.page c.args.count) (λ m. without_pages m c.args.page c.args.count)
-    c.requires.kept.1.holds stands
+    script world (after_unmap world.account.frames c.args.pid c.args.page c.args.count) (λ m. without_pages m c.args.page c.args.count)
+    stands c.nodes.ensures.groups
     (c.unmap.ensures.memory memory whole)
     (length-with_range memory c.args.page c.args.count None (let l : c.args.page + c.args.count ≤ 256 = c.requires.within in omega (arith, whole)) ∙ whole)
-    (λ number accounted. c.unmap.ensures.account number account c.args.pid accounted)
+    (λ number accounted. c.unmap.ensures.account number world.account.frames c.args.pid accounted)

@@ -1,16 +1,15 @@
 use Rattle.std.proofs.Common.{◌≡◌, ◌∙◌, ap, pos, refl, subst, sym, w64}
 use Rattle.std.specs.Prelude.{Ok}
 use Rattle.std.proofs.lemmas.Int.{to_z-of_z}
-use Rattle.kabi_values.specs.declared.replies.Reply.TheVariants.{Val}
+use Rattle.kabi_values.specs.declared.replies.Reply.TheVariants.{Fail, Val}
 use Rattle.kheap_laws.proofs.PaidLemmas.{IsPaid-nothing, IsPaid-trans}
-use Rattle.posix_defs.specs.Plain.{answered}
 use Rattle.posix_defs.specs.declared.turner.Turned.TheVariants.{Done}
 use Rattle.proc_table.specs.Accounting.{HasAccount, forked_account}
 use Rattle.proc_table.specs.Changes.{forked_as}
 use Rattle.proc_table.specs.Standing.{IsTable, forked_in}
 use Rattle.store_objects.specs.declared.objects.Objects.{Objects}
 use Rattle.store_objects.specs.Objects.{AreKept, Runs}
-use Rattle.store_objects.specs.Standing.{StandFor}
+use Rattle.store_objects.proofs.Replies.{GoesOn}
 use Rattle.process_calls.proofs.Forking.{child_there, does_fork, does_full, kept_child, number_of, runs_still, same_objects}
 use Rattle.store_objects.proofs.GoingOn.{at_its_call}
 use Rattle.process_calls.proofs.children.fork.Goals as goal
@@ -73,17 +72,16 @@ returns-in-Ok-clause-does c =
     let value : _ ≡ pos c.in-Ok.child = to_z-of_z w64 c.from.result (record { sfits = c.from.type_inv }) ∙ c.from.ensures in
     does_fork script c.args.objects.now mid c.move_on.new.self c.args.pid c.in-Ok.child c.args.control c.behind.result
     c.requires.kept c.requires.runs c.fork.ensures.moves c.in-Ok.ensures.child (number_of _ _ c.in-Ok.child answer) c.move_on.ensures
-    c.go_on.new.objects c.go_on.result c.go_on.ensures.kept answer
+    c.go_on.new.objects c.go_on.result c.behind.ensures.stands c.behind.ensures.rests answer
     (λ table is. subst (λ r. IsTable c.fork.new.heap c.fork.new.self (forked_in table c.args.pid r)) c.in-Ok.is (c.fork.ensures.table table is))
     (λ frames has. subst (λ r. HasAccount c.fork.new.heap c.fork.new.self (forked_account frames c.args.pid r)) c.in-Ok.is (c.fork.ensures.account frames has))
     c.behind.ensures.leads
     (c.go_on.ensures.told ∙ ap (λ z. Done (Val z)) value)
-    (λ plain account stands alive.
-    subst (λ z. StandFor script c.go_on.new.objects (answered script plain c.args.pid (Val z)) account) value (c.go_on.ensures.does plain account stands alive))
+    (subst (λ z. GoesOn script c.move_on.new.self c.args.pid (Val z) c.go_on.new.objects) value c.go_on.ensures.goes)
 
 pub returns-in-Err-clause-does : goal.returns-in-Err-clause-does
 returns-in-Err-clause-does c =
     let same = same_objects c.args.objects.now c.fork.new.heap c.fork.new.self c.in-Err.ensures.unchanged.0 c.in-Err.ensures.unchanged.1 in
     does_full c.args.script.now c.args.objects.now c.go_on-in-Err.new.objects c.args.pid c.in-Err.errno c.go_on-in-Err.result
-    c.requires.kept c.go_on-in-Err.ensures.kept (sym c.in-Err.is ∙ c.fork.ensures.answer) c.go_on-in-Err.ensures.told
-    (λ plain account stands alive. c.go_on-in-Err.ensures.does plain account (subst (λ objects. StandFor c.args.script.now objects plain account) (sym same) stands) alive)
+    (sym c.in-Err.is ∙ c.fork.ensures.answer) c.go_on-in-Err.ensures.told
+    (subst (λ objects. GoesOn c.args.script.now objects c.args.pid (Fail c.in-Err.errno) c.go_on-in-Err.new.objects) same c.go_on-in-Err.ensures.goes)

@@ -1,4 +1,4 @@
-use Rattle.std.proofs.Common.{◌≡◌, ◌∙◌, ◌<◌, ◌≤◌, pos, Ok, sym, ap, subst, w64, arith}
+use Rattle.std.proofs.Common.{◌≡◌, ◌∙◌, ◌<◌, ◌≤◌, pos, refl, Ok, sym, ap, subst, w64, arith}
 use Rattle.std.specs.Int.{cast_unsigned}
 use Rattle.std.proofs.lemmas.Int.{to_z-of_z}
 use Rattle.kabi_calls.specs.declared.calls.Call.TheVariants as call
@@ -9,7 +9,7 @@ use Rattle.posix_defs.specs.Sizes.{reserve}
 use Rattle.proc_table.specs.Procs.{IsAlive}
 use Rattle.proc_table.specs.Standing.{IsTable, answered_by, pid_of}
 use Rattle.store_objects.specs.Objects.{procs_of}
-use Rattle.store_objects.specs.Standing.{Does}
+use Rattle.store_objects.specs.Standing.{Performs}
 use Rattle.store_objects.proofs.EndingOthers.{alive_made}
 use Rattle.store_objects.proofs.Paying.{uses_nothing}
 use Rattle.process_calls.proofs.Striking.{IsStruck, answered_as, does_strike, does_tell, number_of, struck_by}
@@ -55,8 +55,8 @@ returns-in-Err-clause-does c =
     let answers : (plain : Plain) → IsTable objects.heap objects.procs plain.table → kill script plain pid c.args.target c.args.signal ≡ answered_by script plain pid c.args.target c.may_kill.result = λ plain is.
     answered_as script plain pid c.args.target c.args.signal _ _ c.may_kill.result (to_z-of_z w64 c.args.target c.ranges.target) (to_z-of_z w64 c.args.signal c.ranges.signal)
     (c.may_kill.ensures.kill script plain is) in
-    does_tell script objects c.go_on.new.objects pid c.args.target c.args.signal (Fail c.in-Err.errno) c.go_on.result c.go_on.ensures.kept
-    (λ plain is. answers plain is ∙ ap (answered_by script plain pid c.args.target) c.in-Err.is) c.go_on.ensures.told c.go_on.ensures.does
+    does_tell script objects c.go_on.new.objects pid c.args.target c.args.signal (Fail c.in-Err.errno) c.go_on.result
+    (λ plain is. answers plain is ∙ ap (answered_by script plain pid c.args.target) c.in-Err.is) c.go_on.ensures.told (λ frames. refl) c.go_on.ensures.goes
 
 pub returns-in-Ok-false-clause-does : goal.returns-in-Ok-false-clause-does
 returns-in-Ok-false-clause-does c =
@@ -66,8 +66,8 @@ returns-in-Ok-false-clause-does c =
     let answers : (plain : Plain) → IsTable objects.heap objects.procs plain.table → kill script plain pid c.args.target c.args.signal ≡ answered_by script plain pid c.args.target c.may_kill.result = λ plain is.
     answered_as script plain pid c.args.target c.args.signal _ _ c.may_kill.result (to_z-of_z w64 c.args.target c.ranges.target) (to_z-of_z w64 c.args.signal c.ranges.signal)
     (c.may_kill.ensures.kill script plain is) in
-    does_tell script objects c.go_on-in-Ok-false.new.objects pid c.args.target c.args.signal (Val (pos 0)) c.go_on-in-Ok-false.result c.go_on-in-Ok-false.ensures.kept
-    (λ plain is. answers plain is ∙ ap (answered_by script plain pid c.args.target) (c.in-Ok-false.is ∙ ap Ok c.in-Ok-false.field-0-test)) c.go_on-in-Ok-false.ensures.told c.go_on-in-Ok-false.ensures.does
+    does_tell script objects c.go_on-in-Ok-false.new.objects pid c.args.target c.args.signal (Val (pos 0)) c.go_on-in-Ok-false.result
+    (λ plain is. answers plain is ∙ ap (answered_by script plain pid c.args.target) (c.in-Ok-false.is ∙ ap Ok c.in-Ok-false.field-0-test)) c.go_on-in-Ok-false.ensures.told (λ frames. refl) c.go_on-in-Ok-false.ensures.goes
 
 pub returns-in-Ok-true-clause-does : goal.returns-in-Ok-true-clause-does
 returns-in-Ok-true-clause-does c =
@@ -84,8 +84,8 @@ returns-in-Ok-true-clause-does c =
     (c.may_kill.ensures.kill script plain is) in
     does_strike script objects c.strike.new.objects pid c.args.target c.args.signal c.strike.result
     (λ plain is. answers plain is ∙ ap (answered_by script plain pid c.args.target) (c.in-Ok-true.is ∙ ap Ok c.in-Ok-true.field-0-test))
-    (subst (λ n. Does script objects pid (call.Kill c.args.target c.args.signal) (λ plain. struck script plain pid n) c.strike.result c.strike.new.objects) number
-    (c.strike.ensures.does (call.Kill c.args.target c.args.signal) tt))
+    (subst (λ n. Performs script objects pid (call.Kill c.args.target c.args.signal) (λ plain. struck script plain pid n) c.strike.result c.strike.new.objects) number
+    (c.strike.ensures.does c.args.target c.args.signal))
 
 pub returns-in-Err-clause-uses : goal.returns-in-Err-clause-uses
 returns-in-Err-clause-uses c = uses_nothing c.args.objects.now.heap c.go_on.new.objects.heap 0 reserve c.go_on.ensures.takes

@@ -10,12 +10,12 @@ returns-then-pid-eq-INIT-clause-kept c = λ script kept.
     c.end_others.ensures.kept script (kept_ended script c.args.objects.now mid c.args.pid c.args.status kept c.end.ensures.moves c.end.ensures.ended)
 
 pub returns-then-pid-eq-INIT-clause-dies : goal.returns-then-pid-eq-INIT-clause-dies
-returns-then-pid-eq-INIT-clause-dies c = λ script plain account kept stands.
+returns-then-pid-eq-INIT-clause-dies c = λ script world stands.
     let old = c.args.objects.now in
     let mid = record old { heap = c.end.new.heap; procs = c.end.new.self } in
-    dies_with_all script old plain account kept stands mid c.end_others.new.objects c.args.pid c.args.status c.if-pid-eq-INIT.true
-    (c.end_others.ensures.kept script (kept_ended script old mid c.args.pid c.args.status kept c.end.ensures.moves c.end.ensures.ended))
-    c.requires.alive c.end.ensures.last c.end_others.ensures.last (c.end.ensures.table plain.table stands.table) (c.end.ensures.account account stands.accounted)
+    dies_with_all script old world stands mid c.end_others.new.objects c.args.pid c.args.status c.if-pid-eq-INIT.true
+    (c.end_others.ensures.kept script (kept_ended script old mid c.args.pid c.args.status stands.kept c.end.ensures.moves c.end.ensures.ended))
+    c.requires.alive c.end.ensures.last c.end_others.ensures.last (c.end.ensures.table world.plain.table stands.processes.table) (c.end.ensures.account world.account.frames stands.memory)
     c.end_others.ensures.table c.end_others.ensures.account
 
 pub returns-else-pid-eq-INIT-clause-kept : goal.returns-else-pid-eq-INIT-clause-kept
@@ -24,12 +24,12 @@ returns-else-pid-eq-INIT-clause-kept c = λ script kept.
     kept_ended script c.args.objects.now mid c.args.pid c.args.status kept c.end.ensures.moves c.end.ensures.ended
 
 pub returns-else-pid-eq-INIT-clause-dies : goal.returns-else-pid-eq-INIT-clause-dies
-returns-else-pid-eq-INIT-clause-dies c = λ script plain account kept stands.
+returns-else-pid-eq-INIT-clause-dies c = λ script world stands.
     let old = c.args.objects.now in
     let new = record old { heap = c.end.new.heap; procs = c.end.new.self } in
-    dies_other script old plain account kept stands new c.args.pid c.args.status
-    (kept_ended script old new c.args.pid c.args.status kept c.end.ensures.moves c.end.ensures.ended)
-    c.requires.alive c.if-pid-eq-INIT.false c.end.ensures.last c.end.ensures.ended (c.end.ensures.table plain.table stands.table) (c.end.ensures.account account stands.accounted)
+    dies_other script old world stands new c.args.pid c.args.status
+    (kept_ended script old new c.args.pid c.args.status stands.kept c.end.ensures.moves c.end.ensures.ended)
+    c.requires.alive c.if-pid-eq-INIT.false c.end.ensures.last c.end.ensures.ended (c.end.ensures.table world.plain.table stands.processes.table) (c.end.ensures.account world.account.frames stands.memory)
 
 pub returns-then-pid-eq-INIT-clause-others : goal.returns-then-pid-eq-INIT-clause-others
 returns-then-pid-eq-INIT-clause-others c = λ other. absurd (other c.if-pid-eq-INIT.true)

@@ -23,7 +23,8 @@ returns-clause-kept c =
 pub returns-clause-takes : goal.returns-clause-takes
 returns-clause-takes c = c.move_on.ensures.takes
 
-pub returns-clause-does : goal.returns-clause-does
-returns-clause-does c = λ plain account stands alive.
-    goes_on c.args.script.now c.args.objects.now c.move_on.new.self plain account c.args.pid c.args.reply c.behind.result c.requires.kept stands c.move_on.ensures
-    (c.behind.ensures.leads (control_of plain c.args.pid) (led_to c.args.script.now c.args.objects.now plain account c.args.pid c.args.control c.requires.runs stands))
+pub returns-clause-goes : goal.returns-clause-goes
+returns-clause-goes c = λ world stands.
+    goes_on c.args.script.now c.args.objects.now c.move_on.new.self world c.args.pid c.args.reply c.behind.result stands c.move_on.ensures
+    c.behind.ensures.stands c.behind.ensures.rests
+    (c.behind.ensures.leads (control_of world.plain c.args.pid) (led_to c.args.script.now c.args.objects.now world.plain c.args.pid c.args.control c.requires.runs stands.processes))

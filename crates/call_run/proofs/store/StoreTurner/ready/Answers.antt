@@ -7,6 +7,6 @@ use Rattle.call_run.proofs.store.StoreTurner.ready.Goals as goal
 pub returns : goal.returns
 returns g c = λ world stands alive.
     let at = subst (λ store. StandsFor store.script store.objects world) (sym c.self.view_is) stands in
-    ap not (c.would_block.ensures c.self.inside.script world.plain world.account.frames at.plain (call_of c.self.inside.script world.plain c.args.pid)
+    ap not (c.would_block.ensures c.self.inside.script world at (call_of c.self.inside.script world.plain c.args.pid)
     (c.as_ref.ensures.value ∙ c.waits_for-wait.ensures world at alive))
     ∙ ap (λ store. not (would_block store.script world.plain c.args.pid)) c.self.view_is
