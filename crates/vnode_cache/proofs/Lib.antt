@@ -1,3 +1,4 @@
+pub mod FillLemmas
 pub mod HeldLemmas
 pub mod LooseLemmas
 pub mod OrderLemmas

@@ -10,5 +10,7 @@
 
 mod cache;
 pub mod laws;
+#[cfg(test)]
+mod tests;
 
 pub use cache::VnodeCache;
