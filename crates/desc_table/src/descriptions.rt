@@ -10,10 +10,11 @@ ghost use Rattle.open_laws.specs.Closing.{IsClosable, IsDroppable, Drops, Target
 ghost use Rattle.open_laws.specs.Described.{CountedList, access_in, counting, after_share, after_drop, node_in, node_left, descs_left};
 ghost use Rattle.open_laws.specs.Open.{AreOpen, files_dropped};
 ghost use Rattle.open_laws.specs.Owned.{HasItsOwners};
+ghost use Rattle.open_laws.specs.Sharing.{CanShare, after_shares, hand_with, share_all};
 ghost use Rattle.pipe_ends.specs.Standing.{HasEndAt};
 ghost use Rattle.usock_core.specs.Standing.{IsClosableIn};
 
-use kheap_shelves::{Access, Desc, Target};
+use kheap_shelves::{Access, Desc, Descriptor, Target};
 use kheap_slabs::KHeap;
 use pipe_ends::close_end;
 use usock_core::close_sock;
@@ -38,6 +39,22 @@ pub fn share_desc(heap: &mut KHeap, desc: u32)
             ..found
         },
     );
+}
+
+/// Each of these descriptors, which are those of a process, is there once more, in a process that is being made.
+pub fn share_descs(heap: &mut KHeap, places: &[Option<Descriptor>])
+    requires can { CanShare heap.old.descs places.now }
+    ensures kept { heap.new ≡ record heap.old { descs = share_all heap.old.descs places.now } }
+    ensures opened { (numbers : Numbers) (list : CountedList) (files : Files) → AreOpen numbers heap.old list files
+        → AreOpen numbers heap.new (after_shares numbers.descs list places.now) files }
+    ensures owners { (hand : List ℕ) → HasItsOwners heap.old hand → HasItsOwners heap.new (hand_with places.now hand) }
+    ensures takes { TakesNothing heap.old heap.new }
+{
+    for place in places {
+        if let Some(descriptor) = place {
+            share_desc(heap, descriptor.desc);
+        }
+    }
 }
 
 /// One descriptor fewer names an open description. With the last one it goes, and its end of a pipe or its socket is closed

@@ -10,5 +10,5 @@ mod descriptors;
 #[cfg(test)]
 mod tests;
 
-pub use descriptions::{drop_desc, share_desc};
+pub use descriptions::{drop_desc, share_desc, share_descs};
 pub use descriptors::Descs;

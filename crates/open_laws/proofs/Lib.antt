@@ -3,4 +3,5 @@ pub mod DescribedLemmas
 pub mod DropLemmas
 pub mod OwnerLemmas
 pub mod PipeLemmas
+pub mod ShareLemmas
 pub mod SocketLemmas

@@ -39,14 +39,14 @@ use Rattle.open_laws.proofs.PipeLemmas.{other_stands}
 within : (descs : List (Option Desc)) (key : ℕ) (desc : Desc) → object descs key ≡ Some desc → key < length descs
 within descs key desc is = InUse-within descs key (subst IsSome (sym is) refl)
 
-set_here : (descs : List (Option Desc)) (key : ℕ) (desc : Desc) (now : Option Desc) → object descs key ≡ Some desc → object (set descs key now) key ≡ now
+pub set_here : (descs : List (Option Desc)) (key : ℕ) (desc : Desc) (now : Option Desc) → object descs key ≡ Some desc → object (set descs key now) key ≡ now
 set_here descs key desc now is = get_or-set_same descs key now None (within descs key desc is)
 
-set_other : (descs : List (Option Desc)) (key other : ℕ) (now : Option Desc) → other ≢ key → object (set descs key now) other ≡ object descs other
+pub set_other : (descs : List (Option Desc)) (key other : ℕ) (now : Option Desc) → other ≢ key → object (set descs key now) other ≡ object descs other
 set_other descs key other now apart = get_or-set_other descs key other now None apart
 
 -- 1 where the test is passed
-abbrev one_if : Bool → ℕ
+abbrev pub one_if : Bool → ℕ
 one_if passes = cond passes 1 0
 
 count_set : (test : Option Desc → Bool) (descs : List (Option Desc)) (key : ℕ) (desc : Desc) (now : Option Desc) → object descs key ≡ Some desc
@@ -392,7 +392,7 @@ module _ (old new : Heap) (key : ℕ) (desc : Desc) (is : object old.descs key �
 -- ---- one descriptor more, and one fewer
 
 -- the count that is kept of each Desc, where that of one is another
-count_at_set : (descs : List (Option Desc)) (key : ℕ) (desc : Desc) (now : Option Desc) → object descs key ≡ Some desc → (other : ℕ)
+pub count_at_set : (descs : List (Option Desc)) (key : ℕ) (desc : Desc) (now : Option Desc) → object descs key ≡ Some desc → (other : ℕ)
     → desc_count_at (set descs key now) other + cond (eqb key other) desc.count 0 ≡ desc_count_at descs other + cond (eqb key other) (desc_count now) 0
 count_at_set descs key desc now is other = elim (cases_eq other key) [
   | inl here ↦ subst (λ k. desc_count_at (set descs key now) k + cond (eqb key k) desc.count 0 ≡ desc_count_at descs k + cond (eqb key k) (desc_count now) 0) (sym here)

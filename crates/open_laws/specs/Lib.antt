@@ -4,3 +4,4 @@ pub mod Socketed
 pub mod Open
 pub mod Closing
 pub mod Owned
+pub mod Sharing
