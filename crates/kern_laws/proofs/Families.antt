@@ -1,21 +1,17 @@
 -- Every machine that is reached keeps what a table of processes keeps.
-use Rattle.std.proofs.Common.{◌≡◌, ◌≢◌, ℕ, zero, suc, ◌+◌, ◌*◌, ◌/◌, ◌<◌, ◌≤◌, ◌==◌, ℤ, pos, negsuc, Bool, true, false, cond, List, [], ◌∷◌, ◌++◌, length, map, if◌then◌else◌, Option, None, Some, refl, ap, sym, ◌∙◌, subst, arith, ◌⊎◌, inl, inr, length-append, slice_get, unwrap_or}
-use Rattle.std.specs.Option.{option_or}
+use Rattle.std.proofs.Common.{◌≡◌, ◌≢◌, ℕ, zero, suc, ◌+◌, ◌<◌, ◌≤◌, ◌==◌, pos, Bool, true, false, cond, List, [], ◌∷◌, ◌++◌, length, map, Option, None, Some, refl, ap, sym, ◌∙◌, subst, arith, ◌⊎◌, inl, inr, length-append}
 use Rattle.std.proofs.lemmas.Bool.Decides.{eqb_tells}
 use Rattle.std.proofs.lemmas.List.{length-set, length-map}
-use Rattle.kabi_calls.specs.Arguments.{argument_fault, count_of, page_size}
 use Rattle.kabi_calls.specs.declared.calls.Call.{Call}
 use Rattle.kabi_calls.specs.declared.calls.CallKind.{CallKind}
-use Rattle.kabi_calls.specs.declared.calls.Call.TheVariants as call
 use Rattle.kabi_types.specs.declared.entries.Entry.{Entry}
 use Rattle.kabi_types.specs.declared.entries.Entry.TheVariants as entry
-use Rattle.kabi_values.specs.declared.errnos.Errno.{Errno}
-use Rattle.kabi_values.specs.declared.errnos.Errno.TheVariants.{EAGAIN, ECHILD, EFAULT, EINVAL, EMFILE, ENOMEM, EPERM, ESRCH}
+use Rattle.kabi_values.specs.declared.errnos.Errno.TheVariants.{ENOMEM}
 use Rattle.kabi_values.specs.declared.replies.Reply.{Reply}
-use Rattle.kabi_values.specs.declared.replies.Reply.TheVariants.{Bytes, Fail, Val, Waited}
+use Rattle.kabi_values.specs.declared.replies.Reply.TheVariants.{Fail, Val, Waited}
 use Rattle.kabi_types.specs.declared.scripts.Script.{Script}
 use Rattle.posix_defs.specs.ByPid.{with_pid}
-use Rattle.posix_defs.specs.Process.{Process, Table, with_directory, Alive, Ended, Status, process_at, is_alive, is_alive_in, memory_of, parent_of, runs}
+use Rattle.posix_defs.specs.Process.{Process, Table, with_directory, Alive, Ended, Status, process_at, is_alive, is_alive_in, runs}
 use Rattle.posix_defs.specs.Control.{after_part, restarted, settled}
 use Rattle.posix_defs.specs.Plain.{Plain, answered, call_of, control_of, first_process, with_control, with_files, with_table, last_pid}
 use Rattle.posix_defs.specs.Files.State.{Files}
@@ -23,17 +19,14 @@ use Rattle.posix_defs.specs.Files.Closing.{after_exec_of}
 use Rattle.kabi_types.specs.declared.scripts.Control.{Control}
 use Rattle.posix_defs.specs.Answer as answer
 use Rattle.posix_defs.specs.Answer.{Answer, failed, replied}
-use Rattle.posix_defs.specs.Ending.{die, exit_status, leaves, left_behind, left_child, ended_as}
+use Rattle.posix_defs.specs.Ending.{die, leaves, left_behind, left_child, ended_as}
 use Rattle.posix_defs.specs.Family.{IsFamily, IsKept, GoesOn, KeepsOn, LeadsOn}
-use Rattle.posix_defs.specs.Forking.{with_child, child_of, is_full}
+use Rattle.posix_defs.specs.Forking.{with_child, child_of}
 use Rattle.posix_defs.specs.History as history
 use Rattle.posix_defs.specs.History.{Past, IsAnswered, IsRun, MayFollow, boot_past}
-use Rattle.posix_defs.specs.Killing.{kill, ends, is_asking, sent_to}
-use Rattle.posix_defs.specs.Memory.{Memory, is_mapped_range, loaded, lowest_run, no_memory, stored, with_pages, without_pages}
-use Rattle.posix_defs.specs.MemoryCalls.{mapped_from, remembered}
-use Rattle.posix_defs.specs.Needs.{pages_in, pages_touched}
+use Rattle.posix_defs.specs.Memory.{no_memory}
+use Rattle.posix_defs.specs.MemoryCalls.{remembered}
 use Rattle.posix_defs.specs.Machine.{machine}
-use Rattle.posix_defs.specs.Waiting.{Exited, any_from, exited_from, exited_in, has_ended, is_nohang, not_yet, matches, wait_status, waited_for, waitpid}
 use Rattle.kern_laws.proofs.LivingVictim.{victim_lives}
 use Rattle.answer_laws.specs.Shapes as shape
 use Rattle.answer_laws.specs.Shapes.{HasShape}

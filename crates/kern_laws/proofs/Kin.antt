@@ -3,7 +3,7 @@ use Rattle.std.proofs.Common.{◌≡◌, ℕ, zero, suc, Option, None, Some, ref
 use Rattle.std.proofs.lemmas.Bool.Decides.{eqb_tells}
 use Rattle.std.proofs.lemmas.List.{length-set}
 use Rattle.posix_defs.specs.ByPid.{with_pid}
-use Rattle.posix_defs.specs.Family.{IsFamily, IsKept, GoesOn}
+use Rattle.posix_defs.specs.Family.{IsFamily, GoesOn}
 use Rattle.posix_defs.specs.Process.{Process, Table, process_at, is_alive, is_alive_in, runs}
 use Rattle.kern_laws.proofs.TablePlaces.{was_made, with_other, with_same, is_gone}
 

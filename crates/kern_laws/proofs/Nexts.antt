@@ -1,32 +1,30 @@
 -- How the machine goes on behind a call: who is alive then, and whose control stays.
-use Rattle.std.proofs.Common.{◌≡◌, ◌≢◌, ℕ, zero, suc, ◌+◌, ◌*◌, ◌/◌, ◌<◌, ◌≤◌, ◌==◌, if◌then◌else◌, Bool, true, false, cond, ℤ, pos, negsuc, List, [], ◌∷◌, ◌++◌, length, map, Option, None, Some, slice_get, slice_set, unwrap_or, refl, ap, sym, ◌∙◌, subst, arith, inl, inr, length-append}
+use Rattle.std.proofs.Common.{◌≡◌, ◌≢◌, ℕ, zero, suc, ◌+◌, ◌<◌, ◌≤◌, ◌==◌, if◌then◌else◌, Bool, true, false, pos, List, [], ◌∷◌, ◌++◌, length, map, Option, None, Some, slice_get, slice_set, unwrap_or, refl, ap, sym, ◌∙◌, subst, arith, inl, inr, length-append}
 use Rattle.std.proofs.lemmas.Bool.Decides.{eqb_tells}
 use Rattle.std.proofs.lemmas.List.{length-set, length-map}
 use Rattle.kabi_calls.specs.declared.calls.Call.{Call}
 use Rattle.kabi_calls.specs.declared.calls.Call.TheVariants as call
-use Rattle.kabi_calls.specs.Arguments.{argument_fault, count_of, page_size}
+use Rattle.kabi_calls.specs.Arguments.{argument_fault}
 use Rattle.kabi_values.specs.declared.errnos.Errno.{Errno}
-use Rattle.kabi_values.specs.declared.errnos.Errno.TheVariants.{EAGAIN, ECHILD, EFAULT, EINVAL, EMFILE, EPERM, ESRCH}
+use Rattle.kabi_values.specs.declared.errnos.Errno.TheVariants.{EINVAL}
 use Rattle.kabi_values.specs.declared.replies.Reply.{Reply}
-use Rattle.kabi_values.specs.declared.replies.Reply.TheVariants.{Bytes, Val, Waited, Fail}
+use Rattle.kabi_values.specs.declared.replies.Reply.TheVariants.{Val, Waited, Fail}
 use Rattle.kabi_types.specs.declared.scripts.Control.{Control}
 use Rattle.kabi_types.specs.declared.scripts.Script.{Script}
 use Rattle.posix_defs.specs.ByPid.{at_pid, with_pid}
-use Rattle.posix_defs.specs.Process.{Process, Table, Status, Alive, Ended, memory_of, parent_of, process_at, is_alive, is_alive_in, runs}
+use Rattle.posix_defs.specs.Process.{Process, Table, Status, Alive, Ended, process_at, is_alive, is_alive_in, runs}
 use Rattle.posix_defs.specs.Plain.{Plain, answered, control_of, last_pid, root, at_start, with_control, with_files}
 use Rattle.posix_defs.specs.Answer.{Answer, Blocked, Done, Part, failed, replied}
 use Rattle.posix_defs.specs.Answer as answer
-use Rattle.posix_defs.specs.Ending.{die, die_in, leaves, left_behind, left_child, ended_as, exit_status}
-use Rattle.posix_defs.specs.Forking.{child_of, is_full, with_child}
-use Rattle.posix_defs.specs.Killing.{ends, is_asking, kill, sent_to}
-use Rattle.posix_defs.specs.Memory.{Memory, is_mapped_range, loaded, lowest_run, no_memory, stored, without_pages}
-use Rattle.posix_defs.specs.MemoryCalls.{mapped_from, remembered}
-use Rattle.posix_defs.specs.Needs.{pages_in, pages_touched}
+use Rattle.posix_defs.specs.Ending.{die, die_in, leaves, left_behind, left_child, ended_as}
+use Rattle.posix_defs.specs.Forking.{child_of, with_child}
+use Rattle.posix_defs.specs.Memory.{Memory, no_memory}
+use Rattle.posix_defs.specs.MemoryCalls.{remembered}
 use Rattle.posix_defs.specs.Control.{after, after_part, restarted, settled}
 use Rattle.posix_defs.specs.Files.State.{Files}
 use Rattle.posix_defs.specs.Files.Closing.{after_exec_of}
 use Rattle.posix_defs.specs.Machine.{machine, unless_wrong}
-use Rattle.posix_defs.specs.Waiting.{Exited, any_from, exited_from, is_nohang, not_yet, reaped, waited_for, waitpid}
+use Rattle.posix_defs.specs.Waiting.{reaped}
 use Rattle.posix_defs.specs.SoundTasks.{AllAtHome}
 use Rattle.answer_laws.specs.Shapes as shape
 use Rattle.answer_laws.specs.Shapes.{HasShape}
@@ -402,12 +400,18 @@ by_shape script plain pid which given made alive chdir (shape.puts files memory 
     (next_of_files plain (remembered (with_files plain files) pid memory) files pid (remembered_next (with_files plain files) pid memory made)) (alive_still plain.table pid pid memory ∙ alive))
 by_shape script plain pid which given made alive chdir (shape.moves path directory of entered is) = chdir path of
 by_shape script plain pid which given made alive chdir (shape.parts files moved part is) =
-    subst (AnswerGoes plain pid) (sym is) (controlled_next plain (with_files plain files) pid (after_part (control_of (with_files plain files) pid) moved)
-        (with_files_next plain plain files pid (same_next plain pid made)), alive)
+    subst (AnswerGoes plain pid) (sym is) (
+      controlled_next plain (with_files plain files) pid (after_part (control_of (with_files plain files) pid) moved)
+          (with_files_next plain plain files pid (same_next plain pid made)),
+      alive,
+    )
 by_shape script plain pid which given made alive chdir (shape.starts place is) =
-    subst (AnswerGoes plain pid) (sym is) (controlled_next plain (with_files (remembered plain pid no_memory) (after_exec_of plain.files pid)) pid
-        (restarted (settled script (control_of plain pid)) place)
-        (with_files_next plain (remembered plain pid no_memory) (after_exec_of plain.files pid) pid (remembered_next plain pid no_memory made)), alive_still plain.table pid pid no_memory ∙ alive)
+    subst (AnswerGoes plain pid) (sym is) (
+      controlled_next plain (with_files (remembered plain pid no_memory) (after_exec_of plain.files pid)) pid
+          (restarted (settled script (control_of plain pid)) place)
+          (with_files_next plain (remembered plain pid no_memory) (after_exec_of plain.files pid) pid (remembered_next plain pid no_memory made)),
+      alive_still plain.table pid pid no_memory ∙ alive,
+    )
 by_shape script plain pid which given made alive chdir (shape.forks is) =
     subst (AnswerGoes plain pid) (sym is) (replied_goes script plain (with_child script plain pid) pid (Val (pos (last_pid plain + 1))) (child_next script plain pid made alive)
     (still_alive plain.table (child_of pid (process_at plain.table pid)) pid alive))

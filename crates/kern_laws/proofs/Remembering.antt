@@ -1,5 +1,5 @@
 -- Where a process has something else in memory, or works in another directory: who is there, whose child and how is as before.
-use Rattle.std.proofs.Common.{◌≡◌, ℕ, Option, None, Some, refl, ap, sym, ◌∙◌, length, ◌⊎◌, inl, inr}
+use Rattle.std.proofs.Common.{◌≡◌, ℕ, Option, None, Some, refl, ap, sym, ◌∙◌, length, inl, inr}
 use Rattle.posix_defs.specs.Family.{IsFamily, IsKept, LeadsOn}
 use Rattle.posix_defs.specs.Memory.{Memory}
 use Rattle.posix_defs.specs.MemoryCalls.{remembered}

@@ -1,17 +1,14 @@
 -- Every state that a run leads to is sound.
-use Rattle.std.proofs.Common.{◌≡◌, ◌≢◌, ℕ, zero, suc, ◌+◌, ◌-◌, ◌<◌, ◌≤◌, ◌==◌, if◌then◌else◌, cond, ℤ, pos, negsuc, Bool, true, false, List, [], ◌∷◌, length, Option, None, Some, unwrap_or, refl, ap, sym, ◌∙◌, subst, arith, ◌⊎◌, inl, inr}
+use Rattle.std.proofs.Common.{◌≡◌, ◌≢◌, ℕ, zero, suc, ◌+◌, ◌-◌, ◌<◌, ◌≤◌, ◌==◌, ℤ, Bool, true, false, List, [], ◌∷◌, length, Some, unwrap_or, refl, ap, sym, ◌∙◌, subst, arith, ◌⊎◌, inl, inr}
 use Rattle.std.specs.List.{AllByRecursion, list_any}
 use Rattle.kabi_calls.specs.Call.{kind_of}
-use Rattle.kabi_calls.specs.declared.calls.Call.{Call}
 use Rattle.kabi_calls.specs.declared.calls.Call.TheVariants as call
 use Rattle.kabi_types.specs.declared.entries.Event.{Event}
 use Rattle.kabi_types.specs.declared.entries.Event.TheVariants.{Ask, Admit, Turn, Wake, Abandon, Evict, Kill}
 use Rattle.kabi_types.specs.declared.entries.Noted.{Noted}
-use Rattle.kabi_calls.specs.Arguments.{argument_fault, count_of}
-use Rattle.kabi_values.specs.declared.errnos.Errno.{Errno}
-use Rattle.kabi_values.specs.declared.errnos.Errno.TheVariants.{EAGAIN, ECHILD, EFAULT, ENOMEM, EPERM}
+use Rattle.kabi_values.specs.declared.errnos.Errno.TheVariants.{ENOMEM}
 use Rattle.kabi_values.specs.declared.replies.Reply.{Reply}
-use Rattle.kabi_values.specs.declared.replies.Reply.TheVariants.{Bytes, Fail, Val}
+use Rattle.kabi_values.specs.declared.replies.Reply.TheVariants.{Fail}
 use Rattle.kabi_types.specs.declared.scripts.Control.{Control}
 use Rattle.kabi_types.specs.declared.scripts.Script.{Script}
 use Rattle.posix_defs.specs.declared.phases.Asked.{Asked}
@@ -20,22 +17,17 @@ use Rattle.posix_defs.specs.declared.phases.Phase.TheVariants.{User, Waiting, Ad
 use Rattle.posix_defs.specs.declared.phases.Task.{Task}
 use Rattle.posix_defs.specs.declared.turner.Turned.{Turned}
 use Rattle.posix_defs.specs.Sizes.{room}
-use Rattle.posix_defs.specs.Process.{Process, is_alive, memory_of, process_at, runs}
+use Rattle.posix_defs.specs.Process.{Process, is_alive, process_at}
 use Rattle.posix_defs.specs.Plain.{Plain, answered, at_start, call_of, control_of, first_process, last_pid, root, with_control, with_files}
 use Rattle.posix_defs.specs.Control as program
 use Rattle.posix_defs.specs.Answer.{Answer, Blocked, Done, Part, failed, replied}
 use Rattle.posix_defs.specs.Answer as answer
-use Rattle.posix_defs.specs.Ending.{die}
-use Rattle.posix_defs.specs.Forking.{is_full, with_child}
-use Rattle.posix_defs.specs.Killing.{ends, is_asking, sent_to}
-use Rattle.posix_defs.specs.Memory.{is_mapped_range, loaded, lowest_run, stored}
-use Rattle.posix_defs.specs.MemoryCalls.{mapped_from, remembered}
-use Rattle.posix_defs.specs.Needs.{bound, pages_in}
+use Rattle.posix_defs.specs.Killing.{ends}
+use Rattle.posix_defs.specs.Needs.{bound}
 use Rattle.posix_defs.specs.Control.{after_part}
 use Rattle.posix_defs.specs.Made.{further}
 use Rattle.posix_defs.specs.Files.State.{Files}
 use Rattle.posix_defs.specs.Machine.{machine}
-use Rattle.posix_defs.specs.Waiting.{Exited, any_from, exited_from, is_nohang, not_yet, waited_for}
 use Rattle.posix_defs.specs.Turn.{Tells}
 use Rattle.posix_defs.specs.Relief.{refused_in}
 use Rattle.posix_defs.specs.CoreState.{CoreState, asked_by, boot_state, with_phase, with_phase_in}

@@ -1,13 +1,8 @@
 -- A turn that ends nobody leaves all tasks.
-use Rattle.std.proofs.Common.{◌≡◌, ℕ, suc, ◌+◌, ℤ, pos, not, ◌||◌, Bool, true, false, cond, List, [], ◌∷◌, filter, map, length, Option, None, Some, refl, ap, sym, ◌∙◌, subst, arith}
+use Rattle.std.proofs.Common.{◌≡◌, ℕ, not, ◌||◌, Bool, true, false, cond, List, [], ◌∷◌, filter, map, refl, ap, sym, ◌∙◌, subst}
 use Rattle.std.specs.List.{AllByRecursion}
-use Rattle.kabi_calls.specs.Arguments.{argument_fault, count_of}
 use Rattle.kabi_calls.specs.Call.{kind_of}
 use Rattle.kabi_calls.specs.declared.calls.Call.{Call}
-use Rattle.kabi_calls.specs.declared.calls.Call.TheVariants as call
-use Rattle.kabi_values.specs.declared.errnos.Errno.{Errno}
-use Rattle.kabi_values.specs.declared.errnos.Errno.TheVariants.{EAGAIN, ECHILD, EFAULT}
-use Rattle.kabi_values.specs.declared.replies.Reply.TheVariants.{Bytes, Val}
 use Rattle.kabi_types.specs.declared.scripts.Script.{Script}
 use Rattle.posix_defs.specs.declared.phases.Asked.{Asked}
 use Rattle.posix_defs.specs.declared.phases.Phase.{Phase}
@@ -15,15 +10,12 @@ use Rattle.posix_defs.specs.declared.phases.Phase.TheVariants.{User, Waiting, Ad
 use Rattle.posix_defs.specs.declared.phases.Task.{Task}
 use Rattle.posix_defs.specs.declared.turner.Turned.{Turned}
 use Rattle.posix_defs.specs.declared.turner.Turned.TheVariants as turned
-use Rattle.posix_defs.specs.Process.{is_alive, memory_of, process_at}
+use Rattle.posix_defs.specs.Process.{is_alive, process_at}
 use Rattle.posix_defs.specs.Memory.{no_memory}
-use Rattle.posix_defs.specs.MemoryCalls.{mapped_from, remembered}
-use Rattle.posix_defs.specs.Needs.{pages_in}
-use Rattle.posix_defs.specs.Plain.{Plain, last_pid}
+use Rattle.posix_defs.specs.Plain.{Plain}
 use Rattle.posix_defs.specs.Answer.{Answer, Blocked, Done, Part, failed, replied}
 use Rattle.posix_defs.specs.Answer as answer
-use Rattle.posix_defs.specs.Forking.{child_of, is_full, with_child}
-use Rattle.posix_defs.specs.Waiting.{Exited, any_from, exited_from, is_nohang, not_yet, waited_for}
+use Rattle.posix_defs.specs.Forking.{child_of}
 use Rattle.posix_defs.specs.Machine.{machine}
 use Rattle.posix_defs.specs.World.{World}
 use Rattle.posix_defs.specs.Turn.{Answers, Tells, TurnsTo, TurnsWhere}

@@ -67,7 +67,7 @@ fn run_words<R, S: Source, K: Sink, F: Scorer, G: Scorer>(
         return Status::Memory;
     };
     let mut store_out = None;
-    run_tool(
+    let status = run_tool(
         rt,
         alloc,
         words.as_slice(),
@@ -76,7 +76,10 @@ fn run_words<R, S: Source, K: Sink, F: Scorer, G: Scorer>(
         heaviest,
         youngest,
         &mut store_out,
-    )
+    );
+    drop(store_out);
+    drop(words);
+    status
 }
 
 /// The words after the program's name, which stands first.
