@@ -1,4 +1,4 @@
-use Rattle.std.proofs.Common.{◌≡◌, ◌≢◌, ◌+◌, ◌<◌, false, length, [], ◌∷◌, nat_eq, ne_eqb, sym, ap, ◌∙◌, subst, arith, length-append}
+use Rattle.std.proofs.Common.{◌≡◌, ◌≢◌, ◌+◌, false, length, [], ◌∷◌, nat_eq, ne_eqb, sym, ap, ◌∙◌, subst, arith, length-append}
 use Rattle.std.specs.List.{AllByRecursion}
 use Rattle.lru_index.specs.Tree.{IsAlone}
 use Rattle.lru_index.specs.Spares.{IsSpareBelow, AreApart}
