@@ -3,10 +3,11 @@ ghost use Rattle.kabi_types.specs.declared.scripts.Policy.TheVariants.{Heaviest,
 ghost use Rattle.posix_defs.specs.Canonical.{canonical};
 ghost use Rattle.posix_defs.specs.Generated.{generated};
 ghost use Rattle.posix_defs.specs.ValidScript.{IsValid};
+ghost use Rattle.kres_cli.specs.Headline.{SimKeeps};
 ghost use Rattle.kres_cli.specs.Run.{IsRunOf};
 ghost use Rattle.kres_cli.specs.Status.{status_of};
 ghost use Rattle.kres_cli.specs.Tool.{CommandEnds, FaultEnds, HandsOut, HasPut, Obeys, OthersEnd, ScriptEnds, TaskEnds, TextEnds, input, output};
-ghost use Rattle.kres_cli.specs.Words.{IsAllowed, most_rounds};
+ghost use Rattle.kres_cli.specs.Words.{Asks, IsAllowed, most_rounds};
 ghost use Rattle.kres_cli.specs.declared.commands.Command.{Command};
 ghost use Rattle.kres_cli.specs.declared.commands.Command.TheVariants.{OnScript};
 ghost use Rattle.kres_cli.specs.declared.commands.Task.{Task};
@@ -48,7 +49,8 @@ pub fn run_tool<R, S: Source, K: Sink, F: Scorer, G: Scorer>(
 ) -> Status
     requires by_weight { F.scores heaviest Heaviest }
     requires by_age { G.scores youngest Youngest }
-    ensures { Obeys words.now (input S.left S.faults source.old source.new) (output K.held K.faults K.put_gives sink.old sink.new) store_out.new result }
+    ensures obeys { Obeys words.now (input S.left S.faults source.old source.new) (output K.held K.faults K.put_gives sink.old sink.new) store_out.new result }
+    ensures headline { Asks words.now (OnScript Sim) → SimKeeps (input S.left S.faults source.old source.new) (output K.held K.faults K.put_gives sink.old sink.new) store_out.new result }
 {
     run_plain(alloc, words, source, sink, heaviest, youngest, store_out)
 }
