@@ -1,7 +1,7 @@
 -- Why what `sim` has written keeps the headline.
 use Rattle.std.proofs.Common.{◌≡◌, ◌⊎◌, List, ℕ, Option, Ok, inl, inr, refl}
 use Rattle.kabi_types.specs.declared.scripts.Script.{Script}
-use Rattle.call_run.specs.Standing.{StoreView}
+use Rattle.store_objects.specs.Standing.{StoreView}
 use Rattle.posix_defs.specs.ScriptText.{ReadsText}
 use Rattle.run_report.proofs.Headlines.{keeps_headline}
 use Rattle.script_parse.proofs.ValidScripts.{reads_valid}

@@ -2,7 +2,7 @@
 use Rattle.std.specs.Prelude.{ℕ, ⊤, ◌≡◌, List, Option, Some, Ok}
 use Rattle.kabi_types.specs.declared.entries.End.{End}
 use Rattle.kabi_types.specs.declared.scripts.Script.{Script}
-use Rattle.call_run.specs.Standing.{StoreView}
+use Rattle.store_objects.specs.Standing.{StoreView}
 use Rattle.run_report.specs.Headline.{KeepsHeadline}
 use Rattle.kres_cli.specs.declared.statuses.Status.{Status}
 use Rattle.kres_cli.specs.declared.statuses.Status.TheVariants.{Finished, Starved, AllAsleep, Spent}
