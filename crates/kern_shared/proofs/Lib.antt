@@ -1,4 +1,8 @@
+pub mod Behind
+pub mod Holding
 pub mod Keeping
+pub mod Pids
+pub mod Presence
 pub mod Runs
 pub mod Standing
 pub mod Starving

@@ -8,6 +8,7 @@ ghost use Rattle.turn_words.specs.declared.items.Item.TheVariants.{Back};
 ghost use Rattle.turn_words.specs.Items.{is_given};
 ghost use Rattle.kern_shared.specs.Shares.{Shares};
 
+use crate::Held;
 use charge_words::ChargeSeat;
 use kabi_types::{Entry, Memory};
 use posix_defs::Turner;
@@ -31,14 +32,18 @@ pub trait RunName {
     ghost charge: { ChargeWord };
 }
 
-/// What the passes of a kernel share: the store with the charge seat of its live bytes, the entries so far, the processes that
-/// passes hold, and whether Starved was answered.
+/// What the passes of a kernel share: the store with the charge seat of its live bytes, how many entries there may be, the
+/// entries so far, the processes that passes hold, the live processes that don't doze and those that do, and whether Starved
+/// was answered.
 #[derive(Drop)]
 pub struct KernelState<T: Turner + Drop, L: RunName> {
     store: T,
     seat: ChargeSeat,
+    steps: u32,
     history: Vec<Entry>,
-    held: Vec<u32>,
+    held: Vec<Held>,
+    awake: Vec<u32>,
+    dozing: Vec<u32>,
     starved: bool,
     run: PhantomData<L>,
 }
@@ -50,11 +55,16 @@ impl<T: Turner + Drop, L: RunName> Chronicle for KernelState<T, L> {
     ghost stands = { λ state items. Shares T.stands T.script L.script L.steps L.charge (record {
       store = state.store;
       seat = state.seat;
+      steps = state.steps;
       history = state.history.items;
       held = state.held.items;
+      awake = state.awake.items;
+      dozing = state.dozing.items;
       starved = state.starved;
       entry_room = vec_capacity state.history;
       held_room = vec_capacity state.held;
+      awake_room = vec_capacity state.awake;
+      dozing_room = vec_capacity state.dozing;
     }) items };
 }
 
@@ -77,11 +87,17 @@ impl<T: Turner + Drop, L: RunName> KernelState<T, L> {
     {
         let history = Vec::with_capacity(alloc, steps as usize)?;
         let held = Vec::with_capacity(alloc, steps as usize + 1)?;
+        let mut awake = Vec::with_capacity(alloc, steps as usize + 2)?;
+        let dozing = Vec::with_capacity(alloc, steps as usize + 2)?;
+        awake.push_reserved(1);
         Ok(KernelState {
             store,
             seat,
+            steps,
             history,
             held,
+            awake,
+            dozing,
             starved: false,
             run: PhantomData,
         })
@@ -92,6 +108,6 @@ impl<T: Turner + Drop, L: RunName> KernelState<T, L> {
         ensures { (items : List Item) → ⟦<KernelState<T, L> as Chronicle>⟧.stands self.old items → is_given pid items ≡ true
             → ⟦<KernelState<T, L> as Chronicle>⟧.stands self.new (items ++ Back pid ∷ []) }
     {
-        self.held.retain(|other| *other != pid);
+        self.held.retain(|other| other.pid != pid);
     }
 }

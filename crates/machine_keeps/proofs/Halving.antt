@@ -38,19 +38,19 @@ use Rattle.kern_laws.proofs.Families.{alive_there}
 use Rattle.kern_laws.proofs.Nexts.{at_other}
 use Rattle.kern_laws.proofs.Remembering.{alive_still}
 use Rattle.kern_laws.proofs.TablePlaces.{below_or_not, get_front, get_set_same, is_gone, same_in_front, was_made, with_other}
-use Rattle.prog_ctl.proofs.Parts.{call_part}
+use Rattle.answer_laws.proofs.GoingOn.{call_part}
 use Rattle.machine_laws.specs.FileSteps as step
 use Rattle.machine_laws.specs.FileSteps.{IsStep, LeadsTo, is_ending}
 use Rattle.machine_laws.specs.Placed.{IsPlaced}
 use Rattle.machine_laws.specs.Described.{AreDescribed}
 use Rattle.machine_laws.specs.Reached.{IsReached}
-use Rattle.machine_laws.specs.Shapes as shape
-use Rattle.machine_laws.specs.Shapes.{HasShape, IsPart}
+use Rattle.answer_laws.specs.Shapes as shape
+use Rattle.answer_laws.specs.Shapes.{HasShape, IsPart}
 use Rattle.machine_laws.proofs.Naming.{by_named, target_descriptions}
 use Rattle.machine_laws.proofs.Places.{naming, names_there, not_some, opened_same, others_after, some_same, there_within}
 use Rattle.machine_laws.proofs.Placing.{alive_moved}
 use Rattle.machine_laws.proofs.Reaches.{reached_keeps}
-use Rattle.machine_laws.proofs.Shapes.{shape_of}
+use Rattle.answer_laws.proofs.Shapes.{shape_of}
 use Rattle.machine_laws.proofs.SharedOffsets.{heirs_open, stay_open}
 use Rattle.machine_laws.proofs.Shutting.{past_open, same_of, target_same}
 use Rattle.machine_laws.proofs.Stepping.{step_of}
@@ -453,7 +453,7 @@ module _ (script : Script) (plain : Plain) (pid : ℕ) (half : Half script plain
   by_shape call asked no_fork no_end given stepped (shape.reaps child status ended is) = subst (LeadsTo (Half script)) (sym is)
       (answered_half script plain (reaped plain child) pid (Waited child status) half refl (λ who apart lives. lives_reaped child who lives) (λ who apart lives. keeps_same plain.files plain.files who refl refl))
   by_shape call asked no_fork no_end given stepped (shape.ends status is) = subst (LeadsTo (Half script)) (sym is) (die_half script plain pid status half)
-  by_shape call asked no_fork no_end given stepped (shape.ends_another target status first own is) = subst (LeadsTo (Half script)) (sym is) (dies_on target status (Val (pos 0)))
+  by_shape call asked no_fork no_end given stepped (shape.ends_another target signal called first own lives is) = subst (LeadsTo (Half script)) (sym is) (dies_on target 9 (Val (pos 0)))
 
   -- ---- calls that end a process, and `fork`
 

@@ -62,11 +62,11 @@ use Rattle.tree_laws.proofs.NewTree.{new_is_tree}
 use Rattle.machine_laws.specs.FileSteps as step
 use Rattle.machine_laws.specs.FileSteps.{IsStep, LeadsTo, WritesNode}
 use Rattle.machine_laws.specs.Reached.{IsReached}
-use Rattle.machine_laws.specs.Shapes as shape
-use Rattle.machine_laws.specs.Shapes.{AreRead, HasShape, IsPut}
+use Rattle.answer_laws.specs.Shapes as shape
+use Rattle.answer_laws.specs.Shapes.{AreRead, HasShape, IsPut}
 use Rattle.machine_laws.proofs.Leading.{leads_on}
 use Rattle.machine_laws.proofs.Places.{naming, not_some, some_same, there_within}
-use Rattle.machine_laws.proofs.Shapes.{shape_of}
+use Rattle.answer_laws.proofs.Shapes.{shape_of}
 use Rattle.machine_laws.proofs.Shutting.{length_with}
 use Rattle.machine_laws.proofs.Stepping.{step_of}
 use Rattle.machine_keeps.specs.Bytes.{AreBytes, HasMemoryBytes, HasPageBytes}

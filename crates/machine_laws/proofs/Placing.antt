@@ -28,9 +28,9 @@ use Rattle.kern_laws.proofs.TablePlaces.{at_end, below_or_not, same_in_front, wa
 use Rattle.machine_laws.specs.FileSteps as step
 use Rattle.machine_laws.specs.FileSteps.{IsStep, LeadsTo}
 use Rattle.machine_laws.specs.Placed.{IsPlaced}
-use Rattle.machine_laws.specs.Shapes as shape
-use Rattle.machine_laws.specs.Shapes.{HasShape}
-use Rattle.machine_laws.proofs.Shapes.{shape_of}
+use Rattle.answer_laws.specs.Shapes as shape
+use Rattle.answer_laws.specs.Shapes.{HasShape}
+use Rattle.answer_laws.proofs.Shapes.{shape_of}
 use Rattle.machine_laws.proofs.SharedOffsets.{heirs_open, stay_open}
 use Rattle.machine_laws.proofs.Shutting.{Shuts, all_none_open, close_shuts, closed_shuts, end_none, exec_shuts, length_with, none_open_length, open_shuts, past_open, shuts_on, shuts_same}
 use Rattle.machine_laws.proofs.Stepping.{step_of}
@@ -274,8 +274,8 @@ module _ (script : Script) (plain : Plain) (pid : ℕ) (placed : IsPlaced plain)
   by_shape call no_fork given stepped (shape.reaps child status ended is) = subst (LeadsTo IsPlaced) (sym is)
       (placed_on plain _ pid placed alive (length_with plain.table child None) (length_with plain.controls pid _) (λ who gone. alive_reaped plain.table child who ended gone) (shuts_same pid _ _ refl))
   by_shape call no_fork given stepped (shape.ends status is) = subst (LeadsTo IsPlaced) (sym is) (die_placed plain pid status placed)
-  by_shape call no_fork given stepped (shape.ends_another target status first own is) = subst (LeadsTo IsPlaced) (sym is)
-      (answered_placed script (die plain target status) pid (Val (pos 0)) (die_placed plain target status placed))
+  by_shape call no_fork given stepped (shape.ends_another target signal called first own lives is) = subst (LeadsTo IsPlaced) (sym is)
+      (answered_placed script (die plain target 9) pid (Val (pos 0)) (die_placed plain target 9 placed))
 
   fork_on : LeadsTo IsPlaced (posix script plain pid calls.Fork)
   fork_on = go (is_full plain)

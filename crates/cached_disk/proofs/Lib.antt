@@ -1,0 +1,5 @@
+pub mod Few
+pub mod Filled
+pub mod InTurn
+pub mod LastBlock
+pub mod AtBoot

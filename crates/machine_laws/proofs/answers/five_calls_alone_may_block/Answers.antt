@@ -1,5 +1,0 @@
-use Rattle.machine_laws.proofs.Blocking.{blocked_may}
-use Rattle.machine_laws.proofs.answers.five_calls_alone_may_block.Goals as goal
-
-pub returns : goal.returns
-returns c = blocked_may

@@ -1,0 +1,7 @@
+pub mod CloseLemmas
+pub mod DescribedLemmas
+pub mod DropLemmas
+pub mod OwnerLemmas
+pub mod PipeLemmas
+pub mod ShareLemmas
+pub mod SocketLemmas
