@@ -1,12 +1,26 @@
-ghost use Rattle.std.specs.Prelude.{◌≡◌, ◌<◌, IsSome, None, Some, length};
+ghost use Rattle.std.specs.Prelude.{◌≡◌, ◌<◌, ◌≤◌, ℕ, IsSome, None, Some, count_by, is_some, length};
 ghost use Rattle.std.specs.Option.{option_map};
 ghost use Rattle.kabi_calls.specs.Arguments.{most_descriptors};
-ghost use Rattle.posix_defs.specs.Files.Descriptors.{Descriptor as PlainDescriptor, descriptor_at, with_descriptor, lowest_free_from, is_cloexec};
-ghost use Rattle.desc_table.specs.Numbered.{descriptor_in, descriptors_in};
+ghost use Rattle.posix_defs.specs.Calls.Polling.{polled_at};
+ghost use Rattle.posix_defs.specs.Files.Descriptors.{Descriptor as PlainDescriptor, descriptor_at, descriptor_of, with_descriptor, lowest_free_from, is_cloexec, open_count};
+ghost use Rattle.posix_defs.specs.Files.State.{Files, descriptors_of};
+ghost use Rattle.place_laws.specs.Placed.{Numbers};
+ghost use Rattle.open_laws.specs.Described.{CountedList, access_in};
+ghost use Rattle.open_laws.specs.Open.{AreOpen, renumbered};
+ghost use Rattle.open_laws.specs.Polled.{IsOpenIn, IsTargetIn, TellsTarget, TellsOpen};
+ghost use Rattle.desc_table.specs.Numbered.{descriptor_in, descriptors_in, number_of};
 
-use kabi_types::MOST_DESCRIPTORS;
-use kheap_shelves::Descriptor;
+use crate::descriptions::may_write;
+use chunk_queue::{POLLIN, POLLOUT, event_if};
+use kabi_types::{MOST_DESCRIPTORS, PollEntry};
+use kheap_shelves::{Desc, Descriptor, Target};
+use kheap_slabs::KHeap;
+use pipe_ends::pipe_polled;
 use std::marker::Model;
+use usock_core::sock_polled;
+
+/// What `poll` tells of a descriptor that isn't open.
+const POLLNVAL: u8 = 32;
 
 /// The descriptors of one process, by number. A clause sees a descriptor's description as the key of its Desc.
 #[derive(Drop)]
@@ -87,6 +101,45 @@ impl Descs {
         self.descriptor(fd).close_on_exec
     }
 
+    /// What `poll` tells of one entry, as the machine tells it of a process that has these open: nothing of a number below 0, and
+    /// POLLNVAL of one that isn't open. A file and a directory are always ready for what is asked of POLLIN and POLLOUT; pipes
+    /// and sockets answer for themselves (POSIX poll).
+    pub fn polled(&self, heap: &KHeap, entry: &PollEntry) -> u8
+        requires { IsOpenIn heap.now (descriptor_of self.now entry.now.fd) }
+        ensures { (numbers : Numbers) (list : CountedList) (files : Files) (pid : ℕ) → AreOpen numbers heap.now list files
+            → descriptors_of files pid ≡ renumbered numbers.descs self.now
+            → result ≡ polled_at files pid entry.now.fd entry.now.events }
+    {
+        let _ = &self.places;
+        match number_of(entry.fd) {
+            Some(fd) => self.polled_at(heap, fd, entry.events),
+            None => 0,
+        }
+    }
+
+    /// How many numbers are open.
+    pub fn open_count(&self) -> u32
+        ensures count { result ≡ open_count self.now }
+        ensures few { result ≤ 32 }
+    {
+        open_among(&self.places)
+    }
+
+    // What is told of the descriptor of a number.
+    fn polled_at(&self, heap: &KHeap, fd: u64, events: i64) -> u8
+        requires { IsOpenIn heap.now (descriptor_at self.now fd) }
+        ensures { TellsOpen heap.now events result (descriptor_at self.now fd) }
+    {
+        let _ = &self.places;
+        if fd >= u64::from(MOST_DESCRIPTORS) {
+            return POLLNVAL;
+        }
+        match self.at(fd as u32) {
+            Some(descriptor) => polled_desc(heap, heap.get_desc(descriptor.desc), events),
+            None => POLLNVAL,
+        }
+    }
+
     // The open descriptor of a number.
     fn descriptor(&self, fd: u32) -> Descriptor
         requires { IsSome (descriptor_at self.now fd) }
@@ -105,5 +158,39 @@ impl Descs {
         ensures { descriptor_at self.now fd ≡ option_map descriptor_in result }
     {
         self.places[fd as usize]
+    }
+}
+
+// The number that an entry has; None below 0.
+fn number_of(fd: i64) -> Option<u64>
+    ensures { result ≡ number_of fd }
+{
+    u64::try_from(fd).ok()
+}
+
+// How many of these places are open.
+fn open_among(places: &[Option<Descriptor>]) -> u32
+    requires { length places.now ≤ 32 }
+    ensures count { result ≡ count_by is_some places.now }
+    ensures few { result ≤ 32 }
+{
+    let mut count = 0;
+    for place in places {
+        if place.is_some() {
+            count += 1;
+        }
+    }
+    count
+}
+
+// What `poll` tells of a description.
+fn polled_desc(heap: &KHeap, desc: &Desc, events: i64) -> u8
+    requires { IsTargetIn heap.now desc.now.target }
+    ensures { TellsTarget heap.now (access_in desc.now.access) events result desc.now.target }
+{
+    match desc.target {
+        Target::Inode(_) => event_if(POLLIN, events, true) + event_if(POLLOUT, events, true),
+        Target::Pipe(key) => pipe_polled(heap, key, may_write(desc.access), events),
+        Target::Sock(key) => sock_polled(heap, key, events),
     }
 }

@@ -129,7 +129,7 @@ closed_descriptions files access (OnSocket place) = refl
 
 -- ---- a descriptor fewer
 
-description_in : (list : CountedList) (place : ℕ) → description_at (uncounted list) place ≡ option_map (λ (counted : Counted). counted.is) (object list place)
+pub description_in : (list : CountedList) (place : ℕ) → description_at (uncounted list) place ≡ option_map (λ (counted : Counted). counted.is) (object list place)
 description_in [] zero = refl
 description_in [] (suc place) = refl
 description_in (first ∷ list) zero = refl

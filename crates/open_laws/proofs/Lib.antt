@@ -3,5 +3,6 @@ pub mod DescribedLemmas
 pub mod DropLemmas
 pub mod OwnerLemmas
 pub mod PipeLemmas
+pub mod PolledLemmas
 pub mod ShareLemmas
 pub mod SocketLemmas

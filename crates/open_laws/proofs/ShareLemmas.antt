@@ -36,7 +36,7 @@ named_none places key = let whole = sum_by-cons (λ o. one_if (names_desc key o)
 pub can_rest_none : (descs : List (Option Desc)) (places : List (Option Descriptor)) → CanShare descs (None ∷ places) → CanShare descs places
 can_rest_none descs places can = record {
   there = λ key some. can.there key (let same = named_none places key in omega (arith, some, same));
-  small = λ key. let same = named_none places key in let small = can.small key in omega (arith, small, same);
+  small = λ key some. let same = named_none places key in let small = can.small key (omega (arith, some, same)) in omega (arith, small, same);
 }
 
 -- the first one can be shared
@@ -45,7 +45,7 @@ pub can_first : (descs : List (Option Desc)) (descriptor : Descriptor) (places :
 can_first descs descriptor places can =
     let named = named_first descriptor places descriptor.desc in
     let here = ap one_if (eq-eqb descriptor.desc descriptor.desc refl) in
-    let small = can.small descriptor.desc in
+    let small = can.small descriptor.desc (omega (arith, named, here)) in
     (can.there descriptor.desc (omega (arith, named, here)), omega (arith, named, here, small))
 
 -- and then the rest
@@ -57,7 +57,9 @@ can_rest descs descriptor places desc is can = record {
     | inr apart ↦ subst IsSome (sym (set_other descs descriptor.desc key (Some (counting desc (desc.count + 1))) apart))
         (can.there key (let named = named_first descriptor places key in omega (arith, some, named)))
   ];
-  small = λ key. go key (eqb descriptor.desc key) (count_at_set descs descriptor.desc desc (Some (counting desc (desc.count + 1))) is key) (named_first descriptor places key) (can.small key);
+  small = λ key some.
+      let named = named_first descriptor places key in
+      go key (eqb descriptor.desc key) (count_at_set descs descriptor.desc desc (Some (counting desc (desc.count + 1))) is key) named (can.small key (omega (arith, some, named)));
 }
   where
     now : List (Option Desc)

@@ -5,3 +5,4 @@ pub mod Open
 pub mod Closing
 pub mod Owned
 pub mod Sharing
+pub mod Polled

@@ -48,3 +48,11 @@ descriptor_by number held = record { description = number held.desc; cloexec = h
 -- the descriptors of a process, by number
 abbrev pub descriptors_by : (ℕ → ℕ) → List (Option HeldDescriptor) → Descriptors
 descriptors_by number places = map (option_map (descriptor_by number)) places
+
+-- the same descriptor, where the place of its description is the number of that one's key
+abbrev pub placed_by : (ℕ → ℕ) → Descriptor → Descriptor
+placed_by number descriptor = record descriptor { description = number descriptor.description }
+
+-- the same descriptors
+abbrev pub renumbered : (ℕ → ℕ) → Descriptors → Descriptors
+renumbered number descriptors = map (option_map (placed_by number)) descriptors

@@ -32,4 +32,4 @@ hand_with (Some descriptor ∷ places) hand = hand_with places (descriptor.desc 
 -- Each Desc that these descriptors name is there, and its count has room for as many more as name it.
 pub record CanShare (descs : List (Option Desc)) (places : List (Option Descriptor)) : Type 0 where
   pub there : (key : ℕ) → 0 < count_by (names_desc key) places → InUse descs key
-  pub small : (key : ℕ) → desc_count_at descs key + count_by (names_desc key) places < 4294967296
+  pub small : (key : ℕ) → 0 < count_by (names_desc key) places → desc_count_at descs key + count_by (names_desc key) places < 4294967296
