@@ -1,6 +1,7 @@
 pub mod CloseLemmas
 pub mod DescribedLemmas
 pub mod DropLemmas
+pub mod GoingLemmas
 pub mod OwnerLemmas
 pub mod PipeLemmas
 pub mod PolledLemmas

@@ -73,7 +73,7 @@ sock_at_set descs key desc now is same other = elim (cases_eq other key) [
 ]
 
 -- those that are named are the sockets that some Desc is open on
-named_by : (descs : List (Option Desc)) (key sock : ℕ) → sock_in (object descs key) ≡ Some sock → Contains (socks_named descs) sock
+pub named_by : (descs : List (Option Desc)) (key sock : ℕ) → sock_in (object descs key) ≡ Some sock → Contains (socks_named descs) sock
 named_by [] zero sock is = absurd (cc)
 named_by [] (suc key) sock is = absurd (cc)
 named_by (first ∷ descs) zero sock is = subst (λ (o : Option ℕ). Contains (beside o (socks_named descs)) sock) (sym is) (0, omega arith, refl)
@@ -83,7 +83,7 @@ named_by (first ∷ descs) (suc key) sock is = behind (sock_in first) (named_by 
     behind None there = there
     behind (Some other) there = Contains-cons other sock (socks_named descs) there
 
-names : (descs : List (Option Desc)) (sock : ℕ) → Contains (socks_named descs) sock → (key : ℕ) × (sock_in (object descs key) ≡ Some sock)
+pub names : (descs : List (Option Desc)) (sock : ℕ) → Contains (socks_named descs) sock → (key : ℕ) × (sock_in (object descs key) ≡ Some sock)
 names [] sock there = absurd (omega (arith, there.1))
 names (first ∷ descs) sock there = go (sock_in first) refl (names descs sock) there
   where
@@ -157,7 +157,7 @@ no_sock descs key desc is other sock at = elim (cases_eq other key) [
 ]
 
 -- what passes a test is counted
-count_some : (test : Option Desc → Bool) (descs : List (Option Desc)) (key : ℕ) (desc : Desc) → object descs key ≡ Some desc → test (Some desc) ≡ true → 0 < count_by test descs
+pub count_some : (test : Option Desc → Bool) (descs : List (Option Desc)) (key : ℕ) (desc : Desc) → object descs key ≡ Some desc → test (Some desc) ≡ true → 0 < count_by test descs
 count_some test [] zero desc is passes = absurd (cc)
 count_some test [] (suc key) desc is passes = absurd (cc)
 count_some test (first ∷ descs) zero desc is passes =
@@ -403,7 +403,7 @@ count_at_set descs key desc now is other = elim (cases_eq other key) [
 ]
 
 -- how often a key is in hand, with one more
-in_hand : (hand : List ℕ) (key other : ℕ) → count_by (λ k. eqb k other) (key ∷ hand) ≡ one_if (eqb key other) + count_by (λ k. eqb k other) hand
+pub in_hand : (hand : List ℕ) (key other : ℕ) → count_by (λ k. eqb k other) (key ∷ hand) ≡ one_if (eqb key other) + count_by (λ k. eqb k other) hand
 in_hand hand key other = sum_by-cons (λ k. one_if (eqb k other)) key hand
 
 named_more_often : (h : Heap) (hand : List ℕ) (key : ℕ) (desc : Desc) → object h.descs key ≡ Some desc → CountsItsNames h hand

@@ -96,9 +96,9 @@ told_open numbers h list files events told are None there tells = tells
 told_open numbers h list files events told are (Some descriptor) there tells =
     let desc = there.0 in
     let is : description_at files.descriptions (numbers.descs descriptor.description) ≡ Some (counted_in numbers desc).is =
-        ap (λ (d : List (Option Description)). description_at d (numbers.descs descriptor.description)) are.descriptions
-        ∙ (description_in list (numbers.descs descriptor.description)
-        ∙ ap (option_map (λ (counted : Counted). counted.is)) (at_place numbers h.descs list descriptor.description desc there.1 are.described)) in
+    ap (λ (d : List (Option Description)). description_at d (numbers.descs descriptor.description)) are.descriptions
+    ∙ (description_in list (numbers.descs descriptor.description)
+    ∙ ap (option_map (λ (counted : Counted). counted.is)) (at_place numbers h.descs list descriptor.description desc there.1 are.described)) in
     told_target numbers h list files desc events told are desc.target there.2 (tells desc there.1)
     ∙ ap (λ (o : Option Description). polled_opened files events (option_map (λ (d : Description). record { place = numbers.descs descriptor.description; is = d }) o)) (sym is)
 
