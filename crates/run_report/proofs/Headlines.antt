@@ -147,6 +147,7 @@ keeps_headline stands_for marks high script store end text valid it =
       run = it.run;
       state = it.state;
       told = it.text_is;
+      went = it.runs;
       ended = it.ends;
       left = is_stood_for it.runs;
       charged = charged_within ran enough;
