@@ -62,6 +62,7 @@ module _ {T : Type 0} (stands_for : T → World → Type 0) (script_of : T → S
     pub boot : new.seat.known.is_boot ≡ true
     pub holds : new.seat.known.holds ≡ live_of world + reserve
     pub limit : new.steps ≡ old.steps
+    pub same_heap : new.heap ≡ old.heap
     pub room : HasRoom steps new.entry_room new.held_room new.awake_room new.dozing_room
 
   pub behind : (script : Script) (steps : ℕ) (charge : ChargeWord) (old new : KernelValue T) (items : List Item) (s : Shares stands_for script_of script steps charge old items)
@@ -88,5 +89,6 @@ module _ {T : Type 0} (stands_for : T → World → Type 0) (script_of : T → S
     holds = is.holds;
     heap = s.heap;
     limit = is.limit ∙ s.limit;
+    same_heap = is.same_heap ∙ s.same_heap;
     room = is.room;
   }

@@ -43,7 +43,7 @@ none_dozing false = refl
 module _ {T : Type 0} (stands_for : T → World → Type 0) (script_of : T → Script) where
   pub at_boot : StandsAtBoot stands_for script_of
   unfolding no_places
-  at_boot store seat steps entry_room held_room awake_room dozing_room stands boot holds heap room = record {
+  at_boot store seat steps total entry_room held_room awake_room dozing_room stands boot holds heap same_heap room = record {
     past = boot_past (script_of store);
     world = boot_world (script_of store);
     shared = starts;
@@ -70,6 +70,7 @@ module _ {T : Type 0} (stands_for : T → World → Type 0) (script_of : T → S
     holds = holds;
     heap = heap;
     limit = refl;
+    same_heap = same_heap;
     room = room;
   }
 
@@ -101,6 +102,7 @@ module _ {T : Type 0} (stands_for : T → World → Type 0) (script_of : T → S
         boot = s.boot;
         holds = s.holds;
         limit = refl;
+        same_heap = refl;
         room = s.room;
       })
 
@@ -145,14 +147,14 @@ module _ {T : Type 0} (stands_for : T → World → Type 0) (script_of : T → S
 
   -- the same where the run has names of its own for what is at hand
   pub named_at_boot : (script : Script) (steps limit : ℕ) (charge : ChargeWord) (store : T) (seat : SeatState) (history : List Entry) (held : List Held) (awake dozing : List ℕ)
-      (entry_room held_room awake_room dozing_room : ℕ)
+      (total entry_room held_room awake_room dozing_room : ℕ)
       → script ≡ script_of store → steps ≡ limit → charge ≡ seat.charge → history ≡ [] → held ≡ [] → awake ≡ 1 ∷ [] → dozing ≡ []
-      → stands_for store (boot_world (script_of store)) → seat.known.is_boot ≡ true → seat.known.holds ≡ fixed → seat.charge.heap ≡ (script_of store).heap
+      → stands_for store (boot_world (script_of store)) → seat.known.is_boot ≡ true → seat.known.holds ≡ fixed → seat.charge.heap ≡ (script_of store).heap → total ≡ (script_of store).heap
       → HasRoom limit entry_room held_room awake_room dozing_room
       → Shares stands_for script_of script steps charge
-      (record (at_start store seat limit entry_room held_room awake_room dozing_room) { history = history; held = held; awake = awake; dozing = dozing }) []
-  named_at_boot script steps limit charge store seat history held awake dozing entry_room held_room awake_room dozing_room
-      script_is steps_is charge_is history_is held_is awake_is dozing_is stands boot holds heap room =
+      (record (at_start store seat limit total entry_room held_room awake_room dozing_room) { history = history; held = held; awake = awake; dozing = dozing }) []
+  named_at_boot script steps limit charge store seat history held awake dozing total entry_room held_room awake_room dozing_room
+      script_is steps_is charge_is history_is held_is awake_is dozing_is stands boot holds heap same_heap room =
       subst (λ sc. Shares stands_for script_of sc steps charge (value history held awake dozing) []) (sym script_is)
       (subst (λ n. Shares stands_for script_of (script_of store) n charge (value history held awake dozing) []) (sym steps_is)
       (subst (λ w. Shares stands_for script_of (script_of store) limit w (value history held awake dozing) []) (sym charge_is)
@@ -160,11 +162,11 @@ module _ {T : Type 0} (stands_for : T → World → Type 0) (script_of : T → S
       (subst (λ l. Shares stands_for script_of (script_of store) limit seat.charge (value [] l awake dozing) []) (sym held_is)
       (subst (λ l. Shares stands_for script_of (script_of store) limit seat.charge (value [] [] l dozing) []) (sym awake_is)
       (subst (λ l. Shares stands_for script_of (script_of store) limit seat.charge (value [] [] (1 ∷ []) l) []) (sym dozing_is)
-      (at_boot store seat limit entry_room held_room awake_room dozing_room stands boot holds heap room)))))))
+      (at_boot store seat limit total entry_room held_room awake_room dozing_room stands boot holds heap same_heap room)))))))
     where
       value : List Entry → List Held → List ℕ → List ℕ → KernelValue T
       value entries pids up sleepers =
-          record (at_start store seat limit entry_room held_room awake_room dozing_room) { history = entries; held = pids; awake = up; dozing = sleepers }
+          record (at_start store seat limit total entry_room held_room awake_room dozing_room) { history = entries; held = pids; awake = up; dozing = sleepers }
 
   -- a process is taken back, in a list with the same room
   pub released : (script : Script) (steps : ℕ) (charge : ChargeWord) (value : KernelValue T) (pid : ℕ) (held : List Held) (held_room : ℕ)

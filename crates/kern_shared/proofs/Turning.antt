@@ -21,8 +21,8 @@ use Rattle.posix_defs.specs.Needs.{bound, need_of}
 use Rattle.posix_defs.specs.Plain.{Plain, answered, call_of}
 use Rattle.posix_defs.specs.Process.{is_alive}
 use Rattle.posix_defs.specs.Relief.{Evicts, refused_in}
-use Rattle.posix_defs.specs.Sizes.{reserve}
-use Rattle.posix_defs.specs.Turn.{Answers, Tells, TurnsWhere, account_after}
+use Rattle.posix_defs.specs.Sizes.{reserve, room}
+use Rattle.posix_defs.specs.Turn.{Answers, Tells, TurnsTo, TurnsWhere, account_after}
 use Rattle.posix_defs.specs.World.{Kept, World, MayKeep, base, cached, can_evict, live_of}
 use Rattle.kern_laws.specs.Filled.{AreFilled}
 use Rattle.kern_laws.proofs.Caches.{SizesAfter, sizes_left}
@@ -133,6 +133,7 @@ module _ {T : Type 0} (stands_for : T → World → Type 0) (script_of : T → S
         boot = boot;
         holds = holds;
         limit = refl;
+        same_heap = refl;
         room = s.room;
       })
 
@@ -152,6 +153,17 @@ module _ {T : Type 0} (stands_for : T → World → Type 0) (script_of : T → S
       (record { names = s.filled.names; blocks = s.filled.blocks; vnodes = s.filled.vnodes })
       (subst (λ p. ArePresent p value.awake value.dozing (value.history ++ entry.Gone pid which ∷ [])) (sym s.plain) (present_gone s.past.plain value.awake value.dozing value.history pid which ended s.present))
       s.bare s.of_charge s.boot s.holds
+
+  -- where a turn of a held live process's call leads the value's history
+  pub turn_of : (script : Script) (steps : ℕ) (charge : ChargeWord) (value : KernelValue T) (items : List Item) (s : Shares stands_for script_of script steps charge value items)
+      (after : World) (pid : ℕ) (told : Turned) → is_given pid items ≡ true → is_alive s.past.plain.table pid ≡ true → bound (call_of script s.past.plain pid) ≤ room script.heap
+      → TurnsTo script s.world pid (call_of script s.past.plain pid) told after → TurnLeads script s.past pid told after.plain
+  turn_of script steps charge value items s after pid told is_held alive fits turns =
+      let lives : is_alive s.world.plain.table pid ≡ true = subst (λ (p : Plain). is_alive p.table pid ≡ true) (sym s.plain) alive in
+      let answers : Answers script s.world pid (call_of script s.past.plain pid) told after =
+      subst (λ b. TurnsWhere b script s.world pid (call_of script s.past.plain pid) told after) lives turns in
+      turn_legal script s.past pid told after.plain alive (held_up script steps items s.past s.shared pid is_held) fits
+      (subst (λ p. Tells (machine script p pid (call_of script s.past.plain pid)) p told after.plain) s.plain answers.answer)
 
   pub behind_turn : StandsBehindTurn stands_for script_of
   behind_turn script steps charge value items s store seat awake dozing after pid told below is_held alive fits reserved named stands turns of_charge boot holds present =
@@ -173,8 +185,7 @@ module _ {T : Type 0} (stands_for : T → World → Type 0) (script_of : T → S
       none = sym s.starved ∙ before_starved stands_for script_of script steps charge value items s pid alive reserved
 
       leads : TurnLeads script s.past pid told after.plain
-      leads = turn_legal script s.past pid told after.plain alive (held_up script steps items s.past s.shared pid is_held) fits
-          (subst (λ p. Tells (machine script p pid (call_of script s.past.plain pid)) p told after.plain) s.plain answers.answer)
+      leads = turn_of script steps charge value items s after pid told is_held alive fits turns
 
       account : after.account ≡ leads.next.account
       account = answers.account
@@ -218,6 +229,7 @@ module _ {T : Type 0} (stands_for : T → World → Type 0) (script_of : T → S
         boot = s.boot;
         holds = s.holds;
         limit = refl;
+        same_heap = refl;
         room = s.room;
       })
 
@@ -254,6 +266,7 @@ module _ {T : Type 0} (stands_for : T → World → Type 0) (script_of : T → S
         boot = boot;
         holds = holds;
         limit = refl;
+        same_heap = refl;
         room = s.room;
       })
 
@@ -284,5 +297,6 @@ module _ {T : Type 0} (stands_for : T → World → Type 0) (script_of : T → S
         boot = boot;
         holds = holds;
         limit = refl;
+        same_heap = refl;
         room = s.room;
       })

@@ -54,13 +54,14 @@ IsTold world (Live n) = live_of world ≡ n
 IsTold world (Cleared what live) = (live_of world + size (class_of what) ≡ live) × NothingBefore world what
 IsTold world _ = Unit {0}
 
--- The kernel's value: the store, the charge seat of what is live, how many entries there may be, the entries so far, the processes
--- that passes hold, the live processes that don't doze and those that do, and whether Starved was answered; and what there is room
+-- The kernel's value: the store, the charge seat of what is live, how many entries there may be, the heap, the entries so far, the
+-- processes that passes hold, the live processes that don't doze and those that do, and whether Starved was answered; and what there is room
 -- for in each of the lists.
 pub record KernelValue (T : Type 0) : Type 0 where
   pub store : T
   pub seat : SeatState
   pub steps : ℕ
+  pub heap : ℕ
   pub history : List Entry
   pub held : List Held
   pub awake : List ℕ
@@ -104,11 +105,12 @@ abbrev pub with_entry : {T : Type 0} → KernelValue T → ℕ → Entry → Ker
 with_entry value pid e = record value { history = value.history ++ e ∷ []; held = without pid value.held }
 
 -- what is kept before the first item
-abbrev pub at_start : {T : Type 0} → T → SeatState → ℕ → ℕ → ℕ → ℕ → ℕ → KernelValue T
-at_start store seat steps entry_room held_room awake_room dozing_room = record {
+abbrev pub at_start : {T : Type 0} → T → SeatState → ℕ → ℕ → ℕ → ℕ → ℕ → ℕ → KernelValue T
+at_start store seat steps heap entry_room held_room awake_room dozing_room = record {
   store = store;
   seat = seat;
   steps = steps;
+  heap = heap;
   history = [];
   held = [];
   awake = 1 ∷ [];
@@ -149,15 +151,16 @@ module _ {T : Type 0} (stands_for : T → World → Type 0) (script_of : T → S
     pub holds : value.seat.known.holds ≡ live_of world + reserve
     pub heap : charge.heap ≡ script.heap
     pub limit : value.steps ≡ steps
+    pub same_heap : value.heap ≡ script.heap
     pub room : HasRoom steps value.entry_room value.held_room value.awake_room value.dozing_room
 
   -- before the first item, with the seat of a charge that was booted for the script's heap
   abbrev pub StandsAtBoot : Type 0
   StandsAtBoot =
-      (store : T) (seat : SeatState) (steps entry_room held_room awake_room dozing_room : ℕ) → stands_for store (boot_world (script_of store))
-      → seat.known.is_boot ≡ true → seat.known.holds ≡ fixed → seat.charge.heap ≡ (script_of store).heap
+      (store : T) (seat : SeatState) (steps heap entry_room held_room awake_room dozing_room : ℕ) → stands_for store (boot_world (script_of store))
+      → seat.known.is_boot ≡ true → seat.known.holds ≡ fixed → seat.charge.heap ≡ (script_of store).heap → heap ≡ (script_of store).heap
       → HasRoom steps entry_room held_room awake_room dozing_room
-      → Shares (script_of store) steps seat.charge (at_start store seat steps entry_room held_room awake_room dozing_room) []
+      → Shares (script_of store) steps seat.charge (at_start store seat steps heap entry_room held_room awake_room dozing_room) []
 
   -- what holds of a value that stands for some items
   abbrev pub OfStanding : (Holds : (script : Script) (steps : ℕ) (charge : ChargeWord) (value : KernelValue T) (items : List Item) → Shares script steps charge value items → Type 0) → Type 0

@@ -16,6 +16,12 @@ use std::alloc::Global;
 use std::marker::PhantomData;
 use turn_words::Chronicle;
 
+/// What is charged at boot, in bytes.
+pub(crate) const FIXED: u64 = 2816;
+
+/// Two blocks, which closing and ending may always use, in bytes.
+pub(crate) const RESERVE: u64 = 2176;
+
 /// The names of one run. They stand in proofs alone: what is known of a value that passes share is said by them.
 pub trait RunName {
     ghost use Rattle.std.specs.Prelude.{ℕ};
@@ -33,18 +39,19 @@ pub trait RunName {
 }
 
 /// What the passes of a kernel share: the store with the charge seat of its live bytes, how many entries there may be, the
-/// entries so far, the processes that passes hold, the live processes that don't doze and those that do, and whether Starved
+/// heap, the entries so far, the processes that passes hold, the live processes that don't doze and those that do, and whether Starved
 /// was answered.
 #[derive(Drop)]
 pub struct KernelState<T: Turner + Drop, L: RunName> {
-    store: T,
-    seat: ChargeSeat,
-    steps: u32,
-    history: Vec<Entry>,
-    held: Vec<Held>,
-    awake: Vec<u32>,
-    dozing: Vec<u32>,
-    starved: bool,
+    pub(crate) store: T,
+    pub(crate) seat: ChargeSeat,
+    pub(crate) steps: u32,
+    pub(crate) heap: u64,
+    pub(crate) history: Vec<Entry>,
+    pub(crate) held: Vec<Held>,
+    pub(crate) awake: Vec<u32>,
+    pub(crate) dozing: Vec<u32>,
+    pub(crate) starved: bool,
     run: PhantomData<L>,
 }
 
@@ -56,6 +63,7 @@ impl<T: Turner + Drop, L: RunName> Chronicle for KernelState<T, L> {
       store = state.store;
       seat = state.seat;
       steps = state.steps;
+      heap = state.heap;
       history = state.history.items;
       held = state.held.items;
       awake = state.awake.items;
@@ -74,13 +82,15 @@ impl<T: Turner + Drop, L: RunName> KernelState<T, L> {
         alloc: Global,
         store: T,
         steps: u32,
+        heap: u64,
         seat: ChargeSeat,
     ) -> Result<KernelState<T, L>, Memory>
         requires booted { T.stands store (boot_world (T.script store)) }
         requires script { L.script ≡ T.script store }
         requires steps { L.steps ≡ steps }
         requires charge { L.charge ≡ seat.charge }
-        requires heap { seat.charge.heap ≡ (T.script store).heap }
+        requires heap { heap ≡ (T.script store).heap }
+        requires word { seat.charge.heap ≡ (T.script store).heap }
         requires boot { seat.known.is_boot ≡ true }
         requires holds { seat.known.holds ≡ fixed }
         ensures { IfOk result (λ state. ⟦<KernelState<T, L> as Chronicle>⟧.stands state []) }
@@ -94,6 +104,7 @@ impl<T: Turner + Drop, L: RunName> KernelState<T, L> {
             store,
             seat,
             steps,
+            heap,
             history,
             held,
             awake,
