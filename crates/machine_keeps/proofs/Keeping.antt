@@ -1,9 +1,8 @@
 -- Whatever a call is answered, the tree is one, and what descriptions, sockets and processes name of it is there.
-use Rattle.std.proofs.Common.{◌≡◌, ◌≢◌, ℕ, zero, suc, ◌+◌, ◌-◌, ◌<◌, ◌≤◌, ◌==◌, ◌&&◌, ◌||◌, ◌^◌, nat_lt, not, ℤ, pos, Bool, true, false, cond, List, [], ◌∷◌, ◌++◌, length, map, take, drop, replicate, Option, None, Some, IsSome, is_some, slice_index_or, slice_set, unwrap_or, Result, Ok, Err, refl, ap, sym, ◌∙◌, subst, ◌⊎◌, inl, inr, arith, Contains, length-append}
+use Rattle.std.proofs.Common.{◌≡◌, ℕ, zero, suc, ◌+◌, ◌-◌, ◌<◌, ◌≤◌, ◌==◌, ◌&&◌, ◌||◌, ◌^◌, nat_lt, not, ℤ, pos, Bool, true, false, cond, List, [], ◌∷◌, ◌++◌, length, map, take, drop, Option, None, Some, IsSome, is_some, slice_set, unwrap_or, Result, Ok, Err, refl, ap, sym, ◌∙◌, subst, ◌⊎◌, inl, inr, arith, Contains, length-append}
 use Rattle.std.specs.List.{list_any}
 use Rattle.std.specs.Option.{option_or}
 use Rattle.std.proofs.lemmas.Bool.Decides.{eqb_tells}
-use Rattle.std.proofs.lemmas.List.{get_or_past}
 use Rattle.std.proofs.lemmas.List.Elements.{All-append, All-drop, All-nil, All-take}
 use Rattle.kabi_calls.specs.Arguments.{argument_fault, count_of, invalid_unless, path_fault, paths_fault, truncates_unwritten}
 use Rattle.kabi_calls.specs.PathParts.{ends_in_dots}
@@ -11,11 +10,11 @@ use Rattle.kabi_calls.specs.declared.calls.Call.{Call}
 use Rattle.kabi_calls.specs.declared.calls.Call.TheVariants as calls
 use Rattle.kabi_values.specs.OpenFlags.{are_open_flags}
 use Rattle.kabi_values.specs.declared.errnos.Errno.{Errno}
-use Rattle.kabi_values.specs.declared.errnos.Errno.TheVariants.{EFBIG, ENOMEM, ENOSPC, ENOTDIR}
+use Rattle.kabi_values.specs.declared.errnos.Errno.TheVariants.{EFBIG, ENOSPC, ENOTDIR}
 use Rattle.kabi_values.specs.declared.replies.Reply.{Reply}
 use Rattle.kabi_values.specs.declared.replies.Reply.TheVariants.{Fail, Val, Waited}
 use Rattle.kabi_types.specs.declared.scripts.Script.{Script}
-use Rattle.posix_defs.specs.Answer.{Answer, failed}
+use Rattle.posix_defs.specs.Answer.{Answer}
 use Rattle.posix_defs.specs.ByPid.{with_pid}
 use Rattle.posix_defs.specs.DiskFormat.{blocks_of, greatest_size, table_nodes}
 use Rattle.posix_defs.specs.Ending.{closed_by, die, die_in, ended_as, leaves, left_behind, left_child}
@@ -25,19 +24,19 @@ use Rattle.posix_defs.specs.IsTree.{IsTree}
 use Rattle.posix_defs.specs.Machine.{unless_wrong}
 use Rattle.posix_defs.specs.Memory.{Memory, no_memory}
 use Rattle.posix_defs.specs.MemoryCalls.{remembered}
-use Rattle.posix_defs.specs.PathCalls.{bind_path, enter_path, entered, is_socket, is_socket_kind, kind_in, kind_of_content, node_led, open_path, unless}
+use Rattle.posix_defs.specs.PathCalls.{bind_path, entered, is_socket, is_socket_kind, kind_in, node_led, open_path, unless}
 use Rattle.posix_defs.specs.Paths.{resolve}
-use Rattle.posix_defs.specs.Pipe.{Moves, Pipe, after_close, after_read, after_write, new_pipe, while_open, without_reader, without_writer}
+use Rattle.posix_defs.specs.Pipe.{Pipe, after_close, after_read, after_write, new_pipe, while_open, without_reader, without_writer}
 use Rattle.posix_defs.specs.Plain.{Plain, answered, boot_plain, call_of, control_of, first_process, last_pid, with_files, with_table}
 use Rattle.posix_defs.specs.Posix.{posix, posix_answer}
 use Rattle.posix_defs.specs.Process.{Alive, Ended, Process, Status, Table, directory_in, directory_of, is_alive, memory_in, memory_of, process_at, remembering, runs, with_directory, with_memory, working_in}
-use Rattle.posix_defs.specs.Socket.{Idle, Listening, Socket, Stage, after_shutdown, connected_to, listening, new_socket, peer_of, shuts_reading, without_first}
-use Rattle.posix_defs.specs.SocketLinks.{AreLinked, AreNamedOnce}
+use Rattle.posix_defs.specs.Socket.{Socket, Stage, after_shutdown, connected_to, listening, new_socket, peer_of, shuts_reading, without_first}
+use Rattle.posix_defs.specs.SocketLinks.{AreNamedOnce}
 use Rattle.posix_defs.specs.Sockets.{Sockets, after_accept, after_connect, after_listen, after_read as sock_after_read, after_shut, after_write as sock_after_write, sent_to, sock_at, socket_at, stage_at, with_name, with_new, with_pair, with_socket}
-use Rattle.posix_defs.specs.Tree.{Content, File, Directory, SocketName, Node, Tree, is_directory, is_directory_content, is_directory_in, is_in_use, links_at, links_in, new_root_node, new_tree, node_at}
+use Rattle.posix_defs.specs.Tree.{Content, File, Directory, SocketName, Node, Tree, is_directory, is_directory_in, is_in_use, links_at, new_tree, node_at}
 use Rattle.posix_defs.specs.TreeChanges.{blocks_for, closed, resize, with_bytes, write}
 use Rattle.posix_defs.specs.Waiting.{reaped}
-use Rattle.posix_defs.specs.Files.Descriptions.{Target, OnNode, OnPipe, OnSocket, Access, ReadOnly, WriteOnly, ReadWrite, Description, Descriptions, access_of, description_at, has_flag, may_write, with_description}
+use Rattle.posix_defs.specs.Files.Descriptions.{Target, OnNode, OnPipe, OnSocket, Access, ReadOnly, WriteOnly, ReadWrite, Description, access_of, description_at, has_flag, may_write, with_description}
 use Rattle.posix_defs.specs.Files.SocketNames.{after_freeing, listener_at}
 use Rattle.posix_defs.specs.Files.State.{Files, opens, pipe_at, with_descriptions, with_sockets, with_tree}
 use Rattle.posix_defs.specs.Reaching.{paths_of}
@@ -65,17 +64,17 @@ use Rattle.machine_laws.specs.Reached.{IsReached}
 use Rattle.answer_laws.specs.Shapes as shape
 use Rattle.answer_laws.specs.Shapes.{AreRead, HasShape, IsPut}
 use Rattle.machine_laws.proofs.Leading.{leads_on}
-use Rattle.machine_laws.proofs.Places.{naming, not_some, some_same, there_within}
+use Rattle.machine_laws.proofs.Places.{naming, not_some, some_same}
 use Rattle.answer_laws.proofs.Shapes.{shape_of}
 use Rattle.machine_laws.proofs.Shutting.{length_with}
 use Rattle.machine_laws.proofs.Stepping.{step_of}
-use Rattle.machine_keeps.specs.Bytes.{AreBytes, HasMemoryBytes, HasPageBytes}
+use Rattle.machine_keeps.specs.Bytes.{AreBytes, HasMemoryBytes}
 use Rattle.machine_keeps.specs.Piped.{pipe_in}
 use Rattle.machine_keeps.specs.Texts.{ArePathBytes, HasTexts}
 use Rattle.machine_keeps.proofs.Closings.{IsClosedUnder, anybody, close_holds, closed_by_holds, exec_holds, without}
 use Rattle.machine_keeps.proofs.Inductions.{by_induction}
 use Rattle.machine_keeps.proofs.Items.{changed_is, pushed_is, true_false}
-use Rattle.machine_keeps.proofs.Joining.{Joined, accepts_first, closes, idle_of, joined_holds}
+use Rattle.machine_keeps.proofs.Joining.{Joined, closes, joined_holds}
 use Rattle.machine_keeps.proofs.MovedBytes.{listed_bytes, loaded_bytes, mapped_bytes, no_memory_bytes, read_bytes, stored_bytes, unmapped_bytes}
 use Rattle.machine_keeps.proofs.Named.{on_named}
 use Rattle.machine_keeps.proofs.NodesAfter.{Binds, Opened as OpenedTree, Opens, Turns, bind_is, bytes_look, link_path_turns, mkdir_turns, open_is, rename_path_turns, rmdir_turns, turns_of, unlink_path_turns}
@@ -783,7 +782,7 @@ module _ (script : Script) (plain : Plain) (pid : ℕ) (holds : Holds plain) (jo
   by_shape call stores_bytes given stepped (shape.reaps child status ended is) = subst (LeadsTo Holds) (sym is)
       (answered_holds (reaped plain child) (Waited child status) (record { rooted = holds.rooted; pipes = holds.pipes; table = reaped_kept plain.files.tree plain.table child holds.table }))
   by_shape call stores_bytes given stepped (shape.ends status is) = subst (LeadsTo Holds) (sym is) (die_holds pid status)
-  by_shape call stores_bytes given stepped (shape.ends_another target status first own is) = subst (LeadsTo Holds) (sym is) (answered_holds (die plain target status) (Val (pos 0)) (die_holds target status))
+  by_shape call stores_bytes given stepped (shape.ends_another target signal called first own lives is) = subst (LeadsTo Holds) (sym is) (answered_holds (die plain target 9) (Val (pos 0)) (die_holds target 9))
 
   answers_hold : (call : Call) → is_alive plain.table pid ≡ true → ((path : List ℕ) → Contains (paths_of call) path → ArePathBytes path) → ((addr : ℤ) (bytes : List ℕ) → call ≡ calls.Store addr bytes → AreBytes bytes)
       → LeadsTo Holds (posix script plain pid call)
