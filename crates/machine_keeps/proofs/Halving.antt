@@ -1,5 +1,5 @@
 -- Who has done a part of a call stands at a write to a pipe or a socket.
-use Rattle.std.proofs.Common.{◌≡◌, ◌≢◌, ℕ, zero, suc, ◌+◌, ◌<◌, ◌≤◌, ◌==◌, ℤ, pos, negsuc, Bool, true, false, cond, List, [], ◌∷◌, ◌++◌, length, Option, None, Some, is_some, unwrap_or, slice_get, refl, ap, sym, ◌∙◌, subst, ◌⊎◌, inl, inr, arith, length-append}
+use Rattle.std.proofs.Common.{◌≡◌, ◌≢◌, ℕ, zero, suc, ◌+◌, ◌<◌, ◌≤◌, ◌==◌, ℤ, pos, negsuc, Bool, true, false, cond, List, [], ◌∷◌, ◌++◌, length, Option, None, Some, unwrap_or, slice_get, refl, ap, sym, ◌∙◌, subst, inl, inr, arith}
 use Rattle.std.proofs.lemmas.Bool.Decides.{eqb_tells}
 use Rattle.std.proofs.lemmas.List.{get_or-set_same, get_or-set_other}
 use Rattle.std.proofs.lemmas.Option.{slice_get_past}
@@ -25,8 +25,8 @@ use Rattle.posix_defs.specs.Memory.{no_memory}
 use Rattle.posix_defs.specs.MemoryCalls.{remembered}
 use Rattle.posix_defs.specs.Plain.{Plain, answered, at_start, boot_plain, call_of, control_of, last_pid, with_control, with_files, with_table}
 use Rattle.posix_defs.specs.Posix.{posix}
-use Rattle.posix_defs.specs.Process.{Process, Table, directory_of, is_alive, is_alive_in, process_at, runs, with_directory, working_in}
-use Rattle.posix_defs.specs.Files.Descriptors.{Descriptor, descriptor_at, descriptor_of, is_named, none_open}
+use Rattle.posix_defs.specs.Process.{Process, is_alive, is_alive_in, process_at, runs, with_directory}
+use Rattle.posix_defs.specs.Files.Descriptors.{Descriptor, descriptor_at, descriptor_of, is_named}
 use Rattle.posix_defs.specs.Files.Descriptions.{Description, description_at, with_description}
 use Rattle.posix_defs.specs.Files.State.{Files, descriptors_of, opened_as, with_heir, with_open}
 use Rattle.posix_defs.specs.Waiting.{reaped}
@@ -42,7 +42,6 @@ use Rattle.answer_laws.proofs.GoingOn.{call_part}
 use Rattle.machine_laws.specs.FileSteps as step
 use Rattle.machine_laws.specs.FileSteps.{IsStep, LeadsTo, is_ending}
 use Rattle.machine_laws.specs.Placed.{IsPlaced}
-use Rattle.machine_laws.specs.Described.{AreDescribed}
 use Rattle.machine_laws.specs.Reached.{IsReached}
 use Rattle.answer_laws.specs.Shapes as shape
 use Rattle.answer_laws.specs.Shapes.{HasShape, IsPart}
@@ -51,13 +50,13 @@ use Rattle.machine_laws.proofs.Places.{naming, names_there, not_some, opened_sam
 use Rattle.machine_laws.proofs.Placing.{alive_moved}
 use Rattle.machine_laws.proofs.Reaches.{reached_keeps}
 use Rattle.answer_laws.proofs.Shapes.{shape_of}
-use Rattle.machine_laws.proofs.SharedOffsets.{heirs_open, stay_open}
-use Rattle.machine_laws.proofs.Shutting.{past_open, same_of, target_same}
+use Rattle.machine_laws.proofs.SharedOffsets.{stay_open}
+use Rattle.machine_laws.proofs.Shutting.{same_of, target_same}
 use Rattle.machine_laws.proofs.Stepping.{step_of}
 use Rattle.machine_keeps.proofs.Closings.{IsClosedUnder, close_holds, exec_holds, one_end_holds, without}
 use Rattle.machine_keeps.proofs.Inductions.{by_induction}
-use Rattle.machine_keeps.proofs.Items.{changed_is, pushed_front, true_false}
-use Rattle.machine_keeps.proofs.Surviving.{Survives, survives}
+use Rattle.machine_keeps.proofs.Items.{pushed_front, true_false}
+use Rattle.machine_keeps.proofs.Surviving.{survives}
 
 -- ---- where a process stands
 

@@ -4,7 +4,6 @@ use Rattle.kabi_calls.specs.declared.calls.Call.{Call}
 use Rattle.kabi_values.specs.declared.errnos.Errno.TheVariants.{ENOMEM}
 use Rattle.kabi_values.specs.declared.replies.Reply.TheVariants.{Fail}
 use Rattle.kabi_types.specs.declared.scripts.Script.{Script}
-use Rattle.posix_defs.specs.Answer.{Answer}
 use Rattle.posix_defs.specs.Ending.{die}
 use Rattle.posix_defs.specs.Plain.{Plain, answered, boot_plain, call_of}
 use Rattle.posix_defs.specs.Posix.{posix}

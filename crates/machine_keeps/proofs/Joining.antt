@@ -1,5 +1,5 @@
 -- Sockets are linked, and each is named by one description or waits, whatever a call is answered.
-use Rattle.std.proofs.Common.{◌≡◌, ◌≢◌, ℕ, zero, suc, ◌+◌, ◌-◌, ◌<◌, ◌≤◌, ℤ, Bool, true, false, cond, List, [], ◌∷◌, ◌++◌, length, map, Option, None, Some, IsSome, is_some, unwrap_or, refl, ap, sym, ◌∙◌, subst, ◌⊎◌, inl, inr, arith, Contains, length-append}
+use Rattle.std.proofs.Common.{◌≡◌, ◌≢◌, ℕ, zero, suc, ◌+◌, ◌-◌, ◌≤◌, ℤ, Bool, true, false, cond, List, [], ◌∷◌, ◌++◌, length, map, Option, None, Some, IsSome, is_some, unwrap_or, refl, ap, sym, ◌∙◌, subst, ◌⊎◌, inl, inr, arith, Contains, length-append}
 use Rattle.std.specs.List.{range_with_len}
 use Rattle.std.specs.Option.{option_map}
 use Rattle.std.proofs.lemmas.List.{get_or_past, length-map}
@@ -8,17 +8,14 @@ use Rattle.std.proofs.lemmas.List.FromFn.{length-range_with_len}
 use Rattle.kabi_calls.specs.Arguments.{count_of}
 use Rattle.kabi_calls.specs.declared.calls.Call.{Call}
 use Rattle.kabi_types.specs.declared.scripts.Script.{Script}
-use Rattle.posix_defs.specs.Ending.{die}
 use Rattle.posix_defs.specs.Memory.{Memory, byte_at, loaded}
 use Rattle.posix_defs.specs.Pipe.{Moves}
-use Rattle.posix_defs.specs.Plain.{Plain, boot_plain, call_of}
-use Rattle.posix_defs.specs.Posix.{posix}
+use Rattle.posix_defs.specs.Plain.{Plain, call_of}
 use Rattle.posix_defs.specs.Process.{memory_of}
-use Rattle.posix_defs.specs.Socket.{Accepting, Idle, Listening, Connected, Refuses, Socket, Stage, Takes, Waits, accept as accept_in, connect_fault, connected_to, first_waiting, is_connected, new_socket, peer_of, waiting_of}
-use Rattle.posix_defs.specs.SocketLinks.{AreHeld, AreLinked, NoneTwice, WaitsFor, WaitsNowhere, room_of}
-use Rattle.posix_defs.specs.Sockets.{Sockets, after_accept, after_close, after_connect, after_listen, after_read, after_shut, after_write, backlog, is_refused, sock_at, sock_write, socket_at, stage_at, with_name, with_new, with_pair, with_socket}
+use Rattle.posix_defs.specs.Socket.{Idle, Listening, Connected, Refuses, Socket, Stage, Takes, accept as accept_in, connect_fault, connected_to, first_waiting, is_connected, new_socket, peer_of, waiting_of}
+use Rattle.posix_defs.specs.SocketLinks.{AreHeld, AreLinked, NoneTwice, room_of}
+use Rattle.posix_defs.specs.Sockets.{Sockets, after_accept, after_close, after_connect, after_write, backlog, is_refused, sock_at, sock_write, socket_at, stage_at, with_new, with_pair, with_socket}
 use Rattle.posix_defs.specs.TreeChanges.{closed}
-use Rattle.posix_defs.specs.Files.Descriptors.{is_named}
 use Rattle.posix_defs.specs.Files.Descriptions.{Target, OnNode, OnPipe, OnSocket, ReadWrite, Description, Descriptions, description_at, with_description}
 use Rattle.posix_defs.specs.Files.SocketNames.{after_freeing, listener_at, none_bound_to, unnamed}
 use Rattle.posix_defs.specs.Files.State.{Files, is_number, opens, with_descriptions, with_tree}
@@ -39,7 +36,7 @@ use Rattle.machine_keeps.specs.Joined.{AreJoined}
 use Rattle.machine_keeps.proofs.Closings.{IsClosedUnder, anybody, close_holds, closed_by_holds, exec_holds}
 use Rattle.machine_keeps.proofs.Inductions.{answers_keep, by_induction}
 use Rattle.machine_keeps.proofs.Items.{true_false}
-use Rattle.machine_keeps.proofs.Named.{AreOwn, described_from, described_own, described_to, gone_alone, gone_from, gone_own, gone_to, named_on, none_twice, on_named, pushed_from, pushed_new, pushed_old, pushed_own}
+use Rattle.machine_keeps.proofs.Named.{AreOwn, described_from, described_own, described_to, gone_alone, gone_from, gone_own, gone_to, none_twice, on_named, pushed_from, pushed_new, pushed_old, pushed_own}
 
 -- ---- what is kept where the same sockets are there, in the same stages
 

@@ -10,6 +10,11 @@ pub mod NodesAfter
 pub mod Openers
 pub mod MovedBytes
 pub mod Rooting
+pub mod PipeBytes
+pub mod ClosingKeeps
+pub mod CallFacts
+pub mod StepsKeep
+pub mod ProcessesKept
 pub mod Keeping
 pub mod Texting
 pub mod Wholeness

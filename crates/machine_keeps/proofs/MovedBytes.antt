@@ -1,5 +1,5 @@
 -- What is moved between memory, files, pipes and sockets are bytes.
-use Rattle.std.proofs.Common.{◌≡◌, ℕ, zero, suc, ◌+◌, ◌-◌, ◌*◌, ◌/◌, ◌%◌, ◌^◌, ◌<◌, ◌≤◌, Bool, true, false, List, [], ◌∷◌, ◌++◌, length, map, take, drop, replicate, Option, None, Some, slice_index, slice_index_or, slice_set, unwrap_or, option_map, refl, ap, sym, ◌∙◌, subst, inl, inr, arith}
+use Rattle.std.proofs.Common.{◌≡◌, ℕ, zero, suc, ◌+◌, ◌-◌, ◌*◌, ◌/◌, ◌%◌, ◌^◌, ◌<◌, ◌≤◌, List, [], ◌∷◌, ◌++◌, length, take, drop, replicate, Option, None, Some, slice_index, slice_index_or, slice_set, unwrap_or, option_map, refl, sym, subst, inl, inr, arith}
 use Rattle.std.specs.Int.{bytes_high_first, byte_at as number_byte, to_be_bytes, w32}
 use Rattle.std.specs.List.{All, flat_map, range_with_len}
 use Rattle.std.proofs.lemmas.List.{get_or_past}
@@ -7,8 +7,8 @@ use Rattle.std.proofs.lemmas.List.Concat.{flat_map-cons}
 use Rattle.std.proofs.lemmas.List.Elements.{All-append, All-cons, All-drop, All-get_or, All-head, All-map, All-nil, All-replicate, All-set, All-tail, All-take}
 use Rattle.kabi_values.specs.declared.inodes.DirEntry.{DirEntry}
 use Rattle.posix_defs.specs.DiskContents.{entry_for, own_name, parent_name}
-use Rattle.posix_defs.specs.DiskFormat.{IsName, entry_bytes}
-use Rattle.posix_defs.specs.IsTree.{AreEntries, IsContent, IsEntryName, IsTree}
+use Rattle.posix_defs.specs.DiskFormat.{entry_bytes}
+use Rattle.posix_defs.specs.IsTree.{IsContent, IsEntryName, IsTree}
 use Rattle.posix_defs.specs.Memory.{Memory, byte_at, loaded, no_memory, page_at, stored, with_byte, with_pages, with_range, without_pages, zero_page}
 use Rattle.posix_defs.specs.PathCalls.{all_entries, bytes_in, bytes_of, list_node, read_node}
 use Rattle.posix_defs.specs.Tree.{Content, File, Directory, SocketName, Node, Tree, entries_at, entries_in, entries_of, node_at, parent_at}

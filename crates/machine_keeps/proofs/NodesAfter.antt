@@ -1,7 +1,7 @@
 -- What each call on a path leaves of the nodes of a tree: which stay, which go and why, and which have no link any more.
-use Rattle.std.proofs.Common.{◌≡◌, ◌≢◌, ℕ, zero, suc, ◌+◌, ◌-◌, ◌<◌, ◌≤◌, ◌==◌, ◌&&◌, ◌||◌, not, eqb, Bool, true, false, cond, List, [], ◌∷◌, length, Option, None, Some, is_some, Result, Ok, Err, refl, ap, sym, ◌∙◌, subst, ◌⊎◌, inl, inr, arith}
+use Rattle.std.proofs.Common.{◌≡◌, ◌≢◌, ℕ, ◌+◌, ◌-◌, ◌≤◌, ◌==◌, ◌&&◌, ◌||◌, not, eqb, Bool, true, false, cond, List, [], length, Option, None, Some, is_some, Result, Ok, Err, refl, ap, sym, ◌∙◌, subst, ◌⊎◌, inl, inr, arith}
 use Rattle.std.specs.Option.{option_map}
-use Rattle.std.proofs.lemmas.Bool.{cases_Bool, cond-true, cond-false, both_ways, and_cases}
+use Rattle.std.proofs.lemmas.Bool.{cases_Bool, cond-true, cond-false}
 use Rattle.std.proofs.lemmas.Bool.Decides.{eqb_tells}
 use Rattle.kabi_values.specs.declared.errnos.Errno.{Errno}
 use Rattle.kabi_values.specs.declared.errnos.Errno.TheVariants as errnos
@@ -10,10 +10,10 @@ use Rattle.posix_defs.specs.declared.walked.Walked.{Walked}
 use Rattle.posix_defs.specs.declared.walked.Walked.TheVariants as walked
 use Rattle.posix_defs.specs.DiskContents.{own_name, parent_name}
 use Rattle.posix_defs.specs.FileBytes.{resized}
-use Rattle.posix_defs.specs.IsTree.{IsNewContent, IsTree}
+use Rattle.posix_defs.specs.IsTree.{IsTree}
 use Rattle.posix_defs.specs.Paths.{IsLed, resolve}
 use Rattle.posix_defs.specs.PathCalls.{Opening, bind_led, bind_path, ends_in, freed_by, goes_below, is_empty, is_held, is_socket, is_socket_kind, kind_in, kind_of_content, link_from, link_path, link_to, mkdir_led, mkdir_path, node_led, open_led, open_path, open_there, rename_away, rename_led, rename_named, rename_onto, rename_path, rename_root, rmdir_led, rmdir_path, unless, unlink_led, unlink_path}
-use Rattle.posix_defs.specs.Tree.{Content, File, Directory, SocketName, Node, Tree, found, is_directory, is_directory_content, is_directory_in, is_in_use, links_at, links_in, node_at, with_node}
+use Rattle.posix_defs.specs.Tree.{Content, File, Directory, SocketName, Node, Tree, is_directory, is_directory_content, is_directory_in, is_in_use, links_at, links_in, node_at, with_node}
 use Rattle.posix_defs.specs.TreeChanges.{entry_aimed, entry_put, entry_renamed, entry_taken, hung, hung_if_directory, left_in, left_of, link, link_added, link_dropped, make, rename_over, rename_to, takes_entry, under, unlink, with_bytes, with_bytes_in, with_content, with_entries, with_entries_in, with_new}
 use Rattle.posix_defs.proofs.TreeNodes.{IsNumber, directory_in_use, free_is, is_number, length-with_node, node_at-with_node, node_at-with_node_other, seen_same}
 use Rattle.tree_laws.proofs.FoundAfter.{made_found}

@@ -10,7 +10,7 @@ use Rattle.posix_defs.specs.Files.Descriptions.{Target, OnNode, OnPipe, OnSocket
 use Rattle.posix_defs.specs.Files.State.{Files, is_number, node_of, opened_node, opens}
 use Rattle.posix_defs.specs.Calls.OnNames.{is_busy, works_in}
 use Rattle.machine_laws.proofs.Places.{not_some, some_same, there_within}
-use Rattle.machine_keeps.proofs.Items.{changed_is, pushed_front, true_false}
+use Rattle.machine_keeps.proofs.Items.{pushed_front, true_false}
 
 -- a description opens the node
 pub record Opener (descriptions : Descriptions) (n : ℕ) : Type 0 where

@@ -1,5 +1,5 @@
 -- Pipes count the descriptions that are open on their ends, whatever a call is answered.
-use Rattle.std.proofs.Common.{◌≡◌, ◌≢◌, ℕ, zero, suc, ◌+◌, ◌-◌, ◌<◌, ◌≤◌, ◌==◌, ◌&&◌, nat_le, nat_lt, ℤ, Bool, true, false, cond, List, [], ◌∷◌, ◌++◌, length, take, drop, Option, None, Some, is_some, slice_index_or, slice_set, unwrap_or, refl, ap, sym, ◌∙◌, subst, ◌⊎◌, inl, inr, arith, length-append, length-take, length-drop}
+use Rattle.std.proofs.Common.{◌≡◌, ◌≢◌, ℕ, zero, suc, ◌+◌, ◌-◌, ◌<◌, ◌≤◌, ◌==◌, ◌&&◌, nat_le, ℤ, Bool, true, false, cond, List, [], ◌∷◌, ◌++◌, length, take, drop, Option, None, Some, is_some, slice_set, unwrap_or, refl, ap, sym, ◌∙◌, subst, inl, inr, arith, length-append, length-take, length-drop}
 use Rattle.std.specs.List.{count_by}
 use Rattle.std.proofs.lemmas.Bool.{leb-true}
 use Rattle.std.proofs.lemmas.Bool.Decides.{eqb_tells}
@@ -9,7 +9,7 @@ use Rattle.kabi_calls.specs.declared.calls.Call.{Call}
 use Rattle.kabi_values.specs.declared.errnos.Errno.TheVariants.{EPIPE}
 use Rattle.kabi_types.specs.declared.scripts.Script.{Script}
 use Rattle.posix_defs.specs.Ending.{die}
-use Rattle.posix_defs.specs.Pipe.{Pipe, Moving, Moves, Blocks, Fails, after_close, after_read, after_write, capacity, free_in, new_pipe, not_now, pipe_read, pipe_write, while_open, whole, without_reader, without_writer}
+use Rattle.posix_defs.specs.Pipe.{Pipe, Moves, Fails, after_close, after_read, after_write, capacity, free_in, new_pipe, not_now, pipe_write, while_open, whole, without_reader, without_writer}
 use Rattle.posix_defs.specs.Plain.{Plain, boot_plain, call_of}
 use Rattle.posix_defs.specs.Posix.{posix}
 use Rattle.posix_defs.specs.TreeChanges.{closed}

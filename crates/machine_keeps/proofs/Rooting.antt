@@ -1,33 +1,31 @@
 -- What is kept of the tree, and of the descriptions and sockets that name its nodes.
-use Rattle.std.proofs.Common.{◌≡◌, ◌≢◌, ℕ, zero, suc, ◌+◌, ◌<◌, ◌≤◌, ◌==◌, ◌^◌, Bool, true, false, cond, List, [], ◌∷◌, ◌++◌, length, take, drop, Option, None, Some, IsSome, is_some, unwrap_or, refl, ap, sym, ◌∙◌, subst, ◌⊎◌, inl, inr, arith}
+use Rattle.std.proofs.Common.{◌≡◌, ◌≢◌, ℕ, zero, suc, ◌<◌, ◌≤◌, ◌==◌, ◌^◌, Bool, true, false, cond, List, [], ◌∷◌, ◌++◌, length, Option, None, Some, IsSome, is_some, unwrap_or, refl, ap, sym, ◌∙◌, subst, ◌⊎◌, inl, inr, arith}
 use Rattle.std.specs.Option.{option_map}
-use Rattle.std.proofs.lemmas.Bool.{cases_eq}
 use Rattle.std.proofs.lemmas.Bool.Decides.{eqb_tells}
 use Rattle.std.proofs.lemmas.List.{get_or-set_other}
 use Rattle.std.proofs.lemmas.List.Elements.{All-nil}
-use Rattle.posix_defs.specs.IsTree.{IsNode, IsTree}
+use Rattle.posix_defs.specs.IsTree.{IsTree}
 use Rattle.posix_defs.specs.PathCalls.{is_socket, is_socket_kind, kind_in}
-use Rattle.posix_defs.specs.Socket.{Connected, Listening, Socket, Stage, after_shutdown, connected_to, listening, new_socket, peer_of, shuts_reading, waiting_of, without_first}
-use Rattle.posix_defs.specs.SocketLinks.{AreLinked, AreLoose, AreNamedOnce, NamesNone, WaitsNowhere}
-use Rattle.posix_defs.specs.Sockets.{Sockets, after_accept, after_close, after_connect, after_listen, after_read, after_shut, after_write, all_gone, gone, sent_to, sock_at, socket_at, stage_at, with_bytes, with_name, with_new, with_pair, with_socket, with_stage}
-use Rattle.posix_defs.specs.Tree.{Content, Node, Tree, is_directory, is_directory_in, is_in_use, links_at, links_in, node_at, with_node}
+use Rattle.posix_defs.specs.Socket.{Connected, Listening, Socket, Stage, connected_to, new_socket, peer_of, waiting_of}
+use Rattle.posix_defs.specs.SocketLinks.{AreLinked, AreLoose, AreNamedOnce, WaitsNowhere}
+use Rattle.posix_defs.specs.Sockets.{Sockets, after_close, after_connect, all_gone, gone, sock_at, socket_at, stage_at, with_socket, with_stage}
+use Rattle.posix_defs.specs.Tree.{Node, Tree, is_directory, is_directory_in, is_in_use, links_at, links_in, node_at, with_node}
 use Rattle.posix_defs.specs.TreeChanges.{closed}
 use Rattle.posix_defs.specs.Files.Descriptions.{OnNode, Access, ReadOnly, Description, Descriptions, description_at, with_description}
 use Rattle.posix_defs.specs.Files.SocketNames.{after_freeing, none_bound_to, unnamed}
 use Rattle.posix_defs.specs.Files.State.{is_number}
 use Rattle.posix_defs.proofs.TreeNodes.{is_number as number_within, node_at-with_node}
 use Rattle.socket_laws.proofs.ListenerLemmas.{freed_is_nobodys, freed_once}
-use Rattle.socket_laws.proofs.SocketCalls.{first_loose, gone_linked, gone_parted, listening_there, rest_loose, waiting_loose}
-use Rattle.socket_laws.proofs.SocketLaws.{peer_there}
+use Rattle.socket_laws.proofs.SocketCalls.{first_loose, gone_linked, gone_parted, rest_loose, waiting_loose}
 use Rattle.socket_laws.proofs.SocketLinked.{is_or_not}
 use Rattle.socket_laws.proofs.SocketNames.{close_once}
-use Rattle.socket_laws.proofs.SocketTable.{Changed-with, length-with, there_within as sock_within}
+use Rattle.socket_laws.proofs.SocketTable.{Changed-with, length-with}
 use Rattle.tree_laws.proofs.OtherNodes.{closed_nodes}
 use Rattle.tree_laws.proofs.TreeKeeps.{closed_keeps}
 use Rattle.machine_laws.proofs.Places.{not_some, some_same}
 use Rattle.machine_keeps.specs.Bytes.{AreBytes}
 use Rattle.machine_keeps.proofs.Items.{changed_is, pushed_is, true_false}
-use Rattle.machine_keeps.proofs.NodesAfter.{Goes, Stays, Turns}
+use Rattle.machine_keeps.proofs.NodesAfter.{Turns}
 use Rattle.machine_keeps.proofs.Openers.{Opener, described_opener, gone_opener, pushed_opener}
 
 -- ---- what holds of each socket

@@ -1,6 +1,6 @@
 -- The calls of a script that is valid name paths and bytes.
-use Rattle.std.proofs.Common.{◌≡◌, ◌≢◌, ℕ, zero, suc, ◌<◌, ◌^◌, ◌==◌, ◌&&◌, not, ℤ, pos, Bool, true, false, List, [], ◌∷◌, length, map, Option, None, Some, slice_get, slice_index_or, refl, ap, sym, ◌∙◌, subst, inl, inr, arith, Contains}
-use Rattle.std.specs.List.{All, AllByRecursion, list_all}
+use Rattle.std.proofs.Common.{◌≡◌, ◌≢◌, ℕ, zero, suc, ◌<◌, ◌^◌, ◌==◌, ◌&&◌, not, ℤ, pos, Bool, true, false, List, [], ◌∷◌, length, map, Option, None, Some, slice_get, refl, ap, sym, ◌∙◌, subst, inl, inr, arith, Contains}
+use Rattle.std.specs.List.{AllByRecursion, list_all}
 use Rattle.std.specs.Prelude.{IfSome, nat_le}
 use Rattle.std.proofs.lemmas.Bool.Decides.{eqb_tells}
 use Rattle.std.proofs.lemmas.List.Elements.{All-cons, All-from_recursion, All-nil}
@@ -18,7 +18,6 @@ use Rattle.posix_defs.specs.Control.{body_of, call_at, call_of, settled, stateme
 use Rattle.posix_defs.specs.Made.{made, text_at}
 use Rattle.posix_defs.specs.Reaching.{paths_of}
 use Rattle.posix_defs.specs.ScriptLines.{shape_of}
-use Rattle.posix_defs.specs.ScriptValues.{is_path}
 use Rattle.posix_defs.specs.ValidScript.{Fits, HasText, HasTwoPaths, IsBytes, IsPath, IsProgram, IsStatement, IsStored, IsValid}
 use Rattle.machine_laws.proofs.Places.{not_some}
 use Rattle.machine_keeps.specs.Bytes.{AreBytes}

@@ -1,16 +1,16 @@
 -- Every machine that is reached is whole.
-use Rattle.std.proofs.Common.{◌≡◌, ℕ, true, List, Option, None, Some, refl, subst}
+use Rattle.std.proofs.Common.{◌≡◌, ℕ, Some, refl, subst}
 use Rattle.kabi_types.specs.declared.scripts.Script.{Script}
 use Rattle.posix_defs.specs.Plain.{Plain}
 use Rattle.posix_defs.specs.Files.Descriptions.{Target, OnNode, OnPipe, OnSocket, Description, description_at}
-use Rattle.posix_defs.specs.Files.Whole.{AreNamed, AreSockets, IsPipeOf, IsTarget, IsWhole}
+use Rattle.posix_defs.specs.Files.Whole.{AreNamed, AreSockets, IsTarget, IsWhole}
 use Rattle.machine_laws.specs.Described.{AreDescribed}
 use Rattle.machine_laws.specs.Placed.{IsPlaced}
 use Rattle.machine_laws.specs.Reached.{IsReached}
 use Rattle.machine_laws.proofs.Reaches.{reached_keeps}
 use Rattle.machine_keeps.specs.Bytes.{HasBytes}
 use Rattle.machine_keeps.specs.Joined.{AreJoined}
-use Rattle.machine_keeps.specs.Piped.{ArePiped, IsCounted, IsEnd}
+use Rattle.machine_keeps.specs.Piped.{ArePiped, IsEnd}
 use Rattle.machine_keeps.specs.Texts.{HasTexts}
 use Rattle.machine_keeps.proofs.Halving.{reached_half}
 use Rattle.machine_keeps.proofs.Joining.{reached_joined}
@@ -18,7 +18,7 @@ use Rattle.machine_keeps.proofs.Keeping.{Whole, reached_whole}
 use Rattle.machine_keeps.proofs.Named.{on_named}
 use Rattle.machine_keeps.proofs.Openers.{by_opener}
 use Rattle.machine_keeps.proofs.Piping.{reached_piped}
-use Rattle.machine_keeps.proofs.Rooting.{IsOpened, IsWell, Rooted}
+use Rattle.machine_keeps.proofs.Rooting.{Rooted}
 
 module _ (script : Script) (plain : Plain) (texts : HasTexts script) (reached : IsReached script plain) where
   whole : Whole plain
