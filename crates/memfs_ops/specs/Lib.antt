@@ -1,0 +1,2 @@
+pub mod FileTree
+pub mod Evicting

@@ -1,0 +1,12 @@
+//! The tree of files over three caches: each call on paths and nodes answers what the plain tree answers, whatever is
+//! cached, and leaves it standing for the tree that the call leads to.
+//!
+//! Names, inodes and blocks are kept in the kernel's heap, from the purse of the call that asked for them.
+#![tactic(auto)]
+
+mod evicting;
+mod file_tree;
+mod holding;
+mod telling;
+
+pub use file_tree::FileTree;
