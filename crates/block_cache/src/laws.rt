@@ -1,12 +1,21 @@
 //! Laws of the cache of blocks, each the contract of a function that does nothing.
-ghost use Rattle.std.specs.Prelude.{◌≡◌, ℕ, ◌+◌, ◌<◌, ◌≤◌, List, Option, None, Some, length, slice_get, slice_set};
+ghost use Rattle.std.specs.Prelude.{◌≡◌, ℕ, ◌+◌, ◌<◌, ◌≤◌, List, [], Option, None, Some, length, replicate, slice_get, slice_set};
 ghost use Rattle.kheap_shelves.specs.Objects.{count, put};
 ghost use Rattle.kheap_shelves.specs.Purse.{Purse};
 ghost use Rattle.kheap_shelves.specs.declared.objects.Block.{Block};
 ghost use Rattle.kheap_slabs.specs.Heap.{Heap};
 ghost use Rattle.kheap_slabs.specs.Paid.{IsPaid};
-ghost use Rattle.lru_index.specs.Order.{Order};
+ghost use Rattle.lru_index.specs.Order.{Order, order};
 ghost use Rattle.block_cache.specs.Blocks.{block, block_slot, cached_block, KeepsBlocks, TrueToDisk, BlockFilled};
+
+/// A cache that was just booted answers None, whatever it has room for, and keeps just the Blocks of
+/// a heap that was.
+pub fn nothing_is_cached_at_boot()
+    ensures none { (objects : List (Option Block)) (capacity : ℕ) (number : ℕ)
+        → cached_block objects (order [] capacity) number ≡ None }
+    ensures keeps { (limit : ℕ) (capacity : ℕ)
+        → KeepsBlocks (replicate limit None) (order [] capacity) }
+{}
 
 /// To read a block that is cached is to read it from the disk.
 pub fn reading_a_cache_is_reading_the_disk()

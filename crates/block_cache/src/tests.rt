@@ -125,6 +125,41 @@ fn go_in_turn(rt: &impl Abort, alloc: Global) -> Result<(), Memory> {
     Ok(())
 }
 
+// Lets a block go.
+fn let_go(rt: &impl Abort, heap: &mut KHeap, paid: &mut Purse, cache: &mut BlockCache, number: u8)
+    requires keeps { KeepsBlocks heap.old.blocks cache.old }
+    requires pays { CanPay heap.old paid.old }
+    requires fills { HasBlockFills heap.old paid.old }
+    requires few { paid.old.need.block ≤ 4 }
+    ensures keeps { KeepsBlocks heap.new.blocks cache.new }
+    ensures pays { CanPay heap.new paid.new }
+    ensures fills { HasBlockFills heap.new paid.new }
+    ensures few { paid.new.need.block ≤ 4 }
+{
+    assert!(rt; cache.has(number as u32));
+    cache.let_go(heap, paid, number as u32);
+}
+
+// What was filled is let go of one by one, and then all of it; what was filled before stays.
+fn fills_are_dropped(rt: &impl Abort, alloc: Global) -> Result<(), Memory> {
+    let (mut heap, mut cache) = booted(alloc, 4)?;
+    let mut before = purse(rt, &heap, 1);
+    fill(rt, &mut heap, &mut before, &mut cache, 9);
+    let mut paid = purse(rt, &heap, 2);
+    fill(rt, &mut heap, &mut paid, &mut cache, 1);
+    fill(rt, &mut heap, &mut paid, &mut cache, 2);
+    let_go(rt, &mut heap, &mut paid, &mut cache, 1);
+    assert!(rt; !cache.has(1) && cache.has(2) && paid.left(Class::Block) == 1);
+    fill(rt, &mut heap, &mut paid, &mut cache, 3);
+    assert!(rt; cache.has(2) && heap.live() == 3264);
+    cache.drop_fills(&mut heap, &mut paid);
+    assert!(rt; !cache.has(2) && !cache.has(3) && cache.has(9));
+    assert!(rt; paid.left(Class::Block) == 2 && heap.live() == 1088 && heap.high() == 3264);
+    drop(heap);
+    drop(cache);
+    Ok(())
+}
+
 #[test]
 fn a_purse_of_two_walks_through_five(rt: HostRuntime) -> Result<(), Fail> {
     let steps = [
@@ -163,5 +198,11 @@ fn nothing_is_cached_at_boot(rt: HostRuntime) -> Result<(), Fail> {
 #[test]
 fn blocks_go_in_turn(rt: HostRuntime) -> Result<(), Fail> {
     go_in_turn(&rt, rt.alloc())?;
+    Ok(())
+}
+
+#[test]
+fn what_was_filled_is_dropped(rt: HostRuntime) -> Result<(), Fail> {
+    fills_are_dropped(&rt, rt.alloc())?;
     Ok(())
 }

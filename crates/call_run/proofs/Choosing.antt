@@ -14,6 +14,7 @@ use Rattle.posix_defs.specs.Memory.{places_of}
 use Rattle.posix_defs.specs.Plain.{Plain}
 use Rattle.posix_defs.specs.Process.{Table, runs}
 use Rattle.posix_defs.specs.Victim.{pid_of_greatest, victim_of, weight_of, weights_from}
+use Rattle.posix_defs.specs.World.{World}
 use Rattle.posix_defs.specs.Account.{Account}
 use Rattle.posix_defs.specs.Files.Descriptors.{none_open, open_count}
 use Rattle.posix_defs.specs.Files.Bare.{IsBare}
@@ -25,9 +26,9 @@ use Rattle.proc_table.proofs.OwnLemmas.{AreRising, all_weaker, rising_procs}
 use Rattle.proc_table.proofs.PlaceLemmas.{eqb_same}
 use Rattle.victim_core.proofs.GreatestLemmas.{victim-named}
 use Rattle.victim_core.specs.Victims.{IsVictim, RisesByPid}
-use Rattle.call_run.specs.declared.objects.Objects.{Objects}
-use Rattle.call_run.specs.Objects.{AreKept, procs_of}
-use Rattle.call_run.specs.Standing.{StandFor}
+use Rattle.store_objects.specs.declared.objects.Objects.{Objects}
+use Rattle.store_objects.specs.Objects.{AreKept, procs_of}
+use Rattle.store_objects.specs.Standing.{StandsFor}
 use Rattle.call_run.specs.Weights.{weight_in, weights_in}
 use Rattle.call_run.proofs.FrameCounts.{frames_are}
 use Rattle.call_run.proofs.Owning.{Owns, all_own}
@@ -106,16 +107,16 @@ chosen_is h table procs policy plain account (Some pid) are rising all none vict
     sym (ap (pid_of_greatest policy) (weights_are are plain account 1 refl all) ∙ victim-named policy (weights_in h procs) pid (rises_by_pid h 0 procs rising) victim)
 
 -- Whom the scores choose among the processes is the machine's victim.
-pub victim_is : (script other : Script) (objects : Objects) (policy : Policy) (plain : Plain) (account : Account) (chosen : Option ℕ) → AreKept other objects → IsWellFormed objects.heap
-    → StandFor script objects plain account.frames
+pub victim_is : (script other : Script) (objects : Objects) (policy : Policy) (world : World) (chosen : Option ℕ) → AreKept other objects → IsWellFormed objects.heap
+    → StandsFor script objects world
     → (IsNone chosen → All (λ w. w.pid ≡ 1) (weights_in objects.heap (procs_of objects))) → IfSome chosen (IsVictim policy (weights_in objects.heap (procs_of objects)))
-    → chosen ≡ victim_of policy plain account
-victim_is script other objects policy plain account chosen kept whole stands none victim =
-    let has = stands.accounted in
+    → chosen ≡ victim_of policy world.plain world.account
+victim_is script other objects policy world chosen kept whole stands none victim =
+    let has = stands.memory in
     let procs = procs_of objects in
     let rising = rising_procs objects.heap.procs objects.procs.listed 0 objects.procs.last kept.holds.stored kept.holds.rising in
-    let all = all_weaker (λ (p : Proc). IsPlaced has.number objects.heap.nodes account.frames p × ((length p.nodes ≡ 4) × Owns objects.heap.nodes p)) (IsWeighed objects.heap plain account) procs
-    (λ p known. weighed_so objects.heap plain account has.number p whole known.0 known.1.0 known.1.1 stands.bare)
-    (all_both (IsPlaced has.number objects.heap.nodes account.frames) (λ p. (length p.nodes ≡ 4) × Owns objects.heap.nodes p) procs has.placed
+    let all = all_weaker (λ (p : Proc). IsPlaced has.number objects.heap.nodes world.account.frames p × ((length p.nodes ≡ 4) × Owns objects.heap.nodes p)) (IsWeighed objects.heap world.plain world.account) procs
+    (λ p known. weighed_so objects.heap world.plain world.account has.number p whole known.0 known.1.0 known.1.1 stands.files)
+    (all_both (IsPlaced has.number objects.heap.nodes world.account.frames) (λ p. (length p.nodes ≡ 4) × Owns objects.heap.nodes p) procs has.placed
     (all_both (λ p. length p.nodes ≡ 4) (Owns objects.heap.nodes) procs kept.groups (all_own objects.heap objects.procs kept.holds))) in
-    chosen_is objects.heap plain.table procs policy plain account chosen stands.table.present rising all none victim
+    chosen_is objects.heap world.plain.table procs policy world.plain world.account chosen stands.processes.table.present rising all none victim

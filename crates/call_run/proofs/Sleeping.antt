@@ -1,63 +1,24 @@
--- Whether a wait for a child would sleep.
-use Rattle.std.proofs.Common.{◌≡◌, ℕ, ◌==◌, ℤ, pos, negsuc, not, Bool, true, false, cond, length, Option, None, Some, refl, ap, sym, ◌∙◌}
+-- Which calls block.
+use Rattle.std.proofs.Common.{◌≡◌, ℕ, ◌==◌, ℤ, pos, negsuc, Bool, true, false, cond, length, Option, None, Some, refl, ap, sym, ◌∙◌}
 use Rattle.std.specs.Prelude.{is_none}
 use Rattle.kabi_calls.specs.Arguments.{argument_fault, count_of}
 use Rattle.kabi_calls.specs.declared.calls.Call.{Call}
 use Rattle.kabi_values.specs.declared.errnos.Errno.{Errno}
 use Rattle.kabi_calls.specs.declared.calls.Call.TheVariants as call
-use Rattle.kabi_values.specs.declared.replies.Reply.TheVariants.{Val}
 use Rattle.kabi_types.specs.declared.scripts.Script.{Script}
-use Rattle.posix_defs.specs.Memory.{Frames, is_mapped_range, lowest_run}
+use Rattle.posix_defs.specs.Memory.{is_mapped_range, lowest_run}
 use Rattle.posix_defs.specs.MemoryCalls.{mapped_from}
-use Rattle.posix_defs.specs.Answer.{Answer, Blocked, replied}
+use Rattle.posix_defs.specs.Answer.{Answer}
 use Rattle.posix_defs.specs.Forking.{is_full}
 use Rattle.posix_defs.specs.Killing.{is_asking, sent_to}
 use Rattle.posix_defs.specs.Machine.{answer_to, blocks, machine, unless_wrong}
 use Rattle.posix_defs.specs.Needs.{pages_in}
 use Rattle.posix_defs.specs.Plain.{Plain}
 use Rattle.posix_defs.specs.Process.{Process, memory_of, process_at, runs}
-use Rattle.posix_defs.specs.Waiting.{is_nohang, waitpid}
+use Rattle.posix_defs.specs.Waiting.{waitpid}
 use Rattle.prog_ctl.specs.Waits.{wait_of}
 use Rattle.prog_ctl.specs.declared.waits.Awaited.{Awaited}
 use Rattle.prog_ctl.specs.declared.waits.Awaited.TheVariants.{Child}
-use Rattle.proc_table.specs.Changes.{reaped_of}
-use Rattle.proc_table.specs.Standing.{answered_wait}
-use Rattle.proc_table.specs.declared.reaped.Reaped.{Reaped}
-use Rattle.proc_table.specs.declared.reaped.Reaped.TheVariants.{NoChild, Nobody, Took}
-use Rattle.proc_table.proofs.FamilyLemmas.{found_is}
-use Rattle.proc_table.proofs.LawLemmas.{wait_is}
-use Rattle.call_run.specs.declared.objects.Objects.{Objects}
-use Rattle.call_run.specs.Objects.{procs_of}
-use Rattle.call_run.specs.Standing.{StandFor}
-
-unfoldable pub sleeps : Reaped → ℤ → Bool
-sleeps Nobody options = not (is_nohang options)
-sleeps NoChild options = false
-sleeps (Took pid status) options = false
-
-blocks_where : (script : Script) (plain : Plain) (pid : ℕ) (options : ℤ) (told : Reaped) → blocks (answered_wait script plain pid options told) ≡ sleeps told options
-unfolding sleeps
-blocks_where script plain pid options (Took child status) = refl
-blocks_where script plain pid options NoChild = refl
-blocks_where script plain pid options Nobody = go (is_nohang options)
-  where
-    go : (b : Bool) → blocks (cond b (replied script plain pid (Val (pos 0))) Blocked) ≡ not b
-    go true = refl
-    go false = refl
-
--- a wait blocks by what its caller would be answered
-pub blocks_as_told : (script : Script) (objects : Objects) (plain : Plain) (account : Frames) (pid : ℕ) (which options : ℤ) (told : Reaped)
-    → StandFor script objects plain account → reaped_of pid which (procs_of objects) ≡ told → blocks (waitpid script plain pid which options) ≡ sleeps told options
-blocks_as_told script objects plain account pid which options told stands is =
-    ap blocks (wait_is script plain pid which options)
-    ∙ ap (λ r. blocks (answered_wait script plain pid options r)) (sym (found_is objects.heap plain.table (procs_of objects) pid which stands.table.present) ∙ is)
-    ∙ blocks_where script plain pid options told
-
-pub not_nobody : (told : Reaped) (options : ℤ) → (told ≡ Nobody → ⊥) → sleeps told options ≡ false
-unfolding sleeps
-not_nobody Nobody options none = absurd (none refl)
-not_nobody NoChild options none = refl
-not_nobody (Took pid status) options none = refl
 
 -- whether a wait with right operands blocks
 pub blocks_as : (script : Script) (plain : Plain) (pid : ℕ) (which options : ℤ) → argument_fault (call.Waitpid which options) ≡ None
@@ -68,8 +29,6 @@ blocks_as script plain pid which options right = ap (λ fault. blocks (unless_wr
 pub no_fault : (fault : Option Errno) → is_none fault ≡ true → fault ≡ None
 no_fault None e = refl
 no_fault (Some errno) e = cc
-
--- ---- what a call waits for
 
 waited_pid : Option Awaited → ℤ
 waited_pid (Some (Child child options)) = child

@@ -10,11 +10,11 @@ use Rattle.posix_defs.specs.World.{World}
 use Rattle.prog_ctl.proofs.Settling.{rests_settled}
 use Rattle.proc_table.specs.Procs.{proc_of}
 use Rattle.proc_table.proofs.OwnLemmas.{has_it}
-use Rattle.call_run.specs.declared.objects.Objects.{Objects}
-use Rattle.call_run.specs.Objects.{IsAtCall, procs_of}
-use Rattle.call_run.specs.Standing.{StandsFor}
-use Rattle.call_run.proofs.GoingOn.{some_same}
-use Rattle.call_run.proofs.RunningProcs.{alive_runs}
+use Rattle.store_objects.specs.declared.objects.Objects.{Objects}
+use Rattle.store_objects.specs.Objects.{IsAtCall, procs_of}
+use Rattle.store_objects.specs.Standing.{StandsFor}
+use Rattle.store_objects.proofs.GoingOn.{some_same}
+use Rattle.store_objects.proofs.RunningProcs.{alive_runs}
 
 -- who is found isn't missing
 pub missing : (o : Option Proc) (proc : Proc) → o ≡ None → o ≡ Some proc → ⊥
@@ -24,7 +24,7 @@ missing o proc e f = cc
 pub up : (script : Script) (objects : Objects) (world : World) (pid : ℕ) (proc : Proc) → StandsFor script objects world → is_alive world.plain.table pid ≡ true
     → proc_of (procs_of objects) pid ≡ Some proc → proc.status ≡ None
 up script objects world pid proc stands alive found =
-    let runs = alive_runs script objects world.plain world.account.frames pid stands.plain alive in
+    let runs = alive_runs script objects world.plain pid stands.processes alive in
     ap (λ p. p.status) (some_same (proc_of (procs_of objects) pid) proc runs.proc found runs.there) ∙ runs.runs
 
 pub up_at_call : (script : Script) (objects : Objects) (world : World) (pid : ℕ) (proc : Proc) → StandsFor script objects world → is_alive world.plain.table pid ≡ true
@@ -36,6 +36,6 @@ up_at_call script objects world pid proc stands alive found =
 pub next_is : (script : Script) (objects : Objects) (world : World) (pid : ℕ) (proc : Proc) → StandsFor script objects world → is_alive world.plain.table pid ≡ true
     → proc_of (procs_of objects) pid ≡ Some proc → program.call_of script proc.control ≡ call_of script world.plain pid
 next_is script objects world pid proc stands alive found =
-    let leads = stands.plain.controls pid proc found (up script objects world pid proc stands alive found) in
+    let leads = stands.processes.controls pid proc found (up script objects world pid proc stands alive found) in
     ap (λ here. call_at here (statement_of script here))
     (rests_settled script proc.control (up_at_call script objects world pid proc stands alive found).rests ∙ sym leads)

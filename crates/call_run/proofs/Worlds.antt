@@ -1,5 +1,5 @@
 -- The worlds that a store stands for.
-use Rattle.std.proofs.Common.{◌≡◌, ℕ, ◌+◌, ◌≤◌, ◌==◌, not, true, false, [], ◌∷◌, refl, ap, sym, ◌∙◌, subst, arith}
+use Rattle.std.proofs.Common.{◌≡◌, ℕ, ◌+◌, ◌≤◌, ◌==◌, not, true, false, [], ◌∷◌, length, refl, ap, sym, ◌∙◌, subst, arith}
 use Rattle.std.specs.List.{list_any}
 use Rattle.kabi_calls.specs.declared.calls.Call.{Call}
 use Rattle.kabi_types.specs.declared.entries.Cached.{Cached}
@@ -10,65 +10,61 @@ use Rattle.posix_defs.specs.Machine.{machine}
 use Rattle.posix_defs.specs.Needs.{bound}
 use Rattle.posix_defs.specs.Plain.{root}
 use Rattle.posix_defs.specs.Process.{is_alive}
-use Rattle.posix_defs.specs.Turn.{TurnsTo, TurnsWhere, account_after}
+use Rattle.posix_defs.specs.Turn.{TurnsTo, TurnsWhere}
 use Rattle.posix_defs.specs.World.{MayKeep, World, boot_kept, can_evict, live_of}
 use Rattle.posix_defs.specs.declared.turner.Turned.{Turned}
 use Rattle.posix_defs.specs.declared.turner.Turned.TheVariants as turned
-use Rattle.kern_laws.proofs.Bareness.{answers_bare}
 use Rattle.kern_laws.proofs.Caches.{root_may_keep, root_pinned}
-use Rattle.call_run.specs.declared.objects.Objects.{Objects}
-use Rattle.call_run.specs.Objects.{AreKept}
-use Rattle.call_run.specs.Standing.{Led, StandFor, StandsFor}
+use Rattle.store_objects.specs.declared.objects.Objects.{Objects}
+use Rattle.store_objects.specs.Standing.{StandsFor, WorldAfter}
 use Rattle.call_run.proofs.LeavingNothing.{leaves_nothing}
-use Rattle.call_run.proofs.LiveIs.{live_is}
-use Rattle.call_run.proofs.NoQueues.{frames_alone, no_queues_after}
+use Rattle.store_objects.proofs.LiveIs.{live_is}
 
 -- nothing is cached but the root's node, which is pinned
 pub evicts_nothing : (script : Script) (objects : Objects) (world : World) (what : Cached) → StandsFor script objects world → can_evict world.plain world.kept what ≡ false
-evicts_nothing script objects world what stands = ap (λ lists. can_evict world.plain lists what) stands.cached ∙ go what
+evicts_nothing script objects world what stands = ap (λ lists. can_evict world.plain lists what) stands.caches ∙ go what
   where
     go : (what : Cached) → can_evict world.plain boot_kept what ≡ false
     go Name = refl
     go Block = refl
     go Vnode =
         ap (λ pins. list_any (λ node. not (list_any (λ pinned. pinned == node) pins)) (root ∷ []))
-        (root_pinned world.plain stands.plain.home stands.plain.bare)
+        (root_pinned world.plain stands.home stands.files)
 
--- A turn of a live process leads to the world of the machine that its answer leads to.
-pub turns_on : (script : Script) (old new : Objects) (world : World) (pid : ℕ) (which : Call) (told : Turned) → StandsFor script old world
-    → is_alive world.plain.table pid ≡ true → live_bytes old.heap ≡ live_of world → IsWellFormed new.heap → AreKept script new
+-- A turn of a live process leads to the world to which its answer leads.
+pub turns_on : (script : Script) (old new : Objects) (world : World) (pid : ℕ) (which : Call) (told : Turned)
+    → is_alive world.plain.table pid ≡ true → live_bytes old.heap ≡ live_of world → IsWellFormed new.heap
     → live_bytes new.heap ≤ live_bytes old.heap + bound which
-    → Led script new world.plain world.account.frames pid which (machine script world.plain pid which) told
+    → WorldAfter script new world pid which (machine script world.plain pid which) told
     → (after : World) × StandsFor script new after × TurnsTo script world pid which told after
-turns_on script old new world pid which told stands alive before well kept few led =
-    let after : World = record world { plain = led.next; account = account_after world.account world.plain pid which (machine script world.plain pid which) } in
-    let stands_after : StandsFor script new after = record {
-      kept = kept;
-      plain = subst (StandFor script new led.next) (frames_alone world.account world.plain pid which (machine script world.plain pid which)) led.stands;
-      no_queues = no_queues_after world.account world.plain pid which (machine script world.plain pid which) stands.no_queues (answers_bare script world.plain pid which stands.plain.bare);
-      cached = stands.cached;
-      reads = stands.reads;
-    } in
-    let behind : live_bytes new.heap ≡ live_of after = live_is script new after stands_after well in (
+turns_on script old new world pid which told alive before well few led =
+    let after = led.next in
+    let behind : live_bytes new.heap ≡ live_of after = live_is script new after led.stands well in (
       after,
-      stands_after,
+      led.stands,
       subst (λ b. TurnsWhere b script world pid which told after) (sym alive) (record {
         answer = led.tells;
-        account = refl;
-        may_keep = subst (MayKeep led.next) (sym stands.cached) (root_may_keep led.next led.stands.home led.stands.bare);
+        account = led.account;
+        may_keep = subst (MayKeep after.plain) (sym led.stands.caches) (root_may_keep after.plain led.stands.home led.stands.files);
         live = few_still (live_bytes old.heap) (live_bytes new.heap) (live_of world) (live_of after) (bound which) before behind few;
-        names = omega arith;
-        blocks = omega arith;
-        vnodes = omega arith;
-        reads = omega arith;
-        untouched = λ _. (refl, refl);
-        left = leaves_nothing script world.plain led.next pid which told led.next.files.tree world.kept led.tells;
-        known = λ _. refl;
+        names = no_more _ (ap (λ lists. length lists.names) led.kept);
+        blocks = no_more _ (ap (λ lists. length lists.blocks) led.kept);
+        vnodes = no_more _ (ap (λ lists. length lists.vnodes) led.kept);
+        reads = as_many led.reads;
+        untouched = λ _. (led.kept, led.reads);
+        left = leaves_nothing script world.plain after.plain pid which told after.plain.files.tree after.kept led.tells;
+        known = λ _. led.reads;
       }),
     )
   where
     few_still : (a b c d n : ℕ) → a ≡ c → b ≡ d → b ≤ a + n → d ≤ c + n
     few_still a b c d n e f less = omega arith
+
+    no_more : {new old : ℕ} (more : ℕ) → new ≡ old → new ≤ old + more
+    no_more more same = omega (arith, same)
+
+    as_many : {new old : ℕ} → new ≡ old → old ≤ new
+    as_many same = omega (arith, same)
 
 -- a turn of a process that has ended, or that was never made, leads nowhere
 pub gone_on : (script : Script) (objects : Objects) (world : World) (pid : ℕ) (which : Call) → StandsFor script objects world → is_alive world.plain.table pid ≡ false

@@ -1,9 +1,1 @@
-pub mod FramesAlone
-pub mod Objects
-pub mod Standing
-pub mod Uses
-pub mod Endings
-pub mod Booting
 pub mod Weights
-pub mod Purses
-pub mod Spaces

@@ -3,16 +3,10 @@
 #![tactic(auto)]
 
 mod calls;
-mod endings;
-pub mod laws;
-mod memory_calls;
-mod objects;
-mod purses;
 mod store;
 mod turns;
 mod victims;
 
-pub use calls::{go_on, run, would_block};
-pub use objects::{Caller, Objects};
-pub use purses::{Target, purse_for};
+pub use calls::{run, would_block};
 pub use store::Store;
+pub use store_objects::{Caller, Objects, Target, go_on, purse_for};

@@ -5,28 +5,19 @@ ghost use Rattle.kabi_types.specs.declared.scripts.Script.{Script};
 ghost use Rattle.posix_defs.specs.Plain as plain;
 ghost use Rattle.posix_defs.specs.ValidScript.{IsValid};
 ghost use Rattle.posix_defs.specs.World.{World, boot_world};
-ghost use Rattle.kabi_types.specs.declared.scripts.Control.{Control};
-ghost use Rattle.call_run.specs.Booting.{HasBooted};
-ghost use Rattle.call_run.specs.Objects.{root_vnode};
-ghost use Rattle.call_run.specs.Standing.{StandsFor};
+ghost use Rattle.store_objects.specs.Standing.{StandsFor};
 
 #[cfg(test)]
 mod tests;
 
 use crate::calls::would_block;
-use crate::objects::Objects;
 use crate::{turns, victims};
-use kabi_types::{Cached, Call, Control, Inode, Memory, Need, Program, Script};
-use kheap_shelves::Vnode;
-use kheap_slabs::KHeap;
+use kabi_types::{Cached, Call, Control, Memory, Need, Program, Script};
 use posix_defs::{Turned, Turner};
-use proc_table::ProcTable;
 use std::alloc::Global;
 use std::marker::Model;
+use store_objects::{Objects, booted};
 use victim_core::{Score, Scorer};
-
-/// The root's node.
-const ROOT: u32 = 1;
 
 /// A store of the processes of a script, in a heap whose room is reserved at boot. It is told how processes are scored where
 /// one has to be killed.
@@ -38,49 +29,14 @@ pub struct Store<F: Scorer, G: Scorer> {
 }
 
 impl<F: Scorer, G: Scorer> Model for Store<F, G> {
-    ghost use Rattle.call_run.specs.Objects.{AreKept};
-    ghost use Rattle.call_run.specs.Standing.{StoreView};
+    ghost use Rattle.store_objects.specs.Objects.{AreKept};
+    ghost use Rattle.store_objects.specs.Standing.{StoreView};
 
     ghost Value = { StoreView };
 
     ghost view = { λ store. record { script = store.script; objects = store.objects } };
 
     ghost invariant = { λ store. AreKept store.script store.objects };
-}
-
-/// The root as a cache keeps it, of a new disk with so many blocks: a directory with one link, whose two entries lie in the
-/// first block behind the table of inodes, which takes a sixteenth of the disk. Its one pin is its own and stays for good; as
-/// long as no call changes a working directory, those of processes aren't counted beside it.
-fn root(blocks: u32) -> Vnode
-    ensures { result ≡ root_vnode blocks }
-{
-    let mut direct = [0; 10];
-    direct[0] = blocks / 16 + 1;
-    Vnode {
-        number: ROOT,
-        inode: Inode {
-            kind: 2,
-            nlink: 1,
-            size: 64,
-            direct,
-            indirect: 0,
-        },
-        pins: 1,
-    }
-}
-
-/// A heap of so many bytes, with the vnode of the root of a new disk and the first process, which stands at this control.
-fn booted(alloc: Global, heap: u64, blocks: u32, control: Control) -> Result<Objects, Memory>
-    requires least { 8192 ≤ heap }
-    requires most { heap ≤ 8388608 }
-    ensures { IfOk result (λ objects. HasBooted objects heap blocks control) }
-{
-    let mut heap = KHeap::boot(alloc, heap)?;
-    let _ = heap.insert_vnode(root(blocks));
-    let procs = ProcTable::boot(&mut heap);
-    let mut objects = Objects { heap, procs };
-    objects.move_on(1, control);
-    Ok(objects)
 }
 
 impl<F: Scorer, G: Scorer> Store<F, G> {
@@ -178,8 +134,7 @@ impl<F: Scorer, G: Scorer> Turner for Store<F, G> {
     }
 
     fn live(&self) -> u64 {
-        // the heap knows how long the rows of its objects are
-        let _ = self.objects.heap.heap();
+        self.objects.heap_is_well_formed();
         self.objects.heap.live()
     }
 

@@ -10,15 +10,14 @@ ghost use Rattle.posix_defs.specs.Sizes.{reserve};
 ghost use Rattle.posix_defs.specs.Turn.{TurnsTo};
 ghost use Rattle.posix_defs.specs.World.{World, live_of};
 ghost use Rattle.prog_ctl.specs.Waits.{wait_of};
-ghost use Rattle.call_run.specs.Objects.{AreKept};
-ghost use Rattle.call_run.specs.Standing.{StandsFor};
+ghost use Rattle.store_objects.specs.Objects.{AreKept};
+ghost use Rattle.store_objects.specs.Standing.{StandsFor};
 
 use crate::calls;
-use crate::endings::{INIT, SIGKILL, end};
-use crate::objects::Objects;
 use kabi_types::{Call, Errno, Need, Reply, Script};
 use posix_defs::Turned;
 use prog_ctl::Awaited;
+use store_objects::{INIT, Objects, SIGKILL, end, go_on};
 
 /// The call that a live process makes next.
 pub fn next(script: &Script, objects: &Objects, pid: u32) -> Call
@@ -56,14 +55,13 @@ pub fn turn(script: &Script, objects: &mut Objects, pid: u32, call: &Call, need:
     ensures since { (world : World) → StandsFor script.now objects.old world → live_of world ≤ objects.new.heap.high }
     ensures high { (world : World) → StandsFor script.now objects.old world → objects.new.heap.high ≤ live_of world + bound call.now + slack call.now }
 {
-    // the heap knows how long the rows of its objects are
-    let _ = objects.heap.heap();
+    objects.heap_is_well_formed();
     objects.heap.mark();
     let Some(caller) = objects.caller(pid) else {
         return Turned::Gone;
     };
     let turned = calls::run(script, objects, &caller, call, need);
-    let _ = objects.heap.heap();
+    objects.heap_is_well_formed();
     turned
 }
 
@@ -77,14 +75,13 @@ pub fn refuse(script: &Script, objects: &mut Objects, pid: u32)
     ensures since { (world : World) → StandsFor script.now objects.old world → live_of world ≤ objects.new.heap.high }
     ensures high { (world : World) → StandsFor script.now objects.old world → objects.new.heap.high ≤ live_of world }
 {
-    // the heap knows how long the rows of its objects are
-    let _ = objects.heap.heap();
+    objects.heap_is_well_formed();
     objects.heap.mark();
     let Some(caller) = objects.caller(pid) else {
         unreachable!();
     };
     let reply = Reply::Fail(Errno::ENOMEM);
-    let _ = calls::go_on(script, objects, pid, caller.control, reply);
+    let _ = go_on(script, objects, pid, caller.control, reply);
 }
 
 /// Ends a live process other than the first; where that isn't one, nothing changes.
@@ -100,15 +97,13 @@ pub fn kill(objects: &mut Objects, pid: u32)
     ensures since { (script : Script) (world : World) → StandsFor script objects.old world → live_of world ≤ objects.new.heap.high }
     ensures high { (script : Script) (world : World) → StandsFor script objects.old world → objects.new.heap.high ≤ live_of world + reserve }
 {
-    // the heap knows how long the rows of its objects are
-    let _ = objects.heap.heap();
+    objects.heap_is_well_formed();
     objects.heap.mark();
     if pid == INIT || !objects.runs(pid) {
         return;
     }
     end(objects, pid, SIGKILL);
-    // and of those that are left
-    let _ = objects.heap.heap();
+    objects.heap_is_well_formed();
 }
 
 /// Drops nothing: of all that a cache may keep the heap has the root's node alone, which is pinned.
@@ -119,7 +114,6 @@ pub fn evict(objects: &mut Objects)
     ensures since { (script : Script) (world : World) → StandsFor script objects.old world → live_of world ≤ objects.new.heap.high }
     ensures high { (script : Script) (world : World) → StandsFor script objects.old world → objects.new.heap.high ≤ live_of world }
 {
-    // the heap knows how long the rows of its objects are
-    let _ = objects.heap.heap();
+    objects.heap_is_well_formed();
     objects.heap.mark();
 }

@@ -5,19 +5,18 @@ ghost use Rattle.std.specs.List.{All};
 ghost use Rattle.kabi_types.specs.declared.scripts.Script.{Script};
 ghost use Rattle.kheap_slabs.specs.Heap.{IsWellFormed};
 ghost use Rattle.kheap_slabs.specs.Spaces.{OwnsNodes};
-ghost use Rattle.posix_defs.specs.Plain.{Plain};
 ghost use Rattle.posix_defs.specs.Victim.{victim_of};
-ghost use Rattle.posix_defs.specs.World.{Account};
+ghost use Rattle.posix_defs.specs.World.{World};
 ghost use Rattle.victim_core.specs.Victims.{IsInRange};
-ghost use Rattle.call_run.specs.Objects.{AreKept, procs_of};
-ghost use Rattle.call_run.specs.Standing.{StandFor};
+ghost use Rattle.store_objects.specs.Objects.{AreKept, procs_of};
+ghost use Rattle.store_objects.specs.Standing.{StandsFor};
 ghost use Rattle.call_run.specs.Weights.{has_frame, weight_in, weights_in};
 
-use crate::objects::Objects;
 use arrayvec::ArrayVec;
 use kabi_types::{Policy, Weight};
 use kheap_shelves::{Node, PageEntry, Proc};
 use kheap_slabs::KHeap;
+use store_objects::Objects;
 use victim_core::{Score, Scorer};
 
 /// How many processes may be there, alive or ended and not waited for.
@@ -100,10 +99,8 @@ pub fn victim<F: Scorer, G: Scorer>(
     objects: &Objects,
 ) -> Option<u32>
     requires kept { (script : Script) × AreKept script objects.now }
-    ensures { (script : Script) (plain : Plain) (account : Account) → StandFor script objects.now plain account.frames
-        → result ≡ victim_of policy plain account }
+    ensures { (script : Script) (world : World) → StandsFor script objects.now world → result ≡ victim_of policy world.plain world.account }
 {
-    // the heap knows how long the rows of its objects are
-    let _ = objects.heap.heap();
+    objects.heap_is_well_formed();
     score.choose(policy, weights_of(objects).as_slice())
 }

@@ -20,3 +20,4 @@ pub use Rattle.kern_tasks.specs.Others
 pub use Rattle.kern_events.specs.Reliefs
 pub mod Choosing
 pub mod Sample
+pub mod RunOver

@@ -1,4 +1,4 @@
-//! The core: which events may be taken, what each does, when a run ends, and who chooses, over any store of processes.
+//! Who chooses among the events of the core, and whole runs of it, over any store of processes; the core itself is passed on.
 #![tactic(auto)]
 
 mod choosing;

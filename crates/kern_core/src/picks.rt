@@ -1,5 +1,6 @@
 ghost use Rattle.std.specs.Prelude.{◌≡◌, None, Some, length};
-ghost use Rattle.kern_tasks.specs.View.{GoesInside, GoesOn, HasBooted, HasEnded, IsAt, MayTake};
+ghost use Rattle.kern_core.specs.RunOver.{HasEndedOver};
+ghost use Rattle.kern_tasks.specs.View.{GoesInside, GoesOn, HasBooted, IsAt, MayTake};
 ghost use Rattle.posix_defs.specs.Choice.{named_by};
 ghost use Rattle.posix_defs.specs.CoreState.{CoreState};
 ghost use Rattle.posix_defs.specs.SoundTasks.{IsSound};
@@ -29,7 +30,7 @@ pub fn run_to_end<T: Turner + Drop>(core: &mut Core<T>, chooser: &Chooser) -> En
     requires chooser { chooser.now ≡ (T.script core.old.store).chooser }
     ensures script { T.script core.new.store ≡ T.script core.old.store }
     ensures steps { core.new.steps ≡ core.old.steps }
-    ensures ended { HasEnded T.stands (T.script core.old.store) core.new result }
+    ensures ended { HasEndedOver T.stands T.marks T.high (T.script core.old.store) core.new result }
     ensures inside { GoesInside T.stands T.marks T.high (T.script core.old.store) core.old core.new }
 {
     let mut choosing = Choosing::of(chooser);

@@ -1,37 +1,37 @@
 -- Every machine that is reached keeps what a table of processes keeps.
-use Rattle.std.proofs.Common.{◌≡◌, ◌≢◌, ℕ, zero, suc, ◌+◌, ◌*◌, ◌/◌, ◌<◌, ◌≤◌, ◌==◌, ℤ, pos, negsuc, Bool, true, false, cond, List, [], ◌∷◌, ◌++◌, length, map, if◌then◌else◌, Option, None, Some, refl, ap, sym, ◌∙◌, subst, arith, ◌⊎◌, inl, inr, length-append, slice_get, unwrap_or}
-use Rattle.std.specs.Option.{option_or}
+use Rattle.std.proofs.Common.{◌≡◌, ◌≢◌, ℕ, zero, suc, ◌+◌, ◌<◌, ◌≤◌, ◌==◌, pos, Bool, true, false, cond, List, [], ◌∷◌, ◌++◌, length, map, Option, None, Some, refl, ap, sym, ◌∙◌, subst, arith, ◌⊎◌, inl, inr, length-append}
 use Rattle.std.proofs.lemmas.Bool.Decides.{eqb_tells}
 use Rattle.std.proofs.lemmas.List.{length-set, length-map}
-use Rattle.kabi_calls.specs.Arguments.{argument_fault, count_of, page_size}
 use Rattle.kabi_calls.specs.declared.calls.Call.{Call}
 use Rattle.kabi_calls.specs.declared.calls.CallKind.{CallKind}
-use Rattle.kabi_calls.specs.declared.calls.Call.TheVariants as call
 use Rattle.kabi_types.specs.declared.entries.Entry.{Entry}
 use Rattle.kabi_types.specs.declared.entries.Entry.TheVariants as entry
-use Rattle.kabi_values.specs.declared.errnos.Errno.{Errno}
-use Rattle.kabi_values.specs.declared.errnos.Errno.TheVariants.{EAGAIN, ECHILD, EFAULT, EINVAL, EMFILE, ENOMEM, EPERM, ESRCH}
+use Rattle.kabi_values.specs.declared.errnos.Errno.TheVariants.{ENOMEM}
 use Rattle.kabi_values.specs.declared.replies.Reply.{Reply}
-use Rattle.kabi_values.specs.declared.replies.Reply.TheVariants.{Bytes, Fail, Val, Waited}
+use Rattle.kabi_values.specs.declared.replies.Reply.TheVariants.{Fail, Val, Waited}
 use Rattle.kabi_types.specs.declared.scripts.Script.{Script}
 use Rattle.posix_defs.specs.ByPid.{with_pid}
-use Rattle.posix_defs.specs.Process.{Process, Table, Alive, Ended, Status, process_at, is_alive, is_alive_in, memory_of, parent_of, runs}
-use Rattle.posix_defs.specs.Plain.{Plain, answered, call_of, first_process, with_table, last_pid}
+use Rattle.posix_defs.specs.Process.{Process, Table, with_directory, Alive, Ended, Status, process_at, is_alive, is_alive_in, runs}
+use Rattle.posix_defs.specs.Control.{after_part, restarted, settled}
+use Rattle.posix_defs.specs.Plain.{Plain, answered, call_of, control_of, first_process, with_control, with_files, with_table, last_pid}
+use Rattle.posix_defs.specs.Files.State.{Files}
+use Rattle.posix_defs.specs.Files.Closing.{after_exec_of}
+use Rattle.kabi_types.specs.declared.scripts.Control.{Control}
 use Rattle.posix_defs.specs.Answer as answer
 use Rattle.posix_defs.specs.Answer.{Answer, failed, replied}
-use Rattle.posix_defs.specs.Ending.{die, exit_status, leaves, left_behind, left_child, ended_as}
+use Rattle.posix_defs.specs.Ending.{die, leaves, left_behind, left_child, ended_as}
 use Rattle.posix_defs.specs.Family.{IsFamily, IsKept, GoesOn, KeepsOn, LeadsOn}
-use Rattle.posix_defs.specs.Forking.{with_child, child_of, is_full}
+use Rattle.posix_defs.specs.Forking.{with_child, child_of}
 use Rattle.posix_defs.specs.History as history
 use Rattle.posix_defs.specs.History.{Past, IsAnswered, IsRun, MayFollow, boot_past}
-use Rattle.posix_defs.specs.Killing.{kill, ends, is_asking, sent_to}
-use Rattle.posix_defs.specs.Memory.{Memory, is_mapped_range, loaded, lowest_run, no_memory, stored, with_pages, without_pages}
-use Rattle.posix_defs.specs.MemoryCalls.{mapped_from, remembered}
-use Rattle.posix_defs.specs.Needs.{pages_in, pages_touched}
-use Rattle.posix_defs.specs.Machine.{answer_to, machine, unless_wrong}
-use Rattle.posix_defs.specs.Waiting.{Exited, any_from, exited_from, exited_in, has_ended, is_nohang, not_yet, matches, wait_status, waited_for, waitpid}
+use Rattle.posix_defs.specs.Memory.{no_memory}
+use Rattle.posix_defs.specs.MemoryCalls.{remembered}
+use Rattle.posix_defs.specs.Machine.{machine}
 use Rattle.kern_laws.proofs.LivingVictim.{victim_lives}
-use Rattle.kern_laws.proofs.Remembering.{remembers_on}
+use Rattle.answer_laws.specs.Shapes as shape
+use Rattle.answer_laws.specs.Shapes.{HasShape}
+use Rattle.answer_laws.proofs.Built.{machine_shape}
+use Rattle.kern_laws.proofs.Remembering.{moves_on, remembers_on}
 use Rattle.kern_laws.proofs.TablePlaces.{was_made, same_in_front, in_longer, with_other, with_same, is_gone, each_changed}
 
 -- who is alive is there
@@ -384,137 +384,51 @@ dies_on plain (suc (suc k)) status kept alive = record {
           ∙ each_changed (left_behind pid) plain.table other refl ∙ ap (left_behind pid) none
     ]
 
-by_test : (plain : Plain) (b : Bool) (one other : Answer) → (b ≡ true → KeepsOn plain one) → (b ≡ false → KeepsOn plain other) → KeepsOn plain (cond b one other)
-by_test plain true one other so other_way = so refl
-by_test plain false one other so other_way = other_way refl
+-- the files are others, and a control may be
+files_lead : (old new : Plain) (files : Files) → LeadsOn (with_files old files) new → LeadsOn old new
+files_lead old new files leads = record { family = leads.family; counted = leads.counted; goes_on = leads.goes_on }
 
--- who is told to a parent has ended
-pub exited_has_ended : (parent : ℕ) (which : ℤ) (first : ℕ) (table : Table) (exited : Exited) → exited_from parent which first table ≡ Some exited
-    → (i : ℕ) × (exited.pid ≡ first + i) × (is_alive_in (unwrap_or (slice_get table i) None) ≡ false)
-exited_has_ended parent which first [] exited e = cc
-exited_has_ended parent which first (there ∷ table) exited e =
-    go (cond (matches parent which first there) (exited_in first there) None) refl (exited_has_ended parent which (first + 1) table exited) e
-  where
-    later : (found : (i : ℕ) × (exited.pid ≡ first + 1 + i) × (is_alive_in (unwrap_or (slice_get table i) None) ≡ false))
-        → (i : ℕ) × (exited.pid ≡ first + i) × (is_alive_in (unwrap_or (slice_get (there ∷ table) i) None) ≡ false)
-    later found = (suc found.0, (let k : exited.pid ≡ first + 1 + found.0 = found.1 in omega arith), found.2)
+control_leads : (old new : Plain) (files : Files) (pid : ℕ) (control : Control) → LeadsOn old new → LeadsOn old (with_control (with_files new files) pid control)
+control_leads old new files pid control leads = record {
+  family = leads.family;
+  counted = leads.counted ∙ sym (length-with_pid new.controls pid control);
+  goes_on = leads.goes_on;
+}
 
-    dead : (status : Status) → has_ended status ≡ true → runs status ≡ false
-    dead Alive e = cc
-    dead (Ended status) e = refl
+with_files_kept : (plain : Plain) (files : Files) → IsKept plain → IsKept (with_files plain files)
+with_files_kept plain files kept = record { family = kept.family; counted = kept.counted }
 
-    this : (o : Option Process) (one : Exited) → exited_in first o ≡ Some one → (one.pid ≡ first) × (is_alive_in o ≡ false)
-    this None one e = cc
-    this (Some process) one e = ended (has_ended process.status) refl e
-      where
-        ended : (b : Bool) → has_ended process.status ≡ b → cond b (Some (record { pid = first; status = wait_status process.status })) None ≡ Some one
-            → (one.pid ≡ first) × (is_alive_in (Some process) ≡ false)
-        ended true is f = (ap (λ x. x.pid) (some_same (Some one) one (record { pid = first; status = wait_status process.status }) refl (sym f)), dead process.status is)
-        ended false is f = cc
-
-    matching : (b : Bool) (one : Exited) → cond b (exited_in first there) None ≡ Some one → (one.pid ≡ first) × (is_alive_in there ≡ false)
-    matching true one e = this there one e
-    matching false one e = cc
-
-    go : (o : Option Exited) → cond (matches parent which first there) (exited_in first there) None ≡ o
-        → (exited_from parent which (first + 1) table ≡ Some exited
-        → (i : ℕ) × (exited.pid ≡ first + 1 + i) × (is_alive_in (unwrap_or (slice_get table i) None) ≡ false))
-        → option_or o (exited_from parent which (first + 1) table) ≡ Some exited
-        → (i : ℕ) × (exited.pid ≡ first + i) × (is_alive_in (unwrap_or (slice_get (there ∷ table) i) None) ≡ false)
-    go None is others e = later (others e)
-    go (Some one) is others e = let found = matching (matches parent which first there) one is in
-        let same : one ≡ exited = some_same (Some one) one exited refl e in
-        (0, (let k : one.pid ≡ first = found.0 in let j : one.pid ≡ exited.pid = ap (λ x. x.pid) same in omega arith), found.1)
-
--- `waitpid` keeps what is kept
-waits_on : (script : Script) (plain : Plain) (pid : ℕ) (which options : ℤ) → IsKept plain → KeepsOn plain (waitpid script plain pid which options)
-waits_on script plain pid which options kept = go (exited_from pid which 1 plain.table) refl
-  where
-    unchanged : (reply : Reply) → LeadsOn plain (answered script plain pid reply)
-    unchanged reply = replied_leads script plain plain pid reply (stays_put plain kept)
-
-    go : (o : Option Exited) → exited_from pid which 1 plain.table ≡ o → KeepsOn plain (waited_for script plain pid which options o)
-    go None e = by_test plain (any_from pid which 1 plain.table) (not_yet script plain pid options) (failed script plain pid ECHILD)
-        (λ _. by_test plain (is_nohang options) (replied script plain pid (Val (pos 0))) answer.Blocked (λ _. unchanged (Val (pos 0))) (λ _. tt))
-        (λ _. unchanged (Fail ECHILD))
-    go (Some exited) e = let found = exited_has_ended pid which 1 plain.table exited e in
-        let is_dead : is_alive plain.table exited.pid ≡ false = subst (λ p. is_alive plain.table p ≡ false) (sym (let k : exited.pid ≡ 1 + found.0 = found.1 in plus_one exited.pid found.0 k)) found.2 in
-        replied_leads script plain (with_table plain (with_pid plain.table exited.pid None)) pid (Waited exited.pid exited.status) (reaps_on plain exited.pid kept is_dead)
-      where
-        plus_one : (a b : ℕ) → a ≡ 1 + b → a ≡ suc b
-        plus_one a b e = omega arith
-
--- `kill` keeps what is kept
-kills_on : (script : Script) (plain : Plain) (pid : ℕ) (target signal : ℤ) → IsKept plain → is_alive plain.table pid ≡ true
-    → KeepsOn plain (kill script plain pid target signal)
-kills_on script plain pid (negsuc n) signal kept alive = replied_leads script plain plain pid (Fail ESRCH) (stays_put plain kept)
-kills_on script plain pid (pos target) signal kept alive = go (process_at plain.table target) refl
-  where
-    unchanged : (reply : Reply) → LeadsOn plain (answered script plain pid reply)
-    unchanged reply = replied_leads script plain plain pid reply (stays_put plain kept)
-
-    none : Answer
-    none = replied script plain pid (Val (pos 0))
-
-    ending : Process → LeadsOn plain (die plain target 9) → KeepsOn plain (if target == pid then answer.Ended 9 (die plain pid 9) else replied script (die plain target 9) pid (Val (pos 0)))
-    ending process dies = by_test plain (target == pid) (answer.Ended 9 (die plain pid 9)) (replied script (die plain target 9) pid (Val (pos 0)))
-        (λ _. dies_on plain pid 9 kept alive) (λ _. replied_leads script plain (die plain target 9) pid (Val (pos 0)) dies)
-
-    go : (o : Option Process) → process_at plain.table target ≡ o → KeepsOn plain (sent_to script plain pid target signal o)
-    go None e = unchanged (Fail ESRCH)
-    go (Some process) e = by_test plain (is_asking signal) none (if target == 1 then failed script plain pid EPERM else ends script plain pid target process)
-        (λ _. unchanged (Val (pos 0)))
-        (λ _. by_test plain (target == 1) (failed script plain pid EPERM) (ends script plain pid target process) (λ _. unchanged (Fail EPERM))
-        (λ _. by_test plain (runs process.status) (if target == pid then answer.Ended 9 (die plain pid 9) else replied script (die plain target 9) pid (Val (pos 0))) none
-        (λ lives. ending process (dies_on plain target 9 kept (ap is_alive_in e ∙ lives)))
-        (λ _. unchanged (Val (pos 0)))))
-
--- something is put in the caller's memory, and it is answered
-remembers : (script : Script) (plain : Plain) (pid : ℕ) (memory : Memory) (reply : Reply) → IsKept plain
-    → LeadsOn plain (answered script (remembered plain pid memory) pid reply)
-remembers script plain pid memory reply kept = replied_leads script plain (remembered plain pid memory) pid reply (remembers_on plain pid memory kept)
-
--- `mmap` keeps what is kept
-maps_on : (script : Script) (plain : Plain) (pid count : ℕ) (first : Option ℕ) → IsKept plain → KeepsOn plain (mapped_from script plain pid count first)
-maps_on script plain pid count None kept = replied_leads script plain plain pid (Fail EMFILE) (stays_put plain kept)
-maps_on script plain pid count (Some first) kept =
-    remembers script plain pid (with_pages (memory_of plain.table pid) first count) (Val (pos (page_size * first))) kept
-
--- whatever is answered to right operands keeps what is kept
-right_on : (script : Script) (plain : Plain) (pid : ℕ) (which : Call) → IsKept plain → is_alive plain.table pid ≡ true
-    → KeepsOn plain (answer_to script plain pid which)
-right_on script plain pid call.Getpid kept alive = replied_leads script plain plain pid (Val (pos pid)) (stays_put plain kept)
-right_on script plain pid call.Getppid kept alive = replied_leads script plain plain pid (Val (pos (parent_of plain.table pid))) (stays_put plain kept)
-right_on script plain pid call.SchedYield kept alive = replied_leads script plain plain pid (Val (pos 0)) (stays_put plain kept)
-right_on script plain pid call.Fork kept alive =
-    by_test plain (is_full plain) (failed script plain pid EAGAIN) (replied script (with_child script plain pid) pid (Val (pos (last_pid plain + 1))))
-    (λ _. replied_leads script plain plain pid (Fail EAGAIN) (stays_put plain kept))
-    (λ _. replied_leads script plain (with_child script plain pid) pid (Val (pos (last_pid plain + 1))) (forks_on script plain pid kept alive))
-right_on script plain pid (call.Exit status) kept alive = dies_on plain pid (exit_status status) kept alive
-right_on script plain pid (call.Waitpid which options) kept alive = waits_on script plain pid which options kept
-right_on script plain pid (call.Kill target signal) kept alive = kills_on script plain pid target signal kept alive
-right_on script plain pid (call.Mmap size) kept alive = maps_on script plain pid (pages_in (count_of size)) (lowest_run (memory_of plain.table pid) (pages_in (count_of size))) kept
-right_on script plain pid (call.Munmap addr size) kept alive = remembers script plain pid (without_pages (memory_of plain.table pid) (count_of addr / page_size) (pages_touched (count_of addr) (count_of size))) (Val (pos 0)) kept
-right_on script plain pid (call.Store addr bytes) kept alive =
-    by_test plain (is_mapped_range (memory_of plain.table pid) (count_of addr) (length bytes))
-    (replied script (remembered plain pid (stored (memory_of plain.table pid) (count_of addr) bytes)) pid (Val (pos (length bytes)))) (failed script plain pid EFAULT)
-    (λ _. remembers script plain pid (stored (memory_of plain.table pid) (count_of addr) bytes) (Val (pos (length bytes))) kept)
-    (λ _. replied_leads script plain plain pid (Fail EFAULT) (stays_put plain kept))
-right_on script plain pid (call.Load addr n) kept alive =
-    by_test plain (is_mapped_range (memory_of plain.table pid) (count_of addr) (count_of n))
-    (replied script plain pid (Bytes (loaded (memory_of plain.table pid) (count_of addr) (count_of n)))) (failed script plain pid EFAULT)
-    (λ _. replied_leads script plain plain pid (Bytes (loaded (memory_of plain.table pid) (count_of addr) (count_of n))) (stays_put plain kept))
-    (λ _. replied_leads script plain plain pid (Fail EFAULT) (stays_put plain kept))
-right_on script plain pid _ kept alive = replied_leads script plain plain pid (Fail EINVAL) (stays_put plain kept)
+-- whatever has a shape keeps what is kept
+by_shape : (script : Script) (plain : Plain) (pid : ℕ) (which : Call) (given : Answer) → IsKept plain → is_alive plain.table pid ≡ true
+    → HasShape script plain pid which given → KeepsOn plain given
+by_shape script plain pid which given kept alive (shape.blocks may is) = subst (KeepsOn plain) (sym is) tt
+by_shape script plain pid which given kept alive (shape.fails errno other is) =
+    subst (KeepsOn plain) (sym is) (replied_leads script plain plain pid (Fail errno) (stays_put plain kept))
+by_shape script plain pid which given kept alive (shape.tells files reply is_said is) =
+    subst (KeepsOn plain) (sym is) (replied_leads script plain (with_files plain files) pid reply
+    (files_lead plain (with_files plain files) files (stays_put (with_files plain files) (with_files_kept plain files kept))))
+by_shape script plain pid which given kept alive (shape.puts files memory reply is_said put is) =
+    subst (KeepsOn plain) (sym is) (replied_leads script plain (remembered (with_files plain files) pid memory) pid reply
+    (files_lead plain (remembered (with_files plain files) pid memory) files (remembers_on (with_files plain files) pid memory (with_files_kept plain files kept))))
+by_shape script plain pid which given kept alive (shape.moves path directory of entered is) =
+    subst (KeepsOn plain) (sym is) (replied_leads script plain (with_table plain (with_directory plain.table pid directory)) pid (Val (pos 0)) (moves_on plain pid directory kept))
+by_shape script plain pid which given kept alive (shape.parts files moved part is) =
+    subst (KeepsOn plain) (sym is) (control_leads plain plain files pid (after_part (control_of (with_files plain files) pid) moved) (stays_put plain kept))
+by_shape script plain pid which given kept alive (shape.starts place is) =
+    subst (KeepsOn plain) (sym is) (control_leads plain (remembered plain pid no_memory) (after_exec_of plain.files pid) pid
+    (restarted (settled script (control_of plain pid)) place) (remembers_on plain pid no_memory kept))
+by_shape script plain pid which given kept alive (shape.forks is) =
+    subst (KeepsOn plain) (sym is) (replied_leads script plain (with_child script plain pid) pid (Val (pos (last_pid plain + 1))) (forks_on script plain pid kept alive))
+by_shape script plain pid which given kept alive (shape.reaps child status ended is) =
+    subst (KeepsOn plain) (sym is) (replied_leads script plain (with_table plain (with_pid plain.table child None)) pid (Waited child status) (reaps_on plain child kept ended))
+by_shape script plain pid which given kept alive (shape.ends status is) = subst (KeepsOn plain) (sym is) (dies_on plain pid status kept alive)
+by_shape script plain pid which given kept alive (shape.ends_another target signal of first own lives is) =
+    subst (KeepsOn plain) (sym is) (replied_leads script plain (die plain target 9) pid (Val (pos 0)) (dies_on plain target 9 kept lives))
 
 -- whatever the machine answers keeps what is kept
 pub answers_on : (script : Script) (plain : Plain) (pid : ℕ) (which : Call) → IsKept plain → is_alive plain.table pid ≡ true
     → KeepsOn plain (machine script plain pid which)
-answers_on script plain pid which kept alive = go (argument_fault which)
-  where
-    go : (fault : Option Errno) → KeepsOn plain (unless_wrong script plain pid fault (answer_to script plain pid which))
-    go None = right_on script plain pid which kept alive
-    go (Some errno) = replied_leads script plain plain pid (Fail errno) (stays_put plain kept)
+answers_on script plain pid which kept alive = by_shape script plain pid which (machine script plain pid which) kept alive (machine_shape script plain pid which)
 
 -- the first machine
 boots_kept : (script : Script) → IsKept (boot_past script).plain

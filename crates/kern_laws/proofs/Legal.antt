@@ -1,5 +1,5 @@
 -- The entries of every run of the core are a legal history.
-use Rattle.std.proofs.Common.{◌≡◌, ◌≢◌, ℕ, zero, suc, ◌+◌, ◌-◌, ◌*◌, ◌<◌, ◌≤◌, ◌==◌, not, ◌&&◌, ◌||◌, cond, Bool, true, false, List, [], ◌∷◌, ◌++◌, filter, length, Option, None, Some, is_some, slice_get, refl, ap, sym, ◌∙◌, subst, arith, ◌⊎◌, inl, inr}
+use Rattle.std.proofs.Common.{◌≡◌, ◌≢◌, ℕ, zero, suc, ◌+◌, ◌-◌, ◌<◌, ◌≤◌, ◌==◌, not, ◌&&◌, ◌||◌, cond, Bool, true, false, List, [], ◌∷◌, ◌++◌, filter, Option, None, Some, is_some, slice_get, refl, ap, sym, ◌∙◌, subst, arith, ◌⊎◌, inl, inr}
 use Rattle.std.specs.List.{cons_option, list_any}
 use borrow.Author.Tests.{eqb-true, eq-eqb}
 use Rattle.std.proofs.lemmas.Bool.Decides.{nat_tests}
@@ -7,9 +7,6 @@ use Rattle.std.proofs.lemmas.List.Sums.{sum_by-cons}
 use Rattle.std.specs.Option.{option_to_list}
 use Rattle.std.proofs.lemmas.List.{append-nil, length-set}
 use Rattle.kabi_calls.specs.Call.{kind_of}
-use Rattle.kabi_values.specs.Class.{size}
-use Rattle.kabi_values.specs.declared.classes.Class.TheVariants as class
-use Rattle.kabi_types.specs.declared.entries.Cached.TheVariants as cached
 use Rattle.kabi_types.specs.declared.entries.Entry.{Entry}
 use Rattle.kabi_types.specs.declared.entries.Entry.TheVariants as entry
 use Rattle.kabi_values.specs.declared.errnos.Errno.TheVariants.{ENOMEM}
@@ -30,10 +27,8 @@ use Rattle.posix_defs.specs.Sizes.{reserve, room}
 use Rattle.posix_defs.specs.Process.{is_alive}
 use Rattle.posix_defs.specs.Plain.{Plain, answered, call_of, last_pid}
 use Rattle.posix_defs.specs.Ending.{die}
-use Rattle.posix_defs.specs.Answer.{Answer, Blocked, Done, Part, Ended}
 use Rattle.posix_defs.specs.Machine.{machine, would_block}
-use Rattle.posix_defs.specs.World.{Account, base, live_of, pins, Kept}
-use Rattle.posix_defs.specs.Account.{account_on}
+use Rattle.posix_defs.specs.World.{live_of}
 use Rattle.posix_defs.specs.Victim.{victim_of}
 use Rattle.posix_defs.specs.Turn.{Tells, account_after}
 use Rattle.posix_defs.specs.CoreState.{CoreState, asked_by, boot_state, charged_in, fits, held, is_admitted, is_waiting, lives, none_admitted, phase_in, phase_of, reserved_in, some_fits, some_wait_in_vain, waits_and_fits, with_phase_in}
@@ -49,8 +44,8 @@ use Rattle.kern_laws.proofs.Nexts.{IsNext, die_next}
 use Rattle.kern_laws.proofs.Tasks.{found_fits, phase_front, phase_other, phase_own, phase_without}
 use Rattle.kern_laws.proofs.BuriedTasks.{phase_buried}
 use Rattle.kern_laws.proofs.Sounds.{is_sound, own_left}
-use Rattle.kern_laws.proofs.Caches.{SizesAfter, all_pinned, keeps_left, pins_kept, root_is_pinned, sizes_left}
-use Rattle.kabi_values.specs.declared.classes.Need.{Need}
+use Rattle.kern_laws.specs.Filled.{AreFilled}
+use Rattle.kern_laws.proofs.Followed.{eviction_leads, filled_turn, kill_leads, killed_legal, past_evicted, past_killed, past_refused, refused_legal, sleepers_told, turn_legal}
 use Rattle.kabi_types.specs.declared.entries.Cached.{Cached}
 
 -- who sleeps in a history sleeps in the core, or has ended
@@ -61,12 +56,6 @@ pub record Sleeper (script : Script) (s : CoreState) (pid : ℕ) : Type 0 where
   pub made : pid ≤ last_pid s.world.plain
   pub blocks : would_block script s.world.plain pid ≡ true
   pub phase : SleepsOrDied s pid
-
--- What is kept and what was evicted are together no more than what was filled, and the root's node.
-pub record AreFilled (kept : Kept) (past : Past) : Type 0 where
-  pub names : length kept.names + past.evicted.names ≤ past.filled.names
-  pub blocks : length kept.blocks + past.evicted.blocks ≤ past.filled.blocks
-  pub vnodes : length kept.vnodes + past.evicted.vnodes ≤ past.filled.vnodes + 1
 
 -- A run of entries that stands for the same machine, and who sleeps in it.
 pub record StandsFor (script : Script) (entries : List Entry) (s : CoreState) : Type 0 where
@@ -164,83 +153,6 @@ not_asleep script s pid sleeper alive other = elim sleeper.phase [
   | inr died ↦ (let e = alive in cc)
 ]
 
--- whose last entry says that it sleeps, behind a turn
-abbrev sleepers_told : Turned → ℕ → List ℕ → List ℕ
-sleepers_told (turned.Done _) pid asleep = others pid asleep
-sleepers_told (turned.Part _) pid asleep = pid ∷ others pid asleep
-sleepers_told turned.Sleep pid asleep = pid ∷ asleep
-sleepers_told (turned.Ended _) pid asleep = others pid asleep
-sleepers_told turned.Gone pid asleep = asleep
-
--- the history behind a turn that leads to this machine
-abbrev led : Script → Past → ℕ → Plain → Account → List ℕ → Past
-led script past pid plain account sleepers = moves_on script (had_turn past (call_of script past.plain pid)) plain account sleepers
-
-abbrev account_told : Script → Past → ℕ → Answer → Account
-account_told script past pid answer = account_after past.account past.plain pid (call_of script past.plain pid) answer
-
--- where a turn leads a history
-record TurnLeads (script : Script) (past : Past) (pid : ℕ) (told : Turned) (new : Plain) : Type 0 where
-  next : Past
-  follows : MayFollow script past (entry_of pid (kind_of (call_of script past.plain pid)) told) next
-  plain_is : next.plain ≡ new
-  account_is : next.account ≡ account_after past.account past.plain pid (call_of script past.plain pid) (machine script past.plain pid (call_of script past.plain pid))
-  asleep : next.asleep ≡ still_asleep script new (sleepers_told told pid past.asleep)
-  filled : next.filled ≡ fills_after past.filled (need_of (call_of script past.plain pid))
-  evicted : next.evicted ≡ past.evicted
-
--- a turn adds the entry that it tells, and the machine goes on as it says
-turn_legal : (script : Script) (past : Past) (pid : ℕ) (told : Turned) (new : Plain) → is_alive past.plain.table pid ≡ true → is_up past pid ≡ true
-    → bound (call_of script past.plain pid) ≤ room script.heap
-    → Tells (machine script past.plain pid (call_of script past.plain pid)) past.plain told new
-    → TurnLeads script past pid told new
-turn_legal script past pid told new alive up fits tells = go (machine script past.plain pid (call_of script past.plain pid)) refl tells
-  where
-    may_run : MayRun script past pid (kind_of (call_of script past.plain pid))
-    may_run = record { alive = alive; of_kind = refl; fits_ever = fits }
-
-    go : (answer : Answer) → machine script past.plain pid (call_of script past.plain pid) ≡ answer → Tells answer past.plain told new → TurnLeads script past pid told new
-    go Blocked e t = record {
-      next = led script past pid past.plain past.account (pid ∷ past.asleep);
-      follows = subst (λ turn. MayFollow script past (entry_of pid (kind_of (call_of script past.plain pid)) turn) (led script past pid past.plain past.account (pid ∷ past.asleep))) (sym t.0)
-          (record { may_run = may_run; up = up; blocked = e; leads = refl });
-      plain_is = sym t.1;
-      account_is = ap (account_told script past pid) (sym e);
-      asleep = ap (λ p. still_asleep script p (pid ∷ past.asleep)) (sym t.1) ∙ ap (λ turn. still_asleep script new (sleepers_told turn pid past.asleep)) (sym t.0);
-      filled = refl;
-      evicted = refl;
-    }
-    go (Done reply plain) e t = record {
-      next = led script past pid plain (account_told script past pid (Done reply plain)) (others pid past.asleep);
-      follows = subst (λ turn. MayFollow script past (entry_of pid (kind_of (call_of script past.plain pid)) turn) (led script past pid plain (account_told script past pid (Done reply plain)) (others pid past.asleep))) (sym t.0)
-          (record { may_run = may_run; plain = plain; answers = e; leads = refl });
-      plain_is = sym t.1;
-      account_is = ap (account_told script past pid) (sym e);
-      asleep = ap (λ p. still_asleep script p (others pid past.asleep)) (sym t.1) ∙ ap (λ turn. still_asleep script new (sleepers_told turn pid past.asleep)) (sym t.0);
-      filled = refl;
-      evicted = refl;
-    }
-    go (Part moved plain) e t = record {
-      next = led script past pid plain (account_told script past pid (Part moved plain)) (pid ∷ others pid past.asleep);
-      follows = subst (λ turn. MayFollow script past (entry_of pid (kind_of (call_of script past.plain pid)) turn) (led script past pid plain (account_told script past pid (Part moved plain)) (pid ∷ others pid past.asleep))) (sym t.0)
-          (record { may_run = may_run; plain = plain; answers = e; leads = refl });
-      plain_is = sym t.1;
-      account_is = ap (account_told script past pid) (sym e);
-      asleep = ap (λ p. still_asleep script p (pid ∷ others pid past.asleep)) (sym t.1) ∙ ap (λ turn. still_asleep script new (sleepers_told turn pid past.asleep)) (sym t.0);
-      filled = refl;
-      evicted = refl;
-    }
-    go (Ended status plain) e t = record {
-      next = led script past pid plain (account_told script past pid (Ended status plain)) (others pid past.asleep);
-      follows = subst (λ turn. MayFollow script past (entry_of pid (kind_of (call_of script past.plain pid)) turn) (led script past pid plain (account_told script past pid (Ended status plain)) (others pid past.asleep))) (sym t.0)
-          (record { may_run = may_run; plain = plain; answers = e; leads = refl });
-      plain_is = sym t.1;
-      account_is = ap (account_told script past pid) (sym e);
-      asleep = ap (λ p. still_asleep script p (others pid past.asleep)) (sym t.1) ∙ ap (λ turn. still_asleep script new (sleepers_told turn pid past.asleep)) (sym t.0);
-      filled = refl;
-      evicted = refl;
-    }
-
 -- who sleeps by what was told slept before, or sleeps now
 from_told : (told : Turned) (pid other : ℕ) (asleep : List ℕ) → is_among other (sleepers_told told pid asleep) ≡ true
     → ((other ≡ pid) × ((asked : Asked) → phase_after asked told ≡ Asleep asked)) ⊎ (is_among other asleep ≡ true)
@@ -289,19 +201,6 @@ is_awake script s past pid sleepers alive other = go (is_among pid past.asleep) 
     go : (b : Bool) → is_among pid past.asleep ≡ b → not b ≡ true
     go true e = absurd (not_asleep script s pid (sleepers pid e) alive other)
     go false e = refl
-
--- a turn fills no more than it needs
-filled_turn : (past next : Past) (old new : Kept) (need : Need) → AreFilled old past → next.filled ≡ fills_after past.filled need → next.evicted ≡ past.evicted
-    → length new.names ≤ length old.names + need.name → length new.blocks ≤ length old.blocks + need.block → length new.vnodes ≤ length old.vnodes + need.vnode
-    → AreFilled new next
-filled_turn past next old new need filled more same names blocks vnodes =
-    let fn : next.filled.names ≡ past.filled.names + need.name = ap (λ f. f.names) more in
-    let fb : next.filled.blocks ≡ past.filled.blocks + need.block = ap (λ f. f.blocks) more in
-    let fv : next.filled.vnodes ≡ past.filled.vnodes + need.vnode = ap (λ f. f.vnodes) more in
-    let en : next.evicted.names ≡ past.evicted.names = ap (λ f. f.names) same in
-    let eb : next.evicted.blocks ≡ past.evicted.blocks = ap (λ f. f.blocks) same in
-    let ev : next.evicted.vnodes ≡ past.evicted.vnodes = ap (λ f. f.vnodes) same in
-    record { names = omega (arith, filled.names); blocks = omega (arith, filled.blocks); vnodes = omega (arith, filled.vnodes) }
 
 step_turn : (script : Script) (run : List Noted) (old : CoreState) (pid : ℕ) (noted : Noted) (new : CoreState) → Turns script old pid noted new
     → IsSound script old → StandsFor script (entries_of run) old → StandsFor script (entries_of (run ++ noted ∷ [])) new
@@ -397,7 +296,7 @@ step_refused script run old pid noted new step sound stands =
     let past = stands.past in
     let same = sym stands.plain_is in
     let after = answered script past.plain pid (Fail ENOMEM) in
-    let next : Past = moves_on script past after past.account (others pid past.asleep) in
+    let next : Past = past_refused script past pid in
     let alive = (found_fits script old.world.plain old.tasks pid User sound.each step.enabled (λ e. (cc))).phase in
     let added : noted.entry ≡ Some (refusal pid (asked_by script past.plain pid)) =
     ap (λ n. n.entry) step.noted_so ∙ ap (λ p. Some (refusal pid (asked_by script p pid))) same in
@@ -406,13 +305,8 @@ step_refused script run old pid noted new step sound stands =
       past = next;
       is_run = subst (λ entries. IsRun script entries next) (sym (entries_more run noted ∙ ap (λ o. entries_of run ++ option_to_list o) added))
           (history.goes_on (entries_of run) past next (refusal pid (asked_by script past.plain pid)) stands.is_run
-          (record {
-            alive = subst (λ p. is_alive p.table pid ≡ true) same alive;
-            of_kind = refl;
-            is_bound = refl;
-            never_fits = subst (λ p. room script.heap < (asked_by script p pid).bound) same step.never_fits;
-            leads = refl;
-          }));
+          (refused_legal script past pid (subst (λ p. is_alive p.table pid ≡ true) same alive)
+          (subst (λ p. room script.heap < (asked_by script p pid).bound) same step.never_fits)));
       plain_is = plain;
       account_is = stands.account_is ∙ sym (ap (λ s. s.world.account) step.after);
       sleepers = λ other found.
@@ -514,9 +408,10 @@ step_killed script run old pid noted new step sound stands =
     let fits = found_fits script old.world.plain old.tasks step.waiter (Waiting step.asked) sound.each phase (λ e. (cc)) in
     let up = is_awake script old past step.waiter stands.sleepers fits.phase.0 (λ a e. different phase e) in
     let licence = licensed script old step.enabled.licensed in
-    let after = die past.plain pid 9 in
-    let next : Past = moves_on script past after (account_on past.plain after past.account) (others pid past.asleep) in
-    let plain : after ≡ new.world.plain = ap (λ p. die p pid 9) stands.plain_is ∙ sym step.kills.plain in
+    let next : Past = past_killed script past pid in
+    let leads = kill_leads script past old.world pid new.world stands.plain_is stands.account_is stands.filled step.kills in
+    let asks : step.asked.bound ≡ bound (call_of script past.plain step.waiter) =
+    ap (λ a. a.bound) fits.phase.1.same ∙ ap (λ p. bound (call_of script p step.waiter)) same in
     let told = entry.Killed pid step.waiter step.asked.bound (live_of old.world) in
     let unfit : fits_now script old step.asked ≡ false =
     any_within (λ task. waits_and_fits script old task.phase) waits.0 waits.1 (record { pid = step.waiter; phase = Waiting step.asked })
@@ -528,73 +423,43 @@ step_killed script run old pid noted new step sound stands =
       is_run = subst (λ entries. IsRun script entries next)
           (sym (entries_more run noted ∙ ap (λ n. entries_of run ++ option_to_list n.entry) step.noted_so))
           (history.goes_on (entries_of run) past next told stands.is_run
-          (record {
-            victim = ap (λ p. victim_of script.policy p past.account) stands.plain_is ∙ ap (victim_of script.policy old.world.plain) stands.account_is ∙ step.enabled.victim;
-            alive = subst (λ p. is_alive p.table step.waiter ≡ true) same fits.phase.0;
-            up = up;
-            is_bound = ap (λ a. a.bound) fits.phase.1.same ∙ ap (λ p. bound (call_of script p step.waiter)) same;
-            fits_ever = fits.phase.1.fits_ever;
-            all_pinned = all_pinned old.world sound.may_keep licence.2 ∙ ap (λ p. base p old.world.account + size class.Vnode * pins p) same
-                ∙ ap (λ a. base past.plain a + size class.Vnode * pins past.plain) (sym stands.account_is);
-            too_much = full;
-            leads = refl;
-          }));
-      plain_is = plain;
-      account_is = ap (λ p. account_on past.plain p past.account) plain ∙ ap (λ p. account_on p new.world.plain past.account) stands.plain_is
-          ∙ ap (account_on old.world.plain new.world.plain) stands.account_is ∙ sym step.kills.account;
+          (subst (λ n. MayFollow script past (entry.Killed pid step.waiter n (live_of old.world)) next) (sym asks)
+          (killed_legal script past old.world pid step.waiter (sym stands.plain_is) (sym stands.account_is) sound.may_keep licence.2
+          (ap (λ p. victim_of script.policy p past.account) stands.plain_is ∙ ap (victim_of script.policy old.world.plain) stands.account_is ∙ step.enabled.victim)
+          (subst (λ p. is_alive p.table step.waiter ≡ true) same fits.phase.0) up
+          (subst (λ n. n ≤ room script.heap) asks fits.phase.1.fits_ever)
+          (subst (λ n. script.heap < live_of old.world + reserve + n) asks full))));
+      plain_is = leads.plain_is;
+      account_is = leads.account_is;
       sleepers = λ other found.
-          let among = among_filter (would_block script after) (others pid past.asleep) other found in
+          let among = among_filter (would_block script (die past.plain pid 9)) (others pid past.asleep) other found in
           let before = among_others pid other past.asleep among.1 in
           let sleeper = stands.sleepers other before.1 in
           let next : IsNext old.world.plain new.world.plain pid = subst (λ p. IsNext old.world.plain p pid) (sym step.kills.plain) (die_next old.world.plain pid pid 9 sound.made) in
           record {
             made = let h : other ≤ last_pid old.world.plain = sleeper.made in let k : last_pid old.world.plain ≤ last_pid new.world.plain = next.more in omega arith;
-            blocks = subst (λ p. would_block script p other ≡ true) plain among.0;
+            blocks = subst (λ p. would_block script p other ≡ true) leads.plain_is among.0;
             phase = left_frame old new pid old.tasks [] next (λ q p apart is. is)
                 (step.tasks ∙ sym (append-nil (buried new.world.plain old.tasks))) other before.0 sleeper.made sleeper.phase;
           };
-      filled = record {
-        names = omega (arith, stands.filled.names, step.kills.names);
-        blocks = omega (arith, stands.filled.blocks, step.kills.blocks);
-        vnodes = omega (arith, stands.filled.vnodes, step.kills.vnodes);
-      };
+      filled = leads.filled;
     }
   where
     different : {a b : Asked} → phase_of old step.waiter ≡ Waiting a → phase_of old step.waiter ≡ Asleep b → ⊥
     different e f = cc
-
--- one object more was evicted than before, and the caches keep as many less
-filled_less : (past : Past) (old new : Kept) (what : Cached) (sleepers : List ℕ) → AreFilled old past → SizesAfter old what new → 0 < length new.vnodes
-    → AreCovered (one_more past.evicted what) past.filled × AreFilled new (record past { asleep = sleepers; evicted = one_more past.evicted what })
-filled_less past old new cached.Name sleepers filled sizes root_stays = (
-  record { names = omega (arith, filled.names, sizes.0); blocks = omega (arith, filled.blocks); vnodes = omega (arith, filled.vnodes, sizes.2, root_stays) },
-  record { names = omega (arith, filled.names, sizes.0); blocks = omega (arith, filled.blocks, sizes.1); vnodes = omega (arith, filled.vnodes, sizes.2) },
-)
-filled_less past old new cached.Block sleepers filled sizes root_stays = (
-  record { names = omega (arith, filled.names); blocks = omega (arith, filled.blocks, sizes.1); vnodes = omega (arith, filled.vnodes, sizes.2, root_stays) },
-  record { names = omega (arith, filled.names, sizes.0); blocks = omega (arith, filled.blocks, sizes.1); vnodes = omega (arith, filled.vnodes, sizes.2) },
-)
-filled_less past old new cached.Vnode sleepers filled sizes root_stays = (
-  record { names = omega (arith, filled.names); blocks = omega (arith, filled.blocks); vnodes = omega (arith, filled.vnodes, sizes.2, root_stays) },
-  record { names = omega (arith, filled.names, sizes.0); blocks = omega (arith, filled.blocks, sizes.1); vnodes = omega (arith, filled.vnodes, sizes.2) },
-)
 
 step_evicted : (script : Script) (run : List Noted) (old : CoreState) (what : Cached) (noted : Noted) (new : CoreState) → EvictsOne script old what noted new
     → IsSound script old → StandsFor script (entries_of run) old → StandsFor script (entries_of (run ++ noted ∷ [])) new
 step_evicted script run old what noted new step sound stands =
     let past = stands.past in
     let evicts = step.evicts in
-    let sleepers = still_asleep script past.plain past.asleep in
-    let next : Past = record past { asleep = sleepers; evicted = one_more past.evicted what } in
-    let may = keeps_left old.world.plain old.world.kept what new.world.kept evicts.kept sound.may_keep in
-    let many : pins old.world.plain ≤ length new.world.kept.vnodes = pins_kept old.world.plain new.world.kept may in
-    let one : 0 < pins old.world.plain = root_is_pinned old.world.plain in
-    let counts = filled_less past old.world.kept new.world.kept what sleepers stands.filled (sizes_left old.world.plain old.world.kept what new.world.kept evicts.kept) (omega arith) in
+    let next : Past = past_evicted script past what in
+    let leads = eviction_leads script past old.world what new.world sound.may_keep stands.filled evicts in
     record {
       past = next;
       is_run = subst (λ entries. IsRun script entries next)
           (sym (entries_more run noted ∙ ap (λ n. entries_of run ++ option_to_list n.entry) step.noted_so))
-          (history.goes_on (entries_of run) past next (entry.Evicted what) stands.is_run (record { covered = counts.0; leads = refl }));
+          (history.goes_on (entries_of run) past next (entry.Evicted what) stands.is_run leads.follows);
       plain_is = stands.plain_is ∙ sym evicts.plain;
       account_is = stands.account_is ∙ sym evicts.account;
       sleepers = λ other found.
@@ -608,7 +473,7 @@ step_evicted script run old what noted new step sound stands =
               | inr died ↦ inr (ap (λ p. is_alive p.table other) evicts.plain ∙ died)
             ];
           };
-      filled = counts.1;
+      filled = leads.filled;
     }
 
 -- one event further

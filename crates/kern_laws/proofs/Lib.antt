@@ -1,5 +1,6 @@
 pub mod TablePlaces
 pub mod LivingVictim
+pub mod Kin
 pub mod Remembering
 pub mod Bareness
 pub mod Families
@@ -16,6 +17,7 @@ pub mod EnabledEvents
 pub mod Sleepers
 pub mod Picking
 pub mod Progress
+pub mod Followed
 pub mod Legal
 pub mod EndsWaiting
 pub mod Refusals

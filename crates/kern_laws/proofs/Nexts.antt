@@ -1,30 +1,35 @@
 -- How the machine goes on behind a call: who is alive then, and whose control stays.
-use Rattle.std.proofs.Common.{◌≡◌, ◌≢◌, ℕ, zero, suc, ◌+◌, ◌*◌, ◌/◌, ◌<◌, ◌≤◌, ◌==◌, if◌then◌else◌, Bool, true, false, cond, ℤ, pos, negsuc, List, [], ◌∷◌, ◌++◌, length, map, Option, None, Some, slice_get, slice_set, unwrap_or, refl, ap, sym, ◌∙◌, subst, arith, inl, inr, length-append}
+use Rattle.std.proofs.Common.{◌≡◌, ◌≢◌, ℕ, zero, suc, ◌+◌, ◌<◌, ◌≤◌, ◌==◌, if◌then◌else◌, Bool, true, false, pos, List, [], ◌∷◌, ◌++◌, length, map, Option, None, Some, slice_get, slice_set, unwrap_or, refl, ap, sym, ◌∙◌, subst, arith, inl, inr, length-append}
 use Rattle.std.proofs.lemmas.Bool.Decides.{eqb_tells}
 use Rattle.std.proofs.lemmas.List.{length-set, length-map}
 use Rattle.kabi_calls.specs.declared.calls.Call.{Call}
 use Rattle.kabi_calls.specs.declared.calls.Call.TheVariants as call
-use Rattle.kabi_calls.specs.Arguments.{argument_fault, count_of, page_size}
+use Rattle.kabi_calls.specs.Arguments.{argument_fault}
 use Rattle.kabi_values.specs.declared.errnos.Errno.{Errno}
-use Rattle.kabi_values.specs.declared.errnos.Errno.TheVariants.{EAGAIN, ECHILD, EFAULT, EINVAL, EMFILE, EPERM, ESRCH}
+use Rattle.kabi_values.specs.declared.errnos.Errno.TheVariants.{EINVAL}
 use Rattle.kabi_values.specs.declared.replies.Reply.{Reply}
-use Rattle.kabi_values.specs.declared.replies.Reply.TheVariants.{Bytes, Val, Waited, Fail}
+use Rattle.kabi_values.specs.declared.replies.Reply.TheVariants.{Val, Waited, Fail}
+use Rattle.kabi_types.specs.declared.scripts.Control.{Control}
 use Rattle.kabi_types.specs.declared.scripts.Script.{Script}
 use Rattle.posix_defs.specs.ByPid.{at_pid, with_pid}
-use Rattle.posix_defs.specs.Process.{Process, Table, Status, Alive, Ended, memory_of, parent_of, process_at, is_alive, is_alive_in, runs}
-use Rattle.posix_defs.specs.Plain.{Plain, answered, control_of, last_pid, root, at_start}
+use Rattle.posix_defs.specs.Process.{Process, Table, Status, Alive, Ended, process_at, is_alive, is_alive_in, runs}
+use Rattle.posix_defs.specs.Plain.{Plain, answered, control_of, last_pid, root, at_start, with_control, with_files}
 use Rattle.posix_defs.specs.Answer.{Answer, Blocked, Done, Part, failed, replied}
 use Rattle.posix_defs.specs.Answer as answer
-use Rattle.posix_defs.specs.Ending.{die, die_in, leaves, left_behind, left_child, ended_as, exit_status}
-use Rattle.posix_defs.specs.Forking.{child_of, is_full, with_child}
-use Rattle.posix_defs.specs.Killing.{ends, is_asking, kill, sent_to}
-use Rattle.posix_defs.specs.Memory.{Memory, is_mapped_range, loaded, lowest_run, no_memory, stored, without_pages}
-use Rattle.posix_defs.specs.MemoryCalls.{mapped_from, remembered}
-use Rattle.posix_defs.specs.Needs.{pages_in, pages_touched}
-use Rattle.posix_defs.specs.Machine.{answer_to, machine, unless_wrong}
-use Rattle.posix_defs.specs.Waiting.{Exited, any_from, exited_from, is_nohang, not_yet, reaped, waited_for, waitpid}
+use Rattle.posix_defs.specs.Ending.{die, die_in, leaves, left_behind, left_child, ended_as}
+use Rattle.posix_defs.specs.Forking.{child_of, with_child}
+use Rattle.posix_defs.specs.Memory.{Memory, no_memory}
+use Rattle.posix_defs.specs.MemoryCalls.{remembered}
+use Rattle.posix_defs.specs.Control.{after, after_part, restarted, settled}
+use Rattle.posix_defs.specs.Files.State.{Files}
+use Rattle.posix_defs.specs.Files.Closing.{after_exec_of}
+use Rattle.posix_defs.specs.Machine.{machine, unless_wrong}
+use Rattle.posix_defs.specs.Waiting.{reaped}
 use Rattle.posix_defs.specs.SoundTasks.{AllAtHome}
-use Rattle.kern_laws.proofs.Families.{exited_has_ended, still_alive}
+use Rattle.answer_laws.specs.Shapes as shape
+use Rattle.answer_laws.specs.Shapes.{HasShape}
+use Rattle.answer_laws.proofs.Built.{machine_shape}
+use Rattle.kern_laws.proofs.Families.{still_alive}
 use Rattle.kern_laws.proofs.Remembering.{alive_still, found_before, length-with_memory}
 use Rattle.kern_laws.proofs.TablePlaces.{at_end, each_changed, in_longer, is_gone, same_in_front, was_made, with_other, with_same}
 
@@ -65,11 +70,19 @@ at_other xs zero other x apart = refl
 at_other xs (suc i) zero x apart = refl
 at_other xs (suc i) (suc j) x apart = get_set_apart xs i j x (λ same. apart (ap (λ k. suc k) same))
 
--- a reply changes the caller's control alone
-pub answered_next : (script : Script) (plain base : Plain) (pid : ℕ) (reply : Reply) → IsNext plain base pid
-    → IsNext plain (answered script base pid reply) pid
-answered_next script plain base pid reply next =
-    let same : last_pid (answered script base pid reply) ≡ last_pid base = length-with_pid base.controls pid _ in
+get_set_same : {X : Type 0} (xs : List X) (i : ℕ) (y : X) → i < length xs → slice_get (slice_set xs i y) i ≡ Some y
+get_set_same [] i y h = absurd (omega arith)
+get_set_same (x ∷ xs) zero y h = refl
+get_set_same (x ∷ xs) (suc i) y h = get_set_same xs i y (omega arith)
+
+pub at_own : {X : Type 0} (xs : List X) (pid : ℕ) (x : X) → 0 < pid → pid ≤ length xs → at_pid (with_pid xs pid x) pid ≡ Some x
+at_own xs zero x some within = absurd (omega arith)
+at_own xs (suc i) x some within = get_set_same xs i x (omega arith)
+
+-- the caller's control is another
+pub controlled_next : (plain base : Plain) (pid : ℕ) (control : Control) → IsNext plain base pid → IsNext plain (with_control base pid control) pid
+controlled_next plain base pid control next =
+    let same : last_pid (with_control base pid control) ≡ last_pid base = length-with_pid base.controls pid _ in
     record {
       more = let more : last_pid plain ≤ last_pid base = next.more in omega arith;
       one = let one : last_pid base ≤ last_pid plain + 1 = next.one in omega arith;
@@ -79,6 +92,34 @@ answered_next script plain base pid reply next =
       born = λ other past within. next.born other past (subst (λ n. other ≤ n) same within);
       home = next.home;
     }
+
+-- a reply changes the caller's control alone
+pub answered_next : (script : Script) (plain base : Plain) (pid : ℕ) (reply : Reply) → IsNext plain base pid
+    → IsNext plain (answered script base pid reply) pid
+answered_next script plain base pid reply next = controlled_next plain base pid (after script (control_of base pid) reply) next
+
+-- files are others, before it or behind
+next_of_files : (plain new : Plain) (files : Files) (pid : ℕ) → IsNext (with_files plain files) new pid → IsNext plain new pid
+next_of_files plain new files pid next = record {
+  more = next.more;
+  one = next.one;
+  made = next.made;
+  controls = next.controls;
+  revived = next.revived;
+  born = next.born;
+  home = next.home;
+}
+
+with_files_next : (plain new : Plain) (files : Files) (pid : ℕ) → IsNext plain new pid → IsNext plain (with_files new files) pid
+with_files_next plain new files pid next = record {
+  more = next.more;
+  one = next.one;
+  made = next.made;
+  controls = next.controls;
+  revived = next.revived;
+  born = next.born;
+  home = next.home;
+}
 
 -- who was left behind was there before, as alive as then
 left_alive : (pid : ℕ) (there : Option Process) → is_alive_in (left_behind pid there) ≡ true → is_alive_in there ≡ true
@@ -330,57 +371,10 @@ pub replied_goes : (script : Script) (plain base : Plain) (pid : ℕ) (reply : R
     → AnswerGoes plain pid (replied script base pid reply)
 replied_goes script plain base pid reply next alive = (answered_next script plain base pid reply next, alive)
 
-by_test : (plain : Plain) (pid : ℕ) (b : Bool) (one other : Answer) → (b ≡ true → AnswerGoes plain pid one) → (b ≡ false → AnswerGoes plain pid other)
-    → AnswerGoes plain pid (cond b one other)
-by_test plain pid true one other this that = this refl
-by_test plain pid false one other this that = that refl
-
 -- a reply that changes the caller's control alone
 told_goes : (script : Script) (plain : Plain) (pid : ℕ) (reply : Reply) → length plain.table ≡ last_pid plain → is_alive plain.table pid ≡ true
     → AnswerGoes plain pid (replied script plain pid reply)
 told_goes script plain pid reply made alive = replied_goes script plain plain pid reply (same_next plain pid made) alive
-
-waits_goes : (script : Script) (plain : Plain) (pid : ℕ) (which options : ℤ) → length plain.table ≡ last_pid plain → is_alive plain.table pid ≡ true
-    → AnswerGoes plain pid (waitpid script plain pid which options)
-waits_goes script plain pid which options made alive = go (exited_from pid which 1 plain.table) refl
-  where
-    plus_one : (a b : ℕ) → a ≡ 1 + b → a ≡ suc b
-    plus_one a b e = omega arith
-
-    go : (o : Option Exited) → exited_from pid which 1 plain.table ≡ o → AnswerGoes plain pid (waited_for script plain pid which options o)
-    go None e = by_test plain pid (any_from pid which 1 plain.table) (not_yet script plain pid options) (failed script plain pid ECHILD)
-        (λ _. by_test plain pid (is_nohang options) (replied script plain pid (Val (pos 0))) Blocked (λ _. told_goes script plain pid (Val (pos 0)) made alive) (λ _. tt))
-        (λ _. told_goes script plain pid (Fail ECHILD) made alive)
-    go (Some exited) e =
-        let found = exited_has_ended pid which 1 plain.table exited e in
-        let ended : is_alive plain.table exited.pid ≡ false = ap (is_alive plain.table) (plus_one exited.pid found.0 found.1) ∙ found.2 in
-        replied_goes script plain (reaped plain exited.pid) pid (Waited exited.pid exited.status) (reaped_next plain pid exited.pid made)
-        (reaped_keeps plain.table exited.pid pid ended alive)
-
-kills_goes : (script : Script) (plain : Plain) (pid : ℕ) (target signal : ℤ) → length plain.table ≡ last_pid plain → is_alive plain.table pid ≡ true
-    → AnswerGoes plain pid (kill script plain pid target signal)
-kills_goes script plain pid (negsuc n) signal made alive = told_goes script plain pid (Fail ESRCH) made alive
-kills_goes script plain pid (pos target) signal made alive = go (process_at plain.table target)
-  where
-    none : Answer
-    none = replied script plain pid (Val (pos 0))
-
-    not_equal : (a b : ℕ) → (a == b) ≡ false → a ≢ b
-    not_equal a b e same = elim (eqb_tells a b) [ inl is ↦ (let f = is.0 in cc) | inr is ↦ is.1 same ]
-
-    go : (o : Option Process) → AnswerGoes plain pid (sent_to script plain pid target signal o)
-    go None = told_goes script plain pid (Fail ESRCH) made alive
-    go (Some process) = by_test plain pid (is_asking signal) (replied script plain pid (Val (pos 0))) (if target == 1 then failed script plain pid EPERM else ends script plain pid target process)
-        (λ _. told_goes script plain pid (Val (pos 0)) made alive)
-        (λ _. by_test plain pid (target == 1) (failed script plain pid EPERM) (ends script plain pid target process)
-        (λ _. told_goes script plain pid (Fail EPERM) made alive)
-        (λ first. by_test plain pid (runs process.status)
-        (if target == pid then answer.Ended 9 (die plain pid 9) else replied script (die plain target 9) pid (Val (pos 0))) (replied script plain pid (Val (pos 0)))
-        (λ _. by_test plain pid (target == pid) (answer.Ended 9 (die plain pid 9)) (replied script (die plain target 9) pid (Val (pos 0)))
-        (λ _. (die_next plain pid pid 9 made, die_ends plain.table pid 9))
-        (λ apart. replied_goes script plain (die plain target 9) pid (Val (pos 0)) (die_next plain pid target 9 made)
-        (die_keeps plain.table target pid 9 (not_equal target 1 first) (λ same. not_equal target pid apart (sym same)) alive)))
-        (λ _. told_goes script plain pid (Val (pos 0)) made alive)))
 
 -- something is put in the caller's memory
 remembered_next : (plain : Plain) (pid : ℕ) (memory : Memory) → length plain.table ≡ last_pid plain → IsNext plain (remembered plain pid memory) pid
@@ -394,48 +388,49 @@ remembered_next plain pid memory made = record {
   home = λ home other process is. let old = found_before plain.table pid other memory process is in old.2.directory ∙ home other old.0 old.1;
 }
 
--- a reply of a call that puts something in its caller's memory
-remembers_goes : (script : Script) (plain : Plain) (pid : ℕ) (memory : Memory) (reply : Reply) → length plain.table ≡ last_pid plain → is_alive plain.table pid ≡ true
-    → AnswerGoes plain pid (replied script (remembered plain pid memory) pid reply)
-remembers_goes script plain pid memory reply made alive =
-    replied_goes script plain (remembered plain pid memory) pid reply (remembered_next plain pid memory made) (alive_still plain.table pid pid memory ∙ alive)
-
-maps_goes : (script : Script) (plain : Plain) (pid count : ℕ) (first : Option ℕ) → length plain.table ≡ last_pid plain → is_alive plain.table pid ≡ true
-    → AnswerGoes plain pid (mapped_from script plain pid count first)
-maps_goes script plain pid count None made alive = told_goes script plain pid (Fail EMFILE) made alive
-maps_goes script plain pid count (Some first) made alive = remembers_goes script plain pid _ (Val (pos (page_size * first))) made alive
-
--- every call that is built
-right_goes : (script : Script) (plain : Plain) (pid : ℕ) (which : Call) → length plain.table ≡ last_pid plain → is_alive plain.table pid ≡ true
-    → AnswerGoes plain pid (answer_to script plain pid which)
-right_goes script plain pid call.Getpid made alive = told_goes script plain pid (Val (pos pid)) made alive
-right_goes script plain pid call.Getppid made alive = told_goes script plain pid (Val (pos (parent_of plain.table pid))) made alive
-right_goes script plain pid call.SchedYield made alive = told_goes script plain pid (Val (pos 0)) made alive
-right_goes script plain pid call.Fork made alive =
-    by_test plain pid (is_full plain) (failed script plain pid EAGAIN) (replied script (with_child script plain pid) pid (Val (pos (last_pid plain + 1))))
-    (λ _. told_goes script plain pid (Fail EAGAIN) made alive)
-    (λ _. replied_goes script plain (with_child script plain pid) pid (Val (pos (last_pid plain + 1))) (child_next script plain pid made alive)
+-- whatever has a shape goes so; in another directory a call works of which so much is known
+by_shape : (script : Script) (plain : Plain) (pid : ℕ) (which : Call) (given : Answer) → length plain.table ≡ last_pid plain → is_alive plain.table pid ≡ true
+    → ((path : List ℕ) → which ≡ call.Chdir path → AnswerGoes plain pid given) → HasShape script plain pid which given → AnswerGoes plain pid given
+by_shape script plain pid which given made alive chdir (shape.blocks may is) = subst (AnswerGoes plain pid) (sym is) tt
+by_shape script plain pid which given made alive chdir (shape.fails errno other is) = subst (AnswerGoes plain pid) (sym is) (told_goes script plain pid (Fail errno) made alive)
+by_shape script plain pid which given made alive chdir (shape.tells files reply is_said is) =
+    subst (AnswerGoes plain pid) (sym is) (replied_goes script plain (with_files plain files) pid reply (with_files_next plain plain files pid (same_next plain pid made)) alive)
+by_shape script plain pid which given made alive chdir (shape.puts files memory reply is_said put is) =
+    subst (AnswerGoes plain pid) (sym is) (replied_goes script plain (remembered (with_files plain files) pid memory) pid reply
+    (next_of_files plain (remembered (with_files plain files) pid memory) files pid (remembered_next (with_files plain files) pid memory made)) (alive_still plain.table pid pid memory ∙ alive))
+by_shape script plain pid which given made alive chdir (shape.moves path directory of entered is) = chdir path of
+by_shape script plain pid which given made alive chdir (shape.parts files moved part is) =
+    subst (AnswerGoes plain pid) (sym is) (
+      controlled_next plain (with_files plain files) pid (after_part (control_of (with_files plain files) pid) moved)
+          (with_files_next plain plain files pid (same_next plain pid made)),
+      alive,
+    )
+by_shape script plain pid which given made alive chdir (shape.starts place is) =
+    subst (AnswerGoes plain pid) (sym is) (
+      controlled_next plain (with_files (remembered plain pid no_memory) (after_exec_of plain.files pid)) pid
+          (restarted (settled script (control_of plain pid)) place)
+          (with_files_next plain (remembered plain pid no_memory) (after_exec_of plain.files pid) pid (remembered_next plain pid no_memory made)),
+      alive_still plain.table pid pid no_memory ∙ alive,
+    )
+by_shape script plain pid which given made alive chdir (shape.forks is) =
+    subst (AnswerGoes plain pid) (sym is) (replied_goes script plain (with_child script plain pid) pid (Val (pos (last_pid plain + 1))) (child_next script plain pid made alive)
     (still_alive plain.table (child_of pid (process_at plain.table pid)) pid alive))
-right_goes script plain pid (call.Exit status) made alive =
-    (die_next plain pid pid (exit_status status) made, die_ends plain.table pid (exit_status status))
-right_goes script plain pid (call.Waitpid which options) made alive = waits_goes script plain pid which options made alive
-right_goes script plain pid (call.Kill target signal) made alive = kills_goes script plain pid target signal made alive
-right_goes script plain pid (call.Mmap size) made alive = maps_goes script plain pid (pages_in (count_of size)) (lowest_run (memory_of plain.table pid) (pages_in (count_of size))) made alive
-right_goes script plain pid (call.Munmap addr size) made alive = remembers_goes script plain pid (without_pages (memory_of plain.table pid) (count_of addr / page_size) (pages_touched (count_of addr) (count_of size))) (Val (pos 0)) made alive
-right_goes script plain pid (call.Store addr bytes) made alive =
-    by_test plain pid (is_mapped_range (memory_of plain.table pid) (count_of addr) (length bytes))
-    (replied script (remembered plain pid (stored (memory_of plain.table pid) (count_of addr) bytes)) pid (Val (pos (length bytes)))) (failed script plain pid EFAULT)
-    (λ _. remembers_goes script plain pid (stored (memory_of plain.table pid) (count_of addr) bytes) (Val (pos (length bytes))) made alive) (λ _. told_goes script plain pid (Fail EFAULT) made alive)
-right_goes script plain pid (call.Load addr n) made alive =
-    by_test plain pid (is_mapped_range (memory_of plain.table pid) (count_of addr) (count_of n))
-    (replied script plain pid (Bytes (loaded (memory_of plain.table pid) (count_of addr) (count_of n)))) (failed script plain pid EFAULT)
-    (λ _. told_goes script plain pid (Bytes (loaded (memory_of plain.table pid) (count_of addr) (count_of n))) made alive) (λ _. told_goes script plain pid (Fail EFAULT) made alive)
-right_goes script plain pid _ made alive = told_goes script plain pid (Fail EINVAL) made alive
+by_shape script plain pid which given made alive chdir (shape.reaps child status ended is) =
+    subst (AnswerGoes plain pid) (sym is) (replied_goes script plain (reaped plain child) pid (Waited child status) (reaped_next plain pid child made)
+    (reaped_keeps plain.table child pid ended alive))
+by_shape script plain pid which given made alive chdir (shape.ends status is) =
+    subst (AnswerGoes plain pid) (sym is) (die_next plain pid pid status made, die_ends plain.table pid status)
+by_shape script plain pid which given made alive chdir (shape.ends_another target signal of first own lives is) =
+    subst (AnswerGoes plain pid) (sym is) (replied_goes script plain (die plain target 9) pid (Val (pos 0)) (die_next plain pid target 9 made)
+    (die_keeps plain.table target pid 9 first (λ same. own (sym same)) alive))
 
+-- whatever is answered today goes so: `chdir`, after which not everybody works in the root any more, isn't built
 pub posix_goes : (script : Script) (plain : Plain) (pid : ℕ) (which : Call) → length plain.table ≡ last_pid plain → is_alive plain.table pid ≡ true
     → AnswerGoes plain pid (machine script plain pid which)
-posix_goes script plain pid which made alive = go (argument_fault which)
+posix_goes script plain pid which made alive =
+    by_shape script plain pid which (machine script plain pid which) made alive (λ path of. subst (λ w. AnswerGoes plain pid (machine script plain pid w)) (sym of) (unbuilt (argument_fault (call.Chdir path))))
+    (machine_shape script plain pid which)
   where
-    go : (fault : Option Errno) → AnswerGoes plain pid (unless_wrong script plain pid fault (answer_to script plain pid which))
-    go None = right_goes script plain pid which made alive
-    go (Some errno) = told_goes script plain pid (Fail errno) made alive
+    unbuilt : (fault : Option Errno) → AnswerGoes plain pid (unless_wrong script plain pid fault (failed script plain pid EINVAL))
+    unbuilt None = told_goes script plain pid (Fail EINVAL) made alive
+    unbuilt (Some errno) = told_goes script plain pid (Fail errno) made alive

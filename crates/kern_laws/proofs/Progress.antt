@@ -152,7 +152,7 @@ nobody_weighs plain account first (suc i) (there ∷ table) none alive =
     go true e = cc
     go false e = e
 
-no_victim : (policy : Policy) (plain : Plain) (account : Account) (pid : ℕ) → victim_of policy plain account ≡ None → is_alive plain.table pid ≡ true → pid ≡ 1
+pub no_victim : (policy : Policy) (plain : Plain) (account : Account) (pid : ℕ) → victim_of policy plain account ≡ None → is_alive plain.table pid ≡ true → pid ≡ 1
 no_victim policy plain account zero none alive = cc
 no_victim policy plain account (suc i) none alive =
     let one : 1 + i ≡ 1 = nobody_weighs plain account 1 i plain.table (go (weights_from plain account 1 plain.table) none) alive in omega arith

@@ -1,17 +1,14 @@
 -- Every state that a run leads to is sound.
-use Rattle.std.proofs.Common.{◌≡◌, ◌≢◌, ℕ, zero, suc, ◌+◌, ◌-◌, ◌<◌, ◌≤◌, ◌==◌, if◌then◌else◌, cond, ℤ, pos, negsuc, Bool, true, false, List, [], ◌∷◌, length, Option, None, Some, refl, ap, sym, ◌∙◌, subst, arith, ◌⊎◌, inl, inr}
+use Rattle.std.proofs.Common.{◌≡◌, ◌≢◌, ℕ, zero, suc, ◌+◌, ◌-◌, ◌<◌, ◌≤◌, ◌==◌, ℤ, Bool, true, false, List, [], ◌∷◌, length, Some, unwrap_or, refl, ap, sym, ◌∙◌, subst, arith, ◌⊎◌, inl, inr}
 use Rattle.std.specs.List.{AllByRecursion, list_any}
 use Rattle.kabi_calls.specs.Call.{kind_of}
-use Rattle.kabi_calls.specs.declared.calls.Call.{Call}
 use Rattle.kabi_calls.specs.declared.calls.Call.TheVariants as call
 use Rattle.kabi_types.specs.declared.entries.Event.{Event}
 use Rattle.kabi_types.specs.declared.entries.Event.TheVariants.{Ask, Admit, Turn, Wake, Abandon, Evict, Kill}
 use Rattle.kabi_types.specs.declared.entries.Noted.{Noted}
-use Rattle.kabi_calls.specs.Arguments.{argument_fault, count_of}
-use Rattle.kabi_values.specs.declared.errnos.Errno.{Errno}
-use Rattle.kabi_values.specs.declared.errnos.Errno.TheVariants.{EAGAIN, ECHILD, EFAULT, ENOMEM, EPERM}
+use Rattle.kabi_values.specs.declared.errnos.Errno.TheVariants.{ENOMEM}
 use Rattle.kabi_values.specs.declared.replies.Reply.{Reply}
-use Rattle.kabi_values.specs.declared.replies.Reply.TheVariants.{Bytes, Fail, Val}
+use Rattle.kabi_values.specs.declared.replies.Reply.TheVariants.{Fail}
 use Rattle.kabi_types.specs.declared.scripts.Control.{Control}
 use Rattle.kabi_types.specs.declared.scripts.Script.{Script}
 use Rattle.posix_defs.specs.declared.phases.Asked.{Asked}
@@ -20,27 +17,30 @@ use Rattle.posix_defs.specs.declared.phases.Phase.TheVariants.{User, Waiting, Ad
 use Rattle.posix_defs.specs.declared.phases.Task.{Task}
 use Rattle.posix_defs.specs.declared.turner.Turned.{Turned}
 use Rattle.posix_defs.specs.Sizes.{room}
-use Rattle.posix_defs.specs.Process.{Process, is_alive, memory_of, process_at, runs}
-use Rattle.posix_defs.specs.Plain.{Plain, answered, call_of, control_of, first_process, last_pid, root}
+use Rattle.posix_defs.specs.Process.{Process, is_alive, process_at}
+use Rattle.posix_defs.specs.Plain.{Plain, answered, at_start, call_of, control_of, first_process, last_pid, root, with_control, with_files}
 use Rattle.posix_defs.specs.Control as program
 use Rattle.posix_defs.specs.Answer.{Answer, Blocked, Done, Part, failed, replied}
 use Rattle.posix_defs.specs.Answer as answer
-use Rattle.posix_defs.specs.Ending.{die}
-use Rattle.posix_defs.specs.Forking.{is_full, with_child}
-use Rattle.posix_defs.specs.Killing.{ends, is_asking, sent_to}
-use Rattle.posix_defs.specs.Memory.{is_mapped_range, loaded, lowest_run, stored}
-use Rattle.posix_defs.specs.MemoryCalls.{mapped_from, remembered}
-use Rattle.posix_defs.specs.Needs.{bound, pages_in}
-use Rattle.posix_defs.specs.Machine.{answer_to, machine, unless_wrong}
-use Rattle.posix_defs.specs.Waiting.{Exited, any_from, exited_from, is_nohang, not_yet, waited_for}
+use Rattle.posix_defs.specs.Killing.{ends}
+use Rattle.posix_defs.specs.Needs.{bound}
+use Rattle.posix_defs.specs.Control.{after_part}
+use Rattle.posix_defs.specs.Made.{further}
+use Rattle.posix_defs.specs.Files.State.{Files}
+use Rattle.posix_defs.specs.Machine.{machine}
 use Rattle.posix_defs.specs.Turn.{Tells}
 use Rattle.posix_defs.specs.Relief.{refused_in}
 use Rattle.posix_defs.specs.CoreState.{CoreState, asked_by, boot_state, with_phase, with_phase_in}
 use Rattle.posix_defs.specs.CoreEvent.{Turns, KillsOne, StepsBy, born, buried, phase_after, tasks_after, tasks_without}
 use Rattle.posix_defs.specs.CoreRun.{IsRunBy, boots, goes_on}
 use Rattle.posix_defs.specs.SoundTasks.{AreRising, HasAsked, IsSound, PhaseFits, TaskFits, AllAtHome}
+use Rattle.answer_laws.specs.Shapes as shape
+use Rattle.answer_laws.specs.Shapes.{HasShape}
+use Rattle.answer_laws.proofs.Built.{machine_shape}
+use Rattle.answer_laws.proofs.GoingOn.{call_part}
+use Rattle.posix_defs.proofs.PriceLemmas.{write_falls}
 use Rattle.kern_laws.proofs.TablePlaces.{was_made}
-use Rattle.kern_laws.proofs.Nexts.{IsNext, AnswerGoes, alive_is_there, answered_next, die_next, posix_goes, same_next}
+use Rattle.kern_laws.proofs.Nexts.{IsNext, AnswerGoes, alive_is_there, answered_next, at_own, die_next, posix_goes, same_next}
 use Rattle.kern_laws.proofs.Tasks.{any_with, any_without, each_and, each_map, each_append, rising_above, each_with, each_without, found_fits, rising_with, rising_without}
 use Rattle.kern_laws.proofs.BuriedTasks.{IsLeft, LeftBy, StrandedFits, any_behind, any_born, any_buried, any_front, each_born, each_buried, pids_buried, rising_born, rising_buried}
 use Rattle.kern_laws.proofs.Caches.{keeps_left}
@@ -90,71 +90,48 @@ other_left script old new pid task next apart fits = go (is_alive new.table task
     go true is = record { made = made; phase = alive_phase is task.phase fits.phase }
     go false is = (made, dead_phase task.phase fits.phase)
 
--- an answer that is no part
-NoPart : Answer → Type 0
-NoPart (Part moved next) = ⊥
-NoPart _ = Unit {0}
+blocked_no_part : (moved : ℕ) (next : Plain) → Blocked ≡ Part moved next → ⊥
+blocked_no_part moved next e = cc
 
-none_moved : (answer : Answer) (next : Plain) (moved : ℕ) → NoPart answer → answer ≡ Part moved next → ⊥
-unfolding NoPart
-none_moved Blocked next moved none e = cc
-none_moved (Done reply plain) next moved none e = cc
-none_moved (Part k plain) next moved none e = none
-none_moved (answer.Ended status plain) next moved none e = cc
+done_no_part : (reply : Reply) (plain : Plain) (moved : ℕ) (next : Plain) → Done reply plain ≡ Part moved next → ⊥
+done_no_part reply plain moved next e = cc
 
-either_moves : (b : Bool) (one other : Answer) → NoPart one → NoPart other → NoPart (cond b one other)
-either_moves true one other this that = this
-either_moves false one other this that = that
+ended_no_part : (status : ℕ) (plain : Plain) (moved : ℕ) (next : Plain) → answer.Ended status plain ≡ Part moved next → ⊥
+ended_no_part status plain moved next e = cc
 
-waits_move : (script : Script) (plain : Plain) (pid : ℕ) (which options : ℤ) (o : Option Exited) → NoPart (waited_for script plain pid which options o)
-unfolding NoPart
-waits_move script plain pid which options (Some exited) = tt
-waits_move script plain pid which options None =
-    either_moves (any_from pid which 1 plain.table) (not_yet script plain pid options) (failed script plain pid ECHILD)
-    (either_moves (is_nohang options) (replied script plain pid (Val (pos 0))) Blocked tt tt) tt
+same_part : (one other : ℕ) (plain next : Plain) → Part one plain ≡ Part other next → plain ≡ next
+same_part one other plain next e = cc
 
-sent_moves : (script : Script) (plain : Plain) (pid target : ℕ) (signal : ℤ) (o : Option Process) → NoPart (sent_to script plain pid target signal o)
-unfolding NoPart
-sent_moves script plain pid target signal None = tt
-sent_moves script plain pid target signal (Some process) =
-    either_moves (is_asking signal) (replied script plain pid (Val (pos 0))) (if target == 1 then failed script plain pid EPERM else ends script plain pid target process) tt
-    (either_moves (target == 1) (failed script plain pid EPERM) (ends script plain pid target process) tt
-    (either_moves (runs process.status) (if target == pid then answer.Ended 9 (die plain pid 9) else replied script (die plain target 9) pid (Val (pos 0))) (replied script plain pid (Val (pos 0)))
-    (either_moves (target == pid) (answer.Ended 9 (die plain pid 9)) (replied script (die plain target 9) pid (Val (pos 0))) tt tt) tt))
-
-maps_move : (script : Script) (plain : Plain) (pid count : ℕ) (first : Option ℕ) → NoPart (mapped_from script plain pid count first)
-unfolding NoPart
-maps_move script plain pid count None = tt
-maps_move script plain pid count (Some first) = tt
-
-right_moves : (script : Script) (plain : Plain) (pid : ℕ) (which : Call) → NoPart (answer_to script plain pid which)
-unfolding NoPart
-right_moves script plain pid call.Fork =
-    either_moves (is_full plain) (failed script plain pid EAGAIN) (replied script (with_child script plain pid) pid (Val (pos (last_pid plain + 1)))) tt tt
-right_moves script plain pid (call.Exit status) = tt
-right_moves script plain pid (call.Waitpid which options) = waits_move script plain pid which options (exited_from pid which 1 plain.table)
-right_moves script plain pid (call.Kill (pos target) signal) = sent_moves script plain pid target signal (process_at plain.table target)
-right_moves script plain pid (call.Kill (negsuc n) signal) = tt
-right_moves script plain pid (call.Mmap size) = maps_move script plain pid (pages_in (count_of size)) (lowest_run (memory_of plain.table pid) (pages_in (count_of size)))
-right_moves script plain pid (call.Store addr bytes) =
-    either_moves (is_mapped_range (memory_of plain.table pid) (count_of addr) (length bytes))
-    (replied script (remembered plain pid (stored (memory_of plain.table pid) (count_of addr) bytes)) pid (Val (pos (length bytes)))) (failed script plain pid EFAULT) tt tt
-right_moves script plain pid (call.Load addr n) =
-    either_moves (is_mapped_range (memory_of plain.table pid) (count_of addr) (count_of n))
-    (replied script plain pid (Bytes (loaded (memory_of plain.table pid) (count_of addr) (count_of n)))) (failed script plain pid EFAULT) tt tt
-right_moves script plain pid _ = tt
-
-posix_moves : (script : Script) (plain : Plain) (pid : ℕ) (which : Call) → NoPart (machine script plain pid which)
-unfolding NoPart
-posix_moves script plain pid which = go (argument_fault which)
+-- a part of a write leaves its caller at that write, further on, which costs no more
+part_costs : (script : Script) (old next : Plain) (pid moved : ℕ) → 0 < pid → pid ≤ last_pid old → machine script old pid (call_of script old pid) ≡ Part moved next
+    → bound (call_of script next pid) ≤ bound (call_of script old pid)
+part_costs script old next pid moved some within is = go (machine_shape script old pid (call_of script old pid))
   where
-    go : (fault : Option Errno) → NoPart (unless_wrong script plain pid fault (answer_to script plain pid which))
-    go None = right_moves script plain pid which
-    go (Some errno) = tt
+    further_on : (fd addr n : ℤ) (done k : ℕ) (files : Files) → call_of script old pid ≡ call.Write fd addr n done
+        → with_control (with_files old files) pid (after_part (control_of old pid) k) ≡ next → bound (call_of script next pid) ≤ bound (call_of script old pid)
+    further_on fd addr n done k files of next_is =
+        let control : control_of next pid ≡ after_part (control_of old pid) k =
+        ap (λ p. control_of p pid) (sym next_is) ∙ ap (λ found. unwrap_or found (at_start 0)) (at_own old.controls pid (after_part (control_of old pid) k) some within) in
+        let goes_on : call_of script next pid ≡ call.Write fd addr n (done + k) =
+        ap (program.call_of script) control ∙ call_part script (control_of old pid) k ∙ ap (further k) of in
+        let less = write_falls fd addr n done k in
+        let one = ap bound goes_on in
+        let two = ap bound of in
+        omega arith
 
--- no call that is built does a part
-no_parts : (script : Script) (plain next : Plain) (pid moved : ℕ) (which : Call) → machine script plain pid which ≡ Part moved next → ⊥
-no_parts script plain next pid moved which e = none_moved (machine script plain pid which) next moved (posix_moves script plain pid which) e
+    go : HasShape script old pid (call_of script old pid) (machine script old pid (call_of script old pid)) → bound (call_of script next pid) ≤ bound (call_of script old pid)
+    go (shape.blocks may e) = absurd (blocked_no_part moved next (sym e ∙ is))
+    go (shape.fails errno other e) = absurd (done_no_part _ _ moved next (sym e ∙ is))
+    go (shape.tells files reply said e) = absurd (done_no_part _ _ moved next (sym e ∙ is))
+    go (shape.puts files memory reply said put e) = absurd (done_no_part _ _ moved next (sym e ∙ is))
+    go (shape.moves path directory of entered e) = absurd (done_no_part _ _ moved next (sym e ∙ is))
+    go (shape.parts files k part e) =
+        further_on part.fd part.addr part.n part.done k files part.which (same_part k moved (with_control (with_files old files) pid (after_part (control_of old pid) k)) next (sym e ∙ is))
+    go (shape.starts place e) = absurd (done_no_part _ _ moved next (sym e ∙ is))
+    go (shape.forks e) = absurd (done_no_part _ _ moved next (sym e ∙ is))
+    go (shape.reaps child status ended e) = absurd (done_no_part _ _ moved next (sym e ∙ is))
+    go (shape.ends status e) = absurd (ended_no_part _ _ moved next (sym e ∙ is))
+    go (shape.ends_another target signal of first own lives e) = absurd (done_no_part _ _ moved next (sym e ∙ is))
 
 -- the task of the process that called
 pub own_left : (script : Script) (old new : Plain) (pid : ℕ) (asked : Asked) (told : Turned) (phase : Phase) → length old.table ≡ last_pid old → is_alive old.table pid ≡ true
@@ -185,7 +162,16 @@ own_left script old new pid asked told phase counted alive made has tells is =
         let next : IsNext old new pid = subst (λ p. IsNext old p pid) (sym t.1) goes.0 in
         let lives : is_alive new.table pid ≡ true = ap (λ p. is_alive p.table pid) t.1 ∙ goes.1 in
         (next, live_task next lives User lives (is ∙ ap (phase_after (asked_by script new pid)) t.0))
-    go (Part moved plain) e t goes = absurd (no_parts script old plain pid moved (call_of script old pid) e)
+    go (Part moved plain) e t goes =
+        let next : IsNext old new pid = subst (λ p. IsNext old p pid) (sym t.1) goes.0 in
+        let lives : is_alive new.table pid ≡ true = ap (λ p. is_alive p.table pid) t.1 ∙ goes.1 in
+        let slept : phase ≡ Asleep (asked_by script new pid) = is ∙ ap (phase_after (asked_by script new pid)) t.0 in
+        let there = alive_is_there old.table pid alive in
+        let less : bound (call_of script plain pid) ≤ bound (call_of script old pid) = part_costs script old plain pid moved (was_made old.table pid there.0 there.1).0 made e in
+        let asked_for : asked.bound ≡ bound (call_of script old pid) = ap (λ a. a.bound) has.same in
+        let now : bound (call_of script new pid) ≡ bound (call_of script plain pid) = ap (λ p. bound (call_of script p pid)) t.1 in
+        let ever : asked.bound ≤ room script.heap = has.fits_ever in
+        (next, live_task next lives (Asleep (asked_by script new pid)) (lives, record { same = refl; fits_ever = omega arith }) slept)
     go (answer.Ended status plain) e t goes =
         let next : IsNext old new pid = subst (λ p. IsNext old p pid) (sym t.1) goes.0 in
         let dead : is_alive new.table pid ≡ false = ap (λ p. is_alive p.table pid) t.1 ∙ goes.1 in

@@ -2,3 +2,4 @@ pub mod StayingBare
 pub mod Sleeping
 pub mod WorkedFamily
 pub mod TwoProcesses
+pub mod Filled

@@ -1,5 +1,14 @@
+pub mod Behind
+pub mod OnePast
+pub mod Holding
 pub mod Keeping
+pub mod Loops
+pub mod Lowest
+pub mod Picking
+pub mod Pids
+pub mod Presence
 pub mod Runs
 pub mod Standing
 pub mod Starving
+pub mod Turned
 pub mod Turning

@@ -77,7 +77,7 @@ pub a_run : EntriesAreARun
 a_run script steps items past shared = (entries_run script steps items past shared, entries_within script steps items past shared)
 
 -- one entry more decides, where it is one of the process
-dozes_more : (pid : ℕ) (before : Bool) (entries : List Entry) (e : Entry) → dozes_after pid before (entries ++ e ∷ []) ≡ cond (is_of pid e) (sleeps_by pid e) (dozes_after pid before entries)
+pub dozes_more : (pid : ℕ) (before : Bool) (entries : List Entry) (e : Entry) → dozes_after pid before (entries ++ e ∷ []) ≡ cond (is_of pid e) (sleeps_by pid e) (dozes_after pid before entries)
 dozes_more pid before [] e = refl
 dozes_more pid before (x ∷ entries) e = dozes_more pid (cond (is_of pid x) (sleeps_by pid x) before) entries e
 

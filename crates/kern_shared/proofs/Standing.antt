@@ -8,7 +8,7 @@ use Rattle.kabi_values.specs.declared.errnos.Errno.TheVariants.{ENOMEM}
 use Rattle.kabi_values.specs.declared.replies.Reply.TheVariants.{Fail}
 use Rattle.posix_defs.specs.History.{Past, IsRun, MayFollow, is_among}
 use Rattle.posix_defs.specs.History as run
-use Rattle.posix_defs.specs.Plain.{call_of, control_of, last_pid}
+use Rattle.posix_defs.specs.Plain.{Plain, call_of, control_of, last_pid}
 use Rattle.posix_defs.specs.Process.{is_alive}
 use Rattle.kern_laws.proofs.Families.{reached_kept}
 use Rattle.kern_laws.proofs.Nexts.{IsNext, AnswerGoes, alive_is_there, answered_next, die_next, posix_goes, same_next}
@@ -23,7 +23,7 @@ use Rattle.kern_shared.specs.Laws.{ControlsStand, GivenUpOnce, HeldAreNotGivenUp
 use Rattle.kern_shared.proofs.Runs.{entries_run, given_before, given_behind}
 
 -- whose entry it is; a kill and an eviction are anybody's
-abbrev whose : Entry → ℕ → ℕ
+abbrev pub whose : Entry → ℕ → ℕ
 whose (entry.Done pid _ _) any = pid
 whose (entry.Part pid _ _) any = pid
 whose (entry.Refused pid _ _) any = pid
@@ -34,7 +34,7 @@ whose (entry.Killed _ _ _ _) any = any
 whose (entry.Evicted _) any = any
 
 -- how the machine goes on behind an entry
-goes : (script : Script) (past next : Past) (e : Entry) (any : ℕ) → length past.plain.table ≡ last_pid past.plain → MayFollow script past e next
+pub goes : (script : Script) (past next : Past) (e : Entry) (any : ℕ) → length past.plain.table ≡ last_pid past.plain → MayFollow script past e next
     → IsNext past.plain next.plain (whose e any)
 goes script past next (entry.Done pid _ reply) any made f = subst (λ p. IsNext past.plain p pid) (sym (ap (λ (p : Past). p.plain) f.leads))
     (subst (AnswerGoes past.plain pid) f.answers (posix_goes script past.plain pid (call_of script past.plain pid) made f.may_run.alive)).0
@@ -63,14 +63,14 @@ else_whose pid (entry.Gone other _) apart = other_pid pid other apart
 else_whose pid (entry.Killed _ _ _ _) apart = λ same. absurd (omega arith)
 else_whose pid (entry.Evicted _) apart = λ same. absurd (omega arith)
 
-made_in : (script : Script) (entries : List Entry) (past : Past) → IsRun script entries past → length past.plain.table ≡ last_pid past.plain
+pub made_in : (script : Script) (entries : List Entry) (past : Past) → IsRun script entries past → length past.plain.table ≡ last_pid past.plain
 made_in script entries past is_run = (reached_kept is_run).counted
 
 -- who is alive was made
-alive_made : (past : Past) (pid : ℕ) → length past.plain.table ≡ last_pid past.plain → is_alive past.plain.table pid ≡ true → (0 < pid) × (pid ≤ last_pid past.plain)
-alive_made past pid made alive =
-    let there = alive_is_there past.plain.table pid alive in
-    let within = was_made past.plain.table pid there.0 there.1 in
+pub alive_made : (plain : Plain) (pid : ℕ) → length plain.table ≡ last_pid plain → is_alive plain.table pid ≡ true → (0 < pid) × (pid ≤ last_pid plain)
+alive_made plain pid made alive =
+    let there = alive_is_there plain.table pid alive in
+    let within = was_made plain.table pid there.0 there.1 in
     (within.0, subst (λ n. pid ≤ n) made within.1)
 
 free_lives : (alive given asleep : Bool) → (alive && not given && not asleep) ≡ true → alive ≡ true
@@ -103,7 +103,7 @@ held_made script steps _ _ (goes_on items past next added before may) pid given 
     by_item rest (Given other) m h = ⊎_elim
         (λ (is : eqb other pid ≡ true).
         let free : is_free script items past pid ≡ true = subst (λ (k : ℕ). is_free script items past k ≡ true) (eqb-true other pid is) m.0.free in
-        at_next m.1 (alive_made past pid counted (free_lives (is_alive past.plain.table pid) (is_given pid items) (sleeps_on script items past pid) free)))
+        at_next m.1 (alive_made past.plain pid counted (free_lives (is_alive past.plain.table pid) (is_given pid items) (sleeps_on script items past pid) free)))
         (λ (apart : eqb other pid ≡ false). at_next m.1 (rest (sym (ap (λ (b : Bool). cond b b (is_given pid items)) apart) ∙ h)))
         (decide (eqb other pid))
     by_item rest (Back other) m h = at_next m.1 (rest (given_before (eqb other pid) (is_given pid items) h).1)

@@ -1,87 +1,48 @@
--- The kernel's value stands for what it stood for, with the entry of a held process behind it.
-use Rattle.std.proofs.Common.{◌≡◌, ℕ, ◌+◌, ◌<◌, ◌≤◌, ◌==◌, ◌&&◌, not, Bool, true, false, true≢false, cond, List, [], ◌∷◌, ◌++◌, length, refl, ap, sym, ◌∙◌, subst, arith, eq-eqb}
+-- The kernel's value stands for what it stood for, with an entry behind it.
+use Rattle.std.proofs.Common.{◌≡◌, ℕ, ◌+◌, ◌*◌, ◌<◌, ◌≤◌, ◌==◌, ◌&&◌, ◌||◌, not, Bool, true, false, true≢false, List, [], ◌∷◌, ◌++◌, length, refl, ap, sym, ◌∙◌, subst, arith}
 use Rattle.kabi_calls.specs.Call.{kind_of}
 use Rattle.kabi_calls.specs.declared.calls.Call.{Call}
 use Rattle.kabi_calls.specs.declared.calls.CallKind.{CallKind}
+use Rattle.kabi_types.specs.declared.entries.Cached.{Cached}
+use Rattle.kabi_types.specs.declared.entries.Cached.TheVariants.{Name, Block, Vnode}
+use Rattle.kabi_types.specs.declared.entries.Entry.TheVariants as entry
 use Rattle.kabi_types.specs.declared.scripts.Script.{Script}
-use Rattle.kabi_values.specs.declared.classes.Need.{Need}
+use Rattle.kabi_values.specs.Class.{size}
+use Rattle.kabi_values.specs.declared.errnos.Errno.TheVariants.{ENOMEM}
+use Rattle.kabi_values.specs.declared.replies.Reply.TheVariants.{Fail}
 use Rattle.posix_defs.specs.declared.turner.Turned.{Turned}
 use Rattle.posix_defs.specs.declared.turner.Turned.TheVariants as turned
-use Rattle.posix_defs.specs.Answer.{Answer, Blocked, Done, Part, Ended}
-use Rattle.posix_defs.specs.CoreEvent.{entry_of}
-use Rattle.posix_defs.specs.History.{Past, IsGone, MayFollow, MayRun, fills_after, had_turn, is_up, moves_on, others}
+use Rattle.posix_defs.specs.CoreEvent.{entry_of, refusal}
+use Rattle.posix_defs.specs.CoreState.{asked_by}
+use Rattle.posix_defs.specs.History.{Past, IsGone, MayFollow, moves_on, others}
 use Rattle.posix_defs.specs.Licence.{can_evict_any}
 use Rattle.posix_defs.specs.Machine.{machine}
 use Rattle.posix_defs.specs.Needs.{bound, need_of}
-use Rattle.posix_defs.specs.Plain.{Plain, call_of}
+use Rattle.posix_defs.specs.Plain.{Plain, answered, call_of}
 use Rattle.posix_defs.specs.Process.{is_alive}
+use Rattle.posix_defs.specs.Relief.{Evicts, refused_in}
 use Rattle.posix_defs.specs.Sizes.{reserve, room}
-use Rattle.posix_defs.specs.Turn.{Answers, Tells, TurnsWhere, account_after}
-use Rattle.posix_defs.specs.World.{Kept, World, MayKeep, live_of}
+use Rattle.posix_defs.specs.Turn.{Answers, Tells, TurnsTo, TurnsWhere, account_after}
+use Rattle.posix_defs.specs.World.{Kept, World, MayKeep, base, cached, can_evict, live_of}
+use Rattle.kern_laws.specs.Filled.{AreFilled}
+use Rattle.kern_laws.proofs.Caches.{SizesAfter, sizes_left}
+use Rattle.kern_laws.proofs.Followed.{TurnLeads, eviction_leads, filled_turn, kill_leads, killed_legal, past_evicted, past_killed, past_refused, refused_legal, turn_legal}
+use Rattle.kern_laws.proofs.LivingVictim.{victim_lives}
 use Rattle.charge_words.specs.Names.{ChargeWord, SeatState}
 use Rattle.turn_words.specs.declared.items.Item.{Item}
-use Rattle.turn_words.specs.declared.items.Item.TheVariants.{Noted, Quiet}
-use Rattle.turn_words.specs.Items.{is_given, is_own_entry, noted}
-use Rattle.turn_words.proofs.Held.{contrary, given_more}
-use Rattle.turn_words.proofs.Notes.{noted_more}
-use Rattle.kern_shared.specs.Shared.{MayNote, goes_on, has_starved, is_turn}
-use Rattle.kern_shared.specs.Shares.{AreFilled, IsTold, KernelValue, Shares, StandsBehindGone, StandsBehindTurn, with_entry}
-use Rattle.kern_shared.proofs.Keeping.{before_starved, last_more, once_filtered, others_among, starved_same}
+use Rattle.turn_words.specs.declared.items.Item.TheVariants.{Cleared, Noted}
+use Rattle.turn_words.specs.Items.{is_given, is_own_entry}
+use Rattle.turn_words.proofs.Held.{contrary, not_true}
+use Rattle.kern_shared.specs.Shared.{MayNote, MayShare, has_starved, is_turn}
+use Rattle.kern_shared.specs.Shares.{ArePresent, KernelValue, NothingBefore, Shares, StandsBehindCleared, StandsBehindGone, StandsBehindKilled, StandsBehindRefused, StandsBehindTurn, class_of, killed_for, with_entry}
+use Rattle.kern_shared.proofs.Behind.{behind, starved_same}
+use Rattle.kern_shared.proofs.Holding.{held_less, held_still}
+use Rattle.kern_shared.proofs.Keeping.{before_starved}
+use Rattle.kern_shared.proofs.Presence.{present_gone, present_still}
 use Rattle.kern_shared.proofs.Runs.{held_up}
 use Rattle.kern_shared.proofs.Standing.{held_made, held_not_gone}
-use Rattle.kern_shared.proofs.Starving.{starved_stands}
-
--- where a turn leads a history: the entry that it tells may follow, and the machine, its account and what was filled go along
-record Leads (script : Script) (past : Past) (pid : ℕ) (told : Turned) (new : Plain) : Type 0 where
-  next : Past
-  follows : MayFollow script past (entry_of pid (kind_of (call_of script past.plain pid)) told) next
-  plain : next.plain ≡ new
-  account : next.account ≡ account_after past.account past.plain pid (call_of script past.plain pid) (machine script past.plain pid (call_of script past.plain pid))
-  filled : next.filled ≡ fills_after past.filled (need_of (call_of script past.plain pid))
-  evicted : next.evicted ≡ past.evicted
-
--- the history behind an answer
-abbrev led : Script → Past → ℕ → Plain → Answer → List ℕ → Past
-led script past pid plain answer sleepers =
-    moves_on script (had_turn past (call_of script past.plain pid)) plain (account_after past.account past.plain pid (call_of script past.plain pid) answer) sleepers
-
-turn_leads : (script : Script) (past : Past) (pid : ℕ) (told : Turned) (new : Plain) → is_alive past.plain.table pid ≡ true → is_up past pid ≡ true
-    → bound (call_of script past.plain pid) ≤ room script.heap
-    → Tells (machine script past.plain pid (call_of script past.plain pid)) past.plain told new → Leads script past pid told new
-turn_leads script past pid told new alive up fits tells = by_answer (machine script past.plain pid (call_of script past.plain pid)) refl tells
-  where
-    may_run : MayRun script past pid (kind_of (call_of script past.plain pid))
-    may_run = record { alive = alive; of_kind = refl; fits_ever = fits }
-
-    lead : (answer : Answer) (plain : Plain) (sleepers : List ℕ) (turn : Turned) → machine script past.plain pid (call_of script past.plain pid) ≡ answer
-        → told ≡ turn → new ≡ plain → MayFollow script past (entry_of pid (kind_of (call_of script past.plain pid)) turn) (led script past pid plain answer sleepers)
-        → Leads script past pid told new
-    lead answer plain sleepers turn is tell goes follows = record {
-      next = led script past pid plain answer sleepers;
-      follows = subst (λ t. MayFollow script past (entry_of pid (kind_of (call_of script past.plain pid)) t) (led script past pid plain answer sleepers)) (sym tell) follows;
-      plain = sym goes;
-      account = ap (account_after past.account past.plain pid (call_of script past.plain pid)) (sym is);
-      filled = refl;
-      evicted = refl;
-    }
-
-    by_answer : (answer : Answer) → machine script past.plain pid (call_of script past.plain pid) ≡ answer → Tells answer past.plain told new → Leads script past pid told new
-    by_answer Blocked is t = lead Blocked past.plain (pid ∷ past.asleep) turned.Sleep is t.0 t.1 (record { may_run = may_run; up = up; blocked = is; leads = refl })
-    by_answer (Done reply plain) is t =
-        lead (Done reply plain) plain (others pid past.asleep) (turned.Done reply) is t.0 t.1 (record { may_run = may_run; plain = plain; answers = is; leads = refl })
-    by_answer (Part moved plain) is t =
-        lead (Part moved plain) plain (pid ∷ others pid past.asleep) (turned.Part moved) is t.0 t.1 (record { may_run = may_run; plain = plain; answers = is; leads = refl })
-    by_answer (Ended status plain) is t =
-        lead (Ended status plain) plain (others pid past.asleep) (turned.Ended status) is t.0 t.1 (record { may_run = may_run; plain = plain; answers = is; leads = refl })
 
 -- the entry is of the process, which is held
-told_own : (pid : ℕ) (which : CallKind) (told : Turned) → is_own_entry pid (entry_of pid which told) ≡ true
-told_own pid which (turned.Done _) = eq-eqb pid pid refl
-told_own pid which (turned.Part _) = eq-eqb pid pid refl
-told_own pid which turned.Sleep = eq-eqb pid pid refl
-told_own pid which (turned.Ended _) = eq-eqb pid pid refl
-told_own pid which turned.Gone = eq-eqb pid pid refl
-
 told_by_held : (items : List Item) (past : Past) (pid : ℕ) (which : CallKind) (told : Turned) → is_given pid items ≡ true → MayNote items past (entry_of pid which told)
 told_by_held items past pid which (turned.Done _) is_held = is_held
 told_by_held items past pid which (turned.Part _) is_held = is_held
@@ -97,62 +58,84 @@ only_own pid other which turned.Sleep = refl
 only_own pid other which (turned.Ended _) = refl
 only_own pid other which turned.Gone = refl
 
--- a turn fills no more than it needs
-filled_more : (past next : Past) (old new : Kept) (need : Need) → AreFilled old past → next.filled ≡ fills_after past.filled need → next.evicted ≡ past.evicted
-    → length new.names ≤ length old.names + need.name → length new.blocks ≤ length old.blocks + need.block → length new.vnodes ≤ length old.vnodes + need.vnode
-    → AreFilled new next
-filled_more past next old new need filled more same names blocks vnodes =
-    let fn : next.filled.names ≡ past.filled.names + need.name = ap (λ f. f.names) more in
-    let fb : next.filled.blocks ≡ past.filled.blocks + need.block = ap (λ f. f.blocks) more in
-    let fv : next.filled.vnodes ≡ past.filled.vnodes + need.vnode = ap (λ f. f.vnodes) more in
-    let en : next.evicted.names ≡ past.evicted.names = ap (λ f. f.names) same in
-    let eb : next.evicted.blocks ≡ past.evicted.blocks = ap (λ f. f.blocks) same in
-    let ev : next.evicted.vnodes ≡ past.evicted.vnodes = ap (λ f. f.vnodes) same in
-    record { names = omega (arith, filled.names); blocks = omega (arith, filled.blocks); vnodes = omega (arith, filled.vnodes) }
+-- the objects of one cache more, in bytes
+one_more_cached : (old new : Kept) (what : Cached) → SizesAfter old what new → cached new + size (class_of what) ≡ cached old
+one_more_cached old new Name sizes = omega (arith, sizes.0, sizes.1, sizes.2)
+one_more_cached old new Block sizes = omega (arith, sizes.0, sizes.1, sizes.2)
+one_more_cached old new Vnode sizes = omega (arith, sizes.0, sizes.1, sizes.2)
+
+-- an eviction frees an object of its class
+frees_one : (old : World) (what : Cached) (new : World) → Evicts old what new → live_of new + size (class_of what) ≡ live_of old
+frees_one old what new evicts =
+    let same : base new.plain new.account ≡ base old.plain old.account = ap (λ p. base p new.account) evicts.plain ∙ ap (base old.plain) evicts.account in
+    let less : cached new.kept + size (class_of what) ≡ cached old.kept =
+    one_more_cached old.kept new.kept what (sizes_left old.plain old.kept what new.kept evicts.kept) in
+    omega (arith, same, less)
+
+-- and leaves those that were emptied before
+still_before : (old : World) (what : Cached) (new : World) → Evicts old what new → NothingBefore old what → NothingBefore new what
+still_before old Name new evicts before = tt
+still_before old Block new evicts before = ap (λ k. not (length k.names == 0)) evicts.kept.2 ∙ before
+still_before old Vnode new evicts before = (ap (λ k. not (length k.names == 0)) evicts.kept.3 ∙ before.0, ap (λ k. not (length k.blocks == 0)) evicts.kept.3 ∙ before.1)
+
+-- nothing can be evicted where no cache can lose something
+not_that : (world : World) (what : Cached) → can_evict world.plain world.kept what ≡ true → can_evict_any world ≡ false → ⊥
+not_that world what can none = by_cache what can
+  where
+    three : (a b c : Bool) → (a || b || c) ≡ false → (a ≡ false) × (b ≡ false) × (c ≡ false)
+    three true b c h = absurd (true≢false h)
+    three false true c h = absurd (true≢false h)
+    three false false c h = (refl, refl, h)
+
+    of_all : (can_evict world.plain world.kept Name ≡ false) × (can_evict world.plain world.kept Block ≡ false) × (can_evict world.plain world.kept Vnode ≡ false)
+    of_all = three (can_evict world.plain world.kept Name) (can_evict world.plain world.kept Block) (can_evict world.plain world.kept Vnode) none
+
+    by_cache : (w : Cached) → can_evict world.plain world.kept w ≡ true → ⊥
+    by_cache Name is = contrary (can_evict world.plain world.kept Name) is of_all.0
+    by_cache Block is = contrary (can_evict world.plain world.kept Block) is of_all.1
+    by_cache Vnode is = contrary (can_evict world.plain world.kept Vnode) is of_all.2
 
 module _ {T : Type 0} (stands_for : T → World → Type 0) (script_of : T → Script) where
-  -- an entry that a turn or a Gone tells, and what the store and its seat are then
-  behind_entry : (script : Script) (steps : ℕ) (charge : ChargeWord) (value : KernelValue T) (items : List Item) (s : Shares stands_for script_of script steps charge value items)
-      (store : T) (seat : SeatState) (after : World) (next : Past) (pid : ℕ) (told : Turned) (which : CallKind) → length value.history < steps → is_given pid items ≡ true
-      → MayFollow script s.past (entry_of pid which told) next
+  -- an entry of a turn or of a Gone, and what the store, its seat and who is live are then
+  behind_told : (script : Script) (steps : ℕ) (charge : ChargeWord) (value : KernelValue T) (items : List Item) (s : Shares stands_for script_of script steps charge value items)
+      (store : T) (seat : SeatState) (awake dozing : List ℕ) (after : World) (next : Past) (pid : ℕ) (told : Turned) (which : CallKind)
+      → length value.history < steps → is_given pid items ≡ true → MayFollow script s.past (entry_of pid which told) next
       → (is_turn (Noted (entry_of pid which told)) ≡ true → has_starved items ≡ false)
       → script_of store ≡ script → stands_for store after → after.plain ≡ next.plain → after.account ≡ next.account → MayKeep after.plain after.kept → AreFilled after.kept next
+      → ArePresent after.plain awake dozing (value.history ++ entry_of pid which told ∷ [])
       → (has_starved items ≡ true → can_evict_any after ≡ false)
       → seat.charge ≡ charge → seat.known.is_boot ≡ true → seat.known.holds ≡ live_of after + reserve
-      → Shares stands_for script_of script steps charge (record (with_entry value pid (entry_of pid which told)) { store = store; seat = seat }) (items ++ Noted (entry_of pid which told) ∷ [])
-  behind_entry script steps charge value items s store seat after next pid told which below is_held follows turns named stands plain account may_keep filled bare of_charge boot holds =
+      → Shares stands_for script_of script steps charge (record (with_entry value pid (entry_of pid which told)) { store = store; seat = seat; awake = awake; dozing = dozing })
+      (items ++ Noted (entry_of pid which told) ∷ [])
+  behind_told script steps charge value items s store seat awake dozing after next pid told which below is_held follows turns named stands plain account may_keep filled
+      present bare of_charge boot holds =
       let e = entry_of pid which told in
-      let few : length (noted items) < steps = subst (λ l. length l < steps) s.history below in
-      record {
-        past = next;
+      let may : MayShare script steps items s.past (Noted e) next =
+      (subst (λ l. length l < steps) s.history below, told_by_held items s.past pid which told is_held, follows) in
+      behind stands_for script_of script steps charge value (record (with_entry value pid e) { store = store; seat = seat; awake = awake; dozing = dozing }) items s (Noted e) (record {
+        next = next;
         world = after;
-        shared = goes_on items s.past next (Noted e) s.shared (few, told_by_held items s.past pid which told is_held, follows);
+        may = may;
+        turns = turns;
         named = named;
         stands = stands;
         plain = plain;
         account = account;
         may_keep = may_keep;
         filled = filled;
-        history = ap (λ l. l ++ e ∷ []) s.history ∙ sym (noted_more items (Noted e));
-        held = λ other. others_among pid value.held other ∙ ap (λ (b : Bool). not (pid == other) && b) (s.held other)
-            ∙ taken (pid == other) (is_given other items)
-            ∙ ap (λ (b : Bool). cond b false (is_given other items)) (sym (only_own pid other which told)) ∙ sym (given_more other false items (Noted e));
-        once = once_filtered (λ other. not (other == pid)) value.held s.once;
+        history = refl;
+        held = held_less script steps items s.past next (Noted e) value.held pid s.shared may (λ other. only_own pid other which told) (λ other. refl) s.held;
+        present = subst (λ p. ArePresent p awake dozing (value.history ++ e ∷ [])) plain present;
         starved = s.starved ∙ sym (starved_same items (Noted e) refl);
-        still = starved_stands script steps items s.past next (Noted e) s.shared (few, told_by_held items s.past pid which told is_held, follows) turns s.still;
         bare = λ starved. bare (sym (starved_same items (Noted e) refl) ∙ starved);
-        told = subst (λ y. IsTold after y) (sym (last_more Quiet items (Noted e))) tt;
+        told = tt;
         of_charge = of_charge;
         boot = boot;
         holds = holds;
-        heap = s.heap;
-        entry_room = s.entry_room;
-        held_room = s.held_room;
-      }
-    where
-      taken : (b g : Bool) → (not b && g) ≡ cond b false g
-      taken true g = refl
-      taken false g = refl
+        limit = refl;
+        same_heap = refl;
+        room = s.room;
+      })
 
   pub behind_gone : StandsBehindGone stands_for script_of
   behind_gone script steps charge value items s pid below is_held ended =
@@ -165,16 +148,29 @@ module _ {T : Type 0} (stands_for : T → World → Type 0) (script_of : T → S
         of_kind = refl;
         leads = refl;
       } in
-      behind_entry script steps charge value items s value.store value.seat s.world next pid turned.Gone which below is_held gone
+      behind_told script steps charge value items s value.store value.seat value.awake value.dozing s.world next pid turned.Gone which below is_held gone
       (λ turn. absurd (true≢false (sym turn))) s.named s.stands s.plain s.account s.may_keep
-      (record { names = s.filled.names; blocks = s.filled.blocks; vnodes = s.filled.vnodes }) s.bare s.of_charge s.boot s.holds
+      (record { names = s.filled.names; blocks = s.filled.blocks; vnodes = s.filled.vnodes })
+      (subst (λ p. ArePresent p value.awake value.dozing (value.history ++ entry.Gone pid which ∷ [])) (sym s.plain) (present_gone s.past.plain value.awake value.dozing value.history pid which ended s.present))
+      s.bare s.of_charge s.boot s.holds
+
+  -- where a turn of a held live process's call leads the value's history
+  pub turn_of : (script : Script) (steps : ℕ) (charge : ChargeWord) (value : KernelValue T) (items : List Item) (s : Shares stands_for script_of script steps charge value items)
+      (after : World) (pid : ℕ) (told : Turned) → is_given pid items ≡ true → is_alive s.past.plain.table pid ≡ true → bound (call_of script s.past.plain pid) ≤ room script.heap
+      → TurnsTo script s.world pid (call_of script s.past.plain pid) told after → TurnLeads script s.past pid told after.plain
+  turn_of script steps charge value items s after pid told is_held alive fits turns =
+      let lives : is_alive s.world.plain.table pid ≡ true = subst (λ (p : Plain). is_alive p.table pid ≡ true) (sym s.plain) alive in
+      let answers : Answers script s.world pid (call_of script s.past.plain pid) told after =
+      subst (λ b. TurnsWhere b script s.world pid (call_of script s.past.plain pid) told after) lives turns in
+      turn_legal script s.past pid told after.plain alive (held_up script steps items s.past s.shared pid is_held) fits
+      (subst (λ p. Tells (machine script p pid (call_of script s.past.plain pid)) p told after.plain) s.plain answers.answer)
 
   pub behind_turn : StandsBehindTurn stands_for script_of
-  behind_turn script steps charge value items s store seat after pid told below is_held alive fits reserved named stands turns of_charge boot holds =
-      behind_entry script steps charge value items s store seat after leads.next pid told (kind_of call) below is_held leads.follows (λ _. none)
-      named stands (sym leads.plain) account answers.may_keep
-      (filled_more s.past leads.next s.world.kept after.kept (need_of call) s.filled leads.filled leads.evicted answers.names answers.blocks answers.vnodes)
-      (λ starved. contrary (has_starved items) starved none) of_charge boot holds
+  behind_turn script steps charge value items s store seat awake dozing after pid told below is_held alive fits reserved named stands turns of_charge boot holds present =
+      behind_told script steps charge value items s store seat awake dozing after leads.next pid told (kind_of call) below is_held leads.follows (λ _. none)
+      named stands (sym leads.plain_is) account answers.may_keep
+      (filled_turn s.past leads.next s.world.kept after.kept (need_of call) s.filled leads.filled leads.evicted answers.names answers.blocks answers.vnodes)
+      present (λ starved. contrary (has_starved items) starved none) of_charge boot holds
     where
       call : Call
       call = call_of script s.past.plain pid
@@ -188,12 +184,119 @@ module _ {T : Type 0} (stands_for : T → World → Type 0) (script_of : T → S
       none : has_starved items ≡ false
       none = sym s.starved ∙ before_starved stands_for script_of script steps charge value items s pid alive reserved
 
-      leads : Leads script s.past pid told after.plain
-      leads = turn_leads script s.past pid told after.plain alive (held_up script steps items s.past s.shared pid is_held) fits
-          (subst (λ p. Tells (machine script p pid (call_of script s.past.plain pid)) p told after.plain) s.plain answers.answer)
+      leads : TurnLeads script s.past pid told after.plain
+      leads = turn_of script steps charge value items s after pid told is_held alive fits turns
 
       account : after.account ≡ leads.next.account
       account = answers.account
           ∙ ap (λ a. account_after a s.world.plain pid (call_of script s.past.plain pid) (machine script s.world.plain pid (call_of script s.past.plain pid))) s.account
           ∙ ap (λ p. account_after s.past.account p pid (call_of script s.past.plain pid) (machine script p pid (call_of script s.past.plain pid))) s.plain
-          ∙ sym leads.account
+          ∙ sym leads.account_is
+
+  pub behind_refused : StandsBehindRefused stands_for script_of
+  behind_refused script steps charge value items s store awake dozing pid below is_held alive never named stands present =
+      let e = refusal pid (asked_by script s.past.plain pid) in
+      let next = past_refused script s.past pid in
+      let may : MayShare script steps items s.past (Noted e) next =
+      (subst (λ l. length l < steps) s.history below, is_held, refused_legal script s.past pid alive never) in
+      let plain : (refused_in script s.world pid).plain ≡ next.plain = ap (λ p. answered script p pid (Fail ENOMEM)) s.plain in
+      behind stands_for script_of script steps charge value (record (with_entry value pid e) { store = store; awake = awake; dozing = dozing }) items s (Noted e) (record {
+        next = next;
+        world = refused_in script s.world pid;
+        may = may;
+        turns = λ turn. absurd (true≢false (sym turn));
+        named = named;
+        stands = stands;
+        plain = plain;
+        account = s.account;
+        may_keep = record {
+          names = s.may_keep.names;
+          blocks = s.may_keep.blocks;
+          vnodes = s.may_keep.vnodes;
+          pinned = s.may_keep.pinned;
+          true_names = s.may_keep.true_names;
+          on_disk = s.may_keep.on_disk;
+          in_use = s.may_keep.in_use;
+        };
+        filled = record { names = s.filled.names; blocks = s.filled.blocks; vnodes = s.filled.vnodes };
+        history = refl;
+        held = held_less script steps items s.past next (Noted e) value.held pid s.shared may (λ other. refl) (λ other. refl) s.held;
+        present = subst (λ p. ArePresent p awake dozing (value.history ++ e ∷ [])) plain present;
+        starved = s.starved ∙ sym (starved_same items (Noted e) refl);
+        bare = λ starved. s.bare (sym (starved_same items (Noted e) refl) ∙ starved);
+        told = tt;
+        of_charge = s.of_charge;
+        boot = s.boot;
+        holds = s.holds;
+        limit = refl;
+        same_heap = refl;
+        room = s.room;
+      })
+
+  pub behind_killed : StandsBehindKilled stands_for script_of
+  behind_killed script steps charge value items s store seat awake dozing after pid waiter below is_held alive fits full bare victim named stands kills of_charge boot holds present =
+      let e = killed_for script s.past s.world pid waiter in
+      let next = past_killed script s.past pid in
+      let follows : MayFollow script s.past e next =
+      killed_legal script s.past s.world pid waiter s.plain s.account s.may_keep bare victim alive (held_up script steps items s.past s.shared waiter is_held) fits
+      (subst (λ n. script.heap < n + bound (call_of script s.past.plain waiter)) s.holds full) in
+      let may : MayShare script steps items s.past (Noted e) next = (subst (λ l. length l < steps) s.history below, (waiter, is_held, alive), follows) in
+      let leads = kill_leads script s.past s.world pid after (sym s.plain) (sym s.account) s.filled kills in
+      let lives = victim_lives script.policy s.past.plain s.past.account pid victim in
+      let none : has_starved items ≡ false = not_true (has_starved items) (λ starved. lives.1 ((s.still starved).alone pid lives.0)) in
+      behind stands_for script_of script steps charge value
+      (record value { history = value.history ++ e ∷ []; store = store; seat = seat; awake = awake; dozing = dozing }) items s (Noted e) (record {
+        next = next;
+        world = after;
+        may = may;
+        turns = λ turn. absurd (true≢false (sym turn));
+        named = named;
+        stands = stands;
+        plain = sym leads.plain_is;
+        account = sym leads.account_is;
+        may_keep = kills.may_keep;
+        filled = leads.filled;
+        history = refl;
+        held = held_still script steps items s.past next (Noted e) value.held s.shared may (λ other. refl) s.held;
+        present = subst (λ p. ArePresent p awake dozing (value.history ++ e ∷ [])) (sym leads.plain_is) present;
+        starved = s.starved ∙ sym (starved_same items (Noted e) refl);
+        bare = λ starved. contrary (has_starved items) (sym (starved_same items (Noted e) refl) ∙ starved) none;
+        told = tt;
+        of_charge = of_charge;
+        boot = boot;
+        holds = holds;
+        limit = refl;
+        same_heap = refl;
+        room = s.room;
+      })
+
+  pub behind_cleared : StandsBehindCleared stands_for script_of
+  behind_cleared script steps charge value items s store seat after what below live_held before can named stands evicts of_charge boot holds =
+      let x = Cleared what (live_of s.world) in
+      let next = past_evicted script s.past what in
+      let leads = eviction_leads script s.past s.world what after s.may_keep s.filled evicts in
+      let may : MayShare script steps items s.past x next = (subst (λ l. length l < steps) s.history below, live_held, leads.follows) in
+      behind stands_for script_of script steps charge value (record value { history = value.history ++ entry.Evicted what ∷ []; store = store; seat = seat }) items s x (record {
+        next = next;
+        world = after;
+        may = may;
+        turns = λ turn. absurd (true≢false (sym turn));
+        named = named;
+        stands = stands;
+        plain = evicts.plain ∙ s.plain;
+        account = evicts.account ∙ s.account;
+        may_keep = leads.may_keep;
+        filled = leads.filled;
+        history = refl;
+        held = held_still script steps items s.past next x value.held s.shared may (λ other. refl) s.held;
+        present = present_still s.past.plain value.awake value.dozing value.history (entry.Evicted what) (λ pid. refl) s.present;
+        starved = s.starved ∙ sym (starved_same items x refl);
+        bare = λ starved. absurd (not_that s.world what can (s.bare (sym (starved_same items x refl) ∙ starved)));
+        told = (frees_one s.world what after evicts, still_before s.world what after evicts before);
+        of_charge = of_charge;
+        boot = boot;
+        holds = holds;
+        limit = refl;
+        same_heap = refl;
+        room = s.room;
+      })

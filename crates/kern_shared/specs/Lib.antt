@@ -1,3 +1,6 @@
+pub mod Attends
 pub mod Laws
+pub mod Lists
+pub mod Picks
 pub mod Shared
 pub mod Shares

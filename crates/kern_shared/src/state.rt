@@ -8,12 +8,19 @@ ghost use Rattle.turn_words.specs.declared.items.Item.TheVariants.{Back};
 ghost use Rattle.turn_words.specs.Items.{is_given};
 ghost use Rattle.kern_shared.specs.Shares.{Shares};
 
+use crate::Held;
 use charge_words::ChargeSeat;
 use kabi_types::{Entry, Memory};
 use posix_defs::Turner;
 use std::alloc::Global;
 use std::marker::PhantomData;
 use turn_words::Chronicle;
+
+/// What is charged at boot, in bytes.
+pub(crate) const FIXED: u64 = 2816;
+
+/// Two blocks, which closing and ending may always use, in bytes.
+pub(crate) const RESERVE: u64 = 2176;
 
 /// The names of one run. They stand in proofs alone: what is known of a value that passes share is said by them.
 pub trait RunName {
@@ -31,15 +38,20 @@ pub trait RunName {
     ghost charge: { ChargeWord };
 }
 
-/// What the passes of a kernel share: the store with the charge seat of its live bytes, the entries so far, the processes that
-/// passes hold, and whether Starved was answered.
+/// What the passes of a kernel share: the store with the charge seat of its live bytes, how many entries there may be, the
+/// heap, the entries so far, the processes that passes hold, the live processes that don't doze and those that do, and whether Starved
+/// was answered.
 #[derive(Drop)]
 pub struct KernelState<T: Turner + Drop, L: RunName> {
-    store: T,
-    seat: ChargeSeat,
-    history: Vec<Entry>,
-    held: Vec<u32>,
-    starved: bool,
+    pub(crate) store: T,
+    pub(crate) seat: ChargeSeat,
+    pub(crate) steps: u32,
+    pub(crate) heap: u64,
+    pub(crate) history: Vec<Entry>,
+    pub(crate) held: Vec<Held>,
+    pub(crate) awake: Vec<u32>,
+    pub(crate) dozing: Vec<u32>,
+    pub(crate) starved: bool,
     run: PhantomData<L>,
 }
 
@@ -50,11 +62,17 @@ impl<T: Turner + Drop, L: RunName> Chronicle for KernelState<T, L> {
     ghost stands = { λ state items. Shares T.stands T.script L.script L.steps L.charge (record {
       store = state.store;
       seat = state.seat;
+      steps = state.steps;
+      heap = state.heap;
       history = state.history.items;
       held = state.held.items;
+      awake = state.awake.items;
+      dozing = state.dozing.items;
       starved = state.starved;
       entry_room = vec_capacity state.history;
       held_room = vec_capacity state.held;
+      awake_room = vec_capacity state.awake;
+      dozing_room = vec_capacity state.dozing;
     }) items };
 }
 
@@ -64,24 +82,33 @@ impl<T: Turner + Drop, L: RunName> KernelState<T, L> {
         alloc: Global,
         store: T,
         steps: u32,
+        heap: u64,
         seat: ChargeSeat,
     ) -> Result<KernelState<T, L>, Memory>
         requires booted { T.stands store (boot_world (T.script store)) }
         requires script { L.script ≡ T.script store }
         requires steps { L.steps ≡ steps }
         requires charge { L.charge ≡ seat.charge }
-        requires heap { seat.charge.heap ≡ (T.script store).heap }
+        requires heap { heap ≡ (T.script store).heap }
+        requires word { seat.charge.heap ≡ (T.script store).heap }
         requires boot { seat.known.is_boot ≡ true }
         requires holds { seat.known.holds ≡ fixed }
         ensures { IfOk result (λ state. ⟦<KernelState<T, L> as Chronicle>⟧.stands state []) }
     {
         let history = Vec::with_capacity(alloc, steps as usize)?;
         let held = Vec::with_capacity(alloc, steps as usize + 1)?;
+        let mut awake = Vec::with_capacity(alloc, steps as usize + 2)?;
+        let dozing = Vec::with_capacity(alloc, steps as usize + 2)?;
+        awake.push_reserved(1);
         Ok(KernelState {
             store,
             seat,
+            steps,
+            heap,
             history,
             held,
+            awake,
+            dozing,
             starved: false,
             run: PhantomData,
         })
@@ -92,6 +119,6 @@ impl<T: Turner + Drop, L: RunName> KernelState<T, L> {
         ensures { (items : List Item) → ⟦<KernelState<T, L> as Chronicle>⟧.stands self.old items → is_given pid items ≡ true
             → ⟦<KernelState<T, L> as Chronicle>⟧.stands self.new (items ++ Back pid ∷ []) }
     {
-        self.held.retain(|other| *other != pid);
+        self.held.retain(|other| other.pid != pid);
     }
 }

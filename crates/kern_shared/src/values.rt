@@ -1,5 +1,5 @@
 //! Laws of the value that a shared kernel keeps, over any store. Each is the contract of a function that does nothing.
-ghost use Rattle.kern_shared.specs.Shares.{FewAreHeld, ReservedBeforeStarved, StandsAtBoot, StandsBehindBack, StandsBehindGiven, StandsBehindGone, StandsBehindLive, StandsBehindStarved, StandsBehindTurn};
+ghost use Rattle.kern_shared.specs.Shares.{FewAreHeld, ReservedBeforeStarved, StandsAtBoot, StandsBehindBack, StandsBehindCleared, StandsBehindGiven, StandsBehindGone, StandsBehindKilled, StandsBehindLive, StandsBehindRefused, StandsBehindStarved, StandsBehindTurn};
 
 use posix_defs::Turner;
 
@@ -18,10 +18,19 @@ pub fn an_item_without_an_entry_leaves_the_store<T: Turner>()
 {}
 
 /// A value that stands for some items stands for them with the entry of a held process behind them: the Gone of one that has
-/// ended, and that of a live one's turn, once the store has made it and the value's seat holds what is live then.
+/// ended, that of a live one's turn, once the store has made it and the value's seat holds what is live then, and the refusal
+/// of a call that the heap can never give.
 pub fn an_entry_of_a_held_process_is_kept<T: Turner>()
     ensures gone { StandsBehindGone T.stands T.script }
     ensures turned { StandsBehindTurn T.stands T.script }
+    ensures refused { StandsBehindRefused T.stands T.script }
+{}
+
+/// And with an eviction or a kill behind them, where a live process is held: an eviction from the first cache that can lose
+/// something, or with nothing left to evict the victim's end, for a call that the heap might give but has no room for.
+pub fn what_frees_heap_is_kept<T: Turner>()
+    ensures cleared { StandsBehindCleared T.stands T.script }
+    ensures killed { StandsBehindKilled T.stands T.script }
 {}
 
 /// Where what the value's seat holds and the bound of a live process's call lie within the heap together, as they do at a turn

@@ -1,13 +1,8 @@
 -- A turn that ends nobody leaves all tasks.
-use Rattle.std.proofs.Common.{◌≡◌, ℕ, suc, ◌+◌, ℤ, pos, not, ◌||◌, Bool, true, false, cond, List, [], ◌∷◌, filter, map, length, Option, None, Some, refl, ap, sym, ◌∙◌, subst, arith}
+use Rattle.std.proofs.Common.{◌≡◌, ℕ, not, ◌||◌, Bool, true, false, cond, List, [], ◌∷◌, filter, map, refl, ap, sym, ◌∙◌, subst}
 use Rattle.std.specs.List.{AllByRecursion}
-use Rattle.kabi_calls.specs.Arguments.{argument_fault, count_of}
 use Rattle.kabi_calls.specs.Call.{kind_of}
 use Rattle.kabi_calls.specs.declared.calls.Call.{Call}
-use Rattle.kabi_calls.specs.declared.calls.Call.TheVariants as call
-use Rattle.kabi_values.specs.declared.errnos.Errno.{Errno}
-use Rattle.kabi_values.specs.declared.errnos.Errno.TheVariants.{EAGAIN, ECHILD, EFAULT}
-use Rattle.kabi_values.specs.declared.replies.Reply.TheVariants.{Bytes, Val}
 use Rattle.kabi_types.specs.declared.scripts.Script.{Script}
 use Rattle.posix_defs.specs.declared.phases.Asked.{Asked}
 use Rattle.posix_defs.specs.declared.phases.Phase.{Phase}
@@ -15,25 +10,25 @@ use Rattle.posix_defs.specs.declared.phases.Phase.TheVariants.{User, Waiting, Ad
 use Rattle.posix_defs.specs.declared.phases.Task.{Task}
 use Rattle.posix_defs.specs.declared.turner.Turned.{Turned}
 use Rattle.posix_defs.specs.declared.turner.Turned.TheVariants as turned
-use Rattle.posix_defs.specs.Process.{is_alive, memory_of, process_at}
-use Rattle.posix_defs.specs.Memory.{is_mapped_range, loaded, lowest_run, stored}
-use Rattle.posix_defs.specs.MemoryCalls.{mapped_from, remembered}
-use Rattle.posix_defs.specs.Needs.{pages_in}
-use Rattle.posix_defs.specs.Plain.{Plain, last_pid}
+use Rattle.posix_defs.specs.Process.{is_alive, process_at}
+use Rattle.posix_defs.specs.Memory.{no_memory}
+use Rattle.posix_defs.specs.Plain.{Plain}
 use Rattle.posix_defs.specs.Answer.{Answer, Blocked, Done, Part, failed, replied}
 use Rattle.posix_defs.specs.Answer as answer
-use Rattle.posix_defs.specs.Forking.{child_of, is_full, with_child}
-use Rattle.posix_defs.specs.Waiting.{Exited, any_from, exited_from, is_nohang, not_yet, waited_for}
-use Rattle.posix_defs.specs.Machine.{answer_to, machine, unless_wrong}
+use Rattle.posix_defs.specs.Forking.{child_of}
+use Rattle.posix_defs.specs.Machine.{machine}
 use Rattle.posix_defs.specs.World.{World}
 use Rattle.posix_defs.specs.Turn.{Answers, Tells, TurnsTo, TurnsWhere}
 use Rattle.posix_defs.specs.CoreState.{CoreState, asked_by, next_call, with_phase_in}
 use Rattle.posix_defs.specs.CoreEvent.{bury, buried, is_dead, phase_after, stranded}
 use Rattle.posix_defs.specs.Enabled.{IsIn}
 use Rattle.posix_defs.specs.SoundTasks.{IsSound, PhaseFits, TaskFits}
-use Rattle.kern_laws.proofs.Families.{exited_has_ended, still_alive}
+use Rattle.answer_laws.specs.Shapes as shape
+use Rattle.answer_laws.specs.Shapes.{HasShape}
+use Rattle.answer_laws.proofs.Built.{machine_shape}
+use Rattle.kern_laws.proofs.Families.{still_alive}
 use Rattle.kern_laws.proofs.Nexts.{reaped_keeps}
-use Rattle.kern_laws.proofs.Remembering.{alive_still}
+use Rattle.kern_laws.proofs.Remembering.{alive_still, alive_working}
 use Rattle.kern_laws.proofs.Tasks.{each_with, found_fits}
 use Rattle.kern_tasks.specs.Calm.{is_kill, is_over, may_end}
 
@@ -44,52 +39,27 @@ Stays plain (Done reply next) = (other : ℕ) → is_alive plain.table other ≡
 Stays plain (Part moved next) = (other : ℕ) → is_alive plain.table other ≡ true → is_alive next.table other ≡ true
 Stays plain (answer.Ended status next) = Unit {0}
 
-either_stays : (plain : Plain) (b : Bool) (one other : Answer) → Stays plain one → Stays plain other → Stays plain (cond b one other)
-either_stays plain true one other this that = this
-either_stays plain false one other this that = that
-
-waits_stay : (script : Script) (plain : Plain) (pid : ℕ) (which options : ℤ) → (o : Option Exited) → exited_from pid which 1 plain.table ≡ o
-    → Stays plain (waited_for script plain pid which options o)
-waits_stay script plain pid which options None e =
-    either_stays plain (any_from pid which 1 plain.table) (not_yet script plain pid options) (failed script plain pid ECHILD)
-    (either_stays plain (is_nohang options) (replied script plain pid (Val (pos 0))) Blocked (λ other alive. alive) tt) (λ other alive. alive)
-waits_stay script plain pid which options (Some exited) e =
-    let found = exited_has_ended pid which 1 plain.table exited e in
-    let place : exited.pid ≡ suc found.0 = (let at : exited.pid ≡ 1 + found.0 = found.1 in omega arith) in
-    let ended : is_alive plain.table exited.pid ≡ false = ap (is_alive plain.table) place ∙ found.2 in
-    λ other alive. reaped_keeps plain.table exited.pid other ended alive
-
-maps_stay : (script : Script) (plain : Plain) (pid count : ℕ) (first : Option ℕ) → Stays plain (mapped_from script plain pid count first)
-maps_stay script plain pid count None = λ other alive. alive
-maps_stay script plain pid count (Some first) = λ other alive. alive_still plain.table pid other _ ∙ alive
+-- by its shape: another process is ended by `kill` alone
+by_shape : (script : Script) (plain : Plain) (pid : ℕ) (which : Call) (given : Answer) → is_kill (kind_of which) ≡ false → HasShape script plain pid which given → Stays plain given
+by_shape script plain pid which given calm (shape.blocks may is) = subst (Stays plain) (sym is) tt
+by_shape script plain pid which given calm (shape.fails errno apart is) = subst (Stays plain) (sym is) (λ other alive. alive)
+by_shape script plain pid which given calm (shape.tells files reply said is) = subst (Stays plain) (sym is) (λ other alive. alive)
+by_shape script plain pid which given calm (shape.puts files memory reply said put is) = subst (Stays plain) (sym is) (λ other alive. alive_still plain.table pid other memory ∙ alive)
+by_shape script plain pid which given calm (shape.moves path directory of entered is) = subst (Stays plain) (sym is) (λ other alive. alive_working plain.table pid other directory ∙ alive)
+by_shape script plain pid which given calm (shape.parts files moved part is) = subst (Stays plain) (sym is) (λ other alive. alive)
+by_shape script plain pid which given calm (shape.starts place is) = subst (Stays plain) (sym is) (λ other alive. alive_still plain.table pid other no_memory ∙ alive)
+by_shape script plain pid which given calm (shape.forks is) = subst (Stays plain) (sym is) (λ other alive. still_alive plain.table (child_of pid (process_at plain.table pid)) other alive)
+by_shape script plain pid which given calm (shape.reaps child status ended is) = subst (Stays plain) (sym is) (λ other alive. reaped_keeps plain.table child other ended alive)
+by_shape script plain pid which given calm (shape.ends status is) = subst (Stays plain) (sym is) tt
+by_shape script plain pid which given calm (shape.ends_another target signal of first own lives is) =
+    absurd (kills (ap (λ w. is_kill (kind_of w)) (sym of) ∙ calm))
+  where
+    kills : true ≡ false → ⊥
+    kills e = cc
 
 -- a call that isn't `kill` ends nobody else
-right_stays : (script : Script) (plain : Plain) (pid : ℕ) (which : Call) → is_kill (kind_of which) ≡ false → Stays plain (answer_to script plain pid which)
-right_stays script plain pid call.Fork calm =
-    either_stays plain (is_full plain) (failed script plain pid EAGAIN) (replied script (with_child script plain pid) pid (Val (pos (last_pid plain + 1))))
-    (λ other alive. alive) (λ other alive. still_alive plain.table (child_of pid (process_at plain.table pid)) other alive)
-right_stays script plain pid (call.Exit status) calm = tt
-right_stays script plain pid (call.Waitpid which options) calm = waits_stay script plain pid which options (exited_from pid which 1 plain.table) refl
-right_stays script plain pid (call.Kill target signal) calm = cc
-right_stays script plain pid (call.Mmap length) calm =
-    maps_stay script plain pid (pages_in (count_of length)) (lowest_run (memory_of plain.table pid) (pages_in (count_of length)))
-right_stays script plain pid (call.Munmap addr length) calm = λ other alive. alive_still plain.table pid other _ ∙ alive
-right_stays script plain pid (call.Store addr bytes) calm =
-    either_stays plain (is_mapped_range (memory_of plain.table pid) (count_of addr) (length bytes))
-    (replied script (remembered plain pid (stored (memory_of plain.table pid) (count_of addr) bytes)) pid (Val (pos (length bytes))))
-    (failed script plain pid EFAULT) (λ other alive. alive_still plain.table pid other _ ∙ alive) (λ other alive. alive)
-right_stays script plain pid (call.Load addr n) calm =
-    either_stays plain (is_mapped_range (memory_of plain.table pid) (count_of addr) (count_of n))
-    (replied script plain pid (Bytes (loaded (memory_of plain.table pid) (count_of addr) (count_of n))))
-    (failed script plain pid EFAULT) (λ other alive. alive) (λ other alive. alive)
-right_stays script plain pid _ calm = λ other alive. alive
-
 stays : (script : Script) (plain : Plain) (pid : ℕ) (which : Call) → is_kill (kind_of which) ≡ false → Stays plain (machine script plain pid which)
-stays script plain pid which calm = go (argument_fault which)
-  where
-    go : (fault : Option Errno) → Stays plain (unless_wrong script plain pid fault (answer_to script plain pid which))
-    go None = right_stays script plain pid which calm
-    go (Some errno) = λ other alive. alive
+stays script plain pid which calm = by_shape script plain pid which (machine script plain pid which) calm (machine_shape script plain pid which)
 
 -- behind a turn that isn't the caller's last
 told_stays : (answer : Answer) (old new : Plain) (told : Turned) → Tells answer old told new → Stays old answer → is_over told ≡ false

@@ -1,5 +1,5 @@
 -- What was noted last of a run.
-use Rattle.std.proofs.Common.{◌≡◌, ℕ, ◌-◌, ◌<◌, List, [], ◌∷◌, ◌++◌, length, Some, slice_get, ap, sym, subst, ◌∙◌, arith, length-append}
+use Rattle.std.proofs.Common.{◌≡◌, ◌-◌, ◌<◌, List, [], ◌∷◌, ◌++◌, length, Some, slice_get, ap, ◌∙◌, arith, length-append}
 use Rattle.kabi_types.specs.declared.entries.Noted.{Noted}
 use Rattle.kern_laws.proofs.EnabledEvents.{get_behind}
 

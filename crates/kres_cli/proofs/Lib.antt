@@ -1,3 +1,4 @@
+pub mod Headlines
 pub mod Outcomes
 pub mod Puts
 pub mod Rounds

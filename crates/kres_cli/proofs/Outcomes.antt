@@ -1,23 +1,26 @@
 -- What a command ends with, from what was read, answered and put.
-use Rattle.std.proofs.Common.{◌≡◌, ℕ, ◌≤◌, List, [], ◌∷◌, Option, None, Result, Ok, Err, IfOk, refl, sym, ap, ◌∙◌, subst, arith}
+use Rattle.std.proofs.Common.{◌≡◌, ℕ, ◌≤◌, List, [], ◌∷◌, Option, None, Some, Result, Ok, Err, IfOk, string_bytes, refl, sym, ap, ◌∙◌, subst, arith}
 use Rattle.std.specs.Prelude.{String}
 use Rattle.std.proofs.lemmas.Fmt.{decimal_injective}
 use Rattle.kabi_types.specs.declared.entries.End.{End}
 use Rattle.kabi_types.specs.declared.entries.End.TheVariants as end
 use Rattle.kabi_types.specs.declared.scripts.Script.{Script}
-use Rattle.posix_defs.specs.ScriptText.{ReadsText}
-use Rattle.call_run.specs.Standing.{StoreView}
-use Rattle.script_read.specs.Reading.{Outcome}
-use Rattle.script_read.specs.declared.parse_error.ParseError.{ParseError}
-use Rattle.script_read.specs.declared.parse_error.ParseError.TheVariants as error
+use Rattle.kabi_types.specs.declared.scripts.ScriptFault.{ScriptFault}
+use Rattle.posix_defs.specs.Canonical.{canonical}
+use Rattle.posix_defs.specs.Lines.{fault_line}
+use Rattle.store_objects.specs.Standing.{StoreView}
+use Rattle.run_report.specs.Reports.{IsReport}
+use Rattle.run_report.specs.declared.runs.Reported.{Reported}
 use Rattle.kres_cli.specs.declared.commands.Command.{Command}
 use Rattle.kres_cli.specs.declared.commands.Command.TheVariants.{OnScript, Table, Gen}
 use Rattle.kres_cli.specs.declared.commands.Task.{Task}
 use Rattle.kres_cli.specs.declared.commands.Task.TheVariants as task
 use Rattle.kres_cli.specs.declared.statuses.Status.{Status}
 use Rattle.kres_cli.specs.declared.statuses.Status.TheVariants as status
+use Rattle.kres_cli.specs.Run.{IsRunOf, high, marks, stands}
 use Rattle.kres_cli.specs.Status.{status_of}
-use Rattle.kres_cli.specs.Tool.{Input, Output, AnswersText, refuses, makes, AnswersSource, Broke, HandsOut, Makes, Wrote, whole_text, beginning, TaskEnds, TellsError}
+use Rattle.kres_cli.specs.Read.{HasReadAs}
+use Rattle.kres_cli.specs.Tool.{Input, Output, AnswersText, refuses, makes, AnswersSource, Broke, FaultEnds, HandsOut, Makes, ScriptEnds, TextEnds, Wrote, whole_text, beginning, ends_so, wants_memory, TaskEnds}
 use Rattle.kres_cli.specs.Words.{Asks, IsAllowed, most_rounds, words_of}
 
 -- a run's report was written
@@ -42,12 +45,6 @@ written : (i : Input) (o : Output) (asked : Task) (text whole : List ℕ) (hande
 written i o asked text whole handed _ (refuses fault said is none) source wrote = (whole, source, wrote)
 written i o asked text whole handed _ (makes script st said made_so) source wrote = made i o asked script whole handed st made_so source wrote
 
--- a text that isn't read is answered by the line of its fault
-pub refused : (text whole : List ℕ) (asked : Task) (why : ParseError) → Outcome (λ script. script) (Err why) (ReadsText text)
-    → TellsError why whole → AnswersText text whole asked None status.BadScript
-refused text whole asked (error.Bad fault) said told = refuses fault said told refl
-refused text whole asked error.Memory said told = absurd told
-
 -- what was read is answered, whole or in part
 pub task_handed : (i : Input) (o : Output) (asked : Task) (whole : List ℕ) (store handed : Option StoreView) (st told : Status)
     → AnswersSource i asked whole store st → HandsOut o whole store st handed told → TaskEnds i o handed asked told
@@ -55,10 +52,63 @@ task_handed i o asked whole store _ st _ source (whole_text wrote) = written i o
 task_handed i o asked whole store _ st _ source (beginning broke) = (whole, store, st, source, broke, refl)
 
 -- where the sink failed no store is handed out
-pub nothing_handed : (o : Output) (whole : List ℕ) (store handed : Option StoreView) (st told : Status) → handed ≡ None → told ≡ status.WriteFault
-    → Broke o whole → HandsOut o whole store st handed told
-nothing_handed o whole store handed st told none is broke =
-    subst (λ h. HandsOut o whole store st h told) (sym none) (subst (HandsOut o whole store st None) (sym is) (beginning broke))
+pub nothing_handed : (o : Output) (whole : List ℕ) (store handed : Option StoreView) (st : Status) → handed ≡ None
+    → Broke o whole → HandsOut o whole store st handed status.WriteFault
+nothing_handed o whole store handed st none broke = subst (λ h. HandsOut o whole store st h status.WriteFault) (sym none) (beginning broke)
+
+-- what becomes of a script becomes of the text that says it
+pub script_ends : (i : Input) (o : Output) (asked : Task) (script : Script) (handed : Option StoreView) (st : Status)
+    → HasReadAs (Ok script) i.left i.left' i.takes i.takes' → ScriptEnds o asked script handed st → TaskEnds i o handed asked st
+script_ends i o asked script handed _ read (ends_so whole store st told made_so put) =
+    task_handed i o asked whole store handed st told
+    (record { text = read.text; taken = read.taken; no_fault = read.no_fault; answers = makes script st read.reads made_so }) put
+script_ends i o asked script handed _ read (wants_memory same none) = (same, none)
+
+-- and what becomes of a fault
+pub fault_ends : (i : Input) (o : Output) (asked : Task) (fault : ScriptFault) (handed : Option StoreView) (st : Status)
+    → HasReadAs (Err fault) i.left i.left' i.takes i.takes' → handed ≡ None → FaultEnds o fault st → TaskEnds i o handed asked st
+fault_ends i o asked fault handed status.BadScript read none wrote =
+    (fault_line fault, record { text = read.text; taken = read.taken; no_fault = read.no_fault; answers = refuses fault read.reads refl none }, wrote)
+fault_ends i o asked fault handed status.WriteFault read none broke = (
+  fault_line fault,
+  None,
+  status.BadScript,
+  record { text = read.text; taken = read.taken; no_fault = read.no_fault; answers = refuses fault read.reads refl refl },
+  broke,
+  none,
+)
+fault_ends i o asked fault handed status.Memory read none same = (same, none)
+fault_ends i o asked fault handed status.Finished read none ends = absurd ends
+fault_ends i o asked fault handed status.Usage read none ends = absurd ends
+fault_ends i o asked fault handed status.Starved read none ends = absurd ends
+fault_ends i o asked fault handed status.AllAsleep read none ends = absurd ends
+fault_ends i o asked fault handed status.Spent read none ends = absurd ends
+fault_ends i o asked fault handed status.ReadFault read none ends = absurd ends
+
+-- a script that is printed
+pub print_ends : (o : Output) (script : Script) (handed : Option StoreView) (st : Status) → handed ≡ None → TextEnds o (canonical script) st
+    → ScriptEnds o task.Print script handed st
+print_ends o script handed status.Finished none wrote =
+    ends_so (canonical script) None status.Finished status.Finished (refl, refl, refl)
+    (subst (λ h. HandsOut o (canonical script) None status.Finished h status.Finished) (sym none) (whole_text wrote))
+print_ends o script handed status.WriteFault none broke =
+    ends_so (canonical script) None status.Finished status.WriteFault (refl, refl, refl)
+    (nothing_handed o (canonical script) None handed status.Finished none broke)
+print_ends o script handed status.Memory none same = wants_memory same none
+print_ends o script handed status.BadScript none ends = absurd ends
+print_ends o script handed status.Usage none ends = absurd ends
+print_ends o script handed status.Starved none ends = absurd ends
+print_ends o script handed status.AllAsleep none ends = absurd ends
+print_ends o script handed status.Spent none ends = absurd ends
+print_ends o script handed status.ReadFault none ends = absurd ends
+
+-- the run that is reported was that of the store that is handed out
+pub run_handed : {E : Type 0} (script : Script) (store : StoreView) (handed : Option StoreView) (reported : Result Reported E)
+    → store.script ≡ script → handed ≡ Some store → IfOk reported (λ it. IsReport stands marks high script store it.end (string_bytes it.text))
+    → IfOk reported (λ it. IsRunOf script (string_bytes it.text) handed (status_of it.end))
+run_handed script store handed (Ok it) same is report =
+    record { end = it.end; store = store; handed_is = is; same = same; report = report; status_is = refl }
+run_handed script store handed (Err _) same is report = tt
 
 -- the first byte of the first of some words
 first_byte : List (List ℕ) → ℕ
@@ -97,8 +147,3 @@ one_command (Gen rounds) (Gen rounds') few few' same = same_rounds rounds rounds
 
 pub asks_once : {A : Type 0} (words : List (String A)) (first second : Command) → Asks words first → Asks words second → first ≡ second
 asks_once words first second asks asks_too = one_command first second asks.1 asks_too.1 (sym asks.0 ∙ asks_too.0)
-
--- a fact of what is in an `Ok` follows from another
-pub IfOk-map : {X E : Type 0} {P Q : X → Type 0} (r : Result X E) → ((x : X) → P x → Q x) → IfOk r P → IfOk r Q
-IfOk-map (Ok x) f holds = f x holds
-IfOk-map (Err e) f holds = tt

@@ -3,4 +3,5 @@ pub mod Run
 pub mod Status
 pub mod Words
 pub mod Tool
+pub mod Headline
 pub mod Program

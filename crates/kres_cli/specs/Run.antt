@@ -2,10 +2,21 @@
 use Rattle.std.specs.Prelude.{ℕ, ◌≡◌, List, Option, Some}
 use Rattle.kabi_types.specs.declared.entries.End.{End}
 use Rattle.kabi_types.specs.declared.scripts.Script.{Script}
-use Rattle.call_run.specs.Standing.{StandsFor, StoreView}
+use Rattle.posix_defs.specs.World.{World}
+use Rattle.store_objects.specs.Standing.{StandsFor, StoreView}
 use Rattle.run_report.specs.Reports.{IsReport}
 use Rattle.kres_cli.specs.declared.statuses.Status.{Status}
 use Rattle.kres_cli.specs.Status.{status_of}
+
+-- what a store stands for, how often its heap was marked, and the most that was in use since
+abbrev pub stands : StoreView → World → Type 0
+stands store world = StandsFor store.script store.objects world
+
+abbrev pub marks : StoreView → ℕ
+marks store = store.objects.heap.marks
+
+abbrev pub high : StoreView → ℕ
+high store = store.objects.heap.high
 
 -- The text is the report of a run of the script, the status is that of its end, and the store that is handed out is the one
 -- that was left: its processes, its account, what it keeps and its reads are those of the world in which the run ended.
@@ -14,5 +25,5 @@ pub record IsRunOf (script : Script) (whole : List ℕ) (handed : Option StoreVi
   pub store : StoreView
   pub handed_is : handed ≡ Some store
   pub same : store.script ≡ script
-  pub report : IsReport (λ left world. StandsFor left.script left.objects world) script store end whole
+  pub report : IsReport stands marks high script store end whole
   pub status_is : status ≡ status_of end

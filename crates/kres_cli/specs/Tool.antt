@@ -3,7 +3,7 @@ use Rattle.std.specs.Prelude.{ℕ, ◌≡◌, ◌<◌, Bool, true, false, List, 
 use Rattle.std.specs.Io.KnownBytes.{Appends}
 use Rattle.kabi_types.specs.declared.scripts.Script.{Script}
 use Rattle.kabi_types.specs.declared.scripts.ScriptFault.{ScriptFault}
-use Rattle.call_run.specs.Standing.{StoreView}
+use Rattle.store_objects.specs.Standing.{StoreView}
 use Rattle.kio_ports.specs.declared.failed.Failed.{Failed}
 use Rattle.kio_ports.specs.Faults.{HasRisen}
 use Rattle.kio_ports.specs.Offers.{PutsAll}
@@ -12,8 +12,6 @@ use Rattle.posix_defs.specs.Generated.{generated}
 use Rattle.posix_defs.specs.Lines.{fault_line}
 use Rattle.posix_defs.specs.PriceText.{table_text}
 use Rattle.posix_defs.specs.ScriptText.{ReadsText}
-use Rattle.script_read.specs.declared.parse_error.ParseError.{ParseError}
-use Rattle.script_read.specs.declared.parse_error.ParseError.TheVariants as error
 use Rattle.kres_cli.specs.declared.commands.Command.{Command}
 use Rattle.kres_cli.specs.declared.commands.Command.TheVariants.{OnScript, Table, Gen}
 use Rattle.kres_cli.specs.declared.commands.Task.{Task}
@@ -84,11 +82,6 @@ pub data AnswersText (text whole : List ℕ) (asked : Task) (handed : Option Sto
   makes : (script : Script) (status : Status) → ReadsText text (Ok script) → Makes asked script whole handed status
       → AnswersText text whole asked handed status
 
--- the line of a fault; nothing is told where the host has no memory
-abbrev pub TellsError : ParseError → List ℕ → Type 0
-TellsError (error.Bad fault) whole = whole ≡ fault_line fault
-TellsError error.Memory whole = ⊥
-
 -- What was read, to its end or to the byte that is too many, is answered so.
 pub record AnswersSource (i : Input) (asked : Task) (whole : List ℕ) (handed : Option StoreView) (status : Status) : Type 0 where
   pub text : List ℕ
@@ -117,6 +110,19 @@ HasPut o whole (Err _) = Broke o whole
 pub data HandsOut (o : Output) (whole : List ℕ) (store : Option StoreView) (status : Status) : Option StoreView → Status → Type 0 where
   whole_text : Wrote o whole → HandsOut o whole store status store status
   beginning : Broke o whole → HandsOut o whole store status None WriteFault
+
+-- What a task may end with where it has its script: what it makes of it was put, or there was no memory to make it.
+pub data ScriptEnds (o : Output) (asked : Task) (script : Script) (handed : Option StoreView) : Status → Type 0 where
+  ends_so : (whole : List ℕ) (store : Option StoreView) (status told : Status) → Makes asked script whole store status
+      → HandsOut o whole store status handed told → ScriptEnds o asked script handed told
+  wants_memory : o.held' ≡ o.held → handed ≡ None → ScriptEnds o asked script handed Memory
+
+-- what may become of the line of a fault
+abbrev pub FaultEnds : Output → ScriptFault → Status → Type 0
+FaultEnds o fault BadScript = Wrote o (fault_line fault)
+FaultEnds o fault WriteFault = Broke o (fault_line fault)
+FaultEnds o fault Memory = o.held' ≡ o.held
+FaultEnds o fault _ = ⊥
 
 -- what was read is answered whole, with this store and this status
 abbrev pub Answered : Input → Output → Option StoreView → Task → Status → Type 0

@@ -5,7 +5,7 @@ ghost use Rattle.std.specs.IoError.{error_kind};
 ghost use Rattle.std.specs.Process.{exit_status};
 ghost use Rattle.std.specs.Vec.Iter.{into_iter_items};
 ghost use Rattle.kabi_types.specs.declared.scripts.Policy.TheVariants.{Heaviest, Youngest};
-ghost use Rattle.call_run.specs.Standing.{StoreView};
+ghost use Rattle.store_objects.specs.Standing.{StoreView};
 ghost use Rattle.kres_cli.specs.Program.{EndsOn, EndsOnNoText, NothingDone};
 ghost use Rattle.kres_cli.specs.Status.{number_of};
 ghost use Rattle.kres_cli.specs.Tool.{Obeys, input, output};
@@ -67,7 +67,7 @@ fn run_words<R, S: Source, K: Sink, F: Scorer, G: Scorer>(
         return Status::Memory;
     };
     let mut store_out = None;
-    run_tool(
+    let status = run_tool(
         rt,
         alloc,
         words.as_slice(),
@@ -76,7 +76,10 @@ fn run_words<R, S: Source, K: Sink, F: Scorer, G: Scorer>(
         heaviest,
         youngest,
         &mut store_out,
-    )
+    );
+    drop(store_out);
+    drop(words);
+    status
 }
 
 /// The words after the program's name, which stands first.

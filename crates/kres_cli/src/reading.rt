@@ -1,9 +1,10 @@
 ghost use Rattle.std.specs.Prelude.{◌≡◌, ◌≤◌, IfOk};
-ghost use Rattle.kres_cli.specs.Read.{HasRead};
+ghost use Rattle.kres_cli.specs.Read.{HasRead, IsReadAs, Says};
 
 use crate::text::Text;
-use kabi_types::Memory;
+use kabi_types::{Memory, Script, ScriptFault};
 use kio_ports::Source;
+use script_parse::{ParseError, parse};
 use std::alloc::Global;
 
 /// The most bytes that a script may have.
@@ -28,4 +29,36 @@ pub fn read_text<S: Source>(alloc: Global, source: &mut S) -> Result<Text, Memor
         }
     }
     Ok(Text::Read(text))
+}
+
+/// What came of reading a script.
+#[derive(Drop)]
+pub enum Reading {
+    /// The script that the text says.
+    Script(Script),
+    /// Why the text is no script.
+    Bad(ScriptFault),
+    /// The source failed.
+    Broken,
+}
+
+/// Reads a script from a source.
+pub fn read_script<S: Source>(alloc: Global, source: &mut S) -> Result<Reading, Memory>
+    ensures { IfOk result (λ it. IsReadAs it (S.left source.old) (S.left source.new) (S.faults source.old) (S.faults source.new)) }
+{
+    match read_text(alloc, source)? {
+        Text::Read(text) => understand(alloc, text.as_slice()),
+        Text::Fault => Ok(Reading::Broken),
+    }
+}
+
+/// What a text says.
+fn understand(alloc: Global, text: &[u8]) -> Result<Reading, Memory>
+    ensures { IfOk result (Says text.now) }
+{
+    match parse(alloc, text) {
+        Ok(script) => Ok(Reading::Script(script)),
+        Err(ParseError::Bad(fault)) => Ok(Reading::Bad(fault)),
+        Err(ParseError::Memory) => Err(Memory),
+    }
 }

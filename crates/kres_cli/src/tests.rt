@@ -4,7 +4,7 @@ ghost use Rattle.posix_defs.specs.Victim.{score_of};
 
 use crate::statuses::Status;
 use crate::tool::run_tool;
-use kabi_types::Weight;
+use kabi_types::{Memory, Weight};
 use kio_ports::{MemSink, MemSource};
 use posix_defs::Turner;
 use std::process::Abort;
@@ -12,7 +12,7 @@ use std::test::Fail;
 use victim_core::Scorer;
 
 /// Room for every text that a test writes, in bytes.
-const ROOM: usize = 65536;
+const ROOM: usize = 262144;
 
 const PID_SCRIPT: &str = "heap 8192\nprogram init\nr1 = getpid\nexit 0\nend\n";
 
@@ -61,7 +61,7 @@ fn run_with<F: Scorer, G: Scorer>(
 }
 
 /// What the tool answers to these words, and what it leaves.
-pub fn run_words(
+fn run_words(
     rt: &impl AllocGlobal,
     words: &[String],
     source: &mut MemSource,
@@ -81,17 +81,77 @@ pub fn run_words(
     )
 }
 
-/// What the tool answers to a word on a text that comes and goes whole, and what it writes.
-pub fn answer_on(
+/// What came of a call of the tool, and how often it asked its source.
+#[derive(Drop)]
+pub struct Outcome {
+    pub status: Status,
+    pub left: Left,
+    pub takes: u64,
+    pub sink: MemSink,
+}
+
+/// Which takes of the source fail, and which puts of the sink, by their numbers from 1; and how many bytes the sink takes at
+/// a time at most.
+#[derive(Clone, Copy)]
+pub struct Trouble<'a> {
+    pub takes: &'a [u64],
+    pub puts: &'a [u64],
+    pub most: usize,
+}
+
+/// All goes well.
+pub const NONE: Trouble<'static> = Trouble {
+    takes: &[],
+    puts: &[],
+    most: usize::MAX,
+};
+
+fn words_of(rt: &impl AllocGlobal, line: &str) -> Result<Vec<String>, Memory> {
+    let mut words = Vec::new(rt.alloc());
+    for word in line.split_whitespace() {
+        words.push(word.to_string(rt.alloc())?)?;
+    }
+    Ok(words)
+}
+
+/// What the tool makes of the words of a line on a text.
+pub fn outcome_of(
     rt: &impl AllocGlobal,
+    line: &str,
+    text: &[u8],
+    trouble: Trouble,
+) -> Result<Outcome, Memory> {
+    let words = words_of(rt, line)?;
+    let puts = trouble.puts.to_vec(rt.alloc())?;
+    let mut sink = MemSink::new(rt.alloc(), ROOM, puts, trouble.most)?;
+    let takes = trouble.takes.to_vec(rt.alloc())?;
+    let mut source = MemSource::new(text.to_vec(rt.alloc())?, takes, 4096);
+    let (status, left) = run_words(rt, words.as_slice(), &mut source, &mut sink);
+    Ok(Outcome {
+        status,
+        left,
+        takes: source.calls(),
+        sink,
+    })
+}
+
+/// Stops a test where something isn't right, and names it.
+pub fn check(rt: &impl Abort, right: bool, what: &str) {
+    assert!(rt; right, "wrong: {what}");
+}
+
+/// The word answers this text with this status and this text.
+pub fn expect_answer(
+    rt: &(impl Abort + AllocGlobal),
     word: &str,
-    text: Vec<u8>,
-) -> Result<(Status, MemSink), Fail> {
-    let words = vec![in rt.alloc(); word.to_string(rt.alloc())?]?;
-    let mut source = MemSource::new(text, Vec::new(rt.alloc()), usize::MAX);
-    let mut sink = MemSink::new(rt.alloc(), ROOM, Vec::new(rt.alloc()), usize::MAX)?;
-    let (status, _) = run_words(rt, words.as_slice(), &mut source, &mut sink);
-    Ok((status, sink))
+    text: &[u8],
+    wanted: Status,
+    whole: &str,
+) -> Result<(), Fail> {
+    let outcome = outcome_of(rt, word, text, NONE)?;
+    let right = outcome.status == wanted && outcome.sink.bytes() == whole.as_bytes();
+    check(rt, right, whole);
+    Ok(())
 }
 
 /// The word answers each of these scripts with its status and its text.
@@ -101,21 +161,17 @@ pub fn expect_answers(
     rows: &[(&str, Status, &str)],
 ) -> Result<(), Fail> {
     for (script, wanted, whole) in rows {
-        let (status, sink) = answer_on(rt, word, script.as_bytes().to_vec(rt.alloc())?)?;
-        let right = status == *wanted && sink.bytes() == whole.as_bytes();
-        assert!(rt; right, "{word} on {script:?}");
+        expect_answer(rt, word, script.as_bytes(), *wanted, *whole)?;
     }
     Ok(())
 }
 
-/// Each of these scripts runs to its first process's end, and its report has the line.
-fn expect_lines(rt: &(impl Abort + AllocGlobal), rows: &[(&str, &str)]) -> Result<(), Fail> {
-    for (script, line) in rows {
-        let (status, sink) = answer_on(rt, "sim", script.as_bytes().to_vec(rt.alloc())?)?;
-        let written = str::from_utf8(sink.bytes())?;
-        let right = status == Status::Finished && written.contains(*line);
-        assert!(rt; right, "on {script:?}");
-    }
+/// The script runs to its first process's end, and its report has the line.
+fn expect_line(rt: &(impl Abort + AllocGlobal), script: &str, line: &str) -> Result<(), Fail> {
+    let outcome = outcome_of(rt, "sim", script.as_bytes(), NONE)?;
+    let written = str::from_utf8(outcome.sink.bytes())?;
+    let right = outcome.status == Status::Finished && written.contains(line);
+    check(rt, right, script);
     Ok(())
 }
 
@@ -170,15 +226,21 @@ const STORES: &[(&str, &str, Left)] = &[
     ("print", PID_SCRIPT, None),
 ];
 
+fn expect_left(
+    rt: &(impl Abort + AllocGlobal),
+    word: &str,
+    script: &str,
+    wanted: Left,
+) -> Result<(), Fail> {
+    let outcome = outcome_of(rt, word, script.as_bytes(), NONE)?;
+    check(rt, outcome.left == wanted, script);
+    Ok(())
+}
+
 #[test]
 fn hands_out_the_store_of_a_run(rt: HostRuntime) -> Result<(), Fail> {
     for (word, script, wanted) in STORES {
-        let words = vec![in rt.alloc(); word.to_string(rt.alloc())?]?;
-        let text = script.as_bytes().to_vec(rt.alloc())?;
-        let mut source = MemSource::new(text, Vec::new(rt.alloc()), usize::MAX);
-        let mut sink = MemSink::new(rt.alloc(), ROOM, Vec::new(rt.alloc()), usize::MAX)?;
-        let (_, left) = run_words(&rt, words.as_slice(), &mut source, &mut sink);
-        assert!(rt; left == *wanted, "{word} on {script:?}");
+        expect_left(&rt, *word, *script, *wanted)?;
     }
     Ok(())
 }
@@ -200,14 +262,10 @@ const REFUSALS: &[(&str, Status, &str)] = &[
 /// Whether the answer is this one with this text, or want of memory with a beginning of it; None where the test itself
 /// has no memory.
 fn is_right(rt: &HostRuntime, script: &str, wanted: Status, whole: &str) -> Option<bool> {
-    let text = script.as_bytes().to_vec(rt.alloc()).ok()?;
-    let word = "sim".to_string(rt.alloc()).ok()?;
-    let words = vec![in rt.alloc(); word].ok()?;
-    let mut source = MemSource::new(text, Vec::new(rt.alloc()), usize::MAX);
-    let mut sink = MemSink::new(rt.alloc(), ROOM, Vec::new(rt.alloc()), usize::MAX).ok()?;
-    let (status, _) = run_words(rt, words.as_slice(), &mut source, &mut sink);
-    let written = sink.bytes();
-    Some(match status {
+    let outcome = outcome_of(rt, "sim", script.as_bytes(), NONE).ok()?;
+    let ended = outcome.status;
+    let written = outcome.sink.bytes();
+    Some(match ended {
         Status::Memory => whole.as_bytes().starts_with(written),
         status => status == wanted && written == whole.as_bytes(),
     })
@@ -218,7 +276,7 @@ fn is_right(rt: &HostRuntime, script: &str, wanted: Status, whole: &str) -> Opti
 fn ends_right_whichever_allocation_is_refused(rt: HostRuntime) {
     for (script, wanted, whole) in REFUSALS {
         let right = is_right(&rt, *script, *wanted, *whole);
-        assert!(rt; right != Some(false), "on {script:?}");
+        check(&rt, right != Some(false), *script);
     }
 }
 
@@ -276,19 +334,14 @@ fn tells_the_line_at_fault(rt: HostRuntime) -> Result<(), Fail> {
     expect_answers(&rt, "sim", FAULTS)
 }
 
-/// A text that is no script is answered by this line alone.
-fn expect_fault(rt: &(impl Abort + AllocGlobal), text: Vec<u8>, line: &[u8]) -> Result<(), Fail> {
-    let (status, sink) = answer_on(rt, "sim", text)?;
-    assert!(rt; status == Status::BadScript && sink.bytes() == line);
-    Ok(())
-}
-
 #[test]
 fn tells_the_fault_of_texts_of_bytes(rt: HostRuntime) -> Result<(), Fail> {
-    let odd = b"# a comment\n\xff\nprogram init\nend\n".to_vec(rt.alloc())?;
-    expect_fault(&rt, odd, b"bad script: line 2: not utf-8\n")?;
+    let odd = b"# a comment\n\xff\nprogram init\nend\n".as_slice();
+    let line = "bad script: line 2: not utf-8\n";
+    expect_answer(&rt, "sim", odd, Status::BadScript, line)?;
     let long = vec![in rt.alloc(); b'\n'; 1048577]?;
-    expect_fault(&rt, long, b"bad script: line 0: too long\n")
+    let line = "bad script: line 0: too long\n";
+    expect_answer(&rt, "sim", long.as_slice(), Status::BadScript, line)
 }
 
 const LINES: &[(&str, &str)] = &[
@@ -341,7 +394,10 @@ const LINES: &[(&str, &str)] = &[
 
 #[test]
 fn runs_calls_and_the_statements_before_them(rt: HostRuntime) -> Result<(), Fail> {
-    expect_lines(&rt, LINES)
+    for (script, line) in LINES {
+        expect_line(&rt, *script, *line)?;
+    }
+    Ok(())
 }
 
 #[test]
@@ -351,10 +407,10 @@ fn stops_when_the_events_are_used_up(rt: HostRuntime) -> Result<(), Fail> {
         text.extend_from_slice(b"getpid\n")?;
     }
     text.extend_from_slice(b"end\n")?;
-    let (status, sink) = answer_on(&rt, "sim", text)?;
+    let outcome = outcome_of(&rt, "sim", text.as_slice(), NONE)?;
     let last =
         b"\n1000 p1 ask getpid bound 0 charged 2816\nend spent events 1000 charged 2816 peak 2816 reads 0\n";
-    assert!(rt; status == Status::Spent && sink.bytes().ends_with(last));
+    assert!(rt; outcome.status == Status::Spent && outcome.sink.bytes().ends_with(last));
     Ok(())
 }
 
@@ -387,50 +443,63 @@ const OTHER_WORDS: &[&str] = &[
     "load 1",
 ];
 
+/// The words of a line aren't the program's, and the source isn't touched.
+fn expect_usage(rt: &(impl Abort + AllocGlobal), line: &str) -> Result<(), Fail> {
+    let outcome = outcome_of(rt, line, PID_SCRIPT.as_bytes(), NONE)?;
+    let right = outcome.status == Status::Usage && outcome.sink.bytes() == USAGE.as_bytes();
+    check(rt, right && outcome.takes == 0, line);
+    Ok(())
+}
+
 #[test]
 fn tells_the_words_that_it_knows(rt: HostRuntime) -> Result<(), Fail> {
     for line in OTHER_WORDS {
-        let mut words = Vec::new(rt.alloc());
-        for word in line.split_whitespace() {
-            words.push(word.to_string(rt.alloc())?)?;
-        }
-        let text = PID_SCRIPT.as_bytes().to_vec(rt.alloc())?;
-        let mut source = MemSource::new(text, Vec::new(rt.alloc()), 4096);
-        let mut sink = MemSink::new(rt.alloc(), ROOM, Vec::new(rt.alloc()), 4096)?;
-        let (status, _) = run_words(&rt, words.as_slice(), &mut source, &mut sink);
-        let right = status == Status::Usage && sink.bytes() == USAGE.as_bytes();
-        assert!(rt; right && source.calls() == 0, "on {line:?}");
+        expect_usage(&rt, *line)?;
     }
     Ok(())
 }
 
-/// A word on a text whose source fails at the takes that are listed, and whose sink fails at its second put and takes
-/// `most` bytes at a time: the status, and what is written.
+/// A word on a script where a stream fails: the status, and what is written. No store is handed out.
 pub fn expect_broken(
     rt: &(impl Abort + AllocGlobal),
     word: &str,
     script: &str,
-    fails: Vec<u64>,
-    most: usize,
+    trouble: Trouble,
     wanted: (Status, &str),
 ) -> Result<(), Fail> {
-    let words = vec![in rt.alloc(); word.to_string(rt.alloc())?]?;
-    let text = script.as_bytes().to_vec(rt.alloc())?;
-    let mut source = MemSource::new(text, fails, 4096);
-    let mut sink = MemSink::new(rt.alloc(), ROOM, vec![in rt.alloc(); 2]?, most)?;
-    let (status, left) = run_words(rt, words.as_slice(), &mut source, &mut sink);
-    let right = status == wanted.0 && left.is_none() && sink.bytes() == wanted.1.as_bytes();
-    assert!(rt; right, "{word} by {most}");
+    let outcome = outcome_of(rt, word, script.as_bytes(), trouble)?;
+    let written = outcome.sink.bytes() == wanted.1.as_bytes();
+    let right = outcome.status == wanted.0 && written && outcome.left.is_none();
+    check(rt, right, wanted.1);
     Ok(())
 }
 
+/// The first take fails, and with it the second put; and the second put alone, behind ten bytes.
+const TROUBLES: &[(Trouble<'static>, (Status, &str))] = &[
+    (
+        Trouble {
+            takes: &[1],
+            puts: &[2],
+            most: 4096,
+        },
+        (Status::ReadFault, ""),
+    ),
+    (
+        Trouble {
+            takes: &[],
+            puts: &[2],
+            most: 10,
+        },
+        (Status::WriteFault, "1 p1 ask g"),
+    ),
+];
+
 #[test]
 fn tells_which_stream_failed(rt: HostRuntime) -> Result<(), Fail> {
-    let first = vec![in rt.alloc(); 1]?;
-    let read = (Status::ReadFault, "");
-    expect_broken(&rt, "sim", PID_SCRIPT, first, 4096, read)?;
-    let put = (Status::WriteFault, "1 p1 ask g");
-    expect_broken(&rt, "sim", PID_SCRIPT, Vec::new(rt.alloc()), 10, put)
+    for (trouble, wanted) in TROUBLES {
+        expect_broken(&rt, "sim", PID_SCRIPT, *trouble, *wanted)?;
+    }
+    Ok(())
 }
 
 const NUMBERS: &[(Status, u8)] = &[

@@ -1,5 +1,5 @@
 use crate::statuses::Status;
-use crate::tests::{answer_on, expect_answers, expect_broken};
+use crate::tests::{Trouble, expect_answer, expect_answers, expect_broken};
 use std::test::Fail;
 
 const SHORT: &str = "# x\nprogram init\nset r1 SEEK_END|SEEK_CUR\nend\n";
@@ -87,14 +87,23 @@ fn prints_scripts_in_their_canonical_form(rt: HostRuntime) -> Result<(), Fail> {
 
 #[test]
 fn prints_no_text_that_is_too_long(rt: HostRuntime) -> Result<(), Fail> {
-    let (status, sink) = answer_on(&rt, "print", vec![in rt.alloc(); b'#'; 1048577]?)?;
-    let line = b"bad script: line 0: too long\n".as_slice();
-    assert!(rt; status == Status::BadScript && sink.bytes() == line);
-    Ok(())
+    let long = vec![in rt.alloc(); b'#'; 1048577]?;
+    let line = "bad script: line 0: too long\n";
+    expect_answer(&rt, "print", long.as_slice(), Status::BadScript, line)
 }
 
 #[test]
 fn prints_a_beginning_where_the_sink_fails(rt: HostRuntime) -> Result<(), Fail> {
-    let put = (Status::WriteFault, "heap 65");
-    expect_broken(&rt, "print", SHORT, Vec::new(rt.alloc()), 7, put)
+    let trouble = Trouble {
+        takes: &[],
+        puts: &[2],
+        most: 7,
+    };
+    expect_broken(
+        &rt,
+        "print",
+        SHORT,
+        trouble,
+        (Status::WriteFault, "heap 65"),
+    )
 }

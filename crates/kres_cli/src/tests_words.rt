@@ -1,6 +1,5 @@
 use crate::statuses::Status;
-use crate::tests::run_words;
-use kio_ports::{MemSink, MemSource};
+use crate::tests::{NONE, Outcome, Trouble, check, outcome_of};
 use std::process::Abort;
 use std::test::Fail;
 
@@ -59,55 +58,60 @@ end
 
 const WRITTEN: &[(&str, &str)] = &[("gen 0", GEN_0), ("gen 1", GEN_1), ("gen 7", GEN_7)];
 
-/// The words of a line, on a source that isn't touched: the status, and what is written.
+/// What comes of the words of a line, on a source that isn't touched.
 fn answer_to(
     rt: &(impl Abort + AllocGlobal),
     line: &str,
-    fails: Vec<u64>,
-    most: usize,
-) -> Result<(Status, MemSink), Fail> {
-    let mut words = Vec::new(rt.alloc());
-    for word in line.split_whitespace() {
-        words.push(word.to_string(rt.alloc())?)?;
-    }
-    let mut source = MemSource::new(Vec::new(rt.alloc()), Vec::new(rt.alloc()), 4096);
-    let mut sink = MemSink::new(rt.alloc(), 262144, fails, most)?;
-    let (status, left) = run_words(rt, words.as_slice(), &mut source, &mut sink);
-    assert!(rt; source.calls() == 0 && left.is_none(), "on {line:?}");
-    Ok((status, sink))
+    trouble: Trouble,
+) -> Result<Outcome, Fail> {
+    let outcome = outcome_of(rt, line, b"", trouble)?;
+    check(rt, outcome.takes == 0 && outcome.left.is_none(), line);
+    Ok(outcome)
+}
+
+fn expect_text(rt: &(impl Abort + AllocGlobal), line: &str, wanted: &str) -> Result<(), Fail> {
+    let outcome = answer_to(rt, line, NONE)?;
+    let right = outcome.status == Status::Finished && outcome.sink.bytes() == wanted.as_bytes();
+    check(rt, right, line);
+    Ok(())
 }
 
 /// The whole list stands in the tests of the crate that makes it.
 #[test]
 fn the_price_list_is_written(rt: HostRuntime) -> Result<(), Fail> {
-    let (status, sink) = answer_to(&rt, "table", Vec::new(rt.alloc()), 4096)?;
-    let list = sink.bytes();
+    let outcome = answer_to(&rt, "table", NONE)?;
+    let list = outcome.sink.bytes();
     let first = list.starts_with(b"class Proc 512\nclass Node 512\n");
     let last = list.ends_with(b"bound shutdown 0\nbound poll 0\n");
-    assert!(rt; status == Status::Finished && first && last);
+    assert!(rt; outcome.status == Status::Finished && first && last);
     Ok(())
 }
 
 #[test]
 fn generated_scripts_are_written(rt: HostRuntime) -> Result<(), Fail> {
     for (line, wanted) in WRITTEN {
-        let (status, sink) = answer_to(&rt, *line, Vec::new(rt.alloc()), 4096)?;
-        let right = status == Status::Finished && sink.bytes() == wanted.as_bytes();
-        assert!(rt; right, "on {line:?}");
+        expect_text(&rt, *line, *wanted)?;
     }
     Ok(())
 }
 
 #[test]
 fn the_longest_generated_script_is_written(rt: HostRuntime) -> Result<(), Fail> {
-    let (status, sink) = answer_to(&rt, "gen 1000", Vec::new(rt.alloc()), usize::MAX)?;
-    assert!(rt; status == Status::Finished && sink.bytes().ends_with(b"exit 0\nend\n"));
+    let outcome = answer_to(&rt, "gen 1000", NONE)?;
+    let ended = outcome.sink.bytes().ends_with(b"exit 0\nend\n");
+    assert!(rt; outcome.status == Status::Finished && ended);
     Ok(())
 }
 
 #[test]
 fn a_beginning_is_written_where_the_sink_fails(rt: HostRuntime) -> Result<(), Fail> {
-    let (status, sink) = answer_to(&rt, "gen 0", vec![in rt.alloc(); 2]?, 7)?;
-    assert!(rt; status == Status::WriteFault && sink.bytes() == b"heap 83".as_slice());
+    let trouble = Trouble {
+        takes: &[],
+        puts: &[2],
+        most: 7,
+    };
+    let outcome = answer_to(&rt, "gen 0", trouble)?;
+    let begun = outcome.sink.bytes() == b"heap 83".as_slice();
+    assert!(rt; outcome.status == Status::WriteFault && begun);
     Ok(())
 }

@@ -1,49 +1,36 @@
-ghost use Rattle.std.specs.Prelude.{◌≡◌, ◌≢◌, ◌≤◌, List, ℕ, IfOk, None, string_bytes};
+ghost use Rattle.std.specs.Prelude.{◌≡◌, ◌≢◌, ◌≤◌, List, ℕ, IfOk, None, Some, string_bytes};
 ghost use Rattle.kabi_types.specs.declared.scripts.Policy.TheVariants.{Heaviest, Youngest};
 ghost use Rattle.posix_defs.specs.Canonical.{canonical};
 ghost use Rattle.posix_defs.specs.Generated.{generated};
 ghost use Rattle.posix_defs.specs.ValidScript.{IsValid};
+ghost use Rattle.kres_cli.specs.Headline.{SimKeeps};
 ghost use Rattle.kres_cli.specs.Run.{IsRunOf};
-ghost use Rattle.kres_cli.specs.Tool.{AnswersText, CommandEnds, HandsOut, HasPut, Makes, Obeys, OthersEnd, TaskEnds, TellsError, TextEnds, input, output};
-ghost use Rattle.kres_cli.specs.Words.{IsAllowed, most_rounds};
+ghost use Rattle.kres_cli.specs.Status.{status_of};
+ghost use Rattle.kres_cli.specs.Tool.{CommandEnds, FaultEnds, HandsOut, HasPut, Obeys, OthersEnd, ScriptEnds, TaskEnds, TextEnds, input, output};
+ghost use Rattle.kres_cli.specs.Words.{Asks, IsAllowed, most_rounds};
 ghost use Rattle.kres_cli.specs.declared.commands.Command.{Command};
 ghost use Rattle.kres_cli.specs.declared.commands.Command.TheVariants.{OnScript};
 ghost use Rattle.kres_cli.specs.declared.commands.Task.{Task};
+ghost use Rattle.kres_cli.specs.declared.commands.Task.TheVariants.{Sim};
 
 use crate::commands::{Command, Task, command_of};
 use crate::lines::fault_line;
-use crate::reading::read_text;
+use crate::reading::{Reading, read_script};
 use crate::statuses::Status;
-use crate::text::Text;
 use crate::writing::write_text;
 use call_run::Store;
-use kabi_types::{Memory, Script};
+use kabi_types::{Memory, Script, ScriptFault};
 use kern_core::Core;
 use kio_ports::{Failed, Sink, Source};
 use load_gen::generate;
 use need_table::table;
-use run_report::run_core;
-use script_parse::{ParseError, parse, print};
+use run_report::{Reported, run_core};
+use script_parse::print;
 use std::alloc::Global;
 use victim_core::{Score, Scorer};
 
 /// What is written where the words aren't the program's.
 const USAGE: &str = "usage: kres sim | threads W | print | table | gen N | load N\n";
-
-/// A text to be written, the status that it comes with, and the store that is handed out then.
-#[derive(Drop)]
-struct Answer<F: Scorer, G: Scorer> {
-    text: String,
-    status: Status,
-    store: Option<Store<F, G>>,
-}
-
-/// How the tool ends, and the store that it hands out.
-#[derive(Drop)]
-struct Ended<F: Scorer, G: Scorer> {
-    status: Status,
-    store: Option<Store<F, G>>,
-}
 
 /// Runs the tool on the words after the program's name: reads what they ask for from the source, and writes the whole
 /// answer to the sink. The two closures score processes by weight and by age.
@@ -62,7 +49,8 @@ pub fn run_tool<R, S: Source, K: Sink, F: Scorer, G: Scorer>(
 ) -> Status
     requires by_weight { F.scores heaviest Heaviest }
     requires by_age { G.scores youngest Youngest }
-    ensures { Obeys words.now (input S.left S.faults source.old source.new) (output K.held K.faults K.put_gives sink.old sink.new) store_out.new result }
+    ensures obeys { Obeys words.now (input S.left S.faults source.old source.new) (output K.held K.faults K.put_gives sink.old sink.new) store_out.new result }
+    ensures headline { Asks words.now (OnScript Sim) → SimKeeps (input S.left S.faults source.old source.new) (output K.held K.faults K.put_gives sink.old sink.new) store_out.new result }
 {
     run_plain(alloc, words, source, sink, heaviest, youngest, store_out)
 }
@@ -81,29 +69,21 @@ pub fn run_plain<S: Source, K: Sink, F: Scorer, G: Scorer>(
     requires by_age { G.scores youngest Youngest }
     ensures { Obeys words.now (input S.left S.faults source.old source.new) (output K.held K.faults K.put_gives sink.old sink.new) store_out.new result }
 {
+    forget(store_out);
     match command_of(words) {
         Some(command) => {
             let score = Score::new(heaviest, youngest);
-            let ended = obey(alloc, command, source, sink, score);
-            *store_out = ended.store;
-            ended.status
+            obey(alloc, command, source, sink, score, store_out)
         }
-        None => {
-            *store_out = None;
-            tell_usage(sink)
-        }
+        None => tell_usage(sink),
     }
 }
 
-/// An end at which no store is handed out.
-fn without_store<F: Scorer, G: Scorer>(status: Status) -> Ended<F, G>
-    ensures status { result.status ≡ status }
-    ensures store { result.store ≡ None }
+/// Lets the store go that would be handed out.
+fn forget<F: Scorer, G: Scorer>(store_out: &mut Option<Store<F, G>>)
+    ensures { store_out.new ≡ None }
 {
-    Ended {
-        status,
-        store: None,
-    }
+    drop(store_out.take());
 }
 
 /// Tells which words there are.
@@ -152,118 +132,134 @@ fn obey<S: Source, K: Sink, F: Scorer, G: Scorer>(
     source: &mut S,
     sink: &mut K,
     score: Score<F, G>,
-) -> Ended<F, G>
-    requires { IsAllowed command }
-    ensures ends { CommandEnds (input S.left S.faults source.old source.new) (output K.held K.faults K.put_gives sink.old sink.new) result.store command result.status }
+    store_out: &mut Option<Store<F, G>>,
+) -> Status
+    requires allowed { IsAllowed command }
+    requires none { store_out.old ≡ None }
+    ensures ends { CommandEnds (input S.left S.faults source.old source.new) (output K.held K.faults K.put_gives sink.old sink.new) store_out.new command result }
     ensures untouched { ((task : Task) → command ≢ OnScript task) → source.new ≡ source.old }
 {
     match command {
-        Command::OnScript(task) => answer_script(alloc, task, source, sink, score),
-        Command::Table => without_store(tell(sink, table(alloc))),
-        Command::Gen(rounds) => without_store(tell(sink, generated_text(alloc, rounds))),
+        Command::OnScript(task) => answer_source(alloc, task, source, sink, score, store_out),
+        Command::Table => tell(sink, table(alloc)),
+        Command::Gen(rounds) => tell(sink, generated_text(alloc, rounds)),
     }
 }
 
 /// Reads a script from the source, does the task with it, and writes the answer.
-fn answer_script<S: Source, K: Sink, F: Scorer, G: Scorer>(
+fn answer_source<S: Source, K: Sink, F: Scorer, G: Scorer>(
     alloc: Global,
     task: Task,
     source: &mut S,
     sink: &mut K,
     score: Score<F, G>,
-) -> Ended<F, G>
-    ensures { TaskEnds (input S.left S.faults source.old source.new) (output K.held K.faults K.put_gives sink.old sink.new) result.store task result.status }
+    store_out: &mut Option<Store<F, G>>,
+) -> Status
+    requires { store_out.old ≡ None }
+    ensures { TaskEnds (input S.left S.faults source.old source.new) (output K.held K.faults K.put_gives sink.old sink.new) store_out.new task result }
 {
-    let text = match read_text(alloc, source) {
-        Ok(Text::Read(text)) => text,
-        Ok(Text::Fault) => return without_store(Status::ReadFault),
-        Err(Memory) => return without_store(Status::Memory),
+    match read_script(alloc, source) {
+        Ok(Reading::Script(script)) => {
+            let status = answer_script(alloc, task, &script, sink, score, store_out);
+            drop(script);
+            status
+        }
+        Ok(Reading::Bad(fault)) => tell_fault(alloc, sink, fault),
+        Ok(Reading::Broken) => Status::ReadFault,
+        Err(Memory) => Status::Memory,
+    }
+}
+
+/// Writes the line that tells why a text is no script.
+fn tell_fault<K: Sink>(alloc: Global, sink: &mut K, fault: ScriptFault) -> Status
+    ensures { FaultEnds (output K.held K.faults K.put_gives sink.old sink.new) fault result }
+{
+    let Ok(line) = fault_line(alloc, fault) else {
+        return Status::Memory;
     };
-    match answer_to(alloc, task, text.as_slice(), score) {
-        Ok(answer) => hand_out(sink, answer),
-        Err(Memory) => without_store(Status::Memory),
+    match put(sink, line.as_str()) {
+        Ok(()) => Status::BadScript,
+        Err(_) => Status::WriteFault,
     }
 }
 
-/// Writes an answer, and hands out its store where the whole text was written.
-fn hand_out<K: Sink, F: Scorer, G: Scorer>(sink: &mut K, answer: Answer<F, G>) -> Ended<F, G>
-    ensures { HandsOut (output K.held K.faults K.put_gives sink.old sink.new) (string_bytes answer.text) answer.store answer.status result.store result.status }
-{
-    match put(sink, answer.text.as_str()) {
-        Ok(()) => Ended {
-            status: answer.status,
-            store: answer.store,
-        },
-        Err(_) => without_store(Status::WriteFault),
-    }
-}
-
-/// What is written in answer to a text, and with which status.
-fn answer_to<F: Scorer, G: Scorer>(
-    alloc: Global,
-    task: Task,
-    text: &[u8],
-    score: Score<F, G>,
-) -> Result<Answer<F, G>, Memory>
-    ensures { IfOk result (λ answer. AnswersText text.now (string_bytes answer.text) task answer.store answer.status) }
-{
-    match parse(alloc, text) {
-        Ok(script) => obey_script(alloc, task, &script, score),
-        Err(error) => Ok(Answer {
-            text: refusal(alloc, error)?,
-            status: Status::BadScript,
-            store: None,
-        }),
-    }
-}
-
-/// The line that tells why a text isn't read.
-fn refusal(alloc: Global, error: ParseError) -> Result<String, Memory>
-    ensures { IfOk result (λ text. TellsError error (string_bytes text)) }
-{
-    match error {
-        ParseError::Bad(fault) => Ok(fault_line(alloc, fault)?),
-        ParseError::Memory => Err(Memory),
-    }
-}
-
-/// What the task makes of a script.
-fn obey_script<F: Scorer, G: Scorer>(
+/// Does a task with a script, and writes the answer.
+fn answer_script<K: Sink, F: Scorer, G: Scorer>(
     alloc: Global,
     task: Task,
     script: &Script,
+    sink: &mut K,
     score: Score<F, G>,
-) -> Result<Answer<F, G>, Memory>
-    requires { IsValid script.now }
-    ensures { IfOk result (λ answer. Makes task script.now (string_bytes answer.text) answer.store answer.status) }
+    store_out: &mut Option<Store<F, G>>,
+) -> Status
+    requires valid { IsValid script.now }
+    requires none { store_out.old ≡ None }
+    ensures { ScriptEnds (output K.held K.faults K.put_gives sink.old sink.new) task script.now store_out.new result }
 {
     match task {
-        Task::Sim => run_script(alloc, script, score),
-        Task::Print => Ok(Answer {
-            text: print(alloc, script)?,
-            status: Status::Finished,
-            store: None,
-        }),
+        Task::Sim => simulate(alloc, script, sink, score, store_out),
+        Task::Print => tell(sink, print(alloc, script)),
     }
 }
 
-/// Runs a script to its end, and reports every event.
+/// Runs a script to its end, and writes the report of every event. The store is handed out where the whole report was
+/// written.
+fn simulate<K: Sink, F: Scorer, G: Scorer>(
+    alloc: Global,
+    script: &Script,
+    sink: &mut K,
+    score: Score<F, G>,
+    store_out: &mut Option<Store<F, G>>,
+) -> Status
+    requires { IsValid script.now }
+    ensures { ScriptEnds (output K.held K.faults K.put_gives sink.old sink.new) Sim script.now store_out.new result }
+{
+    match run_script(alloc, script, score, store_out) {
+        Ok(reported) => tell_run(sink, &reported, store_out),
+        Err(Memory) => {
+            forget(store_out);
+            Status::Memory
+        }
+    }
+}
+
+/// Writes the report of a run. The store stays where the whole report was written.
+fn tell_run<K: Sink, F: Scorer, G: Scorer>(
+    sink: &mut K,
+    reported: &Reported,
+    store_out: &mut Option<Store<F, G>>,
+) -> Status
+    ensures { HandsOut (output K.held K.faults K.put_gives sink.old sink.new) (string_bytes reported.now.text) store_out.old (status_of reported.now.end) store_out.new result }
+{
+    match put(sink, reported.text.as_str()) {
+        Ok(()) => Status::of(reported.end),
+        Err(_) => {
+            forget(store_out);
+            Status::WriteFault
+        }
+    }
+}
+
+/// Runs a script to its end. The store is handed out as it was left, also where there is no memory for the report.
 fn run_script<F: Scorer, G: Scorer>(
     alloc: Global,
     script: &Script,
     score: Score<F, G>,
-) -> Result<Answer<F, G>, Memory>
+    store_out: &mut Option<Store<F, G>>,
+) -> Result<Reported, Memory>
     requires { IsValid script.now }
-    ensures { IfOk result (λ answer. IsRunOf script.now (string_bytes answer.text) answer.store answer.status) }
+    ensures { IfOk result (λ it. IsRunOf script.now (string_bytes it.text) store_out.new (status_of it.end)) }
 {
     let store = Store::boot(alloc, script, score)?;
     let mut core = Core::boot(alloc, store, script.steps, script.heap)?;
     let reported = run_core(alloc, &mut core, script);
-    let store = core.close();
-    let reported = reported?;
-    Ok(Answer {
-        text: reported.text,
-        status: Status::of(reported.end),
-        store: Some(store),
-    })
+    hand_out(store_out, core.close());
+    reported
+}
+
+/// Hands a store out.
+fn hand_out<F: Scorer, G: Scorer>(store_out: &mut Option<Store<F, G>>, store: Store<F, G>)
+    ensures { store_out.new ≡ Some store }
+{
+    drop(store_out.replace(store));
 }

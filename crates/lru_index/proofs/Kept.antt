@@ -10,11 +10,11 @@ use Rattle.std.specs.declared.cmp.Ordering.{Ordering}
 use Rattle.lru_index.specs.Sorted.{IsSorted}
 use Rattle.lru_index.specs.Order.{order, IsOrder, touched, warmer, first_key, coldest_of}
 use Rattle.lru_index.specs.Chain.{IsChain, AreLinked, link_at, first_or, walk, items_of}
-use Rattle.lru_index.specs.Spares.{IsSpareBelow, IsPlaceApart, AreApart}
+use Rattle.lru_index.specs.Tree.{IsAlone}
+use Rattle.lru_index.specs.Spares.{Spare, IsSpareBelow, IsPlaceApart, AreApart}
 use Rattle.lru_index.specs.Index.{IsKept, IsIndex, IsFree, pairs_in, places_in}
 use Rattle.lru_index.specs.declared.chain.Link.{Link}
 use Rattle.lru_index.specs.declared.chain.Chain.{Chain}
-use Rattle.lru_index.specs.declared.spares.Spare.{Spare}
 use Rattle.lru_index.proofs.Chained.{chain_item}
 use Rattle.lru_index.proofs.Pairs.{length_removed, distinct_put, distinct_removed, found_put, found_removed, touched_found, distinct_touched, length_touched}
 use Rattle.lru_index.proofs.Placed.{length_pairs, keys_same, pairs_append, places_append, none_placed, pairs_removed, places_removed, pairs_touched, places_touched, agree}
@@ -61,17 +61,17 @@ in_use chain ps p h there = some_under (λ link. link.item) (link_at chain.links
 
 module _ {K : Type 0} where
   -- two spares of one index have two places
-  apart_last : (xs : List (Spare K)) (y : Spare K) → AreApart (xs ++ y ∷ []) → IsPlaceApart y.place xs
+  apart_last : (xs : List (Spare K)) (y : Spare K) → AreApart (xs ++ y ∷ []) → IsPlaceApart y.value.value xs
   apart_last [] y a = tt
-  apart_last (x ∷ xs) y a = (nat_eq_equiv.symm y.place x.place ∙ all_last (λ other. nat_eq x.place other.place ≡ false) xs y a.0, apart_last xs y a.1)
+  apart_last (x ∷ xs) y a = (nat_eq_equiv.symm y.value.value x.value.value ∙ all_last (λ other. nat_eq x.value.value other.value.value ≡ false) xs y a.0, apart_last xs y a.1)
 
   apart_before : (xs : List (Spare K)) (y : Spare K) → AreApart (xs ++ y ∷ []) → AreApart xs
   apart_before [] y a = tt
   apart_before (x ∷ xs) y a = (all_before _ xs (y ∷ []) a.0, apart_before xs y a.1)
 
-  pub apart_push : (xs : List (Spare K)) (y : Spare K) → AreApart xs → IsPlaceApart y.place xs → AreApart (xs ++ y ∷ [])
+  pub apart_push : (xs : List (Spare K)) (y : Spare K) → AreApart xs → IsPlaceApart y.value.value xs → AreApart (xs ++ y ∷ [])
   apart_push [] y a b = (tt, tt)
-  apart_push (x ∷ xs) y a b = (all_push _ xs y a.0 (nat_eq_equiv.symm x.place y.place ∙ b.0), apart_push xs y a.1 b.1)
+  apart_push (x ∷ xs) y a b = (all_push _ xs y a.0 (nat_eq_equiv.symm x.value.value y.value.value ∙ b.0), apart_push xs y a.1 b.1)
 
   -- these items are those that the chain has
   pub record IsSeen (eq : K → K → Bool) (cmp : K → K → Ordering) (places : List (K × ℕ)) (chain : Chain (K × ℕ)) (spare : List (Spare K)) (most : ℕ) (items : List (ℕ × (K × ℕ))) : Type 0 where
@@ -92,11 +92,11 @@ module _ {K : Type 0} {eq : K → K → Bool} (laws : IsEquivalence eq) (cmp : K
   -- The index with a pair more, which took the last spare.
   pub kept_put : (places now : List (K × ℕ)) (chain new : Chain (K × ℕ)) (front : List (Spare K)) (spare : Spare K) (most : ℕ) (items : List (ℕ × (K × ℕ))) (key : K) (slot : ℕ)
       → IsKept eq cmp places chain (front ++ spare ∷ []) most items → lookup (eq key) (pairs_in items) ≡ None
-      → IsSorted cmp (keys_of now) → ((q : K) → lookup (eq q) now ≡ cond (eq key q) (Some spare.place) (lookup (eq q) places))
-      → IsChain new (items ++ (spare.place, (key, slot)) ∷ []) → vec_len new.links ≡ vec_len chain.links
-      → IsKept eq cmp now new front most (items ++ (spare.place, (key, slot)) ∷ [])
+      → IsSorted cmp (keys_of now) → ((q : K) → lookup (eq q) now ≡ cond (eq key q) (Some spare.value.value) (lookup (eq q) places))
+      → IsChain new (items ++ (spare.value.value, (key, slot)) ∷ []) → vec_len new.links ≡ vec_len chain.links
+      → IsKept eq cmp now new front most (items ++ (spare.value.value, (key, slot)) ∷ [])
   kept_put places now chain new front spare most items key slot k absent sorted finds chained table =
-      let item : ℕ × (K × ℕ) = (spare.place, (key, slot)) in
+      let item : ℕ × (K × ℕ) = (spare.value.value, (key, slot)) in
       let free = all_last (IsFree items) front spare k.free in
       let more : length (items ++ item ∷ []) ≡ length items + 1 = length-append items (item ∷ []) in
       let fewer : length (front ++ spare ∷ []) ≡ length front + 1 = length-append front (spare ∷ []) in
@@ -105,23 +105,23 @@ module _ {K : Type 0} {eq : K → K → Bool} (laws : IsEquivalence eq) (cmp : K
         sorted = sorted;
         chained = chained;
         table = table ∙ k.table;
-        found = λ q. finds q ∙ ap (cond (eq key q) (Some spare.place)) (k.found q) ∙ sym (ap (lookup (eq q)) (places_append items (item ∷ [])) ∙ found_put laws (places_in items) key spare.place (none_placed (eq key) items absent) q);
+        found = λ q. finds q ∙ ap (cond (eq key q) (Some spare.value.value)) (k.found q) ∙ sym (ap (lookup (eq q)) (places_append items (item ∷ [])) ∙ found_put laws (places_in items) key spare.value.value (none_placed (eq key) items absent) q);
         distinct = subst (λ l. IsDistinct eq (keys_of l)) (sym (pairs_append items (item ∷ []))) (distinct_put laws (pairs_in items) key slot absent k.distinct);
         room = omega arith;
         spares = all_before _ front (spare ∷ []) k.spares;
-        free = all_both (λ other. nat_eq spare.place other.place ≡ false) (IsFree items) (IsFree (items ++ item ∷ [])) (λ other a f. found_put nat_eq_equiv items spare.place (key, slot) free other.place ∙ ap (λ b. cond b (Some (key, slot)) (lookup (nat_eq other.place) items)) a ∙ f) front (apart_last front spare k.apart) (all_before _ front (spare ∷ []) k.free);
+        free = all_both (λ other. nat_eq spare.value.value other.value.value ≡ false) (IsFree items) (IsFree (items ++ item ∷ [])) (λ other a f. found_put nat_eq_equiv items spare.value.value (key, slot) free other.value.value ∙ ap (λ b. cond b (Some (key, slot)) (lookup (nat_eq other.value.value) items)) a ∙ f) front (apart_last front spare k.apart) (all_before _ front (spare ∷ []) k.free);
         apart = apart_before front spare k.apart;
       }
 
   -- The index without a pair, whose place is spare again.
   pub kept_removed : (places now : List (K × ℕ)) (chain new : Chain (K × ℕ)) (spares : List (Spare K)) (spare : Spare K) (most : ℕ) (items : List (ℕ × (K × ℕ))) (key : K) (pair : K × ℕ)
-      → IsKept eq cmp places chain spares most items → lookup (eq key) places ≡ Some spare.place → lookup (nat_eq spare.place) items ≡ Some pair
+      → IsKept eq cmp places chain spares most items → lookup (eq key) places ≡ Some spare.value.value → lookup (nat_eq spare.value.value) items ≡ Some pair
       → IsSorted cmp (keys_of now) → ((q : K) → lookup (eq q) now ≡ cond (eq key q) None (lookup (eq q) places))
-      → IsChain new (remove_entry (nat_eq spare.place) items) → vec_len new.links ≡ vec_len chain.links
-      → spare.leaves.left.value ≡ [] → spare.leaves.right.value ≡ []
-      → IsKept eq cmp now new (spares ++ spare ∷ []) most (remove_entry (nat_eq spare.place) items)
-  kept_removed places now chain new spares spare most items key pair k there found sorted finds chained table left right =
-      let place = spare.place in
+      → IsChain new (remove_entry (nat_eq spare.value.value) items) → vec_len new.links ≡ vec_len chain.links
+      → IsAlone spare.value
+      → IsKept eq cmp now new (spares ++ spare ∷ []) most (remove_entry (nat_eq spare.value.value) items)
+  kept_removed places now chain new spares spare most items key pair k there found sorted finds chained table alone =
+      let place = spare.value.value in
       let rest = remove_entry (nat_eq place) items in
       let agrees = agree laws key place items k.distinct k.chained.distinct (sym (k.found key) ∙ there) in
       let gone = found_removed nat_eq_equiv items place k.chained.distinct in
@@ -130,8 +130,8 @@ module _ {K : Type 0} {eq : K → K → Bool} (laws : IsEquivalence eq) (cmp : K
       let placed = subst (IsDistinct eq) (keys_same items) k.distinct in
       let room = k.room in
       let within : place < most = subst (λ n. place < n) (sym chain.links.ok.0 ∙ k.table) (within_table chain.links.items place (in_use chain items place k.chained (rw found refl))) in
-      let others = all_from (IsFree items) (λ other. nat_eq place other.place ≡ false) (λ other f. (elim (nat_eq place other.place) as (λ y. nat_eq place other.place ≡ y → y ≡ false) [
-        | true ↦ λ t. let here : lookup (nat_eq place) items ≡ None = ap (λ p. lookup (nat_eq p) items) (eqb-true place other.place t) ∙ f in cc
+      let others = all_from (IsFree items) (λ other. nat_eq place other.value.value ≡ false) (λ other f. (elim (nat_eq place other.value.value) as (λ y. nat_eq place other.value.value ≡ y → y ≡ false) [
+        | true ↦ λ t. let here : lookup (nat_eq place) items ≡ None = ap (λ p. lookup (nat_eq p) items) (eqb-true place other.value.value t) ∙ f in cc
         | false ↦ λ t. refl
       ]) refl) spares k.free in
       record {
@@ -141,8 +141,8 @@ module _ {K : Type 0} {eq : K → K → Bool} (laws : IsEquivalence eq) (cmp : K
         found = λ q. finds q ∙ ap (cond (eq key q) None) (k.found q) ∙ sym (ap (lookup (eq q)) (places_removed (eq key) place items agrees) ∙ found_removed laws (places_in items) key placed q);
         distinct = subst (λ l. IsDistinct eq (keys_of l)) (sym (pairs_removed (eq key) place items agrees)) (distinct_removed (eq key) eq (pairs_in items) k.distinct);
         room = omega arith;
-        spares = all_push _ spares spare k.spares (record { left = left; right = right; within = within });
-        free = all_push _ spares spare (all_both (λ other. nat_eq place other.place ≡ false) (IsFree items) (IsFree rest) (λ other a f. gone other.place ∙ ap (λ b. cond b None (lookup (nat_eq other.place) items)) a ∙ f) spares others k.free) (gone place ∙ ap (λ b. cond b None (lookup (nat_eq place) items)) (nat_eq_equiv.refl place));
+        spares = all_push _ spares spare k.spares (record { alone = alone; within = within });
+        free = all_push _ spares spare (all_both (λ other. nat_eq place other.value.value ≡ false) (IsFree items) (IsFree rest) (λ other a f. gone other.value.value ∙ ap (λ b. cond b None (lookup (nat_eq other.value.value) items)) a ∙ f) spares others k.free) (gone place ∙ ap (λ b. cond b None (lookup (nat_eq place) items)) (nat_eq_equiv.refl place));
         apart = apart_push spares spare k.apart others;
       }
 
@@ -165,7 +165,7 @@ module _ {K : Type 0} {eq : K → K → Bool} (laws : IsEquivalence eq) (cmp : K
         distinct = subst (λ l. IsDistinct eq (keys_of l)) (sym (pairs_touched (eq key) place items agrees)) (distinct_touched laws same (pairs_in items) key slot k.distinct slot_is);
         room = omega arith;
         spares = k.spares;
-        free = all_from (IsFree items) (IsFree (touched (nat_eq place) items)) (λ other f. as_before other.place ∙ f) spares k.free;
+        free = all_from (IsFree items) (IsFree (touched (nat_eq place) items)) (λ other f. as_before other.value.value ∙ f) spares k.free;
         apart = k.apart;
       }
 

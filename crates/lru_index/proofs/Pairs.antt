@@ -1,5 +1,5 @@
 -- What a list of pairs with distinct keys is with a pair more, and with one less.
-use Rattle.std.proofs.Common.{◌≡◌, ℕ, suc, ◌+◌, Bool, true, false, cond, List, [], ◌∷◌, ◌++◌, length, Some, None, IsSome, is_some, refl, sym, ap, ◌∙◌, subst, arith, length-append}
+use Rattle.std.proofs.Common.{◌≡◌, suc, ◌+◌, Bool, true, false, cond, List, [], ◌∷◌, ◌++◌, length, Some, None, IsSome, is_some, refl, sym, ap, ◌∙◌, subst, arith, length-append}
 use Rattle.std.specs.List.{IsDistinct, AllByRecursion}
 use Rattle.std.specs.Map.{keys_of, lookup, lookup_entry, remove_entry}
 use Rattle.std.specs.Option.{option_to_list}

@@ -6,7 +6,7 @@ use Rattle.std.specs.Cmp.{IsTotalOrder, IsEquivalence}
 use Rattle.std.specs.Ordering.{is_eq, ordering_reverse}
 use Rattle.std.specs.declared.cmp.Ordering.{Ordering}
 use Rattle.std.specs.declared.cmp.Ordering.TheVariants.{Less, Equal, Greater}
-use Rattle.lru_index.specs.Sorted.{IsSorted, IsWith, IsSet}
+use Rattle.lru_index.specs.Sorted.{IsSorted, IsWith}
 
 module _ {K V : Type 0} where
   all_front : (P : K → Type 0) (l m : List (K × V)) → AllByRecursion P (keys_of (l ++ m)) → AllByRecursion P (keys_of l)
@@ -62,25 +62,6 @@ module _ {K V : Type 0} where
     is = ap (λ l. rest ++ l) w.is ∙ sym (append_assoc rest w.front (pair ∷ w.back));
   }
 
-  -- another value in the first part, or in the second
-  pub set_left : {key : K} {value : V} {old new : List (K × V)} (rest : List (K × V)) → IsSet key value old new → IsSet key value (old ++ rest) (new ++ rest)
-  set_left {key} {value} {old} {new} rest s = record {
-    front = s.front;
-    back = s.back ++ rest;
-    before = s.before;
-    was = ap (λ l. l ++ rest) s.was ∙ append_assoc s.front ((key, s.before) ∷ s.back) rest;
-    is = ap (λ l. l ++ rest) s.is ∙ append_assoc s.front ((key, value) ∷ s.back) rest;
-  }
-
-  pub set_right : {key : K} {value : V} {old new : List (K × V)} (rest : List (K × V)) → IsSet key value old new → IsSet key value (rest ++ old) (rest ++ new)
-  set_right {key} {value} {old} {new} rest s = record {
-    front = rest ++ s.front;
-    back = s.back;
-    before = s.before;
-    was = ap (λ l. rest ++ l) s.was ∙ sym (append_assoc rest s.front ((key, s.before) ∷ s.back));
-    is = ap (λ l. rest ++ l) s.is ∙ sym (append_assoc rest s.front ((key, value) ∷ s.back));
-  }
-
   -- keys that rise still do without one of them
   sorted_without : (cmp : K → K → Ordering) (l : List (K × V)) (p : K × V) (r : List (K × V)) → IsSorted cmp (keys_of (l ++ p ∷ r)) → IsSorted cmp (keys_of (l ++ r))
   sorted_without cmp [] p r s = s.1
@@ -88,14 +69,6 @@ module _ {K V : Type 0} where
 
   pub sorted_less : (cmp : K → K → Ordering) {pair : K × V} {less more : List (K × V)} → IsWith pair less more → IsSorted cmp (keys_of more) → IsSorted cmp (keys_of less)
   sorted_less cmp {pair} {less} {more} w s = subst (λ l. IsSorted cmp (keys_of l)) (sym w.without) (sorted_without cmp w.front pair w.back (subst (λ l. IsSorted cmp (keys_of l)) w.is s))
-
-  keys_set : (l : List (K × V)) (k : K) (v w : V) (r : List (K × V)) → keys_of (l ++ (k, v) ∷ r) ≡ keys_of (l ++ (k, w) ∷ r)
-  keys_set [] k v w r = refl
-  keys_set (x ∷ l) k v w r = ap (λ ks. x.0 ∷ ks) (keys_set l k v w r)
-
-  -- another value changes no key
-  pub sorted_set : (cmp : K → K → Ordering) {key : K} {value : V} {old new : List (K × V)} → IsSet key value old new → IsSorted cmp (keys_of old) → IsSorted cmp (keys_of new)
-  sorted_set cmp {key} {value} {old} {new} c s = subst (λ l. IsSorted cmp (keys_of l)) (sym c.is) (subst (IsSorted cmp) (keys_set c.front key c.before value c.back) (subst (λ l. IsSorted cmp (keys_of l)) c.was s))
 
   -- What is known of the sides of a pair in a list whose keys rise.
   pub record AtFork (cmp : K → K → Ordering) (left : List (K × V)) (key : K) (right : List (K × V)) : Type 0 where
@@ -187,7 +160,7 @@ module _ {K V : Type 0} {cmp : K → K → Ordering} {eq : K → K → Bool} (to
   apart_back k r a = all_mapped _ (λ x. eq k x ≡ false) (λ x g. ties k x ∙ ap is_eq g) r a
 
   module _ (laws : IsEquivalence eq) where
-    -- what is found where a pair was put, where one was taken, and where a key has another value
+    -- what is found where a pair was put, and where one was taken
     pub finds_put : {k : K} {v : V} {less more : List (K × V)} → IsWith (k, v) less more → IsSorted cmp (keys_of more) → (q : K) → lookup (eq q) more ≡ cond (eq k q) (Some v) (lookup (eq q) less)
     finds_put {k} {v} {less} {more} w s q =
         let f = fork_of cmp w.front k v w.back w.is s in
@@ -204,11 +177,3 @@ module _ {K V : Type 0} {cmp : K → K → Ordering} {eq : K → K → Bool} (to
           | true ↦ λ e. ap (lookup (eq q)) w.without ∙ none_found (eq q) (w.front ++ w.back) (all_mapped _ (λ x. eq q x ≡ false) (λ x g. sym (laws.congr k q x e) ∙ g) (w.front ++ w.back) apart)
           | false ↦ λ e. sym (finds_put w s q ∙ ap (λ b. cond b (Some v) (lookup (eq q) less)) e)
         ]) refl
-
-    pub finds_set : {k : K} {v : V} {old new : List (K × V)} → IsSet k v old new → IsSorted cmp (keys_of old) → (q : K) → lookup (eq q) new ≡ cond (eq k q) (Some v) (lookup (eq q) old)
-    finds_set {k} {v} {old} {new} c s q =
-        let f = fork_of cmp c.front k c.before c.back c.was s in
-        let a = apart_front k c.front f.below in
-        let was : lookup (eq q) old ≡ cond (eq k q) (Some c.before) (lookup (eq q) (c.front ++ c.back)) = ap (lookup (eq q)) c.was ∙ found_with laws c.front k c.before c.back a q in
-        let is : lookup (eq q) new ≡ cond (eq k q) (Some v) (lookup (eq q) (c.front ++ c.back)) = ap (lookup (eq q)) c.is ∙ found_with laws c.front k v c.back a q in
-        rw (is, was) ((elim (eq k q) as (λ y. cond y (Some v) (lookup (eq q) (c.front ++ c.back)) ≡ cond y (Some v) (cond y (Some c.before) (lookup (eq q) (c.front ++ c.back)))) [ true ↦ refl | false ↦ refl ]))

@@ -1,11 +1,11 @@
 -- What a table has at a place after another one was written.
-use Rattle.std.proofs.Common.{◌≡◌, ℕ, ◌+◌, ◌<◌, true, false, cond, List, length, Option, Some, None, IsSome, nat_eq, eqb-true, replicate, refl, sym, ap, ◌∙◌, subst, inl, inr, arith}
+use Rattle.std.proofs.Common.{◌≡◌, ℕ, ◌<◌, true, false, cond, List, length, Option, Some, None, IsSome, nat_eq, eqb-true, replicate, refl, sym, ap, ◌∙◌, inl, inr, arith}
 use Rattle.std.specs.Option.{option_map}
 use Rattle.std.specs.Prelude.{slice_set}
 use Rattle.std.proofs.lemmas.Bool.{cases_lt, false≢true}
 use Rattle.std.proofs.lemmas.List.{get_or-set_same, get_or-set_other, get_or_past, get_or-replicate, length-replicate}
 use Rattle.std.specs.Cmp.{nat_eq_equiv}
-use Rattle.lru_index.specs.Chain.{link_at, hits}
+use Rattle.lru_index.specs.Chain.{link_at}
 use Rattle.lru_index.specs.declared.chain.Link.{Link}
 
 module _ {T : Type 0} where

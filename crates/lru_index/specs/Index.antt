@@ -6,9 +6,8 @@ use Rattle.std.specs.Map.{keys_of, lookup}
 use Rattle.std.specs.declared.cmp.Ordering.{Ordering}
 use Rattle.lru_index.specs.Sorted.{IsSorted}
 use Rattle.lru_index.specs.Chain.{IsChain, items_of}
-use Rattle.lru_index.specs.Spares.{IsSpareBelow, AreApart}
+use Rattle.lru_index.specs.Spares.{Spare, IsSpareBelow, AreApart}
 use Rattle.lru_index.specs.declared.chain.Chain.{Chain}
-use Rattle.lru_index.specs.declared.spares.Spare.{Spare}
 
 module _ {K : Type 0} where
   -- the pairs of items at places
@@ -23,7 +22,7 @@ module _ {K : Type 0} where
 
   -- no item stands at a place
   abbrev pub IsFree : List (ℕ × (K × ℕ)) → Spare K → Type 0
-  IsFree items spare = lookup (nat_eq spare.place) items ≡ None
+  IsFree items spare = lookup (nat_eq spare.value.value) items ≡ None
 
   -- These items, at most so many, are kept: each key is found at the place of its pair, no two pairs have equal keys,
   -- and what is spare is at free places.

@@ -1,4 +1,4 @@
--- Lists of pairs whose keys rise, and what it is to add a pair, to take one out, and to give a key another value.
+-- Lists of pairs whose keys rise, and what it is to add a pair and to take one out.
 use Rattle.std.specs.Prelude.{◌≡◌, List, [], ◌∷◌, ◌++◌}
 use Rattle.std.specs.List.{AllByRecursion}
 use Rattle.std.specs.declared.cmp.Ordering.{Ordering}
@@ -16,11 +16,3 @@ module _ {K V : Type 0} where
     pub back : List (K × V)
     pub without : less ≡ front ++ back
     pub is : more ≡ front ++ pair ∷ back
-
-  -- The pair of one key has another value, and all else is the same.
-  pub record IsSet (key : K) (value : V) (old new : List (K × V)) : Type 0 where
-    pub front : List (K × V)
-    pub back : List (K × V)
-    pub before : V
-    pub was : old ≡ front ++ (key, before) ∷ back
-    pub is : new ≡ front ++ (key, value) ∷ back

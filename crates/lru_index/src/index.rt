@@ -21,7 +21,7 @@ pub struct Index<K: Key> {
     // The place of each key in the chain.
     places: Tree<K, u32>,
     chain: Chain<(K, u32)>,
-    // What each pair will take that there is still room for. Nothing is allocated after it is.
+    // What each pair that there is still room for will take. Nothing is allocated later.
     spare: Vec<Spare<K>>,
 }
 
@@ -124,12 +124,9 @@ impl<K: Key> Index<K> {
         ensures room { length self.new.pairs < self.new.capacity }
         ensures valid { IsOrder K.eq self.new }
     {
-        let taken = self.places.take(key);
-        let pair = self.chain.remove(taken.value);
-        self.spare.push_reserved(Spare {
-            place: taken.value,
-            leaves: taken.leaves,
-        });
+        let spare = self.places.take(key);
+        let pair = self.chain.remove(spare.value);
+        self.spare.push_reserved(spare);
         pair.1
     }
 
@@ -146,8 +143,9 @@ impl<K: Key> Index<K> {
         let Some(spare) = self.spare.pop() else {
             unreachable!()
         };
-        self.places.put(key, spare.place, spare.leaves);
-        self.chain.add(spare.place, (key, slot));
+        let place = spare.value;
+        self.places.put(key, spare);
+        self.chain.add(place, (key, slot));
     }
 
     /// The shape of the tree.

@@ -4,8 +4,9 @@ ghost use Rattle.std.proofs.Common.{eqb-true};
 
 use kabi_types::Name27;
 
-/// A key of an index. Keys that compare as equal are the same.
-pub trait Key: Ord + Copy {
+/// A key of an index. Keys that compare as equal are the same. The default one is any: it stands
+/// where a pair has room and isn't there yet.
+pub trait Key: Ord + Copy + Default {
     ghost same: { (a b : Self) → Self.eq a b ≡ true → a ≡ b };
 }
 
@@ -15,7 +16,7 @@ impl Key for u64 {
 
 /// A name in a directory: the number of the directory's node, the name's length in bytes, and its
 /// bytes with zeros behind them. `of` makes it, so that a name has one key.
-#[derive(Clone, Copy, Debug, PartialEq, Eq, PartialOrd, Ord)]
+#[derive(Clone, Copy, Debug, Default, PartialEq, Eq, PartialOrd, Ord)]
 pub struct NameKey {
     pub dir: u32,
     pub len: u8,

@@ -4,16 +4,12 @@ ghost use Rattle.std.specs.List.{AllByRecursion};
 ghost use Rattle.lru_index.specs.Spares.{IsSpareBelow, AreApart};
 
 use crate::Key;
-use crate::tree::{Leaves, Tree};
+use crate::tree::Fork;
 use kabi_types::Memory;
 use std::alloc::Global;
 
-/// A free place of the table, and two leaves for the tree.
-#[derive(Drop)]
-pub struct Spare<K: Key> {
-    pub place: u32,
-    pub leaves: Leaves<K, u32>,
-}
+/// A fork for the tree, whose value is a free place of the table.
+pub type Spare<K> = Box<Fork<K, u32>>;
 
 /// Spares for so many pairs, each with a place of its own below that number.
 pub fn spares_for<K: Key>(alloc: Global, capacity: u32) -> Result<Vec<Spare<K>>, Memory>
@@ -24,12 +20,8 @@ pub fn spares_for<K: Key>(alloc: Global, capacity: u32) -> Result<Vec<Spare<K>>,
 {
     let mut spare = Vec::with_capacity(alloc, capacity as usize)?;
     for place in 0..capacity {
-        let left = Box::new(alloc, Tree::leaf())?;
-        let right = Box::new(alloc, Tree::leaf())?;
-        spare.push_reserved(Spare {
-            place,
-            leaves: Leaves { left, right },
-        });
+        let fork = Box::new(alloc, Fork::alone(place))?;
+        spare.push_reserved(fork);
     }
     Ok(spare)
 }

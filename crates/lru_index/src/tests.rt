@@ -54,7 +54,17 @@ fn same_order<K: Key>(index: &Index<K>, plain: &Plain<K>) -> bool {
     true
 }
 
-/// Whether both answer the same to a call that a number picks.
+/// Whether both have the same coldest key, which both drop.
+fn evict_both<K: Key>(index: &mut Index<K>, plain: &mut Plain<K>) -> bool {
+    let coldest = plain.after(0);
+    match index.coldest(None) {
+        Some(key) => coldest == Some(key) && Some(index.drop_key(key)) == plain.take(key),
+        None => coldest.is_none(),
+    }
+}
+
+/// Whether both answer the same to a call that a number picks. Where there is no room for a key,
+/// the coldest goes.
 fn call_both<K: Key>(
     index: &mut Index<K>,
     plain: &mut Plain<K>,
@@ -65,10 +75,11 @@ fn call_both<K: Key>(
         if plain.find(key).is_some() || index.used(key).is_some() {
             return Ok(false);
         }
-        if !index.is_full() {
-            index.put(key, pick);
-            plain.put(key, pick)?;
+        if index.is_full() {
+            return Ok(evict_both(index, plain));
         }
+        index.put(key, pick);
+        plain.put(key, pick)?;
         return Ok(true);
     }
     let slot = plain.take(key);
@@ -87,27 +98,29 @@ fn call_both<K: Key>(
     Ok(true)
 }
 
-/// Whether both answer the same in a long run of calls on nine keys.
-fn agree<K: Key>(
-    index: &mut Index<K>,
-    plain: &mut Plain<K>,
-    keys: &[K; 9],
-) -> Result<bool, Memory> {
+/// Whether both answer the same in a long mixed run of calls on some keys, and have the same order
+/// after each eighth call.
+fn agree<K: Key>(index: &mut Index<K>, plain: &mut Plain<K>, keys: &[K]) -> Result<bool, Memory> {
     let mut seed = 7u64;
-    for _ in 0..3000 {
+    for call in 0..10000 {
         seed = seed.wrapping_mul(6364136223846793005).wrapping_add(1);
         let pick = (seed >> 40) as u32;
-        let key = keys[(seed >> 33) as usize % 9];
-        if !call_both(index, plain, key, pick)? || !same_order(index, plain) {
+        let Some(key) = keys.get((seed >> 33) as usize % keys.len().max(1)) else {
+            return Ok(false);
+        };
+        if !call_both(index, plain, *key, pick)? {
+            return Ok(false);
+        }
+        if call % 8 == 0 && !same_order(index, plain) {
             return Ok(false);
         }
     }
     Ok(true)
 }
 
-/// The same of two that are empty, and have room for six of the keys.
-fn agrees<K: Key>(alloc: Global, keys: &[K; 9]) -> Result<bool, Memory> {
-    let mut index = Index::boot(alloc, 6)?;
+/// The same of two that are empty, and have room for so many of the keys.
+fn agrees<K: Key>(alloc: Global, keys: &[K], capacity: u32) -> Result<bool, Memory> {
+    let mut index = Index::boot(alloc, capacity)?;
     let mut plain = Plain {
         pairs: Vec::new(alloc),
     };
@@ -147,6 +160,24 @@ fn touched_key_is_the_warmest(rt: HostRuntime) -> Result<(), Fail> {
 }
 
 #[test]
+fn the_only_place_is_used_again(rt: HostRuntime) -> Result<(), Fail> {
+    let mut index = Index::boot(rt.alloc(), 1)?;
+    assert!(rt; index.coldest(None) == None);
+    index.put(5u64, 3);
+    assert!(rt; index.is_full());
+    assert!(rt; index.coldest(None) == Some(5));
+    assert!(rt; index.coldest(Some(5)) == None);
+    assert!(rt; index.used(5) == Some(3));
+    assert!(rt; index.drop_key(5) == 3);
+    assert!(rt; index.find(5) == None);
+    index.put(6, 9);
+    assert!(rt; index.find(6) == Some(9));
+    assert!(rt; index.coldest(None) == Some(6));
+    drop(index);
+    Ok(())
+}
+
+#[test]
 fn a_name_and_the_same_with_a_zero_behind_it_have_two_keys(rt: HostRuntime) -> Result<(), Fail> {
     let short = Name27::of(b"ab").ok_or("too long")?;
     let long = Name27::of(b"ab\0").ok_or("too long")?;
@@ -172,15 +203,43 @@ const NAMES: [(u32, u8, u8); 9] = [
     (u32::MAX, 27, 255),
 ];
 
+/// How many keys there is room for: for one, for two, and for six of nine.
+const ROOM: [u32; 3] = [1, 2, 6];
+
+/// Whether all three agree on nine keys.
+fn all_agree<K: Key>(alloc: Global, keys: &[K; 9]) -> Result<bool, Memory> {
+    for capacity in ROOM {
+        if !agrees(alloc, keys, capacity)? {
+            return Ok(false);
+        }
+    }
+    Ok(true)
+}
+
 #[test]
 fn agrees_with_a_plain_index_of_numbers(rt: HostRuntime) -> Result<(), Fail> {
-    assert!(rt; agrees(rt.alloc(), &NUMBERS)?);
+    assert!(rt; all_agree(rt.alloc(), &NUMBERS)?);
+    Ok(())
+}
+
+/// Numbers far and near, no two the same, as 257 is a prime.
+fn many_numbers() -> [u64; 150] {
+    let mut numbers = [0; 150];
+    for place in 0..150 {
+        numbers[place] = (place as u64).wrapping_mul(101) % 257;
+    }
+    numbers
+}
+
+#[test]
+fn agrees_with_a_plain_index_of_many_numbers(rt: HostRuntime) -> Result<(), Fail> {
+    assert!(rt; agrees(rt.alloc(), &many_numbers(), 100)?);
     Ok(())
 }
 
 #[test]
 fn agrees_with_a_plain_index_of_names(rt: HostRuntime) -> Result<(), Fail> {
     let names = NAMES.map(|(dir, len, last)| named(dir, len, last));
-    assert!(rt; agrees(rt.alloc(), &names)?);
+    assert!(rt; all_agree(rt.alloc(), &names)?);
     Ok(())
 }

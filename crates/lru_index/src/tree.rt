@@ -1,12 +1,12 @@
 //! A search tree from keys to values, which is seen as its pairs in the order of the keys.
 //!
 //! A node's two sides differ in height by at most one, so a call goes down as many nodes as the
-//! logarithm of their number. Leaves are boxes too: `put` takes two that its caller kept, and
-//! `take` gives two back, so neither asks for memory.
+//! logarithm of their number. Each pair has one box, and a leaf none: `put` hangs in a box that its
+//! caller kept, and `take` gives one back, so neither asks for memory.
 ghost use Rattle.std.specs.Prelude.{◌≡◌, [], ◌∷◌, ◌++◌, Some, None, MatchOption, IsSome, cond};
 ghost use Rattle.std.specs.Map.{keys_of, lookup};
-ghost use Rattle.lru_index.specs.Sorted.{IsSorted, IsWith, IsSet};
-ghost use Rattle.lru_index.specs.Tree.{in_order, in_order_fork};
+ghost use Rattle.lru_index.specs.Sorted.{IsSorted, IsWith};
+ghost use Rattle.lru_index.specs.Tree.{in_order, in_order_fork, IsAlone};
 
 use crate::Key;
 use std::cmp::Ordering;
@@ -24,32 +24,18 @@ pub struct Tree<K: Key, V: Copy> {
 #[derive(Drop)]
 enum Node<K: Key, V: Copy> {
     Leaf,
-    Inner(Fork<K, V>),
+    Inner(Box<Fork<K, V>>),
 }
 
+/// A key with its value and its two sides. Outside a tree it stands alone, with two leaves.
 #[cycle(tree)]
 #[derive(Drop)]
-struct Fork<K: Key, V: Copy> {
-    left: Box<Tree<K, V>>,
+pub struct Fork<K: Key, V: Copy> {
+    left: Tree<K, V>,
+    right: Tree<K, V>,
     key: K,
-    value: V,
-    height: u8,
-    right: Box<Tree<K, V>>,
-}
-
-/// Two leaves, out of which `put` makes the sides of a new node.
-#[derive(Drop)]
-pub struct Leaves<K: Key, V: Copy> {
-    pub left: Box<Tree<K, V>>,
-    pub right: Box<Tree<K, V>>,
-}
-
-/// A key that was taken out, with its value and the leaves that are left over.
-#[derive(Drop)]
-pub struct Taken<K: Key, V: Copy> {
-    pub key: K,
     pub value: V,
-    pub leaves: Leaves<K, V>,
+    height: u8,
 }
 
 impl<K: Key, V: Copy> Model for Tree<K, V> {
@@ -66,6 +52,22 @@ impl<K: Key, V: Copy> Model for Tree<K, V> {
     ghost use Rattle.std.proofs.Common.{arith, length-append};
 
     ghost size_decreases = { λ a h. Prim.grind (arith, length-append) };
+}
+
+impl<K: Key, V: Copy> Fork<K, V> {
+    /// A fork that stands alone. `put` gives it its key.
+    pub fn alone(value: V) -> Fork<K, V>
+        ensures alone { IsAlone result }
+        ensures value { result.value ≡ value }
+    {
+        Fork {
+            left: Tree::leaf(),
+            right: Tree::leaf(),
+            key: K::default(),
+            value,
+            height: 1,
+        }
+    }
 }
 
 impl<K: Key, V: Copy> Tree<K, V> {
@@ -91,50 +93,23 @@ impl<K: Key, V: Copy> Tree<K, V> {
         }
     }
 
-    /// Gives a key that is there another value.
-    pub fn set(&mut self, key: K, value: V)
-        requires sorted { IsSorted K.cmp (keys_of self.old) }
-        requires there { IsSome (lookup (K.eq key) self.old) }
-        ensures set { IsSet key value self.old self.new }
-        ensures sorted { IsSorted K.cmp (keys_of self.new) }
-        ensures finds { (other : K)
-            → lookup (K.eq other) self.new ≡ cond (K.eq key other) (Some value)
-            (lookup (K.eq other) self.old) }
-    {
-        match &mut self.node {
-            Node::Leaf => unreachable!(),
-            Node::Inner(fork) => match key.cmp(&fork.key) {
-                Ordering::Less => fork.left.set(key, value),
-                Ordering::Greater => fork.right.set(key, value),
-                Ordering::Equal => fork.value = value,
-            },
-        }
-    }
-
-    /// Adds an absent key with its value.
-    pub fn put(&mut self, key: K, value: V, leaves: Leaves<K, V>)
+    /// Adds an absent key with the value of a fork that stands alone.
+    pub fn put(&mut self, key: K, spare: Box<Fork<K, V>>)
         requires sorted { IsSorted K.cmp (keys_of self.old) }
         requires absent { lookup (K.eq key) self.old ≡ None }
-        requires left { leaves.left.value ≡ [] }
-        requires right { leaves.right.value ≡ [] }
-        ensures more { IsWith (key, value) self.old self.new }
+        requires alone { IsAlone spare.value }
+        ensures more { IsWith (key, spare.value.value) self.old self.new }
         ensures sorted { IsSorted K.cmp (keys_of self.new) }
         ensures finds { (other : K)
-            → lookup (K.eq other) self.new ≡ cond (K.eq key other) (Some value)
+            → lookup (K.eq other) self.new ≡ cond (K.eq key other) (Some spare.value.value)
             (lookup (K.eq other) self.old) }
     {
         let fork = match self.take_node() {
-            Node::Leaf => Fork {
-                left: leaves.left,
-                key,
-                value,
-                height: 1,
-                right: leaves.right,
-            },
+            Node::Leaf => keyed(spare, key),
             Node::Inner(mut fork) => {
                 match key.cmp(&fork.key) {
-                    Ordering::Less => fork.left.put(key, value, leaves),
-                    Ordering::Greater => fork.right.put(key, value, leaves),
+                    Ordering::Less => fork.left.put(key, spare),
+                    Ordering::Greater => fork.right.put(key, spare),
                     Ordering::Equal => unreachable!(),
                 }
                 balanced(fork)
@@ -143,18 +118,17 @@ impl<K: Key, V: Copy> Tree<K, V> {
         self.node = Node::Inner(fork);
     }
 
-    /// Takes a key that is there out.
-    pub fn take(&mut self, key: K) -> Taken<K, V>
+    /// Takes a key that is there out, and answers its fork, which stands alone.
+    pub fn take(&mut self, key: K) -> Box<Fork<K, V>>
         requires sorted { IsSorted K.cmp (keys_of self.old) }
         requires there { IsSome (lookup (K.eq key) self.old) }
-        ensures less { IsWith (key, result.value) self.new self.old }
+        ensures less { IsWith (key, result.value.value) self.new self.old }
         ensures sorted { IsSorted K.cmp (keys_of self.new) }
         ensures finds { (other : K)
             → lookup (K.eq other) self.new
             ≡ cond (K.eq key other) None (lookup (K.eq other) self.old) }
-        ensures value { lookup (K.eq key) self.old ≡ Some result.value }
-        ensures left { result.leaves.left.value ≡ [] }
-        ensures right { result.leaves.right.value ≡ [] }
+        ensures value { lookup (K.eq key) self.old ≡ Some result.value.value }
+        ensures alone { IsAlone result.value }
     {
         let Node::Inner(mut fork) = self.take_node() else {
             unreachable!()
@@ -168,55 +142,43 @@ impl<K: Key, V: Copy> Tree<K, V> {
         taken
     }
 
-    /// Puts what is left of a fork without its own key in the place of a leaf.
-    fn take_top(&mut self, mut fork: Fork<K, V>) -> Taken<K, V>
-        ensures key { result.key ≡ fork.key }
-        ensures value { result.value ≡ fork.value }
-        ensures less { self.new ≡ fork.left.value ++ fork.right.value }
-        ensures left { result.leaves.left.value ≡ [] }
-        ensures right { result.leaves.right.value ≡ [] }
+    /// Puts what is left of a fork without its own key in the place of a leaf, and answers the
+    /// fork, which stands alone.
+    fn take_top(&mut self, mut fork: Box<Fork<K, V>>) -> Box<Fork<K, V>>
+        ensures key { result.value.key ≡ fork.value.key }
+        ensures value { result.value.value ≡ fork.value.value }
+        ensures less { self.new ≡ fork.value.left ++ fork.value.right }
+        ensures alone { IsAlone result.value }
     {
-        let (key, value) = (fork.key, fork.value);
-        let leaves = match fork.right.take_first() {
-            None => {
-                self.node = fork.left.take_node();
-                Leaves {
-                    left: fork.left,
-                    right: fork.right,
-                }
+        match fork.right.take_first() {
+            None => self.node = fork.left.take_node(),
+            Some(mut first) => {
+                first.left.node = fork.left.take_node();
+                first.right.node = fork.right.take_node();
+                self.node = Node::Inner(balanced(first));
             }
-            Some(first) => {
-                fork.key = first.key;
-                fork.value = first.value;
-                self.node = Node::Inner(balanced(fork));
-                first.leaves
-            }
-        };
-        Taken { key, value, leaves }
+        }
+        fork
     }
 
-    /// Takes the lowest key out, where there is one.
-    fn take_first(&mut self) -> Option<Taken<K, V>>
+    /// Takes the lowest key out, where there is one, and answers its fork, which stands alone.
+    fn take_first(&mut self) -> Option<Box<Fork<K, V>>>
         ensures first { MatchOption result ((self.old ≡ []) × (self.new ≡ []))
-            (λ t. (self.old ≡ (t.key, t.value) ∷ self.new) × (t.leaves.left.value
-            ≡ []) × (t.leaves.right.value ≡ [])) }
+            (λ t. (self.old ≡ (t.value.key, t.value.value) ∷ self.new) × IsAlone t.value) }
     {
         let Node::Inner(mut fork) = self.take_node() else {
             return None;
         };
-        let Some(taken) = fork.left.take_first() else {
-            self.node = fork.right.take_node();
-            return Some(Taken {
-                key: fork.key,
-                value: fork.value,
-                leaves: Leaves {
-                    left: fork.left,
-                    right: fork.right,
-                },
-            });
-        };
-        self.node = Node::Inner(balanced(fork));
-        Some(taken)
+        match fork.left.take_first() {
+            None => {
+                self.node = fork.right.take_node();
+                Some(fork)
+            }
+            Some(first) => {
+                self.node = Node::Inner(balanced(fork));
+                Some(first)
+            }
+        }
     }
 
     /// The node, in whose place a leaf is left.
@@ -296,10 +258,19 @@ impl<K: Key, V: Copy> Tree<K, V> {
     }
 }
 
+/// A fork that stands alone, with another key.
+fn keyed<K: Key, V: Copy>(mut fork: Box<Fork<K, V>>, key: K) -> Box<Fork<K, V>>
+    ensures { in_order_fork result.value
+        ≡ fork.value.left ++ (key, fork.value.value) ∷ fork.value.right }
+{
+    fork.key = key;
+    measured(fork)
+}
+
 /// The same keys with sides that differ in height by at most one, where they differed by two at
 /// most.
-fn balanced<K: Key, V: Copy>(mut fork: Fork<K, V>) -> Fork<K, V>
-    ensures { in_order_fork result ≡ in_order_fork fork }
+fn balanced<K: Key, V: Copy>(mut fork: Box<Fork<K, V>>) -> Box<Fork<K, V>>
+    ensures { in_order_fork result.value ≡ in_order_fork fork.value }
 {
     let (left, right) = (fork.left.height(), fork.right.height());
     if left > right.saturating_add(1) {
@@ -314,73 +285,34 @@ fn balanced<K: Key, V: Copy>(mut fork: Fork<K, V>) -> Fork<K, V>
 }
 
 /// A rotation by which the top of the left side goes up.
-fn raise_left<K: Key, V: Copy>(fork: Fork<K, V>) -> Fork<K, V>
-    ensures { in_order_fork result ≡ in_order_fork fork }
+fn raise_left<K: Key, V: Copy>(mut fork: Box<Fork<K, V>>) -> Box<Fork<K, V>>
+    ensures { in_order_fork result.value ≡ in_order_fork fork.value }
 {
-    let mut lower = fork.left;
-    let Node::Inner(top) = lower.take_node() else {
-        return Fork {
-            left: lower,
-            key: fork.key,
-            value: fork.value,
-            height: fork.height,
-            right: fork.right,
-        };
+    let Node::Inner(mut top) = fork.left.take_node() else {
+        return fork;
     };
-    lower.node = Node::Inner(measured(Fork {
-        left: top.right,
-        key: fork.key,
-        value: fork.value,
-        height: 0,
-        right: fork.right,
-    }));
-    measured(Fork {
-        left: top.left,
-        key: top.key,
-        value: top.value,
-        height: 0,
-        right: lower,
-    })
+    fork.left.node = top.right.take_node();
+    top.right.node = Node::Inner(measured(fork));
+    measured(top)
 }
 
 /// A rotation by which the top of the right side goes up.
-fn raise_right<K: Key, V: Copy>(fork: Fork<K, V>) -> Fork<K, V>
-    ensures { in_order_fork result ≡ in_order_fork fork }
+fn raise_right<K: Key, V: Copy>(mut fork: Box<Fork<K, V>>) -> Box<Fork<K, V>>
+    ensures { in_order_fork result.value ≡ in_order_fork fork.value }
 {
-    let mut lower = fork.right;
-    let Node::Inner(top) = lower.take_node() else {
-        return Fork {
-            left: fork.left,
-            key: fork.key,
-            value: fork.value,
-            height: fork.height,
-            right: lower,
-        };
+    let Node::Inner(mut top) = fork.right.take_node() else {
+        return fork;
     };
-    lower.node = Node::Inner(measured(Fork {
-        left: fork.left,
-        key: fork.key,
-        value: fork.value,
-        height: 0,
-        right: top.left,
-    }));
-    measured(Fork {
-        left: lower,
-        key: top.key,
-        value: top.value,
-        height: 0,
-        right: top.right,
-    })
+    fork.right.node = top.left.take_node();
+    top.left.node = Node::Inner(measured(fork));
+    measured(top)
 }
 
 /// The fork with its height, one more than that of its higher side.
-fn measured<K: Key, V: Copy>(mut fork: Fork<K, V>) -> Fork<K, V>
-    ensures { in_order_fork result ≡ in_order_fork fork }
+fn measured<K: Key, V: Copy>(mut fork: Box<Fork<K, V>>) -> Box<Fork<K, V>>
+    ensures { in_order_fork result.value ≡ in_order_fork fork.value }
 {
-    fork.height = fork
-        .left
-        .height()
-        .max(fork.right.height())
-        .saturating_add(1);
+    let higher = fork.left.height().max(fork.right.height());
+    fork.height = higher.saturating_add(1);
     fork
 }

@@ -1,6 +1,3 @@
-pub mod NoWant
-pub mod Shapes
-pub mod Failing
 pub mod Stepping
 pub mod Leading
 pub mod Fading

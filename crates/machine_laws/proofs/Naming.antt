@@ -38,12 +38,12 @@ use Rattle.machine_laws.proofs.Stepping.{step_of}
 -- ---- who names a place
 
 -- a descriptor of somebody names the place
-record Names (files : Files) (place : ℕ) : Type 0 where
-  who : ℕ
-  fd : ℕ
-  descriptor : Descriptor
-  held : descriptor_at (descriptors_of files who) fd ≡ Some descriptor
-  names : descriptor.description ≡ place
+pub record Names (files : Files) (place : ℕ) : Type 0 where
+  pub who : ℕ
+  pub fd : ℕ
+  pub descriptor : Descriptor
+  pub held : descriptor_at (descriptors_of files who) fd ≡ Some descriptor
+  pub names : descriptor.description ≡ place
 
 any_at : {X : Type 0} (test : X → Bool) (default : X) (xs : List X) → list_any test xs ≡ true → (i : ℕ) × (i < length xs) × (test (slice_index_or xs i default) ≡ true)
 any_at test default [] e = absurd (no e)
@@ -60,7 +60,7 @@ any_at test default (x ∷ xs) e = go (test x) refl (any_at test default xs) e
 descriptors_at : (files : Files) (i : ℕ) → i < length files.descriptors → descriptors_of files (suc i) ≡ slice_index_or files.descriptors i none_open
 descriptors_at files i h = ap (λ found. unwrap_or found none_open) (slice_get-get_or files.descriptors i none_open h)
 
-named_by : (files : Files) (place : ℕ) → is_named files.descriptors place ≡ true → Names files place
+pub named_by : (files : Files) (place : ℕ) → is_named files.descriptors place ≡ true → Names files place
 named_by files place e = go (any_at (list_any (names_place place)) none_open files.descriptors e)
   where
     same_number : (a b : ℕ) → (a == b) ≡ true → a ≡ b
@@ -80,7 +80,7 @@ named_by files place e = go (any_at (list_any (names_place place)) none_open fil
     go here = let inner = any_at (names_place place) None (slice_index_or files.descriptors here.0 none_open) here.2 in
         found (suc here.0) inner.0 _ (ap (λ list. descriptor_at list inner.0) (descriptors_at files here.0 here.1)) inner.2
 
-by_named : (files : Files) (place : ℕ) → Names files place → is_named files.descriptors place ≡ true
+pub by_named : (files : Files) (place : ℕ) → Names files place → is_named files.descriptors place ≡ true
 by_named files place names = go names.who names.held
   where
     itself : (n : ℕ) → (n == n) ≡ true
@@ -122,7 +122,7 @@ some_is : {X : Type 0} {x : X} {o : Option X} → o ≡ Some x → is_some o ≡
 some_is e = ap is_some e
 
 -- the same are named, and the same are there
-names_in : (old new : Files) (place : ℕ) → new.descriptors ≡ old.descriptors → Names old place → Names new place
+pub names_in : (old new : Files) (place : ℕ) → new.descriptors ≡ old.descriptors → Names old place → Names new place
 names_in old new place same names = record {
   who = names.who;
   fd = names.fd;
@@ -140,7 +140,7 @@ told_same old new told same descriptions = record {
 -- ---- one descriptor changes
 
 -- a name stays where another number changes
-kept_name : (files : Files) (pid fd : ℕ) (changed : Option Descriptor) (place : ℕ) (names : Names files place) → (names.who ≡ pid → names.fd ≡ fd → ⊥)
+pub kept_name : (files : Files) (pid fd : ℕ) (changed : Option Descriptor) (place : ℕ) (names : Names files place) → (names.who ≡ pid → names.fd ≡ fd → ⊥)
     → Names (with_open files pid fd changed) place
 kept_name files pid fd changed place names apart = record { who = names.who; fd = names.fd; descriptor = names.descriptor; held = held; names = names.names }
   where
@@ -303,7 +303,7 @@ marked_told files pid fd old cloexec told held = record {
 
 -- ---- closing
 
-target_descriptions : (files : Files) (access : Access) (target : Target) → (target_closed files access target).descriptions ≡ files.descriptions
+pub target_descriptions : (files : Files) (access : Access) (target : Target) → (target_closed files access target).descriptions ≡ files.descriptions
 target_descriptions files access (OnNode number) = go (opens files number)
   where
     go : (b : Bool) → (cond b files (with_tree files (closed files.tree number))).descriptions ≡ files.descriptions
@@ -507,9 +507,9 @@ module _ (plain : Plain) (pid : ℕ) (call : Call) (next : Files) (told : Told p
   step_told (step.closes fd opened named is) = by _ is (close_told plain.files pid (count_of fd) told)
   step_told (step.describes fd opened description named target access is) = by _ is (let naming_it = naming plain.files pid fd opened named in described_told plain.files opened.place opened.is description told naming_it.there)
   step_told (step.opens path flags fd found which free led is) = by _ is (one _ fd _ _ refl refl free)
-  step_told (step.writes fd opened number at offset bytes written reaches wrote is) = by _ is (let naming_it = naming plain.files pid fd opened reaches.named in
+  step_told (step.writes fd addr n done opened number at offset written reaches wrote is) = by _ is (let naming_it = naming plain.files pid fd opened reaches.named in
       described_told (with_tree plain.files written.1) opened.place opened.is _ (told_same plain.files (with_tree plain.files written.1) told refl (λ place. refl)) naming_it.there)
-  step_told (step.writes_at fd opened number at bytes written reaches wrote is) = same _ is refl refl
+  step_told (step.writes_at fd addr n opened number at written reaches wrote is) = same _ is refl refl
   step_told (step.resizes fd opened number size tree reaches sized is) = same _ is refl refl
   step_told (step.makes path made_it which led is) = same _ is refl refl
   step_told (step.removes path tree which led is) = same _ is refl refl
@@ -530,7 +530,7 @@ module _ (plain : Plain) (pid : ℕ) (call : Call) (next : Files) (told : Told p
   step_told (step.sends fd addr n done opened place k which named on moves is) = same _ is refl refl
   step_told (step.starts is) = by _ is (exec_told plain.files pid told)
   step_told (step.forks which is) = by _ is (heir_told plain.files pid told)
-  step_told (step.ends who is) = by _ is (closed_told plain.files who told)
+  step_told (step.ends who ending is) = by _ is (closed_told plain.files who told)
 
 -- ---- answers
 

@@ -191,8 +191,8 @@ module _ (plain : Plain) (pid : ℕ) (call : Call) (place : ℕ) (pipe : Pipe) (
   kept (step.closes fd opened named is) = faded _ is _ refl refl (close_fades plain.files pid (count_of fd))
   kept (step.describes fd opened description named target access is) = same _ is refl
   kept (step.opens path flags fd found which free led is) = same _ is refl
-  kept (step.writes fd opened number at offset bytes written reaches wrote is) = same _ is refl
-  kept (step.writes_at fd opened number at bytes written reaches wrote is) = same _ is refl
+  kept (step.writes fd addr n done opened number at offset written reaches wrote is) = same _ is refl
+  kept (step.writes_at fd addr n opened number at written reaches wrote is) = same _ is refl
   kept (step.resizes fd opened number size tree reaches sized is) = same _ is refl
   kept (step.makes path made which led is) = same _ is refl
   kept (step.removes path tree which led is) = same _ is refl
@@ -216,7 +216,7 @@ module _ (plain : Plain) (pid : ℕ) (call : Call) (place : ℕ) (pipe : Pipe) (
   kept (step.sends fd addr n done opened at k which named on moves is) = same _ is refl
   kept (step.starts is) = faded _ is _ refl refl (exec_fades plain.files pid)
   kept (step.forks which is) = same _ is refl
-  kept (step.ends who is) = faded _ is _ refl refl (closed_by_fades plain.files who)
+  kept (step.ends who ending is) = faded _ is _ refl refl (closed_by_fades plain.files who)
 
 pub others : (script : Script) (plain : Plain) (pid : ℕ) (call : Call) (place : ℕ) (pipe : Pipe) → pipe_there plain.files place ≡ Some pipe
     → LeadsTo (λ next. NoneGoes plain.files next.files → (pipe_there next.files place ≡ Some pipe) ⊎ Queues plain pid call place) (posix script plain pid call)

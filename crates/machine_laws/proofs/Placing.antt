@@ -28,9 +28,9 @@ use Rattle.kern_laws.proofs.TablePlaces.{at_end, below_or_not, same_in_front, wa
 use Rattle.machine_laws.specs.FileSteps as step
 use Rattle.machine_laws.specs.FileSteps.{IsStep, LeadsTo}
 use Rattle.machine_laws.specs.Placed.{IsPlaced}
-use Rattle.machine_laws.specs.Shapes as shape
-use Rattle.machine_laws.specs.Shapes.{HasShape}
-use Rattle.machine_laws.proofs.Shapes.{shape_of}
+use Rattle.answer_laws.specs.Shapes as shape
+use Rattle.answer_laws.specs.Shapes.{HasShape}
+use Rattle.answer_laws.proofs.Shapes.{shape_of}
 use Rattle.machine_laws.proofs.SharedOffsets.{heirs_open, stay_open}
 use Rattle.machine_laws.proofs.Shutting.{Shuts, all_none_open, close_shuts, closed_shuts, end_none, exec_shuts, length_with, none_open_length, open_shuts, past_open, shuts_on, shuts_same}
 use Rattle.machine_laws.proofs.Stepping.{step_of}
@@ -77,8 +77,8 @@ module _ (plain : Plain) (pid : ℕ) (call : Call) (next : Files) (no_fork : cal
   step_shuts (step.closes fd opened named is) = by _ is (close_shuts pid plain.files pid (count_of fd))
   step_shuts (step.describes fd opened description named target access is) = same _ is refl
   step_shuts (step.opens path flags fd found which free led is) = by _ is (opens_one _ fd _ _ refl)
-  step_shuts (step.writes fd opened number at offset bytes written reaches wrote is) = same _ is refl
-  step_shuts (step.writes_at fd opened number at bytes written reaches wrote is) = same _ is refl
+  step_shuts (step.writes fd addr n done opened number at offset written reaches wrote is) = same _ is refl
+  step_shuts (step.writes_at fd addr n opened number at written reaches wrote is) = same _ is refl
   step_shuts (step.resizes fd opened number size tree reaches sized is) = same _ is refl
   step_shuts (step.makes path made which led is) = same _ is refl
   step_shuts (step.removes path tree which led is) = same _ is refl
@@ -99,7 +99,7 @@ module _ (plain : Plain) (pid : ℕ) (call : Call) (next : Files) (no_fork : cal
   step_shuts (step.sends fd addr n done opened place k which named on moves is) = same _ is refl
   step_shuts (step.starts is) = by _ is (exec_shuts pid plain.files pid)
   step_shuts (step.forks which is) = absurd (no_fork which)
-  step_shuts (step.ends who is) = by _ is (closed_shuts pid plain.files who)
+  step_shuts (step.ends who ending is) = by _ is (closed_shuts pid plain.files who)
 
 -- ---- answers
 
@@ -161,7 +161,7 @@ die_placed plain pid status placed = record {
     ended (suc (suc n)) who gone = one (suc (suc n)) who gone (end_none plain.files (suc (suc n)) before.places)
 
 -- a process in another directory is as alive as before
-alive_moved : (table : Table) (pid directory who : ℕ) → is_alive table pid ≡ true → is_alive (with_directory table pid directory) who ≡ is_alive table who
+pub alive_moved : (table : Table) (pid directory who : ℕ) → is_alive table pid ≡ true → is_alive (with_directory table pid directory) who ≡ is_alive table who
 alive_moved table pid directory who alive = elim (eqb_tells who pid) [
   | inl alike ↦ ap (is_alive (with_directory table pid directory)) alike.1 ∙ own ∙ sym (ap (is_alive table) alike.1)
   | inr apart ↦ ap is_alive_in (with_other table pid who (working_in directory (process_at table pid)) apart.1)
@@ -253,19 +253,19 @@ answered_placed script plain pid said placed = record {
 
 module _ (script : Script) (plain : Plain) (pid : ℕ) (placed : IsPlaced plain) (alive : is_alive plain.table pid ≡ true) where
   -- of a call that isn't a fork, by its shape and its step
-  by_shape : (call : Call) → call ≢ calls.Fork → (given : Answer) → LeadsTo (λ next. IsStep plain pid call next.files) given → HasShape script plain pid given → LeadsTo IsPlaced given
-  by_shape call no_fork given stepped (shape.blocks is) = subst (LeadsTo IsPlaced) (sym is) tt
+  by_shape : (call : Call) → call ≢ calls.Fork → (given : Answer) → LeadsTo (λ next. IsStep plain pid call next.files) given → HasShape script plain pid call given → LeadsTo IsPlaced given
+  by_shape call no_fork given stepped (shape.blocks may is) = subst (LeadsTo IsPlaced) (sym is) tt
   by_shape call no_fork given stepped (shape.fails errno other is) = subst (LeadsTo IsPlaced) (sym is)
       (placed_on plain _ pid placed alive refl (length_with plain.controls pid _) (λ who gone. gone) (shuts_same pid _ _ refl))
   by_shape call no_fork given stepped (shape.tells files said is_said is) = subst (LeadsTo IsPlaced) (sym is)
       (placed_on plain _ pid placed alive refl (length_with plain.controls pid _) (λ who gone. gone)
       (step_shuts plain pid call files no_fork (subst (LeadsTo (λ next. IsStep plain pid call next.files)) is stepped)))
-  by_shape call no_fork given stepped (shape.puts files memory said is_said is) = subst (LeadsTo IsPlaced) (sym is)
+  by_shape call no_fork given stepped (shape.puts files memory said is_said what is) = subst (LeadsTo IsPlaced) (sym is)
       (placed_on plain _ pid placed alive (length_with plain.table pid _) (length_with plain.controls pid _) (λ who gone. sym (alive_still plain.table pid who memory) ∙ gone)
       (step_shuts plain pid call files no_fork (subst (LeadsTo (λ next. IsStep plain pid call next.files)) is stepped)))
-  by_shape call no_fork given stepped (shape.moves directory is) = subst (LeadsTo IsPlaced) (sym is)
+  by_shape call no_fork given stepped (shape.moves path directory called led is) = subst (LeadsTo IsPlaced) (sym is)
       (placed_on plain _ pid placed alive (length_with plain.table pid _) (length_with plain.controls pid _) (λ who gone. sym (alive_moved plain.table pid directory who alive) ∙ gone) (shuts_same pid _ _ refl))
-  by_shape call no_fork given stepped (shape.parts files moved is) = subst (LeadsTo IsPlaced) (sym is)
+  by_shape call no_fork given stepped (shape.parts files moved part is) = subst (LeadsTo IsPlaced) (sym is)
       (placed_on plain _ pid placed alive refl (length_with plain.controls pid _) (λ who gone. gone)
       (step_shuts plain pid call files no_fork (subst (LeadsTo (λ next. IsStep plain pid call next.files)) is stepped)))
   by_shape call no_fork given stepped (shape.starts place is) = subst (LeadsTo IsPlaced) (sym is)
@@ -274,8 +274,8 @@ module _ (script : Script) (plain : Plain) (pid : ℕ) (placed : IsPlaced plain)
   by_shape call no_fork given stepped (shape.reaps child status ended is) = subst (LeadsTo IsPlaced) (sym is)
       (placed_on plain _ pid placed alive (length_with plain.table child None) (length_with plain.controls pid _) (λ who gone. alive_reaped plain.table child who ended gone) (shuts_same pid _ _ refl))
   by_shape call no_fork given stepped (shape.ends status is) = subst (LeadsTo IsPlaced) (sym is) (die_placed plain pid status placed)
-  by_shape call no_fork given stepped (shape.ends_another target status first own is) = subst (LeadsTo IsPlaced) (sym is)
-      (answered_placed script (die plain target status) pid (Val (pos 0)) (die_placed plain target status placed))
+  by_shape call no_fork given stepped (shape.ends_another target signal called first own lives is) = subst (LeadsTo IsPlaced) (sym is)
+      (answered_placed script (die plain target 9) pid (Val (pos 0)) (die_placed plain target 9 placed))
 
   fork_on : LeadsTo IsPlaced (posix script plain pid calls.Fork)
   fork_on = go (is_full plain)

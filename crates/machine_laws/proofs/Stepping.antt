@@ -43,7 +43,7 @@ use Rattle.posix_defs.specs.Calls.OnSockets as on_sockets
 use Rattle.posix_defs.specs.Calls.Polling.{hits_of, poll, revents_of}
 use Rattle.posix_defs.specs.Posix.{posix, posix_answer}
 use Rattle.machine_laws.specs.FileSteps as step
-use Rattle.machine_laws.specs.FileSteps.{IsStep, LeadsTo, WritesNode}
+use Rattle.machine_laws.specs.FileSteps.{IsStep, LeadsTo, WritesNode, is_ending}
 
 -- what is asked of an answer
 abbrev Stepped : Plain → ℕ → Call → Answer → Type 0
@@ -145,7 +145,7 @@ module _ (script : Script) (plain : Plain) (pid : ℕ) (which : Call) where
     where
       go : (r : Result (ℕ × Tree) Errno) → trees.write plain.files.tree number (place_of_write plain.files.tree opened number) (bytes_left plain pid addr (count_of n) done) ≡ r
           → Stepped plain pid which (wrote script plain pid opened (place_of_write plain.files.tree opened number) r)
-      go (Ok written) wrote_it = step.writes fd opened number _ _ _ written (reaches number on) wrote_it refl
+      go (Ok written) wrote_it = step.writes fd addr n done opened number _ _ written (reaches number on) wrote_it refl
       go (Err e) wrote_it = step.stays refl
   write_on fd addr n done opened (OnPipe place) called is on may reaches =
       queue_step opened.is.nonblock (count_of n) done (put_in_pipe plain.files place (bytes_left plain pid addr (count_of n) done)) _ (λ k moves.
@@ -331,12 +331,12 @@ module _ (script : Script) (plain : Plain) (pid : ℕ) (which : Call) where
       go None = either (any_from pid wanted 1 plain.table) _ _ (λ some. either (is_nohang options) _ _ (λ yes. step.stays refl) (λ no. tt)) (λ none. step.stays refl)
       go (Some exited) = step.stays refl
 
-  kills : (target signal : ℤ) → Stepped plain pid which (kill script plain pid target signal)
-  kills (negsuc n) signal = step.stays refl
-  kills (pos target) signal = go (process_at plain.table target)
+  kills : (target signal : ℤ) → is_ending which ≡ true → Stepped plain pid which (kill script plain pid target signal)
+  kills (negsuc n) signal ending = step.stays refl
+  kills (pos target) signal ending = go (process_at plain.table target)
     where
       strikes : Stepped plain pid which (struck script plain pid target)
-      strikes = either (target == pid) _ _ (λ own. step.ends pid refl) (λ other. step.ends target refl)
+      strikes = either (target == pid) _ _ (λ own. step.ends pid ending refl) (λ other. step.ends target ending refl)
 
       go : (o : Option Process) → Stepped plain pid which (sent_to script plain pid target signal o)
       go None = step.stays refl
@@ -366,7 +366,7 @@ module _ (script : Script) (plain : Plain) (pid : ℕ) where
       there : (opened : Opened) (number : ℕ) (r : Result (ℕ × Tree) Errno) → opened_at plain.files pid fd ≡ Some opened → opened.is.target ≡ OnNode number → may_write opened.is.access ≡ true
           → trees.write plain.files.tree number (count_of at) (bytes_left plain pid addr (count_of n) 0) ≡ r
           → Stepped plain pid (call.Pwrite fd addr n at) (wrote_at script plain pid r)
-      there opened number (Ok written) is on may wrote_it = step.writes_at fd opened number _ _ written
+      there opened number (Ok written) is on may wrote_it = step.writes_at fd addr n opened number _ written
           (record { named = is; target = on; writable = may; reached = on_node plain.files (opened_at plain.files pid fd) opened number is on }) wrote_it refl
       there opened number (Err e) is on may wrote_it = step.stays refl
 
@@ -468,9 +468,9 @@ module _ (script : Script) (plain : Plain) (pid : ℕ) where
   right call.SchedYield = step.stays refl
   right call.Fork = forks_step script plain pid _ refl
   right (call.Exec path) = execs script plain pid _ path
-  right (call.Exit status) = step.ends pid refl
+  right (call.Exit status) = step.ends pid refl refl
   right (call.Waitpid wanted options) = waits script plain pid _ wanted options
-  right (call.Kill target signal) = kills script plain pid _ target signal
+  right (call.Kill target signal) = kills script plain pid _ target signal refl
   right (call.Mmap size) = maps script plain pid _ size
   right (call.Munmap addr size) = step.stays refl
   right (call.Store addr bytes) = ranged script plain pid _ addr (length bytes) _ (step.stays refl)

@@ -49,8 +49,8 @@ module _ (plain : Plain) (pid : ℕ) (call : Call) (next : Files) (unnamed : nam
   by_step (step.closes fd opened named_by is) = kept _ is (λ none. tree_kept plain.files _ (close_fades plain.files pid _) none)
   by_step (step.describes fd opened description named_by target access is) = tree_of _ is refl
   by_step (step.opens path flags fd there which free led is) = called _ which refl
-  by_step (step.writes fd opened number at offset bytes written there wrote is) = named there.reached
-  by_step (step.writes_at fd opened number at bytes written there wrote is) = named there.reached
+  by_step (step.writes fd addr n done opened number at offset written there wrote is) = named there.reached
+  by_step (step.writes_at fd addr n opened number at written there wrote is) = named there.reached
   by_step (step.resizes fd opened number size tree there sized is) = named there.reached
   by_step (step.makes path made which led is) = called _ which refl
   by_step (step.removes path tree which led is) = called _ which refl
@@ -71,7 +71,7 @@ module _ (plain : Plain) (pid : ℕ) (call : Call) (next : Files) (unnamed : nam
   by_step (step.sends fd addr n done opened place k which named_by on moves is) = tree_of _ is refl
   by_step (step.starts is) = kept _ is (λ none. tree_kept plain.files _ (exec_fades plain.files pid) none)
   by_step (step.forks which is) = tree_of _ is refl
-  by_step (step.ends who is) = kept _ is (λ none. tree_kept plain.files _ (closed_by_fades plain.files who) none)
+  by_step (step.ends who ending is) = kept _ is (λ none. tree_kept plain.files _ (closed_by_fades plain.files who) none)
 
 pub leaves_tree : (script : Script) (plain : Plain) (pid : ℕ) (call : Call)
     → LeadsTo (λ next. reaches_node plain pid call next ≡ false → next.files.tree ≡ plain.files.tree) (posix script plain pid call)

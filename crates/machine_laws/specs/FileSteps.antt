@@ -34,6 +34,12 @@ LeadsTo Holds (Done reply next) = Holds next
 LeadsTo Holds (Part moved next) = Holds next
 LeadsTo Holds (Ended status next) = Holds next
 
+-- the calls that may end a process
+abbrev pub is_ending : Call → Bool
+is_ending (calls.Exit status) = true
+is_ending (calls.Kill target signal) = true
+is_ending _ = false
+
 -- a call's descriptor is open on a node, for writing
 pub record WritesNode (plain : Plain) (pid : ℕ) (call : Call) (fd : ℤ) (opened : Opened) (number : ℕ) : Type 0 where
   pub named : opened_at plain.files pid fd ≡ Some opened
@@ -72,12 +78,12 @@ pub data IsStep (plain : Plain) (pid : ℕ) (call : Call) (next : Files) : Type 
       → open_path plain.files.tree (directory_of plain.table pid) path (opening_of flags) ≡ Ok there
       → next ≡ opened_as (with_tree plain.files there.1) pid fd (has_flag flags o_cloexec) (description_for there.0 flags) → IsStep plain pid call next
   -- a file is written, and the offset moves
-  writes : (fd : ℤ) (opened : Opened) (number at offset : ℕ) (bytes : List ℕ) (written : ℕ × Tree) → WritesNode plain pid call fd opened number
-      → write plain.files.tree number at bytes ≡ Ok written
+  writes : (fd addr n : ℤ) (done : ℕ) (opened : Opened) (number at offset : ℕ) (written : ℕ × Tree) → WritesNode plain pid call fd opened number
+      → write plain.files.tree number at (bytes_left plain pid addr (count_of n) done) ≡ Ok written
       → next ≡ described_as (with_tree plain.files written.1) opened.place (at_offset opened.is offset) → IsStep plain pid call next
   -- a file is written at a place
-  writes_at : (fd : ℤ) (opened : Opened) (number at : ℕ) (bytes : List ℕ) (written : ℕ × Tree) → WritesNode plain pid call fd opened number
-      → write plain.files.tree number at bytes ≡ Ok written → next ≡ with_tree plain.files written.1 → IsStep plain pid call next
+  writes_at : (fd addr n : ℤ) (opened : Opened) (number at : ℕ) (written : ℕ × Tree) → WritesNode plain pid call fd opened number
+      → write plain.files.tree number at (bytes_left plain pid addr (count_of n) 0) ≡ Ok written → next ≡ with_tree plain.files written.1 → IsStep plain pid call next
   -- a file gets another size
   resizes : (fd : ℤ) (opened : Opened) (number size : ℕ) (tree : Tree) → WritesNode plain pid call fd opened number
       → resize plain.files.tree number size ≡ Ok tree → next ≡ with_tree plain.files tree → IsStep plain pid call next
@@ -150,4 +156,4 @@ pub data IsStep (plain : Plain) (pid : ℕ) (call : Call) (next : Files) : Type 
   -- a child has open what its parent has
   forks : call ≡ calls.Fork → next ≡ with_heir plain.files pid → IsStep plain pid call next
   -- a process ends, and what it has open is closed
-  ends : (who : ℕ) → next ≡ closed_by plain.files who → IsStep plain pid call next
+  ends : (who : ℕ) → is_ending call ≡ true → next ≡ closed_by plain.files who → IsStep plain pid call next

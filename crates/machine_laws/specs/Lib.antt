@@ -1,4 +1,3 @@
-pub mod Shapes
 pub mod FileSteps
 pub mod Queueing
 pub mod Sharing

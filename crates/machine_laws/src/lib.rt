@@ -1,17 +1,12 @@
 //! The laws of the plain machine with all its calls. Each is the contract of a function that does nothing.
 #![tactic(auto)]
 
-mod answers;
 mod ended;
 mod queues;
 mod sharing;
 mod steps;
 mod trees;
 
-pub use answers::{
-    an_error_changes_the_control_alone_of_all_calls, every_answer_has_a_shape,
-    no_reply_of_any_call_wants_memory,
-};
 pub use ended::{
     every_description_is_named, what_is_open_is_named_in_every_machine,
     who_has_ended_has_nothing_open,

@@ -1,18 +1,27 @@
 //! Laws of the cache of names, each the contract of a function that does nothing.
-ghost use Rattle.std.specs.Prelude.{◌≡◌, ℕ, ◌+◌, ◌≤◌, List, Option, None, Some, take};
+ghost use Rattle.std.specs.Prelude.{◌≡◌, ℕ, ◌+◌, ◌≤◌, List, [], Option, None, Some, replicate, take};
 ghost use Rattle.kheap_shelves.specs.Objects.{object, count, put};
 ghost use Rattle.kheap_shelves.specs.Purse.{Purse};
 ghost use Rattle.kheap_shelves.specs.declared.objects.Name.{Name};
 ghost use Rattle.kheap_slabs.specs.Heap.{Heap};
 ghost use Rattle.kheap_slabs.specs.Paid.{IsPaid};
 ghost use Rattle.lru_index.specs.NameKeys.{name_key};
-ghost use Rattle.lru_index.specs.Order.{Order};
+ghost use Rattle.lru_index.specs.Order.{Order, order};
 ghost use Rattle.lru_index.specs.declared.keys.NameKey.{NameKey};
 ghost use Rattle.name_cache.specs.Names.{key_of, IsNameKey, name_slot, cached_node, KeepsNames, TrueNames, AgreesElsewhere, NameFilled};
 
 /// The key that is made of a name may be filled.
 pub fn a_name_has_a_key()
     ensures { (dir : ℕ) (name : List ℕ) → IsNameKey (name_key dir name) }
+{}
+
+/// A cache that was just booted answers None, whatever it has room for, and keeps just the Names of
+/// a heap that was.
+pub fn nothing_is_cached_at_boot()
+    ensures none { (objects : List (Option Name)) (capacity : ℕ) (key : NameKey)
+        → cached_node objects (order [] capacity) key ≡ None }
+    ensures keeps { (limit : ℕ) (capacity : ℕ)
+        → KeepsNames (replicate limit None) (order [] capacity) }
 {}
 
 /// To find a name that is cached is to find it in its directory.

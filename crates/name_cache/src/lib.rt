@@ -7,5 +7,7 @@
 
 mod cache;
 pub mod laws;
+#[cfg(test)]
+mod tests;
 
 pub use cache::NameCache;

@@ -14,6 +14,7 @@ ghost use Rattle.posix_defs.specs.Memory.{Memory, loaded, fresh_at, written_at};
 ghost use Rattle.posix_defs.specs.Needs.{pages_touched};
 
 use crate::frames::{drop_entry, make_page};
+use crate::rows::heap_is_well_formed;
 use crate::spaces::Space;
 use kheap_shelves::{PageEntry, Purse};
 use kheap_slabs::KHeap;
@@ -93,8 +94,7 @@ impl Space {
         let place = addr as usize % PAGE;
         let count = (PAGE - place).min(bytes.len());
         let key = self.own_frame(heap, purse, addr / PAGE as u32);
-        // the heap knows how long the rows of its objects are
-        let _ = heap.heap();
+        heap_is_well_formed(heap);
         heap.write_page(key, place as u32, &bytes[..count]);
         count
     }
@@ -128,8 +128,7 @@ impl Space {
         ensures count { result ≡ min (4096 - addr % 4096) (length out.old) }
         ensures taken { (memory : Memory) → StandsFor heap.now self.now memory → out.new ≡ loaded memory addr result ++ drop result out.old }
     {
-        // the heap knows how long the rows of its objects are
-        let _ = heap.heap();
+        heap_is_well_formed(heap);
         let place = addr as usize % PAGE;
         let count = (PAGE - place).min(out.len());
         let piece = &mut out[..count];

@@ -4,6 +4,7 @@
 mod bytes;
 mod frames;
 pub mod laws;
+mod rows;
 mod spaces;
 #[cfg(test)]
 mod tests;

@@ -15,6 +15,7 @@ ghost use Rattle.page_space.specs.Runs.{IsFreeFrom, IsMappedRun, HasUnmapped};
 ghost use Rattle.kabi_values.specs.declared.errnos.Errno.TheVariants.{EMFILE};
 
 use crate::frames::{drop_entry, share_entry};
+use crate::rows::heap_is_well_formed;
 use kabi_types::{Class, Errno};
 use kheap_shelves::{Node, PageEntry, Purse};
 use kheap_slabs::KHeap;
@@ -107,8 +108,7 @@ impl Space {
     {
         match self.nodes[(page / GROUP) as usize] {
             Some(key) => {
-                // the heap knows how long the rows of its objects are
-                let _ = heap.heap();
+                heap_is_well_formed(heap);
                 heap.set_node_entry(key, page % GROUP, entry);
             }
             None => unreachable!(),
@@ -127,8 +127,7 @@ impl Space {
         match self.nodes[(page / GROUP) as usize] {
             Some(key) => {
                 heap.set_node_entry(key, page % GROUP, PageEntry::Unmapped);
-                // the heap knows how long the rows of its objects are
-                let _ = heap.heap();
+                heap_is_well_formed(heap);
                 if !has_mapped(heap.get_node(key)) {
                     let _ = heap.free_node(key);
                     self.nodes[(page / GROUP) as usize] = None;
@@ -202,8 +201,7 @@ impl Space {
         let first = page - page % GROUP;
         match self.nodes[(page / GROUP) as usize] {
             Some(key) => {
-                // the heap knows how long the rows of its objects are
-                let _ = heap.heap();
+                heap_is_well_formed(heap);
                 first + first_mapped(heap.get_node(key), page % GROUP)
             }
             None => first + GROUP,
@@ -353,8 +351,7 @@ impl Space {
             let next = of.skip_unmapped(heap, page);
             if next == page {
                 let entry = of.entry(heap, page);
-                // the heap knows that no page is named more often than it can count
-                let _ = heap.heap();
+                heap_is_well_formed(heap);
                 share_entry(heap, entry);
                 space.map_page(heap, purse, page, entry);
                 page += 1;
@@ -374,7 +371,7 @@ impl Space {
         self.unmap_run(heap, 0, PAGES);
         // no page is mapped in any of the four groups, so none has a Node
         let _ = self.nodes();
-        let _ = heap.heap();
+        heap_is_well_formed(heap);
     }
 }
 

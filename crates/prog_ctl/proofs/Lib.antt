@@ -1,4 +1,3 @@
-pub mod Parts
 pub mod Resting
 pub mod SampleIsValid
 pub mod Settling

@@ -1,5 +1,5 @@
 -- Which calls may block.
-use Rattle.std.proofs.Common.{◌≡◌, ℕ, ℤ, List, Option, None, refl}
+use Rattle.std.proofs.Common.{◌≡◌, ℕ, ℤ, List, None, refl}
 use Rattle.kabi_calls.specs.declared.calls.CallKind.{CallKind}
 use Rattle.kabi_calls.specs.declared.calls.CallKind.TheVariants as kind
 use Rattle.posix_defs.specs.Made.{made}

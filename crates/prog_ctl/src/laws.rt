@@ -7,8 +7,7 @@ ghost use Rattle.kabi_types.specs.declared.scripts.Operand.TheVariants.{Number};
 ghost use Rattle.kabi_types.specs.declared.scripts.Script.{Script};
 ghost use Rattle.kabi_types.specs.declared.scripts.Statement.TheVariants.{Add, Loop};
 ghost use Rattle.kabi_values.specs.declared.replies.Reply.{Reply};
-ghost use Rattle.posix_defs.specs.Control.{after, after_part, call_of, local, register_of, restarted, settled, statement_of, statements_of};
-ghost use Rattle.posix_defs.specs.Made.{further};
+ghost use Rattle.posix_defs.specs.Control.{after, call_of, local, register_of, restarted, settled, statement_of, statements_of};
 ghost use Rattle.posix_defs.specs.ScriptValues.{least_value, greatest_value};
 ghost use Rattle.posix_defs.specs.ValidScript.{IsValid};
 ghost use Rattle.prog_ctl.specs.Runnable.{Rests, Stands};
@@ -37,14 +36,6 @@ pub fn a_control_may_be_kept_at_its_call()
         → call_of script (settled script before) ≡ call_of script before }
     ensures after { (script : Script) (before : Control) (reply : Reply) → Rests script (settled script before)
         → after script (settled script before) reply ≡ after script before reply }
-{}
-
-/// A part of a write leaves the process at its call: what is done is all that changes, whether it is added before the local
-/// statements or behind them; the call is the same with that much more done, and its answer is the same.
-pub fn a_write_goes_on_in_parts()
-    ensures settled { (script : Script) (control : Control) (k : ℕ) → settled script (after_part control k) ≡ after_part (settled script control) k }
-    ensures call { (script : Script) (control : Control) (k : ℕ) → call_of script (after_part control k) ≡ further k (call_of script control) }
-    ensures answer { (script : Script) (control : Control) (k : ℕ) (reply : Reply) → after script (after_part control k) reply ≡ after script control reply }
 {}
 
 /// A control that starts another program of the script stands there with the registers that it had; the first call is that

@@ -1,8 +1,10 @@
-//! Whole runs with their reports: what is written of a run, over any store of processes.
+//! Whole runs with their reports: what is written of a run, over any store of processes, and what is so of a run that is told.
 #![tactic(auto)]
 
+mod laws;
 mod runs;
 mod texts;
 
+pub use laws::a_report_keeps_the_headline;
 pub use runs::{Reported, run_core};
 pub use texts::report;

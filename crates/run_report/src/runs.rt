@@ -1,7 +1,8 @@
 ghost use Rattle.std.specs.Prelude.{◌≡◌, IfOk, string_bytes};
 ghost use Rattle.kabi_types.specs.declared.entries.End.{End};
 ghost use Rattle.posix_defs.specs.ValidScript.{IsValid};
-ghost use Rattle.kern_tasks.specs.View.{HasBooted, HasEnded};
+ghost use Rattle.kern_tasks.specs.View.{HasBooted};
+ghost use Rattle.kern_core.specs.RunOver.{HasEndedOver};
 ghost use Rattle.run_report.specs.Reports.{IsReport};
 
 use crate::texts::report;
@@ -29,8 +30,8 @@ pub fn run_core<T: Turner + Drop>(
     requires script { script.now ≡ T.script core.old.store }
     requires steps { core.old.steps ≡ script.now.steps }
     ensures script { T.script core.new.store ≡ script.now }
-    ensures ended { (end : End) × HasEnded T.stands script.now core.new end }
-    ensures reported { IfOk result (λ it. IsReport T.stands script.now core.new.store it.end (string_bytes it.text)) }
+    ensures ended { (end : End) × HasEndedOver T.stands T.marks T.high script.now core.new end }
+    ensures reported { IfOk result (λ it. IsReport T.stands T.marks T.high script.now core.new.store it.end (string_bytes it.text)) }
 {
     let end = run_to_end(core, &script.chooser);
     let text = report(

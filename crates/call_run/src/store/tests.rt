@@ -5,7 +5,7 @@ ghost use Rattle.kabi_types.specs.declared.scripts.Policy.TheVariants.{Heaviest,
 ghost use Rattle.posix_defs.specs.ValidScript.{IsValid};
 ghost use Rattle.posix_defs.specs.Victim.{score_of};
 ghost use Rattle.posix_defs.specs.World.{World};
-ghost use Rattle.call_run.specs.Standing.{StandsFor};
+ghost use Rattle.store_objects.specs.Standing.{StandsFor};
 
 use super::Store;
 use crate::calls::would_block;

@@ -1,9 +1,10 @@
 use Rattle.std.proofs.Common.{◌∙◌, ap, sym}
 use Rattle.std.specs.Result.{result_err}
 use Rattle.posix_defs.specs.Machine.{answer_to}
-use Rattle.call_run.proofs.Callers.{caller_runs}
-use Rattle.call_run.proofs.Paying.{uses_nothing}
-use Rattle.call_run.proofs.Replies.{does_fail, wrong_told}
+use Rattle.store_objects.proofs.Callers.{caller_runs}
+use Rattle.store_objects.proofs.Paying.{uses_nothing}
+use Rattle.store_objects.proofs.Replies.{does_fail}
+use Rattle.call_run.proofs.Dispatch.{wrong_told}
 use Rattle.call_run.proofs.calls.run.Goals as goal
 
 pub go_on-requires-clause-runs : goal.go_on-requires-clause-runs
@@ -15,5 +16,5 @@ returns-in-Err-clause-uses c = uses_nothing c.args.objects.now.heap c.go_on.new.
 pub returns-in-Err-clause-does : goal.returns-in-Err-clause-does
 returns-in-Err-clause-does c =
     does_fail c.args.script.now c.args.objects.now c.go_on.new.objects c.args.caller.now.pid c.args.call.now c.in-Err.errno c.go_on.result _
-    c.go_on.ensures.kept c.go_on.ensures.told c.go_on.ensures.does
-    (λ plain. wrong_told c.args.script.now plain c.args.caller.now.pid _ c.in-Err.errno (answer_to c.args.script.now plain c.args.caller.now.pid c.args.call.now) (sym c.checked.ensures ∙ ap result_err c.in-Err.is))
+    c.go_on.ensures.told c.go_on.ensures.goes
+    (λ world stands. wrong_told c.args.script.now world.plain c.args.caller.now.pid _ c.in-Err.errno (answer_to c.args.script.now world.plain c.args.caller.now.pid c.args.call.now) (sym c.checked.ensures ∙ ap result_err c.in-Err.is))

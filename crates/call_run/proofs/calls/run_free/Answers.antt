@@ -5,9 +5,10 @@ use Rattle.kabi_calls.specs.declared.calls.Call.TheVariants as call
 use Rattle.kabi_values.specs.declared.errnos.Errno.TheVariants.{EINVAL}
 use Rattle.posix_defs.specs.Needs.{slack}
 use Rattle.posix_defs.specs.Process.{parent_of}
-use Rattle.call_run.specs.Uses.{UsesAtMost}
-use Rattle.call_run.proofs.Paying.{uses_nothing}
-use Rattle.call_run.proofs.Replies.{does_fail, does_one, does_tell, does_that, does_two, others_fail, parent_is}
+use Rattle.store_objects.specs.Uses.{UsesAtMost}
+use Rattle.store_objects.proofs.Paying.{uses_nothing}
+use Rattle.store_objects.proofs.Replies.{does_fail, does_tell, parent_is}
+use Rattle.call_run.proofs.Dispatch.{does_one, does_that, does_two, others_fail}
 use Rattle.call_run.proofs.calls.run_free.Goals as goal
 
 pub returns-in-Getpid-clause-does : goal.returns-in-Getpid-clause-does
@@ -15,7 +16,7 @@ returns-in-Getpid-clause-does c =
     let number : to_z w64 (of_z w64 c.from.result) ≡ pos c.args.caller.now.pid = to_z-of_z w64 c.from.result (record { sfits = c.from.type_inv }) ∙ c.from.ensures in
     does_that c.args.script.now c.args.objects.now c.go_on.new.objects c.args.caller.now.pid c.args.call.now call.Getpid c.go_on.result c.in-Getpid.is
     (does_tell c.args.script.now c.args.objects.now c.go_on.new.objects c.args.caller.now.pid call.Getpid (to_z w64 (of_z w64 c.from.result)) c.go_on.result _ (λ plain. pos c.args.caller.now.pid)
-    c.go_on.ensures.kept c.go_on.ensures.told c.go_on.ensures.does (λ account. refl) (λ plain account stands. number) (λ plain. refl))
+    c.go_on.ensures.told c.go_on.ensures.goes (λ frames. refl) (λ world stands. number) (λ plain. refl))
 
 pub returns-in-Getppid-clause-does : goal.returns-in-Getppid-clause-does
 returns-in-Getppid-clause-does c =
@@ -25,15 +26,15 @@ returns-in-Getppid-clause-does c =
     does_that c.args.script.now c.args.objects.now c.go_on-in-Getppid.new.objects c.args.caller.now.pid c.args.call.now call.Getppid c.go_on-in-Getppid.result c.in-Getppid.is
     (does_tell c.args.script.now c.args.objects.now c.go_on-in-Getppid.new.objects c.args.caller.now.pid call.Getppid (to_z w64 (of_z w64 c.from-in-Getppid.result)) c.go_on-in-Getppid.result _
     (λ plain. pos (parent_of plain.table c.args.caller.now.pid))
-    c.go_on-in-Getppid.ensures.kept c.go_on-in-Getppid.ensures.told c.go_on-in-Getppid.ensures.does (λ account. refl)
-    (λ plain account stands. number ∙ ap pos (sym (parent_is c.args.script.now c.args.objects.now plain account c.args.caller.now.pid it.proc stands it.found)))
+    c.go_on-in-Getppid.ensures.told c.go_on-in-Getppid.ensures.goes (λ frames. refl)
+    (λ world stands. number ∙ ap pos (sym (parent_is c.args.script.now c.args.objects.now world.plain c.args.caller.now.pid it.proc stands.processes it.found)))
     (λ plain. refl))
 
 pub returns-in-SchedYield-clause-does : goal.returns-in-SchedYield-clause-does
 returns-in-SchedYield-clause-does c =
     does_that c.args.script.now c.args.objects.now c.go_on-in-SchedYield.new.objects c.args.caller.now.pid c.args.call.now call.SchedYield c.go_on-in-SchedYield.result c.in-SchedYield.is
     (does_tell c.args.script.now c.args.objects.now c.go_on-in-SchedYield.new.objects c.args.caller.now.pid call.SchedYield (pos 0) c.go_on-in-SchedYield.result _ (λ plain. pos 0)
-    c.go_on-in-SchedYield.ensures.kept c.go_on-in-SchedYield.ensures.told c.go_on-in-SchedYield.ensures.does (λ account. refl) (λ plain account stands. refl) (λ plain. refl))
+    c.go_on-in-SchedYield.ensures.told c.go_on-in-SchedYield.ensures.goes (λ frames. refl) (λ world stands. refl) (λ plain. refl))
 
 pub returns-in-Exit-clause-kept : goal.returns-in-Exit-clause-kept
 returns-in-Exit-clause-kept c = c.exit.ensures.kept c.args.script.now c.requires.kept
@@ -41,7 +42,7 @@ returns-in-Exit-clause-kept c = c.exit.ensures.kept c.args.script.now c.requires
 pub returns-in-Exit-clause-does : goal.returns-in-Exit-clause-does
 returns-in-Exit-clause-does c =
     does_one c.args.script.now c.args.objects.now c.exit.new.objects c.args.caller.now.pid c.args.call.now c.exit.result call.Exit c.in-Exit.status c.in-Exit.is
-    (search (rules, to_z-of_z)) (c.exit.ensures.does c.args.script.now c.requires.kept)
+    (search (rules, to_z-of_z)) (c.exit.ensures.does c.args.script.now)
 
 pub returns-in-Waitpid-clause-does : goal.returns-in-Waitpid-clause-does
 returns-in-Waitpid-clause-does c =
@@ -50,8 +51,8 @@ returns-in-Waitpid-clause-does c =
 
 pub returns-in-Kill-clause-does : goal.returns-in-Kill-clause-does
 returns-in-Kill-clause-does c =
-    does_two c.args.script.now c.args.objects.now c.send.new.objects c.args.caller.now.pid c.args.call.now c.send.result call.Kill c.in-Kill.target c.in-Kill.signal c.in-Kill.is
-    (search (rules, to_z-of_z)) (search (rules, to_z-of_z)) c.send.ensures.does
+    does_two c.args.script.now c.args.objects.now c.signal_process.new.objects c.args.caller.now.pid c.args.call.now c.signal_process.result call.Kill c.in-Kill.target c.in-Kill.signal c.in-Kill.is
+    (search (rules, to_z-of_z)) (search (rules, to_z-of_z)) c.signal_process.ensures.does
 
 pub returns-in-Munmap-clause-does : goal.returns-in-Munmap-clause-does
 returns-in-Munmap-clause-does c =
@@ -66,8 +67,9 @@ returns-in-Load-clause-does c =
 pub returns-in_default-clause-does : goal.returns-in_default-clause-does
 returns-in_default-clause-does c =
     does_fail c.args.script.now c.args.objects.now c.go_on-in_default.new.objects c.args.caller.now.pid c.args.call.now EINVAL c.go_on-in_default.result _
-    c.go_on-in_default.ensures.kept c.go_on-in_default.ensures.told c.go_on-in_default.ensures.does
-    (λ plain. others_fail c.args.script.now plain c.args.caller.now.pid c.args.call.now c.requires.free c.in_default.not-Getpid c.in_default.not-Getppid c.in_default.not-SchedYield
+    c.go_on-in_default.ensures.told c.go_on-in_default.ensures.goes
+    (λ world stands. others_fail c.args.script.now world.plain c.args.caller.now.pid c.args.call.now c.requires.not_fork c.requires.not_mmap c.requires.not_store
+    c.in_default.not-Getpid c.in_default.not-Getppid c.in_default.not-SchedYield
     c.in_default.not-Exit c.in_default.not-Waitpid c.in_default.not-Kill c.in_default.not-Munmap c.in_default.not-Load)
 
 pub returns-in-Getpid-clause-uses : goal.returns-in-Getpid-clause-uses
@@ -95,4 +97,4 @@ pub returns-in-Exit-clause-uses : goal.returns-in-Exit-clause-uses
 returns-in-Exit-clause-uses c = subst (λ which. UsesAtMost c.args.objects.now.heap c.exit.new.objects.heap 0 (slack which)) (sym c.in-Exit.is) c.exit.ensures.uses
 
 pub returns-in-Kill-clause-uses : goal.returns-in-Kill-clause-uses
-returns-in-Kill-clause-uses c = subst (λ which. UsesAtMost c.args.objects.now.heap c.send.new.objects.heap 0 (slack which)) (sym c.in-Kill.is) c.send.ensures.uses
+returns-in-Kill-clause-uses c = subst (λ which. UsesAtMost c.args.objects.now.heap c.signal_process.new.objects.heap 0 (slack which)) (sym c.in-Kill.is) c.signal_process.ensures.uses

@@ -5,9 +5,9 @@ use Rattle.kabi_calls.specs.Arguments.{count_of}
 use Rattle.kabi_calls.specs.declared.calls.Call.TheVariants as call
 use Rattle.kabi_values.specs.declared.classes.Need.{Need}
 use Rattle.posix_defs.specs.Needs.{bound, nodes_for, pages_in, pages_touched}
-use Rattle.call_run.specs.declared.purses.Target.TheVariants.{File}
-use Rattle.call_run.proofs.Paying.{can_pay, left_is, uses_more, uses_paid}
-use Rattle.call_run.proofs.Replies.{does_one, does_that, makes_none}
+use Rattle.store_objects.specs.declared.purses.Target.TheVariants.{File}
+use Rattle.store_objects.proofs.Paying.{can_pay, left_is, uses_more, uses_paid}
+use Rattle.call_run.proofs.Dispatch.{does_one, does_that}
 use Rattle.call_run.proofs.calls.run_right.Goals as goal
 
 pub fork-requires-clause-room : goal.fork-requires-clause-room
@@ -78,6 +78,3 @@ returns-in-Store-clause-does c =
 
 pub returns-in_default-clause-uses : goal.returns-in_default-clause-uses
 returns-in_default-clause-uses c = uses_more c.args.objects.now.heap c.run_free.new.objects.heap _ _ c.run_free.ensures.uses
-
-pub run_free-requires-clause-free : goal.run_free-requires-clause-free
-run_free-requires-clause-free c = makes_none c.args.call.now c.in_default.not-Fork c.in_default.not-Mmap c.in_default.not-Store

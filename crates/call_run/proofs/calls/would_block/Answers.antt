@@ -8,14 +8,14 @@ use Rattle.call_run.proofs.Sleeping.{blocks_as, is_wait, no_fault}
 use Rattle.call_run.proofs.calls.would_block.Goals as goal
 
 pub returns-then-may_wait : goal.returns-then-may_wait
-returns-then-may_wait c = λ script plain account stands call e.
+returns-then-may_wait c = λ script world stands call e.
     let child : to_z w64 (of_z w64 c.in-Some-Child.child) ≡ c.in-Some-Child.child = search (rules, to_z-of_z) in
     let options : to_z w64 (of_z w64 c.in-Some-Child.options) ≡ c.in-Some-Child.options = search (rules, to_z-of_z) in
     let seen : option_copied c.args.wait ≡ Some (Child c.in-Some-Child.child c.in-Some-Child.options) = search rules in
     let it = is_wait call c.in-Some-Child.child c.in-Some-Child.options (sym seen ∙ e) in
     let none = no_fault _ (sym c.may_wait.ensures.checked ∙ c.if-may_wait.true) in
-    c.would_sleep.ensures script plain account stands
-    ∙ sym (blocks_as script plain c.args.pid (to_z w64 (of_z w64 c.in-Some-Child.child)) (to_z w64 (of_z w64 c.in-Some-Child.options)) none)
-    ∙ ap (λ z. blocks (machine script plain c.args.pid (Waitpid z (to_z w64 (of_z w64 c.in-Some-Child.options))))) child
-    ∙ ap (λ z. blocks (machine script plain c.args.pid (Waitpid c.in-Some-Child.child z))) options
-    ∙ ap (λ z. blocks (machine script plain c.args.pid z)) it
+    c.would_sleep.ensures script world stands
+    ∙ sym (blocks_as script world.plain c.args.pid (to_z w64 (of_z w64 c.in-Some-Child.child)) (to_z w64 (of_z w64 c.in-Some-Child.options)) none)
+    ∙ ap (λ z. blocks (machine script world.plain c.args.pid (Waitpid z (to_z w64 (of_z w64 c.in-Some-Child.options))))) child
+    ∙ ap (λ z. blocks (machine script world.plain c.args.pid (Waitpid c.in-Some-Child.child z))) options
+    ∙ ap (λ z. blocks (machine script world.plain c.args.pid z)) it

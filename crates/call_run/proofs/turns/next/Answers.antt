@@ -1,7 +1,7 @@
 use Rattle.std.proofs.Common.{◌∙◌, ap, option_copied, sym}
 use Rattle.proc_table.specs.Procs.{proc_of}
-use Rattle.call_run.specs.Objects.{procs_of}
-use Rattle.call_run.proofs.RunningProcs.{alive_runs}
+use Rattle.store_objects.specs.Objects.{procs_of}
+use Rattle.store_objects.proofs.RunningProcs.{alive_runs}
 use Rattle.call_run.proofs.Turning.{missing, next_is, up_at_call}
 use Rattle.call_run.proofs.turns.next.Goals as goal
 
@@ -11,7 +11,7 @@ proc-requires c = let alive = c.requires in alive.1.kept.holds.stored
 pub unreachable-requires : goal.unreachable-requires
 unreachable-requires c =
     let alive = c.requires in
-    let up = alive_runs c.args.script.now c.args.objects.now alive.0.plain alive.0.account.frames c.args.pid alive.1.plain alive.2 in
+    let up = alive_runs c.args.script.now c.args.objects.now alive.0.plain c.args.pid alive.1.processes alive.2 in
     missing (proc_of (procs_of c.args.objects.now) c.args.pid) up.proc (sym c.proc.ensures ∙ ap option_copied c.in_default.is) up.there
 
 pub call_here-requires : goal.call_here-requires

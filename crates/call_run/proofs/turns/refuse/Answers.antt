@@ -1,10 +1,10 @@
 use Rattle.std.proofs.Common.{◌≡◌, ◌∙◌, ap, false, le_refl, sym, true, arith}
 use Rattle.kheap_slabs.specs.Heap.{Heap, live_bytes}
 use Rattle.posix_defs.specs.World.{live_of}
-use Rattle.call_run.specs.Standing.{StandFor}
-use Rattle.call_run.proofs.LiveIs.{live_is}
-use Rattle.call_run.proofs.Marking.{kept_marked, since_mark, stand_marked}
-use Rattle.call_run.proofs.RunningProcs.{alive_is}
+use Rattle.store_objects.specs.Standing.{StandsFor}
+use Rattle.store_objects.proofs.LiveIs.{live_is}
+use Rattle.store_objects.proofs.Marking.{kept_marked, since_mark, stands_marked}
+use Rattle.store_objects.proofs.RunningProcs.{alive_is}
 use Rattle.call_run.proofs.turns.refuse.Goals as goal
 
 never : true ≡ false → ⊥
@@ -19,27 +19,19 @@ pub returns-clause-high : goal.returns-clause-high
 returns-clause-high c = λ world stands.
     let high : c.go_on.new.objects.heap.high ≡ c.mark.new.self.high = c.go_on.ensures.takes.high in
     let mark : c.mark.new.self.high ≡ live_bytes c.args.objects.now.heap = ap (λ h. h.high) c.mark.ensures in
-    let live : live_bytes c.args.objects.now.heap ≡ live_of world = live_is c.args.script.now c.args.objects.now world stands c.heap.ensures.well_formed in
+    let live : live_bytes c.args.objects.now.heap ≡ live_of world = live_is c.args.script.now c.args.objects.now world stands c.heap_is_well_formed.ensures in
     omega arith
 
 pub returns-clause-refused : goal.returns-clause-refused
-returns-clause-refused c = λ world stands alive.
-    let marked : StandFor c.args.script.now (record { heap = c.mark.new.self; procs = c.args.objects.now.procs }) world.plain world.account.frames =
-    rw c.mark.ensures (stand_marked c.args.script.now c.args.objects.now _ _ world.plain world.account.frames stands.plain) in
-    record {
-      kept = c.go_on.ensures.kept;
-      plain = c.go_on.ensures.does world.plain world.account.frames marked alive;
-      no_queues = stands.no_queues;
-      cached = stands.cached;
-      reads = stands.reads;
-    }
+returns-clause-refused c = λ world stands _.
+    c.go_on.ensures.goes world (rw c.mark.ensures (stands_marked c.args.script.now c.args.objects.now _ _ world stands))
 
 pub unreachable-requires : goal.unreachable-requires
 unreachable-requires c =
     let alive = c.requires in
-    let marked : StandFor c.args.script.now (record { heap = c.mark.new.self; procs = c.args.objects.now.procs }) alive.0.plain alive.0.account.frames =
-    rw c.mark.ensures (stand_marked c.args.script.now c.args.objects.now _ _ alive.0.plain alive.0.account.frames alive.1.plain) in
-    never (sym alive.2 ∙ alive_is c.args.script.now _ alive.0.plain alive.0.account.frames c.args.pid marked ∙ c.caller.ensures.none c.in_default.is)
+    let marked : StandsFor c.args.script.now (record { heap = c.mark.new.self; procs = c.args.objects.now.procs }) alive.0 =
+    rw c.mark.ensures (stands_marked c.args.script.now c.args.objects.now _ _ alive.0 alive.1) in
+    never (sym alive.2 ∙ alive_is c.args.script.now _ alive.0.plain c.args.pid marked.processes ∙ c.caller.ensures.none c.in_default.is)
 
 pub returns-clause-marked : goal.returns-clause-marked
 returns-clause-marked c = c.go_on.ensures.takes.marks ∙ ap (λ (h : Heap). h.marks) c.mark.ensures
@@ -47,4 +39,4 @@ returns-clause-marked c = c.go_on.ensures.takes.marks ∙ ap (λ (h : Heap). h.m
 pub returns-clause-since : goal.returns-clause-since
 returns-clause-since c = λ world stands.
     since_mark (live_bytes c.args.objects.now.heap) c.mark.new.self.high c.go_on.new.objects.heap.high (live_of world) (ap (λ (h : Heap). h.high) c.mark.ensures)
-    (live_is c.args.script.now c.args.objects.now world stands c.heap.ensures.well_formed) (rw c.go_on.ensures.takes.high (le_refl _))
+    (live_is c.args.script.now c.args.objects.now world stands c.heap_is_well_formed.ensures) (rw c.go_on.ensures.takes.high (le_refl _))

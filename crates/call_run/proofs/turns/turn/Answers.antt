@@ -4,13 +4,13 @@ use Rattle.posix_defs.specs.Machine.{machine}
 use Rattle.posix_defs.specs.Needs.{bound, slack}
 use Rattle.posix_defs.specs.Sizes.{reserve}
 use Rattle.posix_defs.specs.World.{live_of}
-use Rattle.call_run.specs.declared.objects.Objects.{Objects}
-use Rattle.call_run.specs.Objects.{IsCaller}
-use Rattle.call_run.specs.Standing.{Does, StandsFor}
-use Rattle.call_run.proofs.Callers.{caller_of, caller_running}
-use Rattle.call_run.proofs.LiveIs.{live_is}
-use Rattle.call_run.proofs.Marking.{kept_marked, since_mark, stands_marked}
-use Rattle.call_run.proofs.RunningProcs.{alive_is}
+use Rattle.store_objects.specs.declared.objects.Objects.{Objects}
+use Rattle.store_objects.specs.Objects.{IsCaller}
+use Rattle.store_objects.specs.Standing.{Performs, StandsFor}
+use Rattle.store_objects.proofs.Callers.{caller_of, caller_running}
+use Rattle.store_objects.proofs.LiveIs.{live_is}
+use Rattle.store_objects.proofs.Marking.{kept_marked, since_mark, stands_marked}
+use Rattle.store_objects.proofs.RunningProcs.{alive_is}
 use Rattle.call_run.proofs.Worlds.{gone_on, turns_on}
 use Rattle.call_run.proofs.turns.turn.Goals as goal
 
@@ -28,7 +28,7 @@ pub run-turned-requires-clause-room : goal.run-turned-requires-clause-room
 run-turned-requires-clause-room c =
     let may = c.requires.may in
     fits (live_bytes c.args.objects.now.heap) (bound c.args.call.now) reserve c.args.objects.now.heap.heap (live_bytes c.mark.new.self) c.mark.new.self.heap (live_of may.0) c.args.script.now.heap
-    may.2 (live_is c.args.script.now c.args.objects.now may.0 may.1 c.heap.ensures.well_formed) c.requires.kept.size
+    may.2 (live_is c.args.script.now c.args.objects.now may.0 may.1 c.heap_is_well_formed.ensures) c.requires.kept.size
     (ap live_bytes c.mark.ensures) (ap (λ (h : Heap). h.heap) c.mark.ensures)
 
 pub returns-in_default-clause-kept : goal.returns-in_default-clause-kept
@@ -39,7 +39,7 @@ returns-in_default-clause-turned c = λ world stands.
     let new : Objects = record { heap = c.mark.new.self; procs = c.args.objects.now.procs } in
     let marked : StandsFor c.args.script.now new world = rw c.mark.ensures (stands_marked c.args.script.now c.args.objects.now _ _ world stands) in
     gone_on c.args.script.now new world c.args.pid c.args.call.now marked
-    (alive_is c.args.script.now new world.plain world.account.frames c.args.pid marked.plain ∙ c.caller.ensures.none c.in_default.is)
+    (alive_is c.args.script.now new world.plain c.args.pid marked.processes ∙ c.caller.ensures.none c.in_default.is)
 
 -- no more than at the mark, the call's bound and what it may use meanwhile
 at_most : (high mark marked bytes meanwhile live of : ℕ) → high ≤ max mark (marked + bytes + meanwhile) → mark ≡ live → marked ≡ live → live ≡ of → high ≤ of + bytes + meanwhile
@@ -48,7 +48,7 @@ at_most high mark marked bytes meanwhile live of less same still is = omega arit
 pub returns-in_default-clause-high : goal.returns-in_default-clause-high
 returns-in_default-clause-high c = λ world stands.
     let mark : c.mark.new.self.high ≡ live_bytes c.args.objects.now.heap = ap (λ (h : Heap). h.high) c.mark.ensures in
-    let live : live_bytes c.args.objects.now.heap ≡ live_of world = live_is c.args.script.now c.args.objects.now world stands c.heap.ensures.well_formed in
+    let live : live_bytes c.args.objects.now.heap ≡ live_of world = live_is c.args.script.now c.args.objects.now world stands c.heap_is_well_formed.ensures in
     omega arith
 
 pub returns-clause-turned : goal.returns-clause-turned
@@ -60,18 +60,18 @@ returns-clause-turned c = λ world stands.
     let new = c.run-turned.new.objects in
     let stands_marked_too : StandsFor script marked world = rw c.mark.ensures (stands_marked script c.args.objects.now _ _ world stands) in
     let caller : IsCaller marked pid c.in-Some.caller = c.in-Some.ensures.some in
-    let alive = alive_is script marked world.plain world.account.frames pid stands_marked_too.plain ∙ caller_running marked pid c.in-Some.caller caller in
-    let live : live_bytes marked.heap ≡ live_of world = ap live_bytes c.mark.ensures ∙ live_is script c.args.objects.now world stands c.heap.ensures.well_formed in
-    let does : Does script marked pid which (λ plain. machine script plain pid which) c.run-turned.result new =
-    subst (λ p. Does script marked p which (λ plain. machine script plain p which) c.run-turned.result new) caller.same c.run-turned.ensures.does in
-    turns_on script marked new world pid which c.run-turned.result stands_marked_too alive live c.heap-2.ensures.well_formed c.run-turned.ensures.kept c.run-turned.ensures.uses.live
-    (does world.plain world.account.frames stands_marked_too.plain alive)
+    let alive = alive_is script marked world.plain pid stands_marked_too.processes ∙ caller_running marked pid c.in-Some.caller caller in
+    let live : live_bytes marked.heap ≡ live_of world = ap live_bytes c.mark.ensures ∙ live_is script c.args.objects.now world stands c.heap_is_well_formed.ensures in
+    let does : Performs script marked pid which (λ plain. machine script plain pid which) c.run-turned.result new =
+    subst (λ p. Performs script marked p which (λ plain. machine script plain p which) c.run-turned.result new) caller.same c.run-turned.ensures.does in
+    turns_on script marked new world pid which c.run-turned.result alive live c.heap_is_well_formed-2.ensures c.run-turned.ensures.uses.live
+    (does world stands_marked_too alive)
 
 pub returns-clause-high : goal.returns-clause-high
 returns-clause-high c = λ world stands.
     at_most c.run-turned.new.objects.heap.high c.mark.new.self.high (live_bytes c.mark.new.self) (bound c.args.call.now) (slack c.args.call.now) (live_bytes c.args.objects.now.heap) (live_of world)
     c.run-turned.ensures.uses.high (ap (λ (h : Heap). h.high) c.mark.ensures) (ap live_bytes c.mark.ensures)
-    (live_is c.args.script.now c.args.objects.now world stands c.heap.ensures.well_formed)
+    (live_is c.args.script.now c.args.objects.now world stands c.heap_is_well_formed.ensures)
 
 pub returns-clause-marked : goal.returns-clause-marked
 returns-clause-marked c = c.run-turned.ensures.uses.marks ∙ ap (λ (h : Heap). h.marks) c.mark.ensures
@@ -79,7 +79,7 @@ returns-clause-marked c = c.run-turned.ensures.uses.marks ∙ ap (λ (h : Heap).
 pub returns-clause-since : goal.returns-clause-since
 returns-clause-since c = λ world stands.
     since_mark (live_bytes c.args.objects.now.heap) c.mark.new.self.high c.run-turned.new.objects.heap.high (live_of world) (ap (λ (h : Heap). h.high) c.mark.ensures)
-    (live_is c.args.script.now c.args.objects.now world stands c.heap.ensures.well_formed) c.run-turned.ensures.uses.rises
+    (live_is c.args.script.now c.args.objects.now world stands c.heap_is_well_formed.ensures) c.run-turned.ensures.uses.rises
 
 pub returns-in_default-clause-marked : goal.returns-in_default-clause-marked
 returns-in_default-clause-marked c = ap (λ (h : Heap). h.marks) c.mark.ensures
@@ -87,4 +87,4 @@ returns-in_default-clause-marked c = ap (λ (h : Heap). h.marks) c.mark.ensures
 pub returns-in_default-clause-since : goal.returns-in_default-clause-since
 returns-in_default-clause-since c = λ world stands.
     since_mark (live_bytes c.args.objects.now.heap) c.mark.new.self.high c.mark.new.self.high (live_of world) (ap (λ (h : Heap). h.high) c.mark.ensures)
-    (live_is c.args.script.now c.args.objects.now world stands c.heap.ensures.well_formed) (le_refl _)
+    (live_is c.args.script.now c.args.objects.now world stands c.heap_is_well_formed.ensures) (le_refl _)

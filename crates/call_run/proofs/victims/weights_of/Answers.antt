@@ -6,7 +6,7 @@ use Rattle.kheap_shelves.specs.Objects.{object}
 use Rattle.proc_table.specs.declared.places.Listed.{Listed}
 use Rattle.proc_table.proofs.LeaveLemmas.{StandsAt, stands_at}
 use Rattle.victim_core.specs.Victims.{IsInRange}
-use Rattle.call_run.specs.Objects.{procs_of}
+use Rattle.store_objects.specs.Objects.{procs_of}
 use Rattle.call_run.specs.Weights.{weights_in}
 use Rattle.call_run.proofs.Weighing.{AreWeighed, here, is_whole, next, none_yet}
 use Rattle.call_run.proofs.victims.weights_of.Goals as goal

@@ -1,4 +1,4 @@
-use Rattle.call_run.specs.Objects.{procs_of}
+use Rattle.store_objects.specs.Objects.{procs_of}
 use Rattle.call_run.specs.Weights.{weights_in}
 use Rattle.call_run.proofs.Weighing.{AreWeighed}
 use Rattle.call_run.proofs.victims.weights_of.Given as goal

@@ -1,17 +1,8 @@
-use Rattle.std.proofs.Common.{ap, refl, sym, subst, string_bytes, ◌∙◌}
-use Rattle.call_run.specs.Standing.{StandsFor}
-use Rattle.run_report.specs.Reports.{IsReport}
+use Rattle.std.proofs.Common.{Some, ap, ◌∙◌}
+use Rattle.kres_cli.proofs.Outcomes.{run_handed}
 use Rattle.kres_cli.proofs.tool.run_script.Goals as goal
 
 pub returns : goal.returns
 returns g c =
-    let reported = c.in_ok-reported.reported in
-    record {
-      end = reported.end;
-      store = c.close-store.result;
-      handed_is = refl;
-      same = ap (λ store. store.script) c.close-store.ensures ∙ c.run_core-reported.ensures.script;
-      report = subst (λ store. IsReport (λ left world. StandsFor left.script left.objects world) c.args.script.now store reported.end (string_bytes reported.text))
-          (sym c.close-store.ensures) c.in_ok-reported.ensures.reported;
-      status_is = c.of.ensures;
-    }
+    run_handed c.args.script.now c.run_core-reported.new.core.store c.hand_out.new.store_out c.run_core-reported.result
+    c.run_core-reported.ensures.script (c.hand_out.ensures ∙ ap Some c.close.ensures) c.run_core-reported.ensures.reported

@@ -1,5 +1,5 @@
 use Rattle.std.proofs.Common.{◌≡◌, ◌∙◌, length, ap, sym, subst, arith}
-use Rattle.kern_tasks.specs.View.{HasEnded}
+use Rattle.kern_core.specs.RunOver.{HasEndedOver}
 use Rattle.run_report.proofs.Telling.{reported}
 use Rattle.run_report.proofs.runs.run_core.Goals as goal
 
@@ -14,8 +14,8 @@ report-requires g c =
 pub returns-clause-reported : goal.returns-clause-reported
 returns-clause-reported g c =
     let core = c.run_to_end-end.new.core in
-    let ended : HasEnded g.T.Turner.stands c.args.script.now core c.run_to_end-end.result =
-    subst (λ s. HasEnded g.T.Turner.stands s core c.run_to_end-end.result) (sym c.requires.script) c.run_to_end-end.ensures.ended in
-    reported g.T.Turner.stands c.args.script.now core c.run_to_end-end.result c.run.result.now c.charged.result c.peak.result c.reads.result _
+    let ended : HasEndedOver g.T.Turner.stands g.T.Turner.marks g.T.Turner.high c.args.script.now core c.run_to_end-end.result =
+    subst (λ s. HasEndedOver g.T.Turner.stands g.T.Turner.marks g.T.Turner.high s core c.run_to_end-end.result) (sym c.requires.script) c.run_to_end-end.ensures.ended in
+    reported g.T.Turner.stands g.T.Turner.marks g.T.Turner.high c.args.script.now core c.run_to_end-end.result c.run.result.now c.charged.result c.peak.result c.reads.result _
     ended (c.run_to_end-end.ensures.steps ∙ c.requires.steps) c.run.ensures.same c.charged.ensures.value
     (c.peak.ensures ∙ c.run.ensures.runs.peak) (c.reads.ensures ended.state ended.is_at) c.in_ok-text.ensures

@@ -2,7 +2,7 @@ use Rattle.std.proofs.Common.{◌∙◌, ap, refl, subst, sym}
 use Rattle.std.specs.Prelude.{codes}
 use Rattle.posix_defs.specs.Plain.{place_of}
 use Rattle.posix_defs.specs.ValidScript.{IsValid}
-use Rattle.call_run.proofs.Booting.{boot_stands, boot_stands_for}
+use Rattle.store_objects.proofs.Booting.{boot_stands, boot_stands_for}
 use Rattle.call_run.proofs.store.Store.boot.Goals as goal
 
 pub go_to_call-requires : goal.go_to_call-requires

@@ -1,5 +1,5 @@
 use Rattle.std.proofs.Common.{◌≡◌, true, false, sym, ◌∙◌, subst}
-use Rattle.call_run.specs.Standing.{StandsFor}
+use Rattle.store_objects.specs.Standing.{StandsFor}
 use Rattle.call_run.proofs.Worlds.{evicts_nothing}
 use Rattle.call_run.proofs.store.StoreTurner.evict.Goals as goal
 

@@ -1,5 +1,5 @@
 use Rattle.std.proofs.Common.{sym, subst}
-use Rattle.call_run.specs.Standing.{StandsFor}
+use Rattle.store_objects.specs.Standing.{StandsFor}
 use Rattle.call_run.proofs.store.StoreTurner.kill.Goals as goal
 
 pub invariant_of-self : goal.invariant_of-self

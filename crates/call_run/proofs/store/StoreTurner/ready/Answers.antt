@@ -1,12 +1,12 @@
 use Rattle.std.proofs.Common.{ap, not, subst, sym, ◌∙◌}
 use Rattle.posix_defs.specs.Machine.{would_block}
 use Rattle.posix_defs.specs.Plain.{call_of}
-use Rattle.call_run.specs.Standing.{StandsFor}
+use Rattle.store_objects.specs.Standing.{StandsFor}
 use Rattle.call_run.proofs.store.StoreTurner.ready.Goals as goal
 
 pub returns : goal.returns
 returns g c = λ world stands alive.
     let at = subst (λ store. StandsFor store.script store.objects world) (sym c.self.view_is) stands in
-    ap not (c.would_block.ensures c.self.inside.script world.plain world.account.frames at.plain (call_of c.self.inside.script world.plain c.args.pid)
+    ap not (c.would_block.ensures c.self.inside.script world at (call_of c.self.inside.script world.plain c.args.pid)
     (c.as_ref.ensures.value ∙ c.waits_for-wait.ensures world at alive))
     ∙ ap (λ store. not (would_block store.script world.plain c.args.pid)) c.self.view_is

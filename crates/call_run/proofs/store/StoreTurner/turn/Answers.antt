@@ -1,6 +1,6 @@
 use Rattle.std.proofs.Common.{subst, sym}
 use Rattle.posix_defs.specs.Turn.{TurnsTo}
-use Rattle.call_run.specs.Standing.{StandsFor}
+use Rattle.store_objects.specs.Standing.{StandsFor}
 use Rattle.call_run.proofs.store.StoreTurner.turn.Goals as goal
 
 pub returns-clause-turned : goal.returns-clause-turned

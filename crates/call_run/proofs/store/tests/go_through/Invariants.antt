@@ -1,5 +1,5 @@
 use Rattle.posix_defs.specs.World.{World}
-use Rattle.call_run.specs.Standing.{StandsFor}
+use Rattle.store_objects.specs.Standing.{StandsFor}
 use Rattle.call_run.proofs.store.tests.go_through.Given as goal
 
 -- the store stands for a world

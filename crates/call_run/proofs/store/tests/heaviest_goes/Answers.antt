@@ -1,7 +1,7 @@
 use Rattle.std.proofs.Common.{◌≡◌, Bool, true, false, refl, arith}
 use Rattle.posix_defs.specs.Process.{is_alive}
 use Rattle.posix_defs.specs.World.{World}
-use Rattle.call_run.specs.Standing.{StandsFor}
+use Rattle.store_objects.specs.Standing.{StandsFor}
 use Rattle.call_run.proofs.store.tests.heaviest_goes.Goals as goal
 
 either : (S : World → Type 0) (alive : Bool) → (alive ≡ true → (world : World) × S world) → (alive ≡ false → (world : World) × S world) → (world : World) × S world

@@ -1,6 +1,6 @@
 use Rattle.std.proofs.Common.{◌≡◌, subst, sym, arith}
-use Rattle.call_run.specs.Standing.{StandsFor}
-use Rattle.call_run.proofs.LiveIs.{live_is}
+use Rattle.store_objects.specs.Standing.{StandsFor}
+use Rattle.store_objects.proofs.LiveIs.{live_is}
 use Rattle.call_run.proofs.store.tests.take.Goals as goal
 
 pub turn-requires-clause-may : goal.turn-requires-clause-may

@@ -1,8 +1,8 @@
-use Rattle.std.proofs.Common.{◌≡◌, ◌<◌, None, Some, length, ap, ◌∙◌, refl, vec_len, sym, subst}
+use Rattle.std.proofs.Common.{◌≡◌, ◌<◌, None, Some, length, ap, ◌∙◌, refl, sym, subst}
 use Rattle.std.specs.Option.{option_map}
 use Rattle.std.specs.Map.{lookup}
 use Rattle.std.specs.Prelude.{nat_eq}
-use Rattle.lru_index.specs.Chain.{link_at, link_of, end_after}
+use Rattle.lru_index.specs.Chain.{link_at, link_of}
 use Rattle.lru_index.proofs.Table.{set_at}
 use Rattle.lru_index.proofs.Chained.{chain_put, chain_item}
 use Rattle.lru_index.proofs.chain.Chain.add.Goals as goal

@@ -1,7 +1,5 @@
-use Rattle.std.proofs.Common.{◌≡◌, ◌<◌, None, Some, length, IsSome, ap, ◌∙◌, refl, sym, subst}
+use Rattle.std.proofs.Common.{◌≡◌, ◌<◌, None, Some, length, ap, ◌∙◌, sym}
 use Rattle.std.specs.Option.{option_map}
-use Rattle.std.specs.Map.{lookup}
-use Rattle.std.specs.Prelude.{nat_eq}
 use Rattle.lru_index.specs.Chain.{link_at, end_after}
 use Rattle.lru_index.proofs.Table.{set_at, within_table}
 use Rattle.lru_index.proofs.Chained.{chain_removed, chain_item}

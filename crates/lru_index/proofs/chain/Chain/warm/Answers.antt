@@ -1,10 +1,9 @@
-use Rattle.std.proofs.Common.{◌≡◌, ◌∷◌, ◌++◌, Some, sym, ap, ◌∙◌, subst, eqb-true}
+use Rattle.std.proofs.Common.{◌++◌, sym, subst, eqb-true}
 use Rattle.std.specs.Prelude.{nat_eq}
 use Rattle.std.specs.Option.{option_to_list}
-use Rattle.std.specs.Map.{lookup, remove_entry}
+use Rattle.std.specs.Map.{remove_entry}
 use Rattle.std.specs.Cmp.{nat_eq_equiv}
 use Rattle.lru_index.specs.Chain.{IsChain}
-use Rattle.lru_index.specs.Order.{touched}
 use Rattle.lru_index.proofs.Pairs.{put_back}
 use Rattle.lru_index.proofs.chain.Chain.warm.Goals as goal
 

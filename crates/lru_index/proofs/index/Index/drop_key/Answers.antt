@@ -1,18 +1,17 @@
-use Rattle.std.proofs.Common.{◌≡◌, ◌+◌, ◌<◌, ◌∷◌, ◌++◌, [], Some, IsSome, length, nat_eq, sym, ap, ◌∙◌, subst, arith, length-append}
+use Rattle.std.proofs.Common.{◌≡◌, ◌+◌, ◌∷◌, [], Some, IsSome, length, nat_eq, sym, ap, ◌∙◌, subst, arith, length-append}
 use Rattle.std.specs.Prelude.{vec_capacity}
 use Rattle.std.specs.Option.{option_map}
 use Rattle.std.specs.Map.{lookup, remove_entry}
-use Rattle.lru_index.specs.Chain.{items_of}
+use Rattle.lru_index.specs.Chain.{IsChain, items_of}
 use Rattle.lru_index.specs.Order.{IsOrder, order}
 use Rattle.lru_index.specs.Index.{IsKept, pairs_in}
-use Rattle.lru_index.specs.declared.spares.Spare.{Spare}
 use Rattle.lru_index.proofs.Kept.{IsSeen, seen, kept_removed, kept_order, in_use}
 use Rattle.lru_index.proofs.Pairs.{found_removed}
 use Rattle.lru_index.proofs.Placed.{agree, slot_found, some_placed, place_there, pairs_removed, length_pairs}
 use Rattle.lru_index.proofs.index.Index.drop_key.Goals as goal
 
-pub take-taken-requires-clause-there : goal.take-taken-requires-clause-there
-take-taken-requires-clause-there g c =
+pub take-spare-requires-clause-there : goal.take-spare-requires-clause-there
+take-spare-requires-clause-there g c =
     let test = g.K.PartialEq.eq c.args.key in
     subst IsSome (sym (c.self.invariant.found c.args.key)) (some_placed test _ (subst (λ o. IsSome (lookup test o.pairs)) (sym c.self.view_is) c.requires.there))
 
@@ -20,30 +19,31 @@ pub remove-pair-requires : goal.remove-pair-requires
 remove-pair-requires g c =
     let kept = c.self.invariant in
     let items = items_of c.self.inside.chain (vec_capacity c.self.inside.spare) in
-    let place = c.take-taken.result.value in
-    record { there = in_use c.self.inside.chain items place kept.chained (place_there g.met.K.Eq.laws c.args.key place items (sym (kept.found c.args.key) ∙ c.take-taken.ensures.value)) }
+    let place = c.take-spare.result.value.value in
+    record { there = rw c.deref.ensures (in_use c.self.inside.chain items place kept.chained (place_there g.met.K.Eq.laws c.args.key place items (sym (kept.found c.args.key) ∙ c.take-spare.ensures.value))) }
 
 -- the pair is gone, and its place is spare
-now_seen : (g : _) (c : goal.After-push_reserved g) → IsSeen g.K.PartialEq.eq g.K.Ord.cmp c.take-taken.new.self c.remove-pair.new.self c.push_reserved.new.self.items (vec_capacity c.push_reserved.new.self) (remove_entry (nat_eq c.take-taken.result.value) (items_of c.self.inside.chain (vec_capacity c.self.inside.spare)))
+now_seen : (g : _) (c : goal.After-push_reserved g) → IsSeen g.K.PartialEq.eq g.K.Ord.cmp c.take-spare.new.self c.remove-pair.new.self c.push_reserved.new.self.items (vec_capacity c.push_reserved.new.self) (remove_entry (nat_eq c.take-spare.result.value.value) (items_of c.self.inside.chain (vec_capacity c.self.inside.spare)))
 now_seen g c =
     let inside = c.self.inside in
     let most = vec_capacity inside.spare in
     let kept = c.self.invariant in
     let items = items_of inside.chain most in
-    let taken = c.take-taken.result in
-    let spare : Spare g.row.K.Denot = record { place = taken.value; leaves = taken.leaves } in
-    let rest = remove_entry (nat_eq taken.value) items in
-    let made = kept_removed g.met.K.Eq.laws g.K.Ord.cmp inside.places c.take-taken.new.self inside.chain c.remove-pair.new.self inside.spare.items spare most items c.args.key c.remove-pair.result kept c.take-taken.ensures.value (c.remove-pair.ensures.item items kept.chained) c.take-taken.ensures.sorted c.take-taken.ensures.finds (c.remove-pair.ensures.removed items kept.chained) c.remove-pair.ensures.places c.take-taken.ensures.left c.take-taken.ensures.right in
-    let pushed = subst (λ l. IsKept g.K.PartialEq.eq g.K.Ord.cmp c.take-taken.new.self c.remove-pair.new.self l most rest) (sym c.push_reserved.ensures.items) made in
-    seen _ _ _ _ _ _ _ (subst (λ n. IsKept g.K.PartialEq.eq g.K.Ord.cmp c.take-taken.new.self c.remove-pair.new.self c.push_reserved.new.self.items n rest) (sym c.push_reserved.ensures.capacity) pushed)
+    let taken = c.take-spare.result in
+    let rest = remove_entry (nat_eq taken.value.value) items in
+    let item = subst (λ f. lookup (nat_eq f.value) items ≡ Some c.remove-pair.result) c.deref.ensures (c.remove-pair.ensures.item items kept.chained) in
+    let chained = subst (λ f. IsChain c.remove-pair.new.self (remove_entry (nat_eq f.value) items)) c.deref.ensures (c.remove-pair.ensures.removed items kept.chained) in
+    let made = kept_removed g.met.K.Eq.laws g.K.Ord.cmp inside.places c.take-spare.new.self inside.chain c.remove-pair.new.self inside.spare.items taken most items c.args.key c.remove-pair.result kept c.take-spare.ensures.value item c.take-spare.ensures.sorted c.take-spare.ensures.finds chained c.remove-pair.ensures.places c.take-spare.ensures.alone in
+    let pushed = subst (λ l. IsKept g.K.PartialEq.eq g.K.Ord.cmp c.take-spare.new.self c.remove-pair.new.self l most rest) (sym c.push_reserved.ensures.items) made in
+    seen _ _ _ _ _ _ _ (subst (λ n. IsKept g.K.PartialEq.eq g.K.Ord.cmp c.take-spare.new.self c.remove-pair.new.self c.push_reserved.new.self.items n rest) (sym c.push_reserved.ensures.capacity) pushed)
 
 pairs_are : (g : _) (c : goal.After-push_reserved g) → pairs_in (items_of c.remove-pair.new.self (vec_capacity c.push_reserved.new.self)) ≡ remove_entry (g.K.PartialEq.eq c.args.key) c.args.self.now.pairs
 pairs_are g c =
     let kept = c.self.invariant in
     let items = items_of c.self.inside.chain (vec_capacity c.self.inside.spare) in
-    let place = c.take-taken.result.value in
+    let place = c.take-spare.result.value.value in
     let test = g.K.PartialEq.eq c.args.key in
-    let agrees = agree g.met.K.Eq.laws c.args.key place items kept.distinct kept.chained.distinct (sym (kept.found c.args.key) ∙ c.take-taken.ensures.value) in
+    let agrees = agree g.met.K.Eq.laws c.args.key place items kept.distinct kept.chained.distinct (sym (kept.found c.args.key) ∙ c.take-spare.ensures.value) in
     ap pairs_in (now_seen g c).items_are ∙ pairs_removed test place items agrees ∙ ap (λ o. remove_entry test o.pairs) c.self.view_is
 
 pub invariant_of-self : goal.invariant_of-self
@@ -53,10 +53,11 @@ pub returns-clause-slot : goal.returns-clause-slot
 returns-clause-slot g c =
     let kept = c.self.invariant in
     let items = items_of c.self.inside.chain (vec_capacity c.self.inside.spare) in
-    let place = c.take-taken.result.value in
+    let place = c.take-spare.result.value.value in
     let test = g.K.PartialEq.eq c.args.key in
-    let agrees = agree g.met.K.Eq.laws c.args.key place items kept.distinct kept.chained.distinct (sym (kept.found c.args.key) ∙ c.take-taken.ensures.value) in
-    sym (ap (λ o. lookup test o.pairs) c.self.view_is) ∙ sym (slot_found test place items agrees) ∙ ap (option_map (λ pair. pair.1)) (c.remove-pair.ensures.item items kept.chained)
+    let agrees = agree g.met.K.Eq.laws c.args.key place items kept.distinct kept.chained.distinct (sym (kept.found c.args.key) ∙ c.take-spare.ensures.value) in
+    let item = subst (λ f. lookup (nat_eq f.value) items ≡ Some c.remove-pair.result) c.deref.ensures (c.remove-pair.ensures.item items kept.chained) in
+    sym (ap (λ o. lookup test o.pairs) c.self.view_is) ∙ sym (slot_found test place items agrees) ∙ ap (option_map (λ pair. pair.1)) item
 
 pub returns-clause-valid : goal.returns-clause-valid
 returns-clause-valid g c = kept_order _ _ _ _ _ _ _ (now_seen g c).index
@@ -76,6 +77,5 @@ returns-clause-room g c =
     let items = items_of c.remove-pair.new.self (vec_capacity c.push_reserved.new.self) in
     let pairs : length (pairs_in items) ≡ length items = length_pairs items in
     let room = (now_seen g c).index.room in
-    let spare : Spare g.row.K.Denot = record { place = c.take-taken.result.value; leaves = c.take-taken.result.leaves } in
-    let pushed : length c.push_reserved.new.self.items ≡ length c.self.inside.spare.items + 1 = ap length c.push_reserved.ensures.items ∙ length-append c.self.inside.spare.items (spare ∷ []) in
+    let pushed : length c.push_reserved.new.self.items ≡ length c.self.inside.spare.items + 1 = ap length c.push_reserved.ensures.items ∙ length-append c.self.inside.spare.items (c.take-spare.result ∷ []) in
     omega arith

@@ -1,8 +1,8 @@
-use Rattle.std.proofs.Common.{◌≡◌, ◌+◌, ◌<◌, ◌∷◌, ◌++◌, [], None, length, nat_eq, vec_len, sym, ap, ◌∙◌, subst, arith, length-append}
+use Rattle.std.proofs.Common.{◌≡◌, ◌<◌, ◌∷◌, ◌++◌, [], None, length, vec_len, sym, ap, ◌∙◌, subst, arith}
 use Rattle.std.specs.Prelude.{vec_capacity}
 use Rattle.std.specs.List.{AllByRecursion}
 use Rattle.std.specs.Map.{lookup}
-use Rattle.lru_index.specs.Chain.{items_of}
+use Rattle.lru_index.specs.Chain.{IsChain, items_of}
 use Rattle.lru_index.specs.Order.{order}
 use Rattle.lru_index.specs.Index.{IsFree, IsKept, pairs_in}
 use Rattle.lru_index.specs.Spares.{IsSpareBelow}
@@ -27,24 +27,21 @@ put-requires-clause-absent g c =
     let test = g.K.PartialEq.eq c.args.key in
     c.self.invariant.found c.args.key ∙ none_placed test _ (ap (λ o. lookup test o.pairs) c.self.view_is ∙ c.requires.absent)
 
-pub put-requires-clause-left : goal.put-requires-clause-left
-put-requires-clause-left g c = (all_last _ c.pop.new.self.items c.in-Some.spare (subst (AllByRecursion (IsSpareBelow (vec_capacity c.self.inside.spare))) c.in-Some.ensures.items c.self.invariant.spares)).left
-
-pub put-requires-clause-right : goal.put-requires-clause-right
-put-requires-clause-right g c = (all_last _ c.pop.new.self.items c.in-Some.spare (subst (AllByRecursion (IsSpareBelow (vec_capacity c.self.inside.spare))) c.in-Some.ensures.items c.self.invariant.spares)).right
+pub put-requires-clause-alone : goal.put-requires-clause-alone
+put-requires-clause-alone g c = (all_last _ c.pop.new.self.items c.in-Some.spare (subst (AllByRecursion (IsSpareBelow (vec_capacity c.self.inside.spare))) c.in-Some.ensures.items c.self.invariant.spares)).alone
 
 pub add-requires-clause-within : goal.add-requires-clause-within
 add-requires-clause-within g c =
     let within = (all_last _ c.pop.new.self.items c.in-Some.spare (subst (AllByRecursion (IsSpareBelow (vec_capacity c.self.inside.spare))) c.in-Some.ensures.items c.self.invariant.spares)).within in
-    subst (λ n. c.in-Some.spare.place < n) (sym c.self.invariant.table) within
+    subst (λ n. c.deref.result.now.value < n) (sym c.self.invariant.table) (rw c.deref.ensures within)
 
 pub add-requires-clause-free : goal.add-requires-clause-free
 add-requires-clause-free g c =
     let items = items_of c.self.inside.chain (vec_capacity c.self.inside.spare) in
-    c.self.invariant.chained.others c.in-Some.spare.place (all_last (IsFree items) c.pop.new.self.items c.in-Some.spare (subst (AllByRecursion (IsFree items)) c.in-Some.ensures.items c.self.invariant.free))
+    rw c.deref.ensures (c.self.invariant.chained.others c.in-Some.spare.value.value (all_last (IsFree items) c.pop.new.self.items c.in-Some.spare (subst (AllByRecursion (IsFree items)) c.in-Some.ensures.items c.self.invariant.free)))
 
 -- the pair stands last, at the place that was spare
-now_seen : (g : _) (c : goal.After-add g) → IsSeen g.K.PartialEq.eq g.K.Ord.cmp c.put.new.self c.add.new.self c.pop.new.self.items (vec_capacity c.pop.new.self) (items_of c.self.inside.chain (vec_capacity c.self.inside.spare) ++ (c.in-Some.spare.place, (c.args.key, c.args.slot)) ∷ [])
+now_seen : (g : _) (c : goal.After-add g) → IsSeen g.K.PartialEq.eq g.K.Ord.cmp c.put.new.self c.add.new.self c.pop.new.self.items (vec_capacity c.pop.new.self) (items_of c.self.inside.chain (vec_capacity c.self.inside.spare) ++ (c.in-Some.spare.value.value, (c.args.key, c.args.slot)) ∷ [])
 now_seen g c =
     let inside = c.self.inside in
     let most = vec_capacity inside.spare in
@@ -52,13 +49,14 @@ now_seen g c =
     let test = g.K.PartialEq.eq c.args.key in
     let kept = subst (λ l. IsKept g.K.PartialEq.eq g.K.Ord.cmp inside.places inside.chain l most items) c.in-Some.ensures.items c.self.invariant in
     let absent : lookup test (pairs_in items) ≡ None = ap (λ o. lookup test o.pairs) c.self.view_is ∙ c.requires.absent in
-    let made = kept_put g.met.K.Eq.laws g.K.Ord.cmp inside.places c.put.new.self inside.chain c.add.new.self c.pop.new.self.items c.in-Some.spare most items c.args.key c.args.slot kept absent c.put.ensures.sorted c.put.ensures.finds (c.add.ensures.added items kept.chained) c.add.ensures.places in
-    seen _ _ _ _ _ _ _ (subst (λ n. IsKept g.K.PartialEq.eq g.K.Ord.cmp c.put.new.self c.add.new.self c.pop.new.self.items n (items ++ (c.in-Some.spare.place, (c.args.key, c.args.slot)) ∷ [])) (sym c.pop.ensures.capacity) made)
+    let chained = subst (λ f. IsChain c.add.new.self (items ++ (f.value, (c.args.key, c.args.slot)) ∷ [])) c.deref.ensures (c.add.ensures.added items kept.chained) in
+    let made = kept_put g.met.K.Eq.laws g.K.Ord.cmp inside.places c.put.new.self inside.chain c.add.new.self c.pop.new.self.items c.in-Some.spare most items c.args.key c.args.slot kept absent c.put.ensures.sorted c.put.ensures.finds chained c.add.ensures.places in
+    seen _ _ _ _ _ _ _ (subst (λ n. IsKept g.K.PartialEq.eq g.K.Ord.cmp c.put.new.self c.add.new.self c.pop.new.self.items n (items ++ (c.in-Some.spare.value.value, (c.args.key, c.args.slot)) ∷ [])) (sym c.pop.ensures.capacity) made)
 
 pairs_are : (g : _) (c : goal.After-add g) → pairs_in (items_of c.add.new.self (vec_capacity c.pop.new.self)) ≡ c.args.self.now.pairs ++ (c.args.key, c.args.slot) ∷ []
 pairs_are g c =
     let items = items_of c.self.inside.chain (vec_capacity c.self.inside.spare) in
-    ap pairs_in (now_seen g c).items_are ∙ pairs_append items ((c.in-Some.spare.place, (c.args.key, c.args.slot)) ∷ []) ∙ ap (λ o. o.pairs ++ (c.args.key, c.args.slot) ∷ []) c.self.view_is
+    ap pairs_in (now_seen g c).items_are ∙ pairs_append items ((c.in-Some.spare.value.value, (c.args.key, c.args.slot)) ∷ []) ∙ ap (λ o. o.pairs ++ (c.args.key, c.args.slot) ∷ []) c.self.view_is
 
 pub invariant_of-self : goal.invariant_of-self
 invariant_of-self g c = (now_seen g c).index

@@ -3,7 +3,7 @@ use Rattle.std.specs.Prelude.{remove}
 use Rattle.std.specs.Option.{option_map}
 use Rattle.kabi_values.specs.declared.classes.Class.TheVariants as class
 use Rattle.kheap_shelves.specs.Counts.{counted, with_count}
-use Rattle.kheap_shelves.specs.Objects.{object, without}
+use Rattle.kheap_shelves.specs.Objects.{without}
 use Rattle.kheap_shelves.specs.Purse.{Purse}
 use Rattle.kheap_slabs.specs.Paid.{AreFills}
 use Rattle.kheap_laws.proofs.FillLemmas.{AreFills-drop}

@@ -1,4 +1,4 @@
-use Rattle.std.proofs.Common.{Some, sym, ap, ◌∙◌, subst}
+use Rattle.std.proofs.Common.{sym, ap, ◌∙◌, subst}
 use Rattle.lru_index.specs.Keys.{same_name}
 use Rattle.name_cache.specs.Names.{key_of, name_slot, KeepsNames}
 use Rattle.name_cache.proofs.KeyLemmas.{same_key_laws}

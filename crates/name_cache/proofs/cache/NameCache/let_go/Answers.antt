@@ -1,16 +1,13 @@
-use Rattle.std.proofs.Common.{◌≡◌, ◌≢◌, ℕ, cond, None, Some, IsSome, length, Contains, refl, sym, ap, ◌∙◌, subst, inl, inr}
-use Rattle.std.specs.Prelude.{MatchOption, remove}
-use Rattle.std.specs.Map.{remove_entry}
-use Rattle.kheap_shelves.specs.Objects.{InUse, without}
+use Rattle.std.proofs.Common.{◌≡◌, ℕ, Some, IsSome, Contains, sym, ap, ◌∙◌, subst}
+use Rattle.std.specs.Prelude.{MatchOption}
+use Rattle.kheap_shelves.specs.Objects.{without}
 use Rattle.kheap_shelves.proofs.ObjectLemmas.{object-without_other}
 use Rattle.kheap_slabs.specs.Paid.{AreFills}
 use Rattle.kheap_laws.proofs.FillLemmas.{AreFills-kept}
-use Rattle.kheap_laws.proofs.PaidLemmas.{IsPaid-nothing, IsPaid-refl}
 use Rattle.lru_index.specs.Keys.{same_name}
-use Rattle.lru_index.specs.Order.{order}
 use Rattle.cache_laws.specs.Caches.{IsAt}
-use Rattle.cache_laws.proofs.KeepsLemmas.{absent_found, at_none, pairs_kept_is}
-use Rattle.name_cache.specs.Names.{same_key, key_of, name_slot, NameGone, Unchanged, TakenBack}
+use Rattle.cache_laws.proofs.KeepsLemmas.{absent_found, at_none}
+use Rattle.name_cache.specs.Names.{key_of, name_slot, NameGone, Unchanged}
 use Rattle.name_cache.proofs.KeyLemmas.{same_key_laws}
 use Rattle.name_cache.proofs.cache.NameCache.let_go.Goals as goal
 

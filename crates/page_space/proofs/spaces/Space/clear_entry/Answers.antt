@@ -46,7 +46,7 @@ returns-then-not-has_mapped-clause-turns c =
     let changed : Node = record { entries = set there.0.entries (page % 64) entry.Unmapped } in
     let put_is = ap (λ (h : Heap). h.nodes) (c.set_node_entry.ensures.kept there.0 there.1) in
     let same = read_back nodes c.set_node_entry.new.self.nodes key there.0 changed c.get_node.result.now there.1 put_is c.get_node.ensures in
-    let long : length there.0.entries ≡ 64 = sym (length-set there.0.entries (page % 64) entry.Unmapped) ∙ (ap (λ (n : Node). length n.entries) (sym same) ∙ c.heap.ensures.well_formed.entries key c.get_node.result.now c.get_node.ensures) in
+    let long : length there.0.entries ≡ 64 = sym (length-set there.0.entries (page % 64) entry.Unmapped) ∙ (ap (λ (n : Node). length n.entries) (sym same) ∙ c.heap_is_well_formed.ensures.entries key c.get_node.result.now c.get_node.ensures) in
     let now : List (Option ℕ) = set inside (page / 64) None in
     let turned : PageTurns nodes c.free_node.new.self.nodes inside now page (entry_at nodes inside page) entry.Unmapped =
     subst (λ after. PageTurns nodes after inside now page (entry_at nodes inside page) entry.Unmapped)
@@ -77,7 +77,7 @@ returns-else-not-has_mapped-clause-turns c =
     let changed : Node = record { entries = set there.0.entries (page % 64) entry.Unmapped } in
     let put_is = ap (λ (h : Heap). h.nodes) (c.set_node_entry.ensures.kept there.0 there.1) in
     let same = read_back nodes c.set_node_entry.new.self.nodes key there.0 changed c.get_node.result.now there.1 put_is c.get_node.ensures in
-    let long : length there.0.entries ≡ 64 = sym (length-set there.0.entries (page % 64) entry.Unmapped) ∙ (ap (λ (n : Node). length n.entries) (sym same) ∙ c.heap.ensures.well_formed.entries key c.get_node.result.now c.get_node.ensures) in
+    let long : length there.0.entries ≡ 64 = sym (length-set there.0.entries (page % 64) entry.Unmapped) ∙ (ap (λ (n : Node). length n.entries) (sym same) ∙ c.heap_is_well_formed.ensures.entries key c.get_node.result.now c.get_node.ensures) in
     subst (λ after. PageTurns nodes after space space page (entry_at nodes space page) entry.Unmapped) (sym put_is)
     (turn-set nodes space page key c.requires.owns named there.0 changed entry.Unmapped there.1 (omega (arith, long)) refl
     (subst (λ n. 0 < mapped_count n) same (MatchBool-at_true (0 < mapped_count c.get_node.result.now) (mapped_count c.get_node.result.now ≡ 0) c.if-not-has_mapped.false c.has_mapped.ensures)))

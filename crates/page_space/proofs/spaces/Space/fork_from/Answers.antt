@@ -25,7 +25,7 @@ share_entry-requires-clause-named c =
 pub share_entry-requires-clause-small : goal.share_entry-requires-clause-small
 share_entry-requires-clause-small c = λ page.
     let owned = c.loop-page.invariant.0.forked.owners c.requires.owned.0 c.requires.owned.1 in
-    omega (arith, IsCounted-most c.loop-page.heap page c.heap.ensures.well_formed owned.pages, c.heap.ensures.well_formed.limit)
+    omega (arith, IsCounted-most c.loop-page.heap page c.heap_is_well_formed.ensures owned.pages, c.heap_is_well_formed.ensures.limit)
 
 pub map_page-requires-clause-owns : goal.map_page-requires-clause-owns
 map_page-requires-clause-owns c =

@@ -20,7 +20,7 @@ returns-clause-turns c =
     let there = object_of nodes c.in-Some.key (c.requires.owns.used c.in-Some.key (key_there space (page / 64) c.in-Some.key named)) in
     let node = there.0 in
     let was = entry_at nodes space page in
-    let long = c.heap.ensures.well_formed.entries c.in-Some.key node there.1 in
+    let long = c.heap_is_well_formed.ensures.entries c.in-Some.key node there.1 in
     subst (λ after. PageTurns nodes after space space page was c.args.entry) (sym (ap (λ h. h.nodes) (c.set_node_entry.ensures.kept node there.1)))
     (turn-set nodes space page c.in-Some.key c.requires.owns named
     node (record { entries = set node.entries (page % 64) c.args.entry }) c.args.entry there.1 (omega (arith, long)) refl

@@ -21,5 +21,5 @@ pub returns-in-Frame-clause-taken : goal.returns-in-Frame-clause-taken
 returns-in-Frame-clause-taken c = λ memory stands.
     ap (λ bytes. bytes ++ drop c.min-count.result c.args.out.now)
     (c.copy_from_slice.ensures.after ∙ ap (λ (n : ℕ). mid_of (c.args.addr % 4096) n c.get_page.result.now.bytes) (omega arith)
-    ∙ sym (taken_frame c.args.heap.now c.args.self.now memory c.args.addr c.min-count.result c.in-Frame.key c.get_page.result.now c.heap.ensures.well_formed stands (omega arith)
+    ∙ sym (taken_frame c.args.heap.now c.args.self.now memory c.args.addr c.min-count.result c.in-Frame.key c.get_page.result.now c.heap_is_well_formed.ensures stands (omega arith)
     (sym c.entry.ensures ∙ c.in-Frame.is) c.get_page.ensures (omega arith)))

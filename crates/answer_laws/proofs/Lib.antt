@@ -1,0 +1,8 @@
+pub mod NoWant
+pub mod Faults
+pub mod Exits
+pub mod Shapes
+pub mod Failing
+pub mod Built
+pub mod GoingOn
+pub mod Blocking

@@ -1,0 +1,12 @@
+pub mod Few
+pub mod Filled
+pub mod InTurn
+pub mod LastBlock
+pub mod AtBoot
+pub mod Absent
+pub mod Moved
+pub mod BlocksStep
+pub mod NamesStep
+pub mod NodesStep
+pub mod Asking
+pub mod QueriesInTurn

@@ -1,0 +1,14 @@
+use Rattle.std.proofs.Common.{refl}
+use Rattle.cached_disk.proofs.dirs.CachedDirsDirs.parent.Goals as goal
+
+pub returns-clause-value : goal.returns-clause-value
+returns-clause-value c = λ tree stands. c.find_parent.ensures.value c.args.self.now.names.now tree stands
+
+pub returns-clause-stands : goal.returns-clause-stands
+returns-clause-stands c = λ tree stands. c.find_parent.ensures.stands c.args.self.now.names.now tree stands
+
+pub returns-clause-follows : goal.returns-clause-follows
+returns-clause-follows c = (refl, refl, refl, refl, refl, refl, c.find_parent.ensures.goes_on c.args.self.now.names.now)
+
+pub returns-clause-asked : goal.returns-clause-asked
+returns-clause-asked c = record { stands = λ tree stands. c.find_parent.ensures.stands c.args.self.now.names.now tree stands; told = tt }

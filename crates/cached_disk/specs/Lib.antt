@@ -1,0 +1,4 @@
+pub mod Lent
+pub mod GoingOn
+pub mod TreeLent
+pub mod TreeGoing

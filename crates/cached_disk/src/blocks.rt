@@ -1,0 +1,119 @@
+//! `CachedBlocks`, and what it does to what was lent.
+ghost use Rattle.std.specs.Prelude.{◌≡◌, ℕ, ◌<◌, ◌≤◌, length, slice_get, slice_set, Some};
+ghost use Rattle.kheap_shelves.specs.Objects.{InUse};
+ghost use Rattle.kheap_slabs.specs.Paid.{TakesNothing};
+ghost use Rattle.block_cache.specs.Blocks.{KeepsBlocks, TrueToDisk};
+ghost use Rattle.cached_disk.specs.Lent.{parts, AreLent, GoesOn, Asked};
+
+use block_cache::BlockCache;
+use disk_layout::RamDisk;
+use kheap_shelves::Purse;
+use kheap_slabs::KHeap;
+use posix_defs::Blocks;
+
+/// The blocks of a disk behind a cache, made of what a call lends.
+#[derive(Drop)]
+pub struct CachedBlocks<'a> {
+    pub heap: &'a mut KHeap,
+    pub purse: &'a mut Purse,
+    pub cache: &'a mut BlockCache,
+    pub disk: &'a mut RamDisk,
+    pub ghost lent: { AreLent heap.now purse.now cache.now disk.now },
+}
+
+impl Blocks for CachedBlocks<'_> {
+    ghost blocks = { λ b. b.disk.now.blocks };
+
+    // The same four are lent, and go on.
+    ghost follows = { λ a b. (b.heap.ghost_name ≡ a.heap.ghost_name)
+        × (b.purse.ghost_name ≡ a.purse.ghost_name)
+        × (b.cache.ghost_name ≡ a.cache.ghost_name)
+        × (b.disk.ghost_name ≡ a.disk.ghost_name)
+        × GoesOn (parts a.heap.now a.purse.now a.cache.now a.disk.now)
+        (parts b.heap.now b.purse.now b.cache.now b.disk.now) };
+
+    ghost asked = { λ a number b. Asked (parts a.heap.now a.purse.now a.cache.now a.disk.now) number
+        (parts b.heap.now b.purse.now b.cache.now b.disk.now) };
+
+    ghost use Rattle.std.specs.Prelude.{refl};
+    ghost use Rattle.std.proofs.Common.{◌∙◌};
+    ghost use Rattle.cached_disk.specs.GoingOn.{GoesOn-refl, GoesOn-trans};
+
+    ghost follows_refl = { λ a. (refl, refl, refl, refl, GoesOn-refl (parts a.heap.now a.purse.now a.cache.now a.disk.now)) };
+
+    ghost follows_trans = { λ a b c one other. (
+      other.0 ∙ one.0,
+      other.1 ∙ one.1,
+      other.2 ∙ one.2,
+      other.3 ∙ one.3,
+      GoesOn-trans (parts a.heap.now a.purse.now a.cache.now a.disk.now)
+          (parts b.heap.now b.purse.now b.cache.now b.disk.now)
+          (parts c.heap.now c.purse.now c.cache.now c.disk.now) one.4 other.4,
+    ) };
+
+    fn count(&self) -> u32 {
+        self.disk.count()
+    }
+
+    fn get(&mut self, number: u32) -> [u8; 1024] {
+        fetch(self.heap, self.purse, self.cache, self.disk, number)
+    }
+
+    fn set(&mut self, number: u32, bytes: &[u8; 1024]) {
+        store(self.heap, self.cache, self.disk, number, bytes);
+    }
+}
+
+/// A block's bytes: as they are cached, else as they are read, and then they are cached.
+fn fetch(
+    heap: &mut KHeap,
+    purse: &mut Purse,
+    cache: &mut BlockCache,
+    disk: &mut RamDisk,
+    number: u32,
+) -> [u8; 1024]
+    requires lent { AreLent heap.old purse.old cache.old disk.old }
+    requires number { number < length disk.old.blocks }
+    ensures value { slice_get disk.old.blocks number ≡ Some result }
+    ensures kept { disk.new.blocks ≡ disk.old.blocks }
+    ensures asked { Asked (parts heap.old purse.old cache.old disk.old) number
+        (parts heap.new purse.new cache.new disk.new) }
+    ensures goes_on { GoesOn (parts heap.old purse.old cache.old disk.old)
+        (parts heap.new purse.new cache.new disk.new) }
+    ensures lent { AreLent heap.new purse.new cache.new disk.new }
+{
+    match cache.get(heap, number) {
+        Some(bytes) => bytes,
+        None => {
+            let bytes = disk.read(number);
+            cache.fill(heap, purse, number, &bytes);
+            bytes
+        }
+    }
+}
+
+/// Writes a block to the disk, and to the cache where it is cached.
+fn store(
+    heap: &mut KHeap,
+    cache: &mut BlockCache,
+    disk: &mut RamDisk,
+    number: u32,
+    bytes: &[u8; 1024],
+)
+    requires keeps { KeepsBlocks heap.old.blocks cache.old }
+    requires true_blocks { TrueToDisk disk.old.blocks heap.old.blocks }
+    requires number { number < length disk.old.blocks }
+    ensures after { disk.new.blocks ≡ slice_set disk.old.blocks number bytes.now }
+    ensures reads { disk.new.reads ≡ disk.old.reads }
+    ensures heap { heap.new ≡ record heap.old { blocks = heap.new.blocks } }
+    ensures same { cache.new ≡ cache.old }
+    ensures used { (slot : ℕ) → InUse heap.old.blocks slot → InUse heap.new.blocks slot }
+    ensures keeps { KeepsBlocks heap.new.blocks cache.new }
+    ensures true_blocks { TrueToDisk disk.new.blocks heap.new.blocks }
+    ensures takes { TakesNothing heap.old heap.new }
+{
+    disk.write(number, bytes);
+    if cache.has(number) {
+        cache.set(heap, number, bytes);
+    }
+}

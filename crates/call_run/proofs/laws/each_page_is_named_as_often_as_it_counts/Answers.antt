@@ -1,5 +1,0 @@
-use Rattle.call_run.proofs.PageNamings.{named_by_all}
-use Rattle.call_run.proofs.laws.each_page_is_named_as_often_as_it_counts.Goals as goal
-
-pub returns : goal.returns
-returns c = named_by_all

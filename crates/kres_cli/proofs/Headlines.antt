@@ -1,0 +1,52 @@
+-- Why what `sim` has written keeps the headline.
+use Rattle.std.proofs.Common.{◌≡◌, ◌⊎◌, List, ℕ, Option, Ok, inl, inr, refl}
+use Rattle.kabi_types.specs.declared.scripts.Script.{Script}
+use Rattle.store_objects.specs.Standing.{StoreView}
+use Rattle.posix_defs.specs.ScriptText.{ReadsText}
+use Rattle.run_report.proofs.Headlines.{keeps_headline}
+use Rattle.script_parse.proofs.ValidScripts.{reads_valid}
+use Rattle.kres_cli.specs.declared.commands.Task.TheVariants.{Sim}
+use Rattle.kres_cli.specs.declared.statuses.Status.{Status}
+use Rattle.kres_cli.specs.declared.statuses.Status.TheVariants as status
+use Rattle.kres_cli.specs.Headline.{HasSimulated, SimKeeps}
+use Rattle.kres_cli.specs.Run.{IsRunOf, high, marks, stands}
+use Rattle.kres_cli.specs.Tool.{Answered, AnswersText, Input, Output, TaskEnds, makes, refuses}
+
+-- what answers a text but the line of its fault is the report of a run
+told : (text whole : List ℕ) (handed : Option StoreView) (st : Status) → AnswersText text whole Sim handed st
+    → (st ≡ status.BadScript) ⊎ ((script : Script) × ReadsText text (Ok script) × IsRunOf script whole handed st)
+told text whole handed _ (refuses fault said is none) = inl refl
+told text whole handed _ (makes script st said ran) = inr (script, said, ran)
+
+simulated : (i : Input) (o : Output) (handed : Option StoreView) (st : Status) → Answered i o handed Sim st
+    → (st ≡ status.BadScript → ⊥) → HasSimulated i o handed st
+simulated i o handed st answered other =
+    let source = answered.1 in
+    elim (told source.text answered.0 handed st source.answers) [
+      | inl bad ↦ absurd (other bad)
+      | inr found ↦
+          let ran = found.2 in
+          record {
+            script = found.0;
+            read = record { text = source.text; taken = source.taken; no_fault = source.no_fault; reads = found.1 };
+            whole = answered.0;
+            wrote = answered.2;
+            end = ran.end;
+            status_is = ran.status_is;
+            store = ran.store;
+            handed_is = ran.handed_is;
+            same = ran.same;
+            keeps = keeps_headline stands marks high found.0 ran.store ran.end answered.0 (reads_valid source.text (Ok found.0) found.1) ran.report;
+          }
+    ]
+
+pub sim_keeps : (i : Input) (o : Output) (handed : Option StoreView) (st : Status) → TaskEnds i o handed Sim st → SimKeeps i o handed st
+sim_keeps i o handed status.Finished ends = simulated i o handed status.Finished ends (λ same. (cc))
+sim_keeps i o handed status.Starved ends = simulated i o handed status.Starved ends (λ same. (cc))
+sim_keeps i o handed status.AllAsleep ends = simulated i o handed status.AllAsleep ends (λ same. (cc))
+sim_keeps i o handed status.Spent ends = simulated i o handed status.Spent ends (λ same. (cc))
+sim_keeps i o handed status.BadScript ends = tt
+sim_keeps i o handed status.Usage ends = tt
+sim_keeps i o handed status.ReadFault ends = tt
+sim_keeps i o handed status.WriteFault ends = tt
+sim_keeps i o handed status.Memory ends = tt

@@ -1,0 +1,4 @@
+pub mod Piped
+pub mod Joined
+pub mod Bytes
+pub mod Texts

@@ -1,5 +1,0 @@
-use Rattle.machine_laws.proofs.Shapes.{shape_of}
-use Rattle.machine_laws.proofs.answers.every_answer_has_a_shape.Goals as goal
-
-pub returns : goal.returns
-returns c = shape_of

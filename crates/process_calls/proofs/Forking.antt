@@ -1,0 +1,263 @@
+-- A child is made, which goes on behind its parent's call.
+use Rattle.std.proofs.Common.{◌≡◌, ◌≢◌, ◌⊎◌, ℕ, zero, suc, ◌+◌, ◌<◌, ◌≤◌, ◌==◌, Bool, true, false, cond, List, [], ◌∷◌, ◌++◌, length, None, Some, is_some, unwrap_or, pos, refl, ap, sym, ◌∙◌, subst, inl, inr, arith, length-append}
+use Rattle.std.specs.Prelude.{Ok, Err}
+use Rattle.std.specs.List.{AllByRecursion}
+use Rattle.std.specs.Option.{option_map}
+use Rattle.std.proofs.lemmas.Bool.Decides.{eqb_tells}
+use Rattle.kabi_calls.specs.declared.calls.Call.TheVariants as call
+use Rattle.kabi_values.specs.declared.errnos.Errno.{Errno}
+use Rattle.kabi_values.specs.declared.errnos.Errno.TheVariants.{EAGAIN}
+use Rattle.kabi_values.specs.declared.replies.Reply.TheVariants.{Fail, Val}
+use Rattle.kabi_types.specs.declared.scripts.Control.{Control}
+use Rattle.kabi_types.specs.declared.scripts.Script.{Script}
+use Rattle.kheap_shelves.specs.declared.objects.Proc.{Proc}
+use Rattle.kheap_slabs.specs.Heap.{Heap}
+use Rattle.kern_laws.proofs.Bareness.{heir_bare}
+use Rattle.kern_laws.proofs.EnabledEvents.{get_behind}
+use Rattle.kern_laws.proofs.TablePlaces.{get_front}
+use Rattle.posix_defs.specs.Account.{with_frames}
+use Rattle.posix_defs.specs.Answer.{replied}
+use Rattle.posix_defs.specs.ByPid.{at_pid}
+use Rattle.posix_defs.specs.Control.{after, settled}
+use Rattle.posix_defs.specs.Forking.{fork, with_child}
+use Rattle.posix_defs.specs.Memory.{Frames, after_fork}
+use Rattle.posix_defs.specs.Plain.{Plain, at_start, control_of}
+use Rattle.posix_defs.specs.Process.{Table, is_alive}
+use Rattle.posix_defs.specs.World.{World}
+use Rattle.posix_defs.specs.declared.turner.Turned.{Turned}
+use Rattle.posix_defs.specs.declared.turner.Turned.TheVariants.{Done}
+use Rattle.prog_ctl.specs.Runnable.{Rests, Stands}
+use Rattle.proc_table.specs.Accounting.{HasAccount}
+use Rattle.proc_table.specs.Changes.{child_proc, forked_as, is_full_at, replaced}
+use Rattle.proc_table.specs.Moves.{IsForked, TableMoves}
+use Rattle.proc_table.specs.Procs.{proc_of}
+use Rattle.proc_table.specs.Standing.{IsTable, answered_fork, forked_in}
+use Rattle.proc_table.specs.Table.{TableView}
+use Rattle.proc_table.proofs.AccountLemmas.{pids_within}
+use Rattle.proc_table.proofs.FamilyLemmas.{proc_has_pid}
+use Rattle.proc_table.proofs.LawLemmas.{fork_is, on-account, on-table}
+use Rattle.proc_table.proofs.OwnLemmas.{all_append, has_it}
+use Rattle.proc_table.proofs.PlaceLemmas.{eqb_other, eqb_same}
+use Rattle.store_objects.specs.declared.objects.Objects.{Objects}
+use Rattle.store_objects.specs.Objects.{AreAtCalls, AreKept, IsAtCall, MovesOn, Runs, procs_of}
+use Rattle.store_objects.specs.Standing.{AreProcesses, Performs, StandsFor, WorldAfter}
+use Rattle.store_objects.proofs.Families.{fronts_on}
+use Rattle.store_objects.proofs.GoingOn.{kept_moved, led_to, mapped_from, proc_made, procs_then, replaced_at, some_same}
+use Rattle.store_objects.proofs.Keeping.{kept_on}
+use Rattle.store_objects.proofs.Leading.{led_on}
+use Rattle.store_objects.proofs.Replies.{GoesOn, does_fail}
+use Rattle.process_calls.proofs.Waits.{kept_by}
+
+-- who is found where one more stands behind the others
+found_behind : (procs : List Proc) (child : Proc) (q : ℕ) (found : Proc) → proc_of (procs ++ child ∷ []) q ≡ Some found
+    → (proc_of procs q ≡ Some found) ⊎ (child.pid ≡ q)
+found_behind [] child q found is = elim (eqb_tells child.pid q) [
+  | inl same ↦ inr same.1
+  | inr other ↦ inl (sym (ap (λ b. cond b (Some child) None) other.0) ∙ is)
+]
+found_behind (first ∷ procs) child q found is = go (first.pid == q) is (found_behind procs child q found)
+  where
+    go : (b : Bool) → cond b (Some first) (proc_of (procs ++ child ∷ []) q) ≡ Some found
+        → (proc_of (procs ++ child ∷ []) q ≡ Some found → (proc_of procs q ≡ Some found) ⊎ (child.pid ≡ q))
+        → (cond b (Some first) (proc_of procs q) ≡ Some found) ⊎ (child.pid ≡ q)
+    go true e rest = inl e
+    go false e rest = rest e
+
+-- who was found is found still
+found_still : (procs : List Proc) (child : Proc) (q : ℕ) (found : Proc) → proc_of procs q ≡ Some found → proc_of (procs ++ child ∷ []) q ≡ Some found
+found_still [] child q found is = cc
+found_still (first ∷ procs) child q found is = go (first.pid == q) is (found_still procs child q found)
+  where
+    go : (b : Bool) → cond b (Some first) (proc_of procs q) ≡ Some found
+        → (proc_of procs q ≡ Some found → proc_of (procs ++ child ∷ []) q ≡ Some found)
+        → cond b (Some first) (proc_of (procs ++ child ∷ []) q) ≡ Some found
+    go true e rest = e
+    go false e rest = rest e
+
+-- somebody has the pid of the last
+somebody : (procs : List Proc) (child : Proc) (q : ℕ) → child.pid ≡ q → is_some (proc_of (procs ++ child ∷ []) q) ≡ true
+somebody [] child q own = elim (eqb_tells child.pid q) [
+  | inl same ↦ ap (λ b. is_some (cond b (Some child) None)) same.0
+  | inr other ↦ absurd (other.1 own)
+]
+somebody (first ∷ procs) child q own = go (first.pid == q) (somebody procs child q own)
+  where
+    go : (b : Bool) → is_some (proc_of (procs ++ child ∷ []) q) ≡ true → is_some (cond b (Some first) (proc_of (procs ++ child ∷ []) q)) ≡ true
+    go true rest = refl
+    go false rest = rest
+
+-- the controls of those made before, and the last one's
+at_front : (controls : List Control) (last d : Control) (pid : ℕ) → pid ≤ length controls → unwrap_or (at_pid (controls ++ last ∷ []) pid) d ≡ unwrap_or (at_pid controls pid) d
+at_front controls last d zero h = refl
+at_front controls last d (suc i) h = ap (λ found. unwrap_or found d) (get_front controls (last ∷ []) i (omega arith))
+
+at_last : (controls : List Control) (last d : Control) (pid : ℕ) → pid ≡ length controls + 1 → unwrap_or (at_pid (controls ++ last ∷ []) pid) d ≡ last
+at_last controls last d zero h = absurd (omega arith)
+at_last controls last d (suc i) h =
+    ap (λ n. unwrap_or (at_pid (controls ++ last ∷ []) (suc n)) d) (let e : i ≡ length controls = omega arith in e)
+    ∙ ap (λ found. unwrap_or found d) (get_behind controls last [])
+
+-- where neither has changed the objects are the same
+pub same_objects : (old : Objects) (heap : Heap) (procs : TableView) → heap ≡ old.heap → procs ≡ old.procs → record { heap = heap; procs = procs } ≡ old
+same_objects old heap procs same_heap same_procs =
+    ap (λ (h : Heap). record { heap = h; procs = procs }) same_heap ∙ ap (λ (t : TableView). record { heap = old.heap; procs = t }) same_procs
+
+-- the child's pid is the one behind the last
+pub number_of : (there last child : ℕ) → Ok child ≡ forked_as there last → child ≡ last + 1
+number_of there last child is = go (is_full_at there last) is
+  where
+    go : (b : Bool) → Ok child ≡ cond b (Err EAGAIN) (Ok (last + 1)) → child ≡ last + 1
+    go true e = cc
+    go false e = cc
+
+-- the world with a child of a process
+abbrev pub forked_world : Script → World → ℕ → World
+forked_world script world pid = record world { plain = with_child script world.plain pid; account = with_frames world.account (after_fork world.account.frames pid) }
+
+-- The table has made a child.
+module _ (script : Script) (old mid : Objects) (pid child : ℕ) (control : Control) (kept : AreKept script old) (runs : Runs old pid control)
+    (moves : TableMoves old.heap old.procs mid.heap mid.procs) (forked : IsForked old.heap old.procs mid.heap mid.procs pid child) where
+  same_parent : forked.parent ≡ runs.proc
+  same_parent = some_same (proc_of (procs_of old) pid) forked.parent runs.proc forked.parent_is runs.found
+
+  -- the child is at its parent's call
+  at_call : IsAtCall script forked.parent
+  at_call = has_it (λ proc. proc.status ≡ None → IsAtCall script proc) (procs_of old) pid forked.parent kept.calls forked.parent_is (ap (λ p. p.status) same_parent ∙ runs.up)
+
+  pub kept_forked : AreKept script mid
+  kept_forked =
+      kept_on script old mid kept moves
+      (subst (AllByRecursion (λ proc. length proc.nodes ≡ 4)) (sym forked.processes_are)
+      (all_append (λ proc. length proc.nodes ≡ 4) (procs_of old) (child_proc forked.parent child forked.nodes ∷ []) kept.groups (forked.groups, tt)))
+      (subst (AreAtCalls script) (sym forked.processes_are)
+      (all_append (λ proc. proc.status ≡ None → IsAtCall script proc) (procs_of old) (child_proc forked.parent child forked.nodes ∷ []) kept.calls
+      ((λ up. record { stands = at_call.stands; rests = at_call.rests }), tt)))
+
+  pub child_there : is_some (proc_of (procs_of mid) child) ≡ true
+  child_there =
+      ap (λ procs. is_some (proc_of procs child)) forked.processes_are
+      ∙ somebody (procs_of old) (child_proc forked.parent child forked.nodes) child refl
+
+  -- who made it was made before
+  pub made_before : child ≡ old.procs.last + 1 → pid ≢ child
+  made_before number same =
+      let own : runs.proc.pid ≡ pid = proc_has_pid (procs_of old) pid runs.proc runs.found in
+      let within : (0 < runs.proc.pid) × (runs.proc.pid ≤ old.procs.last) = has_it (λ p. (0 < p.pid) × (p.pid ≤ old.procs.last)) (procs_of old) pid runs.proc
+      (pids_within old.heap.procs old.procs.listed 0 old.procs.last kept.holds.stored kept.holds.rising) runs.found in
+      (let l : runs.proc.pid ≤ old.procs.last = within.1 in omega arith)
+
+-- The child goes on at another control.
+module _ (script : Script) (old mid moved : Objects) (pid child : ℕ) (control next : Control) (kept : AreKept script old) (runs : Runs old pid control)
+    (moves : TableMoves old.heap old.procs mid.heap mid.procs) (forked : IsForked old.heap old.procs mid.heap mid.procs pid child)
+    (number : child ≡ old.procs.last + 1) (turned : MovesOn mid child next moved) where
+  between : AreKept script mid
+  between = kept_forked script old mid pid child control kept runs moves forked
+
+  abbrev now : Proc
+  now = record turned.proc { control = next }
+
+  abbrev made : Proc
+  made = child_proc forked.parent child forked.nodes
+
+  own : now.pid ≡ child
+  own = proc_has_pid (procs_of mid) child turned.proc turned.found
+
+  apart : pid ≢ child
+  apart = made_before script old mid pid child control kept runs moves forked number
+
+  pub kept_child : Stands script next → Rests script next → AreKept script moved
+  kept_child stands rests = kept_moved script mid moved child next between turned stands rests
+
+  -- who is found then
+  found_then : (q : ℕ) → proc_of (procs_of moved) q ≡ option_map (replaced child now) (proc_of (procs_of old ++ made ∷ []) q)
+  found_then q =
+      ap (λ procs. proc_of procs q) (procs_then script mid moved child next between turned)
+      ∙ replaced_at (procs_of mid) child now q own
+      ∙ ap (λ procs. option_map (replaced child now) (proc_of procs q)) forked.processes_are
+
+  -- the parent runs still
+  pub runs_still : Runs moved pid control
+  runs_still = record {
+    proc = runs.proc;
+    found = found_then pid
+        ∙ ap (option_map (replaced child now)) (found_still (procs_of old) made pid runs.proc runs.found)
+        ∙ ap (λ b. Some (cond b now runs.proc)) (eqb_other runs.proc.pid child (λ same. apart (sym (proc_has_pid (procs_of old) pid runs.proc runs.found) ∙ same)));
+    up = runs.up;
+    at_call = runs.at_call;
+  }
+
+  controls_then : (plain : Plain) → AreProcesses script old plain → settled script (after script (control_of plain pid) (Val (pos 0))) ≡ next
+      → (q : ℕ) (it : Proc) → proc_of (procs_of moved) q ≡ Some it → it.status ≡ None → settled script (control_of (with_child script plain pid) q) ≡ it.control
+  controls_then plain are leads q it found up =
+      let was = mapped_from (replaced child now) (proc_of (procs_of old ++ made ∷ []) q) it (sym (found_then q) ∙ found) in
+      let old_pid : was.0.pid ≡ q = proc_has_pid (procs_of old ++ made ∷ []) q was.0 was.1 in
+      elim (eqb_tells q child) [
+        | inl same ↦
+            let last : q ≡ length plain.controls + 1 = (let n : child ≡ old.procs.last + 1 = number in let l : old.procs.last ≡ length plain.controls = are.last in let e : q ≡ child = same.1 in omega arith) in
+            ap (settled script) (at_last plain.controls (after script (control_of plain pid) (Val (pos 0))) (at_start 0) q last)
+            ∙ leads ∙ sym (ap (λ p. p.control) (was.2 ∙ ap (λ b. cond b now was.0) (eqb_same was.0.pid child (old_pid ∙ same.1))))
+        | inr other ↦
+            let same : it ≡ was.0 = was.2 ∙ ap (λ b. cond b now was.0) (eqb_other was.0.pid child (λ e. other.1 (sym old_pid ∙ e))) in
+            elim (found_behind (procs_of old) made q was.0 was.1) [
+              | inl there ↦
+                  let before = proc_made script old plain q was.0 kept are there in
+                  ap (settled script) (at_front plain.controls (after script (control_of plain pid) (Val (pos 0))) (at_start 0) q before.1)
+                  ∙ are.controls q was.0 there (sym (ap (λ p. p.status) same) ∙ up) ∙ sym (ap (λ p. p.control) same)
+              | inr last ↦ absurd (other.1 (sym last))
+            ]
+      ]
+
+  -- the objects stand for the world with the child
+  pub stands_forked : (world : World) → StandsFor script old world → is_alive world.plain.table pid ≡ true
+      → fork script world.plain pid ≡ replied script (with_child script world.plain pid) pid (Val (pos child))
+      → AreKept script moved
+      → IsTable mid.heap mid.procs (with_child script world.plain pid).table → HasAccount mid.heap mid.procs (after_fork world.account.frames pid)
+      → settled script (after script (control_of world.plain pid) (Val (pos 0))) ≡ next
+      → StandsFor script moved (forked_world script world pid)
+  stands_forked world stands alive answers kept_too table has leads =
+      let plain = world.plain in
+      let family = kept_by script old world (with_child script plain pid) pid call.Fork (Val (pos child)) stands alive answers in
+      record {
+        kept = kept_too;
+        processes = record {
+          table = subst (λ k. IsTable moved.heap k (with_child script plain pid).table) (sym turned.same)
+              (on-table mid.heap moved.heap mid.procs child turned.key turned.proc now between.holds turned.turns (with_child script plain pid).table refl table);
+          last = ap (λ k. k.last) turned.same ∙ forked.last ∙ number ∙ ap (λ n. n + 1) stands.processes.last
+              ∙ sym (length-append plain.controls (after script (control_of plain pid) (Val (pos 0)) ∷ []));
+          controls = controls_then plain stands.processes leads;
+        };
+        memory = subst (λ k. HasAccount moved.heap k (after_fork world.account.frames pid)) (sym turned.same)
+            (on-account mid.heap moved.heap mid.procs child turned.key turned.proc now between.holds turned.turns (after_fork world.account.frames pid) has);
+        files = heir_bare plain.files pid stands.files;
+        fronts = fronts_on world.account (forked_world script world pid).account refl refl stands.fronts;
+        caches = stands.caches;
+        reads = stands.reads;
+        family = family.0;
+        home = family.1;
+      }
+
+  -- from each world to the one with the child, in which its parent is told the child's pid
+  pub does_fork : (new : Objects) (told : Turned) → Stands script next → Rests script next → Ok child ≡ forked_as (length old.procs.listed) old.procs.last
+      → ((table : Table) → IsTable old.heap old.procs table → IsTable mid.heap mid.procs (forked_in table pid (Ok child)))
+      → ((frames : Frames) → HasAccount old.heap old.procs frames → HasAccount mid.heap mid.procs (after_fork frames pid))
+      → ((before : Control) → settled script before ≡ control → settled script (after script before (Val (pos 0))) ≡ next)
+      → told ≡ Done (Val (pos child)) → GoesOn script moved pid (Val (pos child)) new
+      → Performs script old pid call.Fork (λ plain. fork script plain pid) told new
+  does_fork new told at rests answer table has leads tells goes = λ world stands alive.
+      let plain = world.plain in
+      let answers : fork script plain pid ≡ replied script (with_child script plain pid) pid (Val (pos child)) =
+      fork_is script plain old.heap old.procs pid kept.holds stands.processes.table (sym stands.processes.last) ∙ ap (answered_fork script plain pid) (sym answer) in
+      let with_it = stands_forked world stands alive answers (kept_child at rests) (table plain.table stands.processes.table) (has world.account.frames stands.memory)
+      (leads (control_of plain pid) (led_to script old plain pid control runs stands.processes)) in
+      subst (λ answer. WorldAfter script new world pid call.Fork answer told) (sym answers)
+      (led_on script moved new world (forked_world script world pid) pid call.Fork (Val (pos child)) told with_it tells (goes (forked_world script world pid) with_it)
+      refl refl refl refl refl)
+
+-- From each world to itself, where nobody more can be made.
+pub does_full : (script : Script) (old new : Objects) (pid : ℕ) (errno : Errno) (told : Turned)
+    → Err errno ≡ forked_as (length old.procs.listed) old.procs.last → told ≡ Done (Fail errno) → GoesOn script old pid (Fail errno) new
+    → Performs script old pid call.Fork (λ plain. fork script plain pid) told new
+does_full script old new pid errno told answer tells goes =
+    does_fail script old new pid call.Fork errno told (λ plain. fork script plain pid) tells goes
+    (λ world stands.
+    fork_is script world.plain old.heap old.procs pid stands.kept.holds stands.processes.table (sym stands.processes.last) ∙ ap (answered_fork script world.plain pid) (sym answer))

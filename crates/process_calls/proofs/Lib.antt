@@ -1,0 +1,4 @@
+pub mod Waits
+pub mod Sleeping
+pub mod Striking
+pub mod Forking

@@ -1,0 +1,170 @@
+-- A wait for a child.
+use Rattle.std.proofs.Common.{◌≡◌, ℕ, ℤ, pos, true, false, cond, List, filter, length, None, Some, refl, ap, sym, ◌∙◌, subst, inl, inr}
+use Rattle.std.specs.List.{AllByRecursion}
+use Rattle.std.proofs.lemmas.Bool.Decides.{eqb_tells}
+use Rattle.kabi_calls.specs.Arguments.{argument_fault}
+use Rattle.kabi_calls.specs.declared.calls.Call.{Call}
+use Rattle.kabi_calls.specs.declared.calls.Call.TheVariants as call
+use Rattle.kabi_values.specs.declared.replies.Reply.{Reply}
+use Rattle.kabi_values.specs.declared.replies.Reply.TheVariants.{Val, Waited}
+use Rattle.kabi_types.specs.declared.scripts.Control.{Control}
+use Rattle.kabi_types.specs.declared.scripts.Script.{Script}
+use Rattle.kheap_shelves.specs.declared.objects.Proc.{Proc}
+use Rattle.posix_defs.specs.Account.{with_frames}
+use Rattle.posix_defs.specs.Memory.{Frames}
+use Rattle.posix_defs.specs.Answer.{Blocked, replied}
+use Rattle.posix_defs.specs.declared.turner.Turned.{Turned}
+use Rattle.posix_defs.specs.declared.turner.Turned.TheVariants.{Done, Sleep}
+use Rattle.posix_defs.specs.Family.{IsFamily, KeepsOn}
+use Rattle.posix_defs.specs.Machine.{machine, unless_wrong}
+use Rattle.posix_defs.specs.MemoryCalls.{frames_after}
+use Rattle.posix_defs.specs.Plain.{Plain, last_pid, with_table}
+use Rattle.posix_defs.specs.Process.{Table, is_alive}
+use Rattle.posix_defs.specs.SoundTasks.{AllAtHome}
+use Rattle.posix_defs.specs.Waiting.{is_nohang, waitpid}
+use Rattle.posix_defs.specs.World.{World}
+use Rattle.kern_laws.proofs.Families.{answers_on}
+use Rattle.kern_laws.proofs.Nexts.{AnswerGoes, posix_goes}
+use Rattle.proc_table.specs.Accounting.{HasAccount}
+use Rattle.proc_table.specs.Changes.{after_wait, is_other, reaped_of}
+use Rattle.proc_table.specs.Moves.{TableMoves}
+use Rattle.proc_table.specs.Procs.{HasEnded, proc_of}
+use Rattle.proc_table.specs.Standing.{IsTable, answered_wait, waited_in}
+use Rattle.proc_table.specs.declared.reaped.Reaped.{Reaped}
+use Rattle.proc_table.specs.declared.reaped.Reaped.TheVariants.{NoChild, Nobody, Took}
+use Rattle.proc_table.proofs.FamilyLemmas.{found_is}
+use Rattle.proc_table.proofs.LawLemmas.{wait_is}
+use Rattle.proc_table.proofs.OwnLemmas.{all_filter}
+use Rattle.proc_table.proofs.WaitLemmas.{took_ended}
+use Rattle.store_objects.specs.declared.objects.Objects.{Objects}
+use Rattle.store_objects.specs.Objects.{AreAtCalls, AreKept, IsAtCall, Runs, procs_of}
+use Rattle.store_objects.specs.Standing.{AreProcesses, Performs, StandsFor, WorldAfter}
+use Rattle.store_objects.proofs.GoingOn.{some_same}
+use Rattle.store_objects.proofs.Keeping.{kept_on}
+use Rattle.store_objects.proofs.Leading.{led_blocked, led_on}
+use Rattle.store_objects.proofs.Replies.{GoesOn}
+use Rattle.store_objects.proofs.WithoutOne.{found_gone, found_other}
+
+-- who is whose child, and who works where, behind a call that is over
+pub kept_by : (script : Script) (objects : Objects) (world : World) (base : Plain) (pid : ℕ) (which : Call) (said : Reply)
+    → StandsFor script objects world → is_alive world.plain.table pid ≡ true → machine script world.plain pid which ≡ replied script base pid said
+    → IsFamily base.table × AllAtHome base.table
+kept_by script objects world base pid which said stands alive is =
+    let plain = world.plain in
+    let made : length plain.table ≡ last_pid plain = stands.processes.table.made ∙ stands.processes.last in
+    let keeps = subst (KeepsOn plain) is (answers_on script plain pid which (record { family = stands.family; counted = made }) alive) in
+    let goes = subst (AnswerGoes plain pid) is (posix_goes script plain pid which made alive) in
+    (keeps.family, goes.0.home stands.home)
+
+all_waited : (P : Proc → Type 0) (told : Reaped) (procs : List Proc) → AllByRecursion P procs → AllByRecursion P (after_wait told procs)
+all_waited P (Took pid status) procs all = all_filter P (is_other pid) procs all
+all_waited P Nobody procs all = all
+all_waited P NoChild procs all = all
+
+pub kept_waited : (script : Script) (old mid : Objects) (told : Reaped) → AreKept script old → TableMoves old.heap old.procs mid.heap mid.procs
+    → procs_of mid ≡ after_wait told (procs_of old) → AreKept script mid
+kept_waited script old mid told kept moves procs =
+    kept_on script old mid kept moves
+    (subst (AllByRecursion (λ proc. length proc.nodes ≡ 4)) (sym procs) (all_waited (λ proc. length proc.nodes ≡ 4) told (procs_of old) kept.groups))
+    (subst (AreAtCalls script) (sym procs) (all_waited (λ proc. proc.status ≡ None → IsAtCall script proc) told (procs_of old) kept.calls))
+
+-- who is found then was found
+was_found : (told : Reaped) (procs : List Proc) (q : ℕ) (it : Proc) → proc_of (after_wait told procs) q ≡ Some it → proc_of procs q ≡ Some it
+was_found Nobody procs q it found = found
+was_found NoChild procs q it found = found
+was_found (Took gone status) procs q it found = elim (eqb_tells q gone) [
+  | inl same ↦ absurd (missing (sym (found_gone procs gone) ∙ sym (ap (proc_of (filter (is_other gone) procs)) same.1) ∙ found))
+  | inr other ↦ sym (found_other procs gone q other.1) ∙ found
+]
+  where
+    missing : None ≡ Some it → ⊥
+    missing e = cc
+
+-- the caller runs still
+pub runs_waited : (script : Script) (old mid : Objects) (pid parent : ℕ) (control : Control) (which : ℤ) (told : Reaped) → AreKept script old → Runs old pid control
+    → told ≡ reaped_of parent which (procs_of old) → procs_of mid ≡ after_wait told (procs_of old) → Runs mid pid control
+runs_waited script old mid pid parent control which told kept runs is procs =
+    record { proc = runs.proc; found = ap (λ ps. proc_of ps pid) procs ∙ still told is; up = runs.up; at_call = runs.at_call }
+  where
+    differ : (gone status : ℕ) → HasEnded (procs_of old) gone → pid ≡ gone → ⊥
+    differ gone status ended same =
+        let one : runs.proc ≡ ended.proc = some_same (proc_of (procs_of old) gone) runs.proc ended.proc (ap (proc_of (procs_of old)) (sym same) ∙ runs.found) ended.there in
+        both (sym runs.up ∙ ap (λ p. p.status) one ∙ ended.over)
+      where
+        both : None ≡ Some ended.status → ⊥
+        both e = cc
+
+    still : (told : Reaped) → told ≡ reaped_of parent which (procs_of old) → proc_of (after_wait told (procs_of old)) pid ≡ Some runs.proc
+    still Nobody is = runs.found
+    still NoChild is = runs.found
+    still (Took gone status) is =
+        found_other (procs_of old) gone pid (λ same. differ gone status (took_ended old.heap old.procs parent which gone status kept.holds is) same) ∙ runs.found
+
+-- what a wait with right operands is answered
+pub waits_as : (script : Script) (objects : Objects) (plain : Plain) (pid : ℕ) (which options : ℤ) (told : Reaped)
+    → AreProcesses script objects plain → told ≡ reaped_of pid which (procs_of objects) → waitpid script plain pid which options ≡ answered_wait script plain pid options told
+waits_as script objects plain pid which options told are is =
+    wait_is script plain pid which options
+    ∙ ap (answered_wait script plain pid options) (sym (found_is objects.heap plain.table (procs_of objects) pid which are.table.present) ∙ sym is)
+
+-- the world without who was told
+abbrev pub waited_world : World → Reaped → World
+waited_world world told = record world { plain = with_table world.plain (waited_in world.plain.table told) }
+
+-- a wait leaves the frames
+waits_leave : (frames : Frames) (pid : ℕ) (which options : ℤ) (said : Reply) → frames_after frames pid (call.Waitpid which options) said ≡ frames
+waits_leave frames pid which options (Val value) = refl
+waits_leave frames pid which options _ = refl
+
+-- The table has answered a wait: who is told is gone from it.
+module _ (script : Script) (old mid : Objects) (pid : ℕ) (which options : ℤ) (told : Reaped) (moves : TableMoves old.heap old.procs mid.heap mid.procs)
+    (right : argument_fault (call.Waitpid which options) ≡ None) (is : told ≡ reaped_of pid which (procs_of old)) (procs : procs_of mid ≡ after_wait told (procs_of old))
+    (last : mid.procs.last ≡ old.procs.last) (table : (table : Table) → IsTable old.heap old.procs table → IsTable mid.heap mid.procs (waited_in table told))
+    (has : (frames : Frames) → HasAccount old.heap old.procs frames → HasAccount mid.heap mid.procs frames) where
+  -- the objects stand for the world without who was told
+  waited_stands : (world : World) → StandsFor script old world → is_alive world.plain.table pid ≡ true → StandsFor script mid (waited_world world told)
+  waited_stands world stands alive = record {
+    kept = kept_waited script old mid told stands.kept moves procs;
+    processes = record {
+      table = table world.plain.table stands.processes.table;
+      last = last ∙ stands.processes.last;
+      controls = λ q it found up. stands.processes.controls q it (was_found told (procs_of old) q it (ap (λ ps. proc_of ps q) (sym procs) ∙ found)) up;
+    };
+    memory = has world.account.frames stands.memory;
+    files = stands.files;
+    fronts = stands.fronts;
+    caches = stands.caches;
+    reads = stands.reads;
+    family = (both told (waits_as script old world.plain pid which options told stands.processes is)).0;
+    home = (both told (waits_as script old world.plain pid which options told stands.processes is)).1;
+  }
+    where
+      both : (told : Reaped) → waitpid script world.plain pid which options ≡ answered_wait script world.plain pid options told
+          → IsFamily (waited_in world.plain.table told) × AllAtHome (waited_in world.plain.table told)
+      both Nobody e = (stands.family, stands.home)
+      both NoChild e = (stands.family, stands.home)
+      both (Took gone status) e =
+          kept_by script old world (with_table world.plain (waited_in world.plain.table (Took gone status))) pid (call.Waitpid which options) (Waited gone status) stands alive
+          (ap (λ fault. unless_wrong script world.plain pid fault (waitpid script world.plain pid which options)) right ∙ e)
+
+  -- a wait that is over
+  pub does_waited : (new : Objects) (said : Reply) (turned : Turned) → turned ≡ Done said
+      → GoesOn script mid pid said new
+      → ((plain : Plain) → answered_wait script plain pid options told ≡ replied script (with_table plain (waited_in plain.table told)) pid said)
+      → Performs script old pid (call.Waitpid which options) (λ plain. waitpid script plain pid which options) turned new
+  does_waited new said turned tells goes answers = λ world stands alive.
+      let between = waited_stands world stands alive in
+      subst (λ answer. WorldAfter script new world pid (call.Waitpid which options) answer turned)
+      (sym (waits_as script old world.plain pid which options told stands.processes is ∙ answers world.plain))
+      (led_on script mid new world (waited_world world told) pid (call.Waitpid which options) said turned between tells (goes (waited_world world told) between)
+      refl refl (ap (with_frames world.account) (sym (waits_leave world.account.frames pid which options said))) refl refl)
+
+  -- one that sleeps
+  pub does_sleep : told ≡ Nobody → is_nohang options ≡ false
+      → Performs script old pid (call.Waitpid which options) (λ plain. waitpid script plain pid which options) Sleep mid
+  does_sleep nobody hangs = λ world stands alive.
+      let between : StandsFor script mid world = subst (λ t. StandsFor script mid (waited_world world t)) nobody (waited_stands world stands alive) in
+      subst (λ answer. WorldAfter script mid world pid (call.Waitpid which options) answer Sleep)
+      (sym (waits_as script old world.plain pid which options told stands.processes is ∙ ap (answered_wait script world.plain pid options) nobody
+      ∙ ap (λ b. cond b (replied script world.plain pid (Val (pos 0))) Blocked) hangs))
+      (led_blocked script mid world pid (call.Waitpid which options) between)

@@ -1,0 +1,29 @@
+use Rattle.std.proofs.Common.{refl, sym}
+use Rattle.kabi_calls.specs.declared.calls.Call.TheVariants.{Kill}
+use Rattle.posix_defs.specs.Sizes.{reserve}
+use Rattle.store_objects.proofs.Paying.{uses_nothing, uses_then}
+use Rattle.process_calls.proofs.Striking.{does_another, does_itself}
+use Rattle.process_calls.proofs.ends.strike.Goals as goal
+
+pub returns-then-target-pid-clause-kept : goal.returns-then-target-pid-clause-kept
+returns-then-target-pid-clause-kept c = c.end.ensures.kept c.args.script.now c.requires.kept
+
+pub returns-then-target-pid-clause-does : goal.returns-then-target-pid-clause-does
+returns-then-target-pid-clause-does c = λ number signal.
+    does_itself c.args.script.now c.args.objects.now c.end.new.objects c.args.pid c.args.target (Kill number signal) _ c.if-target-pid.true (c.end.ensures.dies c.args.script.now) refl
+
+pub go_on-requires-clause-kept : goal.go_on-requires-clause-kept
+go_on-requires-clause-kept c = c.end.ensures.kept c.args.script.now c.requires.kept
+
+pub go_on-requires-clause-runs : goal.go_on-requires-clause-runs
+go_on-requires-clause-runs c = c.end.ensures.others c.requires.other c.args.pid c.args.control (λ same. c.if-target-pid.false (sym same)) c.requires.runs
+
+pub returns-clause-does : goal.returns-clause-does
+returns-clause-does c = λ number signal.
+    does_another c.args.script.now c.args.objects.now c.end.new.objects c.go_on.new.objects c.args.pid c.args.target number signal c.go_on.result c.if-target-pid.false
+    (c.end.ensures.dies c.args.script.now) c.go_on.ensures.told c.go_on.ensures.goes
+
+pub returns-clause-uses : goal.returns-clause-uses
+returns-clause-uses c =
+    uses_then c.args.objects.now.heap c.end.new.objects.heap c.go_on.new.objects.heap reserve c.end.ensures.uses
+    (uses_nothing c.end.new.objects.heap c.go_on.new.objects.heap 0 reserve c.go_on.ensures.takes)

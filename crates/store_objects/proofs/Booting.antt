@@ -1,0 +1,283 @@
+-- At boot the first process stands at the start of the program `init`, in a heap that has the root beside it.
+use Rattle.std.proofs.Common.{◌≡◌, ℕ, zero, suc, ◌+◌, ◌/◌, ◌<◌, Bool, true, false, List, [], ◌∷◌, ◌++◌, map, length, replicate, Option, None, Some, cond, refl, sym, ap, ◌∙◌, subst, arith, inl, inr}
+use Rattle.std.specs.Prelude.{codes, if◌then◌else◌, slice_get}
+use Rattle.std.specs.List.{AllByRecursion}
+use Rattle.std.specs.Str.{bytes_eq}
+use Rattle.std.proofs.lemmas.Bool.Decides.{eqb_tells}
+use Rattle.std.proofs.lemmas.Slice.Eq.{bytes_eq-Decides}
+use Rattle.kabi_values.specs.Class.{size}
+use Rattle.kabi_values.specs.declared.classes.Class.TheVariants as class
+use Rattle.kabi_types.specs.declared.scripts.Control.{Control}
+use Rattle.kabi_types.specs.declared.scripts.Program.{Program}
+use Rattle.kabi_types.specs.declared.scripts.Script.{Script}
+use Rattle.kheap_shelves.specs.Objects.{count, object, put}
+use Rattle.kheap_shelves.specs.declared.objects.Node.{Node}
+use Rattle.kheap_shelves.specs.declared.objects.Page.{Page}
+use Rattle.kheap_shelves.specs.declared.objects.Pipe.{Pipe}
+use Rattle.kheap_shelves.specs.declared.objects.Proc.{Proc}
+use Rattle.kheap_shelves.specs.declared.objects.QueueParts.{QueueParts}
+use Rattle.kheap_shelves.specs.declared.objects.Sock.{Sock}
+use Rattle.kheap_shelves.specs.declared.objects.Vnode.{Vnode}
+use Rattle.kheap_slabs.specs.Heap.{Heap, empty_heap}
+use Rattle.kheap_slabs.specs.Keys.{AreKeysOf}
+use Rattle.kheap_slabs.specs.Owners.{IsOwned, Owners, each_of}
+use Rattle.kheap_slabs.specs.Queues.{OwnedQueue}
+use Rattle.kheap_shelves.proofs.ObjectLemmas.{count-none, count-put_new, object-none, object_of, put-within}
+use Rattle.kheap_laws.proofs.OwnerLemmas.{IsOwned-same, empty_heap-owned}
+use Rattle.posix_defs.specs.Control.{settled}
+use Rattle.posix_defs.specs.History.{boots}
+use Rattle.posix_defs.specs.Memory.{boot_frames}
+use Rattle.posix_defs.specs.Plain.{at_start, boot_plain, control_of, first_process, place_of}
+use Rattle.posix_defs.specs.SoundTasks.{AllAtHome}
+use Rattle.posix_defs.specs.ValidScript.{IsValid}
+use Rattle.posix_defs.specs.World.{boot_world}
+use Rattle.kern_laws.proofs.Bareness.{boot_bare}
+use Rattle.kern_laws.proofs.Families.{reached_kept}
+use Rattle.prog_ctl.specs.Runnable.{Rests, Stands}
+use Rattle.proc_table.specs.Accounting.{HasAccount}
+use Rattle.proc_table.specs.Changes.{replaced}
+use Rattle.proc_table.specs.Moves.{TableMoves}
+use Rattle.proc_table.specs.Procs.{first_proc, proc_of}
+use Rattle.proc_table.specs.Standing.{IsTable}
+use Rattle.proc_table.specs.Table.{no_table, processes}
+use Rattle.proc_table.proofs.LawLemmas.{on-account, on-moves, on-procs, on-table}
+use Rattle.store_objects.specs.declared.objects.Objects.{Objects}
+use Rattle.store_objects.specs.Booting.{HasBooted}
+use Rattle.store_objects.specs.Objects.{AreAtCalls, AreKept, CachesRootAlone, HasNoQueue, HasNothingOpen, MovesOn, no_owners, procs_of, root_vnode}
+use Rattle.store_objects.specs.Standing.{StandsFor}
+use Rattle.store_objects.proofs.GoingOn.{some_same}
+use Rattle.store_objects.proofs.ClassesOn.{caches_on, opens_on, queues_on}
+use Rattle.store_objects.proofs.Keeping.{all_on}
+
+-- A class without objects: no key names one, and nobody owns any.
+vacant : {X : Type 0} (limit key : ℕ) → object (replicate {A = Option X} limit None) key ≡ None
+vacant {X} limit key = go (object (replicate {A = Option X} limit None) key) refl
+  where
+    go : (o : Option X) → object (replicate {A = Option X} limit None) key ≡ o → object (replicate {A = Option X} limit None) key ≡ None
+    go None is = is
+    go (Some value) is = absurd (object-none limit key value is)
+
+no_keys : {X : Type 0} (limit : ℕ) → AreKeysOf (replicate {A = Option X} limit None) []
+no_keys {X} limit = record {
+  used = λ key there. absurd (omega (arith, there.1));
+  listed = λ key used. absurd (let found = object_of (replicate {A = Option X} limit None) key used in object-none limit key found.0 found.1);
+  once = λ i j before within same. omega arith;
+}
+
+none_of : {X Y : Type 0} (f : X → Y) (limit : ℕ) → each_of f (replicate limit None) ≡ []
+none_of f zero = refl
+none_of f (suc limit) = none_of f limit
+
+nobody_in : {X Y : Type 0} (f : X → Y) (xs : List X) → map f xs ≡ [] → xs ≡ []
+nobody_in f [] e = refl
+nobody_in f (x ∷ xs) e = cc
+
+-- nobody owns anything in an empty heap
+empty_owned : (heap : ℕ) → IsOwned (empty_heap heap) no_owners
+empty_owned heap =
+    let all = empty_heap-owned heap in
+    let spaces : all.0.spaces ≡ [] = all.1.spaces ∙ none_of (λ (p : Proc). p.nodes) (heap / size class.Proc) in
+    let queues : all.0.queues ≡ [] =
+    nobody_in (λ (q : OwnedQueue). q.parts) all.0.queues
+    (all.1.queues ∙ both (none_of (λ (p : Pipe). p.queue) (heap / size class.Pipe)) (none_of (λ (s : Sock). s.queue) (heap / size class.Sock))) in
+    subst (IsOwned (empty_heap heap))
+    (ap (λ spaces. record { spaces = spaces; queues = all.0.queues }) spaces ∙ ap (λ queues. record { spaces = []; queues = queues }) queues) all.2
+  where
+    both : {xs ys : List QueueParts} → xs ≡ [] → ys ≡ [] → xs ++ ys ≡ []
+    both {xs} {ys} one other = ap (λ zs. zs ++ ys) one ∙ other
+
+-- The root is put in an empty heap.
+module _ (heap disk key : ℕ) (vnode : Vnode) (empty rooted : Heap) (is_empty : empty ≡ empty_heap heap) (none : object empty.vnodes key ≡ None)
+    (stored : object rooted.vnodes key ≡ Some vnode) (is_root : vnode ≡ root_vnode disk)
+    (kept : rooted ≡ record empty { vnodes = put empty.vnodes key vnode; high = rooted.high }) where
+  -- what stands there but for the root
+  same : {X : Type 0} (of : Heap → X) → ((h : Heap) (vnodes : List (Option Vnode)) (high : ℕ) → of (record h { vnodes = vnodes; high = high }) ≡ of h)
+      → of rooted ≡ of (empty_heap heap)
+  same of other = ap of kept ∙ other empty (put empty.vnodes key vnode) rooted.high ∙ ap of is_empty
+
+  pub no_pages : (k : ℕ) → object rooted.pages k ≡ None
+  no_pages k = ap (λ pages. object pages k) (same (λ h. h.pages) (λ h vnodes high. refl)) ∙ vacant (heap / size class.Page) k
+
+  pub no_procs : AreKeysOf rooted.procs []
+  no_procs = subst (λ procs. AreKeysOf procs []) (sym (same (λ h. h.procs) (λ h vnodes high. refl))) (no_keys (heap / size class.Proc))
+
+  pub rooted_owned : IsOwned rooted no_owners
+  rooted_owned =
+      IsOwned-same (empty_heap heap) rooted no_owners
+      (same (λ h. h.nodes) (λ h vnodes high. refl)) (same (λ h. h.pages) (λ h vnodes high. refl)) (same (λ h. h.chunks) (λ h vnodes high. refl)) (empty_owned heap)
+
+  one : count rooted.vnodes ≡ 1
+  one =
+      let put_there : rooted.vnodes ≡ put empty.vnodes key vnode = ap (λ h. h.vnodes) kept in
+      let nothing : count empty.vnodes ≡ 0 = ap (λ h. count h.vnodes) is_empty ∙ count-none _ (heap / size class.Vnode) refl in
+      ap count put_there
+      ∙ count-put_new empty.vnodes key vnode (put-within empty.vnodes key vnode (ap (λ vnodes. object vnodes key) (sym put_there) ∙ stored)) none
+      ∙ ap (λ n. n + 1) nothing
+
+  pub rooted_opens : HasNothingOpen rooted
+  rooted_opens = record { descs = ap count (same (λ h. h.descs) (λ h vnodes high. refl)) ∙ count-none _ (heap / size class.Desc) refl }
+
+  pub rooted_queues : HasNoQueue rooted
+  rooted_queues = record {
+    pipes = ap count (same (λ h. h.pipes) (λ h vnodes high. refl)) ∙ count-none _ (heap / size class.Pipe) refl;
+    chunks = ap count (same (λ h. h.chunks) (λ h vnodes high. refl)) ∙ count-none _ (heap / size class.Chunk) refl;
+    socks = ap count (same (λ h. h.socks) (λ h vnodes high. refl)) ∙ count-none _ (heap / size class.Sock) refl;
+  }
+
+  pub rooted_caches : CachesRootAlone rooted disk
+  rooted_caches = record {
+    key = key;
+    root_is = stored ∙ ap Some is_root;
+    vnodes = one;
+    names = ap count (same (λ h. h.names) (λ h vnodes high. refl)) ∙ count-none _ (heap / size class.Name) refl;
+    blocks = ap count (same (λ h. h.blocks) (λ h vnodes high. refl)) ∙ count-none _ (heap / size class.Block) refl;
+  }
+
+  pub rooted_size : rooted.heap ≡ heap
+  rooted_size = same (λ h. h.heap) (λ h vnodes high. refl)
+
+-- The first process is put in that heap, and goes on at a control.
+module _ (heap disk : ℕ) (control : Control) (rooted : Heap) (mid new : Objects)
+    (no_pages : (k : ℕ) → object rooted.pages k ≡ None) (no_procs : AreKeysOf rooted.procs []) (owned : IsOwned rooted no_owners)
+    (opens : HasNothingOpen rooted) (queues : HasNoQueue rooted) (caches : CachesRootAlone rooted disk) (bytes : rooted.heap ≡ heap)
+    (procs : procs_of mid ≡ first_proc ∷ []) (last : mid.procs.last ≡ 1)
+    (moves : (others : Owners) → IsOwned rooted others → TableMoves rooted no_table mid.heap mid.procs)
+    (table : IsTable mid.heap mid.procs (Some first_process ∷ []))
+    (account : ((k : ℕ) → object rooted.pages k ≡ None) → HasAccount mid.heap mid.procs boot_frames)
+    (turned : MovesOn mid 1 control new) where
+  made : TableMoves rooted no_table mid.heap mid.procs
+  made = moves no_owners owned
+
+  abbrev now : Proc
+  now = record turned.proc { control = control }
+
+  goes : TableMoves mid.heap mid.procs new.heap new.procs
+  goes = subst (TableMoves mid.heap mid.procs new.heap) (sym turned.same)
+      (on-moves mid.heap new.heap mid.procs 1 turned.key turned.proc now made.holds turned.turns)
+
+  -- what isn't a process or its memory is as it was
+  as_was : {X : Type 0} (of : Heap → X)
+      → ((h : Heap) (procs : List (Option Proc)) (nodes : List (Option Node)) (pages : List (Option Page)) (high : ℕ) → of (record h { procs = procs; nodes = nodes; pages = pages; high = high }) ≡ of h)
+      → of new.heap ≡ of rooted
+  as_was of other =
+      ap of goes.kept ∙ other mid.heap new.heap.procs new.heap.nodes new.heap.pages new.heap.high
+      ∙ ap of made.kept ∙ other rooted mid.heap.procs mid.heap.nodes mid.heap.pages mid.heap.high
+
+  it_is : turned.proc ≡ first_proc
+  it_is = some_same (proc_of (procs_of mid) 1) turned.proc first_proc turned.found (ap (λ ps. proc_of ps 1) procs)
+
+  first : procs_of new ≡ record first_proc { control = control } ∷ []
+  first =
+      ap (processes new.heap) turned.same
+      ∙ on-procs mid.heap new.heap mid.procs 1 turned.key turned.proc now made.holds turned.turns
+      ∙ ap (map (replaced 1 now)) procs
+      ∙ ap (λ (p : Proc). record p { control = control } ∷ []) it_is
+
+  pub has_booted : HasBooted new heap disk control
+  has_booted = record {
+    holds = goes.holds;
+    all = all_on mid new (all_on (record { heap = rooted; procs = no_table }) mid no_procs made) goes;
+    owned = goes.owners no_owners (made.owners no_owners owned);
+    opens = opens_on rooted new.heap (as_was (λ h. h.descs) (λ h procs nodes pages high. refl)) opens;
+    queues = queues_on rooted new.heap (as_was (λ h. h.pipes) (λ h procs nodes pages high. refl)) (as_was (λ h. h.chunks) (λ h procs nodes pages high. refl))
+        (as_was (λ h. h.socks) (λ h procs nodes pages high. refl)) queues;
+    caches = caches_on rooted new.heap disk (as_was (λ h. h.vnodes) (λ h procs nodes pages high. refl)) (as_was (λ h. h.names) (λ h procs nodes pages high. refl))
+        (as_was (λ h. h.blocks) (λ h procs nodes pages high. refl)) caches;
+    size = as_was (λ h. h.heap) (λ h procs nodes pages high. refl) ∙ bytes;
+    first = first;
+    last = ap (λ t. t.last) turned.same ∙ last;
+    table = subst (λ k. IsTable new.heap k (Some first_process ∷ [])) (sym turned.same)
+        (on-table mid.heap new.heap mid.procs 1 turned.key turned.proc now made.holds turned.turns (Some first_process ∷ []) refl table);
+    account = subst (λ k. HasAccount new.heap k boot_frames) (sym turned.same)
+        (on-account mid.heap new.heap mid.procs 1 turned.key turned.proc now made.holds turned.turns boot_frames (account no_pages));
+  }
+
+-- the first program of a name that one has is among the programs
+place_within : (name : List ℕ) (programs : List Program) (at : ℕ) (program : Program) → slice_get programs at ≡ Some program → program.name ≡ name
+    → place_of name programs < length programs
+place_within name [] at program is named = cc
+place_within name (first ∷ rest) zero program is named = found (bytes_eq first.name name) ((bytes_eq-Decides first.name name).1 (ap name_in is ∙ named))
+  where
+    name_in : Option Program → List ℕ
+    name_in None = []
+    name_in (Some other) = other.name
+
+    found : (same : Bool) → same ≡ true → (if same then 0 else place_of name rest + 1) < suc (length rest)
+    found true e = omega arith
+    found false e = cc
+place_within name (first ∷ rest) (suc at) program is named =
+    later (bytes_eq first.name name) (place_of name rest) (length rest) (place_within name rest at program is named)
+  where
+    later : (same : Bool) (place many : ℕ) → place < many → (if same then 0 else place + 1) < suc many
+    later true place many less = omega arith
+    later false place many less = omega arith
+
+-- the program `init` of a valid script
+first_program : (script : Script) → IsValid script → place_of (codes "init") script.programs < length script.programs
+first_program script is = place_within (codes "init") script.programs is.init.at is.init.program is.init.is_there is.init.is_named
+
+-- at boot the process stands at the start of that program
+pub boot_stands : (script : Script) (control : Control) → IsValid script → control.program ≡ place_of (codes "init") script.programs
+    → control.place ≡ 0 → Stands script control
+boot_stands script control is program place =
+    record { valid = is; program = subst (λ p. p < length script.programs) (sym program) (first_program script is); place = omega (arith, place) }
+
+-- what is kept where the first process stands at its call
+pub boot_kept : (script : Script) (objects : Objects) (control : Control) → HasBooted objects script.heap script.disk control → Stands script control → Rests script control
+    → AreKept script objects
+boot_kept script objects control booted stands rests = record {
+  holds = booted.holds;
+  all = booted.all;
+  owned = booted.owned;
+  groups = subst (AllByRecursion (λ proc. length proc.nodes ≡ 4)) (sym booted.first) (refl, tt);
+  calls = subst (AreAtCalls script) (sym booted.first) ((λ up. record { stands = stands; rests = rests }), tt);
+  opens = booted.opens;
+  queues = booted.queues;
+  caches = booted.caches;
+  size = booted.size;
+}
+
+-- the first process works in the root
+boot_home : AllAtHome (Some first_process ∷ [])
+boot_home zero process is = cc
+boot_home (suc zero) process is = ap (λ p. p.directory) (some_same (Some process) process first_process refl (sym is))
+boot_home (suc (suc i)) process is = cc
+
+boot_controls : (script : Script) (control : Control) → settled script (at_start (place_of (codes "init") script.programs)) ≡ control
+    → (pid : ℕ) (proc : Proc) → proc_of (record first_proc { control = control } ∷ []) pid ≡ Some proc
+    → settled script (control_of (boot_plain script) pid) ≡ proc.control
+boot_controls script control leads pid proc is = elim (eqb_tells 1 pid) [
+  | inl same ↦
+      ap (λ n. settled script (control_of (boot_plain script) n)) (sym same.1) ∙ leads
+      ∙ control_in (sym (ap (λ b. cond b (Some (record first_proc { control = control })) None) same.0) ∙ is)
+  | inr other ↦ absurd (nobody_else (sym (ap (λ b. cond b (Some (record first_proc { control = control })) None) other.0) ∙ is))
+]
+  where
+    control_in : Some (record first_proc { control = control }) ≡ Some proc → control ≡ proc.control
+    control_in e = ap (λ p. p.control) (some_same (Some proc) (record first_proc { control = control }) proc (sym e) refl)
+
+    nobody_else : None ≡ Some proc → ⊥
+    nobody_else e = cc
+
+-- At boot the store stands for one process at the start of the program `init`.
+pub boot_stands_for : (script copy : Script) (objects : Objects) (place : ℕ) (control : Control) → copy ≡ script → place ≡ place_of (codes "init") copy.programs
+    → control ≡ settled copy (at_start place) → Stands copy control → Rests copy control → HasBooted objects copy.heap copy.disk control
+    → StandsFor script objects (boot_world script)
+boot_stands_for script copy objects place control same named settles stands rests booted =
+    let leads : settled script (at_start (place_of (codes "init") script.programs)) ≡ control =
+    sym (settles ∙ ap (λ n. settled copy (at_start n)) named ∙ ap (λ s. settled s (at_start (place_of (codes "init") s.programs))) same) in
+    record {
+      kept = subst (λ s. AreKept s objects) same (boot_kept copy objects control booted stands rests);
+      processes = record {
+        table = booted.table;
+        last = booted.last;
+        controls = λ pid proc found up. boot_controls script control leads pid proc (ap (λ ps. proc_of ps pid) (sym booted.first) ∙ found);
+      };
+      memory = booted.account;
+      files = boot_bare script.disk;
+      fronts = record { pipes = refl; sockets = refl };
+      caches = refl;
+      reads = refl;
+      family = (reached_kept {script = script} boots).family;
+      home = boot_home;
+    }

@@ -1,0 +1,6 @@
+pub mod Objects
+pub mod Standing
+pub mod Uses
+pub mod Endings
+pub mod Booting
+pub mod Purses

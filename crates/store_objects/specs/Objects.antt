@@ -1,0 +1,102 @@
+-- The objects of a store: which processes stand in its heap, and what else.
+use Rattle.std.specs.Prelude.{ℕ, ◌≡◌, ◌==◌, Bool, false, not, if◌then◌else◌, List, [], ◌∷◌, None, Some, is_some, length}
+use Rattle.std.specs.List.{AllByRecursion}
+use Rattle.kabi_types.specs.declared.scripts.Control.{Control}
+use Rattle.kabi_types.specs.declared.scripts.Script.{Script}
+use Rattle.kheap_shelves.specs.Objects.{count, object}
+use Rattle.kheap_shelves.specs.declared.objects.Proc.{Proc}
+use Rattle.kheap_shelves.specs.declared.objects.Vnode.{Vnode}
+use Rattle.kheap_slabs.specs.Heap.{Heap}
+use Rattle.kheap_slabs.specs.Keys.{AreKeysOf}
+use Rattle.kheap_slabs.specs.Owners.{Owners, IsOwned}
+use Rattle.posix_defs.specs.DiskContents.{new_root}
+use Rattle.posix_defs.specs.Plain.{root}
+use Rattle.kheap_slabs.specs.Paid.{TakesNothing}
+use Rattle.proc_table.specs.Moves.{ProcTurns}
+use Rattle.proc_table.specs.Procs.{proc_of}
+use Rattle.proc_table.specs.Table.{Holds, keys_of, processes, with_procs}
+use Rattle.prog_ctl.specs.Runnable.{Rests, Stands}
+use Rattle.store_objects.specs.declared.objects.Objects.{Objects}
+use Rattle.store_objects.specs.declared.objects.Caller.{Caller}
+
+-- the processes that are there, by rising pid
+abbrev pub procs_of : Objects → List Proc
+procs_of objects = processes objects.heap objects.procs
+
+-- the process of that pid is there and has not ended
+abbrev pub is_running : List Proc → ℕ → Bool
+is_running [] pid = false
+is_running (proc ∷ procs) pid = if proc.pid == pid then not (is_some proc.status) else is_running procs pid
+
+-- the process of that pid runs, and stands at this control
+pub record Runs (objects : Objects) (pid : ℕ) (control : Control) : Type 0 where
+  pub proc : Proc
+  pub found : proc_of (procs_of objects) pid ≡ Some proc
+  pub up : proc.status ≡ None
+  pub at_call : proc.control ≡ control
+
+-- The process of that pid has gone on at another control, and nothing else has changed.
+pub record MovesOn (old : Objects) (pid : ℕ) (control : Control) (new : Objects) : Type 0 where
+  pub proc : Proc
+  pub key : ℕ
+  pub found : proc_of (procs_of old) pid ≡ Some proc
+  pub turns : ProcTurns old.heap new.heap old.procs pid key proc (record proc { control = control })
+  pub same : new.procs ≡ old.procs
+  pub takes : TakesNothing old.heap new.heap
+
+-- who makes a call is the process of that pid, which runs
+pub record IsCaller (objects : Objects) (pid : ℕ) (caller : Caller) : Type 0 where
+  pub same : caller.pid ≡ pid
+  pub proc : Proc
+  pub found : proc_of (procs_of objects) pid ≡ Some proc
+  pub up : proc.status ≡ None
+  pub parent : caller.parent ≡ proc.parent
+  pub control : caller.control ≡ proc.control
+
+-- A process that runs stands at its next call: the local statements before it are done.
+pub record IsAtCall (script : Script) (proc : Proc) : Type 0 where
+  pub stands : Stands script proc.control
+  pub rests : Rests script proc.control
+
+-- every process that runs does
+abbrev pub AreAtCalls : Script → List Proc → Type 0
+AreAtCalls script procs = AllByRecursion (λ proc. proc.status ≡ None → IsAtCall script proc) procs
+
+-- nobody owns anything
+abbrev pub no_owners : Owners
+no_owners = record { spaces = []; queues = [] }
+
+-- the root of a new disk with so many blocks, as it is kept: with its inode, and pinned by itself
+abbrev pub root_vnode : ℕ → Vnode
+root_vnode blocks = record { number = root; inode = new_root blocks; pins = 1 }
+
+-- Nothing is open: there is no description.
+pub record HasNothingOpen (h : Heap) : Type 0 where
+  pub descs : count h.descs ≡ 0
+
+-- There is no pipe and no socket, and so no chunk of a queue.
+pub record HasNoQueue (h : Heap) : Type 0 where
+  pub pipes : count h.pipes ≡ 0
+  pub chunks : count h.chunks ≡ 0
+  pub socks : count h.socks ≡ 0
+
+-- The caches have the root's vnode alone, of a disk with so many blocks.
+pub record CachesRootAlone (h : Heap) (disk : ℕ) : Type 0 where
+  pub key : ℕ
+  pub root_is : object h.vnodes key ≡ Some (root_vnode disk)
+  pub vnodes : count h.vnodes ≡ 1
+  pub names : count h.names ≡ 0
+  pub blocks : count h.blocks ≡ 0
+
+-- What the objects of a store keep, whatever they stand for: the table has every process that is in the heap, their spaces
+-- own all nodes, and of the rest the root's vnode alone is there. Who runs stands at its next call.
+pub record AreKept (script : Script) (objects : Objects) : Type 0 where
+  pub holds : Holds objects.heap objects.procs
+  pub all : AreKeysOf objects.heap.procs (keys_of objects.procs.listed)
+  pub owned : IsOwned objects.heap (with_procs (procs_of objects) no_owners)
+  pub groups : AllByRecursion (λ proc. length proc.nodes ≡ 4) (procs_of objects)
+  pub calls : AreAtCalls script (procs_of objects)
+  pub opens : HasNothingOpen objects.heap
+  pub queues : HasNoQueue objects.heap
+  pub caches : CachesRootAlone objects.heap script.disk
+  pub size : objects.heap.heap ≡ script.heap

@@ -1,0 +1,10 @@
+-- What a purse has, by what its call moves bytes of.
+use Rattle.kabi_values.specs.declared.classes.Need.{Need}
+use Rattle.store_objects.specs.declared.purses.Target.{Target}
+use Rattle.store_objects.specs.declared.purses.Target.TheVariants.{File, Queue}
+
+-- a need counts blocks for a file and chunks for a queue, and a call moves bytes of one of them: a file takes no chunks, a
+-- queue takes no blocks
+abbrev pub need_for : Target → Need → Need
+need_for File need = record need { chunk = 0 }
+need_for Queue need = record need { block = 0 }

@@ -1,0 +1,93 @@
+-- Which worlds the objects of a store stand for, family by family, and what a turn of a call does to them.
+use Rattle.std.specs.Prelude.{ℕ, ◌≡◌, true, [], None, Some}
+use Rattle.kabi_calls.specs.declared.calls.Call.{Call}
+use Rattle.kabi_values.specs.declared.replies.Reply.{Reply}
+use Rattle.kabi_types.specs.declared.scripts.Script.{Script}
+use Rattle.kheap_shelves.specs.declared.objects.Proc.{Proc}
+use Rattle.posix_defs.specs.Account.{Account, account_on, with_frames}
+use Rattle.posix_defs.specs.Answer.{Answer}
+use Rattle.posix_defs.specs.Control.{settled}
+use Rattle.posix_defs.specs.Ending.{die}
+use Rattle.posix_defs.specs.Family.{IsFamily}
+use Rattle.posix_defs.specs.Files.Bare.{IsBare}
+use Rattle.posix_defs.specs.Memory.{Frames, Memory}
+use Rattle.posix_defs.specs.MemoryCalls.{remembered}
+use Rattle.posix_defs.specs.Plain.{Plain, answered, control_of, last_pid}
+use Rattle.posix_defs.specs.Process.{is_alive}
+use Rattle.posix_defs.specs.SoundTasks.{AllAtHome}
+use Rattle.posix_defs.specs.Turn.{Tells, account_after}
+use Rattle.posix_defs.specs.World.{World, boot_kept}
+use Rattle.posix_defs.specs.declared.turner.Turned.{Turned}
+use Rattle.proc_table.specs.Accounting.{HasAccount}
+use Rattle.proc_table.specs.Procs.{proc_of}
+use Rattle.proc_table.specs.Standing.{IsTable}
+use Rattle.store_objects.specs.declared.objects.Objects.{Objects}
+use Rattle.store_objects.specs.Objects.{AreKept, procs_of}
+
+-- A store: its script, and its objects.
+pub record StoreView : Type 0 where
+  pub script : Script
+  pub objects : Objects
+
+-- ---- the families
+
+-- The processes in the heap are the machine's, each with what it has in memory; who runs has a control that the machine's leads
+-- to.
+pub record AreProcesses (script : Script) (objects : Objects) (plain : Plain) : Type 0 where
+  pub table : IsTable objects.heap objects.procs plain.table
+  pub last : objects.procs.last ≡ last_pid plain
+  pub controls : (pid : ℕ) (proc : Proc) → proc_of (procs_of objects) pid ≡ Some proc → proc.status ≡ None → settled script (control_of plain pid) ≡ proc.control
+
+-- No pipe and no socket was made, so no queue has a front.
+pub record HasNoFronts (account : Account) : Type 0 where
+  pub pipes : account.pipes ≡ []
+  pub sockets : account.sockets ≡ []
+
+-- A store stands for a world: each family of its objects for its part of the world.
+pub record StandsFor (script : Script) (objects : Objects) (world : World) : Type 0 where
+  pub kept : AreKept script objects
+  pub processes : AreProcesses script objects world.plain
+  -- one numbering of the heap's pages makes the account of frames true
+  pub memory : HasAccount objects.heap objects.procs world.account.frames
+  -- nothing is open, and no pipe, socket or file was made
+  pub files : IsBare world.plain.files
+  pub fronts : HasNoFronts world.account
+  -- nothing is cached but the root's node
+  pub caches : world.kept ≡ boot_kept
+  pub reads : world.reads ≡ 0
+  -- of the machine alone: who is whose child, and who works where
+  pub family : IsFamily world.plain.table
+  pub home : AllAtHome world.plain.table
+
+-- ---- worlds after a step
+
+-- a process goes on behind its call, which got this reply
+abbrev pub answered_in : Script → World → ℕ → Reply → World
+answered_in script world pid reply = record world { plain = answered script world.plain pid reply }
+
+-- a process has something else in memory, and the account has these frames
+abbrev pub remembered_in : World → ℕ → Memory → Frames → World
+remembered_in world pid memory frames = record world { plain = remembered world.plain pid memory; account = with_frames world.account frames }
+
+-- a process has ended with a status, and the account has gone on with the machine
+abbrev pub ended_in : World → ℕ → ℕ → World
+ended_in world pid status =
+    record world { plain = die world.plain pid status; account = account_on world.plain (die world.plain pid status) world.account }
+
+-- ---- a turn
+
+-- The objects stand for a world to which an answer of a process's call leads: it is told, its machine and account are those after
+-- the answer, and what is kept and how much was read are as before.
+pub record WorldAfter (script : Script) (new : Objects) (world : World) (pid : ℕ) (call : Call) (answer : Answer) (told : Turned) : Type 0 where
+  pub next : World
+  pub stands : StandsFor script new next
+  pub tells : Tells answer world.plain told next.plain
+  pub account : next.account ≡ account_after world.account world.plain pid call answer
+  pub kept : next.kept ≡ world.kept
+  pub reads : next.reads ≡ world.reads
+
+-- From each world that the objects stood for and in which the process ran, they stand for one to which its call's answer leads.
+abbrev pub Performs : Script → Objects → ℕ → Call → (Plain → Answer) → Turned → Objects → Type 0
+Performs script old pid call answer told new =
+    (world : World) → StandsFor script old world → is_alive world.plain.table pid ≡ true
+    → WorldAfter script new world pid call (answer world.plain) told

@@ -1,0 +1,24 @@
+//! Laws of stores. Each is the contract of a function that does nothing.
+
+ghost use Rattle.std.specs.Prelude.{◌≡◌, ℕ, sum_by};
+ghost use Rattle.kabi_types.specs.declared.scripts.Script.{Script};
+ghost use Rattle.kheap_slabs.specs.Heap.{IsWellFormed, live_bytes};
+ghost use Rattle.kheap_slabs.specs.Spaces.{count_at};
+ghost use Rattle.page_space.specs.Sequences.{entries_naming};
+ghost use Rattle.posix_defs.specs.World.{World, live_of};
+ghost use Rattle.store_objects.specs.Objects.{procs_of};
+ghost use Rattle.store_objects.specs.Standing.{StandsFor};
+ghost use Rattle.store_objects.specs.declared.objects.Objects.{Objects};
+
+/// What a store's heap has in use is what the world that it stands for takes: 512 bytes for each process that is there and for
+/// each group of 64 pages with a mapped one, 4096 for each frame that a page names, and the root's vnode.
+pub fn the_heap_is_the_worlds()
+    ensures { (script : Script) (objects : Objects) (world : World) → StandsFor script objects world → IsWellFormed objects.heap
+        → live_bytes objects.heap ≡ live_of world }
+{}
+
+/// In each world that a run leads to, the count of every page is the number of entries of all processes that name it.
+pub fn each_page_is_named_as_often_as_it_counts()
+    ensures { (script : Script) (objects : Objects) (world : World) (key : ℕ) → StandsFor script objects world → IsWellFormed objects.heap
+        → count_at objects.heap.pages key ≡ sum_by (λ proc. entries_naming objects.heap.nodes key proc.nodes) (procs_of objects) }
+{}

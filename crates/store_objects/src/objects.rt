@@ -1,0 +1,100 @@
+//! The objects of a store: the heap, and the processes that stand in it.
+
+ghost use Rattle.std.specs.Prelude.{◌≡◌, ◌<◌, IfSome, IsSome, false, None};
+ghost use Rattle.std.specs.Option.{option_copied};
+ghost use Rattle.kheap_slabs.specs.Heap.{IsWellFormed};
+ghost use Rattle.proc_table.specs.Procs.{proc_of};
+ghost use Rattle.proc_table.specs.Table.{AreStored};
+ghost use Rattle.store_objects.specs.Objects.{IsCaller, MovesOn, is_running, procs_of};
+
+use kabi_types::Control;
+use kheap_shelves::Proc;
+use kheap_slabs::KHeap;
+use proc_table::ProcTable;
+
+/// The heap, and the table of the processes that stand in it.
+#[derive(Drop)]
+pub struct Objects {
+    /// The heap.
+    pub heap: KHeap,
+    /// Where in the heap each process stands.
+    pub procs: ProcTable,
+}
+
+/// Who makes a call: a process that runs.
+#[derive(Clone, Copy)]
+pub struct Caller {
+    /// Its number, from 1.
+    pub pid: u32,
+    /// Its parent's pid; 0 for the first process.
+    pub parent: u32,
+    /// Where it stands in its program: at its call.
+    pub control: Control,
+}
+
+impl Objects {
+    /// The process of that pid; None exactly where none is there.
+    pub fn proc(&self, pid: u32) -> Option<&Proc>
+        requires { AreStored self.now.heap.procs self.now.procs.listed }
+        ensures { option_copied result ≡ proc_of (procs_of self.now) pid }
+    {
+        match self.procs.key_of(pid) {
+            Some(key) => Some(self.heap.get_proc(key)),
+            None => None,
+        }
+    }
+
+    /// Whether the process of that pid is there and has not ended.
+    pub fn runs(&self, pid: u32) -> bool
+        requires { AreStored self.now.heap.procs self.now.procs.listed }
+        ensures { result ≡ is_running (procs_of self.now) pid }
+    {
+        match self.proc(pid) {
+            Some(proc) => proc.status.is_none(),
+            None => false,
+        }
+    }
+
+    /// The process of that pid as it makes its next call; None exactly where none runs.
+    pub fn caller(&self, pid: u32) -> Option<Caller>
+        requires { AreStored self.now.heap.procs self.now.procs.listed }
+        ensures none { result ≡ None → is_running (procs_of self.now) pid ≡ false }
+        ensures some { IfSome result (IsCaller self.now pid) }
+    {
+        let proc = self.proc(pid)?;
+        if proc.status.is_some() {
+            return None;
+        }
+        Some(Caller {
+            pid,
+            parent: proc.parent,
+            control: proc.control,
+        })
+    }
+
+    /// The heap is well formed: each row of its objects is as long as it was reserved.
+    pub fn heap_is_well_formed(&self)
+        ensures { IsWellFormed self.now.heap }
+    {
+        let _ = self.heap.heap();
+    }
+
+    /// No pid is above the last, which has 32 bits.
+    pub fn pids_have_32_bits(&self)
+        ensures { self.now.procs.last < 4294967296 }
+    {
+        let _ = self.procs.last_pid();
+    }
+
+    /// Has a process that is there go on at another control.
+    pub fn move_on(&mut self, pid: u32, control: Control)
+        requires stored { AreStored self.old.heap.procs self.old.procs.listed }
+        requires there { IsSome (proc_of (procs_of self.old) pid) }
+        ensures { MovesOn self.old pid control self.new }
+    {
+        let Some(key) = self.procs.key_of(pid) else {
+            unreachable!();
+        };
+        self.heap.set_proc_control(key, control);
+    }
+}

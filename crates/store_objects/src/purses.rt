@@ -1,0 +1,31 @@
+//! The purse of a turn.
+
+ghost use Rattle.std.specs.Prelude.{◌≡◌, ◌≤◌};
+ghost use Rattle.kabi_calls.specs.declared.calls.Call.{Call};
+ghost use Rattle.kheap_shelves.specs.Purse.{left_bytes};
+ghost use Rattle.posix_defs.specs.Needs.{bound, need_of};
+ghost use Rattle.store_objects.specs.Purses.{need_for};
+
+use kabi_types::Need;
+use kheap_shelves::Purse;
+
+/// What a call moves bytes of.
+#[derive(Clone, Copy)]
+pub enum Target {
+    /// A file or a directory, whose bytes lie in blocks.
+    File,
+    /// A pipe or a socket, whose bytes lie in chunks.
+    Queue,
+}
+
+/// The purse of a call with this need and this target. It never has more than the call's bound, which is below what blocks and
+/// chunks of a write come to together.
+pub fn purse_for(need: Need, target: Target) -> Purse
+    ensures left { result.left ≡ need_for target need }
+    ensures within { (call : Call) → need ≡ need_of call → left_bytes result ≤ bound call }
+{
+    match target {
+        Target::File => Purse::of(Need { chunk: 0, ..need }),
+        Target::Queue => Purse::of(Need { block: 0, ..need }),
+    }
+}

@@ -1,0 +1,5 @@
+pub mod FillLemmas
+pub mod HeldLemmas
+pub mod LooseLemmas
+pub mod OrderLemmas
+pub mod TrueLemmas
