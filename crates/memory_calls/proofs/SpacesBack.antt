@@ -17,7 +17,8 @@ use Rattle.kern_laws.proofs.Remembering.{found_before, remembers_family}
 use Rattle.proc_table.specs.Accounting.{HasAccount}
 use Rattle.proc_table.specs.Changes.{with_nodes}
 use Rattle.proc_table.specs.Moves.{SpaceTurns, TableMoves}
-use Rattle.proc_table.specs.Procs.{memory_at, proc_of, process_of}
+use Rattle.proc_table.specs.Procs.{NoneOpen, memory_at, proc_of, process_of}
+use Rattle.proc_table.proofs.OpenLemmas.{bare_nodes}
 use Rattle.proc_table.specs.Standing.{IsTable}
 use Rattle.proc_table.specs.Table.{Holds, processes}
 use Rattle.proc_table.proofs.FamilyLemmas.{process_is}
@@ -93,6 +94,7 @@ kept_back script old new mid pid key proc now kept turns same four =
     (subst (AllByRecursion (λ p. length p.nodes ≡ 4)) (sym procs) (all_with_nodes (λ p. length p.nodes ≡ 4) pid now (procs_of old) (λ p long. four) kept.groups))
     (subst (AreAtCalls script) (sym procs)
     (all_with_nodes (λ p. p.status ≡ None → IsAtCall script p) pid now (procs_of old) (λ p at up. let here = at up in record { stands = here.stands; rests = here.rests }) kept.calls))
+    (subst NoneOpen (sym procs) (bare_nodes pid now (procs_of old) kept.bare))
 
 -- who ran runs
 pub runs_back : (script : Script) (old new : Objects) (mid : Heap) (pid key : ℕ) (proc : Proc) (now : List (Option ℕ)) → AreKept script old

@@ -209,7 +209,7 @@ turned_account old mid new kept before after pid proc now renumbered holds has t
     gone q none (inr other) = same q other.1 ∙ has.gone q none
 
 -- who is none of those that became something either wasn't there or went
-none_kept : (becomes : Proc → Option Proc) (procs : List Proc) (q : ℕ) → ((proc now : Proc) → becomes proc ≡ Some now → now.pid ≡ proc.pid)
+pub none_kept : (becomes : Proc → Option Proc) (procs : List Proc) (q : ℕ) → ((proc now : Proc) → becomes proc ≡ Some now → now.pid ≡ proc.pid)
     → proc_of (filter_map becomes procs) q ≡ None → (proc_of procs q ≡ None) ⊎ ((proc : Proc) × (proc_of procs q ≡ Some proc) × (becomes proc ≡ None))
 none_kept becomes [] q same none = inl refl
 none_kept becomes (proc ∷ procs) q same none = by_case (becomes proc) refl (proc.pid == q) refl none (none_kept becomes procs q same)
@@ -259,7 +259,7 @@ becomes_account P becomes old new was now frames pids spaces empty all procs las
         (empty proc (has_it P (processes old was) q proc all there) goes)
 
 -- who is none of more is none of fewer
-none_more : (procs : List Proc) (child : Proc) (q : ℕ) → proc_of (procs ++ child ∷ []) q ≡ None → (proc_of procs q ≡ None) × (child.pid ≢ q)
+pub none_more : (procs : List Proc) (child : Proc) (q : ℕ) → proc_of (procs ++ child ∷ []) q ≡ None → (proc_of procs q ≡ None) × (child.pid ≢ q)
 none_more [] child q none = (refl, λ own. let found : Some child ≡ None = sym (ap (λ b. cond b (Some child) None) (eqb_same child.pid q own)) ∙ none in cc)
 none_more (proc ∷ procs) child q none = by_case (proc.pid == q) refl none (none_more procs child q)
   where

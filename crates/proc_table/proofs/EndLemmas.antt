@@ -15,7 +15,7 @@ use Rattle.posix_defs.specs.Process.{Table, process_at}
 use Rattle.proc_table.specs.Accounting.{HasAccount}
 use Rattle.proc_table.specs.Changes.{cleared, ended, is_alone, is_other, left_behind, left_by, left_child}
 use Rattle.proc_table.specs.Moves.{MemoryStays, TableMoves}
-use Rattle.proc_table.specs.Procs.{HasEnded, HasNoMemoryOnce, IsLight, memory_at, no_nodes, proc_of}
+use Rattle.proc_table.specs.Procs.{HasClosed, HasEnded, HasNoMemoryOnce, IsLight, memory_at, no_nodes, proc_of}
 use Rattle.proc_table.specs.Standing.{AreFrom, IsTable, cleared_in, ends_in}
 use Rattle.proc_table.specs.Table.{Holds, TableView, objects_after, places_kept, processes}
 use Rattle.proc_table.proofs.AccountLemmas.{becomes_account}
@@ -25,18 +25,23 @@ use Rattle.proc_table.proofs.HoldLemmas.{Becomes, becomes-moves, becomes-procs, 
 use Rattle.proc_table.proofs.MemoryLemmas.{no_memory_at, processes_same}
 use Rattle.proc_table.proofs.OwnLemmas.{all_weaker, keys_left}
 use Rattle.proc_table.proofs.PlaceLemmas.{Follows, Misses, eqb_is, eqb_other, eqb_same, follows_all, objects_after-missed, some_same}
-use Rattle.proc_table.proofs.TurnLemmas.{GoesLight}
+use Rattle.proc_table.proofs.TurnLemmas.{GoesLight, with_nodes_pid}
 
 -- who is cleared has no nodes
-pub cleared_light : (procs : List Proc) (pid : ℕ) → AllByRecursion IsLight (map (cleared pid) procs) → AllByRecursion (GoesLight pid) (map (cleared pid) procs)
-cleared_light [] pid light = tt
-cleared_light (proc ∷ procs) pid light = (
-  record { light = light.0; empty = λ same. by_case (proc.pid == pid) refl same },
-  cleared_light procs pid light.1,
+pub cleared_light : (procs : List Proc) (pid : ℕ) → HasClosed procs pid → AllByRecursion IsLight (map (cleared pid) procs) → AllByRecursion (GoesLight pid) (map (cleared pid) procs)
+cleared_light [] pid closed light = tt
+cleared_light (proc ∷ procs) pid closed light = (
+  record {
+    light = light.0;
+    empty = λ same. by_case (proc.pid == pid) refl same;
+    closed = λ same. as_open (proc.pid == pid) ∙ closed.0 (sym (with_nodes_pid pid no_nodes proc) ∙ same);
+  },
+  cleared_light procs pid closed.1 light.1,
 )
   where
-    other_nodes : (p : Proc) → List ℕ
-    other_nodes p = keys_in p.nodes
+    as_open : (b : Bool) → (cond b (record proc { nodes = no_nodes }) proc).descriptors ≡ proc.descriptors
+    as_open true = refl
+    as_open false = refl
 
     by_case : (b : Bool) → (proc.pid == pid) ≡ b → (cleared pid proc).pid ≡ pid → keys_in (cleared pid proc).nodes ≡ []
     by_case true is same = ap (λ b. keys_in (cond b (record proc { nodes = no_nodes }) proc).nodes) is
@@ -63,7 +68,7 @@ left_sound pid status = record {
         → cond b (Some (record proc { status = Some status })) (cond (proc.parent == pid) (left_child proc.status proc) (Some proc)) ≡ Some now → IsLight now
     light_by proc now goes true own is =
         subst IsLight (some_same (Some now) (record proc { status = Some status }) now (sym is) refl)
-        (record { memory = goes.empty (eqb_is proc.pid pid own); descriptors = goes.light.descriptors })
+        (record { memory = goes.empty (eqb_is proc.pid pid own); descriptors = goes.closed (eqb_is proc.pid pid own) })
     light_by proc now goes false own is = parent_light proc now goes.light (proc.parent == pid) is
 
     light : (proc now : Proc) → GoesLight pid proc → left_behind pid status proc ≡ Some now → IsLight now
@@ -125,7 +130,7 @@ has_ended (first ∷ procs) pid status proc is = by_case (eqb_tells first.pid pi
         (behind (left_behind pid status first) other.1 refl (found (sym (ap (λ b. cond b (Some first) (proc_of procs pid)) other.0) ∙ is)))
 
 -- A process that is cleared leaves its children, and has ended.
-module _ (old mid new : Heap) (was between now : TableView) (pid status : ℕ) (holds : Holds old was)
+module _ (old mid new : Heap) (was between now : TableView) (pid status : ℕ) (holds : Holds old was) (closed : HasClosed (processes old was) pid)
     (first : TableMoves old was mid between) (same : between ≡ was)
     (cleared_is : processes mid between ≡ map (cleared pid) (processes old was))
     (memory : MemoryStays old mid (filter (is_other pid) (processes old was)))
@@ -143,7 +148,7 @@ module _ (old mid new : Heap) (was between now : TableView) (pid status : ℕ) (
   missed key misses = ap (λ procs. object procs key) procs_are ∙ objects_after-missed (left_behind pid status) mid.procs between.listed key misses
 
   all : AllByRecursion (GoesLight pid) (processes mid between)
-  all = subst (AllByRecursion (GoesLight pid)) (sym cleared_is) (cleared_light (processes old was) pid (subst (AllByRecursion IsLight) cleared_is first.holds.light))
+  all = subst (AllByRecursion (GoesLight pid)) (sym cleared_is) (cleared_light (processes old was) pid closed (subst (AllByRecursion IsLight) cleared_is first.holds.light))
 
   kept : new ≡ record mid { procs = new.procs }
   kept = left ∙ ap (λ (procs : List (Option Proc)). record mid { procs = procs }) (sym procs_are)

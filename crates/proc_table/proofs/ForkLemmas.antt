@@ -5,6 +5,7 @@ use Rattle.std.specs.Option.{option_map}
 use Rattle.kabi_values.specs.declared.classes.Class.TheVariants as class
 use Rattle.kheap_shelves.specs.Objects.{count, put}
 use Rattle.kheap_shelves.specs.Purse.{Purse}
+use Rattle.kheap_shelves.specs.declared.objects.Desc.{Desc}
 use Rattle.kheap_shelves.specs.declared.objects.Node.{Node}
 use Rattle.kheap_shelves.specs.declared.objects.Page.{Page}
 use Rattle.kheap_shelves.specs.declared.objects.Proc.{Proc}
@@ -12,7 +13,7 @@ use Rattle.kheap_slabs.specs.Heap.{Heap}
 use Rattle.kheap_slabs.specs.Keys.{ChangesKeys, Splits}
 use Rattle.kheap_slabs.specs.Owners.{Owners, with_space, IsOwned}
 use Rattle.kheap_slabs.specs.Paid.{IsPaid, PaysExactly}
-use Rattle.kheap_laws.proofs.OwnerLemmas.{IsOwned-space_from_front, IsOwned-space_to_front}
+use Rattle.kheap_laws.proofs.OwnerLemmas.{IsOwned-same, IsOwned-space_from_front, IsOwned-space_to_front}
 use Rattle.kheap_laws.proofs.PaidLemmas.{IsPaid-trans}
 use Rattle.page_space.specs.Accounts.{AccountForks, IsAccounted}
 use Rattle.page_space.specs.Contents.{content_at}
@@ -22,7 +23,7 @@ use Rattle.posix_defs.specs.Memory.{Frames, after_fork}
 use Rattle.posix_defs.specs.Process.{Table, process_at}
 use Rattle.proc_table.specs.Accounting.{HasAccount}
 use Rattle.proc_table.specs.Changes.{child_proc}
-use Rattle.proc_table.specs.Moves.{IsAdded, IsForked, MemoryStays, TableMoves}
+use Rattle.proc_table.specs.Moves.{IsAdded, IsForked, MemoryStays, TableMoves, sharing}
 use Rattle.proc_table.specs.Procs.{HasNoMemoryOnce, IsAlive, IsLight, proc_of, process_of}
 use Rattle.proc_table.specs.Standing.{AreFrom, IsTable}
 use Rattle.proc_table.specs.Table.{AreStored, Holds, TableView, keys_of, processes, procs_at, with_procs}
@@ -30,6 +31,7 @@ use Rattle.proc_table.proofs.AccountLemmas.{accounted_of, forked_has_account}
 use Rattle.proc_table.proofs.AddLemmas.{added-keys, added-light, added-owned, added-procs, added-rising, added-stored}
 use Rattle.proc_table.proofs.FamilyLemmas.{one_more, proc_has_pid, process_is, same_table}
 use Rattle.proc_table.proofs.HoldLemmas.{content_kept}
+use Rattle.proc_table.proofs.LawLemmas.{elsewhere_account, elsewhere_holds, elsewhere_table}
 use Rattle.proc_table.proofs.MemoryLemmas.{memory_at-same, processes_same}
 use Rattle.proc_table.proofs.OwnLemmas.{HasOut, all_weaker, has_it, has_out, rising_procs, spaces_in}
 use Rattle.proc_table.proofs.PlaceLemmas.{Contains-behind, some_same}
@@ -172,3 +174,45 @@ module _ (old mid new : Heap) (before between after : Purse) (was now : TableVie
 -- who is alive runs
 pub runs_of : (procs : List Proc) (pid : ℕ) (proc : Proc) → IsAlive procs pid → proc_of procs pid ≡ Some proc → proc.status ≡ None
 runs_of procs pid proc alive there = ap (λ p. p.status) (some_same (proc_of procs pid) proc alive.proc there alive.there) ∙ alive.runs
+
+-- ---- where the Descs have others counts
+
+module _ (old shared : Heap) (was : TableView) (descs : List (Option Desc)) (is : shared ≡ record old { descs = descs }) where
+  pub shared-holds : Holds old was → Holds shared was
+  shared-holds holds =
+      elsewhere_holds old shared was holds.owned.0 (ap (λ (h : Heap). h.procs) is)
+      (IsOwned-same old shared (with_procs (processes old was) holds.owned.0) (ap (λ (h : Heap). h.nodes) is) (ap (λ (h : Heap). h.pages) is) (ap (λ (h : Heap). h.chunks) is) holds.owned.1) holds
+
+  pub shared-there : (pid : ℕ) (parent : Proc) → proc_of (processes old was) pid ≡ Some parent → proc_of (processes shared was) pid ≡ Some parent
+  shared-there pid parent there = ap (λ (h : Heap). proc_of (processes h was) pid) is ∙ there
+
+  pub shared-table : (table : Table) → IsTable old was table → IsTable shared was table
+  shared-table table = elsewhere_table old shared was table (ap (λ (h : Heap). h.procs) is) (ap (λ (h : Heap). h.nodes) is) (ap (λ (h : Heap). h.pages) is)
+
+  pub shared-account : (frames : Frames) → HasAccount old was frames → HasAccount shared was frames
+  shared-account frames = elsewhere_account old shared was frames (ap (λ (h : Heap). h.procs) is) (ap (λ (h : Heap). h.nodes) is) (ap (λ (h : Heap). h.pages) is)
+
+  pub shared-forked : (new : Heap) (now : TableView) (pid child : ℕ) → IsForked shared was new now pid child → IsForked old was new now pid child
+  shared-forked new now pid child forked = as_old (subst (λ (h : Heap). IsForked h was new now pid child) is forked)
+    where
+      as_old : IsForked (record old { descs = descs }) was new now pid child → IsForked old was new now pid child
+      as_old f = record {
+        parent = f.parent;
+        nodes = f.nodes;
+        groups = f.groups;
+        parent_is = f.parent_is;
+        processes_are = f.processes_are;
+        last = f.last;
+        same = f.same;
+        stays = f.stays;
+      }
+
+  pub shared-descs : (new : Heap) (now : TableView) → TableMoves shared was new now → new.descs ≡ descs
+  shared-descs new now moves = ap (λ (h : Heap). h.descs) moves.kept ∙ ap (λ (h : Heap). h.descs) is
+
+  pub shared-moves : (new : Heap) (now : TableView) → TableMoves shared was new now → TableMoves (sharing old new) was new now
+  shared-moves new now moves =
+      subst (λ (h : Heap). TableMoves h was new now) (is ∙ ap (λ (d : List (Option Desc)). record old { descs = d }) (sym (shared-descs new now moves))) moves
+
+  pub shared-exact : (new : Heap) (before after : Purse) → PaysExactly class.Node shared before new after → PaysExactly class.Node old before new after
+  shared-exact new before after exact = exact ∙ ap (λ (h : Heap). count h.nodes + before.left.node) is

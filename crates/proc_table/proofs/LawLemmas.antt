@@ -72,7 +72,7 @@ module _ (old mid new : Heap) (kept : TableView) (pid key : ℕ) (proc : Proc) (
       back-procs (ap (λ (h : Heap). h.nodes) turns.after) (ap (λ (h : Heap). h.pages) turns.after)
 
 -- who has a pid is the only one
-only_one : (procs : List Proc) (before pid : ℕ) (proc : Proc) → AreRising before procs → proc_of procs pid ≡ Some proc → AllByRecursion (λ p. p.pid ≡ pid → p ≡ proc) procs
+pub only_one : (procs : List Proc) (before pid : ℕ) (proc : Proc) → AreRising before procs → proc_of procs pid ≡ Some proc → AllByRecursion (λ p. p.pid ≡ pid → p ≡ proc) procs
 only_one [] before pid proc rising is = tt
 only_one (first ∷ procs) before pid proc rising is = by_case (eqb_tells first.pid pid) (only_one procs first.pid pid proc rising.1)
   where

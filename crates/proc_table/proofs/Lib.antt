@@ -19,3 +19,4 @@ pub mod AccountLemmas
 pub mod ChangedAccounts
 pub mod LawLemmas
 pub mod EndAll
+pub mod OpenLemmas

@@ -4,6 +4,7 @@ use Rattle.std.specs.List.{AllByRecursion, filter_map}
 use Rattle.std.specs.Option.{option_and_then}
 use Rattle.std.proofs.lemmas.Bool.Decides.{eqb_tells}
 use Rattle.kheap_shelves.specs.Objects.{object, put}
+use Rattle.kheap_shelves.specs.declared.objects.Descriptor.{Descriptor}
 use Rattle.kheap_shelves.specs.declared.objects.Node.{Node}
 use Rattle.kheap_shelves.specs.declared.objects.Page.{Page}
 use Rattle.kheap_shelves.specs.declared.objects.Proc.{Proc}
@@ -15,7 +16,7 @@ use Rattle.kheap_laws.proofs.OwnerLemmas.{IsOwned-same, IsOwned-space_from_front
 use Rattle.page_space.specs.Contents.{content_at, IsOwnedWith}
 use Rattle.proc_table.specs.Changes.{is_other, with_nodes}
 use Rattle.proc_table.specs.Moves.{MemoryStays, TableMoves}
-use Rattle.proc_table.specs.Procs.{IsLight, HasNoMemoryOnce, proc_of}
+use Rattle.proc_table.specs.Procs.{IsLight, HasNoMemoryOnce, HasNoneOpenOnce, no_descriptors, proc_of}
 use Rattle.proc_table.specs.Table.{AreStored, Holds, TableView, key_of, keys_of, places_kept, processes, procs_at, with_procs}
 use Rattle.proc_table.specs.declared.places.Listed.{Listed}
 use Rattle.proc_table.proofs.PlaceLemmas.{Follows, IsAt, Misses, eqb_other, eqb_same, follows_keys, follows_one, follows_procs, follows_stored, key_of-misses, key_of-proc, object_missed, some_same, stored_is}
@@ -73,19 +74,24 @@ light_with (first ∷ procs) before pid proc nodes rising is runs light =
       rest (sym (ap (λ b. cond b (Some first) (proc_of procs pid)) other.0) ∙ is) runs light.1,
     )
 
--- a process of that pid has no nodes
+-- a process of that pid has no nodes and nothing open
 pub record GoesLight (pid : ℕ) (proc : Proc) : Type 0 where
   pub light : IsLight proc
   pub empty : proc.pid ≡ pid → keys_in proc.nodes ≡ []
+  pub closed : proc.pid ≡ pid → proc.descriptors ≡ no_descriptors
 
 empty_once : (status : Option ℕ) (nodes : List (Option ℕ)) (over : ℕ) → status ≡ Some over → HasNoMemoryOnce status nodes → keys_in nodes ≡ []
 empty_once None nodes over is memory = cc
 empty_once (Some status) nodes over is memory = memory
 
+pub closed_once : (status : Option ℕ) (descriptors : List (Option Descriptor)) (over : ℕ) → status ≡ Some over → HasNoneOpenOnce status descriptors → descriptors ≡ no_descriptors
+closed_once None descriptors over is closed = absurd (cc)
+closed_once (Some status) descriptors over is closed = closed
+
 none_above : (procs : List Proc) (before pid : ℕ) → AreRising before procs → pid ≤ before → AllByRecursion IsLight procs → AllByRecursion (GoesLight pid) procs
 none_above [] before pid rising low light = tt
 none_above (proc ∷ procs) before pid rising low light = (
-  record { light = light.0; empty = λ same. absurd (omega (arith, rising.0)) },
+  record { light = light.0; empty = λ same. absurd (omega (arith, rising.0)); closed = λ same. absurd (omega (arith, rising.0)) },
   none_above procs proc.pid pid rising.1 (omega (arith, rising.0)) light.1,
 )
 
@@ -100,11 +106,15 @@ goes_light (first ∷ procs) before pid proc over rising is ended light =
         → AllByRecursion (GoesLight pid) (first ∷ procs)
     by_case (inl same) rest =
         let one : first ≡ proc = some_same (proc_of (first ∷ procs) pid) first proc (ap (λ b. cond b (Some first) (proc_of procs pid)) same.0) is in (
-          record { light = light.0; empty = λ it. empty_once first.status first.nodes over (ap (λ p. p.status) one ∙ ended) light.0.memory },
+          record {
+            light = light.0;
+            empty = λ it. empty_once first.status first.nodes over (ap (λ p. p.status) one ∙ ended) light.0.memory;
+            closed = λ it. closed_once first.status first.descriptors over (ap (λ p. p.status) one ∙ ended) light.0.descriptors;
+          },
           none_above procs first.pid pid rising.1 (let e = same.1 in omega arith) light.1,
         )
     by_case (inr other) rest = (
-      record { light = light.0; empty = λ same. absurd (other.1 same) },
+      record { light = light.0; empty = λ same. absurd (other.1 same); closed = λ same. absurd (other.1 same) },
       rest (sym (ap (λ b. cond b (Some first) (proc_of procs pid)) other.0) ∙ is) ended light.1,
     )
 

@@ -4,3 +4,4 @@ pub mod Table
 pub mod Moves
 pub mod Standing
 pub mod Accounting
+pub mod Opening

@@ -25,6 +25,10 @@ pub record TableMoves (old : Heap) (was : TableView) (new : Heap) (now : TableVi
   pub keys : ChangesKeys old.procs new.procs (keys_of was.listed) (keys_of now.listed)
   pub kept : new ≡ record old { procs = new.procs; nodes = new.nodes; pages = new.pages; high = new.high }
 
+-- a heap with the Descs that another one has
+abbrev pub sharing : Heap → Heap → Heap
+sharing old new = record old { descs = new.descs }
+
 -- these processes have in their pages what they had
 abbrev pub MemoryStays : Heap → Heap → List Proc → Type 0
 MemoryStays old new procs = AllByRecursion (λ proc. (page : ℕ) → content_at new proc.nodes page ≡ content_at old proc.nodes page) procs

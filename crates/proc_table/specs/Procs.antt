@@ -1,6 +1,6 @@
 -- Processes as they stand in the heap, by rising pid.
 use Rattle.std.specs.Prelude.{ℕ, ◌≡◌, ◌==◌, ℤ, pos, negsuc, if◌then◌else◌, List, [], ◌∷◌, map, replicate, Option, None, Some}
-use Rattle.std.specs.List.{range_with_len}
+use Rattle.std.specs.List.{AllByRecursion, range_with_len}
 use Rattle.kheap_shelves.specs.declared.objects.Descriptor.{Descriptor}
 use Rattle.kheap_shelves.specs.declared.objects.Proc.{Proc}
 use Rattle.kheap_slabs.specs.Heap.{Heap}
@@ -71,7 +71,20 @@ abbrev pub HasNoMemoryOnce : Option ℕ → List (Option ℕ) → Type 0
 HasNoMemoryOnce None nodes = Unit {0}
 HasNoMemoryOnce (Some status) nodes = keys_in nodes ≡ []
 
--- a process that has ended has no memory, and none has a descriptor
+-- no descriptor is open where the process has ended
+abbrev pub HasNoneOpenOnce : Option ℕ → List (Option Descriptor) → Type 0
+HasNoneOpenOnce None descriptors = Unit {0}
+HasNoneOpenOnce (Some status) descriptors = descriptors ≡ no_descriptors
+
+-- a process that has ended has no memory, and no descriptor is open in it
 pub record IsLight (proc : Proc) : Type 0 where
   pub memory : HasNoMemoryOnce proc.status proc.nodes
-  pub descriptors : proc.descriptors ≡ no_descriptors
+  pub descriptors : HasNoneOpenOnce proc.status proc.descriptors
+
+-- the process of that pid has no descriptor open
+abbrev pub HasClosed : List Proc → ℕ → Type 0
+HasClosed procs pid = AllByRecursion (λ proc. proc.pid ≡ pid → proc.descriptors ≡ no_descriptors) procs
+
+-- and no process has
+abbrev pub NoneOpen : List Proc → Type 0
+NoneOpen procs = AllByRecursion (λ proc. proc.descriptors ≡ no_descriptors) procs

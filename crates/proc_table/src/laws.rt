@@ -1,9 +1,10 @@
 //! Laws of the table for a crate that changes memory, controls or other objects of the same heap. Each is the contract of a
 //! function that does nothing.
 
-ghost use Rattle.std.specs.Prelude.{◌≡◌, ◌≢◌, ◌+◌, ◌≤◌, ℕ, ℤ, true, List, filter, length, map, Option, None, Some};
+ghost use Rattle.std.specs.Prelude.{◌≡◌, ◌≢◌, ◌+◌, ◌≤◌, ℕ, ℤ, true, List, [], ◌∷◌, ◌++◌, filter, length, map, Option, None, Some};
 ghost use Rattle.kabi_types.specs.declared.scripts.Script.{Script};
 ghost use Rattle.kheap_shelves.specs.Objects.{object};
+ghost use Rattle.kheap_shelves.specs.declared.objects.Desc.{Desc};
 ghost use Rattle.kheap_shelves.specs.declared.objects.Proc.{Proc};
 ghost use Rattle.kheap_slabs.specs.Heap.{Heap};
 ghost use Rattle.kheap_slabs.specs.Owners.{Owners, IsOwned};
@@ -11,17 +12,21 @@ ghost use Rattle.page_space.specs.Accounts.{AccountMoves, IsAccounted};
 ghost use Rattle.page_space.specs.Contents.{IsOwnedWith, StandsFor};
 ghost use Rattle.posix_defs.specs.Ending.{die_in};
 ghost use Rattle.posix_defs.specs.Family.{IsFamily};
+ghost use Rattle.posix_defs.specs.Files.State.{Files, boot_files, with_heir};
 ghost use Rattle.posix_defs.specs.Forking.{fork};
 ghost use Rattle.posix_defs.specs.Memory.{Frames, Memory};
 ghost use Rattle.posix_defs.specs.Plain.{Plain, last_pid};
 ghost use Rattle.posix_defs.specs.Process.{Table, is_there, process_at, with_memory};
 ghost use Rattle.posix_defs.specs.Waiting.{waitpid};
 ghost use Rattle.proc_table.specs.Accounting.{HasAccount};
-ghost use Rattle.proc_table.specs.Changes.{forked_as, is_other, replaced, with_nodes};
-ghost use Rattle.proc_table.specs.Moves.{MemoryStays, ProcTurns, SpaceTurns, TableMoves};
-ghost use Rattle.proc_table.specs.Procs.{memory_at, proc_of, process_of};
+ghost use Rattle.open_laws.specs.Sharing.{CanShare, share_all};
+ghost use Rattle.proc_table.specs.Changes.{after_wait, child_proc, ended, forked_as, is_other, reaped_of, replaced, with_nodes};
+ghost use Rattle.proc_table.specs.Moves.{IsForked, MemoryStays, ProcTurns, SpaceTurns, TableMoves, sharing};
+ghost use Rattle.proc_table.specs.Opening.{HaveOpen};
+ghost use Rattle.proc_table.specs.Procs.{HasClosed, NoneOpen, first_proc, memory_at, no_descriptors, proc_of, process_of};
 ghost use Rattle.proc_table.specs.Standing.{IsTable, answered_fork, answered_wait, ends_from, ends_in, found_in};
 ghost use Rattle.proc_table.specs.Table.{Holds, TableView, key_of, processes, with_procs};
+ghost use Rattle.proc_table.specs.declared.reaped.Reaped.{Reaped};
 
 /// A process that is there is under the key that the table has of it, is the plain machine's of that pid, and its space is one
 /// in hand, which stands for its memory; who has no key isn't there.
@@ -101,4 +106,48 @@ pub fn the_table_answers_as_the_machine()
         → die_in table pid status ≡ ends_in table pid status }
     ensures all { (table : Table) (status : ℕ) (signal : ℕ) (more : ℕ) → IsFamily table → length table ≤ more + 1
         → ends_from more 2 (ends_in table 1 status) signal ≡ die_in table 1 status }
+{}
+
+/// What the processes have open goes on being what the machine has open: at boot, where a child is made, where one that has
+/// nothing open ends, where one is waited for, where memory is another, and where a process goes on. Only a fork makes the
+/// machine's descriptors others: the child has those of its parent.
+pub fn descriptors_go_on()
+    ensures booted { (number : ℕ → ℕ) (blocks : ℕ) → HaveOpen (first_proc ∷ []) 1 number (boot_files blocks) }
+    ensures forked { (old : Heap) (new : Heap) (was : TableView) (now : TableView) (pid : ℕ) (child : ℕ) (number : ℕ → ℕ) (files : Files)
+        → Holds old was → child ≡ was.last + 1 → IsForked old was new now pid child
+        → HaveOpen (processes old was) was.last number files
+        → HaveOpen (processes new now) now.last number (with_heir files pid) }
+    ensures ended { (h : Heap) (kept : TableView) (pid : ℕ) (status : ℕ) (number : ℕ → ℕ) (files : Files)
+        → Holds h kept → HasClosed (processes h kept) pid → HaveOpen (processes h kept) kept.last number files
+        → HaveOpen (ended pid status (processes h kept)) kept.last number files }
+    ensures waited { (h : Heap) (kept : TableView) (parent : ℕ) (which : ℤ) (answer : Reaped) (number : ℕ → ℕ) (files : Files)
+        → Holds h kept → answer ≡ reaped_of parent which (processes h kept)
+        → HaveOpen (processes h kept) kept.last number files
+        → HaveOpen (after_wait answer (processes h kept)) kept.last number files }
+    ensures remembers { (pid : ℕ) (nodes : List (Option ℕ)) (procs : List Proc) (last : ℕ) (number : ℕ → ℕ) (files : Files)
+        → HaveOpen procs last number files → HaveOpen (map (with_nodes pid nodes) procs) last number files }
+    ensures turned { (old : Heap) (new : Heap) (kept : TableView) (pid : ℕ) (key : ℕ) (proc : Proc) (now : Proc) (number : ℕ → ℕ) (files : Files)
+        → Holds old kept → ProcTurns old new kept pid key proc now
+        → HaveOpen (processes old kept) kept.last number files
+        → HaveOpen (processes new kept) kept.last number files }
+{}
+
+/// Where no process has a descriptor open none has one after any call, any may end, and a fork shares nothing.
+pub fn nothing_open_stays_nothing_open()
+    ensures closed { (pid : ℕ) (procs : List Proc) → NoneOpen procs → HasClosed procs pid }
+    ensures shares { (pid : ℕ) (parent : Proc) (procs : List Proc) (descs : List (Option Desc))
+        → proc_of procs pid ≡ Some parent → NoneOpen procs
+        → CanShare descs parent.descriptors × (share_all descs parent.descriptors ≡ descs) }
+    ensures moves { (old : Heap) (new : Heap) (was : TableView) (now : TableView) (pid : ℕ) (parent : Proc)
+        → proc_of (processes old was) pid ≡ Some parent → NoneOpen (processes old was)
+        → new.descs ≡ share_all old.descs parent.descriptors
+        → TableMoves (sharing old new) was new now → TableMoves old was new now }
+    ensures forked { (pid : ℕ) (child : ℕ) (nodes : List (Option ℕ)) (parent : Proc) (procs : List Proc)
+        → proc_of procs pid ≡ Some parent → NoneOpen procs → NoneOpen (procs ++ child_proc parent child nodes ∷ []) }
+    ensures ended { (pid : ℕ) (status : ℕ) (procs : List Proc) → NoneOpen procs → NoneOpen (ended pid status procs) }
+    ensures waited { (answer : Reaped) (procs : List Proc) → NoneOpen procs → NoneOpen (after_wait answer procs) }
+    ensures remembers { (pid : ℕ) (nodes : List (Option ℕ)) (procs : List Proc)
+        → NoneOpen procs → NoneOpen (map (with_nodes pid nodes) procs) }
+    ensures replaced { (pid : ℕ) (now : Proc) (procs : List Proc)
+        → now.descriptors ≡ no_descriptors → NoneOpen procs → NoneOpen (map (replaced pid now) procs) }
 {}

@@ -6,6 +6,7 @@ ghost use Rattle.kabi_values.specs.declared.classes.Class.TheVariants as class;
 ghost use Rattle.kabi_types.specs.declared.scripts.Script.{Script};
 ghost use Rattle.kheap_shelves.specs.Counts.{with_count};
 ghost use Rattle.kheap_shelves.specs.Objects.{object, InUse};
+ghost use Rattle.kheap_shelves.specs.declared.objects.Proc.{Proc as HeldProc};
 ghost use Rattle.kheap_slabs.specs.Heap.{Heap, live_bytes, Makes};
 ghost use Rattle.kheap_slabs.specs.Owners.{Owners, IsOwned};
 ghost use Rattle.kheap_slabs.specs.Paid.{CanPay, IsPaid, PaysExactly, TakesNothing};
@@ -15,8 +16,9 @@ ghost use Rattle.posix_defs.specs.Process.{Table};
 ghost use Rattle.posix_defs.specs.Memory.{Frames, after_clear, boot_frames};
 ghost use Rattle.proc_table.specs.Accounting.{HasAccount, forked_account};
 ghost use Rattle.proc_table.specs.Changes.{after_wait, cleared, ended, forked_as, child_proc, is_alone, is_full_at, is_other, is_wanted, left_behind, reaped_of, told_of, verdict};
-ghost use Rattle.proc_table.specs.Moves.{IsAdded, IsForked, MemoryStays, TableMoves};
-ghost use Rattle.proc_table.specs.Procs.{HasEnded, IsAlive, first_proc, proc_of, target_of};
+ghost use Rattle.open_laws.specs.Sharing.{CanShare, share_all};
+ghost use Rattle.proc_table.specs.Moves.{IsAdded, IsForked, MemoryStays, TableMoves, sharing};
+ghost use Rattle.proc_table.specs.Procs.{HasClosed, HasEnded, IsAlive, first_proc, proc_of, target_of};
 ghost use Rattle.proc_table.specs.Standing.{IsTable, answered_by, cleared_in, ends_in, forked_in, found_in, waited_in};
 ghost use Rattle.proc_table.specs.Table.{AreBetween, AreStored, Holds, key_of, key_of_target, no_table, objects_after, places_kept, processes};
 
@@ -24,6 +26,7 @@ use crate::children::{INIT, is_wanted, judge, leave_one};
 use crate::places::{Listed, MOST, find, find_target, others};
 use crate::reaped::Reaped;
 use arrayvec::ArrayVec;
+use desc_table::share_descs;
 use kabi_types::{Class, Control, Errno};
 use kheap_shelves::{Proc, Purse};
 use kheap_slabs::KHeap;
@@ -165,7 +168,8 @@ impl ProcTable {
         });
     }
 
-    /// Makes a child of a process, and answers its pid, the one behind the last. It is what its parent is, its memory too.
+    /// Makes a child of a process, and answers its pid, the one behind the last. It is what its parent is, its memory too, and
+    /// has the same descriptors open: each description counts those that name it once more.
     ///
     /// EAGAIN where 64 processes are there, alive or ended and not waited for, or where the last pid is 4294967295; nothing is
     /// changed then.
@@ -177,12 +181,16 @@ impl ProcTable {
         requires room { CanPay heap.old purse.old }
         requires left_proc { 0 < purse.old.left.proc }
         requires left_nodes { 4 ≤ purse.old.left.node }
+        requires shares { (parent : HeldProc) → proc_of (processes heap.old self.old) pid ≡ Some parent
+            → CanShare heap.old.descs parent.descriptors }
         ensures answer { result ≡ forked_as (length self.old.listed) self.old.last }
         ensures child { IfOk result (λ child. IsForked heap.old self.old heap.new self.new pid child) }
         ensures unchanged { OnErr result ((heap.new ≡ heap.old) × (self.new ≡ self.old) × (purse.new ≡ purse.old)) }
         ensures table { (table : Table) → IsTable heap.old self.old table → IsTable heap.new self.new (forked_in table pid result) }
         ensures account { (frames : Frames) → HasAccount heap.old self.old frames → HasAccount heap.new self.new (forked_account frames pid result) }
-        ensures moves { TableMoves heap.old self.old heap.new self.new }
+        ensures moves { TableMoves (sharing heap.old heap.new) self.old heap.new self.new }
+        ensures shared { OnOk result ((parent : HeldProc) → proc_of (processes heap.old self.old) pid ≡ Some parent
+            → heap.new.descs ≡ share_all heap.old.descs parent.descriptors) }
         ensures paid { IsPaid heap.old purse.old heap.new purse.new }
         ensures exact { PaysExactly class.Node heap.old purse.old heap.new purse.new }
         ensures spent { OnOk result (purse.new ≡ record purse.old {
@@ -195,6 +203,7 @@ impl ProcTable {
         match self.proc(heap, pid) {
             Some(parent) => {
                 let parent = *parent;
+                share_descs(heap, &parent.descriptors);
                 let space = Space::fork_from(heap, purse, &Space::of(parent.nodes));
                 self.add_child(heap, purse, &parent, &space);
                 Ok(self.last)
@@ -277,6 +286,7 @@ impl ProcTable {
     pub fn end(&mut self, heap: &mut KHeap, pid: u32, status: u16)
         requires holds { Holds heap.old self.old }
         requires alive { IsAlive (processes heap.old self.old) pid }
+        requires closed { HasClosed (processes heap.old self.old) pid }
         ensures last { self.new.last ≡ self.old.last }
         ensures ended { processes heap.new self.new ≡ ended pid status (processes heap.old self.old) }
         ensures memory { MemoryStays heap.old heap.new (filter (is_other pid) (processes heap.old self.old)) }

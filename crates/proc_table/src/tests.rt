@@ -2,6 +2,7 @@
 
 ghost use Rattle.std.specs.Prelude.{◌≡◌, ◌-◌, ◌<◌, ◌≤◌, true, IfOk};
 ghost use Rattle.kheap_slabs.specs.Paid.{CanPay};
+ghost use Rattle.proc_table.specs.Opening.{HoldsBare};
 ghost use Rattle.proc_table.specs.Procs.{IsAlive};
 ghost use Rattle.proc_table.specs.Table.{Holds, processes};
 
@@ -16,7 +17,7 @@ use std::test::Fail;
 
 // A heap with the first process.
 fn booted(alloc: Global) -> Result<(KHeap, ProcTable), Memory>
-    ensures { IfOk result (λ made. Holds made.0 made.1) }
+    ensures { IfOk result (λ made. HoldsBare made.0 made.1) }
 {
     let mut heap = KHeap::boot(alloc, 65536)?;
     let table = ProcTable::boot(&mut heap);
@@ -57,13 +58,13 @@ fn is_alive(heap: &KHeap, table: &ProcTable, pid: u32) -> bool
 
 // Maps pages of a live process, as a crate above the table does: its space is taken in hand and put back.
 fn map(heap: &mut KHeap, purse: &mut Purse, table: &ProcTable, pid: u32, pages: u32) -> i64
-    requires holds { Holds heap.old table.now }
+    requires bare { HoldsBare heap.old table.now }
     requires alive { IsAlive (processes heap.old table.now) pid }
     requires some { 0 < pages }
     requires few { pages ≤ 64 }
     requires room { CanPay heap.old purse.old }
     requires left { 4 ≤ purse.old.left.node }
-    ensures { Holds heap.new table.now }
+    ensures { HoldsBare heap.new table.now }
 {
     match table.key_of(pid) {
         Some(key) => {
@@ -75,6 +76,44 @@ fn map(heap: &mut KHeap, purse: &mut Purse, table: &ProcTable, pid: u32, pages: 
         }
         None => unreachable!(),
     }
+}
+
+// A fork, where nothing is open.
+fn fork(heap: &mut KHeap, purse: &mut Purse, table: &mut ProcTable, pid: u32) -> Result<u32, Errno>
+    requires bare { HoldsBare heap.old table.old }
+    requires alive { IsAlive (processes heap.old table.old) pid }
+    requires room { CanPay heap.old purse.old }
+    requires proc { 0 < purse.old.left.proc }
+    requires nodes { 4 ≤ purse.old.left.node }
+    ensures { HoldsBare heap.new table.new }
+{
+    table.fork(heap, purse, pid)
+}
+
+// A process without memory.
+fn clear(heap: &mut KHeap, table: &mut ProcTable, pid: u32)
+    requires bare { HoldsBare heap.old table.old }
+    requires alive { IsAlive (processes heap.old table.old) pid }
+    ensures { HoldsBare heap.new table.new }
+{
+    table.clear_memory(heap, pid);
+}
+
+// An end, where nothing is open.
+fn end(heap: &mut KHeap, table: &mut ProcTable, pid: u32, status: u16)
+    requires bare { HoldsBare heap.old table.old }
+    requires alive { IsAlive (processes heap.old table.old) pid }
+    ensures { HoldsBare heap.new table.new }
+{
+    table.end(heap, pid, status);
+}
+
+// A wait, where nothing is open.
+fn wait(heap: &mut KHeap, table: &mut ProcTable, pid: u32, which: i64) -> Reaped
+    requires { HoldsBare heap.old table.old }
+    ensures { HoldsBare heap.new table.new }
+{
+    table.wait(heap, pid, which)
 }
 
 // A call on the table.
@@ -93,14 +132,14 @@ enum Step {
 // What a step answers: a fork the child's pid, or -1; a map its first page; a wait the child's pid and status, 0 where it goes
 // on waiting and -1 where there is no child.
 fn take(rt: &impl Abort, heap: &mut KHeap, table: &mut ProcTable, step: &Step) -> (i64, u16)
-    requires { Holds heap.old table.old }
-    ensures { Holds heap.new table.new }
+    requires { HoldsBare heap.old table.old }
+    ensures { HoldsBare heap.new table.new }
 {
     match step {
         Step::Fork(pid) => {
             let mut pay = purse(rt, heap);
             assert!(rt; is_alive(heap, table, *pid));
-            let child = table.fork(heap, &mut pay, *pid);
+            let child = fork(heap, &mut pay, table, *pid);
             (child.map_or(-1, |pid| i64::from(pid)), 0)
         }
         Step::Map(pid, pages) => {
@@ -110,15 +149,15 @@ fn take(rt: &impl Abort, heap: &mut KHeap, table: &mut ProcTable, step: &Step) -
         }
         Step::Clear(pid) => {
             assert!(rt; is_alive(heap, table, *pid));
-            table.clear_memory(heap, *pid);
+            clear(heap, table, *pid);
             (0, 0)
         }
         Step::End(pid, status) => {
             assert!(rt; is_alive(heap, table, *pid));
-            table.end(heap, *pid, *status);
+            end(heap, table, *pid, *status);
             (0, 0)
         }
-        Step::Wait(pid, which) => match table.wait(heap, *pid, *which) {
+        Step::Wait(pid, which) => match wait(heap, table, *pid, *which) {
             Reaped::Took { pid, status } => (i64::from(pid), status),
             Reaped::Nobody => (0, 0),
             Reaped::NoChild => (-1, 0),
@@ -131,7 +170,7 @@ type Row = (Step, i64, u16, u64);
 
 // Whether all rows are answered as they say, one after another.
 fn are_answered(rt: &impl Abort, heap: &mut KHeap, table: &mut ProcTable, rows: &[Row]) -> bool
-    requires { Holds heap.old table.old }
+    requires { HoldsBare heap.old table.old }
 {
     for (step, first, second, live) in rows {
         let got = take(rt, heap, table, step);
@@ -199,9 +238,9 @@ fn families_come_and_go(rt: HostRuntime) -> Result<(), Fail> {
 
 // Makes children of the first process until there are so many.
 fn fill(rt: &impl Abort, heap: &mut KHeap, table: &mut ProcTable, count: u32)
-    requires holds { Holds heap.old table.old }
+    requires holds { HoldsBare heap.old table.old }
     requires few { count ≤ 64 }
-    ensures { Holds heap.new table.new }
+    ensures { HoldsBare heap.new table.new }
 {
     for child in 2..count + 1 {
         let made = take(rt, heap, table, &Step::Fork(1));
@@ -220,7 +259,7 @@ const CROWD: &[Row] = &[
 
 // Whether a table that 64 processes fill answers so.
 fn is_filled(rt: &impl Abort, heap: &mut KHeap, table: &mut ProcTable) -> bool
-    requires { Holds heap.old table.old }
+    requires { HoldsBare heap.old table.old }
 {
     fill(rt, heap, table, 64);
     heap.live() == 32768 && table.last_pid() == 64 && are_answered(rt, heap, table, CROWD)
@@ -265,7 +304,7 @@ fn are_told(heap: &KHeap, table: &ProcTable, rows: &[Kill]) -> bool
 
 // Whether the rows hold where process 2 lives and 3 has ended.
 fn are_struck(rt: &impl Abort, heap: &mut KHeap, table: &mut ProcTable) -> bool
-    requires { Holds heap.old table.old }
+    requires { HoldsBare heap.old table.old }
 {
     fill(rt, heap, table, 3);
     take(rt, heap, table, &Step::End(3, 0)) == (0, 0) && are_told(heap, table, KILLS)

@@ -29,8 +29,10 @@ use Rattle.posix_defs.specs.declared.turner.Turned.TheVariants.{Done}
 use Rattle.prog_ctl.specs.Runnable.{Rests, Stands}
 use Rattle.proc_table.specs.Accounting.{HasAccount}
 use Rattle.proc_table.specs.Changes.{child_proc, forked_as, is_full_at, replaced}
-use Rattle.proc_table.specs.Moves.{IsForked, TableMoves}
-use Rattle.proc_table.specs.Procs.{proc_of}
+use Rattle.open_laws.specs.Sharing.{share_all}
+use Rattle.proc_table.specs.Moves.{IsForked, TableMoves, sharing}
+use Rattle.proc_table.specs.Procs.{NoneOpen, proc_of}
+use Rattle.proc_table.proofs.OpenLemmas.{bare_forked, bare_moves}
 use Rattle.proc_table.specs.Standing.{IsTable, answered_fork, forked_in}
 use Rattle.proc_table.specs.Table.{TableView}
 use Rattle.proc_table.proofs.AccountLemmas.{pids_within}
@@ -114,6 +116,12 @@ number_of there last child is = go (is_full_at there last) is
 abbrev pub forked_world : Script → World → ℕ → World
 forked_world script world pid = record world { plain = with_child script world.plain pid; account = with_frames world.account (after_fork world.account.frames pid) }
 
+-- nothing was shared where nobody has a descriptor open
+pub moved_bare : (old mid : Objects) (pid : ℕ) (control : Control) → NoneOpen (procs_of old) → Runs old pid control → TableMoves (sharing old.heap mid.heap) old.procs mid.heap mid.procs
+    → ((parent : Proc) → proc_of (procs_of old) pid ≡ Some parent → mid.heap.descs ≡ share_all old.heap.descs parent.descriptors) → TableMoves old.heap old.procs mid.heap mid.procs
+moved_bare old mid pid control bare runs moves shared =
+    bare_moves old.heap mid.heap old.procs mid.procs pid runs.proc runs.found bare (shared runs.proc runs.found) moves
+
 -- The table has made a child.
 module _ (script : Script) (old mid : Objects) (pid child : ℕ) (control : Control) (kept : AreKept script old) (runs : Runs old pid control)
     (moves : TableMoves old.heap old.procs mid.heap mid.procs) (forked : IsForked old.heap old.procs mid.heap mid.procs pid child) where
@@ -132,6 +140,7 @@ module _ (script : Script) (old mid : Objects) (pid child : ℕ) (control : Cont
       (subst (AreAtCalls script) (sym forked.processes_are)
       (all_append (λ proc. proc.status ≡ None → IsAtCall script proc) (procs_of old) (child_proc forked.parent child forked.nodes ∷ []) kept.calls
       ((λ up. record { stands = at_call.stands; rests = at_call.rests }), tt)))
+      (subst NoneOpen (sym forked.processes_are) (bare_forked pid child forked.nodes forked.parent (procs_of old) forked.parent_is kept.bare))
 
   pub child_there : is_some (proc_of (procs_of mid) child) ≡ true
   child_there =

@@ -28,7 +28,8 @@ use Rattle.kern_laws.proofs.Nexts.{AnswerGoes, posix_goes}
 use Rattle.proc_table.specs.Accounting.{HasAccount}
 use Rattle.proc_table.specs.Changes.{after_wait, is_other, reaped_of}
 use Rattle.proc_table.specs.Moves.{TableMoves}
-use Rattle.proc_table.specs.Procs.{HasEnded, proc_of}
+use Rattle.proc_table.specs.Procs.{HasEnded, NoneOpen, proc_of}
+use Rattle.proc_table.proofs.OpenLemmas.{bare_waited}
 use Rattle.proc_table.specs.Standing.{IsTable, answered_wait, waited_in}
 use Rattle.proc_table.specs.declared.reaped.Reaped.{Reaped}
 use Rattle.proc_table.specs.declared.reaped.Reaped.TheVariants.{NoChild, Nobody, Took}
@@ -67,6 +68,7 @@ kept_waited script old mid told kept moves procs =
     kept_on script old mid kept moves
     (subst (AllByRecursion (λ proc. length proc.nodes ≡ 4)) (sym procs) (all_waited (λ proc. length proc.nodes ≡ 4) told (procs_of old) kept.groups))
     (subst (AreAtCalls script) (sym procs) (all_waited (λ proc. proc.status ≡ None → IsAtCall script proc) told (procs_of old) kept.calls))
+    (subst NoneOpen (sym procs) (bare_waited told (procs_of old) kept.bare))
 
 -- who is found then was found
 was_found : (told : Reaped) (procs : List Proc) (q : ℕ) (it : Proc) → proc_of (after_wait told procs) q ≡ Some it → proc_of procs q ≡ Some it

@@ -37,7 +37,7 @@ use Rattle.prog_ctl.specs.Runnable.{Rests, Stands}
 use Rattle.proc_table.specs.Accounting.{HasAccount}
 use Rattle.proc_table.specs.Changes.{replaced}
 use Rattle.proc_table.specs.Moves.{TableMoves}
-use Rattle.proc_table.specs.Procs.{first_proc, proc_of}
+use Rattle.proc_table.specs.Procs.{NoneOpen, first_proc, proc_of}
 use Rattle.proc_table.specs.Standing.{IsTable}
 use Rattle.proc_table.specs.Table.{no_table, processes}
 use Rattle.proc_table.proofs.LawLemmas.{on-account, on-moves, on-procs, on-table}
@@ -233,6 +233,7 @@ boot_kept script objects control booted stands rests = record {
   calls = subst (AreAtCalls script) (sym booted.first) ((λ up. record { stands = stands; rests = rests }), tt);
   opens = booted.opens;
   queues = booted.queues;
+  bare = subst NoneOpen (sym booted.first) (refl, tt);
   caches = booted.caches;
   size = booted.size;
 }

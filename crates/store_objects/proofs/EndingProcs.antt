@@ -8,7 +8,8 @@ use Rattle.kheap_shelves.specs.declared.objects.Proc.{Proc}
 use Rattle.prog_ctl.specs.Runnable.{Rests, Stands}
 use Rattle.proc_table.specs.Changes.{cleared, ended, is_alone, is_other, left_behind, left_by, left_child}
 use Rattle.proc_table.specs.Moves.{TableMoves}
-use Rattle.proc_table.specs.Procs.{no_nodes, proc_of}
+use Rattle.proc_table.specs.Procs.{NoneOpen, no_nodes, proc_of}
+use Rattle.proc_table.proofs.OpenLemmas.{bare_ended}
 use Rattle.proc_table.proofs.FamilyLemmas.{left_pid}
 use Rattle.proc_table.proofs.OwnLemmas.{AreRising, all_filter, all_filter_map}
 use Rattle.proc_table.proofs.PlaceLemmas.{eqb_other, eqb_same, some_same}
@@ -77,6 +78,7 @@ kept_ended script old new pid status kept moves is =
     (all_ended (λ proc. length proc.nodes ≡ 4) pid status (procs_of old) (record { cleared = λ proc four. refl; moved = λ proc four. four; over = λ proc four. four }) kept.groups))
     (subst (AreAtCalls script) (sym is)
     (all_ended (λ proc. proc.status ≡ None → IsAtCall script proc) pid status (procs_of old) calls kept.calls))
+    (subst NoneOpen (sym is) (bare_ended pid status (procs_of old) kept.bare))
   where
     here : (proc now : Proc) → now.control ≡ proc.control → IsAtCall script proc → IsAtCall script now
     here proc now same at = record { stands = subst (λ control. Stands script control) (sym same) at.stands; rests = subst (λ control. Rests script control) (sym same) at.rests }

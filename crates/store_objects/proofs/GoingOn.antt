@@ -16,7 +16,8 @@ use Rattle.posix_defs.specs.World.{World}
 use Rattle.prog_ctl.specs.Runnable.{Rests, Stands}
 use Rattle.proc_table.specs.Changes.{replaced}
 use Rattle.proc_table.specs.Moves.{TableMoves}
-use Rattle.proc_table.specs.Procs.{proc_of}
+use Rattle.proc_table.specs.Procs.{NoneOpen, no_descriptors, proc_of}
+use Rattle.proc_table.proofs.OpenLemmas.{bare_replaced}
 use Rattle.proc_table.specs.Accounting.{HasAccount}
 use Rattle.proc_table.specs.Standing.{IsTable}
 use Rattle.proc_table.specs.Table.{processes}
@@ -116,6 +117,7 @@ kept_moved script old new pid control kept moves stands rests =
     kept_on script old new kept (moves_then script old new pid control kept moves)
     (subst (AllByRecursion (λ proc. length proc.nodes ≡ 4)) (sym procs) (all_replaced (λ proc. length proc.nodes ≡ 4) (procs_of old) pid now kept.groups (has_it (λ proc. length proc.nodes ≡ 4) (procs_of old) pid moves.proc kept.groups moves.found)))
     (subst (AreAtCalls script) (sym procs) (all_replaced (λ proc. proc.status ≡ None → IsAtCall script proc) (procs_of old) pid now kept.calls (λ up. record { stands = stands; rests = rests })))
+    (subst NoneOpen (sym procs) (bare_replaced pid now (procs_of old) (has_it (λ proc. proc.descriptors ≡ no_descriptors) (procs_of old) pid moves.proc kept.bare moves.found) kept.bare))
 
 -- The objects stand for the world in which it goes on behind its call: its control is the new one, those of all others are what
 -- they were.

@@ -8,6 +8,7 @@ use Rattle.kheap_slabs.specs.Keys.{AreKeysOf, IsOnce}
 use Rattle.kheap_laws.proofs.KeyLemmas.{AreKeysOf-changes}
 use Rattle.kheap_laws.proofs.OnceLemmas.{IsOnce-cons}
 use Rattle.proc_table.specs.Moves.{TableMoves}
+use Rattle.proc_table.specs.Procs.{NoneOpen}
 use Rattle.proc_table.specs.Table.{AreBetween, AreStored, keys_of}
 use Rattle.proc_table.specs.declared.places.Listed.{Listed}
 use Rattle.proc_table.proofs.PlaceLemmas.{Contains-cases, IsAt, Misses, Misses-lower, stored_is}
@@ -49,15 +50,16 @@ all_on old new all moves =
     (λ key there. keys_used new.heap.procs new.procs.listed key moves.holds.stored there)
     (keys_once new.heap.procs new.procs.listed 0 new.procs.last moves.holds.stored moves.holds.rising))
 
--- The objects are kept where the table moves on, and each process has four groups and stands at its call.
+-- The objects are kept where the table moves on, each process has four groups and stands at its call, and none has a descriptor open.
 pub kept_on : (script : Script) (old new : Objects) → AreKept script old → TableMoves old.heap old.procs new.heap new.procs
-    → AllByRecursion (λ proc. length proc.nodes ≡ 4) (procs_of new) → AreAtCalls script (procs_of new) → AreKept script new
-kept_on script old new kept moves groups calls = record {
+    → AllByRecursion (λ proc. length proc.nodes ≡ 4) (procs_of new) → AreAtCalls script (procs_of new) → NoneOpen (procs_of new) → AreKept script new
+kept_on script old new kept moves groups calls bare = record {
   holds = moves.holds;
   all = all_on old new kept.all moves;
   owned = moves.owners no_owners kept.owned;
   groups = groups;
   calls = calls;
+  bare = bare;
   opens = opens_on old.heap new.heap (ap (λ h. h.descs) moves.kept) kept.opens;
   queues = queues_on old.heap new.heap (ap (λ h. h.pipes) moves.kept) (ap (λ h. h.chunks) moves.kept) (ap (λ h. h.socks) moves.kept) kept.queues;
   caches = caches_on old.heap new.heap script.disk (ap (λ h. h.vnodes) moves.kept) (ap (λ h. h.names) moves.kept) (ap (λ h. h.blocks) moves.kept) kept.caches;

@@ -32,6 +32,7 @@ kept_marked script objects high marks kept = record {
   calls = kept.calls;
   opens = opens_on objects.heap (marked_as objects high marks).heap refl kept.opens;
   queues = queues_on objects.heap (marked_as objects high marks).heap refl refl refl kept.queues;
+  bare = kept.bare;
   caches = caches_on objects.heap (marked_as objects high marks).heap script.disk refl refl refl kept.caches;
   size = kept.size;
 }

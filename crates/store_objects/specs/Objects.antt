@@ -13,7 +13,7 @@ use Rattle.posix_defs.specs.DiskContents.{new_root}
 use Rattle.posix_defs.specs.Plain.{root}
 use Rattle.kheap_slabs.specs.Paid.{TakesNothing}
 use Rattle.proc_table.specs.Moves.{ProcTurns}
-use Rattle.proc_table.specs.Procs.{proc_of}
+use Rattle.proc_table.specs.Procs.{NoneOpen, proc_of}
 use Rattle.proc_table.specs.Table.{Holds, keys_of, processes, with_procs}
 use Rattle.prog_ctl.specs.Runnable.{Rests, Stands}
 use Rattle.store_objects.specs.declared.objects.Objects.{Objects}
@@ -89,13 +89,14 @@ pub record CachesRootAlone (h : Heap) (disk : ℕ) : Type 0 where
   pub blocks : count h.blocks ≡ 0
 
 -- What the objects of a store keep, whatever they stand for: the table has every process that is in the heap, their spaces
--- own all nodes, and of the rest the root's vnode alone is there. Who runs stands at its next call.
+-- own all nodes, no descriptor is open, and of the rest the root's vnode alone is there. Who runs stands at its next call.
 pub record AreKept (script : Script) (objects : Objects) : Type 0 where
   pub holds : Holds objects.heap objects.procs
   pub all : AreKeysOf objects.heap.procs (keys_of objects.procs.listed)
   pub owned : IsOwned objects.heap (with_procs (procs_of objects) no_owners)
   pub groups : AllByRecursion (λ proc. length proc.nodes ≡ 4) (procs_of objects)
   pub calls : AreAtCalls script (procs_of objects)
+  pub bare : NoneOpen (procs_of objects)
   pub opens : HasNothingOpen objects.heap
   pub queues : HasNoQueue objects.heap
   pub caches : CachesRootAlone objects.heap script.disk

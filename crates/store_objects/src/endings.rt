@@ -8,7 +8,7 @@ ghost use Rattle.posix_defs.specs.Process.{Table};
 ghost use Rattle.posix_defs.specs.Sizes.{reserve};
 ghost use Rattle.posix_defs.specs.World.{World};
 ghost use Rattle.proc_table.specs.Accounting.{HasAccount};
-ghost use Rattle.proc_table.specs.Procs.{IsAlive};
+ghost use Rattle.proc_table.specs.Procs.{IsAlive, NoneOpen};
 ghost use Rattle.proc_table.specs.Standing.{IsTable, ends_from};
 ghost use Rattle.proc_table.specs.Table.{Holds};
 ghost use Rattle.store_objects.specs.Endings.{ClearsSome, IsLowestBehind};
@@ -41,6 +41,7 @@ fn live_behind(objects: &Objects, pid: u32) -> Option<u32>
 /// Ends all that run behind the first process, by rising pid.
 fn end_others(objects: &mut Objects)
     requires holds { Holds objects.old.heap objects.old.procs }
+    requires bare { NoneOpen (procs_of objects.old) }
     ensures uses { UsesAtMost objects.old.heap objects.new.heap 0 reserve }
     ensures kept { (script : Script) → AreKept script objects.old → AreKept script objects.new }
     ensures last { objects.new.procs.last ≡ objects.old.procs.last }
@@ -60,6 +61,7 @@ fn end_others(objects: &mut Objects)
 pub fn end(objects: &mut Objects, pid: u32, status: u16)
     requires holds { Holds objects.old.heap objects.old.procs }
     requires alive { IsAlive (procs_of objects.old) pid }
+    requires bare { NoneOpen (procs_of objects.old) }
     ensures kept { (script : Script) → AreKept script objects.old → AreKept script objects.new }
     ensures uses { UsesAtMost objects.old.heap objects.new.heap 0 reserve }
     ensures others { pid ≢ 1 → (other : ℕ) (control : Control) → other ≢ pid → Runs objects.old other control → Runs objects.new other control }

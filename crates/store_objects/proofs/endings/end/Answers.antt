@@ -1,8 +1,18 @@
+use Rattle.std.proofs.Common.{subst, sym}
 use Rattle.posix_defs.specs.Sizes.{reserve}
+use Rattle.proc_table.specs.Procs.{NoneOpen}
+use Rattle.proc_table.proofs.OpenLemmas.{bare_closed, bare_ended}
+use Rattle.store_objects.specs.Objects.{procs_of}
 use Rattle.store_objects.proofs.Dying.{dies_other, dies_with_all}
 use Rattle.store_objects.proofs.EndingProcs.{kept_ended, runs_ended}
 use Rattle.store_objects.proofs.Paying.{uses_nothing, uses_then}
 use Rattle.store_objects.proofs.endings.end.Goals as goal
+
+pub end-requires-clause-closed : goal.end-requires-clause-closed
+end-requires-clause-closed c = bare_closed c.args.pid (procs_of c.args.objects.now) c.requires.bare
+
+pub end_others-requires-clause-bare : goal.end_others-requires-clause-bare
+end_others-requires-clause-bare c = subst NoneOpen (sym c.end.ensures.ended) (bare_ended c.args.pid c.args.status (procs_of c.args.objects.now) c.requires.bare)
 
 pub returns-then-pid-eq-INIT-clause-kept : goal.returns-then-pid-eq-INIT-clause-kept
 returns-then-pid-eq-INIT-clause-kept c = λ script kept.
