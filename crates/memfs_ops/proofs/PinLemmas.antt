@@ -66,10 +66,10 @@ pins_pinned pins objects cache number keeps has at = record {
     | inr differs ↦
         let here : object objects s ≡ Some v = sym (object-put_other objects at.slot s now differs) ∙ there in
         let unlike : number ≢ v.number = λ e.
-            let other : node_slot cache number ≡ Some s = keeps.kept.only number s (ap (option_map (λ (x : Vnode). x.number)) here ∙ ap Some (sym e)) in
-            let both : Some s ≡ Some at.slot = sym other ∙ at.there in
-            let one : s ≡ at.slot = cc in
-            differs one
+        let other : node_slot cache number ≡ Some s = keeps.kept.only number s (ap (option_map (λ (x : Vnode). x.number)) here ∙ ap Some (sym e)) in
+        let both : Some s ≡ Some at.slot = sym other ∙ at.there in
+        let one : s ≡ at.slot = cc in
+        differs one
         in
         has.each s v here ∙ sym (one_more_there pins number v.number unlike)
   ];
@@ -79,9 +79,9 @@ pins_pinned pins objects cache number keeps has at = record {
         let less : 0 < pins other = subst (λ (n : ℕ). 0 < n) (one_more_there pins number other unlike) some in
         let there = has.held other less in
         let differs : there.0 ≢ at.slot = λ e.
-            let both : Some there.1 ≡ Some at.vnode = sym there.2 ∙ ap (object objects) e ∙ at.is in
-            let one : there.1 ≡ at.vnode = cc in
-            unlike (sym at.named ∙ ap (λ (v : Vnode). v.number) (sym one) ∙ there.3)
+        let both : Some there.1 ≡ Some at.vnode = sym there.2 ∙ ap (object objects) e ∙ at.is in
+        let one : there.1 ≡ at.vnode = cc in
+        unlike (sym at.named ∙ ap (λ (v : Vnode). v.number) (sym one) ∙ there.3)
         in
         (there.0, there.1, object-put_other objects at.slot there.0 now differs ∙ there.2, there.3)
   ];

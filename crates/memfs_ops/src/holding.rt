@@ -7,7 +7,7 @@ ghost use Rattle.posix_defs.specs.Paths.{resolve};
 ghost use Rattle.posix_defs.specs.Tree.{Tree, is_directory as directory_in, is_in_use};
 ghost use Rattle.vnode_cache.specs.Nodes.{node_slot};
 ghost use Rattle.vnode_cache.specs.Calls.{NodeSet};
-ghost use Rattle.memfs_ops.specs.FileTree.{Stands, MayWalk, Pays, KeepsLed, one_more};
+ghost use Rattle.memfs_ops.specs.FileTree.{Stands, MayWalk, Pays, KnowsWay, KeepsLed, in_call, one_more};
 
 use crate::FileTree;
 use crate::telling::{is_directory, node_led};
@@ -37,6 +37,9 @@ impl FileTree {
             → MatchResult result (λ number. Stands heap.new self.new tree (one_more pins number))
             (λ _. Stands heap.new self.new tree pins) }
         ensures pays { Pays heap.old heap.new purse.old purse.new self.old self.new }
+        ensures saved { (tree : Tree) (pins : ℕ → ℕ) → Stands heap.old self.old tree pins
+            → KnowsWay (in_call heap.old purse.old self.old) tree cwd path.now
+            → self.new.disk ≡ self.old.disk }
         ensures kept { (tree : Tree) (pins : ℕ → ℕ) → Stands heap.old self.old tree pins
             → KeepsLed self.new (resolve tree cwd path.now) }
     {
@@ -47,12 +50,7 @@ impl FileTree {
     }
 
     // The same of a node that a path led to.
-    fn enter_node(
-        &mut self,
-        heap: &mut KHeap,
-        purse: &mut Purse,
-        number: u32,
-    ) -> Result<u32, Errno>
+    fn enter_node(&mut self, heap: &mut KHeap, purse: &mut Purse, number: u32) -> Result<u32, Errno>
         requires stands { (tree : Tree) × (pins : ℕ → ℕ) × Stands heap.old self.old tree pins
             × (is_in_use tree number ≡ true) × (pins number < 4294967295) }
         requires may { MayWalk heap.old purse.old }
@@ -62,6 +60,7 @@ impl FileTree {
             → MatchResult result (λ node. Stands heap.new self.new tree (one_more pins node))
             (λ _. Stands heap.new self.new tree pins) }
         ensures pays { Pays heap.old heap.new purse.old purse.new self.old self.new }
+        ensures saved { IsSome (node_slot self.old.vnodes number) → self.new.disk ≡ self.old.disk }
         ensures kept { IsSome (node_slot self.new.vnodes number) }
         ensures names { self.new.names ≡ self.old.names }
     {

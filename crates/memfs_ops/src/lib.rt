@@ -6,6 +6,7 @@
 
 mod evicting;
 mod file_tree;
+mod held;
 mod holding;
 mod telling;
 

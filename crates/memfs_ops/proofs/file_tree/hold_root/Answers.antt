@@ -1,4 +1,4 @@
-use Rattle.std.proofs.Common.{◌≡◌, ap}
+use Rattle.std.proofs.Common.{ap}
 use Rattle.kheap_shelves.specs.Purse.{Purse}
 use Rattle.memfs_ops.proofs.BootLemmas.{root_kept}
 use Rattle.memfs_ops.proofs.file_tree.hold_root.Goals as goal

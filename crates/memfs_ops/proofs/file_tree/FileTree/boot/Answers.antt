@@ -1,4 +1,4 @@
-use Rattle.std.proofs.Common.{◌≡◌, ℕ, ◌/◌, ◌≤◌, length, min, refl, sym, ap, ◌∙◌, subst, arith}
+use Rattle.std.proofs.Common.{◌≡◌, ℕ, length, ap, ◌∙◌, subst, arith}
 use Rattle.kabi_values.specs.declared.inodes.Inode.{Inode}
 use Rattle.lru_index.specs.Order.{Order}
 use Rattle.lru_index.specs.declared.keys.NameKey.{NameKey}

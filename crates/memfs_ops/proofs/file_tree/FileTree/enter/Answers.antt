@@ -1,5 +1,4 @@
-use Rattle.std.proofs.Common.{◌≡◌, ℕ, ◌+◌, Bool, true, false, not, List, IsSome, Result, Ok, Err, refl, sym, ap, ◌∙◌, subst}
-use Rattle.kabi_values.specs.declared.errnos.Errno.TheVariants.{ENOTDIR}
+use Rattle.std.proofs.Common.{IsSome, sym, ap, ◌∙◌, subst}
 use Rattle.lru_index.specs.NameKeys.{name_key}
 use Rattle.name_cache.specs.Names.{name_slot}
 use Rattle.posix_defs.specs.PathCalls as calls
@@ -7,9 +6,7 @@ use Rattle.posix_defs.specs.Paths.{IsLed, resolve}
 use Rattle.posix_defs.specs.declared.walked.Walked.{Walked}
 use Rattle.tree_laws.proofs.PathLeads.{path_led}
 use Rattle.memfs_node.proofs.Looking.{led_in_use}
-use Rattle.memfs_ops.specs.FileTree.{TreeView}
 use Rattle.memfs_ops.proofs.LookLemmas.{keeps_led, keeps_none, pays_trans}
-use Rattle.memfs_ops.proofs.PinLemmas.{pays_pinned}
 use Rattle.memfs_ops.proofs.file_tree.FileTree.enter.Goals as goal
 
 pub enter_node-requires-clause-stands : goal.enter_node-requires-clause-stands
@@ -43,3 +40,12 @@ returns-in-Err-clause-value c = λ tree pins stands.
 pub returns-in-Err-clause-kept : goal.returns-in-Err-clause-kept
 returns-in-Err-clause-kept c = λ tree pins stands.
     keeps_none c.walk.new.self (resolve tree c.args.cwd c.args.path.now) c.in-Err.errno (ap calls.node_led (sym (c.walk.ensures.resolved tree pins stands)) ∙ sym c.in-Err.ensures)
+
+pub returns-in-Ok-clause-saved : goal.returns-in-Ok-clause-saved
+returns-in-Ok-clause-saved c = λ tree pins stands known.
+    let e = ap calls.node_led (sym (c.walk.ensures.resolved tree pins stands)) ∙ sym c.in-Ok.ensures in
+    let walked = c.walk.ensures.saved tree pins stands known.0 in
+    c.enter_node.ensures.saved (subst (λ o. IsSome o) (sym (walked.nodes c.in-Ok.number)) (known.1 c.in-Ok.number e)) ∙ walked.disk
+
+pub returns-in-Err-clause-saved : goal.returns-in-Err-clause-saved
+returns-in-Err-clause-saved c = λ tree pins stands known. (c.walk.ensures.saved tree pins stands known.0).disk

@@ -1,14 +1,7 @@
-use Rattle.std.proofs.Common.{◌≡◌, ℕ, ◌+◌, Bool, true, false, not, List, IsSome, Result, Ok, Err, refl, sym, ap, ◌∙◌, subst}
+use Rattle.std.proofs.Common.{Bool, not, Ok, sym, ap, ◌∙◌}
 use Rattle.kabi_values.specs.declared.errnos.Errno.TheVariants.{ENOTDIR}
-use Rattle.lru_index.specs.NameKeys.{name_key}
-use Rattle.name_cache.specs.Names.{name_slot}
 use Rattle.posix_defs.specs.PathCalls as calls
-use Rattle.posix_defs.specs.Paths.{IsLed, resolve}
-use Rattle.posix_defs.specs.declared.walked.Walked.{Walked}
-use Rattle.tree_laws.proofs.PathLeads.{path_led}
-use Rattle.memfs_node.proofs.Looking.{led_in_use}
 use Rattle.memfs_ops.specs.FileTree.{TreeView}
-use Rattle.memfs_ops.proofs.LookLemmas.{keeps_led, keeps_none, pays_trans}
 use Rattle.memfs_ops.proofs.PinLemmas.{pays_pinned}
 use Rattle.memfs_ops.proofs.file_tree.FileTree.enter_node.Goals as goal
 
@@ -33,3 +26,9 @@ returns-then-is_directory-clause-pays c =
 pub returns-else-is_directory-clause-value : goal.returns-else-is_directory-clause-value
 returns-else-is_directory-clause-value c = λ tree pins stands.
     ap (λ (b : Bool). calls.unless (not b) ENOTDIR (Ok c.args.number)) (sym c.if-is_directory.false ∙ c.is_directory.ensures tree c.args.number (c.inode-inode.ensures.value tree pins stands))
+
+pub returns-then-is_directory-clause-saved : goal.returns-then-is_directory-clause-saved
+returns-then-is_directory-clause-saved c = λ some. ap (λ (v : TreeView). v.disk) c.hold.ensures.rest ∙ (c.inode-inode.ensures.saved some).disk
+
+pub returns-else-is_directory-clause-saved : goal.returns-else-is_directory-clause-saved
+returns-else-is_directory-clause-saved c = λ some. (c.inode-inode.ensures.saved some).disk

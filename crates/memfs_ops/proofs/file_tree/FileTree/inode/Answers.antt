@@ -1,21 +1,11 @@
-use Rattle.std.proofs.Common.{◌≡◌, ℕ, Bool, List, IsSome, Ok, refl, sym, ap, ◌∙◌, subst}
-use Rattle.std.specs.List.{AllByRecursion}
-use Rattle.posix_defs.specs.PathCalls as calls
-use Rattle.posix_defs.specs.Paths.{IsLed, resolve}
-use Rattle.posix_defs.specs.Queries.{Query, queries_of}
+use Rattle.std.proofs.Common.{IsSome, sym, ap, subst}
 use Rattle.posix_defs.specs.SoundDisk.{HasNode}
-use Rattle.posix_defs.specs.Tree.{Tree}
-use Rattle.posix_defs.specs.declared.walked.Walked.{Walked}
-use Rattle.tree_laws.proofs.PathLeads.{path_led}
-use Rattle.memfs_node.proofs.Looking.{shown, led_in_use}
+use Rattle.memfs_node.proofs.Looking.{shown}
 use Rattle.vnode_cache.specs.Nodes.{node_slot}
-use Rattle.name_cache.specs.Names.{name_slot}
-use Rattle.lru_index.specs.NameKeys.{name_key}
-use Rattle.cached_disk.specs.TreeLent.{AreReordered, IsKnown}
-use Rattle.cached_disk.proofs.QueriesInTurn.{tree_reordered_trans}
+use Rattle.cached_disk.specs.TreeLent.{AreReordered}
 use Rattle.memfs_ops.specs.FileTree.{TreeView, in_call, Stands, Looks}
 use Rattle.memfs_ops.specs.declared.file_tree.FileTree.TheInside.{Inside}
-use Rattle.memfs_ops.proofs.LookLemmas.{lent_of, stands_of, looks_of, looks_trans, keeps_led, keeps_none}
+use Rattle.memfs_ops.proofs.LookLemmas.{lent_of, stands_of, looks_of}
 use Rattle.memfs_ops.proofs.file_tree.FileTree.inode.Goals as goal
 
 abbrev view : Inside → TreeView
