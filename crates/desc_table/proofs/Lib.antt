@@ -1,1 +1,2 @@
+pub mod DropTests
 pub mod NumberLemmas

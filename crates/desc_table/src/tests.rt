@@ -1,14 +1,18 @@
 //! Descriptors by hand: the thirty-third, the lowest from a place, what `exec` closes, and a description that is shared, with
 //! the heap's bytes.
 
-ghost use Rattle.std.specs.Prelude.{◌≡◌, ◌+◌, ◌<◌, ◌≤◌, ℕ, true, IsSome};
+ghost use Rattle.std.specs.Prelude.{◌≡◌, ◌+◌, ◌<◌, ◌≤◌, ℕ, true, IfOk, IsSome};
 ghost use Rattle.kheap_shelves.specs.Objects.{InUse};
+ghost use Rattle.kheap_shelves.specs.declared.objects.Target.TheVariants as target;
 ghost use Rattle.kheap_slabs.specs.Heap.{live_bytes};
+ghost use Rattle.kheap_slabs.specs.Owners.{OwnsItsObjects};
 ghost use Rattle.posix_defs.specs.Files.Descriptors.{descriptor_at};
 
-use crate::{Descs, share_desc};
+use crate::{Descs, drop_desc, share_desc};
+use kabi_types::Memory;
 use kheap_shelves::{Access, Desc, DescFlags, Target};
 use kheap_slabs::KHeap;
+use std::alloc::Global;
 use std::process::Abort;
 use std::test::Fail;
 
@@ -85,7 +89,8 @@ fn exec_closes_by_number(rt: HostRuntime) {
 
 // A description of a file that so many descriptors name.
 fn desc_of(offset: u64, count: u32) -> Desc
-    ensures { result.count ≡ count }
+    ensures count { result.count ≡ count }
+    ensures node { result.target ≡ target.Inode 4 }
 {
     Desc {
         target: Target::Inode(4),
@@ -138,6 +143,38 @@ fn share_three_times(rt: &impl Abort, heap: &mut KHeap) -> bool
 fn a_description_counts_who_shares_it(rt: HostRuntime) -> Result<(), Fail> {
     let mut heap = KHeap::boot(rt.alloc(), 8192)?;
     assert!(rt; share_three_times(&rt, &mut heap) && heap.live() == 128 && heap.high() == 128);
+    drop(heap);
+    Ok(())
+}
+
+// A heap without objects.
+fn booted(alloc: Global) -> Result<KHeap, Memory>
+    ensures size { IfOk result (λ heap. heap.heap ≡ 65536) }
+    ensures empty { IfOk result (λ heap. live_bytes heap ≡ 0) }
+    ensures owned { IfOk result (λ heap. OwnsItsObjects heap) }
+{
+    let heap = KHeap::boot(alloc, 65536)?;
+    Ok(heap)
+}
+
+// A description of node 4 that two descriptors name loses one and then the other. The two answers, and the bytes between.
+fn drop_twice(heap: &mut KHeap) -> (Option<u32>, u64, Option<u32>)
+    requires owned { OwnsItsObjects heap.old }
+    requires room { live_bytes heap.old + 64 ≤ heap.old.heap }
+{
+    let desc = heap.insert_desc(desc_of(0, 2));
+    let first = drop_desc(heap, desc);
+    let live = heap.live();
+    let second = drop_desc(heap, desc);
+    (first, live, second)
+}
+
+/// A description goes with the last of its descriptors, and then tells the node that it was open on.
+#[test]
+fn the_last_descriptor_tells_the_node(rt: HostRuntime) -> Result<(), Fail> {
+    let mut heap = booted(rt.alloc())?;
+    let told = drop_twice(&mut heap);
+    assert!(rt; told == (None, 64, Some(4)) && heap.live() == 0);
     drop(heap);
     Ok(())
 }
