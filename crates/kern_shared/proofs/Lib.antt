@@ -7,6 +7,7 @@ pub mod Lowest
 pub mod Picking
 pub mod Pids
 pub mod Presence
+pub mod Relieved
 pub mod Runs
 pub mod Standing
 pub mod Starving
