@@ -1,5 +1,6 @@
 pub mod Behind
 pub mod OnePast
+pub mod Helping
 pub mod Holding
 pub mod Keeping
 pub mod Loops

@@ -1,8 +1,8 @@
 -- Loops over lists of processes.
-use Rattle.std.proofs.Common.{◌≡◌, ℕ, zero, suc, ◌+◌, ◌<◌, ◌&&◌, Bool, true, false, cond, List, [], ◌∷◌, ◌++◌, length, take, drop, filter, get_or, Option, Some, ap, sym, ◌∙◌, arith, append_assoc}
+use Rattle.std.proofs.Common.{◌≡◌, ℕ, zero, suc, ◌+◌, ◌<◌, ◌≤◌, ◌&&◌, Bool, true, false, cond, List, [], ◌∷◌, ◌++◌, length, take, drop, filter, get_or, Option, Some, ap, sym, ◌∙◌, arith, append_assoc}
 use Rattle.std.specs.Prelude.{nat_le}
 use Rattle.std.specs.List.{list_all}
-use Rattle.std.proofs.lemmas.List.{at_drop_more, take_more, length-take-le}
+use Rattle.std.proofs.lemmas.List.{at_drop_more, drop_all, take_more, length-take-le}
 use Rattle.std.proofs.Math.Seq.{take-append_seam, drop-append_seam}
 use Rattle.posix_defs.specs.Plain.{Plain}
 use Rattle.posix_defs.specs.Process.{is_alive}
@@ -86,3 +86,7 @@ alive_behind plain need most held place d found next all within are here rest =
     held_behind (λ pid. nat_le (need pid) most && is_alive plain.table pid) held place d found next all within
     (here ∙ ap (λ n. cond (is_below (get_or held place d).pid found && (nat_le n most && is_alive plain.table (get_or held place d).pid)) (Some (get_or held place d).pid) found)
     (need_at need held place d within are)) rest
+
+-- at the end of the search among those that are held
+pub held_end : (passes : ℕ → Bool) (held : List Held) (place : ℕ) (found all : Option ℕ) → length held ≤ place → lowest passes found (pids_of (drop place held)) ≡ all → found ≡ all
+held_end passes held place found all past rest = sym (ap (λ l. lowest passes found (pids_of l)) (drop_all place held past)) ∙ rest

@@ -1,5 +1,5 @@
 -- The kernel's value behind what frees heap, as it leaves it.
-use Rattle.std.proofs.Common.{◌≡◌, ℕ, ◌+◌, ◌-◌, ◌*◌, ◌<◌, ◌≤◌, Bool, true, false, cond, List, [], ◌∷◌, ◌++◌, length, Some, None, refl, ap, sym, ◌∙◌, subst, arith}
+use Rattle.std.proofs.Common.{◌≡◌, ℕ, ◌+◌, ◌-◌, ◌*◌, ◌<◌, ◌≤◌, ◌||◌, Bool, true, false, cond, List, [], ◌∷◌, ◌++◌, length, Some, None, refl, ap, sym, ◌∙◌, subst, arith}
 use Rattle.kabi_types.specs.declared.entries.Cached.{Cached}
 use Rattle.kabi_types.specs.declared.entries.Cached.TheVariants.{Name, Block, Vnode}
 use Rattle.kabi_types.specs.declared.entries.Entry.{Entry}
@@ -33,6 +33,29 @@ use Rattle.kern_shared.proofs.OnePast.{one_past}
 use Rattle.kern_shared.proofs.Runs.{held_up}
 use Rattle.kern_shared.proofs.Turned.{present_then}
 use Rattle.kern_shared.proofs.Turning.{behind_cleared, behind_killed}
+
+-- the first cache that can lose something can
+pub can_lose : (world : World) (what : Cached) → first_evictable world ≡ Some what → can_evict world.plain world.kept what ≡ true
+can_lose world what e = go (can_evict world.plain world.kept Name) refl (can_evict world.plain world.kept Block) refl (can_evict world.plain world.kept Vnode) refl e
+  where
+    same : (which : Cached) → can_evict world.plain world.kept which ≡ true → Some which ≡ Some what → can_evict world.plain world.kept what ≡ true
+    same which can e = subst (λ w. can_evict world.plain world.kept w ≡ true) (let is : which ≡ what = (cc) in is) can
+
+    go : (a : Bool) → can_evict world.plain world.kept Name ≡ a → (b : Bool) → can_evict world.plain world.kept Block ≡ b → (c : Bool) → can_evict world.plain world.kept Vnode ≡ c
+        → cond a (Some Name) (cond b (Some Block) (cond c (Some Vnode) None)) ≡ Some what → can_evict world.plain world.kept what ≡ true
+    go true e b f c g h = same Name e h
+    go false e true f c g h = same Block f h
+    go false e false f true g h = same Vnode g h
+    go false e false f false g h = cc
+
+pub none_lost : (world : World) → first_evictable world ≡ None → can_evict_any world ≡ false
+none_lost world e = go (can_evict world.plain world.kept Name) (can_evict world.plain world.kept Block) (can_evict world.plain world.kept Vnode) e
+  where
+    go : (a b c : Bool) → cond a (Some Name) (cond b (Some Block) (cond c (Some Vnode) None)) ≡ None → (a || b || c) ≡ false
+    go true b c h = cc
+    go false true c h = cc
+    go false false true h = cc
+    go false false false h = refl
 
 -- the caches before the first that can lose something can't
 pub nothing_before : (world : World) (what : Cached) → first_evictable world ≡ Some what → NothingBefore world what

@@ -64,3 +64,10 @@ Relieves script steps items past word (relief.Killed pid) x =
     × ((waiter : ℕ) × (need : ℕ) × (live : ℕ) × IsFirst script items past waiter × (word ≡ live + reserve) × (x ≡ Noted (entry.Killed pid waiter need live)))
 Relieves script steps items past word relief.Starved x =
     IsStuck script steps items past word × (word ≡ base past.plain past.account + size class.Vnode * pins past.plain + reserve) × (x ≡ Starved)
+
+-- what frees heap for a call that waits in vain, and the item that is passed on
+abbrev pub Frees : Past → ℕ → ℕ → ℕ → Relief → Item → Type 0
+Frees past waiter need live (relief.Evicted what) x = x ≡ Cleared what live
+Frees past waiter need live (relief.Killed pid) x = x ≡ Noted (entry.Killed pid waiter need live)
+Frees past waiter need live relief.Starved x = (live ≡ base past.plain past.account + size class.Vnode * pins past.plain) × (x ≡ Starved)
+Frees past waiter need live _ x = ⊥

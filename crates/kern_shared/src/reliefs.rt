@@ -1,5 +1,5 @@
 //! How calls that wait for room are helped, in a turn.
-ghost use Rattle.std.specs.Prelude.{◌≡◌, ℕ, ◌+◌, ◌<◌, ◌≤◌, ◌++◌, ◌∷◌, ◌&&◌, List, [], cond, length, nat_le, true, None, Some, IfSome, IsNone};
+ghost use Rattle.std.specs.Prelude.{◌≡◌, ℕ, ◌+◌, ◌<◌, ◌≤◌, ◌++◌, ◌∷◌, ◌&&◌, ◌⊎◌, List, [], cond, length, nat_le, true, None, Some, IfSome, IsNone};
 ghost use Rattle.kabi_types.specs.declared.entries.Entry.TheVariants as entry;
 ghost use Rattle.charge_words.specs.Names.{seat_of};
 ghost use Rattle.charge_words.specs.Rule.{loaded};
@@ -12,7 +12,7 @@ ghost use Rattle.turn_words.specs.declared.items.Item.{Item};
 ghost use Rattle.turn_words.specs.declared.items.Item.TheVariants as item;
 ghost use Rattle.turn_words.specs.Items.{said};
 ghost use Rattle.kern_shared.specs.Lists.{AreNeeds, is_below, lowest};
-ghost use Rattle.kern_shared.specs.Relieves.{Relieves, WaitsInVain};
+ghost use Rattle.kern_shared.specs.Relieves.{Frees, Relieves, WaitsInVain};
 ghost use Rattle.kern_shared.specs.Shared.{IsShared};
 ghost use Rattle.kern_shared.specs.Shares.{pids_of};
 
@@ -39,6 +39,14 @@ fn first_that_loses<T: Turner>(store: &T) -> Option<Cached>
     } else {
         None
     }
+}
+
+/// The lesser of two numbers.
+fn lesser(first: u64, second: u64) -> u64
+    ensures least { (result ≤ first) × (result ≤ second) }
+    ensures one { (result ≡ first) ⊎ (result ≡ second) }
+{
+    if first <= second { first } else { second }
 }
 
 /// A held process, where its call needs at most so much and it is below the one that was found before; else that one.
@@ -132,5 +140,67 @@ impl<T: Turner + Drop, L: RunName> KernelState<T, L> {
             need,
             live,
         });
+    }
+
+    /// Frees heap for a call that waits and has no room, while all that is charged is live or the reserve: something goes from a
+    /// cache, the victim is killed, or nothing helps the first process. The item is the one to pass on.
+    fn free(&mut self, word: &Charge, waiter: u32, need: u64, live: u64) -> (Relief, Item)
+        requires word { word.now ≡ L.charge }
+        requires live { (world : World) → T.stands self.old.store world → live ≡ live_of world }
+        requires may { (items : List Item) × (past : Past) × ⟦<KernelState<T, L> as Chronicle>⟧.stands self.old items × IsShared L.script L.steps items past
+            × WaitsInVain L.script L.steps items past waiter need live }
+        ensures stands { (items : List Item) (past : Past) → ⟦<KernelState<T, L> as Chronicle>⟧.stands self.old items → IsShared L.script L.steps items past
+            → WaitsInVain L.script L.steps items past waiter need live → ⟦<KernelState<T, L> as Chronicle>⟧.stands self.new (items ++ said result.1) }
+        ensures told { (items : List Item) (past : Past) → ⟦<KernelState<T, L> as Chronicle>⟧.stands self.old items → IsShared L.script L.steps items past
+            → WaitsInVain L.script L.steps items past waiter need live → Frees past waiter need live result.0 result.1 }
+    {
+        if let Some(what) = first_that_loses(&self.store) {
+            self.clear(word, what, live);
+            return (Relief::Evicted(what), Item::Cleared { what, live });
+        }
+        let Some(pid) = self.store.victim() else {
+            self.starved = true;
+            return (Relief::Starved, Item::Starved);
+        };
+        self.kill(word, pid, waiter, need, live);
+        let entry = Entry::Killed {
+            pid,
+            waiter,
+            need,
+            live,
+        };
+        (Relief::Killed(pid), Item::Noted(entry))
+    }
+
+    /// Helps the calls that wait, and tells how: the first case that holds, with the word that the pass's seat loads. The item is the
+    /// one to pass on.
+    pub fn relieve_now(&mut self, word: &Charge, own: &mut ChargeSeat) -> (Relief, Item)
+        requires stands { (items : List Item) × ⟦<KernelState<T, L> as Chronicle>⟧.stands self.old items }
+        requires word { word.now ≡ L.charge }
+        requires own { own.old.charge ≡ L.charge }
+        ensures own { own.new ≡ seat_of L.charge (loaded own.old.known own.new.known.last) }
+        ensures stands { (items : List Item) → ⟦<KernelState<T, L> as Chronicle>⟧.stands self.old items
+            → ⟦<KernelState<T, L> as Chronicle>⟧.stands self.new (items ++ said result.1) }
+        ensures relieves { (items : List Item) (past : Past) → ⟦<KernelState<T, L> as Chronicle>⟧.stands self.old items → IsShared L.script L.steps items past
+            → Relieves L.script L.steps items past own.new.known.last result.0 result.1 }
+    {
+        let charged = word.charged(own);
+        if self.is_spent() {
+            return (Relief::Spent, Item::Quiet);
+        }
+        let ever = self.heap.saturating_sub(FIXED);
+        let Some(waiter) = lowest_alive(&self.store, self.held.as_slice(), ever) else {
+            return (Relief::NoneWaiting, Item::Quiet);
+        };
+        let most = lesser(ever, self.heap - charged);
+        if let Some(pid) = lowest_within(self.held.as_slice(), most) {
+            return (Relief::Fits(pid), Item::Quiet);
+        }
+        let live = self.store.live();
+        if charged != live + RESERVE {
+            return (Relief::Outstanding { charged, live }, Item::Live(live));
+        }
+        let need = bound(&self.store.next(waiter));
+        self.free(word, waiter, need, live)
     }
 }

@@ -1,9 +1,8 @@
 use Rattle.std.proofs.Common.{◌≡◌, ◌+◌, ◌<◌, ap, sym, ◌∙◌, arith}
 use Rattle.posix_defs.specs.Sizes.{reserve}
 use Rattle.posix_defs.specs.World.{live_of}
-use Rattle.kern_events.proofs.ReliefSteps.{can_lose}
 use Rattle.kern_laws.proofs.Caches.{less_live}
-use Rattle.kern_shared.proofs.Relieved.{cleared_now, freed, named_clear, nothing_before, vain_here}
+use Rattle.kern_shared.proofs.Relieved.{can_lose, cleared_now, freed, named_clear, nothing_before, vain_here}
 use Rattle.kern_shared.proofs.Turned.{room_for_entry}
 use Rattle.kern_shared.proofs.state.KernelState.clear.Goals as goal
 

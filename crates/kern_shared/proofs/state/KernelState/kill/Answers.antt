@@ -1,9 +1,8 @@
 use Rattle.std.proofs.Common.{◌≡◌, ◌+◌, ◌≤◌, ◌∷◌, ◌++◌, [], ap, sym, ◌∙◌, arith}
 use Rattle.posix_defs.specs.Sizes.{reserve}
 use Rattle.posix_defs.specs.World.{live_of}
-use Rattle.kern_events.proofs.ReliefSteps.{none_lost}
 use Rattle.kern_laws.proofs.LivingVictim.{victim_lives}
-use Rattle.kern_shared.proofs.Relieved.{freed, full_beside, killed_is, killed_now, named_kill, vain_here, victim_here}
+use Rattle.kern_shared.proofs.Relieved.{freed, full_beside, killed_is, killed_now, named_kill, none_lost, vain_here, victim_here}
 use Rattle.kern_shared.proofs.Turned.{room_for_entry}
 use Rattle.kern_shared.proofs.state.KernelState.kill.Goals as goal
 
