@@ -1,2 +1,1 @@
-pub mod DescLemmas
 pub mod NumberLemmas

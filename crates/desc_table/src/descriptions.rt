@@ -1,20 +1,30 @@
-ghost use Rattle.std.specs.Prelude.{◌≡◌, ◌+◌, ◌<◌, Some};
+ghost use Rattle.std.specs.Prelude.{◌≡◌, ◌+◌, ◌<◌, ℕ, List, ◌∷◌, Some};
 ghost use Rattle.kheap_shelves.specs.Objects.{object, InUse, put};
 ghost use Rattle.kheap_shelves.specs.declared.objects.Desc.{Desc as HeldDesc};
 ghost use Rattle.kheap_slabs.specs.Owners.{OwnsItsObjects};
 ghost use Rattle.kheap_slabs.specs.Paid.{TakesNothing};
+ghost use Rattle.posix_defs.specs.Files.Descriptions.{may_write as plain_may_write};
+ghost use Rattle.posix_defs.specs.Files.State.{Files};
 ghost use Rattle.place_laws.specs.Placed.{Numbers};
-ghost use Rattle.desc_table.specs.Counted.{CountedList, AreDescribed, counting, after_share};
+ghost use Rattle.open_laws.specs.Closing.{IsClosable, IsDroppable, Drops, TargetCloses, EndCloses, SocketCloses, QueuesChange};
+ghost use Rattle.open_laws.specs.Described.{CountedList, access_in, counting, after_share, after_drop, node_in, node_left, descs_left};
+ghost use Rattle.open_laws.specs.Open.{AreOpen, files_dropped};
+ghost use Rattle.open_laws.specs.Owned.{HasItsOwners};
+ghost use Rattle.pipe_ends.specs.Standing.{HasEndAt};
+ghost use Rattle.usock_core.specs.Standing.{IsClosableIn};
 
-use kheap_shelves::Desc;
+use kheap_shelves::{Access, Desc, Target};
 use kheap_slabs::KHeap;
+use pipe_ends::close_end;
+use usock_core::close_sock;
 
 /// One descriptor more names an open description.
 pub fn share_desc(heap: &mut KHeap, desc: u32)
     requires there { InUse heap.old.descs desc }
     requires small { (found : HeldDesc) → object heap.old.descs desc ≡ Some found → found.count < 4294967295 }
-    ensures described { (numbers : Numbers) (list : CountedList) → AreDescribed numbers heap.old.descs list
-        → AreDescribed numbers heap.new.descs (after_share list (numbers.descs desc)) }
+    ensures opened { (numbers : Numbers) (list : CountedList) (files : Files) → AreOpen numbers heap.old list files
+        → AreOpen numbers heap.new (after_share list (numbers.descs desc)) files }
+    ensures owners { (hand : List ℕ) → HasItsOwners heap.old hand → HasItsOwners heap.new (desc ∷ hand) }
     ensures kept { (found : HeldDesc) → object heap.old.descs desc ≡ Some found
         → heap.new ≡ record heap.old { descs = put heap.old.descs desc (counting found (found.count + 1)) } }
     ensures owned { OwnsItsObjects heap.old → OwnsItsObjects heap.new }
@@ -28,4 +38,126 @@ pub fn share_desc(heap: &mut KHeap, desc: u32)
             ..found
         },
     );
+}
+
+/// One descriptor fewer names an open description. With the last one it goes, and its end of a pipe or its socket is closed
+/// (POSIX close).
+///
+/// The answer is the node whose pin the caller then drops; None where the description stays or is open on no node.
+pub fn drop_desc(heap: &mut KHeap, desc: u32) -> Option<u32>
+    requires owned { OwnsItsObjects heap.old }
+    requires there { IsDroppable heap.old desc }
+    ensures node { (found : HeldDesc) → object heap.old.descs desc ≡ Some found → result ≡ node_left found }
+    ensures drops { (found : HeldDesc) → object heap.old.descs desc ≡ Some found → Drops heap.old heap.new desc found }
+    ensures opened { (numbers : Numbers) (list : CountedList) (files : Files) → AreOpen numbers heap.old list files
+        → AreOpen numbers heap.new (after_drop list (numbers.descs desc)) (files_dropped files list (numbers.descs desc)) }
+    ensures owners { (hand : List ℕ) → HasItsOwners heap.old (desc ∷ hand) → HasItsOwners heap.new hand }
+    ensures owned { OwnsItsObjects heap.new }
+    ensures kept { heap.new
+        ≡ record heap.old { descs = heap.new.descs; pipes = heap.new.pipes; chunks = heap.new.chunks; socks = heap.new.socks } }
+    ensures takes { TakesNothing heap.old heap.new }
+{
+    let found = *heap.get_desc(desc);
+    if found.count > 1 {
+        name_less(heap, desc, found);
+        None
+    } else {
+        remove(heap, desc, found)
+    }
+}
+
+// One descriptor fewer names a description that another one names too.
+fn name_less(heap: &mut KHeap, key: u32, found: Desc)
+    requires there { object heap.old.descs key ≡ Some found }
+    requires more { 1 < found.count }
+    ensures left { heap.new ≡ record heap.old { descs = descs_left heap.old.descs key found } }
+    ensures takes { TakesNothing heap.old heap.new }
+{
+    heap.set_desc(
+        key,
+        Desc {
+            count: found.count - 1,
+            ..found
+        },
+    );
+}
+
+// Takes a description out of the heap that nobody names any more, and closes what it was open on. The node that the caller
+// closes.
+fn remove(heap: &mut KHeap, key: u32, found: Desc) -> Option<u32>
+    requires owned { OwnsItsObjects heap.old }
+    requires there { object heap.old.descs key ≡ Some found }
+    requires last { found.count ≡ 1 }
+    requires closable { IsClosable heap.old found.access found.target }
+    ensures node { result ≡ node_in found.target }
+    ensures left { heap.new.descs ≡ descs_left heap.old.descs key found }
+    ensures closes { TargetCloses heap.old heap.new found.access found.target }
+    ensures owned { OwnsItsObjects heap.new }
+    ensures kept { heap.new
+        ≡ record heap.old { descs = heap.new.descs; pipes = heap.new.pipes; chunks = heap.new.chunks; socks = heap.new.socks } }
+    ensures takes { TakesNothing heap.old heap.new }
+{
+    let _gone = heap.free_desc(key);
+    close_target(heap, found.access, found.target)
+}
+
+// Closes what a description was open on, which is gone. The node that the caller closes.
+fn close_target(heap: &mut KHeap, access: Access, target: Target) -> Option<u32>
+    requires owned { OwnsItsObjects heap.old }
+    requires there { IsClosable heap.old access target }
+    ensures node { result ≡ node_in target }
+    ensures closes { TargetCloses heap.old heap.new access target }
+    ensures owned { OwnsItsObjects heap.new }
+    ensures descs { heap.new.descs ≡ heap.old.descs }
+    ensures kept { QueuesChange heap.old heap.new }
+    ensures takes { TakesNothing heap.old heap.new }
+{
+    match target {
+        Target::Inode(number) => Some(number),
+        Target::Pipe(key) => {
+            close_pipe(heap, key, access);
+            None
+        }
+        Target::Sock(key) => {
+            close_socket(heap, key);
+            None
+        }
+    }
+}
+
+// Closes the end of a pipe that was opened so.
+fn close_pipe(heap: &mut KHeap, key: u32, access: Access)
+    requires owned { OwnsItsObjects heap.old }
+    requires there { HasEndAt heap.old key (plain_may_write (access_in access)) }
+    ensures closes { EndCloses heap.old heap.new key (plain_may_write (access_in access)) }
+    ensures owned { OwnsItsObjects heap.new }
+    ensures descs { heap.new.descs ≡ heap.old.descs }
+    ensures kept { QueuesChange heap.old heap.new }
+    ensures takes { TakesNothing heap.old heap.new }
+{
+    let writing = may_write(access);
+    close_end(heap, key, writing);
+}
+
+// Closes a socket.
+fn close_socket(heap: &mut KHeap, key: u32)
+    requires owned { OwnsItsObjects heap.old }
+    requires there { IsClosableIn heap.old key }
+    ensures closes { SocketCloses heap.old heap.new key }
+    ensures owned { OwnsItsObjects heap.new }
+    ensures descs { heap.new.descs ≡ heap.old.descs }
+    ensures kept { QueuesChange heap.old heap.new }
+    ensures takes { TakesNothing heap.old heap.new }
+{
+    close_sock(heap, key);
+}
+
+// Whether what is opened so may be written.
+pub(crate) fn may_write(access: Access) -> bool
+    ensures { result ≡ plain_may_write (access_in access) }
+{
+    match access {
+        Access::Read => false,
+        Access::Write | Access::Both => true,
+    }
 }

@@ -1,12 +1,14 @@
 //! Descriptors and open descriptions in the kernel's heap: the descriptors of one process by number, and how a description
-//! is shared. A description counts the descriptors that name it.
+//! is shared and dropped.
+//!
+//! A description counts the descriptors that name it. With the last one it goes, and what it was open on is closed: an end
+//! of a pipe, or a socket with those that wait for it. A node is closed by the caller, who is told its number.
 #![tactic(auto)]
 
 mod descriptions;
 mod descriptors;
-pub mod laws;
 #[cfg(test)]
 mod tests;
 
-pub use descriptions::share_desc;
+pub use descriptions::{drop_desc, share_desc};
 pub use descriptors::Descs;

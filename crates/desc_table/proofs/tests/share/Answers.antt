@@ -2,7 +2,7 @@ use Rattle.std.proofs.Common.{◌+◌, sym, subst}
 use Rattle.kheap_shelves.specs.Objects.{InUse}
 use Rattle.kheap_shelves.proofs.ObjectLemmas.{InUse-put}
 use Rattle.kheap_slabs.specs.Heap.{Heap}
-use Rattle.desc_table.specs.Counted.{counting}
+use Rattle.open_laws.specs.Described.{counting}
 use Rattle.desc_table.proofs.tests.share.Goals as goal
 
 pub returns : goal.returns

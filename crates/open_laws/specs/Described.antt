@@ -52,10 +52,6 @@ counted_in numbers desc = record {
 abbrev pub AreDescribed : Numbers → List (Option Desc) → CountedList → Type 0
 AreDescribed numbers descs list = ArePlaced (λ key desc counted. counted ≡ counted_in numbers desc) numbers.descs descs (object list)
 
--- the same Desc, with so many descriptors that name it
-abbrev pub counting : Desc → ℕ → Desc
-counting desc count = record desc { count = count }
-
 -- ---- counts change by one
 
 abbrev pub named_more : Option Counted → Option Counted
@@ -73,6 +69,12 @@ named_less (Some counted) = if counted.count == 1 then None else Some (record co
 -- one descriptor fewer names it; with the last one it goes
 abbrev pub after_drop : CountedList → ℕ → CountedList
 after_drop list place = slice_set list place (named_less (object list place))
+
+-- ---- Descs whose count changes
+
+-- the same Desc, with so many descriptors that name it
+abbrev pub counting : Desc → ℕ → Desc
+counting desc count = record desc { count = count }
 
 -- the node that a target has
 abbrev pub node_in : HeldTarget → Option ℕ

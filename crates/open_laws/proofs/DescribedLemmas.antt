@@ -7,13 +7,14 @@ use Rattle.kheap_slabs.specs.Heap.{Heap}
 use Rattle.posix_defs.specs.Files.Descriptions.{with_description}
 use Rattle.place_laws.specs.Placed.{Numbers}
 use Rattle.place_laws.proofs.PlaceLemmas.{law_changes, law_goes}
-use Rattle.desc_table.specs.Counted.{Counted, CountedList, counted_in, counting, AreDescribed, named_more, named_less, after_share, after_drop, descs_left, node_in, node_left, uncounted}
+use Rattle.open_laws.specs.Described.{Counted, CountedList, counted_in, AreDescribed, named_more, named_less, after_share, after_drop, uncounted}
+use Rattle.open_laws.specs.Described.{counting, descs_left, node_in, node_left}
 
 used : (descs : List (Option Desc)) (key : ℕ) (found : Desc) → object descs key ≡ Some found → InUse descs key
 used descs key found is = rw is refl
 
 -- what the machine has at the place of a Desc
-at_place : (numbers : Numbers) (descs : List (Option Desc)) (list : CountedList) (key : ℕ) (found : Desc) → object descs key ≡ Some found
+pub at_place : (numbers : Numbers) (descs : List (Option Desc)) (list : CountedList) (key : ℕ) (found : Desc) → object descs key ≡ Some found
     → AreDescribed numbers descs list → object list (numbers.descs key) ≡ Some (counted_in numbers found)
 at_place numbers descs list key found is are =
     let there = are.there key found is in there.1 ∙ ap (λ (c : Counted). Some c) (are.means key found there.0 is there.1)

@@ -1,5 +1,0 @@
-use Rattle.desc_table.proofs.DescLemmas.{dropped_described}
-use Rattle.desc_table.proofs.laws.a_description_is_dropped_at_its_place.Goals as goal
-
-pub returns : goal.returns
-returns c = dropped_described

@@ -1,5 +1,0 @@
-use Rattle.desc_table.proofs.DescLemmas.{uncounted-shared, uncounted-left, uncounted-gone}
-use Rattle.desc_table.proofs.laws.descriptions_go_with_their_last_count.Goals as goal
-
-pub returns : goal.returns
-returns c = record { shared = uncounted-shared; stays = uncounted-left; goes = uncounted-gone }

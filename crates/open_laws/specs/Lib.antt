@@ -1,0 +1,6 @@
+pub mod Described
+pub mod Piped
+pub mod Socketed
+pub mod Open
+pub mod Closing
+pub mod Owned
