@@ -145,8 +145,8 @@ module _ (old : Heap) (kept : TableView) (pid fd key : ℕ) (proc : Proc) (held 
       by_desc : (o : Option Desc) → object old.descs held.desc ≡ o → (desc : Desc) × (object old.descs held.desc ≡ Some desc)
       by_desc (Some desc) found = (desc, found)
       by_desc None none = absurd (
-        let before = owners.named.counts held.desc in let less = namings_less held.desc in
-        let one = ap one_if (eqb_same held.desc held.desc refl) in let zero = ap desc_count none in omega (arith, before, less, one, zero))
+          let before = owners.named.counts held.desc in let less = namings_less held.desc in
+          let one = ap one_if (eqb_same held.desc held.desc refl) in let zero = ap desc_count none in omega (arith, before, less, one, zero))
 
   -- the heap once the Proc is set
   module _ (between : Heap) (set_so : between ≡ mid) where
@@ -250,7 +250,7 @@ module _ (old : Heap) (kept : TableView) (pid fd key : ℕ) (proc : Proc) (held 
             by_desc : (o : Option Desc) → object old.descs other ≡ o → InUse old.descs other
             by_desc (Some desc) found = ap is_some found
             by_desc None none = absurd (
-              let before = owners.named.counts other in let less = namings_less other in let zero = ap desc_count none in omega (arith, before, less, zero, some))
+                let before = owners.named.counts other in let less = namings_less other in let zero = ap desc_count none in omega (arith, before, less, zero, some))
 
     released_so : released without_it place ≡ files_dropped without_it have.list place
     released_so =

@@ -46,7 +46,13 @@ pub fn close_one(heap: &mut KHeap, procs: &ProcTable, pid: u32, fd: u32) -> Opti
         return None;
     };
     descriptors[fd as usize] = None;
-    heap.set_proc(key, Proc { descriptors, ..proc });
+    heap.set_proc(
+        key,
+        Proc {
+            descriptors,
+            ..proc
+        },
+    );
     drop_desc(heap, descriptor.desc)
 }
 
