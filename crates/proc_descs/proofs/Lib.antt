@@ -2,5 +2,9 @@ pub mod Sums
 pub mod Named
 pub mod Listing
 pub mod Droppable
+pub mod Lookups
+pub mod Bounds
+pub mod NumberSets
 pub mod NumberCloses
 pub mod AllClose
+pub mod Puts

@@ -18,9 +18,9 @@ pub pid_between : (places : List Listed) (before last pid key : ℕ) → AreBetw
 pid_between [] before last pid key between is = cc
 pid_between (place ∷ places) before last pid key between is = elim (eqb_tells place.pid pid) [
   | inl same ↦ (
-      subst (λ n. before < n) same.1 between.0,
-      subst (λ n. n ≤ last) same.1 (above places place.pid between.1),
-    )
+    subst (λ n. before < n) same.1 between.0,
+    subst (λ n. n ≤ last) same.1 (above places place.pid between.1),
+  )
   | inr other ↦
       let rest = pid_between places place.pid last pid key between.1 (sym (ap (λ b. cond b (Some place.key) (key_of places pid)) other.0) ∙ is) in
       (let first : before < place.pid = between.0 in let more : place.pid < pid = rest.0 in omega (arith, first, more), rest.1)

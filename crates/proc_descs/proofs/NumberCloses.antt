@@ -36,39 +36,13 @@ use Rattle.proc_table.specs.Procs.{no_descriptors, proc_of}
 use Rattle.proc_table.specs.Table.{AreStored, TableView, key_of, keys_of, processes, procs_at}
 use Rattle.proc_table.proofs.PlaceLemmas.{eqb_other, eqb_same, some_same}
 use Rattle.usock_core.proofs.StandingLemmas.{held_on}
-use Rattle.proc_descs.specs.Having.{AreListed, HaveDescriptors, HaveOpen, OpensNoNode, places_in}
+use Rattle.proc_descs.specs.Having.{AreListed, HaveDescriptors, HaveAllOpen, OpensNoNode, places_in}
 use Rattle.proc_descs.proofs.Droppable.{droppable}
 use Rattle.proc_descs.proofs.Listing.{found_before, found_now, found_others, pid_between, stored_still, used_still}
+use Rattle.proc_descs.proofs.Lookups.{desc_named, descriptor_here}
 use Rattle.proc_descs.proofs.Named.{named_by_none, named_by_some}
+use Rattle.proc_descs.proofs.NumberSets.{descriptors_set, listed_set, namings_set, open_beside, owners_set, with_procs}
 use Rattle.proc_descs.proofs.Sums.{one_if, part_of_sum, count_cons}
-
--- the heap with other Procs
-abbrev pub with_procs : Heap → List (Option Proc) → Heap
-with_procs h procs = record h { procs = procs }
-
--- what is open doesn't depend on Procs, nor on the machine's descriptors
-pub open_beside : (numbers : Numbers) (h : Heap) (procs : List (Option Proc)) (list : CountedList) (files : Files) (descriptors : List Descriptors)
-    → AreOpen numbers h list files → AreOpen numbers (with_procs h procs) list (record files { descriptors = descriptors })
-open_beside numbers h procs list files descriptors are = record {
-  described = are.described;
-  descriptions = are.descriptions;
-  piped = piped_on numbers h (with_procs h procs) files.pipes refl (λ key held bytes is has. HasBytes-same h (with_procs h procs) held.queue bytes refl has) are.piped;
-  socketed = socketed_on numbers h (with_procs h procs) files.sockets refl (λ key held bytes is has. HasBytes-same h (with_procs h procs) held.queue bytes refl has) are.socketed;
-}
-
-held_beside : (h : Heap) (procs : List (Option Proc)) → IsHeldOpen h → IsHeldOpen (with_procs h procs)
-held_beside h procs held = record {
-  targets = λ key desc is. same_target desc.access desc.target (held.targets key desc is);
-  pipes = λ key pipe is. let ends = held.pipes key pipe is in record { readers = ends.readers; writers = ends.writers; some_end = ends.some_end };
-  stand = λ key used. let stands = held.stand key used in (stands.0, stands.1, pipe_stands_same h (with_procs h procs) key stands.0 stands.1 refl refl stands.2);
-  socks = held_on h (with_procs h procs) _ refl (λ key sock bytes is has. HasBytes-same h (with_procs h procs) sock.queue bytes refl has) held.socks;
-  once = held.once;
-}
-  where
-    same_target : (access : Access) (what : Target) → IsThereFor h access what → IsThereFor (with_procs h procs) access what
-    same_target access (target.Inode number) there = there
-    same_target access (target.Pipe key) there = there
-    same_target access (target.Sock key) there = there
 
 -- a description that goes leaves descriptors
 gone_leaves : (files : Files) (place : ℕ) → (description_gone files place).descriptors ≡ files.descriptors
@@ -94,14 +68,6 @@ gone_leaves files place = by_description (description_at files.descriptions plac
 abbrev pub without : List (Option HeldDescriptor) → ℕ → List (Option HeldDescriptor)
 without places fd = slice_set places fd None
 
-names_less : (places : List (Option HeldDescriptor)) (fd : ℕ) (held : HeldDescriptor) → slice_index_or places fd None ≡ Some held → (other : ℕ)
-    → count_by (names_desc other) (without places fd) + one_if (held.desc == other) ≡ count_by (names_desc other) places
-names_less places fd held is other =
-    let within = InUse-within places fd (ap is_some is) in
-    let moved = sum_by-set (λ o. one_if (names_desc other o)) places fd None None within in
-    let here : one_if (names_desc other (slice_index_or places fd None)) ≡ one_if (held.desc == other) = ap (λ o. one_if (names_desc other o)) is in
-    omega (arith, moved, here)
-
 module _ (old : Heap) (kept : TableView) (pid fd key : ℕ) (proc : Proc) (held : HeldDescriptor) (listed : AreListed old kept)
     (named : key_of kept.listed pid ≡ Some key) (there : object old.procs key ≡ Some proc) (is : slice_index_or proc.descriptors fd None ≡ Some held) where
   abbrev now : Proc
@@ -110,43 +76,24 @@ module _ (old : Heap) (kept : TableView) (pid fd key : ℕ) (proc : Proc) (held 
   abbrev mid : Heap
   mid = with_procs old (put old.procs key now)
 
+  within_row : fd < length proc.descriptors
+  within_row = InUse-within proc.descriptors fd (ap is_some is)
+
   pub listed_mid : AreListed mid kept
-  listed_mid = record {
-    stored = stored_still old.procs key proc now there refl kept.listed listed.stored;
-    rising = listed.rising;
-    all = used_still old.procs key proc now there refl _ listed.all;
-  }
+  listed_mid = listed_set old kept pid fd key proc (Some held) None listed named there is within_row
 
   namings_less : (other : ℕ) → namings_of mid.procs other + one_if (held.desc == other) ≡ namings_of old.procs other
-  namings_less other =
-      let within = InUse-within old.procs key (ap is_some there) in
-      let moved = sum_by-set (namings_in other) old.procs key (Some now) None within in
-      let here : namings_in other (object old.procs key) ≡ count_by (names_desc other) proc.descriptors = ap (namings_in other) there in
-      let less = names_less proc.descriptors fd held is other in
-      omega (arith, moved, here, less)
+  namings_less other = let set_so = namings_set old kept pid fd key proc (Some held) None listed named there is within_row other in omega (arith, set_so)
 
   -- the Desc is in hand
   pub owners_mid : HasItsOwners old [] → HasItsOwners mid (held.desc ∷ [])
-  owners_mid owners = record {
-    objects = OwnsItsObjects-proc_set old mid key proc now there refl refl owners.objects;
-    named = record {
-      counts = λ other. let before = owners.named.counts other in let less = namings_less other in
-          let none : count_by (λ k. k == other) [] ≡ 0 = refl in
-          let hand = count_cons (λ k. k == other) held.desc [] in omega (arith, before, less, none, hand);
-      named = owners.named.named;
-    };
-    held = held_beside old mid.procs owners.held;
-  }
+  owners_mid owners =
+      owners_set old kept pid fd key proc (Some held) None listed named there is within_row [] (held.desc ∷ [])
+      (λ other. let hand = count_cons (λ k. k == other) held.desc [] in let none : count_by (λ k. k == other) [] ≡ 0 = refl in omega (arith, hand, none)) owners
 
   -- it is there
   pub desc_there : HasItsOwners old [] → (desc : Desc) × (object old.descs held.desc ≡ Some desc)
-  desc_there owners = by_desc (object old.descs held.desc) refl
-    where
-      by_desc : (o : Option Desc) → object old.descs held.desc ≡ o → (desc : Desc) × (object old.descs held.desc ≡ Some desc)
-      by_desc (Some desc) found = (desc, found)
-      by_desc None none = absurd (
-        let before = owners.named.counts held.desc in let less = namings_less held.desc in
-        let one = ap one_if (eqb_same held.desc held.desc refl) in let zero = ap desc_count none in omega (arith, before, less, one, zero))
+  desc_there owners = desc_named old [] key fd proc held owners there is
 
   -- the heap once the Proc is set
   module _ (between : Heap) (set_so : between ≡ mid) where
@@ -160,7 +107,7 @@ module _ (old : Heap) (kept : TableView) (pid fd key : ℕ) (proc : Proc) (held 
     droppable_between owners =
         let found = desc_between owners in droppable between (held.desc ∷ []) (owners_between owners) held.desc found.0 found.1
 
-  module _ (numbers : Numbers) (files : Files) (have : HaveOpen numbers old kept files) (owners : HasItsOwners old []) where
+  module _ (numbers : Numbers) (files : Files) (have : HaveAllOpen numbers old kept files) (owners : HasItsOwners old []) where
     abbrev place : ℕ
     place = numbers.descs held.desc
 
@@ -168,51 +115,15 @@ module _ (old : Heap) (kept : TableView) (pid fd key : ℕ) (proc : Proc) (held 
     abbrev without_it : Files
     without_it = with_open files pid fd None
 
-    here : descriptors_of files pid ≡ descriptors_by numbers.descs proc.descriptors
-    here = have.descriptors.each pid ∙ ap (λ o. descriptors_by numbers.descs (places_in o)) (found_before old.procs key proc now there refl kept.listed pid listed.stored named)
-
     at_number : descriptor_at (descriptors_of files pid) fd ≡ Some (descriptor_by numbers.descs held)
-    at_number =
-        ap (λ descriptors. descriptor_at descriptors fd) here ∙ get_or-map (option_map (descriptor_by numbers.descs)) proc.descriptors fd None ∙ ap (option_map (descriptor_by numbers.descs)) is
+    at_number = descriptor_here old kept pid fd key proc listed named there numbers files have ∙ ap (option_map (descriptor_by numbers.descs)) is
 
     closes_so : after_close files pid fd ≡ released without_it place
     closes_so = ap (close_in files pid fd) at_number
 
     -- the machine's descriptors are those of the processes then
-    made_mid : length without_it.descriptors ≡ kept.last
-    made_mid = by_pid pid ∙ have.descriptors.made
-      where
-        by_pid : (p : ℕ) → length (with_pid files.descriptors p (with_descriptor (descriptors_of files pid) fd None)) ≡ length files.descriptors
-        by_pid zero = refl
-        by_pid (suc i) = length-set files.descriptors i _
-
-    at_itself : (p : ℕ) (descriptors : Descriptors) → 0 < p → p ≤ length files.descriptors → descriptors_of (record files { descriptors = with_pid files.descriptors p descriptors }) p ≡ descriptors
-    at_itself zero descriptors above below = absurd (omega (arith, above))
-    at_itself (suc i) descriptors above below = ap (λ found. unwrap_or found none_open) (get_set_same files.descriptors i descriptors (omega (arith, below)))
-
-    at_another : (p q : ℕ) (descriptors : Descriptors) → q ≢ p → descriptors_of (record files { descriptors = with_pid files.descriptors p descriptors }) q ≡ descriptors_of files q
-    at_another zero q descriptors apart = refl
-    at_another (suc i) zero descriptors apart = refl
-    at_another (suc i) (suc j) descriptors apart = ap (λ found. unwrap_or found none_open) (get_set_other files.descriptors i j descriptors (λ same. apart (ap (λ k. suc k) same)))
-
     descriptors_mid : HaveDescriptors numbers.descs (processes mid kept) kept.last without_it
-    descriptors_mid = record { each = λ q. by_pid q (eqb_tells q pid); made = made_mid }
-      where
-        within : (0 < pid) × (pid ≤ kept.last)
-        within = pid_between kept.listed 0 kept.last pid key listed.rising named
-
-        by_pid : (q : ℕ) → (((q == pid) ≡ true) × (q ≡ pid)) ⊎ (((q == pid) ≡ false) × (q ≢ pid))
-            → descriptors_of without_it q ≡ descriptors_by numbers.descs (places_in (proc_of (processes mid kept) q))
-        by_pid q (inl same) =
-            ap (descriptors_of without_it) same.1
-            ∙ at_itself pid (with_descriptor (descriptors_of files pid) fd None) within.0 (let below = within.1 in let made = have.descriptors.made in omega (arith, below, made))
-            ∙ ap (λ descriptors. with_descriptor descriptors fd None) here
-            ∙ sym (map-set (option_map (descriptor_by numbers.descs)) proc.descriptors fd None)
-            ∙ sym (ap (λ o. descriptors_by numbers.descs (places_in o)) (ap (proc_of (processes mid kept)) same.1 ∙ found_now old.procs key proc now there refl kept.listed pid listed.stored named))
-        by_pid q (inr apart) =
-            at_another pid q (with_descriptor (descriptors_of files pid) fd None) apart.1
-            ∙ have.descriptors.each q
-            ∙ ap (λ o. descriptors_by numbers.descs (places_in o)) (sym (found_others old.procs key proc now there refl kept.listed pid listed.stored named q apart.1))
+    descriptors_mid = descriptors_set old kept pid fd key proc (Some held) None listed named there is within_row numbers files have
 
     -- what is open is there still
     pub opened_mid : AreOpen numbers mid have.list without_it
@@ -250,7 +161,7 @@ module _ (old : Heap) (kept : TableView) (pid fd key : ℕ) (proc : Proc) (held 
             by_desc : (o : Option Desc) → object old.descs other ≡ o → InUse old.descs other
             by_desc (Some desc) found = ap is_some found
             by_desc None none = absurd (
-              let before = owners.named.counts other in let less = namings_less other in let zero = ap desc_count none in omega (arith, before, less, zero, some))
+                let before = owners.named.counts other in let less = namings_less other in let zero = ap desc_count none in omega (arith, before, less, zero, some))
 
     released_so : released without_it place ≡ files_dropped without_it have.list place
     released_so =
@@ -287,9 +198,9 @@ module _ (old : Heap) (kept : TableView) (pid fd key : ℕ) (proc : Proc) (held 
 
     -- Where the Desc is dropped the processes have open what the machine says after the close.
     pub have_closed : (new : Heap) → new.procs ≡ mid.procs
-        → AreOpen numbers new (after_drop have.list place) (files_dropped without_it have.list place) → HaveOpen numbers new kept (after_close files pid fd)
+        → AreOpen numbers new (after_drop have.list place) (files_dropped without_it have.list place) → HaveAllOpen numbers new kept (after_close files pid fd)
     have_closed new procs opened =
-        subst (HaveOpen numbers new kept) (sym (closes_so ∙ released_so)) (record {
+        subst (HaveAllOpen numbers new kept) (sym (closes_so ∙ released_so)) (record {
           list = after_drop have.list place;
           opened = opened;
           descriptors = record {
@@ -337,12 +248,9 @@ no_some None none = refl
 no_some (Some x) none = absurd (none x refl)
 
 pub unopened : (numbers : Numbers) (old : Heap) (kept : TableView) (files : Files) (pid fd key : ℕ) (proc : Proc) → AreListed old kept → key_of kept.listed pid ≡ Some key
-    → object old.procs key ≡ Some proc → slice_index_or proc.descriptors fd None ≡ None → HaveOpen numbers old kept files → after_close files pid fd ≡ files
+    → object old.procs key ≡ Some proc → slice_index_or proc.descriptors fd None ≡ None → HaveAllOpen numbers old kept files → after_close files pid fd ≡ files
 unopened numbers old kept files pid fd key proc listed named there none have =
-    ap (close_in files pid fd)
-    (ap (λ descriptors. descriptor_at descriptors fd)
-    (have.descriptors.each pid ∙ ap (λ o. descriptors_by numbers.descs (places_in o)) (found_before old.procs key proc proc there refl kept.listed pid listed.stored named))
-    ∙ get_or-map (option_map (descriptor_by numbers.descs)) proc.descriptors fd None ∙ ap (option_map (descriptor_by numbers.descs)) none)
+    ap (close_in files pid fd) (descriptor_here old kept pid fd key proc listed named there numbers files have ∙ ap (option_map (descriptor_by numbers.descs)) none)
 
 -- the Proc keeps what it has
 pub same_without : (objects : List (Option Proc)) (key fd : ℕ) (proc : Proc) → object objects key ≡ Some proc → slice_index_or proc.descriptors fd None ≡ None

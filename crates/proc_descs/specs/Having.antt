@@ -6,9 +6,10 @@ use Rattle.kheap_shelves.specs.declared.objects.Descriptor.{Descriptor as HeldDe
 use Rattle.kheap_shelves.specs.declared.objects.Proc.{Proc}
 use Rattle.kheap_slabs.specs.Heap.{Heap}
 use Rattle.kheap_slabs.specs.Keys.{AreKeysOf}
-use Rattle.open_laws.specs.Described.{CountedList, node_in, node_left}
+use Rattle.open_laws.specs.Described.{CountedList, counted_in, node_in, node_left}
 use Rattle.open_laws.specs.Open.{AreOpen, descriptors_by}
 use Rattle.place_laws.specs.Placed.{Numbers}
+use Rattle.posix_defs.specs.Calls.Opened.{Opened}
 use Rattle.posix_defs.specs.Files.State.{Files, descriptors_of}
 use Rattle.proc_table.specs.Procs.{no_descriptors, proc_of}
 use Rattle.proc_table.specs.Table.{AreBetween, AreStored, TableView, key_of, keys_of, processes}
@@ -30,7 +31,7 @@ pub record HaveDescriptors (number : ℕ → ℕ) (procs : List Proc) (last : �
   pub made : length files.descriptors ≡ last
 
 -- The processes of a table have open what the machine says: its descriptors, and behind them its descriptions, pipes and sockets.
-pub record HaveOpen (numbers : Numbers) (h : Heap) (kept : TableView) (files : Files) : Type 0 where
+pub record HaveAllOpen (numbers : Numbers) (h : Heap) (kept : TableView) (files : Files) : Type 0 where
   pub list : CountedList
   pub opened : AreOpen numbers h list files
   pub descriptors : HaveDescriptors numbers.descs (processes h kept) kept.last files
@@ -38,6 +39,32 @@ pub record HaveOpen (numbers : Numbers) (h : Heap) (kept : TableView) (files : F
 -- no description is open on a node
 abbrev pub OpensNoNode : List (Option Desc) → Type 0
 OpensNoNode descs = (key : ℕ) (desc : Desc) → object descs key ≡ Some desc → node_in desc.target ≡ None
+
+-- ---- numbers
+
+-- A call's descriptor names the description that the Desc of this key says.
+pub record IsOpened (numbers : Numbers) (h : Heap) (key : ℕ) (opened : Option Opened) : Type 0 where
+  pub desc : Desc
+  pub there : object h.descs key ≡ Some desc
+  pub says : opened ≡ Some (record { place = numbers.descs key; is = (counted_in numbers desc).is })
+
+-- A number of a process is this descriptor from now on, and nothing else is other than before.
+pub record PutsNumber (old new : Heap) (kept : TableView) (pid fd : ℕ) (held : HeldDescriptor) : Type 0 where
+  pub key : ℕ
+  pub proc : Proc
+  pub named : key_of kept.listed pid ≡ Some key
+  pub there : object old.procs key ≡ Some proc
+  pub after : new ≡ record old { procs = put old.procs key (record proc { descriptors = slice_set proc.descriptors fd (Some held) }) }
+
+-- A number of a process is another in its Proc; of the other objects only Descs are others.
+pub record SetsNumber (old new : Heap) (kept : TableView) (pid fd : ℕ) : Type 0 where
+  pub key : ℕ
+  pub proc : Proc
+  pub now : Option HeldDescriptor
+  pub named : key_of kept.listed pid ≡ Some key
+  pub there : object old.procs key ≡ Some proc
+  pub procs : new.procs ≡ put old.procs key (record proc { descriptors = slice_set proc.descriptors fd now })
+  pub beside : new ≡ record old { procs = new.procs; descs = new.descs }
 
 -- ---- closing
 

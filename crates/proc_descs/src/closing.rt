@@ -10,7 +10,7 @@ ghost use Rattle.posix_defs.specs.Files.Closing.{after_close, after_end_of};
 ghost use Rattle.posix_defs.specs.Files.State.{Files};
 ghost use Rattle.proc_table.specs.Procs.{proc_of};
 ghost use Rattle.proc_table.specs.Table.{key_of, processes};
-ghost use Rattle.proc_descs.specs.Having.{AreListed, ClosesAll, ClosesNumber, HaveOpen, OpensNoNode, node_closed};
+ghost use Rattle.proc_descs.specs.Having.{AreListed, ClosesAll, ClosesNumber, HaveAllOpen, OpensNoNode, node_closed};
 
 use desc_table::drop_desc;
 use kabi_types::MOST_DESCRIPTORS;
@@ -27,8 +27,8 @@ pub fn close_one(heap: &mut KHeap, procs: &ProcTable, pid: u32, fd: u32) -> Opti
     requires owners { HasItsOwners heap.old [] }
     requires there { IsSome (key_of procs.now.listed pid) }
     requires number { fd < 32 }
-    ensures closed { (numbers : Numbers) (files : Files) → HaveOpen numbers heap.old procs.now files
-        → HaveOpen numbers heap.new procs.now (after_close files pid fd) }
+    ensures closed { (numbers : Numbers) (files : Files) → HaveAllOpen numbers heap.old procs.now files
+        → HaveAllOpen numbers heap.new procs.now (after_close files pid fd) }
     ensures nodes { OpensNoNode heap.old.descs → OpensNoNode heap.new.descs }
     ensures listed { AreListed heap.new procs.now }
     ensures owners { HasItsOwners heap.new [] }
@@ -46,7 +46,13 @@ pub fn close_one(heap: &mut KHeap, procs: &ProcTable, pid: u32, fd: u32) -> Opti
         return None;
     };
     descriptors[fd as usize] = None;
-    heap.set_proc(key, Proc { descriptors, ..proc });
+    heap.set_proc(
+        key,
+        Proc {
+            descriptors,
+            ..proc
+        },
+    );
     drop_desc(heap, descriptor.desc)
 }
 
@@ -58,8 +64,8 @@ pub fn close_all(heap: &mut KHeap, procs: &ProcTable, pid: u32)
     requires owners { HasItsOwners heap.old [] }
     requires there { IsSome (key_of procs.now.listed pid) }
     requires nodes { OpensNoNode heap.old.descs }
-    ensures closed { (numbers : Numbers) (files : Files) → HaveOpen numbers heap.old procs.now files
-        → HaveOpen numbers heap.new procs.now (after_end_of files pid) }
+    ensures closed { (numbers : Numbers) (files : Files) → HaveAllOpen numbers heap.old procs.now files
+        → HaveAllOpen numbers heap.new procs.now (after_end_of files pid) }
     ensures nodes { OpensNoNode heap.new.descs }
     ensures listed { AreListed heap.new procs.now }
     ensures owners { HasItsOwners heap.new [] }
@@ -73,7 +79,7 @@ pub fn close_all(heap: &mut KHeap, procs: &ProcTable, pid: u32)
 }
 
 /// The heap is well formed: each row of its objects is as long as it was reserved.
-fn is_well_formed(heap: &KHeap)
+pub(crate) fn is_well_formed(heap: &KHeap)
     ensures { IsWellFormed heap.now }
 {
     let _ = heap.heap();

@@ -2,5 +2,7 @@
 #![tactic(auto)]
 
 mod closing;
+mod naming;
 
 pub use closing::{close_all, close_one};
+pub use naming::{desc_of, set_close_on_exec, share_number};

@@ -2,7 +2,7 @@ use Rattle.std.proofs.Common.{◌≡◌, ◌+◌, ℕ, suc, subst, sym, arith}
 use Rattle.std.specs.List.{range_with_len}
 use Rattle.kheap_laws.proofs.PaidLemmas.{TakesNothing-refl, TakesNothing-trans}
 use Rattle.posix_defs.specs.Files.Closing.{after_closes, after_end_of}
-use Rattle.proc_descs.specs.Having.{HaveOpen}
+use Rattle.proc_descs.specs.Having.{HaveAllOpen}
 use Rattle.proc_descs.proofs.AllClose.{ClosesBelow, below_all, below_begins, below_more, closes_next}
 use Rattle.proc_descs.proofs.closing.close_all.Goals as goal
 
@@ -26,8 +26,8 @@ loop-fd-preserved c =
     let fd = c.loop-fd.fd in
     record {
       closed = λ numbers files have.
-          subst (λ n. HaveOpen numbers new c.args.procs.now (after_closes files c.args.pid (range_with_len 0 n))) (next_one fd)
-          (subst (HaveOpen numbers new c.args.procs.now) (sym (closes_next files c.args.pid fd))
+          subst (λ n. HaveAllOpen numbers new c.args.procs.now (after_closes files c.args.pid (range_with_len 0 n))) (next_one fd)
+          (subst (HaveAllOpen numbers new c.args.procs.now) (sym (closes_next files c.args.pid fd))
           (c.close_one.ensures.closed numbers (after_closes files c.args.pid (range_with_len 0 fd)) (c.loop-fd.invariant.closed numbers files have)));
       nodes = c.close_one.ensures.nodes c.loop-fd.invariant.nodes;
       listed = c.close_one.ensures.listed;
@@ -40,7 +40,7 @@ loop-fd-preserved c =
 pub returns-clause-closed : goal.returns-clause-closed
 unfolding after_end_of
 returns-clause-closed c = λ numbers files have.
-    subst (λ n. HaveOpen numbers c.loop-fd.heap c.args.procs.now (after_closes files c.args.pid (range_with_len 0 n))) (let e : c.loop-fd.fd ≡ 32 = omega arith in e)
+    subst (λ n. HaveAllOpen numbers c.loop-fd.heap c.args.procs.now (after_closes files c.args.pid (range_with_len 0 n))) (let e : c.loop-fd.fd ≡ 32 = omega arith in e)
     (c.loop-fd.invariant.closed numbers files have)
 
 pub returns-clause-closes : goal.returns-clause-closes

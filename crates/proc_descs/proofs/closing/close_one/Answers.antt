@@ -9,7 +9,7 @@ use Rattle.posix_defs.specs.Files.State.{with_open}
 use Rattle.proc_table.specs.Procs.{proc_of}
 use Rattle.proc_table.specs.Table.{key_of, processes}
 use Rattle.proc_table.proofs.PlaceLemmas.{key_of-proc, some_same}
-use Rattle.proc_descs.specs.Having.{HaveOpen, OpensNoNode, node_closed, node_dropped}
+use Rattle.proc_descs.specs.Having.{HaveAllOpen, OpensNoNode, node_closed, node_dropped}
 use Rattle.proc_descs.proofs.Listing.{found_before}
 use Rattle.proc_descs.proofs.NumberCloses.{desc_between, droppable_between, have_closed, left_opens, listed_mid, listed_on, no_some, opened_mid, owners_between, same_without, unopened}
 use Rattle.proc_descs.proofs.closing.close_one.Goals as goal
@@ -24,7 +24,7 @@ get_proc-proc-requires c =
 pub returns-in_default-descriptors-clause-closed : goal.returns-in_default-descriptors-clause-closed
 returns-in_default-descriptors-clause-closed c = λ numbers files have.
     let none = no_some (slice_index_or c.get_proc-proc.result.now.descriptors c.args.fd None) c.in_default-descriptors.not-Some in
-    subst (HaveOpen numbers c.args.heap.now c.args.procs.now)
+    subst (HaveAllOpen numbers c.args.heap.now c.args.procs.now)
     (sym (unopened numbers c.args.heap.now c.args.procs.now files c.args.pid c.args.fd c.in-Some.key c.get_proc-proc.result.now c.requires.listed (sym c.key_of.ensures ∙ c.in-Some.is) c.get_proc-proc.ensures none have))
     have
 
