@@ -1,5 +1,5 @@
 -- What stands at a place of a list whose items may be none, and how many pass a test, after one item has changed.
-use Rattle.std.proofs.Common.{◌≡◌, ◌≢◌, ℕ, suc, ◌+◌, ◌<◌, ◌≤◌, Bool, true, false, cond, List, [], ◌∷◌, ◌++◌, length, Option, None, Some, is_some, slice_index_or, slice_set, refl, ap, sym, ◌∙◌, subst, ◌⊎◌, inl, inr, arith, length-append}
+use Rattle.std.proofs.Common.{◌≡◌, ◌≢◌, ℕ, suc, ◌+◌, ◌<◌, ◌≤◌, ◌==◌, Bool, true, false, cond, List, [], ◌∷◌, ◌++◌, length, Option, None, Some, is_some, slice_index_or, slice_set, refl, ap, sym, ◌∙◌, subst, ◌⊎◌, inl, inr, arith, length-append}
 use Rattle.std.specs.List.{count_by}
 use Rattle.std.proofs.lemmas.Bool.Decides.{eqb_tells}
 use Rattle.std.proofs.lemmas.List.{get_or-set_same, get_or-set_other, get_or_append_left, get_or_at, length-set}
@@ -45,6 +45,14 @@ changed_is xs at x i y is = elim (eqb_tells i at) [
         ∙ ap (λ n. slice_index_or (slice_set xs at x) n None) (sym alike.1) ∙ is,
   )
 ]
+
+-- ---- numbers that are equal, or differ
+
+pub itself : (n : ℕ) → (n == n) ≡ true
+itself n = elim (eqb_tells n n) [ inl alike ↦ alike.0 | inr apart ↦ absurd (apart.1 refl) ]
+
+pub differ : (a b : ℕ) → a ≢ b → (a == b) ≡ false
+differ a b apart = elim (eqb_tells a b) [ inl alike ↦ absurd (apart alike.1) | inr other ↦ other.0 ]
 
 -- ---- how many pass a test
 

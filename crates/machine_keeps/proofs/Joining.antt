@@ -287,15 +287,16 @@ module _ (descriptions : Descriptions) (sockets : Sockets) (joined : Joined desc
 abbrev Holds : Files → Type 0
 Holds files = Joined files.descriptions files.sockets
 
+-- what is open on a node or a pipe is open on no socket
+no_node : (number socket : ℕ) → OnNode number ≡ OnSocket socket → ⊥
+no_node number socket e = cc
+
+no_pipe : (number socket : ℕ) → OnPipe number ≡ OnSocket socket → ⊥
+no_pipe number socket e = cc
+
 pub closes : IsClosedUnder anybody Holds
 closes = record { shut = λ files pid fd who joined. joined; gone = λ files place description joined is none. gone files place description joined is description.target refl }
   where
-    no_node : (number socket : ℕ) → OnNode number ≡ OnSocket socket → ⊥
-    no_node number socket e = cc
-
-    no_pipe : (number socket : ℕ) → OnPipe number ≡ OnSocket socket → ⊥
-    no_pipe number socket e = cc
-
     gone : (files : Files) (place : ℕ) (description : Description) → Holds files → description_at files.descriptions place ≡ Some description → (target : Target) → description.target ≡ target
         → Holds (target_closed (with_descriptions files (with_description files.descriptions place None)) description.access target)
     gone files place description joined is (OnNode number) on = go (opens (with_descriptions files (with_description files.descriptions place None)) number)
@@ -313,12 +314,6 @@ closes = record { shut = λ files pid fd who joined. joined; gone = λ files pla
 -- as many bytes are read of memory as are asked for
 loaded_length : (memory : Memory) (addr n : ℕ) → length (loaded memory addr n) ≡ n
 loaded_length memory addr n = length-map (range_with_len addr n) (byte_at memory) ∙ length-range_with_len addr n
-
-no_node : (number socket : ℕ) → OnNode number ≡ OnSocket socket → ⊥
-no_node number socket e = cc
-
-no_pipe : (number socket : ℕ) → OnPipe number ≡ OnSocket socket → ⊥
-no_pipe number socket e = cc
 
 pub idle_of : (stage : Stage) → connect_fault stage ≡ None → stage ≡ Idle
 idle_of Idle is = refl

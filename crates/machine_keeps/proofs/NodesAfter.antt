@@ -186,6 +186,11 @@ dir_or_sock (Some node) dir sock = go node.content dir sock
     go (Directory parent entries) d s = true_false false s refl
     go SocketName d s = true_false false d refl
 
+-- a socket's name is in use
+pub sock_used : (o : Option Node) → is_socket_kind (kind_in o) ≡ true → is_some o ≡ true
+sock_used None e = absurd (true_false false e refl)
+sock_used (Some node) e = refl
+
 -- another node than the one that changes
 others_stay : (tree : Tree) (number : ℕ) (there : Option Node) (n : ℕ) → n ≢ number → is_in_use tree n ≡ true → Stays tree (with_node tree number there) n
 others_stay tree number there n apart used = let same = node_at-with_node_other tree number n there apart in

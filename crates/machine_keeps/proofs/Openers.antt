@@ -10,7 +10,7 @@ use Rattle.posix_defs.specs.Files.Descriptions.{Target, OnNode, OnPipe, OnSocket
 use Rattle.posix_defs.specs.Files.State.{Files, is_number, node_of, opened_node, opens}
 use Rattle.posix_defs.specs.Calls.OnNames.{is_busy, works_in}
 use Rattle.machine_laws.proofs.Places.{not_some, some_same, there_within}
-use Rattle.machine_keeps.proofs.Items.{pushed_front, true_false}
+use Rattle.machine_keeps.proofs.Items.{itself, pushed_front, true_false}
 
 -- a description opens the node
 pub record Opener (descriptions : Descriptions) (n : ℕ) : Type 0 where
@@ -27,9 +27,6 @@ any_at test default (x ∷ xs) e = go (test x) refl (any_at test default xs) e
         → (i : ℕ) × (i < length (x ∷ xs)) × (test (slice_index_or (x ∷ xs) i default) ≡ true)
     go true is rest f = (0, omega arith, is)
     go false is rest f = let found = rest f in (suc found.0, (let h : found.0 < length xs = found.1 in omega arith), found.2)
-
-itself : (n : ℕ) → (n == n) ≡ true
-itself n = elim (eqb_tells n n) [ inl alike ↦ alike.0 | inr apart ↦ absurd (apart.1 refl) ]
 
 pub opens_by : (files : Files) (n : ℕ) → opens files n ≡ true → Opener files.descriptions n
 opens_by files n e = go (any_at (λ description. is_number n (opened_node files description)) None files.descriptions e)

@@ -23,18 +23,12 @@ use Rattle.machine_laws.specs.FileSteps.{IsStep, LeadsTo}
 use Rattle.machine_laws.specs.Reached.{IsReached}
 use Rattle.machine_laws.proofs.Places.{not_some, some_same, there_within, naming}
 use Rattle.machine_keeps.specs.Piped.{ArePiped, IsCounted, IsEnd, pipe_in}
-use Rattle.machine_keeps.proofs.Items.{changed_is, count_kept, count_less, count_none, count_pushed, count_some, pushed_front, pushed_is, some_is, some_there, true_false}
+use Rattle.machine_keeps.proofs.Items.{changed_is, count_kept, count_less, count_none, count_pushed, count_some, differ, itself, pushed_front, pushed_is, some_is, some_there, true_false}
 use Rattle.machine_keeps.proofs.Closings.{IsClosedUnder, anybody, close_holds, closed_by_holds, exec_holds}
 use Rattle.machine_keeps.proofs.Inductions.{answers_keep, by_induction}
 
 abbrev Pipes : Type 0
 Pipes = List (Option Pipe)
-
-itself : (n : ℕ) → (n == n) ≡ true
-itself n = elim (eqb_tells n n) [ inl alike ↦ alike.0 | inr apart ↦ absurd (apart.1 refl) ]
-
-differ : (a b : ℕ) → a ≢ b → (a == b) ≡ false
-differ a b apart = elim (eqb_tells a b) [ inl alike ↦ absurd (apart alike.1) | inr other ↦ other.0 ]
 
 -- ---- which descriptions are ends
 

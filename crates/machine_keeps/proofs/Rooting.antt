@@ -25,7 +25,7 @@ use Rattle.tree_laws.proofs.TreeKeeps.{closed_keeps}
 use Rattle.machine_laws.proofs.Places.{not_some, some_same}
 use Rattle.machine_keeps.specs.Bytes.{AreBytes}
 use Rattle.machine_keeps.proofs.Items.{changed_is, pushed_is, true_false}
-use Rattle.machine_keeps.proofs.NodesAfter.{Turns}
+use Rattle.machine_keeps.proofs.NodesAfter.{Turns, sock_used}
 use Rattle.machine_keeps.proofs.Openers.{Opener, described_opener, gone_opener, pushed_opener}
 
 -- ---- what holds of each socket
@@ -141,10 +141,6 @@ turned_rooted descriptions tree after sockets opened busy freed rooted is turns 
         dir_cases : (b : Bool) → (b ≡ true) ⊎ (b ≡ false)
         dir_cases true = inl refl
         dir_cases false = inr refl
-
-    sock_used : (o : Option Node) → is_socket_kind (kind_in o) ≡ true → is_some o ≡ true
-    sock_used None e = absurd (true_false false e refl)
-    sock_used (Some node) e = refl
 
     -- the name of a socket stays, or is told
     name_stays : (number : ℕ) → is_socket tree number ≡ true → (is_socket after number ≡ true) ⊎ (freed ≡ Some number)

@@ -45,7 +45,7 @@ use Rattle.machine_keeps.proofs.Items.{pushed_is, true_false}
 use Rattle.machine_keeps.proofs.Joining.{Joined}
 use Rattle.machine_keeps.proofs.MovedBytes.{loaded_bytes}
 use Rattle.machine_keeps.proofs.Named.{on_named}
-use Rattle.machine_keeps.proofs.NodesAfter.{Binds, Opened as OpenedTree, Opens, Turns, bind_is, bytes_look, link_path_turns, mkdir_turns, open_is, rename_path_turns, rmdir_turns, turns_of, unlink_path_turns}
+use Rattle.machine_keeps.proofs.NodesAfter.{Binds, Opened as OpenedTree, Opens, Turns, bind_is, bytes_look, link_path_turns, mkdir_turns, open_is, rename_path_turns, rmdir_turns, sock_used, turns_of, unlink_path_turns}
 use Rattle.machine_keeps.proofs.Openers.{by_opener, opener_busy, opens_by, works_busy}
 use Rattle.machine_keeps.proofs.Rooting.{IsOpened, IsWell, Rooted, connect_each, described_rooted, new_well, pushed_rooted, put_each, resocketed_rooted, stage_each, staged_well, turned_rooted}
 use Rattle.machine_keeps.proofs.PipeBytes.{HasPipeBytes, IsByte, pipe_bytes, piped_bytes, some_bytes}
@@ -299,10 +299,6 @@ module _ (plain : Plain) (pid : ℕ) (call : Call) (next : Files) (rooted : Root
       tree_is : IsTree named_as.1
       tree_is = bind_path_keeps plain.files.tree (directory_of plain.table pid) path named_as.0 named_as.1 rooted.tree_is cwd
           (no_fault (calls.Bind fd path) which, first_path (calls.Bind fd path) path [] which refl) led
-
-      sock_used : (o : Option Node) → is_socket_kind (kind_in o) ≡ true → is_some o ≡ true
-      sock_used None e = absurd (true_false false e refl)
-      sock_used (Some node) e = refl
 
       go : Binds plain.files.tree named_as.1 (opens plain.files) (is_busy plain) named_as.0 → After plain next
       go binds = by _ (is ∙ after_is) (record {
