@@ -10,6 +10,8 @@ mod blocks;
 mod dirs;
 pub mod laws;
 mod looking;
+#[cfg(test)]
+mod tests;
 mod through;
 mod walking;
 

@@ -9,5 +9,7 @@ mod file_tree;
 mod held;
 mod holding;
 mod telling;
+#[cfg(test)]
+mod tests;
 
 pub use file_tree::FileTree;
