@@ -1,0 +1,6 @@
+pub mod Sums
+pub mod Named
+pub mod Listing
+pub mod Droppable
+pub mod NumberCloses
+pub mod AllClose
