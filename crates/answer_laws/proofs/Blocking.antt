@@ -5,10 +5,10 @@ use Rattle.kabi_values.specs.declared.replies.Reply.{Reply}
 use Rattle.kabi_types.specs.declared.scripts.Script.{Script}
 use Rattle.posix_defs.specs.Answer.{Answer, Blocked, Done, Ended, Part}
 use Rattle.posix_defs.specs.Plain.{Plain}
-use Rattle.posix_defs.specs.Posix.{posix}
+use Rattle.posix_defs.specs.Machine.{machine}
 use Rattle.answer_laws.specs.Shapes as shape
 use Rattle.answer_laws.specs.Shapes.{HasShape, may_block}
-use Rattle.answer_laws.proofs.Shapes.{shape_of}
+use Rattle.answer_laws.proofs.Shapes.{machine_shape}
 
 not_done : (reply : Reply) (next : Plain) → Done reply next ≡ Blocked → ⊥
 not_done reply next e = cc
@@ -32,5 +32,5 @@ by_shape script plain pid which given (shape.reaps child status ended is) e = ab
 by_shape script plain pid which given (shape.ends status is) e = absurd (not_ended _ _ (sym is ∙ e))
 by_shape script plain pid which given (shape.ends_another target signal called first own lives is) e = absurd (not_done _ _ (sym is ∙ e))
 
-pub blocked_may : (script : Script) (plain : Plain) (pid : ℕ) (which : Call) → posix script plain pid which ≡ Blocked → may_block which ≡ true
-blocked_may script plain pid which is = by_shape script plain pid which (posix script plain pid which) (shape_of script plain pid which) is
+pub blocked_may : (script : Script) (plain : Plain) (pid : ℕ) (which : Call) → machine script plain pid which ≡ Blocked → may_block which ≡ true
+blocked_may script plain pid which is = by_shape script plain pid which (machine script plain pid which) (machine_shape script plain pid which) is

@@ -8,11 +8,11 @@ use Rattle.kabi_values.specs.declared.replies.Reply.TheVariants.{Fail}
 use Rattle.kabi_types.specs.declared.scripts.Script.{Script}
 use Rattle.posix_defs.specs.Answer.{Answer, Done}
 use Rattle.posix_defs.specs.Plain.{Plain, answered}
-use Rattle.posix_defs.specs.Posix.{posix}
+use Rattle.posix_defs.specs.Machine.{machine}
 use Rattle.posix_defs.specs.Reaching.{is_reply}
 use Rattle.answer_laws.specs.Shapes as shape
 use Rattle.answer_laws.specs.Shapes.{HasShape}
-use Rattle.answer_laws.proofs.Shapes.{shape_of}
+use Rattle.answer_laws.proofs.Shapes.{machine_shape}
 
 -- an answer that is an errno leaves the machine as it was but for that, and isn't ENOMEM
 abbrev FailsAlone : Script → Plain → ℕ → Answer → Type 0
@@ -50,9 +50,9 @@ pub wants_not : (script : Script) (plain : Plain) (pid : ℕ) (which : Call) (gi
 wants_not script plain pid which given said next has is wants = (fails_so script plain pid which given ENOMEM next has (is ∙ ap (λ s. Done s next) wants)).1 refl
 
 pub fails_alone : (script : Script) (plain : Plain) (pid : ℕ) (which : Call) (errno : Errno) (next : Plain)
-    → posix script plain pid which ≡ Done (Fail errno) next → (next ≡ answered script plain pid (Fail errno)) × (errno ≢ ENOMEM)
-fails_alone script plain pid which errno next is = fails_so script plain pid which (posix script plain pid which) errno next (shape_of script plain pid which) is
+    → machine script plain pid which ≡ Done (Fail errno) next → (next ≡ answered script plain pid (Fail errno)) × (errno ≢ ENOMEM)
+fails_alone script plain pid which errno next is = fails_so script plain pid which (machine script plain pid which) errno next (machine_shape script plain pid which) is
 
 pub never_wants : (script : Script) (plain : Plain) (pid : ℕ) (which : Call) (said : Reply) (next : Plain)
-    → posix script plain pid which ≡ Done said next → said ≢ Fail ENOMEM
-never_wants script plain pid which said next is = wants_not script plain pid which (posix script plain pid which) said next (shape_of script plain pid which) is
+    → machine script plain pid which ≡ Done said next → said ≢ Fail ENOMEM
+never_wants script plain pid which said next is = wants_not script plain pid which (machine script plain pid which) said next (machine_shape script plain pid which) is

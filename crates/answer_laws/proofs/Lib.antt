@@ -3,6 +3,5 @@ pub mod Faults
 pub mod Exits
 pub mod Shapes
 pub mod Failing
-pub mod Built
 pub mod GoingOn
 pub mod Blocking

@@ -16,7 +16,7 @@ use Rattle.posix_defs.specs.Ending.{die, exit_status}
 use Rattle.posix_defs.specs.Forking.{fork, is_full}
 use Rattle.posix_defs.specs.Killing.{is_asking, kill, sent_to, struck}
 use Rattle.posix_defs.specs.Killing as killing
-use Rattle.posix_defs.specs.Machine.{unless_wrong}
+use Rattle.posix_defs.specs.Machine.{answer_to, machine, unless_wrong}
 use Rattle.posix_defs.specs.Memory.{Memory, is_mapped_range, lowest_run}
 use Rattle.posix_defs.specs.MemoryCalls.{in_range, mapped_from, mmap, remembered}
 use Rattle.posix_defs.specs.Needs.{pages_in, pages_touched}
@@ -46,7 +46,6 @@ use Rattle.posix_defs.specs.Calls.OnPipes.{pipe, piped_under}
 use Rattle.posix_defs.specs.Calls.OnSockets.{accept, accept_at, accepted_under, bind, bind_at, bound_to, connect, connect_at, connected_by, connected_under, listen, listen_at, listener_under, on_socket, paired_under, resocketed, shutdown, shutdown_at, socket_target, socketed_under, socketpair, unless_fault}
 use Rattle.posix_defs.specs.Calls.OnSockets as on_sockets
 use Rattle.posix_defs.specs.Calls.Polling.{hits_of, poll, revents_of}
-use Rattle.posix_defs.specs.Posix.{posix, posix_answer}
 use Rattle.answer_laws.proofs.Exits.{exited_has_ended}
 use Rattle.answer_laws.proofs.Faults.{fault_no}
 use Rattle.answer_laws.specs.Shapes as shape
@@ -479,7 +478,7 @@ module _ (script : Script) (plain : Plain) (pid : ℕ) (asked : Call) where
 
   -- ---- every call
 
-  pub right : (which : Call) → asked ≡ which → Shaped script plain pid asked (posix_answer script plain pid which)
+  pub right : (which : Call) → asked ≡ which → Shaped script plain pid asked (answer_to script plain pid which)
   right call.Getpid called = says _ refl
   right call.Getppid called = says _ refl
   right call.SchedYield called = says _ refl
@@ -526,9 +525,9 @@ module _ (script : Script) (plain : Plain) (pid : ℕ) (asked : Call) where
 pub wrong : (script : Script) (plain : Plain) (pid : ℕ) (which : Call) (e : Errno) → argument_fault which ≡ Some e → Shaped script plain pid which (failed script plain pid e)
 wrong script plain pid which e is = fails script plain pid which e (subst IsNoWantFault is (fault_no which))
 
-pub shape_of : (script : Script) (plain : Plain) (pid : ℕ) (which : Call) → Shaped script plain pid which (posix script plain pid which)
-shape_of script plain pid which = go (argument_fault which) refl
+pub machine_shape : (script : Script) (plain : Plain) (pid : ℕ) (which : Call) → Shaped script plain pid which (machine script plain pid which)
+machine_shape script plain pid which = go (argument_fault which) refl
   where
-    go : (fault : Option Errno) → argument_fault which ≡ fault → Shaped script plain pid which (unless_wrong script plain pid fault (posix_answer script plain pid which))
+    go : (fault : Option Errno) → argument_fault which ≡ fault → Shaped script plain pid which (unless_wrong script plain pid fault (answer_to script plain pid which))
     go None is = right script plain pid which which refl
     go (Some e) is = wrong script plain pid which e is

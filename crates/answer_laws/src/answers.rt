@@ -9,31 +9,31 @@ ghost use Rattle.kabi_values.specs.declared.replies.Reply.{Reply};
 ghost use Rattle.kabi_values.specs.declared.replies.Reply.TheVariants.{Fail};
 ghost use Rattle.posix_defs.specs.Plain.{Plain, answered};
 ghost use Rattle.posix_defs.specs.Answer.{Blocked, Done};
-ghost use Rattle.posix_defs.specs.Posix.{posix};
+ghost use Rattle.posix_defs.specs.Machine.{machine};
 ghost use Rattle.answer_laws.specs.Shapes.{HasShape, may_block};
 
 /// Whatever a call is answered, it has one of eleven shapes: of processes nothing changes but its caller's control, memory or
 /// directory, but for a child that is made or reaped, for a program that is started, and for a process that ends. A directory
 /// changes by `chdir` alone, a part is done of a `write` alone, and another process is ended by `kill` alone.
 pub fn every_answer_has_a_shape()
-    ensures { (script : Script) (plain : Plain) (pid : ℕ) (call : Call) → HasShape script plain pid call (posix script plain pid call) }
+    ensures { (script : Script) (plain : Plain) (pid : ℕ) (call : Call) → HasShape script plain pid call (machine script plain pid call) }
 {}
 
 /// A call that is answered with an errno leaves all but its caller's control as it was, files and memory too, and the errno
 /// isn't ENOMEM.
 pub fn an_error_changes_the_control_alone_of_all_calls()
     ensures { (script : Script) (plain : Plain) (pid : ℕ) (call : Call) (errno : Errno) (next : Plain)
-        → posix script plain pid call ≡ Done (Fail errno) next → (next ≡ answered script plain pid (Fail errno)) × (errno ≢ ENOMEM) }
+        → machine script plain pid call ≡ Done (Fail errno) next → (next ≡ answered script plain pid (Fail errno)) × (errno ≢ ENOMEM) }
 {}
 
 /// No call is answered ENOMEM: that is a refusal's alone, and the machine refuses nothing.
 pub fn no_reply_of_any_call_wants_memory()
     ensures { (script : Script) (plain : Plain) (pid : ℕ) (call : Call) (reply : Reply) (next : Plain)
-        → posix script plain pid call ≡ Done reply next → reply ≢ Fail ENOMEM }
+        → machine script plain pid call ≡ Done reply next → reply ≢ Fail ENOMEM }
 {}
 
 /// Of all calls `waitpid`, `read`, `write`, `accept` and `poll` alone may block. A `connect` never does: its peer waits for it.
 pub fn five_calls_alone_may_block()
     ensures { (script : Script) (plain : Plain) (pid : ℕ) (call : Call)
-        → posix script plain pid call ≡ Blocked → may_block call ≡ true }
+        → machine script plain pid call ≡ Blocked → may_block call ≡ true }
 {}

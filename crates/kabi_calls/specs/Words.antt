@@ -1,5 +1,5 @@
 -- The words of calls, as scripts and reports write them.
-use Rattle.std.specs.Prelude.{ℕ, Bool, true, false, List, codes}
+use Rattle.std.specs.Prelude.{ℕ, List, codes}
 use Rattle.kabi_calls.specs.declared.calls.CallKind.{CallKind}
 use Rattle.kabi_calls.specs.declared.calls.CallKind.TheVariants as kind
 
@@ -46,18 +46,3 @@ word_of kind.Connect = codes "connect"
 word_of kind.Accept = codes "accept"
 word_of kind.Shutdown = codes "shutdown"
 word_of kind.Poll = codes "poll"
-
--- the calls that can be run
-abbrev pub is_built : CallKind → Bool
-is_built kind.Getpid = true
-is_built kind.Getppid = true
-is_built kind.SchedYield = true
-is_built kind.Fork = true
-is_built kind.Exit = true
-is_built kind.Waitpid = true
-is_built kind.Kill = true
-is_built kind.Mmap = true
-is_built kind.Munmap = true
-is_built kind.Store = true
-is_built kind.Load = true
-is_built _ = false

@@ -1,5 +1,5 @@
 ghost use Rattle.std.specs.Prelude.{◌≡◌};
-ghost use Rattle.kabi_calls.specs.Words.{word_of, is_built};
+ghost use Rattle.kabi_calls.specs.Words.{word_of};
 
 use crate::CallKind;
 
@@ -50,26 +50,6 @@ impl CallKind {
             CallKind::Accept => "accept",
             CallKind::Shutdown => "shutdown",
             CallKind::Poll => "poll",
-        }
-    }
-
-    /// Whether the call can be run.
-    pub fn built(self) -> bool
-        ensures { result ≡ is_built self }
-    {
-        match self {
-            CallKind::Getpid
-            | CallKind::Getppid
-            | CallKind::SchedYield
-            | CallKind::Fork
-            | CallKind::Exit
-            | CallKind::Waitpid
-            | CallKind::Kill
-            | CallKind::Mmap
-            | CallKind::Munmap
-            | CallKind::Store
-            | CallKind::Load => true,
-            _ => false,
         }
     }
 }

@@ -12,7 +12,7 @@ use Rattle.posix_defs.specs.Process.{Process, Table, runs}
 use Rattle.posix_defs.specs.Tree.{Tree, is_in_use, new_tree}
 use Rattle.posix_defs.specs.Files.State.{Files, nodes_among, opened_nodes}
 use Rattle.posix_defs.specs.Files.Bare.{IsBare}
-use Rattle.posix_defs.specs.SoundTasks.{AllAtHome}
+use Rattle.kern_laws.specs.AtHome.{AllAtHome}
 use Rattle.std.proofs.lemmas.Bool.Decides.{eqb_tells}
 
 -- the number that is in a list is its first, or is behind it

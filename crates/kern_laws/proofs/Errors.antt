@@ -9,7 +9,7 @@ use Rattle.kabi_types.specs.declared.scripts.Script.{Script}
 use Rattle.posix_defs.specs.Plain.{Plain, answered}
 use Rattle.posix_defs.specs.Answer.{Done}
 use Rattle.posix_defs.specs.Machine.{machine}
-use Rattle.answer_laws.proofs.Built.{machine_shape}
+use Rattle.answer_laws.proofs.Shapes.{machine_shape}
 use Rattle.answer_laws.proofs.Failing.{fails_so, wants_not}
 
 pub fails_alone : (script : Script) (plain : Plain) (pid : ℕ) (which : Call) (errno : Errno) (next : Plain)

@@ -30,7 +30,7 @@ use Rattle.posix_defs.specs.Machine.{machine}
 use Rattle.kern_laws.proofs.LivingVictim.{victim_lives}
 use Rattle.answer_laws.specs.Shapes as shape
 use Rattle.answer_laws.specs.Shapes.{HasShape}
-use Rattle.answer_laws.proofs.Built.{machine_shape}
+use Rattle.answer_laws.proofs.Shapes.{machine_shape}
 use Rattle.kern_laws.proofs.Remembering.{moves_on, remembers_on}
 use Rattle.kern_laws.proofs.TablePlaces.{was_made, same_in_front, in_longer, with_other, with_same, is_gone, each_changed}
 

@@ -7,6 +7,7 @@ pub mod Families
 pub mod Errors
 pub mod TwoRun
 pub mod Nexts
+pub mod AtHome
 pub mod Tasks
 pub mod BuriedTasks
 pub mod Caches

@@ -3,17 +3,13 @@ use Rattle.std.proofs.Common.{◌≡◌, ◌≢◌, ℕ, zero, suc, ◌+◌, ◌
 use Rattle.std.proofs.lemmas.Bool.Decides.{eqb_tells}
 use Rattle.std.proofs.lemmas.List.{length-set, length-map}
 use Rattle.kabi_calls.specs.declared.calls.Call.{Call}
-use Rattle.kabi_calls.specs.declared.calls.Call.TheVariants as call
-use Rattle.kabi_calls.specs.Arguments.{argument_fault}
-use Rattle.kabi_values.specs.declared.errnos.Errno.{Errno}
-use Rattle.kabi_values.specs.declared.errnos.Errno.TheVariants.{EINVAL}
 use Rattle.kabi_values.specs.declared.replies.Reply.{Reply}
 use Rattle.kabi_values.specs.declared.replies.Reply.TheVariants.{Val, Waited, Fail}
 use Rattle.kabi_types.specs.declared.scripts.Control.{Control}
 use Rattle.kabi_types.specs.declared.scripts.Script.{Script}
 use Rattle.posix_defs.specs.ByPid.{at_pid, with_pid}
-use Rattle.posix_defs.specs.Process.{Process, Table, Status, Alive, Ended, process_at, is_alive, is_alive_in, runs}
-use Rattle.posix_defs.specs.Plain.{Plain, answered, control_of, last_pid, root, at_start, with_control, with_files}
+use Rattle.posix_defs.specs.Process.{Process, Table, Status, Alive, Ended, process_at, is_alive, is_alive_in, runs, with_directory, working_in}
+use Rattle.posix_defs.specs.Plain.{Plain, answered, control_of, last_pid, at_start, with_control, with_files, with_table}
 use Rattle.posix_defs.specs.Answer.{Answer, Blocked, Done, Part, failed, replied}
 use Rattle.posix_defs.specs.Answer as answer
 use Rattle.posix_defs.specs.Ending.{die, die_in, leaves, left_behind, left_child, ended_as}
@@ -23,14 +19,13 @@ use Rattle.posix_defs.specs.MemoryCalls.{remembered}
 use Rattle.posix_defs.specs.Control.{after, after_part, restarted, settled}
 use Rattle.posix_defs.specs.Files.State.{Files}
 use Rattle.posix_defs.specs.Files.Closing.{after_exec_of}
-use Rattle.posix_defs.specs.Machine.{machine, unless_wrong}
+use Rattle.posix_defs.specs.Machine.{machine}
 use Rattle.posix_defs.specs.Waiting.{reaped}
-use Rattle.posix_defs.specs.SoundTasks.{AllAtHome}
 use Rattle.answer_laws.specs.Shapes as shape
 use Rattle.answer_laws.specs.Shapes.{HasShape}
-use Rattle.answer_laws.proofs.Built.{machine_shape}
+use Rattle.answer_laws.proofs.Shapes.{machine_shape}
 use Rattle.kern_laws.proofs.Families.{still_alive}
-use Rattle.kern_laws.proofs.Remembering.{alive_still, found_before, length-with_memory}
+use Rattle.kern_laws.proofs.Remembering.{alive_still, alive_working, length-with_memory}
 use Rattle.kern_laws.proofs.TablePlaces.{at_end, each_changed, in_longer, is_gone, same_in_front, was_made, with_other, with_same}
 
 -- The machine goes on behind a call of a process.
@@ -41,7 +36,6 @@ pub record IsNext (old new : Plain) (pid : ℕ) : Type 0 where
   pub controls : (other : ℕ) → other ≢ pid → other ≤ last_pid old → control_of new other ≡ control_of old other
   pub revived : (other : ℕ) → other ≤ last_pid old → is_alive new.table other ≡ true → is_alive old.table other ≡ true
   pub born : (other : ℕ) → last_pid old < other → other ≤ last_pid new → is_alive new.table other ≡ true
-  pub home : AllAtHome old.table → AllAtHome new.table
 
 pub same_next : (plain : Plain) (pid : ℕ) → length plain.table ≡ last_pid plain → IsNext plain plain pid
 same_next plain pid made = record {
@@ -51,10 +45,9 @@ same_next plain pid made = record {
   controls = λ other apart within. refl;
   revived = λ other within alive. alive;
   born = λ other past within. absurd (omega arith);
-  home = λ home. home;
 }
 
-length-with_pid : {X : Type 0} (xs : List X) (pid : ℕ) (x : X) → length (with_pid xs pid x) ≡ length xs
+pub length-with_pid : {X : Type 0} (xs : List X) (pid : ℕ) (x : X) → length (with_pid xs pid x) ≡ length xs
 length-with_pid xs zero x = refl
 length-with_pid xs (suc i) x = length-set xs i x
 
@@ -90,7 +83,6 @@ controlled_next plain base pid control next =
       controls = λ other apart within. ap (λ found. unwrap_or found (at_start 0)) (at_other base.controls pid other _ apart) ∙ next.controls other apart within;
       revived = next.revived;
       born = λ other past within. next.born other past (subst (λ n. other ≤ n) same within);
-      home = next.home;
     }
 
 -- a reply changes the caller's control alone
@@ -107,7 +99,6 @@ next_of_files plain new files pid next = record {
   controls = next.controls;
   revived = next.revived;
   born = next.born;
-  home = next.home;
 }
 
 with_files_next : (plain new : Plain) (files : Files) (pid : ℕ) → IsNext plain new pid → IsNext plain (with_files new files) pid
@@ -118,7 +109,6 @@ with_files_next plain new files pid next = record {
   controls = next.controls;
   revived = next.revived;
   born = next.born;
-  home = next.home;
 }
 
 -- who was left behind was there before, as alive as then
@@ -131,17 +121,6 @@ left_alive pid (Some process) e = go (process.parent == pid) process.status refl
     go true Alive is e = ap runs is
     go true (Ended _) is e = cc
     go false status is e = e
-
-left_at_home : (pid : ℕ) (there : Option Process) (process : Process) → left_behind pid there ≡ Some process
-    → (old : Process) × (there ≡ Some old) × (process.directory ≡ old.directory)
-left_at_home pid None process e = cc
-left_at_home pid (Some old) process e = go (old.parent == pid) old.status e
-  where
-    go : (b : Bool) (status : Status) → (if b then left_child status old else Some old) ≡ Some process
-        → (before : Process) × (Some old ≡ Some before) × (process.directory ≡ before.directory)
-    go true Alive e = (old, refl, (let same : process ≡ record old { parent = 1 } = (cc) in ap (λ p. p.directory) same))
-    go true (Ended _) e = cc
-    go false status e = (old, refl, (let same : process ≡ old = (cc) in ap (λ p. p.directory) same))
 
 -- what a process that ends leaves in the table
 ended_alive : (status : ℕ) (there : Option Process) → is_alive_in (ended_as status there) ≡ false
@@ -188,43 +167,14 @@ leaves_alive table pid other status alive = elim (eqb_tells other pid) [
               (subst (λ n. other ≤ n) (length-with_pid (map (left_behind pid) table) pid (ended_as status (process_at table pid))) made.1),
         ))
 
--- in a table whose process ends everybody works where he did
-leaves_home : (table : Table) (pid status : ℕ) → AllAtHome table → AllAtHome (leaves table pid status)
-leaves_home table pid status home other process is = elim (eqb_tells other pid) [
-  | inl same ↦ at_end same.1
-  | inr apart ↦ elsewhere (sym (each_changed (left_behind pid) table other refl) ∙ sym (with_other (map (left_behind pid) table) pid other _ apart.1) ∙ is)
-]
-  where
-    was : (old : Process) → process_at table other ≡ Some old → process.directory ≡ old.directory → process.directory ≡ root
-    was old there same = same ∙ home other old there
-
-    elsewhere : left_behind pid (process_at table other) ≡ Some process → process.directory ≡ root
-    elsewhere e = let found = left_at_home pid (process_at table other) process e in was found.0 found.1 found.2
-
-    as_ended : (there : Option Process) → ended_as status there ≡ Some process → (old : Process) × (there ≡ Some old) × (process.directory ≡ old.directory)
-    as_ended None e = cc
-    as_ended (Some old) e = (old, refl, (let same : process ≡ record old { status = Ended status; memory = no_memory } = (cc) in ap (λ p. p.directory) same))
-
-    at_end : other ≡ pid → process.directory ≡ root
-    at_end same =
-        let made = was_made (leaves table pid status) other process is in
-        let within : pid ≤ length (map (left_behind pid) table) =
-        subst (λ p. p ≤ length (map (left_behind pid) table)) same
-        (subst (λ n. other ≤ n) (length-with_pid (map (left_behind pid) table) pid (ended_as status (process_at table pid))) made.1) in
-        let positive : 0 < pid = subst (λ p. 0 < p) same made.0 in
-        let found = as_ended (process_at table pid)
-        (sym (with_same (map (left_behind pid) table) pid (ended_as status (process_at table pid)) positive within)
-        ∙ ap (process_at (leaves table pid status)) (sym same) ∙ is) in
-        found.2 ∙ home pid found.0 found.1
-
-emptied : (table : Table) (pid : ℕ) → process_at (map (λ _. None) table) pid ≡ None
+pub emptied : (table : Table) (pid : ℕ) → process_at (map (λ _. None) table) pid ≡ None
 emptied table pid = each_changed (λ _. None) table pid refl
 
 length-leaves : (table : Table) (pid status : ℕ) → length (leaves table pid status) ≡ length table
 length-leaves table pid status =
     length-with_pid (map (left_behind pid) table) pid (ended_as status (process_at table pid)) ∙ length-map table (left_behind pid)
 
-nothing_is : {X : Type 0} {x : X} (o : Option X) → o ≡ None → o ≡ Some x → ⊥
+pub nothing_is : {X : Type 0} {x : X} (o : Option X) → o ≡ None → o ≡ Some x → ⊥
 nothing_is o e f = cc
 
 leaves_next : (plain new : Plain) (pid target status : ℕ) → new.controls ≡ plain.controls → new.table ≡ leaves plain.table target status
@@ -238,7 +188,6 @@ leaves_next plain new pid target status controls table made =
       controls = λ other apart within. ap (λ cs. unwrap_or (at_pid cs other) (at_start 0)) controls;
       revived = λ other within alive. (leaves_alive plain.table target other status (subst (λ t. is_alive t other ≡ true) table alive)).1;
       born = λ other past within. absurd (omega arith);
-      home = λ home. subst AllAtHome (sym table) (leaves_home plain.table target status home);
     }
 
 -- a process ends, itself or another
@@ -252,7 +201,6 @@ die_next plain pid (suc zero) status made =
       controls = λ other apart within. refl;
       revived = λ other within alive. absurd (not_both _ alive (ap is_alive_in (emptied plain.table other)));
       born = λ other past within. absurd (omega arith);
-      home = λ home other process is. absurd (nothing_is _ (emptied plain.table other) is);
     }
 die_next plain pid (suc (suc n)) status made = leaves_next plain (die plain (suc (suc n)) status) pid (suc (suc n)) status refl refl made
 
@@ -307,19 +255,12 @@ reaped_next plain pid child made = record {
   controls = λ other apart within. refl;
   revived = λ other within alive. was other alive;
   born = λ other past within. absurd (omega arith);
-  home = λ home other process is. at_home home other process is;
 }
   where
     was : (other : ℕ) → is_alive (with_pid plain.table child None) other ≡ true → is_alive plain.table other ≡ true
     was other alive = elim (eqb_tells other child) [
       | inl same ↦ absurd (not_both _ alive (ap is_alive_in (ap (process_at (with_pid plain.table child None)) same.1 ∙ is_gone plain.table child)))
       | inr apart ↦ ap is_alive_in (sym (with_other plain.table child other None apart.1)) ∙ alive
-    ]
-
-    at_home : AllAtHome plain.table → (other : ℕ) (process : Process) → process_at (with_pid plain.table child None) other ≡ Some process → process.directory ≡ root
-    at_home home other process is = elim (eqb_tells other child) [
-      | inl same ↦ absurd (nothing_is _ (ap (process_at (with_pid plain.table child None)) same.1 ∙ is_gone plain.table child) is)
-      | inr apart ↦ home other process (sym (with_other plain.table child other None apart.1) ∙ is)
     ]
 
 -- who is alive isn't reaped with another
@@ -338,11 +279,6 @@ child_alive : (parent : ℕ) (there : Option Process) → is_alive_in there ≡ 
 child_alive parent None e = e
 child_alive parent (Some process) e = e
 
-child_home : (parent : ℕ) (there : Option Process) (process : Process) → child_of parent there ≡ Some process
-    → (old : Process) × (there ≡ Some old) × (process.directory ≡ old.directory)
-child_home parent None process e = cc
-child_home parent (Some old) process e = (old, refl, (let same : process ≡ record old { parent = parent } = (cc) in ap (λ p. p.directory) same))
-
 child_next : (script : Script) (plain : Plain) (pid : ℕ) → length plain.table ≡ last_pid plain → is_alive plain.table pid ≡ true
     → IsNext plain (with_child script plain pid) pid
 child_next script plain pid made alive =
@@ -357,10 +293,6 @@ child_next script plain pid made alive =
       born = λ other past within.
           let last : other ≡ suc (length plain.table) = omega arith in
           ap (is_alive (plain.table ++ child ∷ [])) last ∙ ap is_alive_in (at_end plain.table child) ∙ child_alive pid (process_at plain.table pid) alive;
-      home = λ home other process is. elim (in_longer plain.table child other process is) [
-        | inl before ↦ home other process before.1
-        | inr last ↦ let found = child_home pid (process_at plain.table pid) process last.1 in found.2 ∙ home pid found.0 found.1
-      ];
     }
   where
     child : Option Process
@@ -385,52 +317,60 @@ remembered_next plain pid memory made = record {
   controls = λ other apart within. refl;
   revived = λ other within alive. sym (alive_still plain.table pid other memory) ∙ alive;
   born = λ other past within. absurd (omega arith);
-  home = λ home other process is. let old = found_before plain.table pid other memory process is in old.2.directory ∙ home other old.0 old.1;
 }
 
--- whatever has a shape goes so; in another directory a call works of which so much is known
+-- its caller works in another directory
+moved_next : (plain : Plain) (pid directory : ℕ) → length plain.table ≡ last_pid plain
+    → IsNext plain (with_table plain (with_directory plain.table pid directory)) pid
+moved_next plain pid directory made = record {
+  more = omega arith;
+  one = omega arith;
+  made = length-with_pid plain.table pid (working_in directory (process_at plain.table pid)) ∙ made;
+  controls = λ other apart within. refl;
+  revived = λ other within alive. sym (alive_working plain.table pid other directory) ∙ alive;
+  born = λ other past within. absurd (omega arith);
+}
+
+-- whatever has a shape goes so
 by_shape : (script : Script) (plain : Plain) (pid : ℕ) (which : Call) (given : Answer) → length plain.table ≡ last_pid plain → is_alive plain.table pid ≡ true
-    → ((path : List ℕ) → which ≡ call.Chdir path → AnswerGoes plain pid given) → HasShape script plain pid which given → AnswerGoes plain pid given
-by_shape script plain pid which given made alive chdir (shape.blocks may is) = subst (AnswerGoes plain pid) (sym is) tt
-by_shape script plain pid which given made alive chdir (shape.fails errno other is) = subst (AnswerGoes plain pid) (sym is) (told_goes script plain pid (Fail errno) made alive)
-by_shape script plain pid which given made alive chdir (shape.tells files reply is_said is) =
+    → HasShape script plain pid which given → AnswerGoes plain pid given
+by_shape script plain pid which given made alive (shape.blocks may is) = subst (AnswerGoes plain pid) (sym is) tt
+by_shape script plain pid which given made alive (shape.fails errno other is) = subst (AnswerGoes plain pid) (sym is) (told_goes script plain pid (Fail errno) made alive)
+by_shape script plain pid which given made alive (shape.tells files reply is_said is) =
     subst (AnswerGoes plain pid) (sym is) (replied_goes script plain (with_files plain files) pid reply (with_files_next plain plain files pid (same_next plain pid made)) alive)
-by_shape script plain pid which given made alive chdir (shape.puts files memory reply is_said put is) =
+by_shape script plain pid which given made alive (shape.puts files memory reply is_said put is) =
     subst (AnswerGoes plain pid) (sym is) (replied_goes script plain (remembered (with_files plain files) pid memory) pid reply
     (next_of_files plain (remembered (with_files plain files) pid memory) files pid (remembered_next (with_files plain files) pid memory made)) (alive_still plain.table pid pid memory ∙ alive))
-by_shape script plain pid which given made alive chdir (shape.moves path directory of entered is) = chdir path of
-by_shape script plain pid which given made alive chdir (shape.parts files moved part is) =
+by_shape script plain pid which given made alive (shape.moves path directory of entered is) =
+    subst (AnswerGoes plain pid) (sym is) (replied_goes script plain (with_table plain (with_directory plain.table pid directory)) pid (Val (pos 0))
+    (moved_next plain pid directory made) (alive_working plain.table pid pid directory ∙ alive))
+by_shape script plain pid which given made alive (shape.parts files moved part is) =
     subst (AnswerGoes plain pid) (sym is) (
       controlled_next plain (with_files plain files) pid (after_part (control_of (with_files plain files) pid) moved)
           (with_files_next plain plain files pid (same_next plain pid made)),
       alive,
     )
-by_shape script plain pid which given made alive chdir (shape.starts place is) =
+by_shape script plain pid which given made alive (shape.starts place is) =
     subst (AnswerGoes plain pid) (sym is) (
       controlled_next plain (with_files (remembered plain pid no_memory) (after_exec_of plain.files pid)) pid
           (restarted (settled script (control_of plain pid)) place)
           (with_files_next plain (remembered plain pid no_memory) (after_exec_of plain.files pid) pid (remembered_next plain pid no_memory made)),
       alive_still plain.table pid pid no_memory ∙ alive,
     )
-by_shape script plain pid which given made alive chdir (shape.forks is) =
+by_shape script plain pid which given made alive (shape.forks is) =
     subst (AnswerGoes plain pid) (sym is) (replied_goes script plain (with_child script plain pid) pid (Val (pos (last_pid plain + 1))) (child_next script plain pid made alive)
     (still_alive plain.table (child_of pid (process_at plain.table pid)) pid alive))
-by_shape script plain pid which given made alive chdir (shape.reaps child status ended is) =
+by_shape script plain pid which given made alive (shape.reaps child status ended is) =
     subst (AnswerGoes plain pid) (sym is) (replied_goes script plain (reaped plain child) pid (Waited child status) (reaped_next plain pid child made)
     (reaped_keeps plain.table child pid ended alive))
-by_shape script plain pid which given made alive chdir (shape.ends status is) =
+by_shape script plain pid which given made alive (shape.ends status is) =
     subst (AnswerGoes plain pid) (sym is) (die_next plain pid pid status made, die_ends plain.table pid status)
-by_shape script plain pid which given made alive chdir (shape.ends_another target signal of first own lives is) =
+by_shape script plain pid which given made alive (shape.ends_another target signal of first own lives is) =
     subst (AnswerGoes plain pid) (sym is) (replied_goes script plain (die plain target 9) pid (Val (pos 0)) (die_next plain pid target 9 made)
     (die_keeps plain.table target pid 9 first (λ same. own (sym same)) alive))
 
--- whatever is answered today goes so: `chdir`, after which not everybody works in the root any more, isn't built
+-- whatever is answered goes so
 pub posix_goes : (script : Script) (plain : Plain) (pid : ℕ) (which : Call) → length plain.table ≡ last_pid plain → is_alive plain.table pid ≡ true
     → AnswerGoes plain pid (machine script plain pid which)
 posix_goes script plain pid which made alive =
-    by_shape script plain pid which (machine script plain pid which) made alive (λ path of. subst (λ w. AnswerGoes plain pid (machine script plain pid w)) (sym of) (unbuilt (argument_fault (call.Chdir path))))
-    (machine_shape script plain pid which)
-  where
-    unbuilt : (fault : Option Errno) → AnswerGoes plain pid (unless_wrong script plain pid fault (failed script plain pid EINVAL))
-    unbuilt None = told_goes script plain pid (Fail EINVAL) made alive
-    unbuilt (Some errno) = told_goes script plain pid (Fail errno) made alive
+    by_shape script plain pid which (machine script plain pid which) made alive (machine_shape script plain pid which)

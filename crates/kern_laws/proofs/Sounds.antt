@@ -33,10 +33,10 @@ use Rattle.posix_defs.specs.Relief.{refused_in}
 use Rattle.posix_defs.specs.CoreState.{CoreState, asked_by, boot_state, with_phase, with_phase_in}
 use Rattle.posix_defs.specs.CoreEvent.{Turns, KillsOne, StepsBy, born, buried, phase_after, tasks_after, tasks_without}
 use Rattle.posix_defs.specs.CoreRun.{IsRunBy, boots, goes_on}
-use Rattle.posix_defs.specs.SoundTasks.{AreRising, HasAsked, IsSound, PhaseFits, TaskFits, AllAtHome}
+use Rattle.posix_defs.specs.SoundTasks.{AreRising, HasAsked, IsSound, PhaseFits, TaskFits}
 use Rattle.answer_laws.specs.Shapes as shape
 use Rattle.answer_laws.specs.Shapes.{HasShape}
-use Rattle.answer_laws.proofs.Built.{machine_shape}
+use Rattle.answer_laws.proofs.Shapes.{machine_shape}
 use Rattle.answer_laws.proofs.GoingOn.{call_part}
 use Rattle.posix_defs.proofs.PriceLemmas.{write_falls}
 use Rattle.kern_laws.proofs.TablePlaces.{was_made}
@@ -248,7 +248,6 @@ turn_sound script old pid noted new sound step =
       rising = subst (AreRising 0) (sym step.tasks) stays.rising;
       each = subst (AllByRecursion (TaskFits script after)) (sym step.tasks) stays.each;
       all = λ other alive. ap (list_any (λ task. task.pid == other)) step.tasks ∙ stays.all other alive;
-      home = own.0.home sound.home;
       may_keep = step.answers.may_keep;
     }
 
@@ -290,7 +289,6 @@ kill_sound script old pid noted new sound step =
           let few : other ≤ length after.table = (was_made after.table other there.0 there.1).1 in
           let counted : length after.table ≡ last_pid after = next.made in
           next.revived other (omega arith) alive));
-      home = next.home sound.home;
       may_keep = step.kills.may_keep;
     }
 
@@ -304,7 +302,6 @@ phase_sound script old pid phase sound fits = record {
       (λ task apart fit. fit)
       (λ task same fit. record { made = fit.made; phase = subst (λ p. PhaseFits script old.world.plain p phase) (sym same) fits }) sound.each;
   all = λ other alive. any_with old.tasks pid other phase ∙ sound.all other alive;
-  home = sound.home;
   may_keep = sound.may_keep;
 }
 
@@ -346,7 +343,6 @@ refuse_sound script old pid sound alive =
             phase = ap (is_alive plain.table) same ∙ alive;
           }) sound.each;
       all = λ other lives. any_with old.tasks pid other User ∙ sound.all other lives;
-      home = next.home sound.home;
       may_keep = record { names = sound.may_keep.names; blocks = sound.may_keep.blocks; vnodes = sound.may_keep.vnodes; pinned = sound.may_keep.pinned; true_names = sound.may_keep.true_names; on_disk = sound.may_keep.on_disk; in_use = sound.may_keep.in_use };
     }
 
@@ -357,7 +353,6 @@ abandon_sound script old pid sound dead = record {
   rising = rising_without 0 old.tasks pid sound.rising;
   each = each_without (TaskFits script old.world.plain) old.tasks pid sound.each;
   all = λ other lives. any_without old.tasks pid other (apart other lives) ∙ sound.all other lives;
-  home = sound.home;
   may_keep = sound.may_keep;
 }
   where
@@ -396,7 +391,6 @@ step_sound script old (Evict what) noted new step sound =
       each = subst (AllByRecursion (TaskFits script new.world.plain)) (sym step.tasks)
           (subst (λ p. AllByRecursion (TaskFits script p) old.tasks) (sym plain) sound.each);
       all = λ other alive. ap (list_any (λ task. task.pid == other)) step.tasks ∙ sound.all other (subst (λ p. is_alive p.table other ≡ true) plain alive);
-      home = subst (λ p. AllAtHome p.table) (sym plain) sound.home;
       may_keep = subst (λ p. MayKeep p new.world.kept) (sym plain) (keeps_left old.world.plain old.world.kept what new.world.kept step.evicts.kept sound.may_keep);
     }
 step_sound script old (Kill pid) noted new step sound = kill_sound script old pid noted new sound step
@@ -415,14 +409,8 @@ boot_sound script = record {
   rising = (let h : 0 < 1 = omega arith in h, tt);
   each = (record { made = let h : 1 ≤ 1 = omega arith in h; phase = refl }, tt);
   all = first_alone;
-  home = at_home;
   may_keep = record { names = tt; blocks = tt; vnodes = (tt, tt); pinned = λ node e. e; true_names = tt; on_disk = tt; in_use = (refl, tt) };
 }
-  where
-    at_home : (pid : ℕ) (process : Process) → process_at (Some first_process ∷ []) pid ≡ Some process → process.directory ≡ root
-    at_home zero process e = cc
-    at_home (suc zero) process e = let same : first_process ≡ process = (cc) in sym (ap (λ p. p.directory) same)
-    at_home (suc (suc n)) process e = cc
 
 pub is_sound : {rule : ℕ → CoreState → Event → Type 0} {script : Script} {steps : ℕ} {run : List Noted} {s : CoreState} → IsRunBy rule script steps run s
     → IsSound script s

@@ -1,4 +1,4 @@
-pub mod StayingBare
+pub mod AtHome
 pub mod Sleeping
 pub mod WorkedFamily
 pub mod TwoProcesses

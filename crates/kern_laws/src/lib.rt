@@ -19,7 +19,7 @@ pub use prices::{
 };
 pub use processes::{
     a_pid_is_never_used_again, an_error_changes_the_control_alone, answers_keep_a_family,
-    nobody_outlives_the_first_process, nothing_open_stays_nothing_open, processes_are_a_family,
+    nobody_outlives_the_first_process, processes_are_a_family,
     two_processes_have_a_history, two_processes_run,
 };
 pub use relief::{

@@ -13,8 +13,6 @@ ghost use Rattle.posix_defs.specs.Plain.{Plain, answered, boot_plain, last_pid};
 ghost use Rattle.posix_defs.specs.Answer.{Blocked, Done, Ended};
 ghost use Rattle.posix_defs.specs.Family.{IsFamily, IsKept, GoesOn, KeepsOn};
 ghost use Rattle.posix_defs.specs.Machine.{machine};
-ghost use Rattle.posix_defs.specs.Files.Bare.{IsBare};
-ghost use Rattle.kern_laws.specs.StayingBare.{StaysBare};
 ghost use Rattle.kern_laws.specs.TwoProcesses.{next_answer, two_entries, two_script};
 ghost use Rattle.posix_defs.specs.History.{Past, IsRun, MayFollow};
 
@@ -46,14 +44,6 @@ pub fn a_pid_is_never_used_again()
 pub fn nobody_outlives_the_first_process()
     ensures { (script : Script) (history : List Entry) (past : Past) → IsRun script history past
         → is_alive past.plain.table 1 ≡ false → (pid : ℕ) → is_alive past.plain.table pid ≡ false }
-{}
-
-/// As long as no call opens anything, nothing open stays nothing open: whatever a call is answered, and in every machine
-/// that a history leads to.
-pub fn nothing_open_stays_nothing_open()
-    ensures answered { (script : Script) (plain : Plain) (pid : ℕ) (call : Call)
-        → IsBare plain.files → StaysBare (machine script plain pid call) }
-    ensures reached { (script : Script) (history : List Entry) (past : Past) → IsRun script history past → IsBare past.plain.files }
 {}
 
 /// A call that is answered with an errno leaves all but its caller's control as it was, and the errno isn't ENOMEM.

@@ -25,7 +25,7 @@ use Rattle.posix_defs.specs.Enabled.{IsIn}
 use Rattle.posix_defs.specs.SoundTasks.{IsSound, PhaseFits, TaskFits}
 use Rattle.answer_laws.specs.Shapes as shape
 use Rattle.answer_laws.specs.Shapes.{HasShape}
-use Rattle.answer_laws.proofs.Built.{machine_shape}
+use Rattle.answer_laws.proofs.Shapes.{machine_shape}
 use Rattle.kern_laws.proofs.Families.{still_alive}
 use Rattle.kern_laws.proofs.Nexts.{reaped_keeps}
 use Rattle.kern_laws.proofs.Remembering.{alive_still, alive_working}

@@ -1,5 +1,5 @@
-//! The kernel heap by class: ten kinds of objects under keys of its own, their live bytes, and the
-//! purse of a call.
+//! The kernel heap: ten shelves of objects by class under keys of their own, the bytes that they take, and the most that
+//! they took since the heap was marked.
 #![tactic(auto)]
 
 mod kheap;

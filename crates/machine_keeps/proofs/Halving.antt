@@ -19,12 +19,11 @@ use Rattle.posix_defs.specs.Ending.{closed_by, die, exit_status}
 use Rattle.posix_defs.specs.Forking.{child_of, is_full, with_child}
 use Rattle.posix_defs.specs.Killing.{is_asking, kill, sent_to, struck}
 use Rattle.posix_defs.specs.Killing as killing
-use Rattle.posix_defs.specs.Machine.{unless_wrong}
+use Rattle.posix_defs.specs.Machine.{machine, unless_wrong}
 use Rattle.posix_defs.specs.Made.{further}
 use Rattle.posix_defs.specs.Memory.{no_memory}
 use Rattle.posix_defs.specs.MemoryCalls.{remembered}
 use Rattle.posix_defs.specs.Plain.{Plain, answered, at_start, boot_plain, call_of, control_of, last_pid, with_control, with_files, with_table}
-use Rattle.posix_defs.specs.Posix.{posix}
 use Rattle.posix_defs.specs.Process.{Process, is_alive, is_alive_in, process_at, runs, with_directory}
 use Rattle.posix_defs.specs.Files.Descriptors.{Descriptor, descriptor_at, descriptor_of, is_named}
 use Rattle.posix_defs.specs.Files.Descriptions.{Description, description_at, with_description}
@@ -49,7 +48,7 @@ use Rattle.machine_laws.proofs.Naming.{by_named, target_descriptions}
 use Rattle.machine_laws.proofs.Places.{naming, names_there, not_some, opened_same, others_after, some_same, there_within}
 use Rattle.machine_laws.proofs.Placing.{alive_moved}
 use Rattle.machine_laws.proofs.Reaches.{reached_keeps}
-use Rattle.answer_laws.proofs.Shapes.{shape_of}
+use Rattle.answer_laws.proofs.Shapes.{machine_shape}
 use Rattle.machine_laws.proofs.SharedOffsets.{stay_open}
 use Rattle.machine_laws.proofs.Shutting.{same_of, target_same}
 use Rattle.machine_laws.proofs.Stepping.{step_of}
@@ -456,7 +455,7 @@ module _ (script : Script) (plain : Plain) (pid : ℕ) (half : Half script plain
 
   -- ---- calls that end a process, and `fork`
 
-  ends_on : (call : Call) → is_ending call ≡ true → LeadsTo (Half script) (posix script plain pid call)
+  ends_on : (call : Call) → is_ending call ≡ true → LeadsTo (Half script) (machine script plain pid call)
   ends_on (calls.Exit status) is = die_half script plain pid (exit_status status) half
   ends_on (calls.Kill target signal) is = go (argument_fault (calls.Kill target signal))
     where
@@ -465,21 +464,21 @@ module _ (script : Script) (plain : Plain) (pid : ℕ) (half : Half script plain
       go None = kill_is script plain pid (LeadsTo (Half script)) (λ e. still (Fail e)) (still (Val (pos 0))) (die_half script plain pid 9 half) (λ dead. dies_on dead 9 (Val (pos 0))) target signal
   ends_on _ is = absurd (true_false false is refl)
 
-  fork_on : LeadsTo (Half script) (posix script plain pid calls.Fork)
+  fork_on : LeadsTo (Half script) (machine script plain pid calls.Fork)
   fork_on = go (is_full plain)
     where
       go : (b : Bool) → LeadsTo (Half script) (cond b (failed script plain pid EAGAIN) (replied script (with_child script plain pid) pid (Val (pos (last_pid plain + 1)))))
       go true = still (Fail EAGAIN)
       go false = forks_on (Val (pos (last_pid plain + 1)))
 
-  answers_half : LeadsTo (Half script) (posix script plain pid (call_of script plain pid))
+  answers_half : LeadsTo (Half script) (machine script plain pid (call_of script plain pid))
   answers_half = go (is_ending (call_of script plain pid)) refl (is_fork (call_of script plain pid)) refl
     where
-      go : (ends : Bool) → is_ending (call_of script plain pid) ≡ ends → (forks : Bool) → is_fork (call_of script plain pid) ≡ forks → LeadsTo (Half script) (posix script plain pid (call_of script plain pid))
+      go : (ends : Bool) → is_ending (call_of script plain pid) ≡ ends → (forks : Bool) → is_fork (call_of script plain pid) ≡ forks → LeadsTo (Half script) (machine script plain pid (call_of script plain pid))
       go true ending forks is = ends_on (call_of script plain pid) ending
-      go false ending true is = subst (λ which. LeadsTo (Half script) (posix script plain pid which)) (sym (fork_is (call_of script plain pid) is)) fork_on
-      go false ending false is = by_shape (call_of script plain pid) refl (λ same. true_false (is_fork (call_of script plain pid)) (ap is_fork same) is) ending (posix script plain pid (call_of script plain pid))
-          (step_of script plain pid (call_of script plain pid)) (shape_of script plain pid (call_of script plain pid))
+      go false ending true is = subst (λ which. LeadsTo (Half script) (machine script plain pid which)) (sym (fork_is (call_of script plain pid) is)) fork_on
+      go false ending false is = by_shape (call_of script plain pid) refl (λ same. true_false (is_fork (call_of script plain pid)) (ap is_fork same) is) ending (machine script plain pid (call_of script plain pid))
+          (step_of script plain pid (call_of script plain pid)) (machine_shape script plain pid (call_of script plain pid))
 
 -- ---- every machine
 

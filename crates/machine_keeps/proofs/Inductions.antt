@@ -6,7 +6,7 @@ use Rattle.kabi_values.specs.declared.replies.Reply.TheVariants.{Fail}
 use Rattle.kabi_types.specs.declared.scripts.Script.{Script}
 use Rattle.posix_defs.specs.Ending.{die}
 use Rattle.posix_defs.specs.Plain.{Plain, answered, boot_plain, call_of}
-use Rattle.posix_defs.specs.Posix.{posix}
+use Rattle.posix_defs.specs.Machine.{machine}
 use Rattle.posix_defs.specs.Process.{is_alive}
 use Rattle.posix_defs.specs.Files.State.{Files}
 use Rattle.machine_laws.specs.FileSteps.{IsStep, LeadsTo}
@@ -19,7 +19,7 @@ use Rattle.machine_laws.proofs.Stepping.{step_of}
 -- processes make, by refusals and by kills.
 pub record IsInductive (script : Script) (Holds : Plain → Type 0) : Type 0 where
   pub boot : Holds (boot_plain script)
-  pub answer : (plain : Plain) (pid : ℕ) → IsReached script plain → Holds plain → is_alive plain.table pid ≡ true → LeadsTo Holds (posix script plain pid (call_of script plain pid))
+  pub answer : (plain : Plain) (pid : ℕ) → IsReached script plain → Holds plain → is_alive plain.table pid ≡ true → LeadsTo Holds (machine script plain pid (call_of script plain pid))
   pub refuse : (plain : Plain) (pid : ℕ) → IsReached script plain → Holds plain → Holds (answered script plain pid (Fail ENOMEM))
   pub kill : (plain : Plain) (pid status : ℕ) → IsReached script plain → Holds plain → Holds (die plain pid status)
 
@@ -36,6 +36,6 @@ by_induction script Holds inductive (reached.kills plain pid status before) = in
 
 -- what each step of files keeps each answer keeps
 pub answers_keep : (Holds : Files → Type 0) (script : Script) (plain : Plain) (pid : ℕ) (call : Call)
-    → ((next : Files) → IsStep plain pid call next → Holds next) → LeadsTo (λ next. Holds next.files) (posix script plain pid call)
+    → ((next : Files) → IsStep plain pid call next → Holds next) → LeadsTo (λ next. Holds next.files) (machine script plain pid call)
 answers_keep Holds script plain pid call kept = leads_on (λ next. IsStep plain pid call next.files) (λ next. Holds next.files) (λ next stepped. kept next.files stepped)
-    (posix script plain pid call) (step_of script plain pid call)
+    (machine script plain pid call) (step_of script plain pid call)

@@ -12,14 +12,13 @@ use Rattle.posix_defs.specs.Answer.{Answer}
 use Rattle.posix_defs.specs.DiskFormat.{table_nodes}
 use Rattle.posix_defs.specs.Ending.{closed_by, die, die_in}
 use Rattle.posix_defs.specs.Forking.{with_child}
-use Rattle.posix_defs.specs.Machine.{unless_wrong}
+use Rattle.posix_defs.specs.Machine.{answer_to, machine, unless_wrong}
 use Rattle.posix_defs.specs.Memory.{Memory, no_memory}
 use Rattle.posix_defs.specs.MemoryCalls.{remembered}
 use Rattle.posix_defs.specs.PathCalls.{node_led}
 use Rattle.posix_defs.specs.Paths.{resolve}
 use Rattle.posix_defs.specs.Pipe.{Pipe}
 use Rattle.posix_defs.specs.Plain.{Plain, answered, boot_plain, call_of, control_of, first_process, last_pid, with_files, with_table}
-use Rattle.posix_defs.specs.Posix.{posix, posix_answer}
 use Rattle.posix_defs.specs.Process.{Table, directory_of, is_alive, memory_of, with_directory, with_memory}
 use Rattle.posix_defs.specs.Sockets.{socket_at}
 use Rattle.posix_defs.specs.Tree.{is_directory, is_in_use, links_at, new_tree}
@@ -35,7 +34,7 @@ use Rattle.answer_laws.specs.Shapes as shape
 use Rattle.answer_laws.specs.Shapes.{AreRead, HasShape, IsPut}
 use Rattle.machine_laws.proofs.Leading.{leads_on}
 use Rattle.machine_laws.proofs.Places.{not_some, some_same}
-use Rattle.answer_laws.proofs.Shapes.{shape_of}
+use Rattle.answer_laws.proofs.Shapes.{machine_shape}
 use Rattle.machine_laws.proofs.Stepping.{step_of}
 use Rattle.machine_keeps.specs.Bytes.{AreBytes, HasMemoryBytes}
 use Rattle.machine_keeps.specs.Piped.{pipe_in}
@@ -122,16 +121,16 @@ module _ (script : Script) (plain : Plain) (pid : ℕ) (holds : Holds plain) (jo
   by_shape call stores_bytes given stepped (shape.ends_another target signal called first own lives is) = subst (LeadsTo Holds) (sym is) (answered_holds (die plain target 9) (Val (pos 0)) (die_holds target 9))
 
   answers_hold : (call : Call) → is_alive plain.table pid ≡ true → ((path : List ℕ) → Contains (paths_of call) path → ArePathBytes path) → ((addr : ℤ) (bytes : List ℕ) → call ≡ calls.Store addr bytes → AreBytes bytes)
-      → LeadsTo Holds (posix script plain pid call)
+      → LeadsTo Holds (machine script plain pid call)
   answers_hold call alive paths stores_bytes = go (argument_fault call) refl
     where
-      go : (fault : Option Errno) → argument_fault call ≡ fault → LeadsTo Holds (posix script plain pid call)
-      go (Some errno) is = subst (LeadsTo Holds) (sym (ap (λ f. unless_wrong script plain pid f (posix_answer script plain pid call)) is)) (answered_holds plain (Fail errno) holds)
-      go None is = by_shape call stores_bytes (posix script plain pid call)
+      go : (fault : Option Errno) → argument_fault call ≡ fault → LeadsTo Holds (machine script plain pid call)
+      go (Some errno) is = subst (LeadsTo Holds) (sym (ap (λ f. unless_wrong script plain pid f (answer_to script plain pid call)) is)) (answered_holds plain (Fail errno) holds)
+      go None is = by_shape call stores_bytes (machine script plain pid call)
           (leads_on (λ next. IsStep plain pid call next.files) (λ next. After plain next.files)
           (λ next stepped. step_after plain pid call next.files holds.rooted holds.pipes joined (held_memory plain.files.tree plain.table holds.table pid)
-          (held_directory plain.files.tree plain.table holds.table pid alive) is paths stepped) (posix script plain pid call) (step_of script plain pid call))
-          (shape_of script plain pid call)
+          (held_directory plain.files.tree plain.table holds.table pid alive) is paths stepped) (machine script plain pid call) (step_of script plain pid call))
+          (machine_shape script plain pid call)
 
 -- ---- every machine
 

@@ -11,7 +11,7 @@ use Rattle.kabi_types.specs.declared.scripts.Script.{Script}
 use Rattle.posix_defs.specs.Ending.{die}
 use Rattle.posix_defs.specs.Pipe.{Pipe, Moves, Fails, after_close, after_read, after_write, capacity, free_in, new_pipe, not_now, pipe_write, while_open, whole, without_reader, without_writer}
 use Rattle.posix_defs.specs.Plain.{Plain, boot_plain, call_of}
-use Rattle.posix_defs.specs.Posix.{posix}
+use Rattle.posix_defs.specs.Machine.{machine}
 use Rattle.posix_defs.specs.TreeChanges.{closed}
 use Rattle.posix_defs.specs.Files.Descriptions.{Target, OnNode, OnPipe, OnSocket, Access, ReadOnly, WriteOnly, ReadWrite, Description, Descriptions, description_at, may_read, may_write, new_description, with_description}
 use Rattle.posix_defs.specs.Files.State.{Files, opens, pipe_at, with_descriptions, with_tree}
@@ -529,7 +529,7 @@ module _ (plain : Plain) (pid : ℕ) (call : Call) (next : Files) (piped : Holds
 
 -- ---- answers
 
-pub answers_piped : (script : Script) (plain : Plain) (pid : ℕ) (call : Call) → Holds plain.files → LeadsTo (λ next. Holds next.files) (posix script plain pid call)
+pub answers_piped : (script : Script) (plain : Plain) (pid : ℕ) (call : Call) → Holds plain.files → LeadsTo (λ next. Holds next.files) (machine script plain pid call)
 answers_piped script plain pid call piped = answers_keep Holds script plain pid call (λ next stepped. step_piped plain pid call next piped stepped)
 
 pub die_piped : (plain : Plain) (pid status : ℕ) → Holds plain.files → Holds (die plain pid status).files

@@ -5,7 +5,7 @@ ghost use Rattle.kabi_calls.specs.declared.calls.Call.{Call};
 ghost use Rattle.kabi_types.specs.declared.scripts.Script.{Script};
 ghost use Rattle.posix_defs.specs.Ending.{die};
 ghost use Rattle.posix_defs.specs.Plain.{Plain, boot_plain};
-ghost use Rattle.posix_defs.specs.Posix.{posix};
+ghost use Rattle.posix_defs.specs.Machine.{machine};
 ghost use Rattle.machine_laws.specs.FileSteps.{LeadsTo};
 ghost use Rattle.machine_laws.specs.Reached.{IsReached};
 ghost use Rattle.machine_keeps.specs.Piped.{ArePiped};
@@ -16,7 +16,7 @@ ghost use Rattle.machine_keeps.specs.Piped.{ArePiped};
 pub fn pipes_count_their_ends()
     ensures boot { (script : Script) → ArePiped (boot_plain script).files.descriptions (boot_plain script).files.pipes }
     ensures answered { (script : Script) (plain : Plain) (pid : ℕ) (call : Call) → ArePiped plain.files.descriptions plain.files.pipes
-        → LeadsTo (λ next. ArePiped next.files.descriptions next.files.pipes) (posix script plain pid call) }
+        → LeadsTo (λ next. ArePiped next.files.descriptions next.files.pipes) (machine script plain pid call) }
     ensures killed { (plain : Plain) (pid status : ℕ) → ArePiped plain.files.descriptions plain.files.pipes
         → ArePiped (die plain pid status).files.descriptions (die plain pid status).files.pipes }
     ensures reached { (script : Script) (plain : Plain) → IsReached script plain → ArePiped plain.files.descriptions plain.files.pipes }

@@ -12,7 +12,7 @@ use Rattle.kabi_types.specs.declared.scripts.Script.{Script}
 use Rattle.posix_defs.specs.ByPid.{at_pid}
 use Rattle.posix_defs.specs.Ending.{closed_by, die}
 use Rattle.posix_defs.specs.Plain.{Plain, boot_plain, last_pid}
-use Rattle.posix_defs.specs.Posix.{posix}
+use Rattle.posix_defs.specs.Machine.{machine}
 use Rattle.posix_defs.specs.Process.{is_alive}
 use Rattle.posix_defs.specs.TreeChanges.{closed}
 use Rattle.posix_defs.specs.Files.Descriptors.{Descriptor, Descriptors, Two, and_next, descriptor_at, is_cloexec, is_named, lowest_free, lowest_free_from, names_place, none_open, two_lowest_free, with_descriptor}
@@ -543,11 +543,11 @@ alive_made plain pid placed alive = let there = alive_there plain.table pid aliv
 )
 
 pub answers_described : (script : Script) (plain : Plain) (pid : ℕ) (call : Call) → IsPlaced plain → AreDescribed plain.files → is_alive plain.table pid ≡ true
-    → LeadsTo (λ next. AreDescribed next.files) (posix script plain pid call)
+    → LeadsTo (λ next. AreDescribed next.files) (machine script plain pid call)
 answers_described script plain pid call placed described alive = let made = alive_made plain pid placed alive in
     leads_on (λ next. IsStep plain pid call next.files) (λ next. AreDescribed next.files)
     (λ next stepped. described_by next.files (step_told plain pid call next.files (told_of plain.files described) made.0 made.1 stepped))
-    (posix script plain pid call) (step_of script plain pid call)
+    (machine script plain pid call) (step_of script plain pid call)
 
 pub die_described : (plain : Plain) (pid status : ℕ) → AreDescribed plain.files → AreDescribed (die plain pid status).files
 die_described plain pid status described = described_by (closed_by plain.files pid) (closed_told plain.files pid (told_of plain.files described))

@@ -8,12 +8,11 @@ use Rattle.kabi_calls.specs.declared.calls.Call.TheVariants as calls
 use Rattle.kabi_values.specs.declared.errnos.Errno.{Errno}
 use Rattle.kabi_types.specs.declared.scripts.Script.{Script}
 use Rattle.posix_defs.specs.Answer.{Answer}
-use Rattle.posix_defs.specs.Machine.{unless_wrong}
+use Rattle.posix_defs.specs.Machine.{machine, unless_wrong}
 use Rattle.posix_defs.specs.Memory.{is_mapped_range, stored}
 use Rattle.posix_defs.specs.Pipe.{Pipe, Moving, Moves, Blocks, Fails, after_read, after_write, new_pipe, pipe_read, pipe_write}
 use Rattle.posix_defs.specs.Plain.{Plain}
 use Rattle.posix_defs.specs.Process.{memory_of, with_memory}
-use Rattle.posix_defs.specs.Posix.{posix}
 use Rattle.posix_defs.specs.Files.Descriptions.{OnPipe, description_at, may_read, may_write}
 use Rattle.posix_defs.specs.Files.State.{Files, pipe_at, pipe_there, with_pipe}
 use Rattle.posix_defs.specs.Calls.Opened.{Opened, answer_on, on_open, opened_at}
@@ -108,7 +107,7 @@ module _ (script : Script) (plain : Plain) (pid : ℕ) (fd addr n : ℤ) (opened
       choose (Puts done) (is_mapped_range (memory_of plain.table pid) (count_of addr) (count_of n)) _ _ (λ mapped.
       choose (Puts done) (count_of n == 0) _ _ (λ none. nothing done 0 (omega arith)) (λ some. target_puts done)) (λ unmapped. tt)) (λ no. tt))
 
-  pub puts : (done : ℕ) → Puts done (posix script plain pid (calls.Write fd addr n done))
+  pub puts : (done : ℕ) → Puts done (machine script plain pid (calls.Write fd addr n done))
   puts done = go (argument_fault (calls.Write fd addr n done))
     where
       go : (fault : Option Errno) → Puts done (unless_wrong script plain pid fault (write script plain pid fd addr n done))
@@ -149,7 +148,7 @@ module _ (script : Script) (plain : Plain) (pid : ℕ) (fd addr n : ℤ) (opened
       choose Takes (is_mapped_range (memory_of plain.table pid) (count_of addr) (count_of n)) _ _ (λ mapped.
       choose Takes (count_of n == 0) _ _ (λ none. (there, λ some. absurd (omega arith))) (λ some. target_takes)) (λ unmapped. tt))) (λ no. tt))
 
-  pub takes : Takes (posix script plain pid (calls.Read fd addr n))
+  pub takes : Takes (machine script plain pid (calls.Read fd addr n))
   takes = go (argument_fault (calls.Read fd addr n))
     where
       go : (fault : Option Errno) → Takes (unless_wrong script plain pid fault (read script plain pid fd addr n))
@@ -219,6 +218,6 @@ module _ (plain : Plain) (pid : ℕ) (call : Call) (place : ℕ) (pipe : Pipe) (
   kept (step.ends who ending is) = faded _ is _ refl refl (closed_by_fades plain.files who)
 
 pub others : (script : Script) (plain : Plain) (pid : ℕ) (call : Call) (place : ℕ) (pipe : Pipe) → pipe_there plain.files place ≡ Some pipe
-    → LeadsTo (λ next. NoneGoes plain.files next.files → (pipe_there next.files place ≡ Some pipe) ⊎ Queues plain pid call place) (posix script plain pid call)
+    → LeadsTo (λ next. NoneGoes plain.files next.files → (pipe_there next.files place ≡ Some pipe) ⊎ Queues plain pid call place) (machine script plain pid call)
 others script plain pid call place pipe there = leads_on (λ next. IsStep plain pid call next.files) _
-    (λ next stepped stay. kept plain pid call place pipe next.files there stay stepped) (posix script plain pid call) (step_of script plain pid call)
+    (λ next stepped stay. kept plain pid call place pipe next.files there stay stepped) (machine script plain pid call) (step_of script plain pid call)

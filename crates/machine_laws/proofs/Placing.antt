@@ -16,7 +16,7 @@ use Rattle.posix_defs.specs.Ending.{closed_by, die, die_in, leaves, left_behind,
 use Rattle.posix_defs.specs.Forking.{child_of, is_full, with_child}
 use Rattle.posix_defs.specs.Memory.{no_memory}
 use Rattle.posix_defs.specs.Plain.{Plain, answered, boot_plain, control_of, last_pid}
-use Rattle.posix_defs.specs.Posix.{posix}
+use Rattle.posix_defs.specs.Machine.{machine}
 use Rattle.posix_defs.specs.Process.{Alive, Process, Table, is_alive, is_alive_in, process_at, with_directory, working_in}
 use Rattle.posix_defs.specs.Files.Descriptors.{none_open}
 use Rattle.posix_defs.specs.Files.Descriptions.{Description}
@@ -30,7 +30,7 @@ use Rattle.machine_laws.specs.FileSteps.{IsStep, LeadsTo}
 use Rattle.machine_laws.specs.Placed.{IsPlaced}
 use Rattle.answer_laws.specs.Shapes as shape
 use Rattle.answer_laws.specs.Shapes.{HasShape}
-use Rattle.answer_laws.proofs.Shapes.{shape_of}
+use Rattle.answer_laws.proofs.Shapes.{machine_shape}
 use Rattle.machine_laws.proofs.SharedOffsets.{heirs_open, stay_open}
 use Rattle.machine_laws.proofs.Shutting.{Shuts, all_none_open, close_shuts, closed_shuts, end_none, exec_shuts, length_with, none_open_length, open_shuts, past_open, shuts_on, shuts_same}
 use Rattle.machine_laws.proofs.Stepping.{step_of}
@@ -277,19 +277,19 @@ module _ (script : Script) (plain : Plain) (pid : ℕ) (placed : IsPlaced plain)
   by_shape call no_fork given stepped (shape.ends_another target signal called first own lives is) = subst (LeadsTo IsPlaced) (sym is)
       (answered_placed script (die plain target 9) pid (Val (pos 0)) (die_placed plain target 9 placed))
 
-  fork_on : LeadsTo IsPlaced (posix script plain pid calls.Fork)
+  fork_on : LeadsTo IsPlaced (machine script plain pid calls.Fork)
   fork_on = go (is_full plain)
     where
       go : (b : Bool) → LeadsTo IsPlaced (cond b (failed script plain pid EAGAIN) (replied script (with_child script plain pid) pid (Val (pos (last_pid plain + 1)))))
       go true = answered_placed script plain pid (Fail EAGAIN) placed
       go false = fork_placed script plain pid (Val (pos (last_pid plain + 1))) placed alive
 
-  pub answers_placed : (call : Call) → LeadsTo IsPlaced (posix script plain pid call)
+  pub answers_placed : (call : Call) → LeadsTo IsPlaced (machine script plain pid call)
   answers_placed call = go (is_fork call) refl
     where
-      go : (b : Bool) → is_fork call ≡ b → LeadsTo IsPlaced (posix script plain pid call)
-      go true is = subst (λ which. LeadsTo IsPlaced (posix script plain pid which)) (sym (fork_is call is)) fork_on
-      go false is = by_shape call (λ same. true_false (is_fork call) (ap is_fork same) is) (posix script plain pid call) (step_of script plain pid call) (shape_of script plain pid call)
+      go : (b : Bool) → is_fork call ≡ b → LeadsTo IsPlaced (machine script plain pid call)
+      go true is = subst (λ which. LeadsTo IsPlaced (machine script plain pid which)) (sym (fork_is call is)) fork_on
+      go false is = by_shape call (λ same. true_false (is_fork call) (ap is_fork same) is) (machine script plain pid call) (step_of script plain pid call) (machine_shape script plain pid call)
 
 -- at the beginning the first process is alone
 pub boot_placed : (script : Script) → IsPlaced (boot_plain script)

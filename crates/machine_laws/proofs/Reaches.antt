@@ -5,7 +5,7 @@ use Rattle.kabi_values.specs.declared.replies.Reply.TheVariants.{Fail}
 use Rattle.kabi_types.specs.declared.scripts.Script.{Script}
 use Rattle.posix_defs.specs.Answer.{Answer}
 use Rattle.posix_defs.specs.Plain.{Plain, call_of}
-use Rattle.posix_defs.specs.Posix.{posix}
+use Rattle.posix_defs.specs.Machine.{machine}
 use Rattle.posix_defs.specs.Process.{is_alive}
 use Rattle.machine_laws.specs.Described.{AreDescribed}
 use Rattle.machine_laws.specs.FileSteps.{LeadsTo}
@@ -17,7 +17,7 @@ use Rattle.machine_laws.proofs.Placing.{answered_placed, answers_placed, boot_pl
 
 -- what an answer leads to keeps it
 answer_keeps : (script : Script) (plain : Plain) (pid : ℕ) (given : Answer) → IsPlaced plain × AreDescribed plain.files → is_alive plain.table pid ≡ true
-    → posix script plain pid (call_of script plain pid) ≡ given → LeadsTo IsPlaced given × LeadsTo (λ next. AreDescribed next.files) given
+    → machine script plain pid (call_of script plain pid) ≡ given → LeadsTo IsPlaced given × LeadsTo (λ next. AreDescribed next.files) given
 answer_keeps script plain pid given kept alive is = (
   subst (LeadsTo IsPlaced) is (answers_placed script plain pid kept.0 alive (call_of script plain pid)),
   subst (LeadsTo (λ next. AreDescribed next.files)) is (answers_described script plain pid (call_of script plain pid) kept.0 kept.1 alive),

@@ -7,11 +7,10 @@ use Rattle.kabi_values.specs.declared.errnos.Errno.{Errno}
 use Rattle.kabi_types.specs.declared.scripts.Script.{Script}
 use Rattle.posix_defs.specs.Answer.{Answer}
 use Rattle.posix_defs.specs.Forking.{is_full}
-use Rattle.posix_defs.specs.Machine.{unless_wrong}
+use Rattle.posix_defs.specs.Machine.{machine, unless_wrong}
 use Rattle.posix_defs.specs.Memory.{is_mapped_range}
 use Rattle.posix_defs.specs.PathCalls.{read_node}
 use Rattle.posix_defs.specs.Plain.{Plain, last_pid}
-use Rattle.posix_defs.specs.Posix.{posix}
 use Rattle.posix_defs.specs.Process.{memory_of}
 use Rattle.posix_defs.specs.Files.Descriptors.{descriptor_of, lowest_free, lowest_free_from, none_open}
 use Rattle.posix_defs.specs.Files.Descriptions.{Target, OnNode, OnPipe, OnSocket, Description, at_offset, may_read}
@@ -74,14 +73,14 @@ module _ (script : Script) (plain : Plain) (pid : ℕ) (fd : ℤ) (opened : Open
   fcntl_shares from = on_it (SharesTold plain pid fd opened) (controlled script plain pid (count_of fd) (count_of (pos 0)) from)
       (duplicate_shares (count_of from) (lowest_free_from (descriptors_of plain.files pid) (count_of from)) refl)
 
-  pub shares : SharesTold plain pid fd opened (posix script plain pid (calls.Dup fd))
+  pub shares : SharesTold plain pid fd opened (machine script plain pid (calls.Dup fd))
   shares = go (argument_fault (calls.Dup fd))
     where
       go : (fault : Option Errno) → SharesTold plain pid fd opened (unless_wrong script plain pid fault (dup script plain pid fd))
       go None = dup_shares
       go (Some e) = tt
 
-  pub shares_from : (from : ℤ) → SharesTold plain pid fd opened (posix script plain pid (calls.Fcntl fd (pos 0) from))
+  pub shares_from : (from : ℤ) → SharesTold plain pid fd opened (machine script plain pid (calls.Fcntl fd (pos 0) from))
   shares_from from = go (argument_fault (calls.Fcntl fd (pos 0) from))
     where
       go : (fault : Option Errno) → SharesTold plain pid fd opened (unless_wrong script plain pid fault (fcntl script plain pid fd (pos 0) from))
@@ -100,7 +99,7 @@ stay_open files parent zero within = refl
 stay_open files parent (suc i) within = ap (λ found. unwrap_or found none_open) (get_front files.descriptors (descriptors_of files parent ∷ []) i (omega arith))
 
 pub inherits : (script : Script) (plain : Plain) (pid : ℕ) → length plain.files.descriptors ≡ last_pid plain → pid ≤ last_pid plain
-    → InheritsTold plain pid (posix script plain pid calls.Fork)
+    → InheritsTold plain pid (machine script plain pid calls.Fork)
 inherits script plain pid counted made = choose (InheritsTold plain pid) (is_full plain) _ _ (λ full. tt) (λ room fd. (
   ap (λ descriptors. opened_by (with_heir plain.files pid) (descriptor_of descriptors fd)) (heirs_open plain.files pid (last_pid plain + 1) (omega arith))
       ∙ opened_same plain.files (with_heir plain.files pid) (descriptor_of (descriptors_of plain.files pid) fd) refl,
@@ -140,7 +139,7 @@ module _ (script : Script) (plain : Plain) (pid other : ℕ) (fd to : ℤ) (open
       go (OnPipe place) = tt
       go (OnSocket place) = tt
 
-  pub sought : (offset whence : ℤ) → SeesTold other to opened 0 (posix script plain pid (calls.Lseek fd offset whence))
+  pub sought : (offset whence : ℤ) → SeesTold other to opened 0 (machine script plain pid (calls.Lseek fd offset whence))
   sought offset whence = go (argument_fault (calls.Lseek fd offset whence))
     where
       go : (fault : Option Errno) → SeesTold other to opened 0 (unless_wrong script plain pid fault (lseek script plain pid fd offset whence))
@@ -167,7 +166,7 @@ module _ (script : Script) (plain : Plain) (pid other : ℕ) (fd to : ℤ) (open
         unmoved : opened_at plain.files other to ≡ Some (record { place = opened.place; is = at_offset opened.is (opened.is.offset + 0) })
         unmoved = also ∙ ap (λ k. Some (record { place = opened.place; is = at_offset opened.is k })) (let e : opened.is.offset ≡ opened.is.offset + 0 = omega arith in e)
 
-    pub read_on : Sees (posix script plain pid (calls.Read fd addr n))
+    pub read_on : Sees (machine script plain pid (calls.Read fd addr n))
     read_on = go (argument_fault (calls.Read fd addr n))
       where
         go : (fault : Option Errno) → Sees (unless_wrong script plain pid fault (read script plain pid fd addr n))

@@ -9,7 +9,7 @@ use Rattle.kabi_types.specs.declared.scripts.Script.{Script}
 use Rattle.posix_defs.specs.Answer.{Answer}
 use Rattle.posix_defs.specs.Forking.{fork, is_full}
 use Rattle.posix_defs.specs.Killing.{is_asking, kill, sent_to, struck}
-use Rattle.posix_defs.specs.Machine.{unless_wrong}
+use Rattle.posix_defs.specs.Machine.{answer_to, machine, unless_wrong}
 use Rattle.posix_defs.specs.Memory.{is_mapped_range, lowest_run}
 use Rattle.posix_defs.specs.MemoryCalls.{in_range, mapped_from, mmap}
 use Rattle.posix_defs.specs.Needs.{pages_in}
@@ -41,7 +41,6 @@ use Rattle.posix_defs.specs.Calls.OnPipes.{pipe, piped_under}
 use Rattle.posix_defs.specs.Calls.OnSockets.{accept, accepted_under, bind, bound_to, connect, connected_by, connected_under, listen, listener_under, on_socket, paired_under, resocketed, shutdown, socket_target, socketed_under, socketpair, unless_fault}
 use Rattle.posix_defs.specs.Calls.OnSockets as on_sockets
 use Rattle.posix_defs.specs.Calls.Polling.{hits_of, poll, revents_of}
-use Rattle.posix_defs.specs.Posix.{posix, posix_answer}
 use Rattle.machine_laws.specs.FileSteps as step
 use Rattle.machine_laws.specs.FileSteps.{IsStep, LeadsTo, WritesNode, is_ending}
 
@@ -462,7 +461,7 @@ module _ (script : Script) (plain : Plain) (pid : ℕ) where
 
   -- ---- every call
 
-  pub right : (which : Call) → Stepped plain pid which (posix_answer script plain pid which)
+  pub right : (which : Call) → Stepped plain pid which (answer_to script plain pid which)
   right call.Getpid = step.stays refl
   right call.Getppid = step.stays refl
   right call.SchedYield = step.stays refl
@@ -506,10 +505,10 @@ module _ (script : Script) (plain : Plain) (pid : ℕ) where
   right (call.Poll timeout entries) = polls script plain pid _ timeout entries
 
 -- an answer whose operands aren't wrong is told where none is, and else only an errno
-told : (script : Script) (plain : Plain) (pid : ℕ) (which : Call) (fault : Option Errno) → Stepped plain pid which (posix_answer script plain pid which)
-    → Stepped plain pid which (unless_wrong script plain pid fault (posix_answer script plain pid which))
+told : (script : Script) (plain : Plain) (pid : ℕ) (which : Call) (fault : Option Errno) → Stepped plain pid which (answer_to script plain pid which)
+    → Stepped plain pid which (unless_wrong script plain pid fault (answer_to script plain pid which))
 told script plain pid which None rest = rest
 told script plain pid which (Some e) rest = step.stays refl
 
-pub step_of : (script : Script) (plain : Plain) (pid : ℕ) (which : Call) → Stepped plain pid which (posix script plain pid which)
+pub step_of : (script : Script) (plain : Plain) (pid : ℕ) (which : Call) → Stepped plain pid which (machine script plain pid which)
 step_of script plain pid which = told script plain pid which (argument_fault which) (right script plain pid which)

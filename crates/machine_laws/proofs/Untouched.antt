@@ -4,9 +4,8 @@ use Rattle.kabi_calls.specs.Arguments.{argument_fault}
 use Rattle.kabi_calls.specs.declared.calls.Call.{Call}
 use Rattle.kabi_values.specs.declared.errnos.Errno.{Errno}
 use Rattle.kabi_types.specs.declared.scripts.Script.{Script}
-use Rattle.posix_defs.specs.Machine.{unless_wrong}
+use Rattle.posix_defs.specs.Machine.{answer_to, machine, unless_wrong}
 use Rattle.posix_defs.specs.Plain.{Plain}
-use Rattle.posix_defs.specs.Posix.{posix, posix_answer}
 use Rattle.posix_defs.specs.Reaching.{ends_node, names_node, reaches_node}
 use Rattle.posix_defs.specs.Files.State.{Files}
 use Rattle.machine_laws.specs.FileSteps as step
@@ -74,13 +73,13 @@ module _ (plain : Plain) (pid : ℕ) (call : Call) (next : Files) (unnamed : nam
   by_step (step.ends who ending is) = kept _ is (λ none. tree_kept plain.files _ (closed_by_fades plain.files who) none)
 
 pub leaves_tree : (script : Script) (plain : Plain) (pid : ℕ) (call : Call)
-    → LeadsTo (λ next. reaches_node plain pid call next ≡ false → next.files.tree ≡ plain.files.tree) (posix script plain pid call)
+    → LeadsTo (λ next. reaches_node plain pid call next ≡ false → next.files.tree ≡ plain.files.tree) (machine script plain pid call)
 leaves_tree script plain pid call = go (argument_fault call) refl
   where
     go : (fault : Option Errno) → argument_fault call ≡ fault
-        → LeadsTo (λ next. reaches_node plain pid call next ≡ false → next.files.tree ≡ plain.files.tree) (unless_wrong script plain pid fault (posix_answer script plain pid call))
+        → LeadsTo (λ next. reaches_node plain pid call next ≡ false → next.files.tree ≡ plain.files.tree) (unless_wrong script plain pid fault (answer_to script plain pid call))
     go (Some e) is = λ none. refl
-    go None is = leads_on (λ next. IsStep plain pid call next.files) _ follows (posix_answer script plain pid call) (right script plain pid call)
+    go None is = leads_on (λ next. IsStep plain pid call next.files) _ follows (answer_to script plain pid call) (right script plain pid call)
       where
         follows : (next : Plain) → IsStep plain pid call next.files → reaches_node plain pid call next ≡ false → next.files.tree ≡ plain.files.tree
         follows next stepped none =

@@ -5,7 +5,7 @@ ghost use Rattle.kabi_calls.specs.declared.calls.Call.{Call};
 ghost use Rattle.kabi_types.specs.declared.scripts.Script.{Script};
 ghost use Rattle.posix_defs.specs.Ending.{die};
 ghost use Rattle.posix_defs.specs.Plain.{Plain, boot_plain};
-ghost use Rattle.posix_defs.specs.Posix.{posix};
+ghost use Rattle.posix_defs.specs.Machine.{machine};
 ghost use Rattle.posix_defs.specs.Process.{is_alive};
 ghost use Rattle.machine_laws.specs.Described.{AreDescribed};
 ghost use Rattle.machine_laws.specs.FileSteps.{LeadsTo};
@@ -17,7 +17,7 @@ ghost use Rattle.machine_laws.specs.Reached.{IsReached};
 pub fn who_has_ended_has_nothing_open()
     ensures boot { (script : Script) → IsPlaced (boot_plain script) }
     ensures answered { (script : Script) (plain : Plain) (pid : ℕ) (call : Call)
-        → IsPlaced plain → is_alive plain.table pid ≡ true → LeadsTo IsPlaced (posix script plain pid call) }
+        → IsPlaced plain → is_alive plain.table pid ≡ true → LeadsTo IsPlaced (machine script plain pid call) }
     ensures killed { (plain : Plain) (pid status : ℕ) → IsPlaced plain → IsPlaced (die plain pid status) }
 {}
 
@@ -27,7 +27,7 @@ pub fn who_has_ended_has_nothing_open()
 pub fn every_description_is_named()
     ensures boot { (script : Script) → AreDescribed (boot_plain script).files }
     ensures answered { (script : Script) (plain : Plain) (pid : ℕ) (call : Call) → IsPlaced plain → AreDescribed plain.files
-        → is_alive plain.table pid ≡ true → LeadsTo (λ next. AreDescribed next.files) (posix script plain pid call) }
+        → is_alive plain.table pid ≡ true → LeadsTo (λ next. AreDescribed next.files) (machine script plain pid call) }
     ensures killed { (plain : Plain) (pid status : ℕ) → AreDescribed plain.files → AreDescribed (die plain pid status).files }
 {}
 

@@ -7,7 +7,7 @@ ghost use Rattle.kabi_calls.specs.declared.calls.Call.TheVariants.{Read, Write};
 ghost use Rattle.kabi_types.specs.declared.scripts.Script.{Script};
 ghost use Rattle.posix_defs.specs.Pipe.{Pipe};
 ghost use Rattle.posix_defs.specs.Plain.{Plain};
-ghost use Rattle.posix_defs.specs.Posix.{posix};
+ghost use Rattle.posix_defs.specs.Machine.{machine};
 ghost use Rattle.posix_defs.specs.Files.Descriptions.{OnPipe};
 ghost use Rattle.posix_defs.specs.Files.State.{pipe_there};
 ghost use Rattle.posix_defs.specs.Calls.Opened.{Opened, opened_at};
@@ -21,10 +21,10 @@ ghost use Rattle.machine_laws.specs.Queueing.{NoneGoes, PutsBehind, Queues, Take
 pub fn what_is_written_to_a_pipe_is_read_in_order()
     ensures put { (script : Script) (plain : Plain) (pid : ℕ) (fd addr n : ℤ) (done : ℕ) (opened : Opened) (place : ℕ) (pipe : Pipe)
         → opened_at plain.files pid fd ≡ Some opened → opened.is.target ≡ OnPipe place → pipe_there plain.files place ≡ Some pipe
-        → PutsBehind place pipe done (bytes_left plain pid addr (count_of n) done) (posix script plain pid (Write fd addr n done)) }
+        → PutsBehind place pipe done (bytes_left plain pid addr (count_of n) done) (machine script plain pid (Write fd addr n done)) }
     ensures taken { (script : Script) (plain : Plain) (pid : ℕ) (fd addr n : ℤ) (opened : Opened) (place : ℕ) (pipe : Pipe)
         → opened_at plain.files pid fd ≡ Some opened → opened.is.target ≡ OnPipe place → pipe_there plain.files place ≡ Some pipe
-        → TakesFirst plain pid addr place pipe (posix script plain pid (Read fd addr n)) }
+        → TakesFirst plain pid addr place pipe (machine script plain pid (Read fd addr n)) }
     ensures others { (script : Script) (plain : Plain) (pid : ℕ) (call : Call) (place : ℕ) (pipe : Pipe) → pipe_there plain.files place ≡ Some pipe
-        → LeadsTo (λ next. NoneGoes plain.files next.files → (pipe_there next.files place ≡ Some pipe) ⊎ Queues plain pid call place) (posix script plain pid call) }
+        → LeadsTo (λ next. NoneGoes plain.files next.files → (pipe_there next.files place ≡ Some pipe) ⊎ Queues plain pid call place) (machine script plain pid call) }
 {}

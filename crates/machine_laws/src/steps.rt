@@ -4,11 +4,11 @@ ghost use Rattle.std.specs.Prelude.{ℕ};
 ghost use Rattle.kabi_calls.specs.declared.calls.Call.{Call};
 ghost use Rattle.kabi_types.specs.declared.scripts.Script.{Script};
 ghost use Rattle.posix_defs.specs.Plain.{Plain};
-ghost use Rattle.posix_defs.specs.Posix.{posix};
+ghost use Rattle.posix_defs.specs.Machine.{machine};
 ghost use Rattle.machine_laws.specs.FileSteps.{IsStep, LeadsTo};
 
 /// Whatever a call is answered, of files nothing changes, or one step is taken: what each step needs to be taken is told
 /// with it.
 pub fn every_answer_takes_a_step()
-    ensures { (script : Script) (plain : Plain) (pid : ℕ) (call : Call) → LeadsTo (λ next. IsStep plain pid call next.files) (posix script plain pid call) }
+    ensures { (script : Script) (plain : Plain) (pid : ℕ) (call : Call) → LeadsTo (λ next. IsStep plain pid call next.files) (machine script plain pid call) }
 {}

@@ -4,7 +4,7 @@ ghost use Rattle.std.specs.Prelude.{◌≡◌, ℕ, false};
 ghost use Rattle.kabi_calls.specs.declared.calls.Call.{Call};
 ghost use Rattle.kabi_types.specs.declared.scripts.Script.{Script};
 ghost use Rattle.posix_defs.specs.Plain.{Plain};
-ghost use Rattle.posix_defs.specs.Posix.{posix};
+ghost use Rattle.posix_defs.specs.Machine.{machine};
 ghost use Rattle.posix_defs.specs.Reaching.{reaches_node};
 ghost use Rattle.machine_laws.specs.FileSteps.{LeadsTo};
 
@@ -12,5 +12,5 @@ ghost use Rattle.machine_laws.specs.FileSteps.{LeadsTo};
 /// it was, whatever it is answered; and so does one with a wrong operand.
 pub fn a_call_that_reaches_no_node_leaves_the_tree()
     ensures { (script : Script) (plain : Plain) (pid : ℕ) (call : Call)
-        → LeadsTo (λ next. reaches_node plain pid call next ≡ false → next.files.tree ≡ plain.files.tree) (posix script plain pid call) }
+        → LeadsTo (λ next. reaches_node plain pid call next ≡ false → next.files.tree ≡ plain.files.tree) (machine script plain pid call) }
 {}

@@ -13,7 +13,7 @@ use Rattle.posix_defs.specs.declared.turner.Turned.{Turned}
 use Rattle.posix_defs.specs.declared.turner.Turned.TheVariants as turned
 use Rattle.posix_defs.specs.Plain.{Plain, boot_plain}
 use Rattle.posix_defs.specs.Answer.{Answer, Blocked, Done, Part, Ended}
-use Rattle.posix_defs.specs.Posix.{posix}
+use Rattle.posix_defs.specs.Machine.{machine}
 use Rattle.posix_defs.specs.Account.{Account, no_account, base}
 use Rattle.posix_defs.specs.Turn.{account_after}
 use Rattle.posix_defs.specs.World.{pins}
@@ -78,7 +78,7 @@ step_to plain account line (Ended status next) =
     record { told = turned.Ended status; plain = next; account = account_after account plain line.pid line.call (Ended status next) }
 
 abbrev pub step : Script → Plain → Account → Line → Step
-step script plain account line = step_to plain account line (posix script plain line.pid line.call)
+step script plain account line = step_to plain account line (machine script plain line.pid line.call)
 
 abbrev pub and_then : Step → Told → Told
 and_then went later = record {

@@ -25,10 +25,9 @@ pub mod Forking
 pub mod Waiting
 pub mod Killing
 pub mod MemoryCalls
-pub mod Machine
 pub mod Files
 pub mod Calls
-pub mod Posix
+pub mod Machine
 pub mod Account
 pub mod Reaching
 pub mod World

@@ -1,12 +1,12 @@
 -- What a line of a script says, by its words.
 use Rattle.std.specs.Prelude.{ℕ, ◌%◌, pos, unsigned_abs, ◌==◌, nat_le, if◌then◌else◌, List, [], ◌∷◌, length, Option, None, Some, Result, Ok, Err, codes}
 use Rattle.kabi_calls.specs.Call.{all_kinds}
-use Rattle.kabi_calls.specs.Words.{word_of, is_built}
+use Rattle.kabi_calls.specs.Words.{word_of}
 use Rattle.kabi_calls.specs.declared.calls.CallKind.{CallKind}
 use Rattle.kabi_calls.specs.declared.calls.CallKind.TheVariants as kind
 use Rattle.kabi_types.specs.declared.scripts.Chooser.TheVariants.{Choices, Seed}
 use Rattle.kabi_types.specs.declared.scripts.FaultKind.{FaultKind}
-use Rattle.kabi_types.specs.declared.scripts.FaultKind.TheVariants.{UnknownWord, OutOfRange, NotBuilt}
+use Rattle.kabi_types.specs.declared.scripts.FaultKind.TheVariants.{UnknownWord, OutOfRange}
 use Rattle.kabi_types.specs.declared.scripts.Operand.{Operand}
 use Rattle.kabi_types.specs.declared.scripts.Policy.{Policy}
 use Rattle.kabi_types.specs.declared.scripts.Policy.TheVariants.{Heaviest, Youngest}
@@ -123,14 +123,12 @@ operands_said shape.ValuePath words = value_path words
 operands_said shape.ValueBytes words = value_bytes words
 operands_said shape.Pairs words = pairs words
 
--- a call that can't be run is at fault where nothing else is
-abbrev pub if_built : CallKind → Option ℕ → Option ℕ → CallOperands → Result Spoken FaultKind
-if_built kind first second operands =
-    if is_built kind then Ok (spoken.Whole (statement.Invoke kind operands.0 operands.1 first second)) else Err NotBuilt
+abbrev pub invoked : CallKind → Option ℕ → Option ℕ → CallOperands → Spoken
+invoked kind first second operands = spoken.Whole (statement.Invoke kind operands.0 operands.1 first second)
 
 abbrev pub call_of_kind : Option ℕ → Option ℕ → Option CallKind → List Word → Result Spoken FaultKind
 call_of_kind first second None words = Err UnknownWord
-call_of_kind first second (Some kind) words = operands_said (shape_of kind) words >>= if_built kind first second
+call_of_kind first second (Some kind) words = with (invoked kind first second) (operands_said (shape_of kind) words)
 
 -- a call, and the registers that get its values
 abbrev pub call_said : Option ℕ → Option ℕ → List Word → Result Spoken FaultKind

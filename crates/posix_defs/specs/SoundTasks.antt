@@ -1,5 +1,5 @@
 -- What every state of the core that is reached keeps.
-use Rattle.std.specs.Prelude.{ℕ, ◌≡◌, ◌<◌, ◌≤◌, true, false, List, [], ◌∷◌, length, ◌==◌, Some}
+use Rattle.std.specs.Prelude.{ℕ, ◌≡◌, ◌<◌, ◌≤◌, true, false, List, [], ◌∷◌, length, ◌==◌}
 use Rattle.std.specs.List.{AllByRecursion, list_any}
 use Rattle.kabi_types.specs.declared.scripts.Script.{Script}
 use Rattle.posix_defs.specs.declared.phases.Asked.{Asked}
@@ -7,8 +7,8 @@ use Rattle.posix_defs.specs.declared.phases.Phase.{Phase}
 use Rattle.posix_defs.specs.declared.phases.Phase.TheVariants.{User, Waiting, Admitted, Asleep, Stranded, Dead}
 use Rattle.posix_defs.specs.declared.phases.Task.{Task}
 use Rattle.posix_defs.specs.Sizes.{room}
-use Rattle.posix_defs.specs.Process.{Process, Table, is_alive, process_at}
-use Rattle.posix_defs.specs.Plain.{Plain, last_pid, root}
+use Rattle.posix_defs.specs.Process.{is_alive}
+use Rattle.posix_defs.specs.Plain.{Plain, last_pid}
 use Rattle.posix_defs.specs.World.{MayKeep}
 use Rattle.posix_defs.specs.CoreState.{CoreState, asked_by}
 
@@ -36,14 +36,9 @@ abbrev pub AreRising : ℕ → List Task → Type 0
 AreRising below [] = Unit {0}
 AreRising below (task ∷ tasks) = (below < task.pid) × AreRising task.pid tasks
 
--- every process works in the root, until a call changes where it works
-abbrev pub AllAtHome : Table → Type 0
-AllAtHome table = (pid : ℕ) (process : Process) → process_at table pid ≡ Some process → process.directory ≡ root
-
 pub record IsSound (script : Script) (s : CoreState) : Type 0 where
   pub made : length s.world.plain.table ≡ last_pid s.world.plain
   pub rising : AreRising 0 s.tasks
   pub each : AllByRecursion (TaskFits script s.world.plain) s.tasks
   pub all : (pid : ℕ) → is_alive s.world.plain.table pid ≡ true → list_any (λ task. task.pid == pid) s.tasks ≡ true
-  pub home : AllAtHome s.world.plain.table
   pub may_keep : MayKeep s.world.plain s.world.kept

@@ -2,7 +2,6 @@
 -- to labels, its calls have the operands that they need.
 use Rattle.std.specs.Prelude.{ℕ, ⊤, ◌≡◌, ◌≢◌, ◌<◌, ◌≤◌, ◌%◌, int_le, true, List, [], ◌∷◌, length, Option, None, Some, slice_get, IfSome, IsSome, codes}
 use Rattle.std.specs.List.{AllByRecursion}
-use Rattle.kabi_calls.specs.Words.{is_built}
 use Rattle.kabi_types.specs.declared.scripts.Chooser.{Chooser}
 use Rattle.kabi_types.specs.declared.scripts.Chooser.TheVariants.{Plain, Choices, Seed}
 use Rattle.kabi_types.specs.declared.scripts.Operand.{Operand}
@@ -94,7 +93,7 @@ IsStatement body at (statement.Jump place) = (at < place) × IsLabel body place
 IsStatement body at (statement.Label name) = (is_name name ≡ true) × IsFirstLabel body at name
 IsStatement body at (statement.Loop register place) = IsRegister register × (place < at) × IsLabel body place
 IsStatement body at (statement.Invoke kind values texts first second) =
-    (is_built kind ≡ true) × AllByRecursion IsOperand values × Fits (shape_of kind) values texts × AreTargets first second
+    AllByRecursion IsOperand values × Fits (shape_of kind) values texts × AreTargets first second
 
 -- more statements than any text has
 abbrev pub too_many_statements : ℕ

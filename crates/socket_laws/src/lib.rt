@@ -1,4 +1,5 @@
-//! The laws of pipes and of Unix stream sockets. Each is the contract of a function that does nothing.
+//! Laws of pipes, of their bytes in chunks, and of Unix stream sockets apart from paths, with two examples computed by hand.
+//! Each is the contract of a function that does nothing.
 #![tactic(auto)]
 
 mod names;

@@ -1,5 +1,5 @@
-use Rattle.answer_laws.proofs.Shapes.{shape_of}
+use Rattle.answer_laws.proofs.Shapes.{machine_shape}
 use Rattle.answer_laws.proofs.answers.every_answer_has_a_shape.Goals as goal
 
 pub returns : goal.returns
-returns c = shape_of
+returns c = machine_shape
