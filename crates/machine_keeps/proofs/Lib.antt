@@ -18,3 +18,4 @@ pub mod ProcessesKept
 pub mod Keeping
 pub mod Texting
 pub mod Wholeness
+pub mod Histories

@@ -9,4 +9,7 @@ mod whole;
 pub use halves::who_is_half_done_stands_at_a_write;
 pub use pipes::pipes_count_their_ends;
 pub use sockets::each_socket_is_named_once_or_waits;
-pub use whole::{every_machine_that_is_reached_is_whole, valid_scripts_have_texts};
+pub use whole::{
+    every_machine_that_is_reached_is_whole, the_machine_of_a_history_is_whole,
+    valid_scripts_have_texts,
+};
