@@ -31,9 +31,9 @@ each : (at : ℕ) → IfSome (slice_get sample_body at) (IsStatement sample_body
 each zero = (omega arith, (refl, refl))
 each (suc zero) = (omega arith, (refl, refl))
 each (suc (suc zero)) = (omega arith, omega arith, omega arith, (codes "b", refl))
-each (suc (suc (suc zero))) = (refl, ((refl, refl), tt), record { values_are = refl; texts_are = refl }, tt)
+each (suc (suc (suc zero))) = (((refl, refl), tt), record { values_are = refl; texts_are = refl }, tt)
 each (suc (suc (suc (suc zero)))) = (refl, λ other less. no_label other (codes "b") (none_above other less))
-each (suc (suc (suc (suc (suc zero))))) = (refl, tt, record { values_are = refl; texts_are = refl }, (refl, omega arith, omega arith))
+each (suc (suc (suc (suc (suc zero))))) = (tt, record { values_are = refl; texts_are = refl }, (refl, omega arith, omega arith))
 each (suc (suc (suc (suc (suc (suc zero)))))) = (omega arith, omega arith, (codes "b", refl))
 each (suc (suc (suc (suc (suc (suc (suc n))))))) = nothing_at n
 

@@ -86,7 +86,7 @@ statement_runs body at (statement.Jump place) short is = later_label body at pla
 statement_runs body at (statement.Label name) short is = tt
 statement_runs body at (statement.Loop register place) short is = (is.0, is.1)
 statement_runs body at (statement.Invoke call values texts first second) short is =
-    (operands_run values is.1, texts_fit (shape_of call) values texts is.2, few_values (shape_of call) values texts is.2 (few call), first_target first second is.3, second_target first second is.3)
+    (operands_run values is.0, texts_fit (shape_of call) values texts is.1, few_values (shape_of call) values texts is.1 (few call), first_target first second is.2, second_target first second is.2)
 
 runs_at : (body : List Statement) (at : ℕ) (here : Option Statement) → length body < valid.too_many_statements → IfSome here (IsStatement body at)
     → IfSome here (IsRunnableAt at)
@@ -113,3 +113,18 @@ programs_run (program ∷ programs) (suc at) all = programs_run programs at all.
 pub stands_runs : (script : Script) (control : Control) → Stands script control
     → IsRunnable (body_of script control) × (length (body_of script control) < 4294967295)
 stands_runs script control stands = programs_run script.programs control.program stands.valid.programs
+
+-- and so is a body that is that program's
+pub body_runs : (script : Script) (control : Control) (body : List Statement) → Stands script control → body ≡ body_of script control
+    → IsRunnable body × (length body < 4294967295)
+body_runs script control body stands is = subst (λ b. IsRunnable b × (length b < 4294967295)) (sym is) (stands_runs script control stands)
+
+-- the statement at which it stands can be run
+pub here_runs : (script : Script) (control : Control) (body : List Statement) (here : Option Statement) → Stands script control → body ≡ body_of script control
+    → here ≡ slice_get body control.place → IfSome here (IsRunnableAt control.place)
+here_runs script control body here stands is at =
+    subst (λ o. IfSome o (IsRunnableAt control.place)) (sym at) ((body_runs script control body stands is).0 control.place)
+
+-- its place is one that a control has
+pub place_fits : (script : Script) (control : Control) → Stands script control → control.place < 4294967295
+place_fits script control stands = let short = (stands_runs script control stands).1 in let place = stands.place in omega (arith, short, place)

@@ -1,7 +1,8 @@
 use Rattle.std.proofs.Common.{ap, sym, ◌∙◌}
-use Rattle.std.specs.Prelude.{slice_get}
+use Rattle.std.specs.Prelude.{option_copied, slice_get}
 use Rattle.posix_defs.specs.Control.{call_at, statement_of}
 use Rattle.prog_ctl.proofs.Settling.{rests_settled}
+use Rattle.prog_ctl.proofs.ValidPrograms.{here_runs}
 use Rattle.prog_ctl.proofs.controls.call_here.Goals as goal
 
 pub returns : goal.returns
@@ -10,3 +11,7 @@ returns c =
     let control = c.args.control.now in
     c.call_at.ensures ∙ ap (call_at control) (c.statement_at.ensures ∙ ap (λ body. slice_get body control.place) c.body_of.ensures)
     ∙ sym (ap (λ here. call_at here (statement_of script here)) (rests_settled script control c.requires.rests))
+
+pub call_at-requires : goal.call_at-requires
+call_at-requires c =
+    here_runs c.args.script.now c.args.control.now c.body_of.result.now (option_copied c.statement_at.result) c.requires.stands c.body_of.ensures c.statement_at.ensures
