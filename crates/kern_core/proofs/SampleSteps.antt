@@ -3,9 +3,13 @@ use Rattle.std.proofs.Common.{◌≡◌, ◌≢◌, ℕ, zero, suc, ◌+◌, ◌
 use Rattle.kabi_calls.specs.declared.calls.Call.{Call}
 use Rattle.kabi_types.specs.declared.entries.Cached.{Cached}
 use Rattle.kabi_types.specs.declared.entries.Cached.TheVariants.{Name, Block, Vnode}
-use Rattle.kabi_values.specs.declared.errnos.Errno.TheVariants.{EINVAL}
+use Rattle.kabi_values.specs.declared.errnos.Errno.TheVariants.{EBADF}
 use Rattle.kabi_values.specs.declared.replies.Reply.TheVariants.{Fail, Val}
 use Rattle.posix_defs.specs.declared.turner.Turned.TheVariants.{Done, Ended}
+use Rattle.posix_defs.specs.Calls.OnSockets.{bind}
+use Rattle.posix_defs.specs.Calls.Reading.{read}
+use Rattle.posix_defs.specs.Calls.Writing.{write}
+use Rattle.posix_defs.specs.Machine.{machine}
 use Rattle.posix_defs.specs.Memory.{no_places}
 use Rattle.posix_defs.specs.Files.Closing.{after_end_of}
 use Rattle.posix_defs.specs.Files.Descriptors.{none_open}
@@ -28,9 +32,9 @@ may_keep place (suc (suc n)) = record { names = tt; blocks = ((not_alike, tt), (
 
 -- a turn of the process that caches
 answers_at : (place blocks : ℕ) → place ≤ 3 → blocks ≤ 2
-    → Answers caching (caching_at place blocks) 1 (call_of caching (caching_at place blocks).plain 1) (Done (Fail EINVAL))
+    → Answers caching (caching_at place blocks) 1 (call_of caching (caching_at place blocks).plain 1) (Done (Fail EBADF))
     (caching_at (next_place place) (next_blocks place blocks))
-unfolding bound need_of no_places
+unfolding bind bound need_of no_places none_open read write
 answers_at zero zero few less = record { answer = (refl, refl); account = refl; may_keep = may_keep 1 2; live = lit≤ tt; names = lit≤ tt; blocks = lit≤ tt; vnodes = lit≤ tt; reads = lit≤ tt; untouched = λ e. cc; left = λ _. tt; known = λ _. refl }
 answers_at zero (suc zero) few less = record { answer = (refl, refl); account = refl; may_keep = may_keep 1 2; live = lit≤ tt; names = lit≤ tt; blocks = lit≤ tt; vnodes = lit≤ tt; reads = lit≤ tt; untouched = λ e. cc; left = λ _. tt; known = λ _. refl }
 answers_at zero (suc (suc zero)) few less = record { answer = (refl, refl); account = refl; may_keep = may_keep 1 2; live = lit≤ tt; names = lit≤ tt; blocks = lit≤ tt; vnodes = lit≤ tt; reads = lit≤ tt; untouched = λ e. cc; left = λ _. tt; known = λ _. refl }
@@ -50,9 +54,9 @@ answers_at (suc (suc (suc zero))) (suc (suc (suc n))) few less = absurd (let l :
 answers_at (suc (suc (suc (suc n)))) blocks few less = absurd (let l : suc (suc (suc (suc n))) ≤ 3 = few in omega arith)
 
 pub caching_turns : (place blocks : ℕ) (which : Call) → place ≤ 3 → blocks ≤ 2 → which ≡ call_of caching (caching_at place blocks).plain 1
-    → TurnsTo caching (caching_at place blocks) 1 which (Done (Fail EINVAL)) (caching_at (next_place place) (next_blocks place blocks))
+    → TurnsTo caching (caching_at place blocks) 1 which (Done (Fail EBADF)) (caching_at (next_place place) (next_blocks place blocks))
 caching_turns place blocks which few less is =
-    subst (λ w. Answers caching (caching_at place blocks) 1 w (Done (Fail EINVAL)) (caching_at (next_place place) (next_blocks place blocks))) (sym is)
+    subst (λ w. Answers caching (caching_at place blocks) 1 w (Done (Fail EBADF)) (caching_at (next_place place) (next_blocks place blocks))) (sym is)
     (answers_at place blocks few less)
 
 -- a block goes from the cache
@@ -145,7 +149,7 @@ few_next (suc (suc (suc n))) blocks less = lit≤ tt
 pub caching_high : (place blocks after : ℕ) (which : Call) → place ≤ 3 → blocks ≤ 2 → after ≡ max blocks (next_blocks place blocks)
     → which ≡ call_of caching (caching_at place blocks).plain 1 → 640 + 1088 * after ≤ live_of (caching_at place blocks) + bound which + slack which
 caching_high place blocks after which few less is call =
-    let turned : Answers caching (caching_at place blocks) 1 which (Done (Fail EINVAL)) (caching_at (next_place place) (next_blocks place blocks)) =
+    let turned : Answers caching (caching_at place blocks) 1 which (Done (Fail EBADF)) (caching_at (next_place place) (next_blocks place blocks)) =
     caching_turns place blocks which few less call in
     let live : live_of (caching_at (next_place place) (next_blocks place blocks)) ≤ live_of (caching_at place blocks) + bound which = turned.live in
     let here : live_of (caching_at (next_place place) (next_blocks place blocks)) ≡ 640 + 1088 * next_blocks place blocks =

@@ -30,11 +30,11 @@ abbrev numbers : List ℕ → List Operand
 numbers [] = []
 numbers (n ∷ ns) = Number (pos n) ∷ numbers ns
 
--- `mkdir "/d"`, `write 3 0 4096` and `read 3 0 1`, over and over by a jump that no script could have
+-- `bind 3 "/d"`, `write 3 0 4096` and `read 3 0 1` where 3 isn't open, over and over by a jump that no script could have
 abbrev pub caching : Script
 caching =
     with_body (
-    Invoke kind.Mkdir [] (codes "/d" ∷ []) None None
+    Invoke kind.Bind (numbers (3 ∷ [])) (codes "/d" ∷ []) None None
     ∷ Invoke kind.Write (numbers (3 ∷ 0 ∷ 4096 ∷ [])) [] None None
     ∷ Invoke kind.Read (numbers (3 ∷ 0 ∷ 1 ∷ [])) [] None None
     ∷ Jump 0
@@ -74,7 +74,7 @@ first_blocks zero = []
 first_blocks (suc zero) = 7 ∷ []
 first_blocks _ = 7 ∷ 8 ∷ []
 
--- how many are behind the turn of its next call: to make the directory two are cached
+-- how many are behind the turn of its next call: to bind the name two are cached
 abbrev pub next_blocks : ℕ → ℕ → ℕ
 next_blocks zero blocks = 2
 next_blocks (suc zero) blocks = blocks

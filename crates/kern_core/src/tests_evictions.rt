@@ -9,10 +9,9 @@ use kabi_types::{Cached, Call, Chooser, Entry, Errno, Event, Need, Noted, Path, 
 use posix_defs::{Turned, Turner};
 use std::test::Fail;
 
-/// A store of one process, which makes a directory, writes much and reads a byte, over and over: no call that it makes is
-/// built, so each is answered EINVAL. To make the directory two blocks are cached. It has the place behind the call that the
-/// process made last, how many blocks are cached, and of its heap how often that was marked, and the most blocks that were
-/// cached since.
+/// A store of one process, which binds a name, writes much and reads a byte, over and over: it has nothing open, so each is
+/// answered EBADF. To bind the name two blocks are cached. It has the place behind the call that the process made last, how
+/// many blocks are cached, and of its heap how often that was marked, and the most blocks that were cached since.
 #[derive(Drop)]
 struct Caching {
     place: u32,
@@ -88,7 +87,8 @@ impl Turner for Caching {
                 addr: 0,
                 n: 1,
             },
-            _ => Call::Mkdir {
+            _ => Call::Bind {
+                fd: 3,
                 path: Path::of(b"/d").unwrap(),
             },
         }
@@ -101,7 +101,7 @@ impl Turner for Caching {
         }
         self.fill();
         self.go_on();
-        Turned::Done(Reply::Fail(Errno::EINVAL))
+        Turned::Done(Reply::Fail(Errno::EBADF))
     }
 
     fn refuse(&mut self, _pid: u32) {
@@ -162,7 +162,7 @@ fn at_boot() -> Caching
 }
 
 /// What the events so far say: how many of its calls the process has behind it, how far it is with the next one, and how many
-/// blocks are cached. By hand from the prices: 2560 bytes to make a directory, 4608 to write, and to read more than the heap can give.
+/// blocks are cached. By hand from the prices: 2560 bytes to bind a name, 4608 to write, and to read more than the heap can give.
 #[derive(Clone, Copy)]
 struct Told {
     call: u32,

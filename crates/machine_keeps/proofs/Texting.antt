@@ -127,7 +127,7 @@ module _ (script : Script) (valid : IsValid script) (control : Control) where
   at_fine here None is = plain_fine (calls.Exit (pos 0)) refl refl
   at_fine here (Some (statement.Invoke which operands texts first second)) is =
       let fine = statement_is script here (statement.Invoke which operands texts first second) valid is in
-      (made_paths which (map (value_of here) operands) operands texts here.done fine.2, made_stored which (map (value_of here) operands) operands texts here.done fine.2)
+      (made_paths which (map (value_of here) operands) operands texts here.done fine.1, made_stored which (map (value_of here) operands) operands texts here.done fine.1)
   at_fine here (Some (statement.Set register value)) is = plain_fine calls.SchedYield refl refl
   at_fine here (Some (statement.Add register value)) is = plain_fine calls.SchedYield refl refl
   at_fine here (Some (statement.If left test right place)) is = plain_fine calls.SchedYield refl refl

@@ -1,5 +1,5 @@
 use Rattle.std.proofs.Common.{◌≡◌, ◌+◌, ◌*◌, ◌≤◌, ℕ, max, true, refl, sym, subst, ap, ◌∙◌, arith}
-use Rattle.kabi_values.specs.declared.errnos.Errno.TheVariants.{EINVAL}
+use Rattle.kabi_values.specs.declared.errnos.Errno.TheVariants.{EBADF}
 use Rattle.kabi_values.specs.declared.replies.Reply.TheVariants.{Fail}
 use Rattle.posix_defs.specs.declared.turner.Turned.TheVariants.{Done}
 use Rattle.posix_defs.specs.Needs.{bound, slack}
@@ -23,10 +23,10 @@ returns-clause-turned c = λ world is.
     c.go_on.ensures.blocks ∙ c.fill.ensures.blocks ∙ ap (λ n. next_blocks n c.mark.new.self.blocks) c.mark.ensures.place ∙ ap (next_blocks store.place) c.mark.ensures.blocks in (
       caching_at c.go_on.new.self.place c.go_on.new.self.blocks,
       refl,
-      subst (λ w. TurnsTo caching w c.args.pid c.args._call.now (Done (Fail EINVAL)) (caching_at c.go_on.new.self.place c.go_on.new.self.blocks)) (sym is)
-          (subst (λ p. TurnsTo caching (caching_at store.place store.blocks) p c.args._call.now (Done (Fail EINVAL)) (caching_at c.go_on.new.self.place c.go_on.new.self.blocks)) (sym one)
-          (subst (λ n. TurnsTo caching (caching_at store.place store.blocks) 1 c.args._call.now (Done (Fail EINVAL)) (caching_at n c.go_on.new.self.blocks)) (sym place)
-          (subst (λ n. TurnsTo caching (caching_at store.place store.blocks) 1 c.args._call.now (Done (Fail EINVAL)) (caching_at (next_place store.place) n)) (sym blocks)
+      subst (λ w. TurnsTo caching w c.args.pid c.args._call.now (Done (Fail EBADF)) (caching_at c.go_on.new.self.place c.go_on.new.self.blocks)) (sym is)
+          (subst (λ p. TurnsTo caching (caching_at store.place store.blocks) p c.args._call.now (Done (Fail EBADF)) (caching_at c.go_on.new.self.place c.go_on.new.self.blocks)) (sym one)
+          (subst (λ n. TurnsTo caching (caching_at store.place store.blocks) 1 c.args._call.now (Done (Fail EBADF)) (caching_at n c.go_on.new.self.blocks)) (sym place)
+          (subst (λ n. TurnsTo caching (caching_at store.place store.blocks) 1 c.args._call.now (Done (Fail EBADF)) (caching_at (next_place store.place) n)) (sym blocks)
           (caching_turns store.place store.blocks c.args._call.now store.places store.few call)))),
     )
 
