@@ -1,5 +1,6 @@
 pub mod LastNoted
 pub mod NextRun
+pub mod CallPasses
 pub mod TaskPlaces
 pub mod TurnLeads
 pub mod Victims

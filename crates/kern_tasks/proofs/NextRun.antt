@@ -5,12 +5,12 @@ use Rattle.kabi_types.specs.declared.entries.End.TheVariants.{Finished, AllAslee
 use Rattle.kabi_types.specs.declared.entries.Entry.{Entry}
 use Rattle.kabi_types.specs.declared.entries.Entry.TheVariants as entry
 use Rattle.kabi_types.specs.declared.entries.Event.{Event}
-use Rattle.kabi_types.specs.declared.entries.Event.TheVariants.{Ask, Admit, Turn, Wake, Abandon, Kill, Evict}
+use Rattle.kabi_types.specs.declared.entries.Event.TheVariants.{Ask, Turn, Abandon, Kill, Evict}
 use Rattle.kabi_types.specs.declared.entries.Noted.{Noted}
 use Rattle.kabi_types.specs.declared.scripts.Script.{Script}
 use Rattle.posix_defs.specs.declared.phases.Asked.{Asked}
 use Rattle.posix_defs.specs.declared.phases.Phase.{Phase}
-use Rattle.posix_defs.specs.declared.phases.Phase.TheVariants.{User, Waiting, Admitted, Asleep, Stranded, Dead}
+use Rattle.posix_defs.specs.declared.phases.Phase.TheVariants.{User, Waiting, Admitted, Stranded, Dead}
 use Rattle.posix_defs.specs.declared.phases.Task.{Task}
 use Rattle.posix_defs.specs.declared.turner.Turned.{Turned}
 use Rattle.posix_defs.specs.Sizes.{fixed, room}
@@ -21,7 +21,7 @@ use Rattle.posix_defs.specs.Relief.{Kills, refused_in, Evicts}
 use Rattle.posix_defs.specs.CoreState.{CoreState, asked_by, charged_in, held, next_call, phase_in, phase_of, reserved_in, waiting_in, with_phase, with_phase_in}
 use Rattle.posix_defs.specs.CoreEvent.{Steps, buried, entry_of, phase_after, refusal, tasks_after, tasks_without}
 use Rattle.posix_defs.specs.Ends.{all_asleep, end_of, has_finished, starved_or, starves_for}
-use Rattle.posix_defs.specs.Enabled.{HasRoom, IsEnabled, IsIn, IsReady}
+use Rattle.posix_defs.specs.Enabled.{IsEnabled, IsIn}
 use Rattle.posix_defs.specs.SoundTasks.{IsSound, AreRising}
 use Rattle.posix_defs.specs.CoreRun.{IsCoreRun, goes_on, peak_of}
 use Rattle.kern_laws.proofs.Charged.{charged_within, nothing_held}
@@ -233,55 +233,6 @@ refuses stands_for script core s pid asked store tasks run peak at user asked_is
         noted_so = ap (λ a. said (Ask pid) a (Some (refusal pid a)) core.charged) asked_is
             ∙ ap (said (Ask pid) (asked_by script s.world.plain pid) (Some (refusal pid (asked_by script s.world.plain pid)))) (sym charged);
       }),
-    )
-
--- a call is admitted, and its bound reserved
-pub admits : {T : Type 0} (stands_for : T → World → Type 0) (script : Script) (core : CoreView T) (s : CoreState) (pid : ℕ) (asked : Asked) (tasks : List Task) (run : List Noted) (peak : ℕ)
-    → IsAt stands_for core s → (enabled : HasRoom script s pid) → enabled.waits.asked ≡ asked → tasks ≡ with_phase_in core.tasks pid (Admitted asked)
-    → (t : CoreState) × IsAt stands_for (record core { tasks = tasks; reserved = core.reserved + asked.bound; charged = core.charged + asked.bound; run = run; peak = peak }) t
-    × Steps script s (said (Admit pid) asked None (core.charged + asked.bound)) t
-admits stands_for script core s pid asked tasks run peak at enabled asked_is tasks_are =
-    let mine = enabled.waits.asked in
-    let after = with_phase s pid (Admitted mine) in
-    let same : after.tasks ≡ tasks =
-    ap (λ ts. with_phase_in ts pid (Admitted mine)) at.tasks ∙ ap (λ a. with_phase_in core.tasks pid (Admitted a)) asked_is ∙ sym tasks_are in
-    let held_too : reserved_in after.tasks + held (Waiting mine) ≡ reserved_in s.tasks + held (Admitted mine) =
-    reserved_with s.tasks pid (Waiting mine) (Admitted mine) enabled.waits.is (λ e. (cc)) in
-    let bounds : mine.bound ≡ asked.bound = ap (λ a. a.bound) asked_is in
-    let before : reserved_in s.tasks ≡ core.reserved = at.reserved in
-    let reserved : reserved_in after.tasks ≡ core.reserved + asked.bound = omega arith in
-    let charged : charged_in after ≡ core.charged + asked.bound = (let b : charged_in s ≡ core.charged = at.charged in omega arith) in (
-      after,
-      record { stands = at.stands; tasks = same; reserved = reserved; charged = charged },
-      record {
-        enabled = enabled;
-        after = refl;
-        noted_so = ap (λ a. said (Admit pid) a None (core.charged + asked.bound)) (sym asked_is) ∙ ap (said (Admit pid) mine None) (sym charged);
-      },
-    )
-
--- a call wakes, and waits for room
-pub wakes : {T : Type 0} (stands_for : T → World → Type 0) (script : Script) (core : CoreView T) (s : CoreState) (pid : ℕ) (asked : Asked) (tasks : List Task) (run : List Noted) (peak : ℕ)
-    → IsAt stands_for core s → (enabled : IsReady script s pid) → enabled.sleeps.asked ≡ asked → tasks ≡ with_phase_in core.tasks pid (Waiting asked)
-    → (t : CoreState) × IsAt stands_for (record core { tasks = tasks; run = run; peak = peak }) t
-    × Steps script s (said (Wake pid) asked None core.charged) t
-wakes stands_for script core s pid asked tasks run peak at enabled asked_is tasks_are =
-    let mine = enabled.sleeps.asked in
-    let after = with_phase s pid (Waiting mine) in
-    let same : after.tasks ≡ tasks =
-    ap (λ ts. with_phase_in ts pid (Waiting mine)) at.tasks ∙ ap (λ a. with_phase_in core.tasks pid (Waiting a)) asked_is ∙ sym tasks_are in
-    let held_too : reserved_in after.tasks + held (Asleep mine) ≡ reserved_in s.tasks + held (Waiting mine) =
-    reserved_with s.tasks pid (Asleep mine) (Waiting mine) enabled.sleeps.is (λ e. (cc)) in
-    let before : reserved_in s.tasks ≡ core.reserved = at.reserved in
-    let reserved : reserved_in after.tasks ≡ core.reserved = omega arith in
-    let charged : charged_in after ≡ core.charged = (let b : charged_in s ≡ core.charged = at.charged in omega arith) in (
-      after,
-      record { stands = at.stands; tasks = same; reserved = reserved; charged = charged },
-      record {
-        enabled = enabled;
-        after = refl;
-        noted_so = ap (λ a. said (Wake pid) a None core.charged) (sym asked_is) ∙ ap (said (Wake pid) mine None) (sym charged);
-      },
     )
 
 -- a call is abandoned, and its bound given back

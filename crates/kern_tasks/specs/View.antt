@@ -1,6 +1,5 @@
 -- What contracts see of a core, and the state that it is in.
 use Rattle.std.specs.Prelude.{ℕ, ◌≡◌, ◌⊎◌, true, ◌+◌, ◌%◌, ◌^◌, ◌<◌, ◌≤◌, List, [], ◌∷◌, ◌++◌, length, None, Some, IsSome, slice_get}
-use Rattle.kabi_types.specs.declared.entries.End.{End}
 use Rattle.kabi_types.specs.declared.entries.Event.{Event}
 use Rattle.kabi_types.specs.declared.entries.Noted.{Noted}
 use Rattle.kabi_types.specs.declared.scripts.Script.{Script}
@@ -17,7 +16,7 @@ use Rattle.posix_defs.specs.CoreEvent.{Steps}
 use Rattle.posix_defs.specs.Ends.{end_of}
 use Rattle.posix_defs.specs.Enabled.{IsEnabled}
 use Rattle.posix_defs.specs.Choice.{default_of}
-use Rattle.posix_defs.specs.CoreRun.{IsCoreRun, IsPickedRun, peak_of}
+use Rattle.posix_defs.specs.CoreRun.{IsCoreRun, peak_of}
 
 -- a core: its store, the number of events that it may take, the events taken, the tasks, what is reserved, charged and was
 -- charged at most, in bytes
@@ -100,19 +99,6 @@ pub data GoesInside {T : Type 0} (stands_for : T → World → Type 0) (marks hi
 pub record HasBooted {T : Type 0} (stands_for : T → World → Type 0) (script : Script) (core : CoreView T) : Type 0 where
   pub is_at : IsAt stands_for core (boot_state script)
   pub run : core.run ≡ []
-
--- The core has run the script, by the rule of choice, and this is how the run ended.
-pub record HasEnded {T : Type 0} (stands_for : T → World → Type 0) (script : Script) (core : CoreView T) (end : End) : Type 0 where
-  pub state : CoreState
-  pub is_at : IsAt stands_for core state
-  pub runs : IsPickedRun script core.steps core.run state
-  pub ends : end_of script core.steps (length core.run) state ≡ Some end
-
--- The core has run the script so far, by the rule of choice.
-pub record HasPicked {T : Type 0} (stands_for : T → World → Type 0) (script : Script) (core : CoreView T) : Type 0 where
-  pub state : CoreState
-  pub is_at : IsAt stands_for core state
-  pub runs : IsPickedRun script core.steps core.run state
 
 -- In every state that the core may be in this is what the process asks for next.
 abbrev pub IsAskedFor : {T : Type 0} → (T → World → Type 0) → Script → CoreView T → ℕ → Asked → Type 0

@@ -1,12 +1,12 @@
-use Rattle.std.proofs.Common.{◌≡◌, ◌<◌, ◌++◌, ◌∷◌, [], max, length, vec_capacity, refl, sym, subst, ap, ◌∙◌, arith}
+use Rattle.std.proofs.Common.{◌<◌, length, vec_capacity, sym, subst, ap, ◌∙◌, arith}
 use Rattle.kabi_types.specs.declared.entries.Event.TheVariants.{Wake}
 use Rattle.posix_defs.specs.declared.phases.Phase.TheVariants.{Asleep, Waiting}
 use Rattle.posix_defs.specs.CoreState.{phase_in}
-use Rattle.kern_laws.proofs.Tasks.{length-with}
-use Rattle.kern_tasks.specs.View.{MayTake}
-use Rattle.kern_tasks.proofs.NextRun.{wakes, has_room, kept_next, same_asked, takes_all, rising_now}
-use Rattle.kern_events.proofs.cores.Core.wake.Goals as goal
 use Rattle.posix_defs.specs.SoundTasks.{AreRising}
+use Rattle.kern_tasks.specs.View.{MayTake}
+use Rattle.kern_tasks.proofs.CallPasses.{waking, kept_passed, takes_passed}
+use Rattle.kern_tasks.proofs.NextRun.{has_room, rising_now}
+use Rattle.kern_events.proofs.cores.Core.wake.Goals as goal
 
 pub note-requires : goal.note-requires
 note-requires g c =
@@ -15,34 +15,18 @@ note-requires g c =
     omega (arith, c.self.inside.run.ok.0)
 
 pub invariant_of-self : goal.invariant_of-self
-invariant_of-self g c =
-    let stands = g.T.Turner.stands in
-    let script = g.T.Turner.script in
-    let may = subst (λ core. MayTake stands (script core.store) core (Wake c.args.pid)) (sym c.self.view_is) c.requires in
-    let found : phase_in c.self.inside.tasks.items c.args.pid ≡ Asleep c.in-Asleep.asked =
-    ap (λ ts. phase_in ts c.args.pid) (sym c.as_slice.ensures.value) ∙ sym c.phase_of.ensures ∙ c.in-Asleep.is in
-    let asked = same_asked _ _ c.args.pid may.enabled.sleeps.asked c.in-Asleep.asked Asleep (λ x y e. (cc)) may.is_at.tasks may.enabled.sleeps.is found in
-    kept_next stands _ _ _ _ (Wake c.args.pid) _ _ _ _ _ _ c.self.invariant may
-    (wakes stands _ _ may.state c.args.pid c.in-Asleep.asked _ _ _ may.is_at may.enabled asked c.set_phase.ensures.items)
-    (c.note.ensures.run ∙ ap (λ n. c.self.inside.run.items ++ n ∷ []) c.noted_of-noted.ensures) refl
-    (c.note.ensures.peak ∙ ap (λ n. max c.self.inside.peak n.charged) c.noted_of-noted.ensures) c.note.ensures.room c.set_phase.ensures.room
-    (let few : length c.set_phase.new.tasks.items ≡ length c.self.inside.tasks.items =
-    ap length c.set_phase.ensures.items ∙ length-with c.self.inside.tasks.items c.args.pid (Waiting c.in-Asleep.asked) in omega arith) refl
-
-pub returns-clause-took : goal.returns-clause-took
-returns-clause-took g c =
-    let stands = g.T.Turner.stands in
-    let script = g.T.Turner.script in
-    let found : phase_in c.self.inside.tasks.items c.args.pid ≡ Asleep c.in-Asleep.asked =
-    ap (λ ts. phase_in ts c.args.pid) (sym c.as_slice.ensures.value) ∙ sym c.phase_of.ensures ∙ c.in-Asleep.is in
-    takes_all stands script _ _ _ (Wake c.args.pid) _ c.self.view_is refl
-    (c.note.ensures.run ∙ ap (λ n. c.self.inside.run.items ++ n ∷ []) c.noted_of-noted.ensures) refl
-    (λ s at enabled sound.
-    let asked = same_asked _ _ c.args.pid enabled.sleeps.asked c.in-Asleep.asked Asleep (λ x y e. (cc)) at.tasks enabled.sleeps.is found in
-    wakes stands _ _ s c.args.pid c.in-Asleep.asked _ _ _ at enabled asked c.set_phase.ensures.items)
+invariant_of-self g c = kept_passed g.T.Turner.stands (Wake c.args.pid) c.args.pid Asleep Waiting (waking c.args.pid) _ c.in-Asleep.asked _ _ _ _ _ _
+    (ap (λ ts. phase_in ts c.args.pid) (sym c.as_slice.ensures.value) ∙ sym c.phase_of.ensures ∙ c.in-Asleep.is)
+    c.set_phase.ensures.items (omega arith) (omega arith) c.noted_of-noted.ensures c.note.ensures.run _ _ _ _ _ _ c.self.invariant
+    (subst (λ core. MayTake g.T.Turner.stands (g.T.Turner.script core.store) core (Wake c.args.pid)) (sym c.self.view_is) c.requires) c.note.ensures.peak c.note.ensures.room c.set_phase.ensures.room
 
 pub phase_of-requires : goal.phase_of-requires
 phase_of-requires g c = subst (AreRising 0) (sym c.as_slice.ensures.value) (rising_now g.T.Turner.stands _ _ c.self.invariant.has_run)
+
+pub returns-clause-took : goal.returns-clause-took
+returns-clause-took g c = takes_passed g.T.Turner.stands (Wake c.args.pid) c.args.pid Asleep Waiting (waking c.args.pid) _ c.in-Asleep.asked _ _ _ _ _ _
+    (ap (λ ts. phase_in ts c.args.pid) (sym c.as_slice.ensures.value) ∙ sym c.phase_of.ensures ∙ c.in-Asleep.is)
+    c.set_phase.ensures.items (omega arith) (omega arith) c.noted_of-noted.ensures c.note.ensures.run g.T.Turner.script _ c.self.view_is
 
 pub set_phase-requires : goal.set_phase-requires
 set_phase-requires g c = rising_now g.T.Turner.stands _ _ c.self.invariant.has_run
