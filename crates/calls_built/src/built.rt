@@ -27,7 +27,7 @@ pub fn is_built(kind: CallKind) -> bool
 }
 
 /// Whether a statement makes no call but one that can be run.
-fn statement_runs(statement: &Statement) -> bool
+pub fn statement_runs(statement: &Statement) -> bool
     ensures { result ≡ spec.statement_runs statement.now }
 {
     match statement {

@@ -1,4 +1,4 @@
--- A generated script, printed, is short enough for a text, and keeps what scripts promise where its calls are built.
+-- A generated script, printed, is short enough for a text, and keeps what scripts promise.
 use Rattle.std.proofs.Common.{◌<◌, ◌≤◌, ◌+◌, ◌*◌, ◌^◌, ℕ, zero, suc, List, [], ◌∷◌, map, length, refl, arith}
 use Rattle.std.specs.Prelude.{codes}
 use Rattle.std.specs.List.{AllByRecursion}
@@ -16,12 +16,11 @@ use Rattle.posix_defs.specs.Generated.{number, asks, asks_two, names, exits, chi
 use Rattle.posix_defs.specs.Canonical.{number_word, statement_words, program_lines, script_lines, canonical}
 use Rattle.posix_defs.specs.ValidScript.{IsStatement, IsProgram, AreApart, IsValid}
 use Rattle.script_parse.proofs.Holds.{all_append}
-use Rattle.script_laws.specs.Built.{AreBuilt}
 use Rattle.script_laws.proofs.Lists.{AllFrom, all_from_append, each_place}
 use Rattle.script_laws.proofs.Names.{IsShort, short_child, short_parent}
 use Rattle.script_laws.proofs.Rounds.{IsCall, fork_right, waits_right, stores_right, exits_right, short_operand, rounds_length, rounds_all}
 use Rattle.script_laws.proofs.ShortTexts.{IsShortLine, IsShortStatement, lines_length, short_name, short_lines}
-use Rattle.script_laws.proofs.ValidRounds.{IsFormed, all_built, call_stands, rounds_stand}
+use Rattle.script_laws.proofs.ValidRounds.{call_stands, rounds_stand}
 
 -- lengths
 
@@ -117,17 +116,17 @@ generated_short n most =
 -- what scripts promise
 
 -- each statement of a generated script stands where it may
-pub body_formed : (n : ℕ) → n ≤ 1000 → AllFrom (IsFormed (body_to n)) 0 (body_to n)
-body_formed n most =
+body_stands : (n : ℕ) → n ≤ 1000 → AllFrom (IsStatement (body_to n)) 0 (body_to n)
+body_stands n most =
     let rounds : List Statement = rounds_to n n in
-    all_from_append (IsFormed (body_to n)) 0 (length rounds) rounds (exits 0 ∷ []) (omega arith) (rounds_stand n n (exits 0 ∷ []) (omega (arith, most)))
+    all_from_append (IsStatement (body_to n)) 0 (length rounds) rounds (exits 0 ∷ []) (omega arith) (rounds_stand n n (exits 0 ∷ []) (omega (arith, most)))
     (call_stands (body_to n) (length rounds) (exits 0) (exits_right 0 (omega arith)), tt)
 
-pub generated_valid : (n : ℕ) → n ≤ 1000 → AreBuilt (generated n) → IsValid (generated n)
-generated_valid n most built =
+pub generated_valid : (n : ℕ) → n ≤ 1000 → IsValid (generated n)
+generated_valid n most =
     let body : List Statement = body_to n in
     let program : Program = record { name = codes "init"; body = body } in
-    let all = all_built body 0 body (body_formed n most) built.0 in
+    let all = body_stands n most in
     let is : IsProgram program = record {
       name = refl;
       short = omega (arith, most, body_length n);

@@ -11,35 +11,14 @@ use Rattle.kabi_types.specs.declared.scripts.Statement.TheVariants as statement
 use Rattle.kabi_types.specs.declared.scripts.Test.TheVariants.{Eq}
 use Rattle.posix_defs.specs.Generator.{state_after}
 use Rattle.posix_defs.specs.Generated.{number, asks, asks_two, names, exits, child_label, parent_label, forks, round, rounds_to}
-use Rattle.posix_defs.specs.ScriptLines.{shape_of}
-use Rattle.posix_defs.specs.ValidScript.{IsOperand, Fits, AreTargets, IsLabel, IsFirstLabel, IsStatement}
+use Rattle.posix_defs.specs.ValidScript.{IsLabel, IsFirstLabel, IsStatement}
 use Rattle.script_parse.proofs.Holds.{all_append}
-use Rattle.script_laws.specs.Built.{IsBuilt}
 use Rattle.script_laws.proofs.Lists.{AllFrom, all_from_append, found_behind, not_before}
 use Rattle.script_laws.proofs.Names.{child_named, parent_named, children_apart, parents_apart, child_no_parent}
 use Rattle.script_laws.proofs.Rounds.{IsCall, fork_right, waits_right, stores_right, exits_right, maps_right, by_round, rounds_all}
 
--- A statement at a place of a program. Whether a call can be run is left open.
-abbrev pub IsFormed : List Statement → ℕ → Statement → Type 0
-IsFormed body at (statement.Invoke call values texts first second) = AllByRecursion IsOperand values × Fits (shape_of call) values texts × AreTargets first second
-IsFormed body at s = IsStatement body at s
-
-formed_built : (body : List Statement) (at : ℕ) (s : Statement) → IsFormed body at s → IsBuilt s → IsStatement body at s
-formed_built body at (statement.Invoke _ _ _ _ _) is built = (built, is.0, is.1, is.2)
-formed_built body at (statement.Set r v) is built = is
-formed_built body at (statement.Add r v) is built = is
-formed_built body at (statement.If left test right place) is built = is
-formed_built body at (statement.Jump place) is built = is
-formed_built body at (statement.Label name) is built = is
-formed_built body at (statement.Loop r place) is built = is
-
-pub all_built : (body : List Statement) (at : ℕ) (statements : List Statement) → AllFrom (IsFormed body) at statements → AllByRecursion IsBuilt statements
-    → AllFrom (IsStatement body) at statements
-all_built body at [] formed built = tt
-all_built body at (s ∷ statements) formed built = (formed_built body at s formed.0 built.0, all_built body (at + 1) statements formed.1 built.1)
-
 -- a right call stands anywhere
-pub call_stands : (body : List Statement) (at : ℕ) (s : Statement) → IsCall s → IsFormed body at s
+pub call_stands : (body : List Statement) (at : ℕ) (s : Statement) → IsCall s → IsStatement body at s
 call_stands body at (statement.Invoke _ _ _ _ _) is = (is.operands, is.fits, is.targets)
 call_stands body at (statement.Set r v) is = absurd is
 call_stands body at (statement.Add r v) is = absurd is
@@ -48,7 +27,7 @@ call_stands body at (statement.Jump place) is = absurd is
 call_stands body at (statement.Label name) is = absurd is
 call_stands body at (statement.Loop r place) is = absurd is
 
-calls_stand : (body : List Statement) (at : ℕ) (calls : List Statement) → AllByRecursion IsCall calls → AllFrom (IsFormed body) at calls
+calls_stand : (body : List Statement) (at : ℕ) (calls : List Statement) → AllByRecursion IsCall calls → AllFrom (IsStatement body) at calls
 calls_stand body at [] are = tt
 calls_stand body at (s ∷ calls) are = (call_stands body at s are.0, calls_stand body (at + 1) calls are.1)
 
@@ -106,7 +85,7 @@ no_parent n i small =
 -- the statements that fork stand behind the rounds before them
 forks_stand : (before rest : List Statement) (i q : ℕ) → i < 10 ^ 4 → q < 16 → AllByRecursion (IsOther (child_label i)) before
     → AllByRecursion (IsOther (parent_label i)) before
-    → AllFrom (IsFormed (before ++ (forks i q (length before) ++ rest))) (length before) (forks i q (length before))
+    → AllFrom (IsStatement (before ++ (forks i q (length before) ++ rest))) (length before) (forks i q (length before))
 forks_stand before rest i q small few child parent =
     let at : ℕ = length before in
     let body : List Statement = before ++ (forks i q at ++ rest) in
@@ -141,7 +120,7 @@ forks_stand before rest i q small few child parent =
     )
 
 -- so many rounds stand in a program that goes on behind them
-pub rounds_stand : (n i : ℕ) (rest : List Statement) → i ≤ 10 ^ 4 → AllFrom (IsFormed (rounds_to n i ++ rest)) 0 (rounds_to n i)
+pub rounds_stand : (n i : ℕ) (rest : List Statement) → i ≤ 10 ^ 4 → AllFrom (IsStatement (rounds_to n i ++ rest)) 0 (rounds_to n i)
 rounds_stand n zero rest small =
     let maps : Statement = asks 1 kind.Mmap (number 65536 ∷ []) in (call_stands (maps ∷ rest) 0 maps maps_right, tt)
 rounds_stand n (suc i) rest small =
@@ -150,9 +129,9 @@ rounds_stand n (suc i) rest small =
     let at : ℕ = length before in
     let more : List Statement = round i state at in
     let body : List Statement = before ++ (more ++ rest) in
-    let stands : AllFrom (IsFormed body) at more =
-    by_round (λ r. AllFrom (IsFormed (before ++ (r ++ rest))) at r) i state at
+    let stands : AllFrom (IsStatement body) at more =
+    by_round (λ r. AllFrom (IsStatement (before ++ (r ++ rest))) at r) i state at
     (λ calls are few. calls_stand (before ++ (calls ++ rest)) at calls are)
     (λ q few. forks_stand before rest i q (omega (arith, small)) few (no_child n i (omega (arith, small))) (no_parent n i (omega (arith, small)))) in
-    subst (λ b. AllFrom (IsFormed b) 0 (before ++ more)) (sym (append_assoc before more rest))
-    (all_from_append (IsFormed body) 0 at before more (omega arith) (rounds_stand n i (more ++ rest) (omega (arith, small))) stands)
+    subst (λ b. AllFrom (IsStatement b) 0 (before ++ more)) (sym (append_assoc before more rest))
+    (all_from_append (IsStatement body) 0 at before more (omega arith) (rounds_stand n i (more ++ rest) (omega (arith, small))) stands)

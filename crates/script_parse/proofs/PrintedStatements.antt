@@ -4,11 +4,11 @@ use Rattle.std.specs.Prelude.{not, ◌&&◌, nat_le, if◌then◌else◌, codes}
 use Rattle.std.specs.List.{AllByRecursion}
 use Rattle.std.proofs.lemmas.Bool.{and_parts}
 use Rattle.std.proofs.lemmas.List.{length-map}
-use Rattle.kabi_calls.specs.Words.{word_of, is_built}
+use Rattle.kabi_calls.specs.Words.{word_of}
 use Rattle.kabi_calls.specs.declared.calls.CallKind.{CallKind}
 use Rattle.kabi_calls.specs.declared.calls.CallKind.TheVariants as kind
 use Rattle.kabi_types.specs.declared.scripts.Chooser.TheVariants.{Choices, Seed}
-use Rattle.kabi_types.specs.declared.scripts.FaultKind.TheVariants.{UnknownWord, OutOfRange, NotBuilt}
+use Rattle.kabi_types.specs.declared.scripts.FaultKind.TheVariants.{UnknownWord, OutOfRange}
 use Rattle.kabi_types.specs.declared.scripts.Operand.{Operand}
 use Rattle.kabi_types.specs.declared.scripts.Policy.{Policy}
 use Rattle.kabi_types.specs.declared.scripts.Policy.TheVariants.{Heaviest, Youngest}
@@ -26,7 +26,7 @@ use Rattle.posix_defs.specs.declared.said.Spoken.TheVariants as spoken
 use Rattle.posix_defs.specs.declared.said.Word.{Word}
 use Rattle.posix_defs.specs.declared.said.Word.TheVariants.{Bare, Quoted}
 use Rattle.posix_defs.specs.ScriptValues.{both, with, ◌>>=◌, each, is_word, register, value, is_name, name, path, stored}
-use Rattle.posix_defs.specs.ScriptLines.{kind_said, shape_of, values_only, operands_said, at_most, if_built, call_of_kind, call_said, test_said, call_for_one, call_for_both, call_for_two, call_for, said_in_program, natural, choices_said, said_at_top}
+use Rattle.posix_defs.specs.ScriptLines.{kind_said, shape_of, values_only, operands_said, at_most, invoked, call_of_kind, call_said, test_said, call_for_one, call_for_both, call_for_two, call_for, said_in_program, natural, choices_said, said_at_top}
 use Rattle.posix_defs.specs.Canonical.{number_word, name_word, register_word, operand_word, test_text, policy_text, label_name, label_word, operand_words, target_words, statement_words}
 use Rattle.posix_defs.specs.ValidScript.{IsRegister, IsOperand, IsBytes, IsPath, IsStored, IsValues, HasText, HasTwoPaths, IsPairs, Fits, AreTargets, IsLabel, IsStatement, IsChooser}
 use Rattle.script_parse.proofs.Holds.{all_append}
@@ -209,13 +209,12 @@ values_printed [] all = tt
 values_printed (operand ∷ values) all = (operand_printed operand all.0, values_printed values all.1)
 
 -- a call behind its registers, as its words say it
-call_read : (first second : Option ℕ) (call : CallKind) (values : List Operand) (texts : List (List ℕ)) → is_built call ≡ true → AllByRecursion IsOperand values
+call_read : (first second : Option ℕ) (call : CallKind) (values : List Operand) (texts : List (List ℕ)) → AllByRecursion IsOperand values
     → Fits (shape_of call) values texts
     → call_said first second (Bare (word_of call) ∷ operand_words (shape_of call) values texts) ≡ Ok (spoken.Whole (statement.Invoke call values texts first second))
-call_read first second call values texts built all fits =
+call_read first second call values texts all fits =
     ap (λ found. call_of_kind first second found (operand_words (shape_of call) values texts)) (kind_read call)
-    ∙ ap (λ said. said >>= if_built call first second) (operands_read (shape_of call) values texts all fits)
-    ∙ ap (λ b. if b then Ok (spoken.Whole (statement.Invoke call values texts first second)) else Err NotBuilt) built
+    ∙ ap (with (invoked call first second)) (operands_read (shape_of call) values texts all fits)
 
 -- statements
 
@@ -245,24 +244,24 @@ test_plain Ne = refl
 test_plain Lt = refl
 test_plain Le = refl
 
-invoke_read : (body : List Statement) (call : CallKind) (values : List Operand) (texts : List (List ℕ)) (first second : Option ℕ) → is_built call ≡ true
+invoke_read : (body : List Statement) (call : CallKind) (values : List Operand) (texts : List (List ℕ)) (first second : Option ℕ)
     → AllByRecursion IsOperand values → Fits (shape_of call) values texts → AreTargets first second
     → said_in_program (statement_words body (statement.Invoke call values texts first second)) ≡ Ok (inside.Says (spoken.Whole (statement.Invoke call values texts first second)))
-invoke_read body call values texts None None built all fits targets =
+invoke_read body call values texts None None all fits targets =
     let words = operand_words (shape_of call) values texts in
     call_alone call words
     ∙ ap (with inside.Says) (call_for_plain (Bare (word_of call)) words
     (operands_all (λ word. is_word (codes "=") word ≡ false) (shape_of call) values texts (values_no_equals values all) (texts_no_equals texts)))
-    ∙ ap (with inside.Says) (call_read None None call values texts built all fits)
-invoke_read body call values texts None (Some b) built all fits targets = absurd (let wrong : false ≡ true = targets.0 in cc)
-invoke_read body call values texts (Some a) None built all fits targets =
+    ∙ ap (with inside.Says) (call_read None None call values texts all fits)
+invoke_read body call values texts None (Some b) all fits targets = absurd (let wrong : false ≡ true = targets.0 in cc)
+invoke_read body call values texts (Some a) None all fits targets =
     ap (λ said. with inside.Says (said >>= λ a. call_said (Some a) None (Bare (word_of call) ∷ operand_words (shape_of call) values texts))) (register_read a targets)
-    ∙ ap (with inside.Says) (call_read (Some a) None call values texts built all fits)
-invoke_read body call values texts (Some a) (Some b) built all fits targets =
+    ∙ ap (with inside.Says) (call_read (Some a) None call values texts all fits)
+invoke_read body call values texts (Some a) (Some b) all fits targets =
     ap (λ said. with inside.Says (said >>= λ a. register (register_word b) >>= λ b. call_said (Some a) (Some b) (Bare (word_of call) ∷ operand_words (shape_of call) values texts)))
     (register_read a targets.1)
     ∙ ap (λ said. with inside.Says (said >>= λ b. call_said (Some a) (Some b) (Bare (word_of call) ∷ operand_words (shape_of call) values texts))) (register_read b targets.2)
-    ∙ ap (with inside.Says) (call_read (Some a) (Some b) call values texts built all fits)
+    ∙ ap (with inside.Says) (call_read (Some a) (Some b) call values texts all fits)
 
 pub statement_read : (body : List Statement) (at : ℕ) (s : Statement) → AreNamed body → IsStatement body at s
     → said_in_program (statement_words body s) ≡ Ok (inside.Says (spoken_as body s))
@@ -285,7 +284,7 @@ statement_read body at (statement.Label label) named is = ap (λ said. with insi
 statement_read body at (statement.Loop r place) named is =
     ap (λ said. with inside.Says (said >>= λ r. name (label_word body place) >>= λ l. Ok (spoken.Loop r l))) (register_read r is.0)
     ∙ ap (λ said. with inside.Says (said >>= λ l. Ok (spoken.Loop r l))) (name_read (label_name (slice_get body place)) (named place is.2))
-statement_read body at (statement.Invoke call values texts first second) named is = invoke_read body call values texts first second is.0 is.1 is.2 is.3
+statement_read body at (statement.Invoke call values texts first second) named is = invoke_read body call values texts first second is.0 is.1 is.2
 
 -- the words of a printed statement
 
@@ -311,8 +310,8 @@ statement_line body at (statement.Label label) named is = first_line (codes "lab
 statement_line body at (statement.Loop r place) named is =
     first_line (codes "loop") (register_word r ∷ label_word body place ∷ []) refl (register_printed r is.0, (name_printed (label_name (slice_get body place)) (named place is.2), tt))
 statement_line body at (statement.Invoke call values texts first second) named is =
-    target_line first second call (operand_words (shape_of call) values texts) is.3
-    (operands_all IsPrinted (shape_of call) values texts (values_printed values is.1) (texts_printed texts (texts_bytes (shape_of call) values texts is.2)))
+    target_line first second call (operand_words (shape_of call) values texts) is.2
+    (operands_all IsPrinted (shape_of call) values texts (values_printed values is.0) (texts_printed texts (texts_bytes (shape_of call) values texts is.1)))
 
 -- lines outside programs
 

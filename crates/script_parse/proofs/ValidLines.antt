@@ -2,7 +2,6 @@
 use Rattle.std.proofs.Common.{◌≡◌, ◌≤◌, ◌%◌, ℕ, true, ◌==◌, List, [], ◌∷◌, length, Option, None, Some, Result, Ok, Err, IfOk, refl, arith}
 use Rattle.std.specs.Prelude.{⊤, nat_le, codes}
 use Rattle.std.specs.List.{AllByRecursion}
-use Rattle.kabi_calls.specs.Words.{is_built}
 use Rattle.kabi_calls.specs.declared.calls.CallKind.{CallKind}
 use Rattle.kabi_types.specs.declared.scripts.Chooser.TheVariants.{Choices, Seed}
 use Rattle.kabi_types.specs.declared.scripts.FaultKind.{FaultKind}
@@ -21,7 +20,7 @@ use Rattle.posix_defs.specs.declared.said.Spoken.{Spoken}
 use Rattle.posix_defs.specs.declared.said.Spoken.TheVariants as spoken
 use Rattle.posix_defs.specs.declared.said.Word.{Word}
 use Rattle.posix_defs.specs.ScriptValues.{both, with, ◌>>=◌, each, is_word, register, value, is_name, name, path, stored}
-use Rattle.posix_defs.specs.ScriptLines.{kind_said, shape_of, CallOperands, values_only, counted, one_path, two_paths, path_value, value_path, value_bytes, at_most, pairs, operands_said, if_built, call_of_kind, call_said, set_said, add_said, test_said, if_said, jump_said, label_said, loop_said, call_for_one, call_for_both, call_for_two, call_for, statement_said, alone, said_in_program, natural, only, policy_said, choices_said, top_said, said_at_top}
+use Rattle.posix_defs.specs.ScriptLines.{kind_said, shape_of, CallOperands, values_only, counted, one_path, two_paths, path_value, value_path, value_bytes, at_most, pairs, operands_said, invoked, call_of_kind, call_said, set_said, add_said, test_said, if_said, jump_said, label_said, loop_said, call_for_one, call_for_both, call_for_two, call_for, statement_said, alone, said_in_program, natural, only, policy_said, choices_said, top_said, said_at_top}
 use Rattle.posix_defs.specs.ValidScript.{IsRegister, IsOperand, IsPath, IsStored, Fits, AreTargets, IsChooser}
 use Rattle.script_parse.proofs.Holds.{any, when, with_holds, then_holds, both_hold, AreAll, each_holds}
 use Rattle.script_parse.proofs.ValidWords.{IsTextWord}
@@ -122,7 +121,7 @@ abbrev pub IsWhole : Statement → Type 0
 IsWhole (statement.Set register value) = IsRegister register × IsOperand value
 IsWhole (statement.Add register value) = IsRegister register × IsOperand value
 IsWhole (statement.Invoke kind values texts first second) =
-    (is_built kind ≡ true) × AllByRecursion IsOperand values × Fits (shape_of kind) values texts × AreTargets first second
+    AllByRecursion IsOperand values × Fits (shape_of kind) values texts × AreTargets first second
 IsWhole (statement.If _ _ _ _) = ⊥
 IsWhole (statement.Jump _) = ⊥
 IsWhole (statement.Label _) = ⊥
@@ -143,8 +142,8 @@ kind_fits : (first second : Option ℕ) (kind : Option CallKind) (words : List W
     → Speaks (call_of_kind first second kind words)
 kind_fits first second None words targets bytes = tt
 kind_fits first second (Some kind) words targets bytes =
-    then_holds (Operates (shape_of kind)) IsSpoken (operands_said (shape_of kind) words) (if_built kind first second) (operands_fit (shape_of kind) words bytes)
-    (λ operands fit. when Speaks (is_built kind) _ _ (λ built. (built, fit.0, fit.1, targets)) (λ _. tt))
+    with_holds (Operates (shape_of kind)) IsSpoken (invoked kind first second) (operands_said (shape_of kind) words)
+    (λ operands fit. (fit.0, fit.1, targets)) (operands_fit (shape_of kind) words bytes)
 
 call_fits : (first second : Option ℕ) (words : List Word) → AreTargets first second → AreTextWords words → Speaks (call_said first second words)
 call_fits first second [] targets bytes = tt

@@ -1,3 +1,1 @@
-pub use Rattle.script_read.specs.LabelPlaces
-pub use Rattle.script_read.specs.Drafting
-pub use Rattle.script_read.specs.Reading
+pub mod SocketScript

@@ -1,13 +1,14 @@
 //! Laws of the language of scripts. Each is the contract of a function that does nothing.
 
 ghost use Rattle.std.specs.Prelude.{◌≡◌, ◌≤◌, ℕ, List, [], length, Result, Ok, Err, codes};
-ghost use Rattle.kabi_types.specs.declared.scripts.FaultKind.TheVariants.{NoInit, NotBuilt, UnknownWord, Unended};
+ghost use Rattle.kabi_types.specs.declared.scripts.FaultKind.TheVariants.{NoInit, UnknownWord, Unended};
 ghost use Rattle.kabi_types.specs.declared.scripts.Script.{Script};
 ghost use Rattle.kabi_types.specs.declared.scripts.ScriptFault.{ScriptFault};
 ghost use Rattle.posix_defs.specs.Canonical.{canonical};
 ghost use Rattle.posix_defs.specs.FirstScript.{first_text, first_script};
 ghost use Rattle.posix_defs.specs.ScriptText.{ReadsText};
 ghost use Rattle.posix_defs.specs.ValidScript.{IsValid};
+ghost use Rattle.script_parse.specs.SocketScript.{socket_text, socket_script};
 
 /// A text reads as one script at most and has one fault at most, and never both.
 pub fn a_text_reads_in_one_way()
@@ -19,13 +20,13 @@ pub fn every_text_reads_or_has_a_fault()
     ensures { (text : List ℕ) → (outcome : Result Script ScriptFault) × ReadsText text outcome }
 {}
 
-/// Worked examples: no bytes have no program `init`; the text of the first example says its script; a third line that is
-/// no statement is at fault; a call that isn't built is at fault at its line.
+/// Worked examples: no bytes have no program `init`; the text of the first example says its script, and so does one that
+/// asks for a socket; a third line that is no statement is at fault; a program without an end is at fault at its first line.
 pub fn worked_texts_read()
     ensures nothing { ReadsText [] (Err (record { line = 0; what = NoInit })) }
     ensures first { ReadsText first_text (Ok first_script) }
     ensures unknown { ReadsText (codes "program init\nlabel a\njmp a\nend\n") (Err (record { line = 3; what = UnknownWord })) }
-    ensures not_built { ReadsText (codes "program init\nr1 = socket\nend\n") (Err (record { line = 2; what = NotBuilt })) }
+    ensures socket { ReadsText socket_text (Ok socket_script) }
     ensures unended { ReadsText (codes "heap 8192\nprogram init\njmp a\n") (Err (record { line = 2; what = Unended })) }
 {}
 

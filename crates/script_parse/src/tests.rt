@@ -138,7 +138,11 @@ const SMALL: &[Row] = &[
         3,
         FaultKind::UnknownWord,
     ),
-    ("program init\nr1 = socket\nend\n", 2, FaultKind::NotBuilt),
+    (
+        "program init\nr1 = socket 1\nend\n",
+        2,
+        FaultKind::UnknownWord,
+    ),
 ];
 
 #[test]

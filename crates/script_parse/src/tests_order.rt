@@ -194,7 +194,7 @@ const WITHOUT_INIT: &[Row] = &[
     ("# program init\n# end\n", 0, FaultKind::NoInit),
     ("heap 1\n", 1, FaultKind::OutOfRange),
     ("heap 8192\nheap 8192\n", 2, FaultKind::TwiceDefined),
-    ("program other\nsocket\nend\n", 2, FaultKind::NotBuilt),
+    ("program other\nsocket\nend\n", 0, FaultKind::NoInit),
     ("program other\nend\nprogram third\n", 3, FaultKind::Unended),
 ];
 
@@ -238,9 +238,9 @@ const FIRST_LINES: &[Row] = &[
         FaultKind::BadNumber,
     ),
     (
-        "program a\nsocket\nend\nprogram init\n",
+        "program a\nsocket x\nend\nprogram init\n",
         2,
-        FaultKind::NotBuilt,
+        FaultKind::UnknownWord,
     ),
     (
         "program init\nend\nprogram init\njmp\nend\n",
@@ -459,7 +459,6 @@ const FAULTY: &[(&[u8], FaultKind)] = &[
     (b"jump none", FaultKind::NoSuchLabel),
     (b"jump top", FaultKind::WrongWay),
     (b"label top", FaultKind::TwiceDefined),
-    (b"socket", FaultKind::NotBuilt),
 ];
 
 /// The first two lines of a program, and the end of a line.

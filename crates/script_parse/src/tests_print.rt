@@ -105,6 +105,10 @@ const PRINTED: &[(&str, &str)] = &[
         "program\tb\n\tlabel  x \r\n\n # say\n add r15 -007\nend\nseed 1\npolicy\tyoungest\nsteps 1\nprogram init\nr0  = getpid\nend",
         "heap 65536\ndisk 64\nsteps 1\npolicy youngest\nseed 1\nprogram b\nlabel x\nadd r15 -7\nend\nprogram init\nr0 = getpid\nend\n",
     ),
+    (
+        "program init\n r3 = open \"/a\\x62\" O_RDWR|O_CREAT\nr1  r2 = pipe\nend\n",
+        "heap 65536\ndisk 64\nsteps 1000\npolicy heaviest\nprogram init\nr3 = open \"/ab\" 66\nr1 r2 = pipe\nend\n",
+    ),
 ];
 
 #[test]
@@ -123,6 +127,7 @@ const CANONICAL: &[&str] = &[
     "heap 65536\ndisk 64\nsteps 1000\npolicy heaviest\nchoices 4294967295 0 7\nprogram init\nend\nprogram a\nend\n",
     "heap 65536\ndisk 64\nsteps 1000\npolicy heaviest\nprogram init\nset r0 9223372036854775807\nadd r15 -9223372036854775808\nset r9 r10\nadd r1 0\nend\n",
     "heap 65536\ndisk 64\nsteps 1000\npolicy heaviest\nprogram init\nlabel a\nif r1 == 5 b\nif -1 != r2 b\nif 0 < 1 b\nif r3 <= r4 c_2\njump b\nlabel b\nloop r15 a\nlabel c_2\nend\n",
+    "heap 65536\ndisk 64\nsteps 1000\npolicy heaviest\nprogram init\nsocket\nr2 = bind r1 \"a b\"\nrename \"a\" \"\\n\"\nr6 = poll -1 3 5\nend\n",
     "heap 65536\ndisk 64\nsteps 1000\npolicy heaviest\nprogram init\ngetpid\nr1 = getppid\nr2 r3 = sched_yield\nexit r1\nr15 r0 = exit -256\nend\n",
 ];
 

@@ -13,3 +13,4 @@ pub use parse_error::ParseError;
 use posix_defs::{AtTop, InProgram, Setting, Spoken, Stated, Word};
 pub use reader::read;
 use script_words::Refused;
+pub use statements::said_in_program;

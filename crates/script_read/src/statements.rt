@@ -28,9 +28,6 @@ fn call_said(
         return Err(Refused::Fault(FaultKind::UnknownWord));
     };
     let (operands, texts) = operands_said(alloc, shape_of(kind), rest)?;
-    if !kind.built() {
-        return Err(Refused::Fault(FaultKind::NotBuilt));
-    }
     Ok(Spoken::Whole(Statement::Invoke {
         kind,
         operands,
@@ -193,7 +190,8 @@ fn statement_said(
     }
 }
 
-/// What a line of a program says.
+/// What a line of a program says, by its words: nothing, the end of the program, or a statement. `Fault` is the least of the
+/// faults that its words have; `Memory` comes where the host has no memory left.
 pub fn said_in_program(alloc: Global, words: &[Word]) -> Result<InProgram, Refused>
     ensures { Tells (λ said. said) result (λ said. said ≡ spec.said_in_program words.now) }
 {

@@ -1,4 +1,4 @@
-//! The words of calls, the shapes of their operands, and which of them can be run.
+//! The words of calls, and the shapes of their operands.
 
 ghost use Rattle.std.specs.Prelude.{◌≡◌};
 ghost use Rattle.posix_defs.specs.ScriptLines as spec;

@@ -4,4 +4,4 @@ use Rattle.script_laws.proofs.GeneratedScripts.{generated_short, generated_valid
 use Rattle.script_laws.proofs.generated_text_reads_as_generated.Goals as goal
 
 pub returns : goal.returns
-returns c = λ n most built. canonical_reads (generated n) (generated_valid n most built) (generated_short n most)
+returns c = λ n most. canonical_reads (generated n) (generated_valid n most) (generated_short n most)

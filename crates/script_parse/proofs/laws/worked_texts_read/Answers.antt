@@ -11,8 +11,8 @@ returns-clause-first c = ascii_reads _ _ refl refl refl
 pub returns-clause-unknown : goal.returns-clause-unknown
 returns-clause-unknown c = ascii_reads _ _ refl refl refl
 
-pub returns-clause-not_built : goal.returns-clause-not_built
-returns-clause-not_built c = ascii_reads _ _ refl refl refl
+pub returns-clause-socket : goal.returns-clause-socket
+returns-clause-socket c = ascii_reads _ _ refl refl refl
 
 pub returns-clause-unended : goal.returns-clause-unended
 returns-clause-unended c = ascii_reads _ _ refl refl refl

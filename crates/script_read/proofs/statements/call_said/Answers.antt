@@ -1,10 +1,6 @@
-use Rattle.std.proofs.Common.{Some, None, Ok, Err, ap, refl, sym, ◌∙◌}
-use Rattle.std.specs.Prelude.{if◌then◌else◌}
-use Rattle.kabi_types.specs.declared.scripts.FaultKind.TheVariants.{NotBuilt}
-use Rattle.kabi_types.specs.declared.scripts.Statement.TheVariants as statement
-use Rattle.posix_defs.specs.ScriptLines.{if_built, operands_said}
-use Rattle.posix_defs.specs.ScriptValues.{◌>>=◌}
-use Rattle.posix_defs.specs.declared.said.Spoken.TheVariants as spoken
+use Rattle.std.proofs.Common.{Some, None, ap, refl, sym, ◌∙◌}
+use Rattle.posix_defs.specs.ScriptLines.{invoked, operands_said}
+use Rattle.posix_defs.specs.ScriptValues.{with}
 use Rattle.script_words.proofs.Told.{err_is, stops, told_as}
 use Rattle.script_read.proofs.StatementWords.{called, not_called}
 use Rattle.script_read.proofs.statements.call_said.Goals as goal
@@ -22,18 +18,17 @@ returns-in_err-operands c =
     let error = c.in_err-operands.field-0.0 in
     let kind = c.in-Some-kind_said.kind in
     let rest = c.in-Some.rest.now in
-    let built = if_built kind c.args.first c.args.second in
+    let invoke = with (invoked kind c.args.first c.args.second) in
     told_as _ c.from_residual.result
-    (ap (λ shape. operands_said shape rest >>= built) c.shape_of.ensures
+    (ap (λ shape. invoke (operands_said shape rest)) c.shape_of.ensures
     ∙ called c.args.first c.args.second c.args.words.now c.in-Some.word.now rest (Some kind) c.in-Some.ensures.cases.0 c.in-Some-kind_said.ensures)
-    (stops _ (λ said. said) error c.from_residual.result (operands_said c.shape_of.result rest) (λ said. said >>= built) (λ k. refl)
+    (stops _ (λ said. said) error c.from_residual.result (operands_said c.shape_of.result rest) invoke (λ k. refl)
     (err_is error c.from_residual.result c.from_residual.ensures.1) c.in_err-operands.ensures)
 
 pub returns : goal.returns
 returns c =
     let kind = c.in-Some-kind_said.kind in
     let rest = c.in-Some.rest.now in
-    let built = if_built kind c.args.first c.args.second in
-    ap (λ b. if b then Ok (spoken.Whole (statement.Invoke kind c.in_ok-operands.operands c.in_ok-operands.texts c.args.first c.args.second)) else Err NotBuilt) c.if-not-built.ensures
-    ∙ ap (λ said. said >>= built) c.in_ok-operands.ensures ∙ ap (λ shape. operands_said shape rest >>= built) c.shape_of.ensures
+    let invoke = with (invoked kind c.args.first c.args.second) in
+    ap invoke c.in_ok-operands.ensures ∙ ap (λ shape. invoke (operands_said shape rest)) c.shape_of.ensures
     ∙ called c.args.first c.args.second c.args.words.now c.in-Some.word.now rest (Some kind) c.in-Some.ensures.cases.0 c.in-Some-kind_said.ensures
