@@ -53,7 +53,7 @@ leaves_home table pid status home other process is = elim (eqb_tells other pid) 
 -- and so they do where a process ends
 pub die_home : (plain : Plain) (target status : ℕ) → AllAtHome plain.table → AllAtHome (die plain target status).table
 die_home plain zero status home = leaves_home plain.table zero status home
-die_home plain (suc zero) status home other process is = absurd (nothing_is _ (emptied plain.table other) is)
+die_home plain (suc zero) status home = λ other process is. absurd (nothing_is _ (emptied plain.table other) is)
 die_home plain (suc (suc n)) status home = leaves_home plain.table (suc (suc n)) status home
 
 -- where one is gone, everybody else works where he did
