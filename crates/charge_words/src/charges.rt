@@ -55,6 +55,7 @@ impl Charge {
         requires { seat.old.charge ≡ self.now }
         ensures charge { seat.new.charge ≡ seat.old.charge }
         ensures answer { Answers self.now.heap n seat.old.known result seat.new.known }
+        ensures within { seat.new.known.last ≤ self.now.heap }
     {
         let charged = self.table.shared.load::<Load>(&mut seat.seat, WORD);
         if n > self.heap - charged {
@@ -135,6 +136,7 @@ impl Charge {
         requires { seat.old.charge ≡ self.now }
         ensures seat { seat.new ≡ seat_of seat.old.charge (loaded seat.old.known result) }
         ensures word { Tells seat.old.known result }
+        ensures within { result ≤ self.now.heap }
     {
         self.table.shared.load::<Load>(&mut seat.seat, WORD)
     }

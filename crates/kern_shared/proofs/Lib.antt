@@ -1,5 +1,7 @@
+pub mod Along
 pub mod Behind
 pub mod OnePast
+pub mod Helping
 pub mod Holding
 pub mod Keeping
 pub mod Loops
@@ -7,6 +9,8 @@ pub mod Lowest
 pub mod Picking
 pub mod Pids
 pub mod Presence
+pub mod Relieved
+pub mod Relieving
 pub mod Runs
 pub mod Standing
 pub mod Starving

@@ -1,11 +1,14 @@
 -- Loops over lists of processes.
-use Rattle.std.proofs.Common.{◌≡◌, ℕ, zero, suc, ◌+◌, ◌<◌, ◌&&◌, Bool, true, false, cond, List, [], ◌∷◌, ◌++◌, length, take, drop, filter, get_or, Option, Some, ap, sym, ◌∙◌, arith, append_assoc}
+use Rattle.std.proofs.Common.{◌≡◌, ℕ, zero, suc, ◌+◌, ◌<◌, ◌≤◌, ◌&&◌, Bool, true, false, cond, List, [], ◌∷◌, ◌++◌, length, take, drop, filter, get_or, Option, Some, ap, sym, ◌∙◌, arith, append_assoc}
+use Rattle.std.specs.Prelude.{nat_le}
 use Rattle.std.specs.List.{list_all}
-use Rattle.std.proofs.lemmas.List.{at_drop_more, take_more, length-take-le}
+use Rattle.std.proofs.lemmas.List.{at_drop_more, drop_all, take_more, length-take-le}
 use Rattle.std.proofs.Math.Seq.{take-append_seam, drop-append_seam}
 use Rattle.posix_defs.specs.Plain.{Plain}
 use Rattle.posix_defs.specs.Process.{is_alive}
-use Rattle.kern_shared.specs.Lists.{AreAlive, is_below, lowest}
+use Rattle.kern_shared.specs.declared.held.Held.{Held}
+use Rattle.kern_shared.specs.Lists.{AreAlive, AreNeeds, is_below, lowest}
+use Rattle.kern_shared.specs.Shares.{pids_of}
 
 -- the one at a place is alive where all are
 pub alive_at : (plain : Plain) (pids : List ℕ) (place d : ℕ) → place < length pids → AreAlive plain pids → is_alive plain.table (get_or pids place d) ≡ true
@@ -53,3 +56,37 @@ goes_here test pids left place d within here left_is =
     ∙ sym (ap (λ l. take place pids ++ l)
     (at_drop_more (filter test) pids place d within
     ∙ ap (λ (b : Bool). cond b (get_or pids place d ∷ filter test (drop (place + 1) pids)) (filter test (drop (place + 1) pids))) here))
+
+-- what the one at a place needs, by its pid
+pub need_at : (need : ℕ → ℕ) (held : List Held) (place : ℕ) (d : Held) → place < length held → AreNeeds need held
+    → (get_or held place d).bound ≡ need (get_or held place d).pid
+need_at need [] place d within are = absurd (omega arith)
+need_at need (h ∷ held) zero d within are = are.0
+need_at need (h ∷ held) (suc place) d within are = need_at need held place d (omega arith) are.1
+
+-- one place further on the search among those that are held
+held_behind : (passes : ℕ → Bool) (held : List Held) (place : ℕ) (d : Held) (found next all : Option ℕ) → place < length held
+    → next ≡ cond (is_below (get_or held place d).pid found && passes (get_or held place d).pid) (Some (get_or held place d).pid) found
+    → lowest passes found (pids_of (drop place held)) ≡ all → lowest passes next (pids_of (drop (place + 1) held)) ≡ all
+held_behind passes held place d found next all within here rest =
+    ap (λ o. lowest passes o (pids_of (drop (place + 1) held))) here ∙ sym (at_drop_more (λ l. lowest passes found (pids_of l)) held place d within) ∙ rest
+
+pub within_behind : (need : ℕ → ℕ) (most : ℕ) (held : List Held) (place : ℕ) (d : Held) (found next all : Option ℕ) → place < length held → AreNeeds need held
+    → next ≡ cond (is_below (get_or held place d).pid found && nat_le (get_or held place d).bound most) (Some (get_or held place d).pid) found
+    → lowest (λ pid. nat_le (need pid) most) found (pids_of (drop place held)) ≡ all → lowest (λ pid. nat_le (need pid) most) next (pids_of (drop (place + 1) held)) ≡ all
+within_behind need most held place d found next all within are here rest =
+    held_behind (λ pid. nat_le (need pid) most) held place d found next all within
+    (here ∙ ap (λ n. cond (is_below (get_or held place d).pid found && nat_le n most) (Some (get_or held place d).pid) found) (need_at need held place d within are)) rest
+
+pub alive_behind : (plain : Plain) (need : ℕ → ℕ) (most : ℕ) (held : List Held) (place : ℕ) (d : Held) (found next all : Option ℕ) → place < length held → AreNeeds need held
+    → next ≡ cond (is_below (get_or held place d).pid found && (nat_le (get_or held place d).bound most && is_alive plain.table (get_or held place d).pid)) (Some (get_or held place d).pid) found
+    → lowest (λ pid. nat_le (need pid) most && is_alive plain.table pid) found (pids_of (drop place held)) ≡ all
+    → lowest (λ pid. nat_le (need pid) most && is_alive plain.table pid) next (pids_of (drop (place + 1) held)) ≡ all
+alive_behind plain need most held place d found next all within are here rest =
+    held_behind (λ pid. nat_le (need pid) most && is_alive plain.table pid) held place d found next all within
+    (here ∙ ap (λ n. cond (is_below (get_or held place d).pid found && (nat_le n most && is_alive plain.table (get_or held place d).pid)) (Some (get_or held place d).pid) found)
+    (need_at need held place d within are)) rest
+
+-- at the end of the search among those that are held
+pub held_end : (passes : ℕ → Bool) (held : List Held) (place : ℕ) (found all : Option ℕ) → length held ≤ place → lowest passes found (pids_of (drop place held)) ≡ all → found ≡ all
+held_end passes held place found all past rest = sym (ap (λ l. lowest passes found (pids_of l)) (drop_all place held past)) ∙ rest

@@ -39,3 +39,7 @@ is_below pid (Some other) = nat_lt pid other
 abbrev pub lowest : (ℕ → Bool) → Option ℕ → List ℕ → Option ℕ
 lowest passes found [] = found
 lowest passes found (pid ∷ pids) = lowest passes (cond (is_below pid found && passes pid) (Some pid) found) pids
+
+-- what each of these needs, by its pid
+abbrev pub AreNeeds : (ℕ → ℕ) → List Held → Type 0
+AreNeeds need held = AllByRecursion (λ (h : Held). h.bound ≡ need h.pid) held

@@ -7,6 +7,7 @@ mod held;
 mod histories;
 mod lists;
 mod picks;
+mod reliefs;
 mod state;
 mod values;
 

@@ -79,7 +79,7 @@ pub(crate) fn is_held(held: &[Held], pid: u32) -> bool
 }
 
 /// Whether a process is below the one that was found, if one was.
-fn is_below(pid: u32, found: Option<u32>) -> bool
+pub(crate) fn is_below(pid: u32, found: Option<u32>) -> bool
     ensures { result ≡ is_below pid found }
 {
     match found {

@@ -92,7 +92,7 @@ module _ {T : Type 0} (stands : T → List Item → Type 0) where
         takes 0 (Some value),
         at_home.1,
         (history, turning history s id me.1 v w (takes 0 (Some value)) r at live live refl refl turn refl refl refl refl fits (inl refl) (λ is. contrary v.has_put is not_put)),
-        (value, history, refl, at_home.2, f.seen, sym (f.turn turn).1, mine, λ pid h. given_heard pid history ∙ given_where_last pid history v.mine (stand_in history v f) (f.held pid h)),
+        (value, history, refl, at_home.2, f.seen, sym (f.turn turn).1, mine, λ pid h. given_heard pid history ∙ given_where_last pid history v.mine (stand_in history v f) (f.held pid h), f.held),
       )
 
   pub notes : (slots id : ℕ) (me : Mine T) (value : T) → me.1 ≡ (0, Some value) ∷ [] → me.0.is_spent ≡ false → me.0.is_out ≡ true → MayPut stands (heard me.0.seen) value

@@ -30,6 +30,10 @@ abbrev pub IsLast : ℕ → List Item → List Placed → Type 0
 IsLast pid history mine =
     (place : ℕ) × Has mine place (Given pid) × ((later : ℕ) (x : Item) → place < later → get_elem? history later ≡ some x → is_of pid x ≡ false)
 
+-- of each process that a seat with these items holds, no item stands behind the Given by which it holds it
+abbrev pub AreLast : List Placed → List Item → Type 0
+AreLast mine items = (pid : ℕ) → holds pid mine ≡ true → IsLast pid items mine
+
 -- of two lists the longer, and the shorter
 abbrev pub longer : List Item → List Item → List Item
 longer xs ys = cond (nat_le (length ys) (length xs)) xs ys
@@ -154,7 +158,7 @@ module _ {T : Type 0} (stands : T → List Item → Type 0) where
     pub seen : IsPrefix v.seen history
     pub met : IsPrefix v.met v.seen
     pub mine : AreIn v.mine v.seen
-    pub held : (pid : ℕ) → holds pid v.mine ≡ true → IsLast pid history v.mine
+    pub held : AreLast v.mine history
     pub turn : v.has_turn ≡ true → (v.has_ticket ≡ true) × (v.ticket ≡ length history)
     pub out : v.is_out ≡ true → (v.has_turn ≡ true) × (v.seen ≡ history)
     pub put : v.has_put ≡ true → (v.has_turn ≡ true) × (v.seen ≡ history) × ((value : T) × (v.value ≡ Some value) × IsPutBack (heard history) value v.names)
@@ -191,7 +195,7 @@ module _ {T : Type 0} (stands : T → List Item → Type 0) where
       × (after ≡ (taking before.0 history, (0, Some value) ∷ before.1))
       × stands value (heard history)
       × IsPrefix before.0.seen history × (length history ≡ before.0.ticket)
-      × AreIn before.0.mine history × AreGiven before.0.mine (heard history)
+      × AreIn before.0.mine history × AreGiven before.0.mine (heard history) × AreLast before.0.mine history
 
   -- the view names the value that lies in the slot, which is out, and a list that it stands for
   abbrev pub Notes : Step (Option T) → Mine T → ℕ → Mine T → Type 0

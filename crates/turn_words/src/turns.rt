@@ -2,7 +2,7 @@
 ghost use Rattle.std.specs.Prelude.{◌≡◌, ◌<◌, ◌≤◌, ◌%◌, ◌^◌, ◌==◌, ◌++◌, ◌∷◌, true, false, [], length, IfOk};
 ghost use mathlib.Core.List.{IsPrefix};
 ghost use Rattle.turn_words.specs.Items.{heard};
-ghost use Rattle.turn_words.specs.Rule.{AreGiven, AreIn, IsPutBack, MayGive, MayPut, MayReturn, Told, WasServing, drawing, looking, newcomer, opened, passing, putting, taken_in, taking, with_one_more};
+ghost use Rattle.turn_words.specs.Rule.{AreGiven, AreIn, AreLast, IsPutBack, MayGive, MayPut, MayReturn, Told, WasServing, drawing, looking, newcomer, opened, passing, putting, taken_in, taking, with_one_more};
 ghost use Rattle.turn_words.specs.Seats.{seat_of};
 
 use crate::rule::{Chronicle, TurnRule};
@@ -94,6 +94,7 @@ impl<T: Chronicle> Turns<T> {
         ensures seen { IsPrefix seat.old.known.seen seat.new.known.seen × (length seat.new.known.seen ≡ seat.old.known.ticket) }
         ensures value { T.stands result (heard seat.new.known.seen) }
         ensures mine { AreIn seat.old.known.mine seat.new.known.seen × AreGiven seat.old.known.mine (heard seat.new.known.seen) }
+        ensures last { AreLast seat.old.known.mine seat.new.known.seen }
     {
         self.table.shared.load::<SlotOut>(&mut seat.seat, SERVING);
         self.table

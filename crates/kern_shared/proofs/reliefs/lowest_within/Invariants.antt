@@ -1,0 +1,11 @@
+use Rattle.std.proofs.Common.{◌≡◌, ℕ, None, drop}
+use Rattle.std.specs.Prelude.{nat_le}
+use Rattle.kern_shared.specs.Lists.{AreNeeds, lowest}
+use Rattle.kern_shared.specs.Shares.{pids_of}
+use Rattle.kern_shared.proofs.reliefs.lowest_within.Given as goal
+
+-- what was found before the place goes on to what is found in all
+abbrev pub invariant-loop-other : goal.invariant-loop-other
+invariant-loop-other l =
+    (need : ℕ → ℕ) → AreNeeds need l.held
+    → lowest (λ pid. nat_le (need pid) l.most) l.found (pids_of (drop l.other-index l.held)) ≡ lowest (λ pid. nat_le (need pid) l.most) None (pids_of l.held)
