@@ -4,3 +4,5 @@ pub mod Listing
 pub mod Droppable
 pub mod NumberCloses
 pub mod AllClose
+pub mod NumberOpens
+pub mod NumberNames

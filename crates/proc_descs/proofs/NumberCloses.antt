@@ -56,7 +56,7 @@ open_beside numbers h procs list files descriptors are = record {
   socketed = socketed_on numbers h (with_procs h procs) files.sockets refl (λ key held bytes is has. HasBytes-same h (with_procs h procs) held.queue bytes refl has) are.socketed;
 }
 
-held_beside : (h : Heap) (procs : List (Option Proc)) → IsHeldOpen h → IsHeldOpen (with_procs h procs)
+pub held_beside : (h : Heap) (procs : List (Option Proc)) → IsHeldOpen h → IsHeldOpen (with_procs h procs)
 held_beside h procs held = record {
   targets = λ key desc is. same_target desc.access desc.target (held.targets key desc is);
   pipes = λ key pipe is. let ends = held.pipes key pipe is in record { readers = ends.readers; writers = ends.writers; some_end = ends.some_end };

@@ -78,8 +78,8 @@ pub fn close_all(heap: &mut KHeap, procs: &ProcTable, pid: u32)
     }
 }
 
-/// The heap is well formed: each row of its objects is as long as it was reserved.
-fn is_well_formed(heap: &KHeap)
+// The heap is well formed: each row of its objects is as long as it was reserved.
+pub(crate) fn is_well_formed(heap: &KHeap)
     ensures { IsWellFormed heap.now }
 {
     let _ = heap.heap();
