@@ -19,8 +19,8 @@ pub use prices::{
 };
 pub use processes::{
     a_pid_is_never_used_again, an_error_changes_the_control_alone, answers_keep_a_family,
-    nobody_outlives_the_first_process, processes_are_a_family,
-    two_processes_have_a_history, two_processes_run,
+    nobody_outlives_the_first_process, processes_are_a_family, two_processes_have_a_history,
+    two_processes_run,
 };
 pub use relief::{
     a_call_that_waits_is_helped, a_kill_is_the_last_resort, a_turn_leaves_the_calls_of_others,
