@@ -1,5 +1,5 @@
 -- What the processes of the tests do, by cases.
-use Rattle.std.proofs.Common.{◌≡◌, ◌≢◌, ℕ, zero, suc, ◌+◌, ◌-◌, ◌*◌, ◌≤◌, max, ap, ◌∙◌, pos, Bool, true, false, [], ◌∷◌, lit≤, refl, sym, subst, arith}
+use Rattle.std.proofs.Common.{◌≡◌, ◌≢◌, ℕ, zero, suc, ◌+◌, ◌-◌, ◌*◌, ◌≤◌, max, ap, ◌∙◌, pos, Bool, true, false, not, [], ◌∷◌, lit≤, refl, sym, subst, arith}
 use Rattle.kabi_calls.specs.declared.calls.Call.{Call}
 use Rattle.kabi_types.specs.declared.entries.Cached.{Cached}
 use Rattle.kabi_types.specs.declared.entries.Cached.TheVariants.{Name, Block, Vnode}
@@ -9,7 +9,7 @@ use Rattle.posix_defs.specs.declared.turner.Turned.TheVariants.{Done, Ended}
 use Rattle.posix_defs.specs.Calls.OnSockets.{bind}
 use Rattle.posix_defs.specs.Calls.Reading.{read}
 use Rattle.posix_defs.specs.Calls.Writing.{write}
-use Rattle.posix_defs.specs.Machine.{machine}
+use Rattle.posix_defs.specs.Machine.{machine, would_block}
 use Rattle.posix_defs.specs.Memory.{no_places}
 use Rattle.posix_defs.specs.Files.Closing.{after_end_of}
 use Rattle.posix_defs.specs.Files.Descriptors.{none_open}
@@ -58,6 +58,21 @@ pub caching_turns : (place blocks : ℕ) (which : Call) → place ≤ 3 → bloc
 caching_turns place blocks which few less is =
     subst (λ w. Answers caching (caching_at place blocks) 1 w (Done (Fail EBADF)) (caching_at (next_place place) (next_blocks place blocks))) (sym is)
     (answers_at place blocks few less)
+
+-- none of its calls would block
+never_blocks : (place : ℕ) → place ≤ 3 → would_block caching (caching_at place 0).plain 1 ≡ false
+unfolding bind none_open read write
+never_blocks zero few = refl
+never_blocks (suc zero) few = refl
+never_blocks (suc (suc zero)) few = refl
+never_blocks (suc (suc (suc zero))) few = refl
+never_blocks (suc (suc (suc (suc n)))) few = absurd (let l : suc (suc (suc (suc n))) ≤ 3 = few in omega arith)
+
+pub caching_ready : (place blocks pid : ℕ) → place ≤ 3 → is_alive (caching_at place blocks).plain.table pid ≡ true
+    → true ≡ not (would_block caching (caching_at place blocks).plain pid)
+caching_ready place blocks zero few alive = cc
+caching_ready place blocks (suc zero) few alive = ap not (sym (never_blocks place few))
+caching_ready place blocks (suc (suc n)) few alive = cc
 
 -- a block goes from the cache
 pub block_goes : (place blocks : ℕ) (what : Cached) → blocks ≤ 2 → can_evict (caching_at place blocks).plain (caching_at place blocks).kept what ≡ true
