@@ -3,7 +3,7 @@ use Rattle.std.proofs.Common.{◌≡◌, ℕ, ◌+◌, ◌==◌, Bool, true, fal
 use Rattle.std.specs.Prelude.{if◌then◌else◌}
 use Rattle.std.specs.List.{All, slice_split}
 use Rattle.std.proofs.lemmas.List.Splits.{slice_split_at, slice_split_none}
-use Rattle.posix_defs.specs.ScriptParts.{Line, none, more}
+use Rattle.posix_defs.specs.ScriptParts.{none, more}
 use Rattle.script_parse.proofs.TextParts.{lines_numbered, numbered}
 use Rattle.unbuilt_lines.specs.Unbuilt.{IsFirst, IsUnbuiltLine, TextAsks, first_unbuilt}
 

@@ -1,7 +1,6 @@
-use Rattle.std.proofs.Common.{ap, arith, false, length, subst, sym, true, ◌∷◌}
-use Rattle.std.specs.Prelude.{if◌then◌else◌}
+use Rattle.std.proofs.Common.{ap, arith, false, length, subst, true, ◌∷◌}
 use Rattle.std.proofs.lemmas.List.{length-append}
-use Rattle.unbuilt_lines.specs.Unbuilt.{IsUnbuiltLine, TextAsks}
+use Rattle.unbuilt_lines.specs.Unbuilt.{TextAsks}
 use Rattle.unbuilt_lines.proofs.Finding.{found_here, found_last, looked_on}
 use Rattle.unbuilt_lines.proofs.Running.{none_where_it_runs}
 use Rattle.unbuilt_lines.proofs.lines.unbuilt_line.Goals as goal
