@@ -1,0 +1,53 @@
+//! Texts by hand.
+
+use crate::unbuilt_line;
+use std::test::Fail;
+
+/// Texts, and the number of their first line that calls what can't be run.
+const TOLD: &[(&str, u32)] = &[
+    ("program init\nr1 = getpid\nexit 0\nend\n", 0),
+    ("program init\nr1 = socket\nend\n", 2),
+    (
+        "# socket\nheap 8192\n\nprogram init\nfork\n  r1 r2 = pipe\nsocket\nend\n",
+        6,
+    ),
+    (
+        "program init\nend\nprogram other\nlabel socket\nopen \"a\" O_RDONLY\nend\n",
+        5,
+    ),
+];
+
+#[test]
+fn the_first_line_that_calls_what_cannot_be_run_is_told(rt: HostRuntime) -> Result<(), Fail> {
+    for (text, line) in TOLD {
+        assert!(rt;
+            unbuilt_line(rt.alloc(), text.as_bytes())? == *line,
+            "{text}"
+        );
+    }
+    Ok(())
+}
+
+/// Texts of which no line's words say a call that can't be run, though they have such words.
+const NONE: &[&str] = &[
+    "",
+    "socket 1\n",
+    "r16 = socket\n",
+    "\"socket\"\n",
+    "set r1 socket\n",
+    "# r1 = socket",
+];
+
+#[test]
+fn what_is_no_call_is_not_told(rt: HostRuntime) -> Result<(), Fail> {
+    for text in NONE {
+        assert!(rt; unbuilt_line(rt.alloc(), text.as_bytes())? == 0, "{text}");
+    }
+    Ok(())
+}
+
+#[test]
+fn the_last_line_counts_without_its_end(rt: HostRuntime) -> Result<(), Fail> {
+    assert!(rt; unbuilt_line(rt.alloc(), b"\n\nr1 = accept 3")? == 3);
+    Ok(())
+}
