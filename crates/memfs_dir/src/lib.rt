@@ -10,8 +10,6 @@ mod finding;
 mod laws;
 mod removing;
 mod slots;
-#[cfg(test)]
-mod tests;
 
 pub use adding::dir_add;
 pub use entries::{dir_entry, dir_rename};

@@ -11,8 +11,6 @@ mod ranges;
 mod reading;
 mod room;
 mod sizing;
-#[cfg(test)]
-mod tests;
 mod writing;
 
 pub use laws::{

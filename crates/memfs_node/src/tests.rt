@@ -15,6 +15,10 @@ ghost use Rattle.posix_defs.specs.IsTree.{IsTree};
 ghost use Rattle.posix_defs.specs.PathCalls as calls;
 ghost use Rattle.memfs_node.specs.NodeOnDisk.{AnswersAs, HasTree};
 
+mod counting;
+mod directories;
+mod files;
+
 use crate::{
     NewNode, add_link, drop_link, free_node, has_room, inode_at, lowest_node, make_named, make_node,
 };

@@ -1,70 +1,15 @@
+//! Files on a disk that counts: what changes of a file answer and cost, at every border, and what is read then.
+
 ghost use Rattle.std.specs.Prelude.{◌≡◌, ◌≢◌, ℕ, ◌<◌, ◌≤◌};
 ghost use Rattle.kabi_values.specs.declared.inodes.Inode.{Inode};
 ghost use Rattle.posix_defs.specs.SoundDisk.{HasInode, HasNode, Sound};
 
-use crate::room::free_count;
-use crate::{read_at, set_size, write_at};
-use disk_layout::{RamDisk, inode_in, put_inode};
+use super::counting::{Counting, new_file};
+use disk_layout::RamDisk;
 use kabi_types::{Errno, Inode, Memory};
-use posix_defs::Blocks;
+use memfs_file::{free_count, read_at, set_size, write_at};
 use std::process::Abort;
 use std::test::Fail;
-
-/// A disk that counts its reads, and here its writes too.
-#[derive(Drop)]
-struct Counting {
-    disk: RamDisk,
-    sets: u64,
-}
-
-impl Blocks for Counting {
-    ghost blocks = { λ counting. counting.disk.blocks };
-
-    ghost follows = { λ _ _. Unit {0} };
-
-    ghost asked = { λ before _ after. after.disk.blocks ≡ before.disk.blocks };
-
-    ghost follows_refl = { λ _. tt };
-
-    ghost follows_trans = { λ _ _ _ _ _. tt };
-
-    fn count(&self) -> u32 {
-        self.disk.count()
-    }
-
-    fn get(&mut self, number: u32) -> [u8; 1024] {
-        self.disk.read(number)
-    }
-
-    fn set(&mut self, number: u32, bytes: &[u8; 1024]) {
-        self.sets = self.sets.saturating_add(1);
-        self.disk.write(number, bytes);
-    }
-}
-
-/// An empty file as a node of the first block of the table, which is free.
-fn make_file(rt: &impl Abort, b: &mut Counting, number: u32) -> Inode
-    requires sound { Sound b.old.disk.blocks }
-    requires first { (0 < number) × (number ≤ 16) }
-    ensures made { Sound b.new.disk.blocks × HasNode b.new.disk.blocks number result × (result.kind ≡ 1) }
-    ensures others { (node : ℕ) (other : Inode) → node ≢ number → HasInode b.old.disk.blocks node other → HasInode b.new.disk.blocks node other }
-{
-    let mut table = b.get(1);
-    let Ok(free) = inode_in(&table, number - 1, b.count()) else {
-        panic!(rt; "node {number} can't be read");
-    };
-    assert!(rt; free.kind == 0, "node {number} is free");
-    let file = Inode {
-        kind: 1,
-        nlink: 1,
-        size: 0,
-        direct: [0; 10],
-        indirect: 0,
-    };
-    put_inode(&mut table, number - 1, &file);
-    b.set(1, &table);
-    file
-}
 
 /// The bytes that are written: the first of them, as many as a write has. Proofs see no table of this length behind a call.
 fn sevens() -> &'static [u8] {
@@ -154,7 +99,7 @@ fn check_bytes(rt: &impl Abort, b: &mut Counting, number: u32, inode: &Inode, ro
 fn check_file(rt: &impl Abort, b: &mut Counting, rows: &[Row], seen: &[Seen])
     requires { Sound b.old.disk.blocks }
 {
-    let mut inode = make_file(rt, b, 2);
+    let mut inode = new_file(rt, b, 2);
     check_changes(rt, b, 2, &mut inode, rows);
     check_bytes(rt, b, 2, &inode, seen);
 }
@@ -179,8 +124,8 @@ fn check_on(
 fn check_second(rt: &impl Abort, b: &mut Counting, size: u32, rows: &[Row])
     requires { Sound b.old.disk.blocks }
 {
-    let mut inode = make_file(rt, b, 2);
-    let mut other = make_file(rt, b, 3);
+    let mut inode = new_file(rt, b, 2);
+    let mut other = new_file(rt, b, 3);
     let grown = change_file(b, 3, &mut other, &Change::Size(size));
     assert!(rt; grown == Ok(0));
     check_changes(rt, b, 2, &mut inode, rows);
@@ -475,7 +420,7 @@ const CUTS: &[(u32, Change, u8)] = &[
 fn check_cuts(rt: &impl Abort, b: &mut Counting)
     requires { Sound b.old.disk.blocks }
 {
-    let mut inode = make_file(rt, b, 2);
+    let mut inode = new_file(rt, b, 2);
     for (cut, growth, last) in CUTS {
         check_cut(rt, b, &mut inode, *cut, growth, *last);
     }

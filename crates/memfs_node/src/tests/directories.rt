@@ -1,83 +1,28 @@
+//! Directories on a disk that counts: what steps on the root answer and cost, at every border.
+
 ghost use Rattle.std.specs.Prelude.{◌≡◌, ◌≤◌, [], IfSome};
 ghost use Rattle.posix_defs.specs.DiskFormat.{IsEntry};
-ghost use Rattle.posix_defs.specs.SoundDisk.{HasNode, Sound};
+ghost use Rattle.posix_defs.specs.SoundDisk.{Sound};
 ghost use Rattle.posix_defs.specs.DiskContents.{IsDirectoryOf};
-ghost use Rattle.posix_defs.specs.DiskTree.{ChangesNode};
 ghost use Rattle.memfs_dir.specs.Listed.{HasDirectory};
 
-use crate::{dir_add, dir_entry, dir_find, dir_remove, dir_rename};
+use super::counting::{Counting, new_file};
+use crate::inode_at;
 use blk_map::grow;
-use disk_layout::{RamDisk, entry_of, inode_in, is_marked, put_inode};
+use disk_layout::{RamDisk, entry_of};
 use kabi_types::{DirEntry, Errno, Inode, Memory};
-use posix_defs::Blocks;
+use memfs_dir::{dir_add, dir_entry, dir_find, dir_remove, dir_rename};
+use memfs_file::free_count;
 use std::process::Abort;
 use std::test::Fail;
 
-/// A disk that counts its reads, and here its writes too.
-#[derive(Drop)]
-struct Counting {
-    disk: RamDisk,
-    sets: u64,
-}
-
-impl Blocks for Counting {
-    ghost blocks = { λ counting. counting.disk.blocks };
-
-    ghost follows = { λ _ _. Unit {0} };
-
-    ghost asked = { λ before _ after. after.disk.blocks ≡ before.disk.blocks };
-
-    ghost follows_refl = { λ _. tt };
-
-    ghost follows_trans = { λ _ _ _ _ _. tt };
-
-    fn count(&self) -> u32 {
-        self.disk.count()
-    }
-
-    fn get(&mut self, number: u32) -> [u8; 1024] {
-        self.disk.read(number)
-    }
-
-    fn set(&mut self, number: u32, bytes: &[u8; 1024]) {
-        self.sets = self.sets.saturating_add(1);
-        self.disk.write(number, bytes);
-    }
-}
-
 /// The root's inode.
-fn root_of(rt: &impl Abort, b: &mut Counting) -> Inode
+fn root_of(b: &mut Counting) -> Inode
     requires sound { Sound b.old.disk.blocks }
     requires root { IsDirectoryOf b.old.disk.blocks 1 1 [] }
     ensures { HasDirectory b.new.disk.blocks 1 result }
 {
-    let table = b.get(1);
-    let Ok(root) = inode_in(&table, 0, b.count()) else {
-        panic!(rt; "the root can't be read");
-    };
-    root
-}
-
-/// An empty file as node 2, which is free.
-fn make_file(rt: &impl Abort, b: &mut Counting) -> Inode
-    requires { Sound b.old.disk.blocks }
-    ensures { ChangesNode b.old.disk.blocks b.new.disk.blocks 2 × HasNode b.new.disk.blocks 2 result × (result.kind ≡ 1) × (result.size ≡ 0) }
-{
-    let mut table = b.get(1);
-    let Ok(free) = inode_in(&table, 1, b.count()) else {
-        panic!(rt; "node 2 can't be read");
-    };
-    assert!(rt; free.kind == 0, "node 2 is free");
-    let file = Inode {
-        kind: 1,
-        nlink: 1,
-        size: 0,
-        direct: [0; 10],
-        indirect: 0,
-    };
-    put_inode(&mut table, 1, &file);
-    b.set(1, &table);
-    file
+    inode_at(b, 1)
 }
 
 /// Has a file of this size beside the root, for which there is room.
@@ -86,26 +31,11 @@ fn put_file_beside(rt: &impl Abort, b: &mut Counting, size: u32)
     requires root { IsDirectoryOf b.old.disk.blocks 1 1 [] }
     ensures { Sound b.new.disk.blocks × IsDirectoryOf b.new.disk.blocks 1 1 [] }
 {
-    let mut file = make_file(rt, b);
+    let mut file = new_file(rt, b, 2);
     match grow(b, 2, &mut file, size) {
         Ok(()) => {}
         Err(_) => panic!(rt; "there is no room for a file of {size} bytes"),
     }
-}
-
-/// How many blocks the map has as free.
-fn free_count(b: &mut Counting) -> u32
-    requires { Sound b.old.disk.blocks }
-    ensures { b.new.disk.blocks ≡ b.old.disk.blocks }
-{
-    let map = b.disk.read(0);
-    let mut free = 0;
-    for number in 0..b.disk.count() {
-        if !is_marked(&map, number) {
-            free += 1;
-        }
-    }
-    free
 }
 
 /// The three letters of a number's name.
@@ -275,7 +205,7 @@ fn check_root(rt: &impl Abort, b: &mut Counting, rows: &[Row])
     requires sound { Sound b.old.disk.blocks }
     requires root { IsDirectoryOf b.old.disk.blocks 1 1 [] }
 {
-    let mut root = root_of(rt, b);
+    let mut root = root_of(b);
     check_steps(rt, b, &mut root, rows);
 }
 
@@ -387,11 +317,11 @@ fn room_beside_a_file(rt: HostRuntime) -> Result<(), Fail> {
 }
 
 /// Whether a new root has `.` and `..`, and no name that is longer or empty.
-fn has_two_names(rt: &impl Abort, b: &mut Counting) -> bool
+fn has_two_names(b: &mut Counting) -> bool
     requires sound { Sound b.old.disk.blocks }
     requires root { IsDirectoryOf b.old.disk.blocks 1 1 [] }
 {
-    let root = root_of(rt, b);
+    let root = root_of(b);
     let itself = find(b, &root, b".");
     let parent = find(b, &root, b"..");
     let longer = find(b, &root, b"...");
@@ -405,7 +335,7 @@ fn has_two_names(rt: &impl Abort, b: &mut Counting) -> bool
 fn names_of_a_new_root(rt: HostRuntime) -> Result<(), Fail> {
     let disk = RamDisk::boot(rt.alloc(), 16)?;
     let mut b = Counting { disk, sets: 0 };
-    assert!(rt; has_two_names(&rt, &mut b));
+    assert!(rt; has_two_names(&mut b));
     drop(b);
     Ok(())
 }

@@ -1,6 +1,6 @@
 use Rattle.std.proofs.Common.{◌≡◌, ℕ, List, sym, subst}
 use Rattle.posix_defs.specs.SoundDisk.{HasInode, HasNode, Sound}
-use Rattle.memfs_file.proofs.tests.check_changes.Goals as goal
+use Rattle.memfs_node.proofs.tests.files.check_changes.Goals as goal
 
 pub loop-k-preserved : goal.loop-k-preserved
 loop-k-preserved g c =

@@ -1,6 +1,6 @@
 use Rattle.std.proofs.Common.{ℕ, List, sym, subst}
 use Rattle.posix_defs.specs.SoundDisk.{HasNode, Sound}
-use Rattle.memfs_file.proofs.tests.check_bytes.Goals as goal
+use Rattle.memfs_node.proofs.tests.files.check_bytes.Goals as goal
 
 pub read_at-requires-clause-sound : goal.read_at-requires-clause-sound
 read_at-requires-clause-sound g c = subst (λ (disk : List (List ℕ)). Sound disk) (sym c.loop-at.invariant) c.requires.sound

@@ -1,7 +1,7 @@
 use Rattle.std.proofs.Common.{◌≡◌, ◌≢◌, ℕ}
 use Rattle.kabi_values.specs.declared.inodes.Inode.{Inode}
 use Rattle.posix_defs.specs.SoundDisk.{HasInode, HasNode, Sound}
-use Rattle.memfs_file.proofs.tests.check_changes.Given as goal
+use Rattle.memfs_node.proofs.tests.files.check_changes.Given as goal
 
 abbrev pub invariant-loop-k : goal.invariant-loop-k
 invariant-loop-k g l = record {

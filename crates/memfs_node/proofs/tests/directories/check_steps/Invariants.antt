@@ -1,5 +1,5 @@
 use Rattle.memfs_dir.specs.Listed.{HasDirectory}
-use Rattle.memfs_dir.proofs.tests.check_steps.Given as goal
+use Rattle.memfs_node.proofs.tests.directories.check_steps.Given as goal
 
 abbrev pub invariant-loop-k : goal.invariant-loop-k
 invariant-loop-k g l = HasDirectory l.b.disk.blocks 1 l.dir
