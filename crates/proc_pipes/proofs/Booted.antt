@@ -1,6 +1,5 @@
 -- The first process alone: it is in its table, and nothing is open.
 use Rattle.std.proofs.Common.{◌≡◌, ◌⊎◌, ℕ, zero, suc, ◌+◌, ◌/◌, ◌<◌, ◌==◌, ◌++◌, cond, List, [], ◌∷◌, map, length, replicate, count_by, Option, None, Some, IsSome, is_some, refl, ap, sym, ◌∙◌, subst, arith, inl, inr}
-
 use Rattle.std.specs.List.{Contains, cons_option}
 use Rattle.kabi_values.specs.Class.{size}
 use Rattle.kabi_values.specs.declared.classes.Class.TheVariants as class
@@ -120,8 +119,7 @@ module _ (bytes : ℕ) (old new : Heap) (kept : TableView) (empty : old ≡ empt
   owns_now =
       let base = before.objects.0 in
       let are = before.objects.1 in
-      let none : base.spaces ≡ [] = are.spaces ∙ no_space old.procs (λ key used. nothing_used (object old.procs key) (ap (λ (h : Heap). object h.procs key) empty ∙ no_object (bytes / size class.Proc) key) used) in
-      (
+      let none : base.spaces ≡ [] = are.spaces ∙ no_space old.procs (λ key used. nothing_used (object old.procs key) (ap (λ (h : Heap). object h.procs key) empty ∙ no_object (bytes / size class.Proc) key) used) in (
         with_procs (processes new kept) base,
         record {
           spaces =

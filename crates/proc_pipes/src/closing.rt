@@ -23,7 +23,12 @@ use proc_table::ProcTable;
 /// isn't open; nothing is changed then.
 ///
 /// <https://pubs.opengroup.org/onlinepubs/9699919799/functions/close.html>
-pub fn close_number(heap: &mut KHeap, procs: &ProcTable, pid: u32, fd: i64) -> Result<Option<u32>, Errno>
+pub fn close_number(
+    heap: &mut KHeap,
+    procs: &ProcTable,
+    pid: u32,
+    fd: i64,
+) -> Result<Option<u32>, Errno>
     requires listed { AreListed heap.old procs.now }
     requires owners { HasItsOwners heap.old [] }
     requires there { IsSome (key_of procs.now.listed pid) }

@@ -26,9 +26,13 @@ use proc_table::ProcTable;
 
 /// The commands of `fcntl`: a further number, a number's flags, and a description's flags.
 const F_DUPFD: u64 = 0;
+
 const F_GETFD: u64 = 1;
+
 const F_SETFD: u64 = 2;
+
 const F_GETFL: u64 = 3;
+
 const F_SETFL: u64 = 4;
 
 /// The flag of a number that `exec` closes.
@@ -36,6 +40,7 @@ const FD_CLOEXEC: u64 = 1;
 
 /// The flags of a description that F_GETFL tells and F_SETFL sets.
 const O_APPEND: u32 = 1024;
+
 const O_NONBLOCK: u32 = 2048;
 
 /// A command on a number of a process. With F_DUPFD the lowest number at or above the argument that is free names the same
@@ -47,7 +52,14 @@ const O_NONBLOCK: u32 = 2048;
 /// nothing is changed then.
 ///
 /// <https://pubs.opengroup.org/onlinepubs/9699919799/functions/fcntl.html>
-pub fn control(heap: &mut KHeap, procs: &ProcTable, pid: u32, fd: i64, cmd: i64, arg: i64) -> Result<u32, Errno>
+pub fn control(
+    heap: &mut KHeap,
+    procs: &ProcTable,
+    pid: u32,
+    fd: i64,
+    cmd: i64,
+    arg: i64,
+) -> Result<u32, Errno>
     requires listed { AreListed heap.old procs.now }
     requires owners { HasItsOwners heap.old [] }
     requires there { IsSome (key_of procs.now.listed pid) }

@@ -30,7 +30,12 @@ use proc_table::ProcTable;
 /// EMFILE where fewer than two numbers are free; nothing is changed then.
 ///
 /// <https://pubs.opengroup.org/onlinepubs/9699919799/functions/pipe.html>
-pub fn make_pipe(heap: &mut KHeap, purse: &mut Purse, procs: &ProcTable, pid: u32) -> Result<(u32, u32), Errno>
+pub fn make_pipe(
+    heap: &mut KHeap,
+    purse: &mut Purse,
+    procs: &ProcTable,
+    pid: u32,
+) -> Result<(u32, u32), Errno>
     requires listed { AreListed heap.old procs.now }
     requires owners { HasItsOwners heap.old [] }
     requires there { IsSome (key_of procs.now.listed pid) }

@@ -57,7 +57,13 @@ pub fn dup_one(heap: &mut KHeap, procs: &ProcTable, pid: u32, fd: i64) -> Result
 /// EBADF where the other isn't open, or where a descriptor can't have the number; nothing is changed then.
 ///
 /// <https://pubs.opengroup.org/onlinepubs/9699919799/functions/dup.html>
-pub fn dup_to(heap: &mut KHeap, procs: &ProcTable, pid: u32, fd: i64, to: i64) -> Result<(u32, Option<u32>), Errno>
+pub fn dup_to(
+    heap: &mut KHeap,
+    procs: &ProcTable,
+    pid: u32,
+    fd: i64,
+    to: i64,
+) -> Result<(u32, Option<u32>), Errno>
     requires listed { AreListed heap.old procs.now }
     requires owners { HasItsOwners heap.old [] }
     requires there { IsSome (key_of procs.now.listed pid) }

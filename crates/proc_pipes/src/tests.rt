@@ -57,6 +57,32 @@ enum Step {
 // What a step answers: both numbers of a pipe, the value of another, and the errno of one that fails.
 type Told = Result<(u32, u32), Errno>;
 
+// 0 for a close that doesn't fail; no node is told, since none is open.
+fn closed(done: Result<Option<u32>, Errno>) -> Result<u32, Errno> {
+    match done {
+        Ok(None) => Ok(0),
+        Ok(Some(_)) => Err(Errno::EBUSY),
+        Err(errno) => Err(errno),
+    }
+}
+
+// The number that dup2 was given, told in the same way.
+fn given(made: Result<(u32, Option<u32>), Errno>) -> Result<u32, Errno> {
+    match made {
+        Ok((number, None)) => Ok(number),
+        Ok(_) => Err(Errno::EBUSY),
+        Err(errno) => Err(errno),
+    }
+}
+
+// One value, twice.
+fn twice(value: Result<u32, Errno>) -> Told {
+    match value {
+        Ok(value) => Ok((value, value)),
+        Err(errno) => Err(errno),
+    }
+}
+
 // A step of the first process. A call that answers one value tells it twice.
 fn take(rt: &impl Abort, heap: &mut KHeap, table: &ProcTable, step: &Step) -> Told
     requires { CanOpen heap.old table.now 1 }
@@ -67,10 +93,10 @@ fn take(rt: &impl Abort, heap: &mut KHeap, table: &ProcTable, step: &Step) -> To
             let mut pay = purse(rt, heap);
             make_pipe(heap, &mut pay, table, 1)
         }
-        Step::Close(fd) => close_number(heap, table, 1, *fd).map(|_| (0, 0)),
-        Step::Dup(fd) => dup_one(heap, table, 1, *fd).map(|to| (to, to)),
-        Step::Dup2(fd, to) => dup_to(heap, table, 1, *fd, *to).map(|made| (made.0, made.0)),
-        Step::Fcntl(fd, cmd, arg) => control(heap, table, 1, *fd, *cmd, *arg).map(|value| (value, value)),
+        Step::Close(fd) => twice(closed(close_number(heap, table, 1, *fd))),
+        Step::Dup(fd) => twice(dup_one(heap, table, 1, *fd)),
+        Step::Dup2(fd, to) => twice(given(dup_to(heap, table, 1, *fd, *to))),
+        Step::Fcntl(fd, cmd, arg) => twice(control(heap, table, 1, *fd, *cmd, *arg)),
     }
 }
 
