@@ -52,9 +52,9 @@ leaves_home table pid status home other process is = elim (eqb_tells other pid) 
 
 -- and so they do where a process ends
 pub die_home : (plain : Plain) (target status : ℕ) → AllAtHome plain.table → AllAtHome (die plain target status).table
-die_home plain zero status home = leaves_home plain.table zero status home
+die_home plain zero status home other process is = leaves_home plain.table zero status home other process is
 die_home plain (suc zero) status home other process is = absurd (nothing_is _ (emptied plain.table other) is)
-die_home plain (suc (suc n)) status home = leaves_home plain.table (suc (suc n)) status home
+die_home plain (suc (suc n)) status home other process is = leaves_home plain.table (suc (suc n)) status home other process is
 
 -- where one is gone, everybody else works where he did
 pub gone_home : (table : Table) (child : ℕ) → AllAtHome table → AllAtHome (with_pid table child None)
