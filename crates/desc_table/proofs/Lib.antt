@@ -1,1 +1,3 @@
+pub mod GoingLemmas
 pub mod NumberLemmas
+pub mod OpenedLemmas

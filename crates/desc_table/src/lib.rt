@@ -7,8 +7,10 @@
 
 mod descriptions;
 mod descriptors;
+mod laws;
 #[cfg(test)]
 mod tests;
 
 pub use descriptions::{drop_desc, share_desc, share_descs};
 pub use descriptors::Descs;
+pub use laws::descriptions_count_their_descriptors;

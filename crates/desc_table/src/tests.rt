@@ -6,6 +6,9 @@ ghost use Rattle.kheap_shelves.specs.Objects.{InUse};
 ghost use Rattle.kheap_slabs.specs.Heap.{live_bytes};
 ghost use Rattle.posix_defs.specs.Files.Descriptors.{descriptor_at};
 
+mod listens;
+mod opens;
+
 use crate::{Descs, share_desc};
 use kheap_shelves::{Access, Desc, DescFlags, Target};
 use kheap_slabs::KHeap;
