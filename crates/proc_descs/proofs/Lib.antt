@@ -6,3 +6,4 @@ pub mod NumberCloses
 pub mod AllClose
 pub mod NumberOpens
 pub mod NumberNames
+pub mod Fronts

@@ -1,5 +1,5 @@
 -- What a number of a process names, in the heap and in the machine.
-use Rattle.std.proofs.Common.{◌≡◌, ℕ, ℤ, pos, negsuc, zero, suc, ◌+◌, ◌<◌, ◌≤◌, Bool, true, false, List, [], ◌∷◌, drop, map, replicate, length, get_or, cond, Option, None, Some, IsSome, is_some, refl, ap, sym, ◌∙◌, subst, arith}
+use Rattle.std.proofs.Common.{◌≡◌, ℕ, ℤ, pos, negsuc, zero, suc, ◌+◌, ◌<◌, ◌≤◌, Bool, true, false, List, [], ◌∷◌, drop, replicate, length, Option, None, Some, refl, ap, sym, ◌∙◌, subst, arith}
 use Rattle.std.specs.Prelude.{is_none, nat_lt, slice_index_or}
 use Rattle.std.specs.List.{position_from}
 use Rattle.std.specs.Option.{option_map}
@@ -7,7 +7,7 @@ use Rattle.std.proofs.Math.ListN.{get_or-map}
 use Rattle.std.proofs.lemmas.List.{get_or_past}
 use Rattle.kabi_calls.specs.Arguments.{count_of, may_be_descriptor, most_descriptors}
 use Rattle.desc_table.specs.Numbered.{descriptor_in, descriptors_in}
-use Rattle.kheap_shelves.specs.Objects.{InUse, object}
+use Rattle.kheap_shelves.specs.Objects.{object}
 use Rattle.kheap_shelves.specs.declared.objects.Desc.{Desc}
 use Rattle.kheap_shelves.specs.declared.objects.Descriptor.{Descriptor as HeldDescriptor}
 use Rattle.kheap_shelves.specs.declared.objects.Proc.{Proc}
@@ -20,16 +20,16 @@ use Rattle.open_laws.proofs.DropLemmas.{description_in}
 use Rattle.open_laws.proofs.GoingLemmas.{counts_few}
 use Rattle.place_laws.specs.Placed.{Numbers}
 use Rattle.posix_defs.specs.Calls.OnDescriptors.{cloexec_set}
-use Rattle.posix_defs.specs.Calls.Opened.{Opened, opened_at, opened_by}
+use Rattle.posix_defs.specs.Calls.Opened.{opened_at, opened_by}
 use Rattle.posix_defs.specs.Files.Descriptions.{Description, description_at}
 use Rattle.posix_defs.specs.Files.Descriptors.{Descriptor, descriptor_at, descriptor_of, lowest_free_from}
 use Rattle.posix_defs.specs.Files.State.{Files, descriptors_of}
-use Rattle.proc_table.specs.Procs.{no_descriptors, proc_of}
-use Rattle.proc_table.specs.Table.{TableView, key_of, processes}
+use Rattle.proc_table.specs.Procs.{proc_of}
+use Rattle.proc_table.specs.Table.{TableView, processes}
 use Rattle.proc_table.proofs.PlaceLemmas.{eqb_same, some_same}
 use Rattle.proc_descs.specs.Having.{AreListed, HaveOpen, places_in}
 use Rattle.proc_descs.specs.Naming.{marked, named_at, named_by, places_of}
-use Rattle.proc_descs.proofs.Listing.{found_before, found_by_pid}
+use Rattle.proc_descs.proofs.Listing.{found_by_pid}
 use Rattle.proc_descs.proofs.Sums.{one_if, part_of_sum}
 
 -- ---- the number that a call has

@@ -1,5 +1,5 @@
 -- A number of a process names a Desc from now on, in the heap as in the machine.
-use Rattle.std.proofs.Common.{◌≡◌, ◌≢◌, ◌⊎◌, ℕ, zero, suc, ◌+◌, ◌<◌, ◌≤◌, ◌==◌, true, false, List, [], ◌∷◌, length, Option, None, Some, is_some, unwrap_or, refl, ap, sym, ◌∙◌, subst, arith, inl, inr}
+use Rattle.std.proofs.Common.{◌≡◌, ◌≢◌, ◌⊎◌, ℕ, zero, suc, ◌+◌, ◌<◌, ◌≤◌, ◌==◌, true, false, List, ◌∷◌, length, None, Some, is_some, unwrap_or, refl, ap, sym, ◌∙◌, subst, arith, inl, inr}
 use Rattle.std.specs.Prelude.{count_by, slice_index_or, slice_set}
 use Rattle.std.specs.Option.{option_map}
 use Rattle.std.proofs.lemmas.Bool.Decides.{eqb_tells}
@@ -12,8 +12,7 @@ use Rattle.kheap_shelves.specs.declared.objects.Descriptor.{Descriptor as HeldDe
 use Rattle.kheap_shelves.specs.declared.objects.Proc.{Proc}
 use Rattle.kheap_shelves.proofs.ObjectLemmas.{InUse-within}
 use Rattle.kheap_slabs.specs.Heap.{Heap}
-use Rattle.open_laws.specs.Described.{CountedList}
-use Rattle.open_laws.specs.Open.{AreOpen, descriptor_by, descriptors_by}
+use Rattle.open_laws.specs.Open.{descriptor_by, descriptors_by}
 use Rattle.open_laws.specs.Owned.{HasItsOwners, names_desc, namings_in, namings_of}
 use Rattle.place_laws.specs.Placed.{Numbers}
 use Rattle.posix_defs.specs.ByPid.{with_pid}

@@ -10,6 +10,7 @@ ghost use Rattle.posix_defs.specs.Files.Closing.{after_close, after_end_of};
 ghost use Rattle.posix_defs.specs.Files.State.{Files};
 ghost use Rattle.proc_table.specs.Procs.{proc_of};
 ghost use Rattle.proc_table.specs.Table.{key_of, processes};
+ghost use Rattle.proc_descs.specs.Queues.{QueuesStand};
 ghost use Rattle.proc_descs.specs.Having.{AreListed, ClosesAll, ClosesNumber, HaveOpen, OpensNoNode, node_closed};
 
 use desc_table::drop_desc;
@@ -35,6 +36,7 @@ pub fn close_one(heap: &mut KHeap, procs: &ProcTable, pid: u32, fd: u32) -> Opti
     ensures closes { ClosesNumber heap.old heap.new procs.now pid fd }
     ensures node { (proc : HeldProc) → proc_of (processes heap.old procs.now) pid ≡ Some proc
         → result ≡ node_closed heap.old.descs (slice_index_or proc.descriptors fd None) }
+    ensures queues { QueuesStand heap.old heap.new }
     ensures takes { TakesNothing heap.old heap.new }
 {
     let Some(key) = procs.key_of(pid) else {
@@ -70,6 +72,7 @@ pub fn close_all(heap: &mut KHeap, procs: &ProcTable, pid: u32)
     ensures listed { AreListed heap.new procs.now }
     ensures owners { HasItsOwners heap.new [] }
     ensures closes { ClosesAll heap.old heap.new procs.now pid }
+    ensures queues { QueuesStand heap.old heap.new }
     ensures takes { TakesNothing heap.old heap.new }
 {
     is_well_formed(heap);

@@ -2,6 +2,7 @@
 #![tactic(auto)]
 
 mod closing;
+pub mod laws;
 mod opening;
 
 pub use closing::{close_all, close_one};

@@ -1,9 +1,10 @@
-use Rattle.std.proofs.Common.{◌≡◌, ◌+◌, ℕ, suc, subst, sym, arith}
+use Rattle.std.proofs.Common.{◌≡◌, ◌+◌, ℕ, suc, refl, subst, sym, arith}
 use Rattle.std.specs.List.{range_with_len}
 use Rattle.kheap_laws.proofs.PaidLemmas.{TakesNothing-refl, TakesNothing-trans}
 use Rattle.posix_defs.specs.Files.Closing.{after_closes, after_end_of}
 use Rattle.proc_descs.specs.Having.{HaveOpen}
 use Rattle.proc_descs.proofs.AllClose.{ClosesBelow, below_all, below_begins, below_more, closes_next}
+use Rattle.proc_descs.proofs.Fronts.{queues_same, queues_then}
 use Rattle.proc_descs.proofs.closing.close_all.Goals as goal
 
 pub loop-fd-init : goal.loop-fd-init
@@ -13,6 +14,7 @@ loop-fd-init c = record {
   listed = c.requires.listed;
   owners = c.requires.owners;
   closes = below_begins c.args.heap.now c.args.procs.now c.args.pid c.requires.listed c.requires.there;
+  queues = queues_same c.args.heap.now c.args.heap.now refl refl;
   takes = TakesNothing-refl c.args.heap.now;
 }
 
@@ -34,6 +36,7 @@ loop-fd-preserved c =
       owners = c.close_one.ensures.owners;
       closes = subst (ClosesBelow c.args.heap.now new c.args.procs.now c.args.pid) (next_one fd)
           (below_more c.args.heap.now mid new c.args.procs.now c.args.pid fd c.loop-fd.invariant.closes c.close_one.ensures.closes);
+      queues = queues_then c.args.heap.now mid new c.loop-fd.invariant.queues c.close_one.ensures.queues;
       takes = TakesNothing-trans c.args.heap.now mid new c.loop-fd.invariant.takes c.close_one.ensures.takes;
     }
 

@@ -6,6 +6,7 @@ use Rattle.place_laws.specs.Placed.{Numbers}
 use Rattle.posix_defs.specs.Files.Closing.{after_closes}
 use Rattle.posix_defs.specs.Files.State.{Files}
 use Rattle.proc_descs.specs.Having.{AreListed, HaveOpen, OpensNoNode}
+use Rattle.proc_descs.specs.Queues.{QueuesStand}
 use Rattle.proc_descs.proofs.AllClose.{ClosesBelow}
 use Rattle.proc_descs.proofs.closing.close_all.Given as goal
 
@@ -17,5 +18,6 @@ invariant-loop-fd l = record {
   listed : AreListed l.heap l.procs;
   owners : HasItsOwners l.heap [];
   closes : ClosesBelow l.fn.heap l.heap l.procs l.pid l.fd;
+  queues : QueuesStand l.fn.heap l.heap;
   takes : TakesNothing l.fn.heap l.heap;
 }

@@ -10,6 +10,8 @@ use Rattle.proc_table.specs.Procs.{proc_of}
 use Rattle.proc_table.specs.Table.{processes}
 use Rattle.proc_table.proofs.PlaceLemmas.{key_of-proc, some_same}
 use Rattle.proc_descs.specs.Having.{HaveOpen, OpensNoNode, node_closed, node_dropped}
+use Rattle.proc_descs.proofs.Droppable.{is_named}
+use Rattle.proc_descs.proofs.Fronts.{queues_dropped, queues_same, queues_then}
 use Rattle.proc_descs.proofs.Listing.{found_before}
 use Rattle.proc_descs.proofs.NumberCloses.{desc_between, droppable_between, have_closed, left_opens, listed_mid, listed_on, no_some, opened_mid, owners_between, same_without, unopened}
 use Rattle.proc_descs.proofs.closing.close_one.Goals as goal
@@ -107,3 +109,17 @@ returns-clause-nodes c = λ none.
     let drops = c.drop_desc.ensures.drops desc.0 desc.1 in
     left_opens c.set_proc.new.self.descs c.drop_desc.new.heap.descs c.in-Some-descriptors.descriptor.desc desc.0 desc.1 drops.descs
     (subst (λ (h : Heap). OpensNoNode h.descs) (sym c.set_proc.ensures.kept) none)
+
+pub returns-in_default-descriptors-clause-queues : goal.returns-in_default-descriptors-clause-queues
+returns-in_default-descriptors-clause-queues c = queues_same c.args.heap.now c.args.heap.now refl refl
+
+pub returns-clause-queues : goal.returns-clause-queues
+returns-clause-queues c =
+    let owners = owners_between c.args.heap.now c.args.procs.now c.args.pid c.args.fd c.in-Some.key c.get_proc-proc.result.now c.in-Some-descriptors.descriptor c.requires.listed
+    (sym c.key_of.ensures ∙ c.in-Some.is) c.get_proc-proc.ensures c.in-Some-descriptors.is c.set_proc.new.self c.set_proc.ensures.kept c.requires.owners in
+    let desc = desc_between c.args.heap.now c.args.procs.now c.args.pid c.args.fd c.in-Some.key c.get_proc-proc.result.now c.in-Some-descriptors.descriptor c.requires.listed
+    (sym c.key_of.ensures ∙ c.in-Some.is) c.get_proc-proc.ensures c.in-Some-descriptors.is c.set_proc.new.self c.set_proc.ensures.kept c.requires.owners in
+    queues_then c.args.heap.now c.set_proc.new.self c.drop_desc.new.heap
+    (queues_same c.args.heap.now c.set_proc.new.self (ap (λ (h : Heap). h.pipes) c.set_proc.ensures.kept) (ap (λ (h : Heap). h.socks) c.set_proc.ensures.kept))
+    (queues_dropped c.set_proc.new.self c.drop_desc.new.heap c.in-Some-descriptors.descriptor.desc desc.0 desc.1
+    (is_named c.set_proc.new.self _ owners c.in-Some-descriptors.descriptor.desc desc.0 desc.1) owners.held (c.drop_desc.ensures.drops desc.0 desc.1))

@@ -1,4 +1,4 @@
-use Rattle.std.proofs.Common.{◌≡◌, ◌∙◌, Some, None, IsSome, refl, ap, sym, subst}
+use Rattle.std.proofs.Common.{◌≡◌, ◌∙◌, Some, None, refl, ap, sym, subst}
 use Rattle.std.specs.Prelude.{slice_index_or}
 use Rattle.posix_defs.specs.Files.State.{with_open}
 use Rattle.proc_descs.specs.Having.{HaveOpen}

@@ -1,4 +1,3 @@
-use Rattle.std.proofs.Common.{ap, sym}
 use Rattle.proc_descs.proofs.NumberOpens.{listed_named, opened_named, owners_named}
 use Rattle.proc_descs.proofs.opening.open_one.Goals as goal
 

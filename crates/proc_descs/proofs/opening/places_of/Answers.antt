@@ -1,4 +1,4 @@
-use Rattle.std.proofs.Common.{◌≡◌, ◌∙◌, is_some, length, ap, refl, sym}
+use Rattle.std.proofs.Common.{◌∙◌, is_some, length, ap, refl, sym}
 use Rattle.proc_table.proofs.PlaceLemmas.{key_of-proc}
 use Rattle.proc_descs.specs.Having.{places_in}
 use Rattle.proc_descs.proofs.Listing.{found_before}

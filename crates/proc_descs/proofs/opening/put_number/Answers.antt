@@ -1,4 +1,4 @@
-use Rattle.std.proofs.Common.{◌≡◌, ◌<◌, ◌∙◌, is_some, length, ap, sym, subst, arith}
+use Rattle.std.proofs.Common.{◌∙◌, is_some, ap, sym, arith}
 use Rattle.proc_table.proofs.PlaceLemmas.{key_of-proc}
 use Rattle.proc_descs.proofs.opening.put_number.Goals as goal
 
