@@ -1,0 +1,16 @@
+pub mod Opening
+pub mod Finding
+pub mod Refusing
+pub mod Settled
+pub mod Fronts
+pub mod Turning
+pub mod Leading
+pub mod Polls
+pub mod Remembering
+pub mod RightBytes
+pub mod Taking
+pub mod Putting
+pub mod ReadCall
+pub mod WriteCall
+pub mod Capped
+pub mod Took

@@ -1,0 +1,23 @@
+use Rattle.std.proofs.Common.{◌∙◌, ap, is_some, sym, w64}
+use Rattle.std.proofs.lemmas.Int.{to_z-of_z}
+use Rattle.proc_table.proofs.PlaceLemmas.{key_of-proc}
+use Rattle.proc_queues.specs.Found.{held_at}
+use Rattle.proc_queues.proofs.Opening.{none_opened, some_opened}
+use Rattle.proc_queues.proofs.lookups.opened.Goals as goal
+
+pub get_proc-requires : goal.get_proc-requires
+get_proc-requires c =
+    let it = key_of-proc c.args.heap.now.procs c.args.procs.now.listed c.args.pid c.in-Some.key c.requires.listed.stored (sym c.key_of.ensures ∙ c.in-Some.is) in
+    ap is_some it.1
+
+pub returns-in-Some-held_at-clause-found : goal.returns-in-Some-held_at-clause-found
+returns-in-Some-held_at-clause-found c = λ numbers files have.
+    some_opened c.args.heap.now c.args.procs.now c.args.pid c.in-Some.key c.get_proc.result.now c.requires.listed (sym c.key_of.ensures ∙ c.in-Some.is) c.get_proc.ensures numbers files have
+    c.args.fd c.in-Some-held_at.descriptor c.get_desc.result.now
+    (sym (c.held_at.ensures ∙ ap (held_at c.get_proc.result.now.descriptors) (to_z-of_z w64 c.args.fd c.ranges.fd)) ∙ c.in-Some-held_at.is) c.get_desc.ensures
+
+pub returns-in-None-clause-found : goal.returns-in-None-clause-found
+returns-in-None-clause-found c = λ numbers files have.
+    none_opened c.args.heap.now c.args.procs.now c.args.pid c.in-Some.key c.get_proc.result.now c.requires.listed (sym c.key_of.ensures ∙ c.in-Some.is) c.get_proc.ensures numbers files have
+    c.args.fd
+    (sym (c.held_at.ensures ∙ ap (held_at c.get_proc.result.now.descriptors) (to_z-of_z w64 c.args.fd c.ranges.fd)) ∙ c.in-None.is)

@@ -1,0 +1,27 @@
+use Rattle.std.proofs.Common.{◌∙◌, ap, is_some, subst, sym}
+use Rattle.open_laws.specs.Open.{renumbered}
+use Rattle.open_laws.specs.Polled.{IsOpenIn}
+use Rattle.open_laws.proofs.PolledLemmas.{kept_by}
+use Rattle.posix_defs.specs.Files.Descriptors.{Descriptors, descriptor_of}
+use Rattle.proc_table.proofs.PlaceLemmas.{key_of-proc}
+use Rattle.proc_queues.proofs.Opening.{descriptors_are}
+use Rattle.proc_queues.proofs.Polls.{number_opens}
+use Rattle.proc_queues.proofs.polling.polled.Goals as goal
+
+pub get_proc-requires : goal.get_proc-requires
+get_proc-requires c =
+    let it = key_of-proc c.args.heap.now.procs c.args.procs.now.listed c.args.pid c.in-Some.key c.requires.kept.listed.stored (sym c.key_of.ensures ∙ c.in-Some.is) in
+    ap is_some it.1
+
+pub polled-requires : goal.polled-requires
+polled-requires c =
+    subst (λ (d : Descriptors). IsOpenIn c.args.heap.now (descriptor_of d c.args.entry.now.fd)) (sym c.of.ensures)
+    (number_opens c.args.heap.now c.args.procs.now c.args.pid c.in-Some.key c.get_proc.result.now c.requires.kept.listed (sym c.key_of.ensures ∙ c.in-Some.is) c.get_proc.ensures
+    c.requires.kept.owners c.args.entry.now.fd)
+
+pub returns : goal.returns
+returns c = λ numbers files have.
+    c.polled.ensures numbers have.list files c.args.pid have.opened
+    (descriptors_are c.args.heap.now c.args.procs.now c.args.pid c.in-Some.key c.get_proc.result.now c.requires.kept.listed (sym c.key_of.ensures ∙ c.in-Some.is) c.get_proc.ensures numbers files have
+    ∙ kept_by numbers.descs c.get_proc.result.now.descriptors
+    ∙ ap (renumbered numbers.descs) (sym c.of.ensures))

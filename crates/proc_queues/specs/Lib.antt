@@ -1,0 +1,4 @@
+pub mod Found
+pub mod Moving
+pub mod Spaces
+pub mod Standing
