@@ -3,11 +3,14 @@ use Rattle.std.proofs.Common.{◌≡◌, ◌≢◌, ℕ, zero, suc, ◌+◌, ◌
 use Rattle.kabi_calls.specs.declared.calls.Call.{Call}
 use Rattle.kabi_types.specs.declared.entries.Cached.{Cached}
 use Rattle.kabi_types.specs.declared.entries.Cached.TheVariants.{Name, Block, Vnode}
-use Rattle.kabi_values.specs.declared.errnos.Errno.TheVariants.{EINVAL}
 use Rattle.kabi_values.specs.declared.replies.Reply.TheVariants.{Fail, Val}
 use Rattle.posix_defs.specs.declared.turner.Turned.TheVariants.{Done, Ended}
 use Rattle.posix_defs.specs.Memory.{no_places}
+use Rattle.posix_defs.specs.Calls.OnNames.{mkdir}
+use Rattle.posix_defs.specs.Calls.Reading.{read}
+use Rattle.posix_defs.specs.Calls.Writing.{write}
 use Rattle.posix_defs.specs.Files.Closing.{after_end_of}
+use Rattle.posix_defs.specs.Machine.{would_block}
 use Rattle.posix_defs.specs.Files.Descriptors.{none_open}
 use Rattle.posix_defs.specs.Needs.{bound, need_of, slack}
 use Rattle.posix_defs.specs.Process.{is_alive}
@@ -15,7 +18,7 @@ use Rattle.posix_defs.specs.Plain.{call_of}
 use Rattle.posix_defs.specs.World.{MayKeep, World, boot_kept, can_evict, live_of}
 use Rattle.posix_defs.specs.Relief.{Evicts}
 use Rattle.posix_defs.specs.Turn.{Answers, TurnsTo}
-use Rattle.kern_core.specs.Sample.{caching, caching_at, next_blocks, next_place, sample, world_at, live_at}
+use Rattle.kern_core.specs.Sample.{caching, caching_at, errno_at, next_blocks, next_place, sample, world_at, live_at}
 
 not_alike : ◌≡◌ {A = ℕ} 7 8 → ⊥
 not_alike e = omega (arith, e)
@@ -28,32 +31,43 @@ may_keep place (suc (suc n)) = record { names = tt; blocks = ((not_alike, tt), (
 
 -- a turn of the process that caches
 answers_at : (place blocks : ℕ) → place ≤ 3 → blocks ≤ 2
-    → Answers caching (caching_at place blocks) 1 (call_of caching (caching_at place blocks).plain 1) (Done (Fail EINVAL))
+    → Answers caching (caching_at place blocks) 1 (call_of caching (caching_at place blocks).plain 1) (Done (Fail (errno_at place)))
     (caching_at (next_place place) (next_blocks place blocks))
-unfolding bound need_of no_places
-answers_at zero zero few less = record { answer = (refl, refl); account = refl; may_keep = may_keep 1 2; live = lit≤ tt; names = lit≤ tt; blocks = lit≤ tt; vnodes = lit≤ tt; reads = lit≤ tt; untouched = λ e. cc; left = λ _. tt; known = λ _. refl }
-answers_at zero (suc zero) few less = record { answer = (refl, refl); account = refl; may_keep = may_keep 1 2; live = lit≤ tt; names = lit≤ tt; blocks = lit≤ tt; vnodes = lit≤ tt; reads = lit≤ tt; untouched = λ e. cc; left = λ _. tt; known = λ _. refl }
-answers_at zero (suc (suc zero)) few less = record { answer = (refl, refl); account = refl; may_keep = may_keep 1 2; live = lit≤ tt; names = lit≤ tt; blocks = lit≤ tt; vnodes = lit≤ tt; reads = lit≤ tt; untouched = λ e. cc; left = λ _. tt; known = λ _. refl }
+unfolding bound need_of no_places none_open mkdir read write
+answers_at zero zero few less = record { answer = (refl, refl); account = refl; may_keep = may_keep 1 2; live = lit≤ tt; names = lit≤ tt; blocks = lit≤ tt; vnodes = lit≤ tt; reads = lit≤ tt; untouched = λ e. cc; left = λ e. cc; known = λ _. refl }
+answers_at zero (suc zero) few less = record { answer = (refl, refl); account = refl; may_keep = may_keep 1 2; live = lit≤ tt; names = lit≤ tt; blocks = lit≤ tt; vnodes = lit≤ tt; reads = lit≤ tt; untouched = λ e. cc; left = λ e. cc; known = λ _. refl }
+answers_at zero (suc (suc zero)) few less = record { answer = (refl, refl); account = refl; may_keep = may_keep 1 2; live = lit≤ tt; names = lit≤ tt; blocks = lit≤ tt; vnodes = lit≤ tt; reads = lit≤ tt; untouched = λ e. cc; left = λ e. cc; known = λ _. refl }
 answers_at zero (suc (suc (suc n))) few less = absurd (let l : suc (suc (suc n)) ≤ 2 = less in omega arith)
-answers_at (suc zero) zero few less = record { answer = (refl, refl); account = refl; may_keep = may_keep 2 0; live = lit≤ tt; names = lit≤ tt; blocks = lit≤ tt; vnodes = lit≤ tt; reads = lit≤ tt; untouched = λ _. (refl, refl); left = λ _. tt; known = λ _. refl }
-answers_at (suc zero) (suc zero) few less = record { answer = (refl, refl); account = refl; may_keep = may_keep 2 1; live = lit≤ tt; names = lit≤ tt; blocks = lit≤ tt; vnodes = lit≤ tt; reads = lit≤ tt; untouched = λ _. (refl, refl); left = λ _. tt; known = λ _. refl }
-answers_at (suc zero) (suc (suc zero)) few less = record { answer = (refl, refl); account = refl; may_keep = may_keep 2 2; live = lit≤ tt; names = lit≤ tt; blocks = lit≤ tt; vnodes = lit≤ tt; reads = lit≤ tt; untouched = λ _. (refl, refl); left = λ _. tt; known = λ _. refl }
+answers_at (suc zero) zero few less = record { answer = (refl, refl); account = refl; may_keep = may_keep 2 0; live = lit≤ tt; names = lit≤ tt; blocks = lit≤ tt; vnodes = lit≤ tt; reads = lit≤ tt; untouched = λ _. (refl, refl); left = λ e. cc; known = λ _. refl }
+answers_at (suc zero) (suc zero) few less = record { answer = (refl, refl); account = refl; may_keep = may_keep 2 1; live = lit≤ tt; names = lit≤ tt; blocks = lit≤ tt; vnodes = lit≤ tt; reads = lit≤ tt; untouched = λ _. (refl, refl); left = λ e. cc; known = λ _. refl }
+answers_at (suc zero) (suc (suc zero)) few less = record { answer = (refl, refl); account = refl; may_keep = may_keep 2 2; live = lit≤ tt; names = lit≤ tt; blocks = lit≤ tt; vnodes = lit≤ tt; reads = lit≤ tt; untouched = λ _. (refl, refl); left = λ e. cc; known = λ _. refl }
 answers_at (suc zero) (suc (suc (suc n))) few less = absurd (let l : suc (suc (suc n)) ≤ 2 = less in omega arith)
-answers_at (suc (suc zero)) zero few less = record { answer = (refl, refl); account = refl; may_keep = may_keep 3 0; live = lit≤ tt; names = lit≤ tt; blocks = lit≤ tt; vnodes = lit≤ tt; reads = lit≤ tt; untouched = λ _. (refl, refl); left = λ _. tt; known = λ _. refl }
-answers_at (suc (suc zero)) (suc zero) few less = record { answer = (refl, refl); account = refl; may_keep = may_keep 3 1; live = lit≤ tt; names = lit≤ tt; blocks = lit≤ tt; vnodes = lit≤ tt; reads = lit≤ tt; untouched = λ _. (refl, refl); left = λ _. tt; known = λ _. refl }
-answers_at (suc (suc zero)) (suc (suc zero)) few less = record { answer = (refl, refl); account = refl; may_keep = may_keep 3 2; live = lit≤ tt; names = lit≤ tt; blocks = lit≤ tt; vnodes = lit≤ tt; reads = lit≤ tt; untouched = λ _. (refl, refl); left = λ _. tt; known = λ _. refl }
+answers_at (suc (suc zero)) zero few less = record { answer = (refl, refl); account = refl; may_keep = may_keep 3 0; live = lit≤ tt; names = lit≤ tt; blocks = lit≤ tt; vnodes = lit≤ tt; reads = lit≤ tt; untouched = λ _. (refl, refl); left = λ e. cc; known = λ _. refl }
+answers_at (suc (suc zero)) (suc zero) few less = record { answer = (refl, refl); account = refl; may_keep = may_keep 3 1; live = lit≤ tt; names = lit≤ tt; blocks = lit≤ tt; vnodes = lit≤ tt; reads = lit≤ tt; untouched = λ _. (refl, refl); left = λ e. cc; known = λ _. refl }
+answers_at (suc (suc zero)) (suc (suc zero)) few less = record { answer = (refl, refl); account = refl; may_keep = may_keep 3 2; live = lit≤ tt; names = lit≤ tt; blocks = lit≤ tt; vnodes = lit≤ tt; reads = lit≤ tt; untouched = λ _. (refl, refl); left = λ e. cc; known = λ _. refl }
 answers_at (suc (suc zero)) (suc (suc (suc n))) few less = absurd (let l : suc (suc (suc n)) ≤ 2 = less in omega arith)
-answers_at (suc (suc (suc zero))) zero few less = record { answer = (refl, refl); account = refl; may_keep = may_keep 1 2; live = lit≤ tt; names = lit≤ tt; blocks = lit≤ tt; vnodes = lit≤ tt; reads = lit≤ tt; untouched = λ e. cc; left = λ _. tt; known = λ _. refl }
-answers_at (suc (suc (suc zero))) (suc zero) few less = record { answer = (refl, refl); account = refl; may_keep = may_keep 1 2; live = lit≤ tt; names = lit≤ tt; blocks = lit≤ tt; vnodes = lit≤ tt; reads = lit≤ tt; untouched = λ e. cc; left = λ _. tt; known = λ _. refl }
-answers_at (suc (suc (suc zero))) (suc (suc zero)) few less = record { answer = (refl, refl); account = refl; may_keep = may_keep 1 2; live = lit≤ tt; names = lit≤ tt; blocks = lit≤ tt; vnodes = lit≤ tt; reads = lit≤ tt; untouched = λ e. cc; left = λ _. tt; known = λ _. refl }
+answers_at (suc (suc (suc zero))) zero few less = record { answer = (refl, refl); account = refl; may_keep = may_keep 1 2; live = lit≤ tt; names = lit≤ tt; blocks = lit≤ tt; vnodes = lit≤ tt; reads = lit≤ tt; untouched = λ e. cc; left = λ e. cc; known = λ _. refl }
+answers_at (suc (suc (suc zero))) (suc zero) few less = record { answer = (refl, refl); account = refl; may_keep = may_keep 1 2; live = lit≤ tt; names = lit≤ tt; blocks = lit≤ tt; vnodes = lit≤ tt; reads = lit≤ tt; untouched = λ e. cc; left = λ e. cc; known = λ _. refl }
+answers_at (suc (suc (suc zero))) (suc (suc zero)) few less = record { answer = (refl, refl); account = refl; may_keep = may_keep 1 2; live = lit≤ tt; names = lit≤ tt; blocks = lit≤ tt; vnodes = lit≤ tt; reads = lit≤ tt; untouched = λ e. cc; left = λ e. cc; known = λ _. refl }
 answers_at (suc (suc (suc zero))) (suc (suc (suc n))) few less = absurd (let l : suc (suc (suc n)) ≤ 2 = less in omega arith)
 answers_at (suc (suc (suc (suc n)))) blocks few less = absurd (let l : suc (suc (suc (suc n))) ≤ 3 = few in omega arith)
 
 pub caching_turns : (place blocks : ℕ) (which : Call) → place ≤ 3 → blocks ≤ 2 → which ≡ call_of caching (caching_at place blocks).plain 1
-    → TurnsTo caching (caching_at place blocks) 1 which (Done (Fail EINVAL)) (caching_at (next_place place) (next_blocks place blocks))
+    → TurnsTo caching (caching_at place blocks) 1 which (Done (Fail (errno_at place))) (caching_at (next_place place) (next_blocks place blocks))
 caching_turns place blocks which few less is =
-    subst (λ w. Answers caching (caching_at place blocks) 1 w (Done (Fail EINVAL)) (caching_at (next_place place) (next_blocks place blocks))) (sym is)
+    subst (λ w. Answers caching (caching_at place blocks) 1 w (Done (Fail (errno_at place))) (caching_at (next_place place) (next_blocks place blocks))) (sym is)
     (answers_at place blocks few less)
+
+-- its next call wouldn't block
+pub caching_ready : (place blocks pid : ℕ) → place ≤ 3 → is_alive (caching_at place blocks).plain.table pid ≡ true → would_block caching (caching_at place blocks).plain pid ≡ false
+unfolding no_places none_open mkdir read write
+caching_ready place blocks zero few alive = cc
+caching_ready zero blocks (suc zero) few alive = refl
+caching_ready (suc zero) blocks (suc zero) few alive = refl
+caching_ready (suc (suc zero)) blocks (suc zero) few alive = refl
+caching_ready (suc (suc (suc zero))) blocks (suc zero) few alive = refl
+caching_ready (suc (suc (suc (suc n)))) blocks (suc zero) few alive = absurd (let l : suc (suc (suc (suc n))) ≤ 3 = few in omega arith)
+caching_ready place blocks (suc (suc n)) few alive = cc
 
 -- a block goes from the cache
 pub block_goes : (place blocks : ℕ) (what : Cached) → blocks ≤ 2 → can_evict (caching_at place blocks).plain (caching_at place blocks).kept what ≡ true
@@ -145,7 +159,7 @@ few_next (suc (suc (suc n))) blocks less = lit≤ tt
 pub caching_high : (place blocks after : ℕ) (which : Call) → place ≤ 3 → blocks ≤ 2 → after ≡ max blocks (next_blocks place blocks)
     → which ≡ call_of caching (caching_at place blocks).plain 1 → 640 + 1088 * after ≤ live_of (caching_at place blocks) + bound which + slack which
 caching_high place blocks after which few less is call =
-    let turned : Answers caching (caching_at place blocks) 1 which (Done (Fail EINVAL)) (caching_at (next_place place) (next_blocks place blocks)) =
+    let turned : Answers caching (caching_at place blocks) 1 which (Done (Fail (errno_at place))) (caching_at (next_place place) (next_blocks place blocks)) =
     caching_turns place blocks which few less call in
     let live : live_of (caching_at (next_place place) (next_blocks place blocks)) ≤ live_of (caching_at place blocks) + bound which = turned.live in
     let here : live_of (caching_at (next_place place) (next_blocks place blocks)) ≡ 640 + 1088 * next_blocks place blocks =

@@ -8,6 +8,8 @@ use Rattle.kabi_types.specs.declared.scripts.Policy.TheVariants.{Heaviest}
 use Rattle.kabi_types.specs.declared.scripts.Script.{Script}
 use Rattle.kabi_types.specs.declared.scripts.Statement.{Statement}
 use Rattle.kabi_types.specs.declared.scripts.Statement.TheVariants.{Invoke, Jump}
+use Rattle.kabi_values.specs.declared.errnos.Errno.{Errno}
+use Rattle.kabi_values.specs.declared.errnos.Errno.TheVariants.{EBADF, EEXIST}
 use Rattle.posix_defs.specs.Plain.{first_process}
 use Rattle.posix_defs.specs.Files.State.{boot_files}
 use Rattle.posix_defs.specs.World.{Kept, World, no_account, boot_kept}
@@ -30,11 +32,11 @@ abbrev numbers : List ℕ → List Operand
 numbers [] = []
 numbers (n ∷ ns) = Number (pos n) ∷ numbers ns
 
--- `mkdir "/d"`, `write 3 0 4096` and `read 3 0 1`, over and over by a jump that no script could have
+-- `mkdir "/"`, `write 3 0 4096` and `read 3 0 1`, over and over by a jump that no script could have
 abbrev pub caching : Script
 caching =
     with_body (
-    Invoke kind.Mkdir [] (codes "/d" ∷ []) None None
+    Invoke kind.Mkdir [] (codes "/" ∷ []) None None
     ∷ Invoke kind.Write (numbers (3 ∷ 0 ∷ 4096 ∷ [])) [] None None
     ∷ Invoke kind.Read (numbers (3 ∷ 0 ∷ 1 ∷ [])) [] None None
     ∷ Jump 0
@@ -68,13 +70,20 @@ next_place (suc zero) = 2
 next_place (suc (suc zero)) = 3
 next_place _ = 1
 
+-- what its next call is answered: the root is there already, and number 3 isn't open
+abbrev pub errno_at : ℕ → Errno
+errno_at zero = EEXIST
+errno_at (suc zero) = EBADF
+errno_at (suc (suc zero)) = EBADF
+errno_at _ = EEXIST
+
 -- the blocks that are cached where so many are
 abbrev pub first_blocks : ℕ → List ℕ
 first_blocks zero = []
 first_blocks (suc zero) = 7 ∷ []
 first_blocks _ = 7 ∷ 8 ∷ []
 
--- how many are behind the turn of its next call: to make the directory two are cached
+-- how many are behind the turn of its next call: to look for the root two are cached
 abbrev pub next_blocks : ℕ → ℕ → ℕ
 next_blocks zero blocks = 2
 next_blocks (suc zero) blocks = blocks

@@ -1,7 +1,7 @@
 //! A run over a store that has something to evict.
 
 ghost use Rattle.std.specs.Prelude.{◌≡◌, ◌≤◌, ◌-◌, ◌+◌, ◌*◌, ◌%◌, ◌^◌, max};
-ghost use Rattle.kern_core.specs.Sample.{caching, caching_at, next_blocks, next_place};
+ghost use Rattle.kern_core.specs.Sample.{caching, caching_at, errno_at, next_blocks, next_place};
 
 use crate::picks::picked;
 use crate::{Choosing, Core, Relief};
@@ -9,10 +9,9 @@ use kabi_types::{Cached, Call, Chooser, Entry, Errno, Event, Need, Noted, Path, 
 use posix_defs::{Turned, Turner};
 use std::test::Fail;
 
-/// A store of one process, which makes a directory, writes much and reads a byte, over and over: no call that it makes is
-/// built, so each is answered EINVAL. To make the directory two blocks are cached. It has the place behind the call that the
-/// process made last, how many blocks are cached, and of its heap how often that was marked, and the most blocks that were
-/// cached since.
+/// A store of one process, which makes the root, writes much and reads a byte, over and over: the root is there already, and
+/// number 3 isn't open. To look for the root two blocks are cached. It has the place behind the call that the process made last,
+/// how many blocks are cached, and of its heap how often that was marked, and the most blocks that were cached since.
 #[derive(Drop)]
 struct Caching {
     place: u32,
@@ -49,6 +48,16 @@ impl Caching {
         };
         self.most = self.most.max(blocks);
         self.blocks = blocks;
+    }
+
+    /// What the next call is answered.
+    fn errno(&self) -> Errno
+        ensures { result ≡ errno_at self.now.place }
+    {
+        match self.place {
+            1 | 2 => Errno::EBADF,
+            _ => Errno::EEXIST,
+        }
     }
 
     /// The call is over.
@@ -89,19 +98,20 @@ impl Turner for Caching {
                 n: 1,
             },
             _ => Call::Mkdir {
-                path: Path::of(b"/d").unwrap(),
+                path: Path::of(b"/").unwrap(),
             },
         }
     }
 
     fn turn(&mut self, pid: u32, _call: &Call, _need: Need) -> Turned {
+        let told = self.errno();
         self.mark();
         if pid != 1 {
             return Turned::Gone;
         }
         self.fill();
         self.go_on();
-        Turned::Done(Reply::Fail(Errno::EINVAL))
+        Turned::Done(Reply::Fail(told))
     }
 
     fn refuse(&mut self, _pid: u32) {

@@ -1,5 +1,5 @@
 use Rattle.std.proofs.Common.{◌≡◌, ◌+◌, ◌*◌, ◌≤◌, ℕ, max, true, refl, sym, subst, ap, ◌∙◌, arith}
-use Rattle.kabi_values.specs.declared.errnos.Errno.TheVariants.{EINVAL}
+use Rattle.kabi_values.specs.declared.errnos.Errno.{Errno}
 use Rattle.kabi_values.specs.declared.replies.Reply.TheVariants.{Fail}
 use Rattle.posix_defs.specs.declared.turner.Turned.TheVariants.{Done}
 use Rattle.posix_defs.specs.Needs.{bound, slack}
@@ -7,8 +7,8 @@ use Rattle.posix_defs.specs.Process.{is_alive}
 use Rattle.posix_defs.specs.Plain.{call_of}
 use Rattle.posix_defs.specs.World.{World, live_of}
 use Rattle.posix_defs.specs.Turn.{TurnsTo}
-use Rattle.kern_core.specs.Sample.{caching, caching_at, next_blocks, next_place}
-use Rattle.kern_core.proofs.SampleSteps.{caching_high, caching_since, caching_turns, no_less}
+use Rattle.kern_core.specs.Sample.{caching, caching_at, errno_at, next_blocks, next_place}
+use Rattle.kern_core.proofs.SampleSteps.{caching_high, caching_since, caching_stays, caching_turns, no_less}
 use Rattle.kern_core.proofs.tests_evictions.CachingTurner.turn.Goals as goal
 
 pub returns-clause-turned : goal.returns-clause-turned
@@ -23,11 +23,12 @@ returns-clause-turned c = λ world is.
     c.go_on.ensures.blocks ∙ c.fill.ensures.blocks ∙ ap (λ n. next_blocks n c.mark.new.self.blocks) c.mark.ensures.place ∙ ap (next_blocks store.place) c.mark.ensures.blocks in (
       caching_at c.go_on.new.self.place c.go_on.new.self.blocks,
       refl,
-      subst (λ w. TurnsTo caching w c.args.pid c.args._call.now (Done (Fail EINVAL)) (caching_at c.go_on.new.self.place c.go_on.new.self.blocks)) (sym is)
-          (subst (λ p. TurnsTo caching (caching_at store.place store.blocks) p c.args._call.now (Done (Fail EINVAL)) (caching_at c.go_on.new.self.place c.go_on.new.self.blocks)) (sym one)
-          (subst (λ n. TurnsTo caching (caching_at store.place store.blocks) 1 c.args._call.now (Done (Fail EINVAL)) (caching_at n c.go_on.new.self.blocks)) (sym place)
-          (subst (λ n. TurnsTo caching (caching_at store.place store.blocks) 1 c.args._call.now (Done (Fail EINVAL)) (caching_at (next_place store.place) n)) (sym blocks)
-          (caching_turns store.place store.blocks c.args._call.now store.places store.few call)))),
+      subst (λ (e : Errno). TurnsTo caching world c.args.pid c.args._call.now (Done (Fail e)) (caching_at c.go_on.new.self.place c.go_on.new.self.blocks)) (sym c.errno-told.ensures)
+          (subst (λ w. TurnsTo caching w c.args.pid c.args._call.now (Done (Fail (errno_at store.place))) (caching_at c.go_on.new.self.place c.go_on.new.self.blocks)) (sym is)
+          (subst (λ p. TurnsTo caching (caching_at store.place store.blocks) p c.args._call.now (Done (Fail (errno_at store.place))) (caching_at c.go_on.new.self.place c.go_on.new.self.blocks)) (sym one)
+          (subst (λ n. TurnsTo caching (caching_at store.place store.blocks) 1 c.args._call.now (Done (Fail (errno_at store.place))) (caching_at n c.go_on.new.self.blocks)) (sym place)
+          (subst (λ n. TurnsTo caching (caching_at store.place store.blocks) 1 c.args._call.now (Done (Fail (errno_at store.place))) (caching_at (next_place store.place) n)) (sym blocks)
+          (caching_turns store.place store.blocks c.args._call.now store.places store.few call))))),
     )
 
 pub returns-clause-high : goal.returns-clause-high
@@ -56,3 +57,12 @@ returns-clause-since c = λ world is.
 pub returns-then-pid-ne1-clause-since : goal.returns-then-pid-ne1-clause-since
 returns-then-pid-ne1-clause-since c = λ world is.
     caching_since world c.args.self.now.place c.args.self.now.blocks c.mark.new.self.most is c.args.self.now.few (no_less c.mark.ensures.most)
+
+pub returns-then-pid-ne1-clause-high : goal.returns-then-pid-ne1-clause-high
+returns-then-pid-ne1-clause-high c = λ world is.
+    let stays : 640 + 1088 * c.mark.new.self.most ≤ live_of world =
+    caching_stays world c.args.self.now.place c.args.self.now.blocks c.mark.new.self.most is c.args.self.now.few c.mark.ensures.most in
+    further (640 + 1088 * c.mark.new.self.most) (live_of world) (bound c.args._call.now) (slack c.args._call.now) stays
+  where
+    further : (a b m n : ℕ) → a ≤ b → a ≤ b + m + n
+    further a b m n less = omega arith
