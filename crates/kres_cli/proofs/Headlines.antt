@@ -15,8 +15,8 @@ use Rattle.kres_cli.specs.Tool.{Answered, AnswersText, Input, Output, TaskEnds, 
 -- what answers a text but the line of its fault is the report of a run
 told : (text whole : List ℕ) (handed : Option StoreView) (st : Status) → AnswersText text whole Sim handed st
     → (st ≡ status.BadScript) ⊎ ((script : Script) × ReadsText text (Ok script) × IsRunOf script whole handed st)
-told text whole handed _ (refuses fault said is none) = inl refl
-told text whole handed _ (makes script st said ran) = inr (script, said, ran)
+told text whole handed _ (refuses fault why is none) = inl refl
+told text whole handed _ (makes script st said ran) = inr (script, said, ran.1)
 
 simulated : (i : Input) (o : Output) (handed : Option StoreView) (st : Status) → Answered i o handed Sim st
     → (st ≡ status.BadScript → ⊥) → HasSimulated i o handed st

@@ -223,6 +223,7 @@ const STORES: &[(&str, &str, Left)] = &[
     ("sim", PID_SCRIPT, Some((128, 0))),
     ("sim", LOOP_SCRIPT, Some((640, 0))),
     ("sim", "", None),
+    ("sim", "program init\nsocket\nend\n", None),
     ("print", PID_SCRIPT, None),
 ];
 
@@ -296,6 +297,17 @@ const FAULTS: &[(&str, Status, &str)] = &[
         "program init\nr1 = socket\nend\n",
         Status::BadScript,
         "bad script: line 2: not built\n",
+    ),
+    (
+        "program init\nr1 = getpid\nend\nprogram other\nopen \"a\" O_RDONLY\nsocket\nend\n",
+        Status::BadScript,
+        "bad script: line 5: not built\n",
+    ),
+    // What is no script is told before.
+    (
+        "program init\nr1 = socket\njmp a\nend\n",
+        Status::BadScript,
+        "bad script: line 3: unknown word\n",
     ),
     (
         "program init\nexit 1x\nend\n",

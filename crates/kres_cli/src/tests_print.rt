@@ -73,10 +73,11 @@ const PRINTS: &[(&str, Status, &str)] = &[
         Status::BadScript,
         "bad script: line 3: unknown word\n",
     ),
+    // What can't be run is printed.
     (
         "program init\nr1 = socket\nend\n",
-        Status::BadScript,
-        "bad script: line 2: not built\n",
+        Status::Finished,
+        "heap 65536\ndisk 64\nsteps 1000\npolicy heaviest\nprogram init\nr1 = socket\nend\n",
     ),
 ];
 
