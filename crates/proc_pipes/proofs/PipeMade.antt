@@ -1,5 +1,5 @@
 -- A pipe is made with a Desc for each of its ends: its owners, and what heap and table stand for.
-use Rattle.std.proofs.Common.{◌≡◌, ◌≢◌, ◌⊎◌, ℕ, zero, suc, ◌+◌, ◌<◌, ◌≤◌, ◌==◌, ◌&&◌, ◌++◌, Bool, true, false, List, [], ◌∷◌, map, length, cond, eqb, count_by, Option, None, Some, IsSome, is_some, refl, sym, ap, subst, ◌∙◌, arith, eq-eqb, ne_eqb, inl, inr, length-append}
+use Rattle.std.proofs.Common.{◌≡◌, ◌≢◌, ◌⊎◌, ℕ, zero, suc, ◌+◌, ◌<◌, ◌==◌, ◌&&◌, ◌++◌, Bool, true, false, List, [], ◌∷◌, length, cond, eqb, count_by, Option, None, Some, IsSome, is_some, refl, sym, ap, subst, ◌∙◌, arith, eq-eqb, ne_eqb, inl, inr, length-append}
 use Rattle.std.specs.Prelude.{slice_index_or}
 use Rattle.std.proofs.lemmas.Bool.{cases_eq}
 use Rattle.std.proofs.lemmas.List.{get_or_at, get_or_past, length-set}
@@ -25,13 +25,13 @@ use Rattle.open_laws.proofs.DropLemmas.{socketed_on}
 use Rattle.open_laws.proofs.OwnerLemmas.{named_by, names}
 use Rattle.pipe_ends.specs.Standing.{IsPipeAt, StandsFor}
 use Rattle.pipe_ends.proofs.StandingLemmas.{held_len, stands_same as pipe_stands_same}
-use Rattle.place_laws.specs.Placed.{ArePlaced, Numbers, numbered}
+use Rattle.place_laws.specs.Placed.{Numbers, numbered}
 use Rattle.place_laws.proofs.PlaceLemmas.{placed_made, placed_unchanged}
-use Rattle.posix_defs.specs.Files.Descriptions.{Description, Descriptions, OnPipe, ReadOnly, WriteOnly, may_read, may_write, new_description, Target as PlainTarget}
+use Rattle.posix_defs.specs.Files.Descriptions.{Description, Descriptions, OnPipe, ReadOnly, WriteOnly, may_read, may_write, new_description}
 use Rattle.posix_defs.specs.Files.Descriptors.{Descriptors}
 use Rattle.posix_defs.specs.Files.State.{Files, with_descriptions, with_pipes}
-use Rattle.posix_defs.specs.Pipe.{Pipe, new_pipe}
-use Rattle.usock_core.specs.Standing.{IsHeldIn, queue_in}
+use Rattle.posix_defs.specs.Pipe.{new_pipe}
+use Rattle.usock_core.specs.Standing.{queue_in}
 use Rattle.usock_core.proofs.HeldLemmas.{held_moved}
 use Rattle.usock_core.proofs.StandingLemmas.{held_on}
 use Rattle.proc_table.specs.Procs.{proc_of}

@@ -1,4 +1,4 @@
-use Rattle.std.proofs.Common.{◌≡◌, ◌≢◌, ◌∙◌, [], None, Some, true, false, ap, is_some, refl, pos, subst, sym, w64}
+use Rattle.std.proofs.Common.{◌≡◌, ◌∙◌, [], true, false, ap, refl, pos, subst, sym, w64}
 use Rattle.std.proofs.lemmas.Int.{to_z-of_z}
 use Rattle.kabi_calls.specs.Arguments.{count_of, may_be_descriptor}
 use Rattle.kabi_values.specs.declared.errnos.Errno.TheVariants.{EBADF}

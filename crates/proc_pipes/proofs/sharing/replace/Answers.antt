@@ -1,5 +1,4 @@
-use Rattle.std.proofs.Common.{◌≡◌, ◌∙◌, [], ap, is_some, subst, sym, arith, length}
-use Rattle.std.specs.Prelude.{◌<◌}
+use Rattle.std.proofs.Common.{◌∙◌, [], ap, is_some, arith}
 use Rattle.kheap_slabs.specs.Heap.{Heap}
 use Rattle.kheap_laws.proofs.PaidLemmas.{TakesNothing-trans}
 use Rattle.posix_defs.specs.Files.Closing.{after_close}
@@ -42,6 +41,6 @@ returns-clause-takes c =
     TakesNothing-trans c.args.heap.now c.close_one-node.new.heap c.share_at.new.heap c.close_one-node.ensures.takes c.share_at.ensures.takes
 
 pub returns-clause-queues : goal.returns-clause-queues
-returns-clause-queues c = 
+returns-clause-queues c =
     queues_then c.args.heap.now c.close_one-node.new.heap c.share_at.new.heap c.close_one-node.ensures.queues
     (queues_same c.close_one-node.new.heap c.share_at.new.heap (ap (λ (h : Heap). h.pipes) c.share_at.ensures.beside) (ap (λ (h : Heap). h.socks) c.share_at.ensures.beside))
