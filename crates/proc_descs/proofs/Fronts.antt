@@ -1,7 +1,6 @@
 -- Queues whose bytes stand where they stood: through a drop, through one change after another, and in the account.
-use Rattle.std.proofs.Common.{◌≡◌, ◌≢◌, ◌⊎◌, ℕ, zero, suc, ◌+◌, ◌-◌, ◌%◌, ◌<◌, ◌≤◌, ◌==◌, nat_lt, Bool, true, false, cond, List, [], ◌∷◌, map, length, get_or, Option, None, Some, IsSome, is_some, refl, ap, sym, ◌∙◌, subst, arith, ne_eqb, inl, inr}
+use Rattle.std.proofs.Common.{◌≡◌, ◌≢◌, ◌⊎◌, ℕ, zero, suc, ◌+◌, ◌-◌, ◌%◌, ◌<◌, ◌==◌, nat_lt, Bool, true, false, cond, List, [], ◌∷◌, map, length, Option, None, Some, is_some, refl, ap, sym, ◌∙◌, subst, arith, ne_eqb, inl, inr}
 use Rattle.std.specs.Prelude.{slice_index}
-use Rattle.std.specs.List.{range_with_len}
 use Rattle.std.proofs.Math.ListN.{get_or-map}
 use Rattle.std.proofs.lemmas.Bool.{cases_eq}
 use Rattle.std.proofs.lemmas.List.FromFn.{get_or-map-range_with_len}
@@ -19,19 +18,17 @@ use Rattle.open_laws.specs.Closing.{Drops, TargetCloses}
 use Rattle.open_laws.specs.Described.{CountedList, access_in}
 use Rattle.open_laws.specs.Open.{AreOpen, HaveFronts}
 use Rattle.open_laws.specs.Owned.{IsHeldOpen, IsThereFor}
-use Rattle.open_laws.specs.Socketed.{socket_by}
-use Rattle.pipe_ends.specs.Standing.{IsPipeAt, StandsFor}
+use Rattle.pipe_ends.specs.Standing.{IsPipeAt}
 use Rattle.pipe_ends.proofs.StandingLemmas.{held_bytes, held_len, held_place}
 use Rattle.place_laws.specs.Placed.{Numbers}
 use Rattle.posix_defs.specs.Account.{Account, front_after, fronts_after, pipe_lengths, socket_lengths, unread_in_pipe, unread_in_socket}
 use Rattle.posix_defs.specs.Files.Descriptions.{may_write}
 use Rattle.posix_defs.specs.Files.State.{Files}
-use Rattle.posix_defs.specs.Pipe.{Pipe, after_close, while_open, without_reader, without_writer}
+use Rattle.posix_defs.specs.Pipe.{Pipe, after_close, without_reader, without_writer}
 use Rattle.posix_defs.specs.QueuePlace.{QueuePlace}
 use Rattle.posix_defs.specs.Socket.{Socket}
 use Rattle.usock_core.specs.Standing.{queue_at, queue_in}
 use Rattle.usock_core.proofs.StandingLemmas.{found}
-use Rattle.proc_table.proofs.PlaceLemmas.{some_same}
 use Rattle.proc_descs.specs.Queues.{QueuesStand, fronts_on}
 
 -- ---- one change after another
@@ -164,8 +161,7 @@ module _ (numbers now : Numbers) (old new : Heap) (list later : CountedList) (fi
       → (slice_index (pipe_lengths f) (n.pipes key) ≡ pipe.queue.len) × (n.pipes key < length (pipe_lengths f)) × (pipe.queue.len ≡ 0 → pipe.queue.place ≡ 0)
   pipe_length n h l f opened key pipe at =
       let there = opened.piped.there key pipe at in
-      let stands = opened.piped.means key pipe there.0 at there.1 in
-      (
+      let stands = opened.piped.means key pipe there.0 at there.1 in (
         get_or-map unread_in_pipe f.pipes (n.pipes key) None ∙ ap unread_in_pipe there.1 ∙ sym (held_len h key pipe there.0 stands.0 at stands.1),
         subst (λ k. n.pipes key < k) (sym (length_map unread_in_pipe f.pipes)) (InUse-within f.pipes (n.pipes key) (ap is_some there.1)),
         (held_bytes h key pipe there.0 stands.0 at stands.1).owns.empty,
@@ -177,8 +173,7 @@ module _ (numbers now : Numbers) (old new : Heap) (list later : CountedList) (fi
   sock_length n h l f opened key sock at =
       let it = found h opened.socketed.keyed key sock opened.socketed.stands.table at in
       let there = opened.socketed.renamed.there key _ it.at in
-      let same = opened.socketed.renamed.means key _ there.0 it.at there.1 in
-      (
+      let same = opened.socketed.renamed.means key _ there.0 it.at there.1 in (
         get_or-map unread_in_socket f.sockets (n.socks key) None ∙ ap unread_in_socket there.1 ∙ ap (λ (s : Socket). length s.bytes) same ∙ sym it.kept.len,
         subst (λ k. n.socks key < k) (sym (length_map unread_in_socket f.sockets)) (InUse-within f.sockets (n.socks key) (ap is_some there.1)),
         it.kept.bytes.owns.empty,
@@ -199,8 +194,7 @@ module _ (numbers now : Numbers) (old new : Heap) (list later : CountedList) (fi
           stays len some =
               let was = stand.pipes key pipe at some in
               let before = pipe_length numbers old list files are key was.0 was.1 in
-              let number = pipes_keep key (ap is_some was.1) in
-              (
+              let number = pipes_keep key (ap is_some was.1) in (
                 ap (slice_index (pipe_lengths files)) number ∙ before.0 ∙ ap (λ (q : QueuePlace). q.len) was.2 ∙ sym len,
                 ap (slice_index account.pipes) number ∙ have.pipes key was.0 was.1 ∙ ap (λ (q : QueuePlace). q.place) was.2,
               )
@@ -223,8 +217,7 @@ module _ (numbers now : Numbers) (old new : Heap) (list later : CountedList) (fi
               by_old (Some was) there same =
                   let whole : place_of sock.queue ≡ place_of was.queue = same ∙ ap queue_in there in
                   let before = sock_length numbers old list files are key was there in
-                  let number = socks_keep key (ap is_some there) in
-                  (
+                  let number = socks_keep key (ap is_some there) in (
                     ap (slice_index (socket_lengths files)) number ∙ before.0 ∙ sym (ap (λ (q : QueuePlace). q.len) whole) ∙ sym len,
                     ap (slice_index account.sockets) number ∙ have.socks key was there ∙ sym (ap (λ (q : QueuePlace). q.place) whole),
                   )

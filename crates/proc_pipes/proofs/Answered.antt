@@ -1,5 +1,5 @@
 -- What the machine answers to a call on descriptors, by what a number names in the heap.
-use Rattle.std.proofs.Common.{◌≡◌, ◌≢◌, ℕ, zero, suc, ℤ, pos, negsuc, ◌==◌, Bool, true, false, cond, Option, None, Some, refl, ap, sym, ◌∙◌, subst, ne_eqb, eq-eqb}
+use Rattle.std.proofs.Common.{◌≡◌, ◌≢◌, ℕ, zero, suc, ℤ, pos, true, false, cond, None, Some, refl, ap, sym, ◌∙◌, ne_eqb, eq-eqb}
 use Rattle.std.specs.Option.{option_map}
 use Rattle.kabi_calls.specs.Arguments.{count_of, may_be_descriptor}
 use Rattle.kabi_values.specs.declared.errnos.Errno.{Errno}
@@ -19,7 +19,7 @@ use Rattle.posix_defs.specs.Calls.OnDescriptors.{controlled, dup2, duplicated_to
 use Rattle.posix_defs.specs.Calls.Opened.{Opened, answer_on, opened_at}
 use Rattle.posix_defs.specs.Files.Closing.{after_close}
 use Rattle.posix_defs.specs.Files.Descriptors.{has_cloexec, is_cloexec}
-use Rattle.posix_defs.specs.Files.State.{Files, descriptors_of}
+use Rattle.posix_defs.specs.Files.State.{descriptors_of}
 use Rattle.posix_defs.specs.Plain.{Plain, with_files}
 use Rattle.proc_table.specs.Table.{TableView}
 use Rattle.proc_descs.specs.Having.{HaveOpen}

@@ -1,10 +1,10 @@
 -- What calls on descriptors change, one after another.
-use Rattle.std.proofs.Common.{◌≡◌, ◌≢◌, ◌⊎◌, ℕ, ℤ, pos, negsuc, zero, suc, ◌<◌, ◌==◌, true, false, List, [], ◌∷◌, length, set, Option, None, Some, IsSome, is_some, refl, ap, sym, ◌∙◌, subst, inl, inr}
+use Rattle.std.proofs.Common.{◌≡◌, ◌≢◌, ◌⊎◌, ℕ, ℤ, pos, negsuc, zero, suc, ◌<◌, ◌==◌, true, false, List, [], ◌∷◌, length, set, Option, None, Some, IsSome, is_some, refl, ap, sym, ◌∙◌, inl, inr}
 use Rattle.std.specs.Prelude.{slice_index_or, slice_set}
 use Rattle.std.proofs.lemmas.Bool.Decides.{eqb_tells}
 use Rattle.std.proofs.lemmas.List.{get_or-set_same, get_or-set_other, set-get_or}
 use Rattle.kabi_calls.specs.Arguments.{count_of}
-use Rattle.kheap_shelves.specs.Objects.{InUse, object, put}
+use Rattle.kheap_shelves.specs.Objects.{object, put}
 use Rattle.kheap_shelves.specs.declared.objects.Desc.{Desc}
 use Rattle.kheap_shelves.specs.declared.objects.Descriptor.{Descriptor as HeldDescriptor}
 use Rattle.kheap_shelves.specs.declared.objects.Proc.{Proc}

@@ -1,5 +1,5 @@
 -- A Desc has other flags: its owners, and what heap and table stand for.
-use Rattle.std.proofs.Common.{◌≡◌, ℕ, ◌<◌, Bool, List, set, Option, None, Some, IsSome, is_some, refl, sym, ap, subst, ◌∙◌, inl, inr}
+use Rattle.std.proofs.Common.{◌≡◌, ℕ, ◌<◌, Bool, List, set, Some, IsSome, is_some, refl, sym, ap, subst, ◌∙◌, inl, inr}
 use Rattle.std.specs.Option.{option_map}
 use Rattle.std.proofs.lemmas.Bool.{cases_eq}
 use Rattle.std.proofs.lemmas.List.{map-set}
@@ -7,7 +7,7 @@ use Rattle.kheap_laws.proofs.TableLemmas.{OwnsItsObjects-along}
 use Rattle.kheap_shelves.specs.Objects.{InUse, object, put}
 use Rattle.kheap_shelves.specs.declared.objects.Desc.{Desc}
 use Rattle.kheap_slabs.specs.Heap.{Heap}
-use Rattle.open_laws.specs.Described.{Counted, CountedList, counted_in, uncounted}
+use Rattle.open_laws.specs.Described.{Counted, CountedList, counted_in}
 use Rattle.open_laws.specs.Open.{AreOpen}
 use Rattle.open_laws.specs.Owned.{CountsItsNames, HasItsOwners, IsThereFor, desc_count, desc_count_at}
 use Rattle.open_laws.proofs.CloseLemmas.{described}

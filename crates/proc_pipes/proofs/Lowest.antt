@@ -1,5 +1,5 @@
 -- The lowest number of a process that is free.
-use Rattle.std.proofs.Common.{◌≡◌, ℕ, ◌<◌, ◌≤◌, List, length, Option, None, Some, refl, subst}
+use Rattle.std.proofs.Common.{◌≡◌, ℕ, ◌<◌, ◌≤◌, length, Option, None, Some, refl, subst}
 use Rattle.std.specs.Prelude.{IfSome}
 use Rattle.desc_table.specs.Numbered.{descriptors_in}
 use Rattle.desc_table.proofs.NumberLemmas.{long_view}

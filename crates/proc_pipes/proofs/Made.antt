@@ -1,5 +1,5 @@
 -- A Desc is made in a list of them: what counts it, and what it stands for.
-use Rattle.std.proofs.Common.{◌≡◌, ◌≢◌, ℕ, zero, suc, ◌+◌, ◌<◌, ◌≤◌, ◌==◌, ◌++◌, Bool, true, false, List, [], ◌∷◌, map, set, length, cond, eqb, count_by, Option, None, Some, IsSome, is_some, refl, sym, ap, subst, ◌∙◌, arith, eq-eqb, ne_eqb, inl, inr, length-append}
+use Rattle.std.proofs.Common.{◌≡◌, ◌≢◌, ℕ, zero, suc, ◌+◌, ◌<◌, ◌++◌, Bool, false, List, [], ◌∷◌, length, cond, eqb, count_by, Option, None, Some, IsSome, refl, sym, ap, ◌∙◌, arith, eq-eqb, ne_eqb, inl, inr, length-append}
 use Rattle.std.specs.Option.{option_map}
 use Rattle.std.proofs.lemmas.Bool.{cases_eq, cases_lt}
 use Rattle.std.proofs.lemmas.List.{get_or-set_same, get_or-set_other, get_or_append_left, get_or_past}
@@ -10,7 +10,7 @@ use Rattle.kheap_shelves.specs.declared.objects.Target.{Target}
 use Rattle.kheap_shelves.specs.declared.objects.Target.TheVariants as target
 use Rattle.open_laws.specs.Described.{AreDescribed, Counted, CountedList, access_in, counted_in, target_in, uncounted}
 use Rattle.open_laws.specs.Owned.{desc_count, desc_count_at, sock_in}
-use Rattle.place_laws.specs.Placed.{ArePlaced, Numbers, numbered}
+use Rattle.place_laws.specs.Placed.{Numbers, numbered}
 use Rattle.place_laws.proofs.PlaceLemmas.{law_makes, placed_unchanged}
 use Rattle.posix_defs.specs.Files.Descriptions.{Descriptions, Target as PlainTarget}
 use Rattle.proc_descs.proofs.Sums.{one_if, some_adds}

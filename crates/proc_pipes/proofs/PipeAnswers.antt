@@ -1,5 +1,5 @@
 -- What the machine answers to `pipe`, and which files it has then.
-use Rattle.std.proofs.Common.{◌≡◌, ℕ, ◌+◌, ◌++◌, false, List, [], ◌∷◌, length, Option, None, Some, refl, sym, ap, ◌∙◌, arith, length-append}
+use Rattle.std.proofs.Common.{◌≡◌, ℕ, ◌+◌, ◌++◌, false, [], ◌∷◌, length, None, Some, refl, sym, ap, ◌∙◌, arith, length-append}
 use Rattle.std.specs.Option.{option_and_then, option_map}
 use Rattle.kabi_values.specs.declared.errnos.Errno.TheVariants.{EMFILE}
 use Rattle.kabi_values.specs.declared.replies.Reply.TheVariants.{Pair}
@@ -7,7 +7,7 @@ use Rattle.kabi_types.specs.declared.scripts.Script.{Script}
 use Rattle.posix_defs.specs.Answer.{failed, replied}
 use Rattle.posix_defs.specs.Calls.OnPipes.{pipe, piped, piped_under}
 use Rattle.posix_defs.specs.Files.Descriptions.{OnPipe, ReadOnly, WriteOnly, new_description}
-use Rattle.posix_defs.specs.Files.Descriptors.{Descriptors, Two, and_next, lowest_free_from, two_lowest_free}
+use Rattle.posix_defs.specs.Files.Descriptors.{Descriptors, and_next, lowest_free_from, two_lowest_free}
 use Rattle.posix_defs.specs.Files.State.{Files, descriptors_of, with_descriptions, with_open, with_pipes}
 use Rattle.posix_defs.specs.Pipe.{new_pipe}
 use Rattle.posix_defs.specs.Plain.{Plain, with_files}

@@ -1,5 +1,5 @@
 -- A pipe is made with a Desc for each of its ends: its owners, and what heap and table stand for.
-use Rattle.std.proofs.Common.{◌≡◌, ◌≢◌, ◌⊎◌, ℕ, zero, suc, ◌+◌, ◌<◌, ◌≤◌, ◌==◌, ◌&&◌, ◌++◌, Bool, true, false, List, [], ◌∷◌, map, length, cond, eqb, count_by, Option, None, Some, IsSome, is_some, refl, sym, ap, subst, ◌∙◌, arith, eq-eqb, ne_eqb, inl, inr, length-append}
+use Rattle.std.proofs.Common.{◌≡◌, ◌≢◌, ◌⊎◌, ℕ, zero, suc, ◌+◌, ◌<◌, ◌==◌, ◌&&◌, ◌++◌, Bool, true, false, List, [], ◌∷◌, length, cond, eqb, count_by, Option, None, Some, IsSome, is_some, refl, sym, ap, subst, ◌∙◌, arith, eq-eqb, ne_eqb, inl, inr, length-append}
 use Rattle.std.specs.Prelude.{slice_index_or}
 use Rattle.std.proofs.lemmas.Bool.{cases_eq}
 use Rattle.std.proofs.lemmas.List.{get_or_at, get_or_past, length-set}
@@ -14,6 +14,7 @@ use Rattle.kheap_shelves.specs.declared.objects.Sock.{Sock}
 use Rattle.kheap_shelves.specs.declared.objects.Target.{Target}
 use Rattle.kheap_shelves.specs.declared.objects.Target.TheVariants as target
 use Rattle.kheap_slabs.specs.Heap.{Heap}
+use Rattle.chunk_queue.specs.Chained.{place_of}
 use Rattle.chunk_queue.proofs.HeldLemmas.{HasBytes-same}
 use Rattle.open_laws.specs.Described.{AreDescribed, Counted, CountedList, access_in, counted_in, node_in, target_in, uncounted}
 use Rattle.open_laws.specs.Open.{AreOpen, descriptor_by, descriptors_by}
@@ -23,14 +24,14 @@ use Rattle.open_laws.specs.Socketed.{AreSocketed}
 use Rattle.open_laws.proofs.DropLemmas.{socketed_on}
 use Rattle.open_laws.proofs.OwnerLemmas.{named_by, names}
 use Rattle.pipe_ends.specs.Standing.{IsPipeAt, StandsFor}
-use Rattle.pipe_ends.proofs.StandingLemmas.{stands_same as pipe_stands_same}
-use Rattle.place_laws.specs.Placed.{ArePlaced, Numbers, numbered}
+use Rattle.pipe_ends.proofs.StandingLemmas.{held_len, stands_same as pipe_stands_same}
+use Rattle.place_laws.specs.Placed.{Numbers, numbered}
 use Rattle.place_laws.proofs.PlaceLemmas.{placed_made, placed_unchanged}
-use Rattle.posix_defs.specs.Files.Descriptions.{Description, Descriptions, OnPipe, ReadOnly, WriteOnly, may_read, may_write, new_description, Target as PlainTarget}
+use Rattle.posix_defs.specs.Files.Descriptions.{Description, Descriptions, OnPipe, ReadOnly, WriteOnly, may_read, may_write, new_description}
 use Rattle.posix_defs.specs.Files.Descriptors.{Descriptors}
 use Rattle.posix_defs.specs.Files.State.{Files, with_descriptions, with_pipes}
-use Rattle.posix_defs.specs.Pipe.{Pipe, new_pipe}
-use Rattle.usock_core.specs.Standing.{IsHeldIn}
+use Rattle.posix_defs.specs.Pipe.{new_pipe}
+use Rattle.usock_core.specs.Standing.{queue_in}
 use Rattle.usock_core.proofs.HeldLemmas.{held_moved}
 use Rattle.usock_core.proofs.StandingLemmas.{held_on}
 use Rattle.proc_table.specs.Procs.{proc_of}
@@ -38,6 +39,7 @@ use Rattle.proc_table.specs.Table.{TableView, procs_at}
 use Rattle.proc_table.proofs.PlaceLemmas.{some_same}
 use Rattle.proc_descs.specs.Having.{AreListed, HaveOpen, OpensNoNode, places_in}
 use Rattle.proc_descs.specs.Naming.{places_of}
+use Rattle.proc_descs.specs.Queues.{QueuesStand}
 use Rattle.proc_descs.proofs.NumberNames.{desc_named}
 use Rattle.proc_descs.proofs.Sums.{count_cons, one_if}
 use Rattle.proc_pipes.specs.Opening.{KeepsNumbers, PipeOpens, end_of, with_ends}
@@ -101,6 +103,19 @@ module _ (old new : Heap) (pipe reading writing : ℕ) (opens : PipeOpens old ne
       by_which (is_reading same it) = ap (λ (d : Desc). node_in d.target) it
       by_which (is_writing same it) = ap (λ (d : Desc). node_in d.target) it
       by_which (is_other away apart was) = none key desc was
+
+  -- a new pipe has no bytes
+  pub queues_made : QueuesStand old new
+  queues_made = record {
+    pipes = λ key held at some. by_key key held at some (cases_eq key pipe);
+    socks = λ key some. ap (λ (s : List (Option Sock)). queue_in (object s key)) same_socks;
+  }
+    where
+      by_key : (key : ℕ) (held : HeldPipe) → object new.pipes key ≡ Some held → 0 < held.queue.len → (key ≡ pipe) ⊎ (key ≢ pipe)
+          → (was : HeldPipe) × (object old.pipes key ≡ Some was) × (place_of was.queue ≡ place_of held.queue)
+      by_key key held at some (inl same) = absurd (
+          let none : held.queue.len ≡ 0 = held_len new pipe held new_pipe 0 (ap (object new.pipes) (sym same) ∙ at) opens.stands in omega (arith, none, some))
+      by_key key held at some (inr apart) = (held, sym (opens.pipes key apart) ∙ at, refl)
 
   -- ---- owners
 

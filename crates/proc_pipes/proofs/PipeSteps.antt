@@ -1,5 +1,5 @@
 -- A pipe, and then a Desc for each of its ends, one after another.
-use Rattle.std.proofs.Common.{◌≡◌, ◌≢◌, ℕ, ◌+◌, ◌-◌, ◌<◌, List, Option, None, Some, length, refl, sym, ap, subst, ◌∙◌, arith}
+use Rattle.std.proofs.Common.{◌≡◌, ℕ, ◌-◌, ◌<◌, List, Option, None, Some, length, sym, ap, subst, ◌∙◌, arith}
 use Rattle.kabi_values.specs.declared.classes.Class.TheVariants as class
 use Rattle.std.proofs.lemmas.List.{length-set}
 use Rattle.kheap_laws.proofs.OnceLemmas.{Contains-single}

@@ -10,6 +10,7 @@ ghost use Rattle.posix_defs.specs.Plain.{Plain};
 ghost use Rattle.proc_table.specs.Table.{key_of};
 ghost use Rattle.proc_descs.specs.Having.{AreListed, HaveOpen, OpensNoNode, node_closed};
 ghost use Rattle.proc_descs.specs.Naming.{ChangesNumbers, named_by};
+ghost use Rattle.proc_descs.specs.Queues.{QueuesStand};
 ghost use Rattle.proc_pipes.specs.Answering.{Answers, zero_of};
 
 use kabi_types::Errno;
@@ -40,6 +41,7 @@ pub fn close_number(
     ensures changes { ChangesNumbers heap.old heap.new procs.now pid }
     ensures node { IfOk result (λ node. node ≡ node_closed heap.old.descs (named_by heap.old procs.now pid fd)) }
     ensures unchanged { OnErr result (heap.new ≡ heap.old) }
+    ensures queues { QueuesStand heap.old heap.new }
     ensures takes { TakesNothing heap.old heap.new }
 {
     let Some(_held) = descriptor_of(heap, procs, pid, fd) else {

@@ -16,6 +16,7 @@ ghost use Rattle.posix_defs.specs.Plain.{Plain};
 ghost use Rattle.proc_table.specs.Table.{key_of};
 ghost use Rattle.proc_descs.specs.Having.{AreListed, HaveOpen, OpensNoNode, node_closed};
 ghost use Rattle.proc_descs.specs.Naming.{ChangesNumbers, named_at};
+ghost use Rattle.proc_descs.specs.Queues.{QueuesStand};
 ghost use Rattle.proc_pipes.specs.Answering.{Answers, first_of, node_replaced, value_of};
 
 use desc_table::{Descs, share_desc};
@@ -75,6 +76,7 @@ pub fn dup_to(
     ensures changes { ChangesNumbers heap.old heap.new procs.now pid }
     ensures node { IfOk result (λ made. made.1 ≡ node_replaced heap.old procs.now pid fd to) }
     ensures unchanged { OnErr result (heap.new ≡ heap.old) }
+    ensures queues { QueuesStand heap.old heap.new }
     ensures takes { TakesNothing heap.old heap.new }
 {
     let Some(held) = descriptor_of(heap, procs, pid, fd) else {
@@ -116,6 +118,7 @@ fn replace(
     ensures owners { HasItsOwners heap.new [] }
     ensures changes { ChangesNumbers heap.old heap.new procs.now pid }
     ensures node { result ≡ node_closed heap.old.descs (named_at heap.old procs.now pid to) }
+    ensures queues { QueuesStand heap.old heap.new }
     ensures takes { TakesNothing heap.old heap.new }
 {
     is_well_formed(heap);

@@ -1,4 +1,4 @@
-use Rattle.std.proofs.Common.{◌≡◌, ◌<◌, ◌∙◌, None, Some, IsSome, ap, is_some, refl, subst, sym, w64, arith}
+use Rattle.std.proofs.Common.{◌≡◌, ◌<◌, ◌∙◌, ap, is_some, refl, subst, sym, w64, arith}
 use Rattle.std.proofs.lemmas.Int.{to_z-of_z}
 use Rattle.kabi_calls.specs.Arguments.{count_of}
 use Rattle.kabi_values.specs.declared.errnos.Errno.TheVariants.{EBADF}
@@ -6,6 +6,7 @@ use Rattle.posix_defs.specs.Calls.OnDescriptors.{close}
 use Rattle.posix_defs.specs.Files.Closing.{after_close}
 use Rattle.proc_descs.specs.Having.{HaveOpen, node_closed}
 use Rattle.proc_descs.specs.Naming.{named_at, named_by}
+use Rattle.proc_descs.proofs.Fronts.{queues_same}
 use Rattle.proc_descs.proofs.NumberCloses.{no_some}
 use Rattle.proc_descs.proofs.NumberNames.{desc_named_by}
 use Rattle.proc_pipes.proofs.Answered.{on_it, on_nothing, refused}
@@ -69,3 +70,6 @@ returns-clause-node c =
     node_of_number c.args.heap.now c.close_one.new.heap c.args.procs.now c.args.pid _ c.close_one.result c.requires.listed c.close_one.ensures.closes c.close_one.ensures.node
     ∙ ap (node_closed c.args.heap.now.descs)
     (ap (named_at c.args.heap.now c.args.procs.now c.args.pid) count ∙ sym (named_count c.args.heap.now c.args.procs.now c.args.pid c.args.fd c.in-Some._held (sym held ∙ c.in-Some.is)))
+
+pub returns-in_default-clause-queues : goal.returns-in_default-clause-queues
+returns-in_default-clause-queues c = queues_same c.args.heap.now c.args.heap.now refl refl

@@ -1,4 +1,4 @@
-use Rattle.std.proofs.Common.{◌≡◌, ◌≢◌, ◌∙◌, ℕ, [], None, Some, ap, is_some, refl, pos, subst, sym, w64, arith}
+use Rattle.std.proofs.Common.{◌≡◌, ◌∙◌, [], ap, is_some, pos, subst, sym, w64, arith}
 use Rattle.std.proofs.lemmas.Int.{to_z-of_z}
 use Rattle.kabi_calls.specs.Arguments.{count_of}
 use Rattle.kabi_values.specs.declared.errnos.Errno.TheVariants.{EBADF, EINVAL}

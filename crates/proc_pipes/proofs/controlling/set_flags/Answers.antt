@@ -1,4 +1,4 @@
-use Rattle.std.proofs.Common.{◌≡◌, Some, ap, is_some, refl, subst, sym}
+use Rattle.std.proofs.Common.{◌≡◌, refl, subst, sym}
 use Rattle.kheap_shelves.specs.Objects.{object}
 use Rattle.kheap_shelves.specs.declared.objects.Desc.{Desc}
 use Rattle.kheap_slabs.specs.Heap.{Heap}
@@ -9,7 +9,7 @@ use Rattle.proc_table.proofs.PlaceLemmas.{some_same}
 use Rattle.proc_descs.specs.Having.{HaveOpen, OpensNoNode}
 use Rattle.proc_pipes.specs.Answering.{with_flags}
 use Rattle.proc_pipes.proofs.Changes.{put_opens}
-use Rattle.proc_pipes.proofs.Flags.{flagged, have_flagged, owners_flagged}
+use Rattle.proc_pipes.proofs.Flags.{have_flagged, owners_flagged}
 use Rattle.proc_pipes.proofs.controlling.set_flags.Goals as goal
 
 pub returns-clause-flags : goal.returns-clause-flags

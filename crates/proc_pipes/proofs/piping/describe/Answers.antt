@@ -1,4 +1,4 @@
-use Rattle.std.proofs.Common.{◌≡◌, ◌<◌, ◌∙◌, Some, ap, is_some, length, subst, sym}
+use Rattle.std.proofs.Common.{◌≡◌, ◌<◌, ◌∙◌, Some, ap, is_some, subst, sym}
 use Rattle.std.proofs.lemmas.List.{length-set}
 use Rattle.kheap_shelves.specs.Objects.{object, put}
 use Rattle.kheap_shelves.proofs.ObjectLemmas.{InUse-within}

@@ -1,4 +1,4 @@
-use Rattle.std.proofs.Common.{◌≡◌, ◌≢◌, ◌<◌, ◌≤◌, ◌+◌, ◌∙◌, ℕ, false, List, [], ◌∷◌, Option, None, Some, ap, is_some, refl, subst, sym, arith}
+use Rattle.std.proofs.Common.{◌+◌, ◌∙◌, false, List, [], ◌∷◌, Option, None, ap, refl, subst, sym, arith}
 use Rattle.std.specs.Prelude.{IfSome, slice_index_or}
 use Rattle.kabi_values.specs.declared.errnos.Errno.TheVariants.{EMFILE}
 use Rattle.kabi_values.specs.declared.replies.Reply.TheVariants.{Pair}
@@ -12,14 +12,15 @@ use Rattle.posix_defs.specs.Plain.{with_files}
 use Rattle.proc_table.specs.Procs.{proc_of}
 use Rattle.proc_table.specs.Table.{procs_at}
 use Rattle.proc_descs.specs.Having.{OpensNoNode, places_in}
+use Rattle.proc_descs.proofs.Fronts.{queues_same, queues_then}
 use Rattle.proc_descs.proofs.NumberCloses.{listed_on, no_some}
 use Rattle.proc_descs.proofs.NumberOpens.{changes_named}
-use Rattle.proc_pipes.specs.Opening.{KeepsNumbers, with_ends}
+use Rattle.proc_pipes.specs.Opening.{with_ends}
 use Rattle.proc_pipes.proofs.Answered.{refused}
 use Rattle.proc_pipes.proofs.Changes.{changes_after, changes_nothing, changes_then, others_named}
 use Rattle.proc_pipes.proofs.Lowest.{IsLowest}
 use Rattle.proc_pipes.proofs.PipeAnswers.{none_free, one_free, pipe_fails, pipe_makes, piped_so, two_free, with_both}
-use Rattle.proc_pipes.proofs.PipeMade.{at_reading, at_writing, have_made, keeps, no_node, owners_made, same_procs}
+use Rattle.proc_pipes.proofs.PipeMade.{at_reading, at_writing, have_made, keeps, no_node, owners_made, queues_made, same_procs}
 use Rattle.proc_pipes.proofs.piping.make_pipe.Goals as goal
 
 -- ---- fewer than two numbers are free
@@ -130,3 +131,16 @@ returns-clause-pays c =
     (IsPaid-nothing c.open_ends-ends.new.heap c.open_one-2.new.heap c.open_ends-ends.new.purse c.open_ends-ends.new.purse
     (TakesNothing-trans c.open_ends-ends.new.heap c.open_one.new.heap c.open_one-2.new.heap c.open_one.ensures.takes c.open_one-2.ensures.takes) refl refl)
     c.open_ends-ends.ensures.pays
+
+pub returns-in_default-clause-queues : goal.returns-in_default-clause-queues
+returns-in_default-clause-queues c = queues_same c.args.heap.now c.args.heap.now refl refl
+
+pub returns-in_default-next-clause-queues : goal.returns-in_default-next-clause-queues
+returns-in_default-next-clause-queues c = queues_same c.args.heap.now c.args.heap.now refl refl
+
+pub returns-clause-queues : goal.returns-clause-queues
+returns-clause-queues c =
+    queues_then c.args.heap.now c.open_ends-ends.new.heap c.open_one-2.new.heap (queues_made c.args.heap.now c.open_ends-ends.new.heap c.open_ends-ends.result.pipe c.open_ends-ends.result.reading c.open_ends-ends.result.writing c.open_ends-ends.ensures.opens)
+    (queues_then c.open_ends-ends.new.heap c.open_one.new.heap c.open_one-2.new.heap
+    (queues_same c.open_ends-ends.new.heap c.open_one.new.heap (ap (λ (h : Heap). h.pipes) c.open_one.ensures.names.after) (ap (λ (h : Heap). h.socks) c.open_one.ensures.names.after))
+    (queues_same c.open_one.new.heap c.open_one-2.new.heap (ap (λ (h : Heap). h.pipes) c.open_one-2.ensures.names.after) (ap (λ (h : Heap). h.socks) c.open_one-2.ensures.names.after)))

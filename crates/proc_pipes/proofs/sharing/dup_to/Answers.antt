@@ -1,4 +1,4 @@
-use Rattle.std.proofs.Common.{◌≡◌, ◌≢◌, ◌∙◌, [], None, Some, true, false, ap, is_some, refl, pos, subst, sym, w64}
+use Rattle.std.proofs.Common.{◌≡◌, ◌∙◌, [], true, false, ap, refl, pos, subst, sym, w64}
 use Rattle.std.proofs.lemmas.Int.{to_z-of_z}
 use Rattle.kabi_calls.specs.Arguments.{count_of, may_be_descriptor}
 use Rattle.kabi_values.specs.declared.errnos.Errno.TheVariants.{EBADF}
@@ -9,6 +9,7 @@ use Rattle.posix_defs.specs.Calls.OnDescriptors.{dup2, shared_at}
 use Rattle.posix_defs.specs.Files.Closing.{after_close}
 use Rattle.posix_defs.specs.Plain.{with_files}
 use Rattle.proc_descs.specs.Naming.{named_by}
+use Rattle.proc_descs.proofs.Fronts.{queues_same}
 use Rattle.proc_descs.proofs.NumberCloses.{no_some}
 use Rattle.proc_descs.proofs.NumberNames.{desc_named_by}
 use Rattle.proc_pipes.proofs.Answered.{dup2_beyond, dup2_other, dup2_same, on_nothing, refused}
@@ -98,3 +99,12 @@ returns-clause-answers c = λ numbers script plain have.
           (sym number_is);
       stands = c.replace-node.ensures.opened numbers plain.files have;
     }
+
+pub returns-in_default-clause-queues : goal.returns-in_default-clause-queues
+returns-in_default-clause-queues c = queues_same c.args.heap.now c.args.heap.now refl refl
+
+pub returns-then-not-may_be_descriptor-clause-queues : goal.returns-then-not-may_be_descriptor-clause-queues
+returns-then-not-may_be_descriptor-clause-queues c = queues_same c.args.heap.now c.args.heap.now refl refl
+
+pub returns-then-from-number-clause-queues : goal.returns-then-from-number-clause-queues
+returns-then-from-number-clause-queues c = queues_same c.args.heap.now c.args.heap.now refl refl

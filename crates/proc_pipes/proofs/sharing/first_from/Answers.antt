@@ -1,4 +1,4 @@
-use Rattle.std.proofs.Common.{◌≡◌, ◌∙◌, sym, arith}
+use Rattle.std.proofs.Common.{◌∙◌, sym, arith}
 use Rattle.desc_table.proofs.NumberLemmas.{none_from}
 use Rattle.proc_pipes.proofs.sharing.first_from.Goals as goal
 

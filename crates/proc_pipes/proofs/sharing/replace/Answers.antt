@@ -1,7 +1,8 @@
-use Rattle.std.proofs.Common.{◌≡◌, ◌∙◌, [], ap, is_some, subst, sym, arith, length}
-use Rattle.std.specs.Prelude.{◌<◌}
+use Rattle.std.proofs.Common.{◌∙◌, [], ap, is_some, arith}
+use Rattle.kheap_slabs.specs.Heap.{Heap}
 use Rattle.kheap_laws.proofs.PaidLemmas.{TakesNothing-trans}
 use Rattle.posix_defs.specs.Files.Closing.{after_close}
+use Rattle.proc_descs.proofs.Fronts.{queues_same, queues_then}
 use Rattle.proc_descs.proofs.NumberNames.{desc_named}
 use Rattle.proc_pipes.proofs.Changes.{changes_closed, changes_then, closed_names_nothing, node_of_number, others_stay}
 use Rattle.proc_pipes.proofs.sharing.replace.Goals as goal
@@ -38,3 +39,8 @@ returns-clause-node c =
 pub returns-clause-takes : goal.returns-clause-takes
 returns-clause-takes c =
     TakesNothing-trans c.args.heap.now c.close_one-node.new.heap c.share_at.new.heap c.close_one-node.ensures.takes c.share_at.ensures.takes
+
+pub returns-clause-queues : goal.returns-clause-queues
+returns-clause-queues c =
+    queues_then c.args.heap.now c.close_one-node.new.heap c.share_at.new.heap c.close_one-node.ensures.queues
+    (queues_same c.close_one-node.new.heap c.share_at.new.heap (ap (λ (h : Heap). h.pipes) c.share_at.ensures.beside) (ap (λ (h : Heap). h.socks) c.share_at.ensures.beside))

@@ -1,9 +1,8 @@
-use Rattle.std.proofs.Common.{◌≡◌, ◌∙◌, None, Some, false, ap, refl, subst, sym}
+use Rattle.std.proofs.Common.{◌∙◌, Some, false, ap, subst}
 use Rattle.std.specs.Prelude.{IfSome}
 use Rattle.kabi_values.specs.declared.errnos.Errno.TheVariants.{EMFILE}
-use Rattle.posix_defs.specs.Calls.OnDescriptors.{duplicated, shared_at}
-use Rattle.posix_defs.specs.Files.Descriptors.{lowest_free_from}
-use Rattle.posix_defs.specs.Files.State.{descriptors_of, with_open}
+use Rattle.posix_defs.specs.Calls.OnDescriptors.{duplicated}
+use Rattle.posix_defs.specs.Files.State.{with_open}
 use Rattle.proc_descs.proofs.NumberCloses.{no_some}
 use Rattle.proc_pipes.proofs.Answered.{refused}
 use Rattle.proc_pipes.proofs.Changes.{changes_nothing}
