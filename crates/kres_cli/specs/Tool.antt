@@ -1,5 +1,5 @@
 -- What the tool answers to its words, and what it writes.
-use Rattle.std.specs.Prelude.{ℕ, ◌≡◌, ◌<◌, Bool, true, false, List, [], ◌∷◌, length, take, Option, None, Result, Ok, Err, String, codes}
+use Rattle.std.specs.Prelude.{ℕ, ◌≡◌, ◌<◌, Bool, true, false, List, length, take, Option, None, Result, Ok, Err, String, codes}
 use Rattle.std.specs.Io.KnownBytes.{Appends}
 use Rattle.kabi_types.specs.declared.scripts.FaultKind.TheVariants.{NotBuilt}
 use Rattle.kabi_types.specs.declared.scripts.Script.{Script}

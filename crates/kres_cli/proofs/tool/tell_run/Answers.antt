@@ -1,7 +1,6 @@
-use Rattle.std.proofs.Common.{◌≡◌, sym, subst, string_bytes}
+use Rattle.std.proofs.Common.{sym, subst, string_bytes}
 use Rattle.kres_cli.specs.Status.{status_of}
 use Rattle.kres_cli.specs.Tool.{Broke, HandsOut, Output, Wrote, output, whole_text}
-use Rattle.kres_cli.specs.declared.statuses.Status.TheVariants.{WriteFault}
 use Rattle.kres_cli.proofs.Outcomes.{nothing_handed}
 use Rattle.kres_cli.proofs.tool.tell_run.Goals as goal
 
