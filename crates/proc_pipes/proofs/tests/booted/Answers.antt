@@ -1,4 +1,3 @@
-use Rattle.std.proofs.Common.{sym}
 use Rattle.proc_pipes.proofs.Booted.{boot_listed, boot_owned, boot_there}
 use Rattle.proc_pipes.proofs.tests.booted.Goals as goal
 
