@@ -1,5 +1,5 @@
 -- A held process along a shared history: as long as none of its items comes, its control stands.
-use Rattle.std.proofs.Common.{◌≡◌, ℕ, zero, suc, ◌+◌, ◌<◌, ◌≤◌, ◌⊎◌, ⊎_elim, cond, Bool, true, false, true≢false, List, [], ◌∷◌, ◌++◌, length, refl, ap, sym, ◌∙◌, subst, inl, inr, arith, append_assoc, append-nil}
+use Rattle.std.proofs.Common.{◌≡◌, ℕ, zero, suc, ◌<◌, ◌≤◌, ◌⊎◌, ⊎_elim, cond, Bool, true, false, true≢false, List, [], ◌∷◌, ◌++◌, length, refl, ap, sym, ◌∙◌, subst, inl, inr, arith, append_assoc, append-nil}
 use mathlib.Core.List.{IsPrefix}
 use mathlib.Core.Option.{some}
 use lib.ListN.{get_elem?}
@@ -7,7 +7,7 @@ use Rattle.kabi_calls.specs.declared.calls.Call.{Call}
 use Rattle.kabi_types.specs.declared.scripts.Script.{Script}
 use Rattle.posix_defs.specs.Control as program
 use Rattle.posix_defs.specs.History.{Past}
-use Rattle.posix_defs.specs.Plain.{call_of, control_of}
+use Rattle.posix_defs.specs.Plain.{control_of}
 use Rattle.turn_words.specs.declared.items.Item.{Item}
 use Rattle.turn_words.specs.declared.items.Item.TheVariants.{Noted, Cleared, Given, Back, Starved, Live, Quiet}
 use Rattle.turn_words.specs.Items.{Placed, given_after, gives, heard, holds, is_given, is_of, said}

@@ -9,7 +9,7 @@ use Rattle.kern_laws.specs.Filled.{AreFilled}
 use Rattle.charge_words.specs.Names.{ChargeWord}
 use Rattle.turn_words.specs.declared.items.Item.{Item}
 use Rattle.turn_words.specs.declared.items.Item.TheVariants.{Quiet}
-use Rattle.turn_words.specs.Items.{entry_of, noted}
+use Rattle.turn_words.specs.Items.{entry_of}
 use Rattle.turn_words.proofs.Notes.{noted_more}
 use Rattle.kern_shared.specs.Shared.{MayShare, goes_on, has_starved, is_starved, is_turn}
 use Rattle.kern_shared.specs.Shares.{AreHeld, ArePresent, HasRoom, IsTold, KernelValue, Shares, last_of}

@@ -1,5 +1,5 @@
 -- Which held calls wait and which fit, as the searches among those that are held tell.
-use Rattle.std.proofs.Common.{◌≡◌, ℕ, ◌+◌, ◌-◌, ◌<◌, ◌≤◌, ◌&&◌, ◌⊎◌, ⊎_elim, Bool, true, false, true≢false, List, Option, None, Some, refl, ap, sym, ◌∙◌, subst, arith}
+use Rattle.std.proofs.Common.{◌≡◌, ℕ, ◌+◌, ◌-◌, ◌<◌, ◌≤◌, ◌&&◌, ◌⊎◌, ⊎_elim, Bool, true, false, true≢false, List, None, Some, refl, ap, sym, ◌∙◌, subst, arith}
 use Rattle.std.specs.Prelude.{nat_le}
 use Rattle.std.proofs.lemmas.Bool.Decides.{leb_tells}
 use Rattle.kabi_types.specs.declared.scripts.Script.{Script}
@@ -9,7 +9,6 @@ use Rattle.posix_defs.specs.Plain.{call_of}
 use Rattle.posix_defs.specs.Process.{is_alive}
 use Rattle.posix_defs.specs.Sizes.{room}
 use Rattle.turn_words.specs.declared.items.Item.{Item}
-use Rattle.turn_words.specs.Items.{is_given}
 use Rattle.turn_words.proofs.Held.{contrary}
 use Rattle.kern_shared.specs.declared.held.Held.{Held}
 use Rattle.kern_shared.specs.Lists.{lowest}

@@ -1,5 +1,5 @@
 -- The kernel's value at boot, and with an item behind it that isn't an entry.
-use Rattle.std.proofs.Common.{◌≡◌, ℕ, zero, suc, ◌+◌, ◌<◌, ◌≤◌, ◌==◌, ◌||◌, ◌&&◌, not, Bool, true, false, true≢false, List, [], ◌∷◌, ◌++◌, length, map, refl, ap, sym, ◌∙◌, subst, arith, append-nil}
+use Rattle.std.proofs.Common.{◌≡◌, ℕ, zero, suc, ◌+◌, ◌≤◌, ◌==◌, ◌||◌, ◌&&◌, Bool, true, false, true≢false, List, [], ◌∷◌, ◌++◌, length, refl, ap, sym, ◌∙◌, subst, arith, append-nil}
 use Rattle.std.proofs.lemmas.Bool.{eqb-true}
 use Rattle.std.proofs.lemmas.List.{length-map}
 use Rattle.kabi_types.specs.declared.entries.Entry.{Entry}
@@ -21,7 +21,7 @@ use Rattle.turn_words.specs.declared.items.Item.TheVariants.{Given, Back, Starve
 use Rattle.turn_words.specs.Items.{entry_of, is_given, noted}
 use Rattle.turn_words.proofs.Held.{not_true}
 use Rattle.kern_shared.specs.declared.held.Held.{Held}
-use Rattle.kern_shared.specs.Shared.{MayShare, Starves, has_starved, is_turn, starts}
+use Rattle.kern_shared.specs.Shared.{MayShare, has_starved, is_turn, starts}
 use Rattle.kern_shared.specs.Shares.{AreHeld, FewAreHeld, HasRoom, IsTold, KernelValue, ReservedBeforeStarved, Shares, StandsAtBoot, StandsBehindBack, StandsBehindGiven, StandsBehindLive, StandsBehindStarved, at_start, pids_of, without}
 use Rattle.kern_shared.proofs.Behind.{behind, starved_more, starved_same}
 use Rattle.kern_shared.proofs.Holding.{held_less, held_more, held_still}

@@ -1,11 +1,15 @@
 pub mod Along
 pub mod Behind
+pub mod Booting
+pub mod Crew
 pub mod OnePast
+pub mod Ending
 pub mod Helping
 pub mod Holding
 pub mod Keeping
 pub mod Loops
 pub mod Lowest
+pub mod Passing
 pub mod Picking
 pub mod Pids
 pub mod Presence

@@ -1,13 +1,13 @@
 -- The lowest process of a list that passes a test, and what holds of each of a list.
-use Rattle.std.proofs.Common.{◌≡◌, ℕ, ◌<◌, ◌≤◌, ◌==◌, ◌||◌, ◌&&◌, ◌⊎◌, not, ⊎_elim, Bool, true, false, true≢false, cond, List, [], ◌∷◌, map, Option, None, Some, refl, ap, sym, ◌∙◌, subst, inl, inr, arith, eq-eqb}
+use Rattle.std.proofs.Common.{◌≡◌, ℕ, ◌<◌, ◌≤◌, ◌==◌, ◌||◌, ◌&&◌, ◌⊎◌, ⊎_elim, Bool, true, false, true≢false, cond, List, [], ◌∷◌, Option, None, Some, refl, ap, sym, ◌∙◌, subst, inl, inr, arith, eq-eqb}
 use Rattle.std.specs.Prelude.{nat_lt}
-use Rattle.std.specs.List.{list_all, list_any}
+use Rattle.std.specs.List.{list_all}
 use Rattle.std.proofs.lemmas.Bool.{eqb-true}
 use Rattle.std.proofs.lemmas.Bool.Decides.{Decides-ltb, leb_tells}
 use Rattle.posix_defs.specs.History.{is_among}
 use Rattle.posix_defs.specs.Plain.{Plain}
 use Rattle.posix_defs.specs.Process.{is_alive}
-use Rattle.turn_words.proofs.Held.{contrary, decide, not_true}
+use Rattle.turn_words.proofs.Held.{contrary, not_true}
 use Rattle.kern_shared.specs.declared.held.Held.{Held}
 use Rattle.kern_shared.specs.Lists.{AreAlive, is_below, is_held, lowest}
 use Rattle.kern_shared.specs.Shares.{pids_of}

@@ -1,11 +1,10 @@
 -- A shared history leads to one past.
 use Rattle.std.proofs.Common.{◌≡◌, ℕ, List, [], ◌∷◌, ◌++◌, refl, ap, sym, ◌∙◌, subst}
-use Rattle.kabi_calls.specs.declared.calls.Call.{Call}
 use Rattle.kabi_calls.specs.declared.calls.CallKind.{CallKind}
 use Rattle.kabi_types.specs.declared.entries.Entry.{Entry}
 use Rattle.kabi_types.specs.declared.entries.Entry.TheVariants as entry
 use Rattle.kabi_types.specs.declared.scripts.Script.{Script}
-use Rattle.posix_defs.specs.Answer.{Answer, Blocked, Done, Part, Ended}
+use Rattle.posix_defs.specs.Answer.{Answer, Done, Part, Ended}
 use Rattle.posix_defs.specs.History.{IsAnswered, MayFollow, Past, had_turn, moves_on}
 use Rattle.posix_defs.specs.Plain.{Plain, call_of}
 use Rattle.posix_defs.specs.Turn.{account_after}

@@ -18,7 +18,7 @@ use Rattle.charge_words.specs.Names.{ChargeWord}
 use Rattle.turn_words.specs.declared.items.Item.{Item}
 use Rattle.turn_words.specs.declared.items.Item.TheVariants.{Given}
 use Rattle.turn_words.specs.Items.{is_given, noted}
-use Rattle.turn_words.proofs.Held.{contrary, decide, not_true}
+use Rattle.turn_words.proofs.Held.{contrary, not_true}
 use Rattle.kern_shared.specs.declared.held.Held.{Held}
 use Rattle.kern_shared.specs.Lists.{AreAlive, is_held, lowest}
 use Rattle.kern_shared.specs.Picks.{EndsAs, IsLowestFree, IsOverAs, Says}

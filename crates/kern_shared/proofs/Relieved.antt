@@ -5,13 +5,11 @@ use Rattle.kabi_types.specs.declared.entries.Cached.TheVariants.{Name, Block, Vn
 use Rattle.kabi_types.specs.declared.entries.Entry.{Entry}
 use Rattle.kabi_types.specs.declared.entries.Entry.TheVariants as entry
 use Rattle.kabi_types.specs.declared.scripts.Script.{Script}
-use Rattle.kabi_values.specs.Class.{size}
-use Rattle.kabi_values.specs.declared.classes.Class.TheVariants as class
 use Rattle.kern_events.specs.Reliefs.{first_evictable}
 use Rattle.posix_defs.specs.History.{Past}
 use Rattle.posix_defs.specs.Licence.{can_evict_any}
 use Rattle.posix_defs.specs.Needs.{bound}
-use Rattle.posix_defs.specs.Plain.{Plain, call_of, last_pid}
+use Rattle.posix_defs.specs.Plain.{call_of, last_pid}
 use Rattle.posix_defs.specs.Process.{is_alive}
 use Rattle.posix_defs.specs.Relief.{Evicts, Kills}
 use Rattle.posix_defs.specs.Sizes.{reserve, room}

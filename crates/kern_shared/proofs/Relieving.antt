@@ -1,5 +1,5 @@
 -- How calls that wait are helped, by the searches among those that are held, and by the charge word.
-use Rattle.std.proofs.Common.{◌≡◌, ◌≢◌, ℕ, ◌+◌, ◌-◌, ◌*◌, ◌<◌, ◌≤◌, ◌&&◌, ◌⊎◌, ⊎_elim, Bool, true, false, List, ◌∷◌, ◌++◌, [], length, Option, None, Some, refl, ap, sym, ◌∙◌, subst, arith}
+use Rattle.std.proofs.Common.{◌≡◌, ℕ, ◌+◌, ◌-◌, ◌*◌, ◌<◌, ◌≤◌, ◌&&◌, ◌⊎◌, ⊎_elim, false, List, ◌∷◌, ◌++◌, [], length, Option, None, Some, ap, sym, ◌∙◌, subst, arith}
 use Rattle.std.specs.Prelude.{nat_le}
 use Rattle.std.proofs.lemmas.Bool.Decides.{leb_tells}
 use Rattle.kabi_types.specs.declared.scripts.Script.{Script}
@@ -15,7 +15,7 @@ use Rattle.posix_defs.specs.World.{World, base, live_of, pins}
 use Rattle.kern_laws.proofs.Caches.{all_pinned}
 use Rattle.charge_words.specs.Names.{ChargeWord}
 use Rattle.turn_words.specs.declared.items.Item.{Item}
-use Rattle.turn_words.specs.declared.items.Item.TheVariants.{Live, Quiet}
+use Rattle.turn_words.specs.declared.items.Item.TheVariants.{Live}
 use Rattle.turn_words.specs.Items.{noted}
 use Rattle.kern_shared.specs.declared.held.Held.{Held}
 use Rattle.kern_shared.specs.Lists.{AreNeeds, lowest}

@@ -1,6 +1,9 @@
 pub mod Attends
+pub mod Closing
 pub mod Laws
 pub mod Lists
+pub mod Nameless
+pub mod Passes
 pub mod Picks
 pub mod Relieves
 pub mod Shared

@@ -1,22 +1,33 @@
-//! The shared kernel, of which this is what its histories are and what its value keeps of them: lists of items that several
-//! passes add in turn.
+//! The shared kernel: several threads, each with a pass of its own, run the processes of one store in turns, and have one history.
+//!
+//! A pass is given a process by `pick`, has its call answered by `attend`, helps calls that wait by `relieve`, or gives its process
+//! back by `release`. The value that the passes have in turn is `KernelState`; a charge word says what is live and reserved.
 #![tactic(auto)]
 
 mod attends;
+mod boot;
+mod closing;
 mod held;
 mod histories;
+mod kernel;
 mod lists;
+mod naming;
+mod passes;
 mod picks;
 mod reliefs;
+mod served;
 mod state;
 mod values;
 
 pub use attends::Attended;
+pub use closing::Closed;
 pub use held::Held;
 pub use histories::{
     a_held_call_is_given_up_once, entries_are_a_run, no_reserved_call_comes_behind_starved,
     the_control_of_who_is_held_stands, what_is_over_stays_over, who_is_held_is_up,
 };
+pub use kernel::Kernel;
+pub use passes::Pass;
 pub use picks::Picked;
 pub use state::{KernelState, RunName};
 pub use values::{

@@ -1,4 +1,4 @@
-use Rattle.std.proofs.Common.{◌≡◌, not, true, false, ap, sym, ◌∙◌}
+use Rattle.std.proofs.Common.{◌≡◌, not, true, false, sym, ◌∙◌}
 use Rattle.kern_shared.proofs.Loops.{alive_at, all_behind, not_all_here}
 use Rattle.kern_shared.proofs.lists.all_block.Goals as goal
 

@@ -1,4 +1,4 @@
-use Rattle.std.proofs.Common.{◌≡◌, ◌+◌, ◌≤◌, ap, ◌∙◌, [], ◌∷◌, ◌++◌, vec_capacity, arith}
+use Rattle.std.proofs.Common.{ap, ◌∙◌, [], ◌∷◌, ◌++◌, arith}
 use Rattle.kern_shared.proofs.Keeping.{named_at_boot}
 use Rattle.kern_shared.proofs.state.KernelState.boot.Goals as goal
 

@@ -1,10 +1,9 @@
-use Rattle.std.proofs.Common.{◌≡◌, ◌<◌, ℕ, true, false, length, refl, sym, ap, ◌∙◌, subst}
+use Rattle.std.proofs.Common.{◌≡◌, true, false, refl, sym, ap, ◌∙◌, subst}
 use Rattle.posix_defs.specs.Needs.{bound}
 use Rattle.posix_defs.specs.Plain.{call_of}
 use Rattle.posix_defs.specs.Process.{is_alive}
-use Rattle.turn_words.specs.Items.{noted}
 use Rattle.kern_shared.specs.Picks.{Says}
-use Rattle.kern_shared.specs.Shared.{AllAsleep, Starves, has_starved}
+use Rattle.kern_shared.specs.Shared.{AllAsleep, Starves}
 use Rattle.kern_shared.proofs.Picking.{alive_is, at_past, below_noted, call_is, lives_in_world, spent_is}
 use Rattle.kern_shared.proofs.state.KernelState.end.Goals as goal
 

@@ -1,4 +1,3 @@
-use Rattle.std.proofs.Common.{◌≡◌}
 use Rattle.kern_shared.specs.Shared.{IsOver}
 use Rattle.kern_shared.proofs.Picking.{at_past, may_be, may_not_be, over_as}
 use Rattle.kern_shared.proofs.state.KernelState.over.Goals as goal

@@ -1,4 +1,4 @@
-use Rattle.std.proofs.Common.{◌≡◌, ◌+◌, ◌≤◌, ℕ, true, false, refl, ap, sym, ◌∙◌, subst}
+use Rattle.std.proofs.Common.{◌≡◌, ◌+◌, refl, ap, sym, ◌∙◌, subst}
 use Rattle.kern_events.specs.declared.reliefs.Relief.TheVariants as relief
 use Rattle.posix_defs.specs.Needs.{bound}
 use Rattle.posix_defs.specs.Plain.{call_of}

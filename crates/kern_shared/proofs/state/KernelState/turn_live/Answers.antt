@@ -1,6 +1,5 @@
 use Rattle.std.proofs.Common.{◌≡◌, ◌+◌, ◌≤◌, ◌∷◌, ◌++◌, [], refl, ap, sym, ◌∙◌, subst, arith}
 use Rattle.kabi_types.specs.declared.scripts.Script.{Script}
-use Rattle.kabi_calls.specs.Call.{kind_of}
 use Rattle.posix_defs.specs.CoreEvent.{entry_of}
 use Rattle.posix_defs.specs.Needs.{bound}
 use Rattle.posix_defs.specs.Sizes.{reserve}
