@@ -1,5 +1,10 @@
 pub mod LookLemmas
 pub mod PinLemmas
+pub mod FetchLemmas
+pub mod ChangeLemmas
+pub mod PaysLemmas
+pub mod WriteLemmas
+pub mod OpenLemmas
 pub mod EvictLemmas
 pub mod BootLemmas
 pub mod KindLemmas
