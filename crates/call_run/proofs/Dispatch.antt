@@ -1,11 +1,12 @@
 -- The dispatch over all calls.
-use Rattle.std.proofs.Common.{◌≡◌, ℕ, ℤ, List, Option, None, Some, refl, ap, sym, ◌∙◌, subst, w64}
+use Rattle.std.proofs.Common.{◌≡◌, ℕ, ℤ, true, List, Option, None, Some, refl, ap, sym, ◌∙◌, subst, w64}
+use Rattle.kabi_calls.specs.Call.{kind_of}
 use Rattle.kabi_calls.specs.declared.calls.Call.{Call}
 use Rattle.kabi_calls.specs.declared.calls.Call.TheVariants as call
 use mir.Val.{of_z, to_z}
 use Rattle.kabi_values.specs.declared.errnos.Errno.{Errno}
-use Rattle.kabi_values.specs.declared.errnos.Errno.TheVariants.{EINVAL}
 use Rattle.kabi_types.specs.declared.scripts.Script.{Script}
+use Rattle.calls_built.specs.Built.{is_built}
 use Rattle.posix_defs.specs.Answer.{Answer, failed}
 use Rattle.posix_defs.specs.Machine.{answer_to, unless_wrong}
 use Rattle.posix_defs.specs.Plain.{Plain}
@@ -43,20 +44,20 @@ does_two script old new pid which told of a b is one other does =
     does_that script old new pid which (of (to_z w64 (of_z w64 a)) (to_z w64 (of_z w64 b))) told
     (is ∙ ap (λ z. of z b) (sym one) ∙ ap (of (to_z w64 (of_z w64 a))) (sym other)) does
 
--- a call that is none of these isn't built
-pub others_fail : (script : Script) (plain : Plain) (pid : ℕ) (which : Call) → (which ≡ call.Fork → ⊥) → ((a : ℤ) → which ≡ call.Mmap a → ⊥) → ((a : ℤ) (bytes : List ℕ) → which ≡ call.Store a bytes → ⊥)
+-- a call that can be run is one of these
+pub none_left : (which : Call) → is_built (kind_of which) ≡ true → (which ≡ call.Fork → ⊥) → ((a : ℤ) → which ≡ call.Mmap a → ⊥) → ((a : ℤ) (bytes : List ℕ) → which ≡ call.Store a bytes → ⊥)
     → (which ≡ call.Getpid → ⊥) → (which ≡ call.Getppid → ⊥) → (which ≡ call.SchedYield → ⊥)
     → ((a : ℤ) → which ≡ call.Exit a → ⊥) → ((a b : ℤ) → which ≡ call.Waitpid a b → ⊥) → ((a b : ℤ) → which ≡ call.Kill a b → ⊥) → ((a b : ℤ) → which ≡ call.Munmap a b → ⊥)
-    → ((a b : ℤ) → which ≡ call.Load a b → ⊥) → answer_to script plain pid which ≡ failed script plain pid EINVAL
-others_fail script plain pid call.Fork f m s p q y e w k u l = absurd (f refl)
-others_fail script plain pid (call.Mmap length) f m s p q y e w k u l = absurd (m length refl)
-others_fail script plain pid (call.Store addr bytes) f m s p q y e w k u l = absurd (s addr bytes refl)
-others_fail script plain pid call.Getpid f m s p q y e w k u l = absurd (p refl)
-others_fail script plain pid call.Getppid f m s p q y e w k u l = absurd (q refl)
-others_fail script plain pid call.SchedYield f m s p q y e w k u l = absurd (y refl)
-others_fail script plain pid (call.Exit a) f m s p q y e w k u l = absurd (e a refl)
-others_fail script plain pid (call.Waitpid a b) f m s p q y e w k u l = absurd (w a b refl)
-others_fail script plain pid (call.Kill a b) f m s p q y e w k u l = absurd (k a b refl)
-others_fail script plain pid (call.Munmap a b) f m s p q y e w k u l = absurd (u a b refl)
-others_fail script plain pid (call.Load a b) f m s p q y e w k u l = absurd (l a b refl)
-others_fail script plain pid _ f m s p q y e w k u l = refl
+    → ((a b : ℤ) → which ≡ call.Load a b → ⊥) → ⊥
+none_left call.Fork built f m s p q y e w k u l = f refl
+none_left (call.Mmap length) built f m s p q y e w k u l = m length refl
+none_left (call.Store addr bytes) built f m s p q y e w k u l = s addr bytes refl
+none_left call.Getpid built f m s p q y e w k u l = p refl
+none_left call.Getppid built f m s p q y e w k u l = q refl
+none_left call.SchedYield built f m s p q y e w k u l = y refl
+none_left (call.Exit a) built f m s p q y e w k u l = e a refl
+none_left (call.Waitpid a b) built f m s p q y e w k u l = w a b refl
+none_left (call.Kill a b) built f m s p q y e w k u l = k a b refl
+none_left (call.Munmap a b) built f m s p q y e w k u l = u a b refl
+none_left (call.Load a b) built f m s p q y e w k u l = l a b refl
+none_left _ built f m s p q y e w k u l = cc

@@ -2,6 +2,8 @@
 use Rattle.std.proofs.Common.{◌≡◌, ℕ, ◌==◌, ℤ, pos, negsuc, Bool, true, false, cond, length, Option, None, Some, refl, ap, sym, ◌∙◌}
 use Rattle.std.specs.Prelude.{is_none}
 use Rattle.kabi_calls.specs.Arguments.{argument_fault, count_of}
+use Rattle.calls_built.specs.Built.{is_built}
+use Rattle.kabi_calls.specs.Call.{kind_of}
 use Rattle.kabi_calls.specs.declared.calls.Call.{Call}
 use Rattle.kabi_values.specs.declared.errnos.Errno.{Errno}
 use Rattle.kabi_calls.specs.declared.calls.Call.TheVariants as call
@@ -52,7 +54,7 @@ if_goes_on : (b : Bool) (one other : Answer) → blocks one ≡ false → blocks
 if_goes_on true one other first second = first
 if_goes_on false one other first second = second
 
--- Of the calls that are built a wait for a child alone blocks.
+-- Of the calls that can be run a wait for a child alone blocks.
 module _ (script : Script) (plain : Plain) (pid : ℕ) where
   sent_goes_on : (target : ℕ) (signal : ℤ) (there : Option Process) → blocks (sent_to script plain pid target signal there) ≡ false
   sent_goes_on target signal None = refl
@@ -63,20 +65,25 @@ module _ (script : Script) (plain : Plain) (pid : ℕ) where
   mapped_goes_on count None = refl
   mapped_goes_on count (Some first) = refl
 
-  answer_goes_on : (which : Call) → waits_for_child (wait_of which) ≡ false → blocks (answer_to script plain pid which) ≡ false
-  answer_goes_on call.Fork other = if_goes_on (is_full plain) _ _ refl refl
-  answer_goes_on (call.Waitpid child options) other = cc
-  answer_goes_on (call.Kill (pos target) signal) other = sent_goes_on target signal (process_at plain.table target)
-  answer_goes_on (call.Kill (negsuc target) signal) other = refl
-  answer_goes_on (call.Mmap length) other = mapped_goes_on (pages_in (count_of length)) (lowest_run (memory_of plain.table pid) (pages_in (count_of length)))
-  answer_goes_on (call.Store addr bytes) other = if_goes_on (is_mapped_range (memory_of plain.table pid) (count_of addr) (length bytes)) _ _ refl refl
-  answer_goes_on (call.Load addr n) other = if_goes_on (is_mapped_range (memory_of plain.table pid) (count_of addr) (count_of n)) _ _ refl refl
-  answer_goes_on _ other = refl
+  answer_goes_on : (which : Call) → is_built (kind_of which) ≡ true → waits_for_child (wait_of which) ≡ false → blocks (answer_to script plain pid which) ≡ false
+  answer_goes_on call.Getpid built other = refl
+  answer_goes_on call.Getppid built other = refl
+  answer_goes_on call.SchedYield built other = refl
+  answer_goes_on (call.Exit status) built other = refl
+  answer_goes_on (call.Munmap addr length) built other = refl
+  answer_goes_on call.Fork built other = if_goes_on (is_full plain) _ _ refl refl
+  answer_goes_on (call.Waitpid child options) built other = cc
+  answer_goes_on (call.Kill (pos target) signal) built other = sent_goes_on target signal (process_at plain.table target)
+  answer_goes_on (call.Kill (negsuc target) signal) built other = refl
+  answer_goes_on (call.Mmap length) built other = mapped_goes_on (pages_in (count_of length)) (lowest_run (memory_of plain.table pid) (pages_in (count_of length)))
+  answer_goes_on (call.Store addr bytes) built other = if_goes_on (is_mapped_range (memory_of plain.table pid) (count_of addr) (length bytes)) _ _ refl refl
+  answer_goes_on (call.Load addr n) built other = if_goes_on (is_mapped_range (memory_of plain.table pid) (count_of addr) (count_of n)) _ _ refl refl
+  answer_goes_on _ built other = cc
 
   unless_wrong_goes_on : (fault : Option Errno) (answer : Answer) → blocks answer ≡ false → blocks (unless_wrong script plain pid fault answer) ≡ false
   unless_wrong_goes_on None answer goes = goes
   unless_wrong_goes_on (Some errno) answer goes = refl
 
-  pub goes_on : (which : Call) (wait : Option Awaited) → wait ≡ wait_of which → waits_for_child wait ≡ false → blocks (machine script plain pid which) ≡ false
-  goes_on which wait is other =
-      unless_wrong_goes_on (argument_fault which) (answer_to script plain pid which) (answer_goes_on which (ap waits_for_child (sym is) ∙ other))
+  pub goes_on : (which : Call) (wait : Option Awaited) → is_built (kind_of which) ≡ true → wait ≡ wait_of which → waits_for_child wait ≡ false → blocks (machine script plain pid which) ≡ false
+  goes_on which wait built is other =
+      unless_wrong_goes_on (argument_fault which) (answer_to script plain pid which) (answer_goes_on which built (ap waits_for_child (sym is) ∙ other))

@@ -1,6 +1,8 @@
 -- The worlds that a store stands for.
 use Rattle.std.proofs.Common.{◌≡◌, ℕ, ◌+◌, ◌≤◌, ◌==◌, not, true, false, [], ◌∷◌, length, refl, ap, sym, ◌∙◌, subst, arith}
 use Rattle.std.specs.List.{list_any}
+use Rattle.calls_built.specs.Built.{is_built}
+use Rattle.kabi_calls.specs.Call.{kind_of}
 use Rattle.kabi_calls.specs.declared.calls.Call.{Call}
 use Rattle.kabi_types.specs.declared.entries.Cached.{Cached}
 use Rattle.kabi_types.specs.declared.entries.Cached.TheVariants.{Name, Block, Vnode}
@@ -33,11 +35,11 @@ evicts_nothing script objects world what stands = ap (λ lists. can_evict world.
 
 -- A turn of a live process leads to the world to which its answer leads.
 pub turns_on : (script : Script) (old new : Objects) (world : World) (pid : ℕ) (which : Call) (told : Turned)
-    → is_alive world.plain.table pid ≡ true → live_bytes old.heap ≡ live_of world → IsWellFormed new.heap
+    → is_alive world.plain.table pid ≡ true → is_built (kind_of which) ≡ true → live_bytes old.heap ≡ live_of world → IsWellFormed new.heap
     → live_bytes new.heap ≤ live_bytes old.heap + bound which
     → WorldAfter script new world pid which (machine script world.plain pid which) told
     → (after : World) × StandsFor script new after × TurnsTo script world pid which told after
-turns_on script old new world pid which told alive before well few led =
+turns_on script old new world pid which told alive built before well few led =
     let after = led.next in
     let behind : live_bytes new.heap ≡ live_of after = live_is script new after led.stands well in (
       after,
@@ -52,7 +54,7 @@ turns_on script old new world pid which told alive before well few led =
         vnodes = no_more _ (ap (λ lists. length lists.vnodes) led.kept);
         reads = as_many led.reads;
         untouched = λ _. (led.kept, led.reads);
-        left = leaves_nothing script world.plain after.plain pid which told after.plain.files.tree after.kept led.tells;
+        left = λ _. leaves_nothing world.plain pid which after.plain.files.tree after.kept built;
         known = λ _. led.reads;
       }),
     )

@@ -1,9 +1,11 @@
-//! A case for each call. A turn of every call stands to the plain machine's definition of its call.
+//! A case for each call that can be run. A turn of each stands to the plain machine's definition of its call.
 
-ghost use Rattle.std.specs.Prelude.{◌≡◌, ◌≢◌, ◌+◌, ◌≤◌, ℤ, List, ℕ, None, option_copied};
+ghost use Rattle.std.specs.Prelude.{◌≡◌, ◌≢◌, ◌+◌, ◌≤◌, ℤ, List, ℕ, None, option_copied, true};
 ghost use Rattle.kabi_calls.specs.Arguments.{argument_fault};
+ghost use Rattle.kabi_calls.specs.Call.{kind_of};
 ghost use Rattle.kabi_calls.specs.declared.calls.Call.{Call};
 ghost use Rattle.kabi_types.specs.declared.scripts.Script.{Script};
+ghost use Rattle.calls_built.specs.Built.{is_built};
 ghost use Rattle.kheap_slabs.specs.Heap.{live_bytes};
 ghost use Rattle.posix_defs.specs.Machine.{answer_to, blocks, machine};
 ghost use Rattle.posix_defs.specs.Needs.{bound, need_of, slack};
@@ -14,7 +16,7 @@ ghost use Rattle.store_objects.specs.Objects.{AreKept, IsCaller};
 ghost use Rattle.store_objects.specs.Standing.{Performs, StandsFor};
 ghost use Rattle.store_objects.specs.Uses.{UsesAtMost};
 
-use kabi_types::{Call, Errno, Need, Reply, Script, may_wait};
+use kabi_types::{Call, Need, Reply, Script, may_wait};
 use memory_calls::{load, mmap, munmap, store};
 use posix_defs::Turned;
 use process_calls::{exit, fork, signal_process, wait, would_sleep};
@@ -32,6 +34,7 @@ fn run_right(
     requires kept { AreKept script.now objects.old }
     requires caller { IsCaller objects.old caller.now.pid caller.now }
     requires right { argument_fault call.now ≡ None }
+    requires built { is_built (kind_of call.now) ≡ true }
     requires needed { need ≡ need_of call.now }
     requires room { live_bytes objects.old.heap + bound call.now ≤ objects.old.heap.heap }
     ensures kept { AreKept script.now objects.new }
@@ -56,6 +59,7 @@ fn run_free(script: &Script, objects: &mut Objects, caller: &Caller, call: &Call
     requires kept { AreKept script.now objects.old }
     requires caller { IsCaller objects.old caller.now.pid caller.now }
     requires right { argument_fault call.now ≡ None }
+    requires built { is_built (kind_of call.now) ≡ true }
     requires not_fork { call.now ≢ Call.Fork }
     requires not_mmap { (length : ℤ) → call.now ≢ Call.Mmap length }
     requires not_store { (addr : ℤ) (bytes : List ℕ) → call.now ≢ Call.Store addr bytes }
@@ -86,11 +90,13 @@ fn run_free(script: &Script, objects: &mut Objects, caller: &Caller, call: &Call
         } => signal_process(script, objects, pid, control, *target, *signal),
         Call::Munmap { addr, length } => munmap(script, objects, pid, control, *addr, *length),
         Call::Load { addr, n } => load(script, objects, pid, control, *addr, *n),
-        _ => go_on(script, objects, pid, control, Reply::Fail(Errno::EINVAL)),
+        // No script makes another call.
+        _ => unreachable!(),
     }
 }
 
-/// Runs a call of a process that is alive. A wrong operand is told before anything else is looked at.
+/// Runs a call of a process that is alive, which is one that can be run. A wrong operand is told before anything else is
+/// looked at.
 pub fn run(
     script: &Script,
     objects: &mut Objects,
@@ -100,6 +106,7 @@ pub fn run(
 ) -> Turned
     requires kept { AreKept script.now objects.old }
     requires caller { IsCaller objects.old caller.now.pid caller.now }
+    requires built { is_built (kind_of call.now) ≡ true }
     requires needed { need ≡ need_of call.now }
     requires room { live_bytes objects.old.heap + bound call.now ≤ objects.old.heap.heap }
     ensures kept { AreKept script.now objects.new }
@@ -118,12 +125,12 @@ pub fn run(
     }
 }
 
-/// Whether a process's call would block now. Of the call it asks only for what that waits for: a call that waits for nothing
-/// never blocks, and none that is built waits for anything but a child.
+/// Whether a process's call that can be run would block now. Of the call it asks only for what that waits for: a call that waits
+/// for nothing never blocks, and none that can be run waits for anything but a child.
 pub fn would_block(objects: &Objects, pid: u32, wait: Option<&Awaited>) -> bool
     requires { Holds objects.now.heap objects.now.procs }
     ensures { (script : Script) (world : World) → StandsFor script objects.now world
-        → (call : Call) → option_copied wait.entry ≡ wait_of call → result ≡ blocks (machine script world.plain pid call) }
+        → (call : Call) → is_built (kind_of call) ≡ true → option_copied wait.entry ≡ wait_of call → result ≡ blocks (machine script world.plain pid call) }
 {
     match wait {
         Some(

@@ -1,6 +1,7 @@
 //! The store that the core runs: the script, and the heap with the processes of the script in it.
 
 ghost use Rattle.std.specs.Prelude.{◌≡◌, ◌≤◌, IfOk, length, true};
+ghost use Rattle.calls_built.specs.Built.{can_run};
 ghost use Rattle.kabi_types.specs.declared.scripts.Script.{Script};
 ghost use Rattle.posix_defs.specs.Plain as plain;
 ghost use Rattle.posix_defs.specs.ValidScript.{IsValid};
@@ -40,10 +41,11 @@ impl<F: Scorer, G: Scorer> Model for Store<F, G> {
 }
 
 impl<F: Scorer, G: Scorer> Store<F, G> {
-    /// The first process alone, at the start of the program `init` of the script, of which the store keeps a copy. `Memory`
-    /// comes where the host has no memory left, and nothing else.
+    /// The first process alone, at the start of the program `init` of the script, of which the store keeps a copy. The script
+    /// makes no call but those that can be run. `Memory` comes where the host has no memory left, and nothing else.
     pub fn boot(alloc: Global, script: &Script, score: Score<F, G>) -> Result<Store<F, G>, Memory>
-        requires { IsValid script.now }
+        requires valid { IsValid script.now }
+        requires can { can_run script.now ≡ true }
         ensures script { IfOk result (λ store. store.script ≡ script.now) }
         ensures booted { IfOk result (λ store. StandsFor script.now store.objects (boot_world script.now)) }
     {

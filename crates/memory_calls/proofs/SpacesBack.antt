@@ -120,6 +120,7 @@ pub stand_back : (script : Script) (old new : Objects) (mid : Heap) (pid key : �
     → IsMemory mid now memory → length memory ≡ 256 → AccountMoves old.heap mid proc.nodes now stands.memory.number world.account.frames after pid
     → StandsFor script new (remembered_in world pid memory after)
 stand_back script old new mid pid key proc now world after memory stands turns same four is whole moved = record {
+  runs = stands.runs;
   kept = kept_back script old new mid pid key proc now stands.kept turns same four;
   processes = record {
     table = subst (λ k. IsTable new.heap k (remembered world.plain pid memory).table) (sym same)

@@ -1,5 +1,5 @@
 -- A child is made, which goes on behind its parent's call.
-use Rattle.std.proofs.Common.{◌≡◌, ◌≢◌, ◌⊎◌, ℕ, zero, suc, ◌+◌, ◌<◌, ◌≤◌, ◌==◌, Bool, true, false, cond, List, [], ◌∷◌, ◌++◌, length, None, Some, is_some, unwrap_or, pos, refl, ap, sym, ◌∙◌, subst, inl, inr, arith, length-append}
+use Rattle.std.proofs.Common.{◌≡◌, ◌≢◌, ◌⊎◌, ℕ, zero, suc, ◌+◌, ◌<◌, ◌≤◌, ◌==◌, Bool, true, false, cond, List, [], ◌∷◌, ◌++◌, length, Option, None, Some, is_some, unwrap_or, pos, refl, ap, sym, ◌∙◌, subst, inl, inr, arith, length-append}
 use Rattle.std.specs.Prelude.{Ok, Err}
 use Rattle.std.specs.List.{AllByRecursion}
 use Rattle.std.specs.Option.{option_map}
@@ -14,15 +14,16 @@ use Rattle.kheap_shelves.specs.declared.objects.Proc.{Proc}
 use Rattle.kheap_slabs.specs.Heap.{Heap}
 use Rattle.kern_laws.proofs.Bareness.{heir_bare}
 use Rattle.kern_laws.proofs.EnabledEvents.{get_behind}
-use Rattle.kern_laws.proofs.TablePlaces.{get_front}
+use Rattle.kern_laws.specs.AtHome.{AllAtHome}
+use Rattle.kern_laws.proofs.TablePlaces.{get_front, in_longer}
 use Rattle.posix_defs.specs.Account.{with_frames}
 use Rattle.posix_defs.specs.Answer.{replied}
 use Rattle.posix_defs.specs.ByPid.{at_pid}
 use Rattle.posix_defs.specs.Control.{after, settled}
-use Rattle.posix_defs.specs.Forking.{fork, with_child}
+use Rattle.posix_defs.specs.Forking.{child_of, fork, with_child}
 use Rattle.posix_defs.specs.Memory.{Frames, after_fork}
 use Rattle.posix_defs.specs.Plain.{Plain, at_start, control_of}
-use Rattle.posix_defs.specs.Process.{Table, is_alive}
+use Rattle.posix_defs.specs.Process.{Process, Table, is_alive, process_at}
 use Rattle.posix_defs.specs.World.{World}
 use Rattle.posix_defs.specs.declared.turner.Turned.{Turned}
 use Rattle.posix_defs.specs.declared.turner.Turned.TheVariants.{Done}
@@ -111,6 +112,17 @@ number_of there last child is = go (is_full_at there last) is
     go : (b : Bool) → Ok child ≡ cond b (Err EAGAIN) (Ok (last + 1)) → child ≡ last + 1
     go true e = cc
     go false e = cc
+
+-- a child works where its parent does, and everybody else where he did
+born_home : (script : Script) (plain : Plain) (pid : ℕ) → AllAtHome plain.table → AllAtHome (with_child script plain pid).table
+born_home script plain pid home other process is = elim (in_longer plain.table (child_of pid (process_at plain.table pid)) other process is) [
+  | inl before ↦ home other process before.1
+  | inr last ↦ let found = as_parent (process_at plain.table pid) last.1 in found.2 ∙ home pid found.0 found.1
+]
+  where
+    as_parent : (there : Option Process) → child_of pid there ≡ Some process → (old : Process) × (there ≡ Some old) × (process.directory ≡ old.directory)
+    as_parent None e = cc
+    as_parent (Some old) e = (old, refl, (let same : process ≡ record old { parent = pid } = (cc) in ap (λ p. p.directory) same))
 
 -- the world with a child of a process
 abbrev pub forked_world : Script → World → ℕ → World
@@ -227,6 +239,7 @@ module _ (script : Script) (old mid moved : Objects) (pid child : ℕ) (control 
       let plain = world.plain in
       let family = kept_by script old world (with_child script plain pid) pid call.Fork (Val (pos child)) stands alive answers in
       record {
+        runs = stands.runs;
         kept = kept_too;
         processes = record {
           table = subst (λ k. IsTable moved.heap k (with_child script plain pid).table) (sym turned.same)
@@ -241,8 +254,8 @@ module _ (script : Script) (old mid moved : Objects) (pid child : ℕ) (control 
         fronts = fronts_on world.account (forked_world script world pid).account refl refl stands.fronts;
         caches = stands.caches;
         reads = stands.reads;
-        family = family.0;
-        home = family.1;
+        family = family;
+        home = born_home script plain pid stands.home;
       }
 
   -- from each world to the one with the child, in which its parent is told the child's pid

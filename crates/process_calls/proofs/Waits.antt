@@ -20,11 +20,11 @@ use Rattle.posix_defs.specs.Machine.{machine, unless_wrong}
 use Rattle.posix_defs.specs.MemoryCalls.{frames_after}
 use Rattle.posix_defs.specs.Plain.{Plain, last_pid, with_table}
 use Rattle.posix_defs.specs.Process.{Table, is_alive}
-use Rattle.posix_defs.specs.SoundTasks.{AllAtHome}
 use Rattle.posix_defs.specs.Waiting.{is_nohang, waitpid}
 use Rattle.posix_defs.specs.World.{World}
+use Rattle.kern_laws.specs.AtHome.{AllAtHome}
+use Rattle.kern_laws.proofs.AtHome.{gone_home}
 use Rattle.kern_laws.proofs.Families.{answers_on}
-use Rattle.kern_laws.proofs.Nexts.{AnswerGoes, posix_goes}
 use Rattle.proc_table.specs.Accounting.{HasAccount}
 use Rattle.proc_table.specs.Changes.{after_wait, is_other, reaped_of}
 use Rattle.proc_table.specs.Moves.{TableMoves}
@@ -46,16 +46,15 @@ use Rattle.store_objects.proofs.Leading.{led_blocked, led_on}
 use Rattle.store_objects.proofs.Replies.{GoesOn}
 use Rattle.store_objects.proofs.WithoutOne.{found_gone, found_other}
 
--- who is whose child, and who works where, behind a call that is over
+-- who is whose child behind a call that is over
 pub kept_by : (script : Script) (objects : Objects) (world : World) (base : Plain) (pid : ℕ) (which : Call) (said : Reply)
     → StandsFor script objects world → is_alive world.plain.table pid ≡ true → machine script world.plain pid which ≡ replied script base pid said
-    → IsFamily base.table × AllAtHome base.table
+    → IsFamily base.table
 kept_by script objects world base pid which said stands alive is =
     let plain = world.plain in
     let made : length plain.table ≡ last_pid plain = stands.processes.table.made ∙ stands.processes.last in
     let keeps = subst (KeepsOn plain) is (answers_on script plain pid which (record { family = stands.family; counted = made }) alive) in
-    let goes = subst (AnswerGoes plain pid) is (posix_goes script plain pid which made alive) in
-    (keeps.family, goes.0.home stands.home)
+    keeps.family
 
 all_waited : (P : Proc → Type 0) (told : Reaped) (procs : List Proc) → AllByRecursion P procs → AllByRecursion P (after_wait told procs)
 all_waited P (Took pid status) procs all = all_filter P (is_other pid) procs all
@@ -126,6 +125,7 @@ module _ (script : Script) (old mid : Objects) (pid : ℕ) (which options : ℤ)
   -- the objects stand for the world without who was told
   waited_stands : (world : World) → StandsFor script old world → is_alive world.plain.table pid ≡ true → StandsFor script mid (waited_world world told)
   waited_stands world stands alive = record {
+    runs = stands.runs;
     kept = kept_waited script old mid told stands.kept moves procs;
     processes = record {
       table = table world.plain.table stands.processes.table;
@@ -137,15 +137,20 @@ module _ (script : Script) (old mid : Objects) (pid : ℕ) (which options : ℤ)
     fronts = stands.fronts;
     caches = stands.caches;
     reads = stands.reads;
-    family = (both told (waits_as script old world.plain pid which options told stands.processes is)).0;
-    home = (both told (waits_as script old world.plain pid which options told stands.processes is)).1;
+    family = family told (waits_as script old world.plain pid which options told stands.processes is);
+    home = home told;
   }
     where
-      both : (told : Reaped) → waitpid script world.plain pid which options ≡ answered_wait script world.plain pid options told
-          → IsFamily (waited_in world.plain.table told) × AllAtHome (waited_in world.plain.table told)
-      both Nobody e = (stands.family, stands.home)
-      both NoChild e = (stands.family, stands.home)
-      both (Took gone status) e =
+      home : (told : Reaped) → AllAtHome (waited_in world.plain.table told)
+      home Nobody = stands.home
+      home NoChild = stands.home
+      home (Took gone status) = gone_home world.plain.table gone stands.home
+
+      family : (told : Reaped) → waitpid script world.plain pid which options ≡ answered_wait script world.plain pid options told
+          → IsFamily (waited_in world.plain.table told)
+      family Nobody e = stands.family
+      family NoChild e = stands.family
+      family (Took gone status) e =
           kept_by script old world (with_table world.plain (waited_in world.plain.table (Took gone status))) pid (call.Waitpid which options) (Waited gone status) stands alive
           (ap (λ fault. unless_wrong script world.plain pid fault (waitpid script world.plain pid which options)) right ∙ e)
 

@@ -7,6 +7,7 @@ use Rattle.std.proofs.lemmas.Bool.Decides.{eqb_tells}
 use Rattle.std.proofs.lemmas.Slice.Eq.{bytes_eq-Decides}
 use Rattle.kabi_values.specs.Class.{size}
 use Rattle.kabi_values.specs.declared.classes.Class.TheVariants as class
+use Rattle.calls_built.specs.Built.{can_run}
 use Rattle.kabi_types.specs.declared.scripts.Control.{Control}
 use Rattle.kabi_types.specs.declared.scripts.Program.{Program}
 use Rattle.kabi_types.specs.declared.scripts.Script.{Script}
@@ -28,9 +29,9 @@ use Rattle.posix_defs.specs.Control.{settled}
 use Rattle.posix_defs.specs.History.{boots}
 use Rattle.posix_defs.specs.Memory.{boot_frames}
 use Rattle.posix_defs.specs.Plain.{at_start, boot_plain, control_of, first_process, place_of}
-use Rattle.posix_defs.specs.SoundTasks.{AllAtHome}
 use Rattle.posix_defs.specs.ValidScript.{IsValid}
 use Rattle.posix_defs.specs.World.{boot_world}
+use Rattle.kern_laws.specs.AtHome.{AllAtHome}
 use Rattle.kern_laws.proofs.Bareness.{boot_bare}
 use Rattle.kern_laws.proofs.Families.{reached_kept}
 use Rattle.prog_ctl.specs.Runnable.{Rests, Stands}
@@ -261,13 +262,14 @@ boot_controls script control leads pid proc is = elim (eqb_tells 1 pid) [
     nobody_else e = cc
 
 -- At boot the store stands for one process at the start of the program `init`.
-pub boot_stands_for : (script copy : Script) (objects : Objects) (place : ℕ) (control : Control) → copy ≡ script → place ≡ place_of (codes "init") copy.programs
+pub boot_stands_for : (script copy : Script) (objects : Objects) (place : ℕ) (control : Control) → can_run script ≡ true → copy ≡ script → place ≡ place_of (codes "init") copy.programs
     → control ≡ settled copy (at_start place) → Stands copy control → Rests copy control → HasBooted objects copy.heap copy.disk control
     → StandsFor script objects (boot_world script)
-boot_stands_for script copy objects place control same named settles stands rests booted =
+boot_stands_for script copy objects place control runs same named settles stands rests booted =
     let leads : settled script (at_start (place_of (codes "init") script.programs)) ≡ control =
     sym (settles ∙ ap (λ n. settled copy (at_start n)) named ∙ ap (λ s. settled s (at_start (place_of (codes "init") s.programs))) same) in
     record {
+      runs = runs;
       kept = subst (λ s. AreKept s objects) same (boot_kept copy objects control booted stands rests);
       processes = record {
         table = booted.table;

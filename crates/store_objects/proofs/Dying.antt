@@ -12,9 +12,10 @@ use Rattle.posix_defs.specs.Memory.{Frames, Places, after_clear, kept_from, no_p
 use Rattle.posix_defs.specs.Plain.{Plain, control_of, last_pid}
 use Rattle.posix_defs.specs.Process.{Table, is_alive, is_alive_in, is_there, process_at}
 use Rattle.posix_defs.specs.World.{World}
+use Rattle.kern_laws.proofs.AtHome.{die_home}
 use Rattle.kern_laws.proofs.Bareness.{die_bare}
 use Rattle.kern_laws.proofs.Families.{dies_on, first_lives}
-use Rattle.kern_laws.proofs.Nexts.{alive_is_there, die_ends, die_next}
+use Rattle.kern_laws.proofs.Nexts.{alive_is_there, die_ends}
 use Rattle.kern_laws.proofs.TablePlaces.{each_changed}
 use Rattle.proc_table.specs.Accounting.{HasAccount}
 use Rattle.proc_table.specs.Changes.{ended}
@@ -96,6 +97,7 @@ module _ (script : Script) (old : Objects) (world : World) (stands : StandsFor s
   ended_stands : (new : Objects) (pid status : ℕ) → AreKept script new → is_alive plain.table pid ≡ true → AreProcesses script new (die plain pid status)
       → HasAccount new.heap new.procs (forget_dead (die plain pid status) frames) → StandsFor script new (ended_in world pid status)
   ended_stands new pid status kept lives are has = record {
+    runs = stands.runs;
     kept = kept;
     processes = are;
     memory = has;
@@ -104,7 +106,7 @@ module _ (script : Script) (old : Objects) (world : World) (stands : StandsFor s
     caches = stands.caches;
     reads = stands.reads;
     family = (let on = dies_on plain pid status plain_kept lives in on.family);
-    home = (let next = die_next plain pid pid status counted in next.home stands.home);
+    home = die_home plain pid status stands.home;
   }
 
   -- another than the first

@@ -125,6 +125,7 @@ pub goes_on : (script : Script) (old new : Objects) (world : World) (pid : ℕ) 
     → MovesOn old pid control new → Stands script control → Rests script control → settled script (after script (control_of world.plain pid) reply) ≡ control
     → StandsFor script new (answered_in script world pid reply)
 goes_on script old new world pid reply control stands moves at rests leads = record {
+  runs = stands.runs;
   kept = kept_moved script old new pid control stands.kept moves at rests;
   processes = record {
     table = subst (λ k. IsTable new.heap k world.plain.table) (sym moves.same)

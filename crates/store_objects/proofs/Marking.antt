@@ -39,6 +39,7 @@ kept_marked script objects high marks kept = record {
 
 pub stands_marked : (script : Script) (objects : Objects) (high marks : ℕ) (world : World) → StandsFor script objects world → StandsFor script (marked_as objects high marks) world
 stands_marked script objects high marks world stands = record {
+  runs = stands.runs;
   kept = kept_marked script objects high marks stands.kept;
   processes = processes_on script objects (marked_as objects high marks) world.plain world.plain refl same refl refl stands.processes;
   memory = memory_on objects (marked_as objects high marks) world.account.frames world.account.frames refl same refl stands.memory;

@@ -3,6 +3,8 @@ use Rattle.std.specs.Prelude.{ℕ, ◌≡◌, true, [], None, Some}
 use Rattle.kabi_calls.specs.declared.calls.Call.{Call}
 use Rattle.kabi_values.specs.declared.replies.Reply.{Reply}
 use Rattle.kabi_types.specs.declared.scripts.Script.{Script}
+use Rattle.calls_built.specs.Built.{can_run}
+use Rattle.kern_laws.specs.AtHome.{AllAtHome}
 use Rattle.kheap_shelves.specs.declared.objects.Proc.{Proc}
 use Rattle.posix_defs.specs.Account.{Account, account_on, with_frames}
 use Rattle.posix_defs.specs.Answer.{Answer}
@@ -14,7 +16,6 @@ use Rattle.posix_defs.specs.Memory.{Frames, Memory}
 use Rattle.posix_defs.specs.MemoryCalls.{remembered}
 use Rattle.posix_defs.specs.Plain.{Plain, answered, control_of, last_pid}
 use Rattle.posix_defs.specs.Process.{is_alive}
-use Rattle.posix_defs.specs.SoundTasks.{AllAtHome}
 use Rattle.posix_defs.specs.Turn.{Tells, account_after}
 use Rattle.posix_defs.specs.World.{World, boot_kept}
 use Rattle.posix_defs.specs.declared.turner.Turned.{Turned}
@@ -45,6 +46,8 @@ pub record HasNoFronts (account : Account) : Type 0 where
 
 -- A store stands for a world: each family of its objects for its part of the world.
 pub record StandsFor (script : Script) (objects : Objects) (world : World) : Type 0 where
+  -- no program makes a call that can't be run
+  pub runs : can_run script ≡ true
   pub kept : AreKept script objects
   pub processes : AreProcesses script objects world.plain
   -- one numbering of the heap's pages makes the account of frames true

@@ -1,6 +1,8 @@
 //! Stores by hand, with the heap's bytes at each step.
 
-ghost use Rattle.std.specs.Prelude.{◌≤◌, ◌≡◌, IfOk};
+ghost use Rattle.std.specs.Prelude.{◌≤◌, ◌≡◌, IfOk, true};
+ghost use Rattle.calls_built.specs.Built.{can_run, is_built};
+ghost use Rattle.kabi_calls.specs.Call.{kind_of};
 ghost use Rattle.kabi_types.specs.declared.scripts.Policy.TheVariants.{Heaviest, Youngest};
 ghost use Rattle.posix_defs.specs.ValidScript.{IsValid};
 ghost use Rattle.posix_defs.specs.Victim.{score_of};
@@ -25,7 +27,7 @@ use victim_core::{Score, Scorer};
 fn script_of(alloc: Global, heap: u64, policy: Policy) -> Result<Script, Fail>
     requires least { 8192 ≤ heap }
     requires most { heap ≤ 8388608 }
-    ensures { IfOk result IsValid }
+    ensures { IfOk result (λ script. IsValid script × (can_run script ≡ true)) }
 {
     let name = Name27::of(b"init").ok_or("a name")?;
     let mut programs = Vec::new(alloc);
@@ -57,7 +59,9 @@ enum Ask {
 }
 
 /// The call.
-fn call_of(ask: &Ask) -> Call {
+fn call_of(ask: &Ask) -> Call
+    ensures { is_built (kind_of result) ≡ true }
+{
     match ask {
         Ask::Fork => Call::Fork,
         Ask::Exit(status) => Call::Exit { status: *status },
@@ -117,7 +121,8 @@ fn take<F: Scorer, G: Scorer>(
     pid: u32,
     call: &Call,
 ) -> Turned
-    requires { (world : World) × StandsFor store.old.script store.old.objects world }
+    requires stands { (world : World) × StandsFor store.old.script store.old.objects world }
+    requires built { is_built (kind_of call.now) ≡ true }
     ensures { (world : World) × StandsFor store.new.script store.new.objects world }
 {
     let heap = store.objects.heap.heap();

@@ -2,13 +2,12 @@ use Rattle.std.proofs.Common.{◌≡◌, ◌∙◌, ap, pos, refl, rules, subst,
 use Rattle.std.proofs.lemmas.Int.{to_z-of_z}
 use mir.Val.{of_z, to_z}
 use Rattle.kabi_calls.specs.declared.calls.Call.TheVariants as call
-use Rattle.kabi_values.specs.declared.errnos.Errno.TheVariants.{EINVAL}
 use Rattle.posix_defs.specs.Needs.{slack}
 use Rattle.posix_defs.specs.Process.{parent_of}
 use Rattle.store_objects.specs.Uses.{UsesAtMost}
 use Rattle.store_objects.proofs.Paying.{uses_nothing}
-use Rattle.store_objects.proofs.Replies.{does_fail, does_tell, parent_is}
-use Rattle.call_run.proofs.Dispatch.{does_one, does_that, does_two, others_fail}
+use Rattle.store_objects.proofs.Replies.{does_tell, parent_is}
+use Rattle.call_run.proofs.Dispatch.{does_one, does_that, does_two, none_left}
 use Rattle.call_run.proofs.calls.run_free.Goals as goal
 
 pub returns-in-Getpid-clause-does : goal.returns-in-Getpid-clause-does
@@ -64,13 +63,11 @@ returns-in-Load-clause-does c =
     does_two c.args.script.now c.args.objects.now c.load.new.objects c.args.caller.now.pid c.args.call.now c.load.result call.Load c.in-Load.addr c.in-Load.n c.in-Load.is
     (search (rules, to_z-of_z)) (search (rules, to_z-of_z)) c.load.ensures.does
 
-pub returns-in_default-clause-does : goal.returns-in_default-clause-does
-returns-in_default-clause-does c =
-    does_fail c.args.script.now c.args.objects.now c.go_on-in_default.new.objects c.args.caller.now.pid c.args.call.now EINVAL c.go_on-in_default.result _
-    c.go_on-in_default.ensures.told c.go_on-in_default.ensures.goes
-    (λ world stands. others_fail c.args.script.now world.plain c.args.caller.now.pid c.args.call.now c.requires.not_fork c.requires.not_mmap c.requires.not_store
+pub unreachable-requires : goal.unreachable-requires
+unreachable-requires c =
+    none_left c.args.call.now c.requires.built c.requires.not_fork c.requires.not_mmap c.requires.not_store
     c.in_default.not-Getpid c.in_default.not-Getppid c.in_default.not-SchedYield
-    c.in_default.not-Exit c.in_default.not-Waitpid c.in_default.not-Kill c.in_default.not-Munmap c.in_default.not-Load)
+    c.in_default.not-Exit c.in_default.not-Waitpid c.in_default.not-Kill c.in_default.not-Munmap c.in_default.not-Load
 
 pub returns-in-Getpid-clause-uses : goal.returns-in-Getpid-clause-uses
 returns-in-Getpid-clause-uses c = uses_nothing c.args.objects.now.heap c.go_on.new.objects.heap 0 _ c.go_on.ensures.takes
@@ -89,9 +86,6 @@ returns-in-Munmap-clause-uses c = uses_nothing c.args.objects.now.heap c.munmap.
 
 pub returns-in-Load-clause-uses : goal.returns-in-Load-clause-uses
 returns-in-Load-clause-uses c = uses_nothing c.args.objects.now.heap c.load.new.objects.heap 0 _ c.load.ensures.takes
-
-pub returns-in_default-clause-uses : goal.returns-in_default-clause-uses
-returns-in_default-clause-uses c = uses_nothing c.args.objects.now.heap c.go_on-in_default.new.objects.heap 0 _ c.go_on-in_default.ensures.takes
 
 pub returns-in-Exit-clause-uses : goal.returns-in-Exit-clause-uses
 returns-in-Exit-clause-uses c = subst (λ which. UsesAtMost c.args.objects.now.heap c.exit.new.objects.heap 0 (slack which)) (sym c.in-Exit.is) c.exit.ensures.uses

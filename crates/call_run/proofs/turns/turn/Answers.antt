@@ -20,6 +20,14 @@ run-turned-requires-clause-kept c = rw c.mark.ensures (kept_marked c.args.script
 pub run-turned-requires-clause-caller : goal.run-turned-requires-clause-caller
 run-turned-requires-clause-caller c = caller_of (record { heap = c.mark.new.self; procs = c.args.objects.now.procs }) c.args.pid c.in-Some.caller c.in-Some.ensures.some
 
+pub run-turned-requires-clause-built : goal.run-turned-requires-clause-built
+run-turned-requires-clause-built c =
+    let may = c.requires.may in
+    let world = may.0 in
+    let marked : Objects = record { heap = c.mark.new.self; procs = c.args.objects.now.procs } in
+    let stands : StandsFor c.args.script.now marked world = rw c.mark.ensures (stands_marked c.args.script.now c.args.objects.now _ _ world may.1) in
+    may.2 (alive_is c.args.script.now marked world.plain c.args.pid stands.processes ∙ caller_running marked c.args.pid c.in-Some.caller c.in-Some.ensures.some)
+
 -- the heap has room for the call
 fits : (live bytes spare size marked marked_size of script : ℕ) → of + bytes + spare ≤ script → live ≡ of → size ≡ script → marked ≡ live → marked_size ≡ size → marked + bytes ≤ marked_size
 fits live bytes spare size marked marked_size of script may is whole same same_size = omega arith
@@ -28,7 +36,7 @@ pub run-turned-requires-clause-room : goal.run-turned-requires-clause-room
 run-turned-requires-clause-room c =
     let may = c.requires.may in
     fits (live_bytes c.args.objects.now.heap) (bound c.args.call.now) reserve c.args.objects.now.heap.heap (live_bytes c.mark.new.self) c.mark.new.self.heap (live_of may.0) c.args.script.now.heap
-    may.2 (live_is c.args.script.now c.args.objects.now may.0 may.1 c.heap_is_well_formed.ensures) c.requires.kept.size
+    may.3 (live_is c.args.script.now c.args.objects.now may.0 may.1 c.heap_is_well_formed.ensures) c.requires.kept.size
     (ap live_bytes c.mark.ensures) (ap (λ (h : Heap). h.heap) c.mark.ensures)
 
 pub returns-in_default-clause-kept : goal.returns-in_default-clause-kept
@@ -64,7 +72,10 @@ returns-clause-turned c = λ world stands.
     let live : live_bytes marked.heap ≡ live_of world = ap live_bytes c.mark.ensures ∙ live_is script c.args.objects.now world stands c.heap_is_well_formed.ensures in
     let does : Performs script marked pid which (λ plain. machine script plain pid which) c.run-turned.result new =
     subst (λ p. Performs script marked p which (λ plain. machine script plain p which) c.run-turned.result new) caller.same c.run-turned.ensures.does in
-    turns_on script marked new world pid which c.run-turned.result alive live c.heap_is_well_formed-2.ensures c.run-turned.ensures.uses.live
+    let may = c.requires.may in
+    let first : StandsFor script marked may.0 = rw c.mark.ensures (stands_marked script c.args.objects.now _ _ may.0 may.1) in
+    let built = may.2 (alive_is script marked may.0.plain pid first.processes ∙ caller_running marked pid c.in-Some.caller caller) in
+    turns_on script marked new world pid which c.run-turned.result alive built live c.heap_is_well_formed-2.ensures c.run-turned.ensures.uses.live
     (does world stands_marked_too alive)
 
 pub returns-clause-high : goal.returns-clause-high

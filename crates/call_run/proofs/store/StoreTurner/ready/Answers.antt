@@ -1,4 +1,5 @@
 use Rattle.std.proofs.Common.{ap, not, subst, sym, ◌∙◌}
+use Rattle.calls_built.proofs.NextCalls.{next_built}
 use Rattle.posix_defs.specs.Machine.{would_block}
 use Rattle.posix_defs.specs.Plain.{call_of}
 use Rattle.store_objects.specs.Standing.{StandsFor}
@@ -6,7 +7,8 @@ use Rattle.call_run.proofs.store.StoreTurner.ready.Goals as goal
 
 pub returns : goal.returns
 returns g c = λ world stands alive.
-    let at = subst (λ store. StandsFor store.script store.objects world) (sym c.self.view_is) stands in
+    let at : StandsFor c.self.inside.script c.self.inside.objects world = subst (λ store. StandsFor store.script store.objects world) (sym c.self.view_is) stands in
     ap not (c.would_block.ensures c.self.inside.script world at (call_of c.self.inside.script world.plain c.args.pid)
+    (next_built c.self.inside.script world.plain c.args.pid at.runs)
     (c.as_ref.ensures.value ∙ c.waits_for-wait.ensures world at alive))
     ∙ ap (λ store. not (would_block store.script world.plain c.args.pid)) c.self.view_is

@@ -5,8 +5,8 @@ use Rattle.call_run.proofs.store.tests.take.Goals as goal
 
 pub turn-requires-clause-may : goal.turn-requires-clause-may
 turn-requires-clause-may g c =
-    let world = c.requires.0 in
-    let at : StandsFor c.store.inside.script c.store.inside.objects world = subst (λ store. StandsFor store.script store.objects world) (sym c.store.view_is) c.requires.1 in
+    let world = c.requires.stands.0 in
+    let at : StandsFor c.store.inside.script c.store.inside.objects world = subst (λ store. StandsFor store.script store.objects world) (sym c.store.view_is) c.requires.stands.1 in
     let live = live_is c.store.inside.script c.store.inside.objects world at c.heap-heap.ensures.well_formed in
     let size : c.store.inside.objects.heap.heap ≡ c.store.inside.script.heap = c.store.invariant.size in
-    (world, at, omega arith)
+    (world, at, (λ alive. c.requires.built), omega arith)
