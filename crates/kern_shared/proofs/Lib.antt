@@ -16,6 +16,7 @@ pub mod Presence
 pub mod Relieved
 pub mod Relieving
 pub mod Runs
+pub mod SampleSteps
 pub mod Standing
 pub mod Starving
 pub mod Turned

@@ -6,5 +6,6 @@ pub mod Nameless
 pub mod Passes
 pub mod Picks
 pub mod Relieves
+pub mod Sample
 pub mod Shared
 pub mod Shares
