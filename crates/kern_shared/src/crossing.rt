@@ -7,7 +7,7 @@ use crate::RunName;
 use posix_defs::Turner;
 
 /// Where a store may cross threads, a kernel over it is `Send` and `Sync`, and a pass is `Send`.
-pub fn crosses_threads<T: Turner + Drop + Send, L: RunName + Send + Sync>()
-    ensures kernel { IsSend (kernel_row T.row L.row T.Turner L.RunName) × IsSync (kernel_row T.row L.row T.Turner L.RunName) }
-    ensures pass { IsSend (pass_row T.row L.row T.Turner L.RunName) }
+pub fn crosses_threads<T: Turner + Drop + Send, L: RunName>()
+    ensures kernel { IsSend (kernel_row T.row L.row L.RunName T.Turner) × IsSync (kernel_row T.row L.row L.RunName T.Turner) }
+    ensures pass { IsSend (pass_row T.row L.row) }
 {}

@@ -254,8 +254,15 @@ fn two_passes<R: Wait, L: RunName>(
     requires seat { seat.charge ≡ charge }
     requires boot { (seat.known.is_boot ≡ true) × (seat.known.others ≡ 0) × (seat.known.holds ≡ fixed) }
 {
-    let (kernel, mut passes) =
-        Kernel::<OnePid, L>::boot(alloc, at_boot(), 100, 8192, 2, charge, seat)?;
+    let (kernel, mut passes) = Kernel::<OnePid, L>::boot(
+        alloc,
+        at_boot(),
+        100,
+        8192,
+        2,
+        charge,
+        seat,
+    )?;
     let Some(mut first) = passes.pop() else {
         unreachable!()
     };
