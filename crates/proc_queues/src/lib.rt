@@ -9,6 +9,8 @@ mod polling;
 mod reading;
 mod refusals;
 mod spaces;
+#[cfg(test)]
+mod tests;
 mod writing;
 
 pub use lookups::{Found, opened, readable, writable};
