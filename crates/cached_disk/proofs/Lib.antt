@@ -3,6 +3,7 @@ pub mod Filled
 pub mod InTurn
 pub mod LastBlock
 pub mod AtBoot
+pub mod Street
 pub mod Absent
 pub mod Moved
 pub mod BlocksStep

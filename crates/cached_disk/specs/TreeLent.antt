@@ -138,3 +138,8 @@ abbrev pub IsKnown : TreeParts → Query → Type 0
 IsKnown p (AskNode number) = IsSome (node_slot p.vnodes number)
 IsKnown p (AskName dir name) = IsSome (name_slot p.names (name_key dir name))
 IsKnown p (AskParent dir) = ⊥
+
+-- all of them belong together, and the disk stands for some tree
+abbrev pub LentForSome : Heap → Purse → Order NameKey → Nodes → Order ℕ → Disk → Type 0
+LentForSome heap purse names vnodes blocks disk =
+    AllLent heap purse names vnodes blocks disk × ((tree : Tree) × StandsThrough (tree_parts heap purse names vnodes blocks disk) tree)

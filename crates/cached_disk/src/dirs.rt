@@ -166,7 +166,7 @@ fn entry_name(name: &[u8]) -> Option<Name27>
 
 /// The node under a name of a directory: as it is cached, else as the directory has it, and then it is cached. None exactly
 /// where the name isn't there; one that no entry may have is answered at once.
-fn find_name(
+pub fn find_name(
     heap: &mut KHeap,
     purse: &mut Purse,
     names: &mut NameCache,

@@ -7,13 +7,19 @@
 #![tactic(auto)]
 
 mod blocks;
+mod changing;
 mod dirs;
 pub mod laws;
 mod looking;
+#[cfg(test)]
+mod tests;
+#[cfg(test)]
+mod tests_walking;
 mod through;
 mod walking;
 
 pub use blocks::CachedBlocks;
-pub use dirs::{CachedDirs, find_inode};
+pub use changing::{free_through, make_through, size_through, write_through};
+pub use dirs::{CachedDirs, find_inode, find_name};
 pub use through::read_through;
 pub use walking::walk_through;

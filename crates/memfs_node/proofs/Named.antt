@@ -1,5 +1,5 @@
 -- A node that is made under a name of a directory, on the disk and in the tree.
-use Rattle.std.proofs.Common.{◌≡◌, ◌≢◌, ℕ, ◌+◌, ◌-◌, ◌<◌, ◌≤◌, Bool, true, false, cond, inl, inr, List, [], ◌∷◌, ◌++◌, Option, Some, None, Result, Ok, Err, is_ok, refl, sym, ap, subst, ◌∙◌, arith}
+use Rattle.std.proofs.Common.{◌≡◌, ◌≢◌, ℕ, ◌+◌, ◌-◌, ◌<◌, ◌≤◌, Bool, true, false, cond, inl, inr, List, [], ◌∷◌, ◌++◌, length, Option, Some, None, Result, Ok, Err, is_ok, refl, sym, ap, subst, ◌∙◌, arith}
 use Rattle.std.specs.Prelude.{IsOk, IfErr}
 use Rattle.std.proofs.lemmas.Bool.{cases_Bool, cond-true, cond-false, false≢true}
 use Rattle.kabi_values.specs.declared.errnos.Errno.{Errno}
@@ -8,7 +8,7 @@ use Rattle.kabi_values.specs.declared.inodes.Inode.{Inode}
 use Rattle.posix_defs.specs.DiskFormat.{blocks_of, greatest_size}
 use Rattle.posix_defs.specs.SoundDisk.{HasInode, HasNode, IsFreeNode, IsLowestFreeNode, free_in_map}
 use Rattle.posix_defs.specs.DiskContents.{entry_for}
-use Rattle.posix_defs.specs.DiskTree.{StandsFor}
+use Rattle.posix_defs.specs.DiskTree.{StandsFor, ChangesNode}
 use Rattle.posix_defs.specs.Tree.{Content, Tree, with_node, is_directory, is_directory_in, free_node, size_of}
 use Rattle.posix_defs.specs.TreeChanges.{make, make_at, with_new, takes_entry}
 use Rattle.posix_defs.proofs.TreeNodes.{node_at-with_node_other}
@@ -17,7 +17,7 @@ use Rattle.disk_laws.proofs.DiskNodes.{lowest_in_tree, none_in_tree}
 use Rattle.memfs_dir.specs.Listed.{IsFull, IsFullBeside, Relists}
 use Rattle.memfs_dir.proofs.Room.{full_beside}
 use Rattle.memfs_dir.proofs.InTree.{put_in_tree}
-use Rattle.memfs_node.specs.NodeOnDisk.{AnswersAs, Makes, new_node}
+use Rattle.memfs_node.specs.NodeOnDisk.{AnswersAs, KeepsOthers, Makes, new_node}
 use Rattle.memfs_node.proofs.OnTree.{made_in_tree}
 
 -- a free node is no node in use
@@ -83,3 +83,26 @@ still_room disk between dir number inode node content room makes full = room (el
 pub is_done : (answer : Result (Unit {0}) Errno) → IfErr answer (λ fault. fault ≡ ENOSPC) → (answer ≡ Err ENOSPC → ⊥) → IsOk answer
 is_done (Ok done) only none = refl
 is_done (Err errno) only none = absurd (none (ap Err only))
+
+-- ---- the other nodes
+
+-- on the same blocks each node has its inode
+pub same_others : (number : ℕ) (before after : List (List ℕ)) → after ≡ before → KeepsOthers number before after
+same_others number before after same = record {
+  blocks = ap (λ (d : List (List ℕ)). length d) same;
+  nodes = λ other inode differs has. subst (λ (d : List (List ℕ)). HasNode d other inode) (sym same) has;
+}
+
+-- a change of one node leaves the others
+pub changed_others : (number : ℕ) (before after : List (List ℕ)) → ChangesNode before after number → KeepsOthers number before after
+changed_others number before after changes = record {
+  blocks = changes.blocks;
+  nodes = λ other inode differs has. (changes.inodes other inode differs has.0, has.1);
+}
+
+-- a free node is made, and then another changes
+pub made_others : (disk between after : List (List ℕ)) (number parent : ℕ) → IsFreeNode disk number → ChangesNode disk between number → ChangesNode between after parent → KeepsOthers parent disk after
+made_others disk between after number parent free first second = record {
+  blocks = second.blocks ∙ first.blocks;
+  nodes = λ other inode differs has. (second.inodes other inode differs (first.inodes other inode (apart disk number other inode free has) has.0), has.1);
+}

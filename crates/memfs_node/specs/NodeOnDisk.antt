@@ -1,9 +1,9 @@
 -- What a call leaves of a disk on which it makes a node, says something else of one beside its size, or frees one.
-use Rattle.std.specs.Prelude.{ℕ, ◌+◌, ◌-◌, ◌<◌, ◌≡◌, Bool, true, false, List, [], Result, Ok, Err}
+use Rattle.std.specs.Prelude.{ℕ, ◌+◌, ◌-◌, ◌<◌, ◌≡◌, ◌≢◌, Bool, true, false, List, [], length, Result, Ok, Err}
 use Rattle.kabi_values.specs.declared.errnos.Errno.{Errno}
 use Rattle.kabi_values.specs.declared.inodes.Inode.{Inode}
 use Rattle.posix_defs.specs.DiskFormat.{blocks_of}
-use Rattle.posix_defs.specs.SoundDisk.{block_bytes, HasInode, IsFreeNode, free_in_map}
+use Rattle.posix_defs.specs.SoundDisk.{block_bytes, HasInode, HasNode, IsFreeNode, free_in_map}
 use Rattle.posix_defs.specs.DiskContents.{node_bytes}
 use Rattle.posix_defs.specs.DiskTree.{HasContent, StandsFor, ChangesNode}
 use Rattle.posix_defs.specs.Tree.{Content, File, Directory, SocketName, Node, Tree, IsInodeOf, size_of}
@@ -60,6 +60,11 @@ pub record Frees (number : ℕ) (before : List (List ℕ)) (old : Inode) (after 
 abbrev pub DropsLink : Bool → ℕ → List (List ℕ) → Inode → List (List ℕ) → Inode → Type 0
 DropsLink true number before old after new = Frees number before old after
 DropsLink false number before old after new = Retags number before old old.kind (old.nlink - 1) after new
+
+-- every node in use but one has the inode that it had, on a disk of as many blocks
+pub record KeepsOthers (number : ℕ) (before after : List (List ℕ)) : Type 0 where
+  pub blocks : length after ≡ length before
+  pub nodes : (other : ℕ) (inode : Inode) → other ≢ number → HasNode before other inode → HasNode after other inode
 
 -- the disk stands for a tree
 abbrev pub HasTree : List (List ℕ) → Type 0

@@ -7,7 +7,7 @@ ghost use Rattle.posix_defs.specs.DiskTree.{StandsFor};
 ghost use Rattle.posix_defs.specs.Tree.{Tree, is_directory};
 ghost use Rattle.posix_defs.specs.TreeChanges.{make};
 ghost use Rattle.memfs_dir.specs.Listed.{IsDirectory};
-ghost use Rattle.memfs_node.specs.NodeOnDisk.{AnswersAs, HasParent, content_of};
+ghost use Rattle.memfs_node.specs.NodeOnDisk.{AnswersAs, HasParent, KeepsOthers, content_of};
 
 use crate::inodes::lowest_node;
 use crate::making::{NewNode, make_node};
@@ -35,6 +35,7 @@ pub fn make_named<B: Blocks>(
     ensures answer { (tree : Tree) → StandsFor (B.blocks b.old) tree → is_directory tree parent ≡ true
         → AnswersAs (B.blocks b.old) (B.blocks b.new) (make tree parent name (content_of new)) result }
     ensures node { HasNode (B.blocks b.new) parent dir.new }
+    ensures others { KeepsOthers parent (B.blocks b.old) (B.blocks b.new) }
     ensures follows { B.follows b.old b.new }
 {
     if !has_room_for_entry(b, dir, new.blocks()) {

@@ -1,6 +1,12 @@
 pub mod LookLemmas
 pub mod PinLemmas
+pub mod FetchLemmas
+pub mod ChangeLemmas
+pub mod PaysLemmas
+pub mod WriteLemmas
+pub mod OpenLemmas
 pub mod EvictLemmas
 pub mod BootLemmas
 pub mod KindLemmas
 pub mod PurseLemmas
+pub mod EmptyHeap

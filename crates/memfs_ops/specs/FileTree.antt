@@ -118,8 +118,13 @@ pub record KeepsRoot (inode : Inode) (old new : Heap) : Type 0 where
 -- an inode was used: at most the order of the inodes is other
 pub record IsUsed (was is : TreeView) : Type 0 where
   pub same : is ≡ record was { vnodes = is.vnodes }
+  pub capacity : is.vnodes.order.capacity ≡ was.vnodes.order.capacity
   pub nodes : (number : ℕ) → node_slot is.vnodes number ≡ node_slot was.vnodes number
 
 -- it stands for some tree, and each node may be held once more
 abbrev pub StandsForSome : Heap → TreeView → Type 0
 StandsForSome heap fs = (tree : Tree) × (pins : ℕ → ℕ) × Stands heap fs tree pins × ((number : ℕ) → pins number < 4294967295)
+
+-- it stands for some tree, in which a node is held
+abbrev pub HeldSome : Heap → TreeView → ℕ → Type 0
+HeldSome heap fs node = (tree : Tree) × (pins : ℕ → ℕ) × Stands heap fs tree pins × (0 < pins node)

@@ -1,2 +1,5 @@
 pub mod FileTree
+pub mod Fetching
+pub mod Changing
+pub mod Opening
 pub mod Evicting

@@ -4,10 +4,18 @@
 //! Names, inodes and blocks are kept in the kernel's heap, from the purse of the call that asked for them.
 #![tactic(auto)]
 
+mod changing;
 mod evicting;
 mod file_tree;
 mod held;
 mod holding;
+mod making;
+mod opening;
+mod reading;
 mod telling;
+#[cfg(test)]
+mod tests;
+mod writing;
 
 pub use file_tree::FileTree;
+pub use opening::Opening;

@@ -7,7 +7,7 @@ ghost use Rattle.posix_defs.specs.PathCalls as calls;
 ghost use Rattle.posix_defs.specs.Paths.{resolve};
 ghost use Rattle.posix_defs.specs.Queries.{queries_of};
 ghost use Rattle.posix_defs.specs.SoundDisk.{HasNode};
-ghost use Rattle.posix_defs.specs.Tree.{Tree, IsInodeAt, is_directory as directory_in, is_in_use};
+ghost use Rattle.posix_defs.specs.Tree.{Tree, IsInodeAt, found, is_directory as directory_in, is_in_use};
 ghost use Rattle.posix_defs.specs.declared.walked.Walked.TheVariants as walked;
 ghost use Rattle.name_cache.specs.Names.{name_slot};
 ghost use Rattle.vnode_cache.specs.Nodes.{node_slot};
@@ -15,7 +15,7 @@ ghost use Rattle.cached_disk.specs.TreeLent.{AreReordered, IsKnown};
 ghost use Rattle.memfs_ops.specs.FileTree.{Stands, MayWalk, Looks, KnowsWay, KeepsLed, in_call};
 
 use crate::FileTree;
-use cached_disk::{find_inode, walk_through};
+use cached_disk::{find_inode, find_name, walk_through};
 use kabi_types::{Errno, Inode, NodeKind, StatInfo};
 use kheap_shelves::Purse;
 use kheap_slabs::KHeap;
@@ -84,6 +84,36 @@ impl FileTree {
             &mut self.blocks,
             &mut self.disk,
             number,
+        )
+    }
+
+    /// The node under a name of a directory, which is cached afterwards where it is there.
+    pub(crate) fn look(
+        &mut self,
+        heap: &mut KHeap,
+        purse: &mut Purse,
+        dir: u32,
+        name: &[u8],
+    ) -> Option<u32>
+        requires stands { (tree : Tree) × (pins : ℕ → ℕ) × Stands heap.old self.old tree pins
+            × (directory_in tree dir ≡ true) }
+        requires may { MayWalk heap.old purse.old }
+        ensures value { (tree : Tree) (pins : ℕ → ℕ) → Stands heap.old self.old tree pins
+            → result ≡ found tree dir name.now }
+        ensures looks { Looks heap.old heap.new purse.old purse.new self.old self.new }
+        ensures kept { (tree : Tree) (pins : ℕ → ℕ) (node : ℕ) → Stands heap.old self.old tree pins
+            → found tree dir name.now ≡ Some node
+            → IsSome (name_slot self.new.names (name_key dir name.now)) }
+    {
+        find_name(
+            heap,
+            purse,
+            &mut self.names,
+            &mut self.vnodes,
+            &mut self.blocks,
+            &mut self.disk,
+            dir,
+            name,
         )
     }
 

@@ -9,7 +9,7 @@ use Rattle.posix_defs.specs.TreeChanges.{make}
 use Rattle.memfs_dir.specs.Listed.{IsFullBeside, Relists}
 use Rattle.memfs_dir.proofs.Kept.{entries_stay}
 use Rattle.memfs_node.specs.NodeOnDisk.{AnswersAs, Makes, content_of}
-use Rattle.memfs_node.proofs.Named.{Asked, apart, no_room, no_node, made, still_room, is_done}
+use Rattle.memfs_node.proofs.Named.{Asked, apart, no_room, no_node, made, still_room, is_done, same_others, made_others}
 use Rattle.memfs_node.proofs.naming.make_named.Goals as goal
 
 pub returns-then-not-has_room_for_entry-clause-answer : goal.returns-then-not-has_room_for_entry-clause-answer
@@ -94,3 +94,28 @@ returns-clause-answer g c = λ tree stands is_dir.
     let Put : Result (Unit {0}) Errno → Type 0 = λ r. OnOk r (Relists c.args.parent between c.args.dir.now (λ entries. entries ++ entry_for number c.args.name ∷ []) after c.dir_add.new.dir) in
     let relists = subst Put c.unwrap.ensures c.dir_add.ensures.ok in
     made disk c.args.parent c.args.dir.now content c.has_room_for_entry.result a tree c.args.name stands number between after c.make_node.result c.dir_add.new.dir c.if-not-has_room_for_entry.false is_dir lowest makes has relists
+
+pub returns-then-not-has_room_for_entry-clause-others : goal.returns-then-not-has_room_for_entry-clause-others
+returns-then-not-has_room_for_entry-clause-others g c =
+    let disk : List (List ℕ) = g.B.Blocks.blocks c.args.b.now in
+    same_others c.args.parent disk (g.B.Blocks.blocks c.has_room_for_entry.new.b) c.has_room_for_entry.ensures.kept
+
+pub returns-in_default-clause-others : goal.returns-in_default-clause-others
+returns-in_default-clause-others g c =
+    let disk : List (List ℕ) = g.B.Blocks.blocks c.args.b.now in
+    same_others c.args.parent disk (g.B.Blocks.blocks c.lowest_node.new.b) (c.lowest_node.ensures.kept ∙ c.has_room_for_entry.ensures.kept)
+
+pub returns-clause-others : goal.returns-clause-others
+returns-clause-others g c =
+    let disk : List (List ℕ) = g.B.Blocks.blocks c.args.b.now in
+    let between : List (List ℕ) = g.B.Blocks.blocks c.make_node.new.b in
+    let after : List (List ℕ) = g.B.Blocks.blocks c.dir_add.new.b in
+    let number : ℕ = c.in-Some.number in
+    let content = content_of c.args.new in
+    let kept = c.has_room_for_entry.ensures.kept in
+    let lowest : IsLowestFreeNode disk number = subst (λ (d : List (List ℕ)). IsLowestFreeNode d number) kept c.in-Some.ensures.found in
+    let makes : Makes number disk content between c.make_node.result =
+    subst (λ (d : List (List ℕ)). Makes number d content between c.make_node.result) (c.lowest_node.ensures.kept ∙ kept) c.make_node.ensures.makes in
+    let Put : Result (Unit {0}) Errno → Type 0 = λ r. OnOk r (Relists c.args.parent between c.args.dir.now (λ entries. entries ++ entry_for number c.args.name ∷ []) after c.dir_add.new.dir) in
+    let relists = subst Put c.unwrap.ensures c.dir_add.ensures.ok in
+    made_others disk between after number c.args.parent lowest.free makes.changes relists.changes

@@ -29,7 +29,7 @@ returns-clause-has c =
 pub returns-clause-used : goal.returns-clause-used
 returns-clause-used c =
     let new : TreeView = record (view c.self.inside) { vnodes = c.get.new.self } in
-    subst (λ (v : TreeView). IsUsed v new) c.self.view_is (record { same = refl; nodes = c.get.ensures.same })
+    subst (λ (v : TreeView). IsUsed v new) c.self.view_is (record { same = refl; capacity = ap (λ n. n.order.capacity) c.get.ensures.used; nodes = c.get.ensures.same })
 
 pub returns-clause-stands : goal.returns-clause-stands
 returns-clause-stands c = λ tree pins stands.

@@ -1,0 +1,53 @@
+use Rattle.std.proofs.Common.{◌≡◌, ℕ, Bool, sym, ap, ◌∙◌, subst}
+use Rattle.posix_defs.specs.Tree.{Tree}
+use Rattle.posix_defs.specs.TreeChanges.{resize}
+use Rattle.memfs_node.proofs.Looking.{shown}
+use Rattle.memfs_ops.specs.FileTree.{TreeView, Stands}
+use Rattle.memfs_ops.specs.Opening.{cut_tree}
+use Rattle.memfs_ops.proofs.ChangeLemmas.{pays_changed}
+use Rattle.memfs_ops.proofs.OpenLemmas.{is_file, directory_stays, cut_stands}
+use Rattle.memfs_ops.proofs.PaysLemmas.{pays_nothing}
+use Rattle.memfs_ops.proofs.WriteLemmas.{lags_to, some_to}
+use Rattle.memfs_ops.proofs.file_tree.FileTree.cut.Goals as goal
+
+pub returns-then-not-asked-clause-stands : goal.returns-then-not-asked-clause-stands
+returns-then-not-asked-clause-stands c = λ tree pins stands.
+    subst (λ (b : Bool). Stands c.args.heap.now c.args.self.now (cut_tree tree c.args.node b) pins) (sym c.if-not-asked.true) stands
+
+pub returns-then-not-asked-clause-pays : goal.returns-then-not-asked-clause-pays
+returns-then-not-asked-clause-pays c = pays_nothing c.args.heap.now c.args.purse.now c.args.self.now c.requires.may.fills
+
+pub returns-then-is_directory-clause-stands : goal.returns-then-is_directory-clause-stands
+returns-then-is_directory-clause-stands c = λ tree pins stands.
+    let is = shown c.args.self.now.disk.blocks tree c.args.node c.args.inode.now stands.behind c.requires.node in
+    let dir = sym (c.is_directory.ensures tree c.args.node is) ∙ c.if-is_directory.true in
+    subst (λ (b : Bool). Stands c.args.heap.now c.args.self.now (cut_tree tree c.args.node b) pins) (sym c.if-not-asked.false) (subst (λ (t : Tree). Stands c.args.heap.now c.args.self.now t pins) (sym (directory_stays tree c.args.node dir)) stands)
+
+pub returns-then-is_directory-clause-pays : goal.returns-then-is_directory-clause-pays
+returns-then-is_directory-clause-pays c = pays_nothing c.args.heap.now c.args.purse.now c.args.self.now c.requires.may.fills
+
+pub size_in-done-requires-clause-stands : goal.size_in-done-requires-clause-stands
+size_in-done-requires-clause-stands c =
+    let r = c.requires.stands in
+    let is = shown c.args.self.now.disk.blocks r.0 c.args.node c.args.inode.now r.2.behind c.requires.node in
+    (r.0, r.1, r.2, is_file r.0 c.args.node c.args.inode.now is (sym (c.is_directory.ensures r.0 c.args.node is) ∙ c.if-is_directory.false) r.3)
+
+pub renew-requires-clause-lags : goal.renew-requires-clause-lags
+renew-requires-clause-lags c =
+    let r = c.requires.stands in
+    let m = c.size_in-done in
+    some_to c.args.node m.new.heap m.new.self r.0 (resize r.0 c.args.node 0) r.1 m.result (m.ensures.answer r.0 r.1 r.2)
+
+pub returns-clause-stands : goal.returns-clause-stands
+returns-clause-stands c = λ tree pins stands.
+    let m = c.size_in-done in
+    subst (λ (b : Bool). Stands c.renew.new.heap c.renew.new.self (cut_tree tree c.args.node b) pins) (sym c.if-not-asked.false)
+    (cut_stands c.renew.new.heap c.renew.new.self tree c.args.node pins m.result (lags_to c.args.node m.new.heap c.renew.new.heap m.new.self c.renew.new.self tree (resize tree c.args.node 0) pins m.result (m.ensures.answer tree pins stands) (λ t lags. c.renew.ensures.stands t pins lags)))
+
+pub returns-clause-pays : goal.returns-clause-pays
+returns-clause-pays c =
+    let m = c.size_in-done in
+    pays_changed c.args.heap.now m.new.heap c.renew.new.heap c.args.purse.now m.new.purse c.args.self.now m.new.self c.renew.new.self m.ensures.goes_on m.ensures.may c.renew.ensures.only c.renew.ensures.used c.renew.ensures.takes c.renew.ensures.same
+
+pub returns-clause-nodes : goal.returns-clause-nodes
+returns-clause-nodes c = ap (λ (v : TreeView). v.vnodes) c.renew.ensures.same ∙ c.size_in-done.ensures.nodes

@@ -1,0 +1,79 @@
+use Rattle.std.proofs.Common.{◌≡◌, ℕ, Result, Ok, Err, refl, sym, ap, ◌∙◌, subst}
+use Rattle.posix_defs.specs.PathCalls as calls
+use Rattle.posix_defs.specs.Paths.{IsLed, last_name}
+use Rattle.posix_defs.specs.declared.walked.Walked.{Walked}
+use Rattle.posix_defs.specs.declared.walked.Walked.TheVariants as walked
+use Rattle.posix_defs.proofs.TreeNodes.{directory_in_use}
+use Rattle.tree_laws.proofs.PathLeads.{path_led, last_is_entry_name}
+use Rattle.tree_laws.proofs.TreeFacts.{found_in_use}
+use Rattle.memfs_ops.specs.Opening.{asks_of, OpenedAs}
+use Rattle.memfs_ops.proofs.LookLemmas.{pays_of, pays_trans}
+use Rattle.memfs_ops.proofs.file_tree.FileTree.open_node.Goals as goal
+
+pub open_there-requires-clause-stands : goal.open_there-requires-clause-stands
+open_there-requires-clause-stands c =
+    let r = c.requires.stands in
+    let w : Walked = walked.Node c.in-Node.node in
+    let led : IsLed r.0 w = subst (λ (x : Walked). IsLed r.0 x) (sym (c.in-Node.ensures.resolved r.0 r.1 r.2)) (path_led r.0 c.args.cwd c.args.path.now r.2.is_tree r.3) in
+    (r.0, r.1, c.walk.ensures.looks.stands r.0 r.1 r.2, directory_in_use r.0 c.in-Node.node led, r.4 c.in-Node.node)
+
+pub returns-in-Node-clause-answer : goal.returns-in-Node-clause-answer
+returns-in-Node-clause-answer c = λ tree pins stands.
+    let m = c.open_there in
+    subst (λ (x : Walked). OpenedAs m.new.heap m.new.self tree (calls.open_led tree (asks_of c.args.how) x) pins m.result) (c.in-Node.ensures.resolved tree pins stands)
+    (m.ensures.answer tree pins (c.walk.ensures.looks.stands tree pins stands))
+
+pub returns-in-Node-clause-pays : goal.returns-in-Node-clause-pays
+returns-in-Node-clause-pays c =
+    let w = c.walk in
+    let m = c.open_there in
+    pays_trans c.args.heap.now w.new.heap m.new.heap c.args.purse.now w.new.purse m.new.purse c.args.self.now w.new.self m.new.self w.ensures.looks m.ensures.pays
+
+pub open_there-2-requires-clause-stands : goal.open_there-2-requires-clause-stands
+open_there-2-requires-clause-stands c =
+    let r = c.requires.stands in
+    let led = subst (λ (x : Walked). IsLed r.0 x) (sym (c.in-Named.ensures.resolved r.0 r.1 r.2)) (path_led r.0 c.args.cwd c.args.path.now r.2.is_tree r.3) in
+    (r.0, r.1, c.walk.ensures.looks.stands r.0 r.1 r.2, found_in_use r.0 _ _ c.in-Named.node r.2.is_tree led.1, r.4 c.in-Named.node)
+
+pub returns-in-Named-clause-answer : goal.returns-in-Named-clause-answer
+returns-in-Named-clause-answer c = λ tree pins stands.
+    let m = c.open_there-2 in
+    subst (λ (x : Walked). OpenedAs m.new.heap m.new.self tree (calls.open_led tree (asks_of c.args.how) x) pins m.result) (c.in-Named.ensures.resolved tree pins stands)
+    (m.ensures.answer tree pins (c.walk.ensures.looks.stands tree pins stands))
+
+pub returns-in-Named-clause-pays : goal.returns-in-Named-clause-pays
+returns-in-Named-clause-pays c =
+    let w = c.walk in
+    let m = c.open_there-2 in
+    pays_trans c.args.heap.now w.new.heap m.new.heap c.args.purse.now w.new.purse m.new.purse c.args.self.now w.new.self m.new.self w.ensures.looks m.ensures.pays
+
+pub open_free-requires-clause-stands : goal.open_free-requires-clause-stands
+open_free-requires-clause-stands c =
+    let r = c.requires.stands in
+    let w : Walked = walked.Free c.in-Free.parent c.in-Free.name c.in-Free.slash in
+    let led : IsLed r.0 w = subst (λ (x : Walked). IsLed r.0 x) (sym (c.in-Free.ensures.resolved r.0 r.1 r.2)) (path_led r.0 c.args.cwd c.args.path.now r.2.is_tree r.3) in
+    (r.0, r.1, c.walk.ensures.looks.stands r.0 r.1 r.2, led.0, led.1, r.4)
+
+pub open_free-requires-clause-name : goal.open_free-requires-clause-name
+open_free-requires-clause-name c =
+    let r = c.requires.stands in
+    last_is_entry_name r.0 c.args.cwd c.args.path.now c.in-Free.name c.requires.path c.requires.bytes (ap last_name (sym (c.in-Free.ensures.resolved r.0 r.1 r.2)))
+
+pub returns-in-Free-clause-answer : goal.returns-in-Free-clause-answer
+returns-in-Free-clause-answer c = λ tree pins stands.
+    let m = c.open_free in
+    subst (λ (x : Walked). OpenedAs m.new.heap m.new.self tree (calls.open_led tree (asks_of c.args.how) x) pins m.result) (c.in-Free.ensures.resolved tree pins stands)
+    (m.ensures.answer tree pins (c.walk.ensures.looks.stands tree pins stands))
+
+pub returns-in-Free-clause-pays : goal.returns-in-Free-clause-pays
+returns-in-Free-clause-pays c =
+    let w = c.walk in
+    let m = c.open_free in
+    pays_trans c.args.heap.now w.new.heap m.new.heap c.args.purse.now w.new.purse m.new.purse c.args.self.now w.new.self m.new.self w.ensures.looks m.ensures.pays
+
+pub returns-in-Fail-clause-answer : goal.returns-in-Fail-clause-answer
+returns-in-Fail-clause-answer c = λ tree pins stands.
+    subst (λ (x : Walked). OpenedAs c.walk.new.heap c.walk.new.self tree (calls.open_led tree (asks_of c.args.how) x) pins (Err c.in-Fail.errno)) (c.in-Fail.ensures.resolved tree pins stands) (refl, c.walk.ensures.looks.stands tree pins stands)
+
+pub returns-in-Fail-clause-pays : goal.returns-in-Fail-clause-pays
+returns-in-Fail-clause-pays c = pays_of c.args.heap.now c.walk.new.heap c.args.purse.now c.walk.new.purse c.args.self.now c.walk.new.self c.walk.ensures.looks

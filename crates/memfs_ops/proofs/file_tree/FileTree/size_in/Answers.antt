@@ -1,0 +1,60 @@
+use Rattle.std.proofs.Common.{◌≡◌, ℕ, List, refl, sym, ap, ◌∙◌, subst}
+use Rattle.posix_defs.specs.FileBytes.{resized}
+use Rattle.posix_defs.specs.DiskContents.{node_bytes}
+use Rattle.posix_defs.specs.SoundDisk.{HasNode}
+use Rattle.cached_disk.specs.Lent.{parts, GoesOn}
+use Rattle.memfs_ops.specs.FileTree.{TreeView, Stands}
+use Rattle.memfs_ops.specs.declared.file_tree.FileTree.TheInside.{Inside}
+use Rattle.memfs_ops.proofs.FetchLemmas.{block_lent, still_may_fetch, same_file}
+use Rattle.memfs_ops.proofs.WriteLemmas.{file_kind, sized_lags, sized_node}
+use Rattle.memfs_ops.proofs.file_tree.FileTree.size_in.Goals as goal
+
+abbrev view : Inside → TreeView
+view fs = record { names = fs.names; vnodes = fs.vnodes; blocks = fs.blocks; disk = fs.disk }
+
+pub size_through-requires-clause-lent : goal.size_through-requires-clause-lent
+size_through-requires-clause-lent c =
+    let r = c.requires.stands in
+    block_lent c.args.heap.now c.args.purse.now (view c.self.inside) r.0 r.1 (subst (λ (v : TreeView). Stands c.args.heap.now v r.0 r.1) (sym c.self.view_is) r.2) c.requires.may
+
+pub size_through-requires-clause-sound : goal.size_through-requires-clause-sound
+size_through-requires-clause-sound c =
+    let r = c.requires.stands in
+    (subst (λ (v : TreeView). Stands c.args.heap.now v r.0 r.1) (sym c.self.view_is) r.2).behind.sound
+
+pub size_through-requires-clause-node : goal.size_through-requires-clause-node
+size_through-requires-clause-node c = subst (λ (v : TreeView). HasNode v.disk.blocks c.args.node c.args.inode.now) (sym c.self.view_is) c.requires.node
+
+pub size_through-requires-clause-kind : goal.size_through-requires-clause-kind
+size_through-requires-clause-kind c =
+    let r = c.requires.stands in
+    file_kind c.args.self.now.disk.blocks r.0 c.args.node c.args.inode.now r.2.behind r.3 c.requires.node
+
+pub returns-clause-answer : goal.returns-clause-answer
+returns-clause-answer c = λ tree pins stands.
+    let t = c.size_through in
+    let r = c.requires.stands in
+    let s = subst (λ (v : TreeView). Stands c.args.heap.now v tree pins) (sym c.self.view_is) stands in
+    let file = same_file c.args.self.now.disk.blocks r.0 tree c.args.node r.2.behind stands.behind r.3 in
+    let has = subst (λ (v : TreeView). HasNode v.disk.blocks c.args.node c.args.inode.now) (sym c.self.view_is) c.requires.node in
+    sized_lags c.args.heap.now t.new.heap c.args.purse.now t.new.purse (view c.self.inside) t.new.cache t.new.disk t.ensures.goes_on t.ensures.lent tree pins c.args.node c.args.inode.now t.new.inode s file has
+    c.args.size t.result t.ensures.ok t.ensures.err t.ensures.big t.ensures.full
+
+pub returns-clause-node : goal.returns-clause-node
+returns-clause-node c =
+    let t = c.size_through in
+    let has = subst (λ (v : TreeView). HasNode v.disk.blocks c.args.node c.args.inode.now) (sym c.self.view_is) c.requires.node in
+    sized_node c.args.node c.self.inside.disk.blocks t.new.disk.blocks c.args.inode.now t.new.inode t.result (resized c.args.size (node_bytes c.self.inside.disk.blocks c.args.inode.now)) has t.ensures.ok t.ensures.err
+
+pub returns-clause-goes_on : goal.returns-clause-goes_on
+returns-clause-goes_on c =
+    let t = c.size_through in
+    subst (λ (v : TreeView). GoesOn (parts c.args.heap.now c.args.purse.now v.blocks v.disk) (parts t.new.heap t.new.purse t.new.cache t.new.disk)) c.self.view_is t.ensures.goes_on
+
+pub returns-clause-may : goal.returns-clause-may
+returns-clause-may c =
+    let t = c.size_through in
+    still_may_fetch c.args.heap.now t.new.heap c.args.purse.now t.new.purse (view c.self.inside) t.new.cache t.new.disk t.ensures.goes_on t.ensures.lent c.requires.may
+
+pub returns-clause-nodes : goal.returns-clause-nodes
+returns-clause-nodes c = ap (λ (v : TreeView). v.vnodes) c.self.view_is

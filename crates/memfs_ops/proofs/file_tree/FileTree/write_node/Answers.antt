@@ -1,0 +1,47 @@
+use Rattle.std.proofs.Common.{◌≡◌, ℕ, Result, sym, ap, ◌∙◌, subst}
+use Rattle.kabi_values.specs.declared.errnos.Errno.{Errno}
+use Rattle.posix_defs.specs.SoundDisk.{HasNode}
+use Rattle.posix_defs.specs.Tree.{Tree}
+use Rattle.posix_defs.specs.TreeChanges.{write}
+use Rattle.memfs_ops.specs.FileTree.{TreeView}
+use Rattle.memfs_ops.specs.Changing.{LedTo}
+use Rattle.memfs_ops.proofs.ChangeLemmas.{lags_led, some_lags, pays_changed}
+use Rattle.memfs_ops.proofs.PaysLemmas.{pays_used}
+use Rattle.memfs_ops.proofs.WriteLemmas.{same_write}
+use Rattle.memfs_ops.proofs.file_tree.FileTree.write_node.Goals as goal
+
+pub held_inode-inode-requires : goal.held_inode-inode-requires
+held_inode-inode-requires c =
+    let r = c.requires.stands in
+    (r.0, r.1, r.2, r.3)
+
+pub write_in-answer-requires-clause-stands : goal.write_in-answer-requires-clause-stands
+write_in-answer-requires-clause-stands c =
+    let r = c.requires.stands in
+    (r.0, r.1, c.held_inode-inode.ensures.stands r.0 r.1 r.2, r.4)
+
+pub write_in-answer-requires-clause-node : goal.write_in-answer-requires-clause-node
+write_in-answer-requires-clause-node c =
+    let h = c.held_inode-inode in
+    subst (λ (v : TreeView). HasNode v.disk.blocks c.args.node h.result) (sym h.ensures.used.same) h.ensures.has
+
+pub renew-requires-clause-lags : goal.renew-requires-clause-lags
+renew-requires-clause-lags c =
+    let r = c.requires.stands in
+    let m = c.write_in-answer in
+    some_lags c.args.node m.new.heap m.new.self r.0 (write r.0 c.args.node c.place_of.result c.args.bytes.now) r.1 m.result (m.ensures.answer r.0 r.1 (c.held_inode-inode.ensures.stands r.0 r.1 r.2))
+
+pub returns-clause-answer : goal.returns-clause-answer
+returns-clause-answer c = λ tree pins stands.
+    let m = c.write_in-answer in
+    let same = ap (λ n. write tree c.args.node n c.args.bytes.now) c.place_of.ensures ∙ same_write tree c.args.node c.args.at c.args.bytes.now in
+    subst (λ (led : Result (ℕ × Tree) Errno). LedTo c.renew.new.heap c.renew.new.self tree led pins m.result) same
+    (lags_led c.args.node m.new.heap c.renew.new.heap m.new.self c.renew.new.self tree (write tree c.args.node c.place_of.result c.args.bytes.now) pins m.result (m.ensures.answer tree pins (c.held_inode-inode.ensures.stands tree pins stands))
+    (λ t lags. c.renew.ensures.stands t pins lags))
+
+pub returns-clause-pays : goal.returns-clause-pays
+returns-clause-pays c =
+    let h = c.held_inode-inode in
+    let m = c.write_in-answer in
+    pays_used c.args.heap.now c.renew.new.heap c.args.purse.now m.new.purse c.args.self.now h.new.self c.renew.new.self h.ensures.used
+    (pays_changed c.args.heap.now m.new.heap c.renew.new.heap c.args.purse.now m.new.purse h.new.self m.new.self c.renew.new.self m.ensures.goes_on m.ensures.may c.renew.ensures.only c.renew.ensures.used c.renew.ensures.takes c.renew.ensures.same)

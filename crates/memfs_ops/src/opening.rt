@@ -1,0 +1,240 @@
+//! Nodes that are opened: each description of one holds it.
+ghost use Rattle.std.specs.Prelude.{◌≡◌, ℕ, ◌<◌, ◌^◌, ◌&&◌, ◌||◌, true, false, None, Ok, IsSome, Result, List};
+ghost use Rattle.std.specs.List.{All};
+ghost use Rattle.kabi_calls.specs.Arguments.{path_fault};
+ghost use Rattle.kabi_values.specs.declared.errnos.Errno.{Errno as Fault};
+ghost use Rattle.kabi_values.specs.declared.errnos.Errno.TheVariants.{EEXIST, EISDIR, EOPNOTSUPP};
+ghost use Rattle.lru_index.specs.NameKeys.{name_key};
+ghost use Rattle.posix_defs.specs.IsTree.{IsEntryName};
+ghost use Rattle.posix_defs.specs.PathCalls as calls;
+ghost use Rattle.posix_defs.specs.SoundDisk.{HasNode};
+ghost use Rattle.posix_defs.specs.Tree.{Tree, IsInodeAt, found, is_directory as directory_in, is_in_use};
+ghost use Rattle.posix_defs.specs.declared.walked.Walked.TheVariants as walked;
+ghost use Rattle.name_cache.specs.Names.{name_slot};
+ghost use Rattle.vnode_cache.specs.Nodes.{node_slot};
+ghost use Rattle.memfs_ops.specs.FileTree.{Stands, MayWalk, Pays, Looks};
+ghost use Rattle.memfs_ops.specs.Fetching.{MayFetch};
+ghost use Rattle.memfs_ops.specs.Opening.{asks_of, cut_tree, unless_fault, OpenedAs};
+
+use crate::FileTree;
+use crate::telling::{is_directory, is_socket};
+use kabi_types::{Errno, Inode, Name27};
+use kheap_shelves::Purse;
+use kheap_slabs::KHeap;
+use memfs_node::NewNode;
+use path_walk::Walked;
+
+/// What the flags of an open ask of the tree.
+#[derive(Clone, Copy, Debug, PartialEq, Eq)]
+pub struct Opening {
+    /// To write, which no directory lets one.
+    pub writes: bool,
+    /// To make a file where the name is free.
+    pub creates: bool,
+    /// Together with `creates`, to fail where the name is there.
+    pub excludes: bool,
+    /// To take all bytes from a file that is there.
+    pub truncates: bool,
+}
+
+impl FileTree {
+    /// Opens what a path leads to, a new file where the name is free and that is asked for, and answers its node, which one
+    /// more holds from then on: EEXIST where something is there that must not be, EISDIR where a directory is to be written,
+    /// EOPNOTSUPP where it is the name of a socket, ENOENT and ENOSPC where nothing is there and nothing is made, else the
+    /// faults of the walk.
+    ///
+    /// See [open](https://pubs.opengroup.org/onlinepubs/9699919799/functions/open.html).
+    pub fn open_node(
+        &mut self,
+        heap: &mut KHeap,
+        purse: &mut Purse,
+        cwd: u32,
+        path: &[u8],
+        how: Opening,
+    ) -> Result<u32, Errno>
+        requires stands { (tree : Tree) × (pins : ℕ → ℕ) × Stands heap.old self.old tree pins
+            × (directory_in tree cwd ≡ true) × ((number : ℕ) → pins number < 4294967295) }
+        requires path { path_fault path.now ≡ None }
+        requires bytes { All (λ byte. (0 < byte) × (byte < 2 ^ 8)) path.now }
+        requires may { MayWalk heap.old purse.old }
+        ensures answer { (tree : Tree) (pins : ℕ → ℕ) → Stands heap.old self.old tree pins
+            → OpenedAs heap.new self.new tree (calls.open_path tree cwd path.now (asks_of how)) pins result }
+        ensures pays { Pays heap.old heap.new purse.old purse.new self.old self.new }
+    {
+        match self.walk(heap, purse, cwd, path) {
+            Walked::Node(node) => self.open_there(heap, purse, node, how),
+            Walked::Named { node, .. } => self.open_there(heap, purse, node, how),
+            Walked::Free {
+                parent,
+                name,
+                slash,
+            } => self.open_free(heap, purse, parent, name, slash, how),
+            Walked::Fail(errno) => Err(errno),
+        }
+    }
+
+    // The same of a node that is there.
+    fn open_there(
+        &mut self,
+        heap: &mut KHeap,
+        purse: &mut Purse,
+        node: u32,
+        how: Opening,
+    ) -> Result<u32, Errno>
+        requires stands { (tree : Tree) × (pins : ℕ → ℕ) × Stands heap.old self.old tree pins
+            × (is_in_use tree node ≡ true) × (pins node < 4294967295) }
+        requires may { MayWalk heap.old purse.old }
+        ensures answer { (tree : Tree) (pins : ℕ → ℕ) → Stands heap.old self.old tree pins
+            → OpenedAs heap.new self.new tree (calls.open_there tree (asks_of how) node) pins result }
+        ensures pays { Pays heap.old heap.new purse.old purse.new self.old self.new }
+    {
+        let inode = self.inode(heap, purse, node);
+        match open_fault(&inode, how) {
+            Some(errno) => Err(errno),
+            None => {
+                self.hold_cut(heap, purse, node, &inode, how.truncates);
+                Ok(node)
+            }
+        }
+    }
+
+    // One more holds a node that is cached and no socket's name; where that is asked, all bytes are taken from it before, if it
+    // is a file.
+    fn hold_cut(
+        &mut self,
+        heap: &mut KHeap,
+        purse: &mut Purse,
+        node: u32,
+        inode: &Inode,
+        asked: bool,
+    )
+        requires stands { (tree : Tree) × (pins : ℕ → ℕ) × Stands heap.old self.old tree pins
+            × (calls.is_socket tree node ≡ false) × (pins node < 4294967295) }
+        requires node { HasNode self.old.disk.blocks node inode.now }
+        requires there { IsSome (node_slot self.old.vnodes node) }
+        requires may { MayFetch heap.old purse.old }
+        ensures stands { (tree : Tree) (pins : ℕ → ℕ) → Stands heap.old self.old tree pins
+            → Stands heap.new self.new (cut_tree tree node asked) (one_more pins node) }
+        ensures pays { Pays heap.old heap.new purse.old purse.new self.old self.new }
+    {
+        self.cut(heap, purse, node, inode, asked);
+        self.hold(heap, node);
+    }
+
+    // Where that is asked, all bytes are taken from a node, if it is a file.
+    fn cut(
+        &mut self,
+        heap: &mut KHeap,
+        purse: &mut Purse,
+        node: u32,
+        inode: &Inode,
+        asked: bool,
+    )
+        requires stands { (tree : Tree) × (pins : ℕ → ℕ) × Stands heap.old self.old tree pins
+            × (calls.is_socket tree node ≡ false) }
+        requires node { HasNode self.old.disk.blocks node inode.now }
+        requires may { MayFetch heap.old purse.old }
+        ensures stands { (tree : Tree) (pins : ℕ → ℕ) → Stands heap.old self.old tree pins
+            → Stands heap.new self.new (cut_tree tree node asked) pins }
+        ensures pays { Pays heap.old heap.new purse.old purse.new self.old self.new }
+        ensures nodes { self.new.vnodes ≡ self.old.vnodes }
+    {
+        if !asked {
+            return;
+        }
+        if is_directory(inode) {
+            return;
+        }
+        let mut left = *inode;
+        let _done = self.size_in(heap, purse, node, &mut left, 0);
+        self.renew(heap, node, &left);
+    }
+
+    // An open of a name that is free.
+    fn open_free(
+        &mut self,
+        heap: &mut KHeap,
+        purse: &mut Purse,
+        parent: u32,
+        name: Name27,
+        slash: bool,
+        how: Opening,
+    ) -> Result<u32, Errno>
+        requires stands { (tree : Tree) × (pins : ℕ → ℕ) × Stands heap.old self.old tree pins
+            × (directory_in tree parent ≡ true) × (found tree parent name ≡ None)
+            × ((number : ℕ) → pins number < 4294967295) }
+        requires name { IsEntryName name }
+        requires may { MayWalk heap.old purse.old }
+        ensures answer { (tree : Tree) (pins : ℕ → ℕ) → Stands heap.old self.old tree pins
+            → OpenedAs heap.new self.new tree (calls.open_led tree (asks_of how) (walked.Free parent name slash)) pins result }
+        ensures pays { Pays heap.old heap.new purse.old purse.new self.old self.new }
+    {
+        if !how.creates {
+            return Err(Errno::ENOENT);
+        }
+        if slash {
+            return Err(Errno::ENOENT);
+        }
+        let called = name.copy();
+        match self.make_new(heap, purse, parent, name, NewNode::File) {
+            Ok(node) => {
+                self.hold_named(heap, purse, parent, &called, node);
+                Ok(node)
+            }
+            Err(errno) => Err(errno),
+        }
+    }
+
+    // One more holds the node of a name, which are both cached from then on.
+    fn hold_named(
+        &mut self,
+        heap: &mut KHeap,
+        purse: &mut Purse,
+        parent: u32,
+        name: &Name27,
+        node: u32,
+    )
+        requires stands { (tree : Tree) × (pins : ℕ → ℕ) × Stands heap.old self.old tree pins
+            × (directory_in tree parent ≡ true) × (found tree parent name.now ≡ Some node)
+            × (pins node < 4294967295) }
+        requires may { MayWalk heap.old purse.old }
+        ensures stands { (tree : Tree) (pins : ℕ → ℕ) → Stands heap.old self.old tree pins
+            → Stands heap.new self.new tree (one_more pins node) }
+        ensures pays { Pays heap.old heap.new purse.old purse.new self.old self.new }
+        ensures named { IsSome (name_slot self.new.names (name_key parent name.now)) }
+        ensures kept { IsSome (node_slot self.new.vnodes node) }
+    {
+        let _found = self.look(heap, purse, parent, name.items());
+        let _inode = self.inode(heap, purse, node);
+        self.hold(heap, node);
+    }
+}
+
+/// The fault of an open of a node that is there, by its inode; None where it may be opened, which no socket's name may.
+fn open_fault(inode: &Inode, how: Opening) -> Option<Errno>
+    ensures value { (tree : Tree) (number : ℕ) → IsInodeAt tree number inode.now
+        → calls.open_there tree (asks_of how) number ≡ unless_fault result (Ok (number, cut_tree tree number how.truncates)) }
+    ensures named { result ≡ None → (tree : Tree) (number : ℕ) → IsInodeAt tree number inode.now
+        → calls.is_socket tree number ≡ false }
+{
+    fault_of(is_directory(inode), is_socket(inode), how)
+}
+
+fn fault_of(is_dir: bool, is_name: bool, how: Opening) -> Option<Errno>
+    ensures value { (led : Result (ℕ × Tree) Fault)
+        → calls.unless (how.creates && how.excludes) EEXIST
+        (calls.unless (is_dir && (how.writes || how.creates)) EISDIR (calls.unless is_name EOPNOTSUPP led))
+        ≡ unless_fault result led }
+    ensures named { result ≡ None → is_name ≡ false }
+{
+    if how.creates && how.excludes {
+        return Some(Errno::EEXIST);
+    }
+    if is_dir && (how.writes || how.creates) {
+        return Some(Errno::EISDIR);
+    }
+    if is_name {
+        return Some(Errno::EOPNOTSUPP);
+    }
+    None
+}
