@@ -94,8 +94,7 @@ pub tree_at_boot : (heap : Heap) (purse : Purse) (names : Order NameKey) (vnodes
 tree_at_boot heap purse names vnodes blocks disk many empty no_names no_nodes no_blocks pays fresh some few long has =
     let name : purse.need.name ≡ many = fresh.need.1 in
     let vnode : purse.need.vnode ≡ many = fresh.need.0 in
-    let block : purse.need.block ≡ many = fresh.need.2 in
-    (
+    let block : purse.need.block ≡ many = fresh.need.2 in (
       record {
         of_names = names_at_boot heap purse names 65536 1024 empty no_names fresh.fills.1 fresh.left (omega (arith, name, some)) (omega (arith, name, few)) (omega arith);
         of_nodes = nodes_at_boot heap purse vnodes disk 65536 16 empty no_nodes fresh.fills.0 fresh.left (omega (arith, vnode, some)) (omega (arith, vnode, few)) (rw long (omega arith));

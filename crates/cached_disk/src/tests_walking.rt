@@ -35,8 +35,29 @@ fn directory(rt: &impl Abort, disk: &mut RamDisk, number: u32) -> Inode
 {
     assert!(rt; number != 0 && number <= 16 * (disk.count() / 16));
     let inode = inode_at(disk, number);
-    assert!(rt; inode.kind == 2);
+    expect_directory(rt, &inode);
     inode
+}
+
+fn expect_directory(rt: &impl Abort, inode: &Inode)
+    ensures { inode.now.kind ≡ 2 }
+{
+    assert!(rt; inode.kind == 2);
+}
+
+// A letter is a name, where it is none of these.
+fn expect_letter(rt: &impl Abort, letter: u8)
+    ensures { (letter ≢ 0) × (letter ≢ 46) × (letter ≢ 47) }
+{
+    assert!(rt; letter != 0);
+    assert!(rt; letter != b'.');
+    assert!(rt; letter != b'/');
+}
+
+fn expect_free(rt: &impl Abort, found: Option<u32>)
+    ensures { found ≡ None }
+{
+    assert!(rt; found.is_none());
 }
 
 // A directory without entries, of one letter, under another.
@@ -45,10 +66,10 @@ fn make_in(rt: &impl Abort, disk: &mut RamDisk, parent: u32, letter: u8)
     ensures tree { HasTree disk.new.blocks }
     ensures long { length disk.new.blocks ≡ length disk.old.blocks }
 {
-    assert!(rt; letter != 0 && letter != b'.' && letter != b'/');
+    expect_letter(rt, letter);
     let mut dir = directory(rt, disk, parent);
     let letters = [letter];
-    assert!(rt; node_named(disk, &dir, &letters).is_none());
+    expect_free(rt, node_named(disk, &dir, &letters));
     let Some(name) = Name27::of(&letters) else {
         unreachable!()
     };
@@ -193,7 +214,10 @@ fn check_walks(rt: &impl Abort, kept: &mut Kept, rows: &[Row])
         let node = led(rt, kept, row.path.as_bytes());
         assert!(rt; node == row.node, "row {k}");
         let reads = kept.disk.reads().saturating_sub(start);
-        assert!(rt; reads == row.reads && kept.heap.live() == row.live, "row {k}");
+        assert!(rt;
+            reads == row.reads && kept.heap.live() == row.live,
+            "row {k}"
+        );
         assert!(rt; has_all(kept, row), "row {k}");
     }
 }

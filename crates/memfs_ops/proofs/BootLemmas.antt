@@ -5,7 +5,7 @@ use Rattle.std.specs.Option.{option_map}
 use Rattle.std.specs.List.{Contains}
 use Rattle.std.proofs.lemmas.List.{set-set}
 use Rattle.std.proofs.lemmas.List.Elements.{Contains-append_right}
-use Rattle.std.proofs.lemmas.Bool.{cases_eq, ne_eqb}
+use Rattle.std.proofs.lemmas.Bool.{cases_eq, ne_eqb, eq-eqb}
 use Rattle.kabi_values.specs.Class.{size}
 use Rattle.kabi_values.specs.declared.classes.Class.TheVariants as class
 use Rattle.kabi_values.specs.declared.inodes.Inode.{Inode}
@@ -113,3 +113,10 @@ root_kept inode old mid new before after had has last filled one fills keeps set
       vacant = vacant;
       heap = all ∙ ap (λ (h : Heap). record old { vnodes = put old.vnodes slot held; high = h.high }) (sym all);
     }
+
+-- who holds a node of a new tree is not too many
+pub few_alone : (number : ℕ) → root_alone number < 4294967295
+few_alone number = elim (cases_eq root number) [
+  | inl e ↦ let one : root_alone number ≡ 1 = ap (λ b. cond b 1 0) (eq-eqb root number e) in omega (arith, one)
+  | inr n ↦ let none : root_alone number ≡ 0 = ap (λ b. cond b 1 0) (ne_eqb root number n) in omega (arith, none)
+]

@@ -1,6 +1,6 @@
 -- A call that asks for blocks, from what a tree of files stands for to what its blocks are lent for, and back.
-use Rattle.std.proofs.Common.{◌≡◌, ℕ, ◌+◌, ◌-◌, ◌*◌, ◌/◌, ◌<◌, ◌≤◌, ◌++◌, zero, suc, List, Option, length, min, take, drop, refl, sym, ap, ◌∙◌, subst, arith}
-use Rattle.std.proofs.lemmas.List.{take_min, drop_min, length-drop, length-take}
+use Rattle.std.proofs.Common.{◌≡◌, ℕ, ◌+◌, ◌-◌, ◌*◌, ◌/◌, ◌<◌, ◌≤◌, ◌++◌, true, append_assoc, zero, suc, List, Option, length, min, take, drop, refl, sym, ap, ◌∙◌, subst, arith}
+use Rattle.std.proofs.lemmas.List.{take_min, drop_min, take-append-drop, drop-append-le, length-drop, length-take}
 use Rattle.kabi_values.specs.declared.inodes.Inode.{Inode}
 use Rattle.kheap_shelves.specs.Purse.{Purse}
 use Rattle.kheap_shelves.specs.declared.objects.Name.{Name}
@@ -13,13 +13,14 @@ use Rattle.posix_defs.specs.DiskFormat.{block_size, greatest_size}
 use Rattle.posix_defs.specs.DiskContents.{data_block, node_bytes}
 use Rattle.posix_defs.specs.DiskTree.{StandsFor}
 use Rattle.posix_defs.specs.SoundDisk.{HasNode}
-use Rattle.posix_defs.specs.PathCalls.{bytes_in}
-use Rattle.posix_defs.specs.Tree.{Tree, node_at, found}
+use Rattle.posix_defs.specs.PathCalls.{bytes_in, list_node}
+use Rattle.posix_defs.specs.Tree.{Tree, node_at, found, is_directory}
 use Rattle.disk_laws.proofs.DiskNodes.{one_tree}
 use Rattle.disk_laws.proofs.FormattedDisk.{one_inode}
 use Rattle.memfs_file.specs.Ranges.{asked_to_read}
 use Rattle.memfs_file.proofs.Bytes.{bytes_len}
 use Rattle.memfs_file.proofs.OnTree.{its_bytes}
+use Rattle.memfs_dir.proofs.InTree.{told_by_bytes}
 use Rattle.name_cache.specs.Names.{KeepsNames, TrueNames}
 use Rattle.vnode_cache.specs.Nodes.{Nodes, KeepsNodes, TrueNodes}
 use Rattle.cached_disk.specs.Lent.{parts, AreLent, GoesOn}
@@ -120,7 +121,7 @@ pub same_file : (disk : List (List ℕ)) (one other : Tree) (number : ℕ) → S
 same_file disk one other number stands also file = subst (λ (t : Tree). IsFile t number) (one_tree disk one other stands also) file
 
 pub few_bytes : (disk : List (List ℕ)) (number : ℕ) (inode : Inode) → HasNode disk number inode → inode.size ≤ greatest_size
-few_bytes disk number inode has = has.0.valid.fits.size
+few_bytes disk number inode has = has.0.valid.kind.size
 
 -- the bytes that were read, by the tree
 pub told_bytes : (disk : List (List ℕ)) (tree : Tree) (number at place count result : ℕ) (inode : Inode) → StandsFor disk tree → IsFile tree number → HasNode disk number inode → place ≡ min at 4294967295 → result ≡ min count (inode.size - place)
@@ -151,3 +152,25 @@ last_alike disk number at place room result inode held has other at_place is som
     let few = few_bytes disk number held other in
     let same : place ≡ at = omega arith in
     ap (λ p. data_block disk held ((p + result - 1) / block_size)) same ∙ ap (λ (i : Inode). data_block disk i ((at + result - 1) / block_size)) (one_inode disk number held inode other.0 has.0)
+
+-- ---- a directory's entries
+
+-- what was read of a part of the room, and the rest of it
+pub whole_rest : (bytes out : List ℕ) (count whole : ℕ) → count ≤ whole → whole ≤ length out → (bytes ++ drop count (take whole out)) ++ drop whole out ≡ bytes ++ drop count out
+whole_rest bytes out count whole less within =
+    let room : count ≤ length (take whole out) = omega (arith, length-take whole out) in
+    append_assoc bytes (drop count (take whole out)) (drop whole out)
+    ∙ ap (λ (l : List ℕ). bytes ++ l) (sym (drop-append-le count (take whole out) (drop whole out) room) ∙ ap (drop count) (take-append-drop whole out))
+
+pub listed_bytes : (disk : List (List ℕ)) (tree : Tree) (number at place count whole result : ℕ) (inode : Inode) → StandsFor disk tree → is_directory tree number ≡ true → HasNode disk number inode → place ≡ min at 4294967295 → whole ≡ 32 * (count / 32) → result ≡ min whole (inode.size - place)
+    → take result (drop place (node_bytes disk inode)) ≡ list_node tree number at count
+listed_bytes disk tree number at place count whole result inode stands is_dir has at_place wide is =
+    ap (λ p. take result (drop p (node_bytes disk inode))) at_place
+    ∙ take_count at whole inode.size result (node_bytes disk inode) (bytes_len disk inode) (few_bytes disk number inode has) (is ∙ ap (λ p. min whole (inode.size - p)) at_place)
+    ∙ ap (λ w. take w (drop at (node_bytes disk inode))) wide ∙ sym (told_by_bytes disk tree number at count inode stands is_dir has)
+
+pub listed_count : (disk : List (List ℕ)) (tree : Tree) (number at place count whole result : ℕ) (inode : Inode) → StandsFor disk tree → is_directory tree number ≡ true → HasNode disk number inode → place ≡ min at 4294967295 → whole ≡ 32 * (count / 32) → result ≡ min whole (inode.size - place)
+    → result ≡ length (list_node tree number at count)
+listed_count disk tree number at place count whole result inode stands is_dir has at_place wide is =
+    count_is at whole inode.size result (node_bytes disk inode) (bytes_len disk inode) (few_bytes disk number inode has) (is ∙ ap (λ p. min whole (inode.size - p)) at_place)
+    ∙ ap (λ w. length (take w (drop at (node_bytes disk inode)))) wide ∙ ap (λ (l : List ℕ). length l) (sym (told_by_bytes disk tree number at count inode stands is_dir has))

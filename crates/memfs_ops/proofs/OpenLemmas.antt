@@ -82,7 +82,8 @@ made_next : (heap : Heap) (fs : TreeView) (tree : Tree) (parent : ℕ) (name : L
     → LedTo heap fs tree led pins (Ok number) → IsMade heap fs tree parent name content pins number
 made_next heap fs tree parent name content pins number (Ok (made, next)) at is_dir free new is =
     let same : made ≡ number = sym (same_Ok number made is.0) in
-    let there : make tree parent name content ≡ Ok (number, next) = at ∙ ap (λ n. Ok (n, next)) same in
+    let ok : ℕ → Result (ℕ × Tree) Errno = λ (n : ℕ). Ok (n, next) in
+    let there : make tree parent name content ≡ Ok (number, next) = at ∙ ap ok same in
     let named = (made_found tree parent name content number next is_dir free new there).0 in
     record { next = next; is = there; stands = is.1; named = named; directory = found_in_directory next parent name number named }
 made_next heap fs tree parent name content pins number (Err errno) at is_dir free new is = absurd (cc)

@@ -177,3 +177,7 @@ stands_used heap fs nodes tree pins stands keeps capacity = record {
   root = stands.root;
   room = record { names = stands.room.names; nodes = rw capacity stands.room.nodes; blocks = stands.room.blocks };
 }
+
+-- who gets one more is held
+pub held_more : (pins : ℕ → ℕ) (number : ℕ) → 0 < one_more pins number number
+held_more pins number = rw (one_more_here pins number number refl) (omega arith)

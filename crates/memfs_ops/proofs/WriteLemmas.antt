@@ -51,7 +51,7 @@ module _ (old new : Heap) (before after : Purse) (was : TreeView) (blocks : Orde
   there : OnTree was.disk.blocks tree number file.links file.bytes inode
   there = record { stands = s.behind; there = file.there; has = has.0 }
 
-  now : TreeView
+  abbrev now : TreeView
   now = record was { blocks = blocks; disk = disk }
 
   -- nothing was written
@@ -70,24 +70,24 @@ module _ (old new : Heap) (before after : Purse) (was : TreeView) (blocks : Orde
         changed_lags old new before after was blocks disk on lent number tree w.0 pins (lags_of number old was tree pins s) (changed_others number was.disk.blocks disk.blocks r.changes) w.2 (λ slot n here leads. write_names tree number at bytes count w.0 w.1 n.dir n.name ∙ leads),
       )
 
-  failed_write : (at : ℕ) (bytes : List ℕ) (fault : Errno) → (fault ≡ EFBIG → greatest_size ≤ at) → (at < greatest_size → fault ≡ ENOSPC → fitting (blocks_for was.disk.blocks inode) at (length bytes) ≡ 0) → (fault ≡ EFBIG) ⊎ (fault ≡ ENOSPC) → (greatest_size ≤ at → fault ≡ EFBIG) → write tree number at bytes ≡ Err fault
-  failed_write at bytes fault big full (inl is) far = writes_big tree number at bytes (big is) ∙ ap Err (sym is)
-  failed_write at bytes fault big full (inr is) far = elim (cases_lt at greatest_size) [
+  failed_write : (at : ℕ) (bytes : List ℕ) (errno : Errno) → (errno ≡ EFBIG → greatest_size ≤ at) → (at < greatest_size → errno ≡ ENOSPC → fitting (blocks_for was.disk.blocks inode) at (length bytes) ≡ 0) → (errno ≡ EFBIG) ⊎ (errno ≡ ENOSPC) → (greatest_size ≤ at → errno ≡ EFBIG) → write tree number at bytes ≡ Err errno
+  failed_write at bytes errno big full (inl is) far = writes_big tree number at bytes (big is) ∙ ap Err (sym is)
+  failed_write at bytes errno big full (inr is) far = elim (cases_lt at greatest_size) [
     | inl within ↦ writes_none was.disk.blocks tree number file.links file.bytes inode there at bytes within (full within is) ∙ ap Err (sym is)
     | inr behind ↦ writes_big tree number at bytes behind ∙ ap Err (sym (far behind))
   ]
 
   pub written_lags : (at : ℕ) (bytes : List ℕ) (answer : Result ℕ Errno) → All (λ byte. byte < 2 ^ 8) bytes → IfOk answer (λ count. count ≡ fitting (blocks_for was.disk.blocks inode) at (length bytes))
       → IfOk answer (λ count. Rewrites number was.disk.blocks inode (overwritten at (take count bytes) (node_bytes was.disk.blocks inode)) disk.blocks next_inode)
-      → IfErr answer (λ fault. ((fault ≡ EFBIG) ⊎ (fault ≡ ENOSPC)) × (disk.blocks ≡ was.disk.blocks) × (next_inode ≡ inode)) → (answer ≡ Err EFBIG) ↔ (greatest_size ≤ at)
+      → IfErr answer (λ errno. ((errno ≡ EFBIG) ⊎ (errno ≡ ENOSPC)) × (disk.blocks ≡ was.disk.blocks) × (next_inode ≡ inode)) → (answer ≡ Err EFBIG) ↔ (greatest_size ≤ at)
       → (at < greatest_size → (answer ≡ Err ENOSPC) ↔ (fitting (blocks_for was.disk.blocks inode) at (length bytes) ≡ 0)) → LagsAs number new now tree (write tree number at bytes) pins answer
   written_lags at bytes (Ok count) are count_is r err big full =
-      let within : at < greatest_size = elim (cases_lt at greatest_size) [ | inl less ↦ less | inr far ↦ let is = big.1 far in absurd (cc) ] in
-      let some : 0 < count = elim (cases_lt 0 count) [ | inl more ↦ more | inr none ↦ let is = (full within).1 (omega (arith, none, count_is)) in absurd (cc) ] in
+      let within : at < greatest_size = elim (cases_lt at greatest_size) [ inl less ↦ less | inr far ↦ let is = big.1 far in absurd (cc) ] in
+      let some : 0 < count = elim (cases_lt 0 count) [ inl more ↦ more | inr none ↦ let is = (full within).1 (omega (arith, none, count_is)) in absurd (cc) ] in
       done_write at count bytes are within count_is some r
-  written_lags at bytes (Err fault) are count_is r err big full =
-      let is : write tree number at bytes ≡ Err fault = failed_write at bytes fault (λ same. big.0 (ap Err same)) (λ within same. (full within).0 (ap Err same)) err.0 (λ far. let same = big.1 far in cc) in
-      subst (λ (led : Result (ℕ × Tree) Errno). LagsAs number new now tree led pins (Err fault)) (sym is) (refl, s.is_tree, same_lags err.1)
+  written_lags at bytes (Err errno) are count_is r err big full =
+      let is : write tree number at bytes ≡ Err errno = failed_write at bytes errno (λ same. big.0 (ap Err same)) (λ within same. (full within).0 (ap Err same)) err.0 (λ far. let same = big.1 far in cc) in
+      subst (λ (led : Result (ℕ × Tree) Errno). LagsAs number new now tree led pins (Err errno)) (sym is) (refl, s.is_tree, same_lags err.1)
 
   -- ---- another size
 
@@ -100,34 +100,34 @@ module _ (old new : Heap) (before after : Purse) (was : TreeView) (blocks : Orde
         changed_lags old new before after was blocks disk on lent number tree w.0 pins (lags_of number old was tree pins s) (changed_others number was.disk.blocks disk.blocks r.changes) w.2 (λ slot n here leads. resize_names tree number size w.0 w.1 n.dir n.name ∙ leads),
       )
 
-  failed_size : (size : ℕ) (fault : Errno) → (fault ≡ EFBIG → greatest_size < size) → (size ≤ greatest_size → fault ≡ ENOSPC → blocks_for was.disk.blocks inode < blocks_of size) → (fault ≡ EFBIG) ⊎ (fault ≡ ENOSPC) → (greatest_size < size → fault ≡ EFBIG) → resize tree number size ≡ Err fault
-  failed_size size fault big full (inl is) far = sizes_big tree number size (big is) ∙ ap Err (sym is)
-  failed_size size fault big full (inr is) far = elim (cases_lt greatest_size size) [
+  failed_size : (size : ℕ) (errno : Errno) → (errno ≡ EFBIG → greatest_size < size) → (size ≤ greatest_size → errno ≡ ENOSPC → blocks_for was.disk.blocks inode < blocks_of size) → (errno ≡ EFBIG) ⊎ (errno ≡ ENOSPC) → (greatest_size < size → errno ≡ EFBIG) → resize tree number size ≡ Err errno
+  failed_size size errno big full (inl is) far = sizes_big tree number size (big is) ∙ ap Err (sym is)
+  failed_size size errno big full (inr is) far = elim (cases_lt greatest_size size) [
     | inl behind ↦ sizes_big tree number size behind ∙ ap Err (sym (far behind))
     | inr within ↦ sizes_none was.disk.blocks tree number file.links file.bytes inode there size within (full within is) ∙ ap Err (sym is)
   ]
 
   pub sized_lags : (size : ℕ) (answer : Result (Unit {0}) Errno) → OnOk answer (Rewrites number was.disk.blocks inode (resized size (node_bytes was.disk.blocks inode)) disk.blocks next_inode)
-      → IfErr answer (λ fault. ((fault ≡ EFBIG) ⊎ (fault ≡ ENOSPC)) × (disk.blocks ≡ was.disk.blocks) × (next_inode ≡ inode)) → (answer ≡ Err EFBIG) ↔ (greatest_size < size)
+      → IfErr answer (λ errno. ((errno ≡ EFBIG) ⊎ (errno ≡ ENOSPC)) × (disk.blocks ≡ was.disk.blocks) × (next_inode ≡ inode)) → (answer ≡ Err EFBIG) ↔ (greatest_size < size)
       → (size ≤ greatest_size → (answer ≡ Err ENOSPC) ↔ (blocks_for was.disk.blocks inode < blocks_of size)) → LagsTo number new now tree (resize tree number size) pins answer
   sized_lags size (Ok done) r err big full =
-      let within : size ≤ greatest_size = elim (cases_lt greatest_size size) [ | inl far ↦ let is = big.1 far in absurd (cc) | inr less ↦ less ] in
-      let fits : blocks_of size ≤ blocks_for was.disk.blocks inode = elim (cases_lt (blocks_for was.disk.blocks inode) (blocks_of size)) [ | inl few ↦ let is = (full within).1 few in absurd (cc) | inr enough ↦ enough ] in
+      let within : size ≤ greatest_size = elim (cases_lt greatest_size size) [ inl far ↦ let is = big.1 far in absurd (cc) | inr less ↦ less ] in
+      let fits : blocks_of size ≤ blocks_for was.disk.blocks inode = elim (cases_lt (blocks_for was.disk.blocks inode) (blocks_of size)) [ inl few ↦ let is = (full within).1 few in absurd (cc) | inr enough ↦ enough ] in
       done_size size within fits r
-  sized_lags size (Err fault) r err big full =
-      let is : resize tree number size ≡ Err fault = failed_size size fault (λ same. big.0 (ap Err same)) (λ within same. (full within).0 (ap Err same)) err.0 (λ far. let same = big.1 far in cc) in
-      subst (λ (led : Result Tree Errno). LagsTo number new now tree led pins (Err fault)) (sym is) (refl, s.is_tree, same_lags err.1)
+  sized_lags size (Err errno) r err big full =
+      let is : resize tree number size ≡ Err errno = failed_size size errno (λ same. big.0 (ap Err same)) (λ within same. (full within).0 (ap Err same)) err.0 (λ far. let same = big.1 far in cc) in
+      subst (λ (led : Result Tree Errno). LagsTo number new now tree led pins (Err errno)) (sym is) (refl, s.is_tree, same_lags err.1)
 
 -- the node has its new inode
-pub written_node : (number : ℕ) (was now : List (List ℕ)) (inode next : Inode) (answer : Result ℕ Errno) (bytes : ℕ → List ℕ) → HasNode was number inode → IfOk answer (λ count. Rewrites number was inode (bytes count) now next)
-    → IfErr answer (λ fault. ((fault ≡ EFBIG) ⊎ (fault ≡ ENOSPC)) × (now ≡ was) × (next ≡ inode)) → HasNode now number next
-written_node number was now inode next (Ok count) bytes has r err = (r.has, λ none. has.1 (sym r.fields.0 ∙ none))
-written_node number was now inode next (Err fault) bytes has r err = subst (λ (d : List (List ℕ)). HasNode d number next) (sym err.1) (subst (λ (i : Inode). HasNode was number i) (sym err.2) has)
+pub written_node : (number : ℕ) (was later : List (List ℕ)) (inode next : Inode) (answer : Result ℕ Errno) (bytes : ℕ → List ℕ) → HasNode was number inode → IfOk answer (λ count. Rewrites number was inode (bytes count) later next)
+    → IfErr answer (λ errno. ((errno ≡ EFBIG) ⊎ (errno ≡ ENOSPC)) × (later ≡ was) × (next ≡ inode)) → HasNode later number next
+written_node number was later inode next (Ok count) bytes has r err = (r.has, λ none. has.1 (sym r.fields.0 ∙ none))
+written_node number was later inode next (Err errno) bytes has r err = subst (λ (d : List (List ℕ)). HasNode d number next) (sym err.1) (subst (λ (i : Inode). HasNode was number i) (sym err.2) has)
 
-pub sized_node : (number : ℕ) (was now : List (List ℕ)) (inode next : Inode) (answer : Result (Unit {0}) Errno) (bytes : List ℕ) → HasNode was number inode → OnOk answer (Rewrites number was inode bytes now next)
-    → IfErr answer (λ fault. ((fault ≡ EFBIG) ⊎ (fault ≡ ENOSPC)) × (now ≡ was) × (next ≡ inode)) → HasNode now number next
-sized_node number was now inode next (Ok done) bytes has r err = (r.has, λ none. has.1 (sym r.fields.0 ∙ none))
-sized_node number was now inode next (Err fault) bytes has r err = subst (λ (d : List (List ℕ)). HasNode d number next) (sym err.1) (subst (λ (i : Inode). HasNode was number i) (sym err.2) has)
+pub sized_node : (number : ℕ) (was later : List (List ℕ)) (inode next : Inode) (answer : Result (Unit {0}) Errno) (bytes : List ℕ) → HasNode was number inode → OnOk answer (Rewrites number was inode bytes later next)
+    → IfErr answer (λ errno. ((errno ≡ EFBIG) ⊎ (errno ≡ ENOSPC)) × (later ≡ was) × (next ≡ inode)) → HasNode later number next
+sized_node number was later inode next (Ok done) bytes has r err = (r.has, λ none. has.1 (sym r.fields.0 ∙ none))
+sized_node number was later inode next (Err errno) bytes has r err = subst (λ (d : List (List ℕ)). HasNode d number next) (sym err.1) (subst (λ (i : Inode). HasNode was number i) (sym err.2) has)
 
 -- at the end the cached inode is that of the disk
 pub lags_to : (number : ℕ) (heap last : Heap) (fs end : TreeView) (tree : Tree) (led : Result Tree Errno) (pins : ℕ → ℕ) (answer : Result (Unit {0}) Errno) → LagsTo number heap fs tree led pins answer

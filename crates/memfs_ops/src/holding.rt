@@ -87,7 +87,7 @@ impl FileTree {
     }
 
     // One more holds a node that is cached.
-    fn hold(&mut self, heap: &mut KHeap, node: u32)
+    pub(crate) fn hold(&mut self, heap: &mut KHeap, node: u32)
         requires stands { (tree : Tree) × (pins : ℕ → ℕ) × Stands heap.old self.old tree pins
             × (pins node < 4294967295) }
         requires there { IsSome (node_slot self.old.vnodes node) }

@@ -48,7 +48,8 @@ impl FileTree {
                 let new = NewNode::Directory { parent };
                 done(self.make_new(heap, purse, parent, name, new))
             }
-            Walked::Node(_) | Walked::Named { .. } => Err(Errno::EEXIST),
+            Walked::Node(_) => Err(Errno::EEXIST),
+            Walked::Named { .. } => Err(Errno::EEXIST),
             Walked::Fail(errno) => Err(errno),
         }
     }
@@ -79,7 +80,8 @@ impl FileTree {
                 name,
                 slash,
             } => self.bind_free(heap, purse, parent, name, slash),
-            Walked::Node(_) | Walked::Named { .. } => Err(Errno::EADDRINUSE),
+            Walked::Node(_) => Err(Errno::EADDRINUSE),
+            Walked::Named { .. } => Err(Errno::EADDRINUSE),
             Walked::Fail(errno) => Err(errno),
         }
     }

@@ -12,7 +12,7 @@ ghost use Rattle.posix_defs.specs.Tree.{Tree, IsInodeAt, found, is_directory as 
 ghost use Rattle.posix_defs.specs.declared.walked.Walked.TheVariants as walked;
 ghost use Rattle.name_cache.specs.Names.{name_slot};
 ghost use Rattle.vnode_cache.specs.Nodes.{node_slot};
-ghost use Rattle.memfs_ops.specs.FileTree.{Stands, MayWalk, Pays, Looks};
+ghost use Rattle.memfs_ops.specs.FileTree.{Stands, MayWalk, Pays, one_more};
 ghost use Rattle.memfs_ops.specs.Fetching.{MayFetch};
 ghost use Rattle.memfs_ops.specs.Opening.{asks_of, cut_tree, unless_fault, OpenedAs};
 
@@ -122,14 +122,7 @@ impl FileTree {
     }
 
     // Where that is asked, all bytes are taken from a node, if it is a file.
-    fn cut(
-        &mut self,
-        heap: &mut KHeap,
-        purse: &mut Purse,
-        node: u32,
-        inode: &Inode,
-        asked: bool,
-    )
+    fn cut(&mut self, heap: &mut KHeap, purse: &mut Purse, node: u32, inode: &Inode, asked: bool)
         requires stands { (tree : Tree) × (pins : ℕ → ℕ) × Stands heap.old self.old tree pins
             × (calls.is_socket tree node ≡ false) }
         requires node { HasNode self.old.disk.blocks node inode.now }

@@ -1,9 +1,11 @@
 //! A tree of files on a disk of 16 blocks and on one of 4096, by hand: what is answered, how often the disk was read then, the
 //! bytes of the heap, and which names and nodes are cached.
-ghost use Rattle.std.specs.Prelude.{◌≡◌, ◌≤◌, ◌<◌, ◌^◌, None, IsTrue};
+ghost use Rattle.std.specs.Prelude.{◌≡◌, ℕ, ◌≤◌, ◌<◌, ◌^◌, None, IsTrue};
 ghost use Rattle.std.specs.List.{All};
 ghost use Rattle.kabi_calls.specs.Arguments.{path_fault};
-ghost use Rattle.memfs_ops.specs.FileTree.{MayWalk, StandsForSome, HeldSome};
+ghost use Rattle.posix_defs.specs.Tree.{Tree};
+ghost use Rattle.memfs_ops.specs.Evicting.{MayGo};
+ghost use Rattle.memfs_ops.specs.FileTree.{MayWalk, Stands, StandsForSome, HeldSome};
 
 use crate::FileTree;
 use kabi_types::{Cached, Call, Errno, Name27, Need, Path, StatInfo};
@@ -177,7 +179,10 @@ fn check_steps(rt: &impl Abort, heap: &mut KHeap, tree: &mut FileTree, rows: &[R
     for (k, row) in rows.iter().enumerate() {
         let answer = take(rt, heap, tree, row.step);
         assert!(rt; answer == row.answer, "row {k}");
-        assert!(rt; tree.reads() == row.reads && heap.live() == row.live, "row {k}");
+        assert!(rt;
+            tree.reads() == row.reads && heap.live() == row.live,
+            "row {k}"
+        );
         assert!(rt; has_all(tree, row), "row {k}");
     }
 }
@@ -340,33 +345,45 @@ const FIRST_STEPS: &[Row] = &[
     },
 ];
 
-// Of each cache what was used longest ago goes: the name `b` and its node, and the block of its directory's entries.
-fn evict_one_each(rt: &impl Abort, heap: &mut KHeap, tree: &mut FileTree)
-    requires { StandsForSome heap.old tree.old }
-    ensures { StandsForSome heap.new tree.new }
+fn expect_evictable(rt: &impl Abort, heap: &KHeap, files: &FileTree, what: Cached)
+    requires { (tree : Tree) × (pins : ℕ → ℕ) × Stands heap.now files.now tree pins }
+    ensures { MayGo heap.now what }
 {
-    assert!(rt; tree.evictable(heap, Cached::Name));
-    tree.evict(heap, Cached::Name);
-    assert!(rt; heap.live() == 4992 && !has_name(tree, 2, b'b'));
-    assert!(rt; tree.evictable(heap, Cached::Vnode));
-    tree.evict(heap, Cached::Vnode);
-    assert!(rt; heap.live() == 4864 && !tree.vnodes.has(3));
-    assert!(rt; tree.evictable(heap, Cached::Block));
-    tree.evict(heap, Cached::Block);
-    assert!(rt; heap.live() == 3776 && tree.reads() == 6);
+    assert!(rt; files.evictable(heap, what));
+}
+
+// What was used longest ago of a cache goes.
+fn evict_one(rt: &impl Abort, heap: &mut KHeap, files: &mut FileTree, what: Cached)
+    requires { (tree : Tree) × (pins : ℕ → ℕ) × Stands heap.old files.old tree pins }
+    ensures { (tree : Tree) (pins : ℕ → ℕ) → Stands heap.old files.old tree pins
+        → Stands heap.new files.new tree pins }
+{
+    expect_evictable(rt, heap, files, what);
+    files.evict(heap, what);
+}
+
+// Of each cache one goes: the name `b` and its node, and the block of its directory's entries.
+fn evict_one_each(rt: &impl Abort, heap: &mut KHeap, files: &mut FileTree)
+    requires { StandsForSome heap.old files.old }
+    ensures { StandsForSome heap.new files.new }
+{
+    evict_one(rt, heap, files, Cached::Name);
+    assert!(rt; heap.live() == 4992 && !has_name(files, 2, b'b'));
+    evict_one(rt, heap, files, Cached::Vnode);
+    assert!(rt; heap.live() == 4864 && !files.vnodes.has(3));
+    evict_one(rt, heap, files, Cached::Block);
+    assert!(rt; heap.live() == 3776 && files.reads() == 6);
 }
 
 // The directory's entries are read again.
-const AFTER_EVICTIONS: &[Row] = &[
-    Row {
-        step: Step::Stat("/a/b"),
-        answer: Answer::Told(3, 64),
-        reads: 7,
-        live: 5056,
-        names: &[(1, b'a'), (1, b's'), (2, b'b')],
-        nodes: &[1, 2, 4, 3],
-    },
-];
+const AFTER_EVICTIONS: &[Row] = &[Row {
+    step: Step::Stat("/a/b"),
+    answer: Answer::Told(3, 64),
+    reads: 7,
+    live: 5056,
+    names: &[(1, b'a'), (1, b's'), (2, b'b')],
+    nodes: &[1, 2, 4, 3],
+}];
 
 // A directory is entered, which holds it: of the nodes the two that no one holds may go, and no more.
 fn hold_a_directory(rt: &impl Abort, heap: &mut KHeap, tree: &mut FileTree)
@@ -382,18 +399,16 @@ fn hold_a_directory(rt: &impl Abort, heap: &mut KHeap, tree: &mut FileTree)
     assert!(rt; tree.reads() == 7 && heap.live() == 4800);
 }
 
-fn what_is_held(rt: &impl Abort, heap: &mut KHeap, tree: &mut FileTree, node: u32)
-    requires { HeldSome heap.old tree.old node }
+fn what_is_held(rt: &impl Abort, heap: &mut KHeap, files: &mut FileTree, node: u32)
+    requires { HeldSome heap.old files.old node }
 {
     assert!(rt; node == 2);
-    let info = tree.stat_node(heap, node);
+    let info = files.stat_node(heap, node);
     assert!(rt; info.number == 2 && info.size == 96 && info.nlink == 1);
-    assert!(rt; tree.evictable(heap, Cached::Vnode));
-    tree.evict(heap, Cached::Vnode);
-    assert!(rt; tree.evictable(heap, Cached::Vnode));
-    tree.evict(heap, Cached::Vnode);
-    assert!(rt; !tree.evictable(heap, Cached::Vnode));
-    assert!(rt; tree.vnodes.has(1) && tree.vnodes.has(2));
+    evict_one(rt, heap, files, Cached::Vnode);
+    evict_one(rt, heap, files, Cached::Vnode);
+    assert!(rt; !files.evictable(heap, Cached::Vnode));
+    assert!(rt; files.vnodes.has(1) && files.vnodes.has(2));
 }
 
 // The whole table on a new tree of so many blocks.

@@ -6,7 +6,7 @@ use Rattle.posix_defs.specs.declared.walked.Walked.{Walked}
 use Rattle.posix_defs.specs.declared.walked.Walked.TheVariants as walked
 use Rattle.tree_laws.proofs.PathLeads.{path_led, last_is_entry_name}
 use Rattle.memfs_ops.specs.Changing.{LedTo}
-use Rattle.memfs_ops.proofs.LookLemmas.{pays_trans}
+use Rattle.memfs_ops.proofs.LookLemmas.{pays_of, pays_trans}
 use Rattle.memfs_ops.proofs.file_tree.FileTree.bind_name.Goals as goal
 
 pub bind_free-requires-clause-stands : goal.bind_free-requires-clause-stands
@@ -44,3 +44,12 @@ returns-in-Named-clause-answer c = λ tree pins stands.
 pub returns-in-Fail-clause-answer : goal.returns-in-Fail-clause-answer
 returns-in-Fail-clause-answer c = λ tree pins stands.
     subst (λ (x : Walked). LedTo c.walk.new.heap c.walk.new.self tree (calls.bind_led tree x) pins (Err c.in-Fail.errno)) (c.in-Fail.ensures.resolved tree pins stands) (refl, c.walk.ensures.looks.stands tree pins stands)
+
+pub returns-in-Node-clause-pays : goal.returns-in-Node-clause-pays
+returns-in-Node-clause-pays c = pays_of c.args.heap.now c.walk.new.heap c.args.purse.now c.walk.new.purse c.args.self.now c.walk.new.self c.walk.ensures.looks
+
+pub returns-in-Named-clause-pays : goal.returns-in-Named-clause-pays
+returns-in-Named-clause-pays c = pays_of c.args.heap.now c.walk.new.heap c.args.purse.now c.walk.new.purse c.args.self.now c.walk.new.self c.walk.ensures.looks
+
+pub returns-in-Fail-clause-pays : goal.returns-in-Fail-clause-pays
+returns-in-Fail-clause-pays c = pays_of c.args.heap.now c.walk.new.heap c.args.purse.now c.walk.new.purse c.args.self.now c.walk.new.self c.walk.ensures.looks

@@ -49,3 +49,12 @@ returns-in-Named-clause-answer c = λ tree pins stands.
 pub returns-in-Fail-clause-answer : goal.returns-in-Fail-clause-answer
 returns-in-Fail-clause-answer c = λ tree pins stands.
     subst (λ (x : Walked). DoneAs c.walk.new.heap c.walk.new.self tree (calls.mkdir_led tree x) pins (Err c.in-Fail.errno)) (c.in-Fail.ensures.resolved tree pins stands) (refl, c.walk.ensures.looks.stands tree pins stands)
+
+pub returns-in-Node-clause-pays : goal.returns-in-Node-clause-pays
+returns-in-Node-clause-pays c = pays_of c.args.heap.now c.walk.new.heap c.args.purse.now c.walk.new.purse c.args.self.now c.walk.new.self c.walk.ensures.looks
+
+pub returns-in-Named-clause-pays : goal.returns-in-Named-clause-pays
+returns-in-Named-clause-pays c = pays_of c.args.heap.now c.walk.new.heap c.args.purse.now c.walk.new.purse c.args.self.now c.walk.new.self c.walk.ensures.looks
+
+pub returns-in-Fail-clause-pays : goal.returns-in-Fail-clause-pays
+returns-in-Fail-clause-pays c = pays_of c.args.heap.now c.walk.new.heap c.args.purse.now c.walk.new.purse c.args.self.now c.walk.new.self c.walk.ensures.looks

@@ -1,4 +1,4 @@
-use Rattle.std.proofs.Common.{◌≡◌, ℕ, Bool, true, false, not, ◌||◌, List, [], Result, Ok, Err, refl, sym, ap, ◌∙◌, subst}
+use Rattle.std.proofs.Common.{◌≡◌, ℕ, Bool, true, false, ◌||◌, List, [], Result, Ok, Err, refl, sym, ap, ◌∙◌, subst}
 use Rattle.kabi_values.specs.declared.errnos.Errno.{Errno}
 use Rattle.kabi_values.specs.declared.errnos.Errno.TheVariants.{ENOENT}
 use Rattle.posix_defs.specs.PathCalls as calls
@@ -14,19 +14,19 @@ use Rattle.memfs_ops.proofs.file_tree.FileTree.open_free.Goals as goal
 
 -- what is asked where the name is free
 abbrev asked : Tree → ℕ → List ℕ → Bool → Bool → Result (ℕ × Tree) Errno
-asked tree parent name creates slash = calls.unless (not creates || slash) ENOENT (make tree parent name (File []))
+asked tree parent name refused slash = calls.unless (refused || slash) ENOENT (make tree parent name (File []))
 
-pub returns-then-not-creates-clause-answer : goal.returns-then-not-creates-clause-answer
-returns-then-not-creates-clause-answer c = λ tree pins stands.
-    subst (λ (b : Bool). OpenedAs c.args.heap.now c.args.self.now tree (asked tree c.args.parent c.args.name b c.args.slash) pins (Err ENOENT)) (sym c.if-not-creates.true) (refl, stands)
+pub returns-then-not-how-clause-answer : goal.returns-then-not-how-clause-answer
+returns-then-not-how-clause-answer c = λ tree pins stands.
+    subst (λ (b : Bool). OpenedAs c.args.heap.now c.args.self.now tree (asked tree c.args.parent c.args.name b c.args.slash) pins (Err ENOENT)) (sym c.if-not-how.true) (refl, stands)
 
-pub returns-then-not-creates-clause-pays : goal.returns-then-not-creates-clause-pays
-returns-then-not-creates-clause-pays c = pays_nothing c.args.heap.now c.args.purse.now c.args.self.now c.requires.may.fills
+pub returns-then-not-how-clause-pays : goal.returns-then-not-how-clause-pays
+returns-then-not-how-clause-pays c = pays_nothing c.args.heap.now c.args.purse.now c.args.self.now c.requires.may.fills
 
 pub returns-then-slash-clause-answer : goal.returns-then-slash-clause-answer
 returns-then-slash-clause-answer c = λ tree pins stands.
-    subst (λ (b : Bool). OpenedAs c.args.heap.now c.args.self.now tree (asked tree c.args.parent c.args.name b c.args.slash) pins (Err ENOENT)) (sym c.if-not-creates.false)
-    (subst (λ (s : Bool). OpenedAs c.args.heap.now c.args.self.now tree (asked tree c.args.parent c.args.name true s) pins (Err ENOENT)) (sym c.if-slash.true) (refl, stands))
+    subst (λ (b : Bool). OpenedAs c.args.heap.now c.args.self.now tree (asked tree c.args.parent c.args.name b c.args.slash) pins (Err ENOENT)) (sym c.if-not-how.false)
+    (subst (λ (s : Bool). OpenedAs c.args.heap.now c.args.self.now tree (asked tree c.args.parent c.args.name false s) pins (Err ENOENT)) (sym c.if-slash.true) (refl, stands))
 
 pub returns-then-slash-clause-pays : goal.returns-then-slash-clause-pays
 returns-then-slash-clause-pays c = pays_nothing c.args.heap.now c.args.purse.now c.args.self.now c.requires.may.fills
@@ -52,8 +52,8 @@ returns-in-Ok-clause-answer c = λ tree pins stands.
     let is_dir = same_directory disk r.0 tree c.args.parent r.2.behind stands.behind r.3 in
     let free = ap (λ (t : Tree). found t c.args.parent c.args.name) (sym (one_tree disk r.0 tree r.2.behind stands.behind)) ∙ r.4 in
     let made = is_made m.new.heap m.new.self tree c.args.parent c.args.name (File []) pins c.in-Ok.node is_dir free refl (c.in-Ok.ensures.answer tree pins stands) in
-    subst (λ (b : Bool). OpenedAs h.new.heap h.new.self tree (asked tree c.args.parent c.args.name b c.args.slash) pins (Ok c.in-Ok.node)) (sym c.if-not-creates.false)
-    (subst (λ (s : Bool). OpenedAs h.new.heap h.new.self tree (asked tree c.args.parent c.args.name true s) pins (Ok c.in-Ok.node)) (sym c.if-slash.false)
+    subst (λ (b : Bool). OpenedAs h.new.heap h.new.self tree (asked tree c.args.parent c.args.name b c.args.slash) pins (Ok c.in-Ok.node)) (sym c.if-not-how.false)
+    (subst (λ (s : Bool). OpenedAs h.new.heap h.new.self tree (asked tree c.args.parent c.args.name false s) pins (Ok c.in-Ok.node)) (sym c.if-slash.false)
     (subst (λ (led : Result (ℕ × Tree) Errno). OpenedAs h.new.heap h.new.self tree led pins (Ok c.in-Ok.node)) (sym made.is) (refl, h.ensures.stands made.next pins made.stands)))
 
 pub returns-in-Ok-clause-pays : goal.returns-in-Ok-clause-pays
@@ -65,6 +65,6 @@ returns-in-Ok-clause-pays c =
 pub returns-in-Err-clause-answer : goal.returns-in-Err-clause-answer
 returns-in-Err-clause-answer c = λ tree pins stands.
     let m = c.make_new in
-    subst (λ (b : Bool). OpenedAs m.new.heap m.new.self tree (asked tree c.args.parent c.args.name b c.args.slash) pins (Err c.in-Err.errno)) (sym c.if-not-creates.false)
-    (subst (λ (s : Bool). OpenedAs m.new.heap m.new.self tree (asked tree c.args.parent c.args.name true s) pins (Err c.in-Err.errno)) (sym c.if-slash.false)
+    subst (λ (b : Bool). OpenedAs m.new.heap m.new.self tree (asked tree c.args.parent c.args.name b c.args.slash) pins (Err c.in-Err.errno)) (sym c.if-not-how.false)
+    (subst (λ (s : Bool). OpenedAs m.new.heap m.new.self tree (asked tree c.args.parent c.args.name false s) pins (Err c.in-Err.errno)) (sym c.if-slash.false)
     (not_made m.new.heap m.new.self tree (make tree c.args.parent c.args.name (File [])) pins c.in-Err.errno (c.in-Err.ensures.answer tree pins stands)))

@@ -29,22 +29,22 @@ returns-in-Node-clause-pays c =
     let m = c.open_there in
     pays_trans c.args.heap.now w.new.heap m.new.heap c.args.purse.now w.new.purse m.new.purse c.args.self.now w.new.self m.new.self w.ensures.looks m.ensures.pays
 
-pub open_there-2-requires-clause-stands : goal.open_there-2-requires-clause-stands
-open_there-2-requires-clause-stands c =
+pub open_there-requires-in-Named-clause-stands : goal.open_there-requires-in-Named-clause-stands
+open_there-requires-in-Named-clause-stands c =
     let r = c.requires.stands in
     let led = subst (λ (x : Walked). IsLed r.0 x) (sym (c.in-Named.ensures.resolved r.0 r.1 r.2)) (path_led r.0 c.args.cwd c.args.path.now r.2.is_tree r.3) in
     (r.0, r.1, c.walk.ensures.looks.stands r.0 r.1 r.2, found_in_use r.0 _ _ c.in-Named.node r.2.is_tree led.1, r.4 c.in-Named.node)
 
 pub returns-in-Named-clause-answer : goal.returns-in-Named-clause-answer
 returns-in-Named-clause-answer c = λ tree pins stands.
-    let m = c.open_there-2 in
+    let m = c.open_there-in-Named in
     subst (λ (x : Walked). OpenedAs m.new.heap m.new.self tree (calls.open_led tree (asks_of c.args.how) x) pins m.result) (c.in-Named.ensures.resolved tree pins stands)
     (m.ensures.answer tree pins (c.walk.ensures.looks.stands tree pins stands))
 
 pub returns-in-Named-clause-pays : goal.returns-in-Named-clause-pays
 returns-in-Named-clause-pays c =
     let w = c.walk in
-    let m = c.open_there-2 in
+    let m = c.open_there-in-Named in
     pays_trans c.args.heap.now w.new.heap m.new.heap c.args.purse.now w.new.purse m.new.purse c.args.self.now w.new.self m.new.self w.ensures.looks m.ensures.pays
 
 pub open_free-requires-clause-stands : goal.open_free-requires-clause-stands

@@ -51,4 +51,4 @@ returns-else-has-clause-stands c = λ tree pins lags other.
     let l = subst (λ (v : TreeView). Lags c.args.number c.args.heap.now v tree pins) (sym c.self.view_is) lags in
     let has = subst (λ (v : TreeView). HasNode v.disk.blocks c.args.number c.args.inode.now) (sym c.self.view_is) c.requires.has in
     let none : node_slot c.self.inside.vnodes c.args.number ≡ None = no_slot (node_slot c.self.inside.vnodes c.args.number) (λ some. let is = c.has.ensures.1 some in let not = c.if-has.false in cc) in
-    not_cached c.args.heap.now c.args.heap.now (view c.self.inside) tree pins c.args.number c.args.inode.now l has none other
+    subst (λ (v : TreeView). Lags other c.args.heap.now v tree pins) c.self.view_is (not_cached c.args.heap.now c.args.heap.now (view c.self.inside) tree pins c.args.number c.args.inode.now l has none other)

@@ -1,0 +1,16 @@
+use Rattle.memfs_ops.proofs.tests.what_is_held.Goals as goal
+
+pub evict_one-requires : goal.evict_one-requires
+evict_one-requires g c =
+    let r = c.requires in
+    (r.0, r.1, c.stat_node-info.ensures.stands r.0 r.1 r.2)
+
+pub evict_one-2-requires : goal.evict_one-2-requires
+evict_one-2-requires g c =
+    let r = c.requires in
+    (r.0, r.1, c.evict_one.ensures r.0 r.1 (c.stat_node-info.ensures.stands r.0 r.1 r.2))
+
+pub evictable-requires : goal.evictable-requires
+evictable-requires g c =
+    let r = c.requires in
+    (r.0, r.1, c.evict_one-2.ensures r.0 r.1 (c.evict_one.ensures r.0 r.1 (c.stat_node-info.ensures.stands r.0 r.1 r.2)))
