@@ -28,6 +28,7 @@ with_frames account frames = record account { frames = frames }
 
 -- ---- queues
 
+-- how many bytes of a pipe are unread; 0 where the pipe is gone
 abbrev pub unread_in_pipe : Option Pipe → ℕ
 unread_in_pipe None = 0
 unread_in_pipe (Some pipe) = length pipe.bytes
@@ -36,6 +37,7 @@ unread_in_pipe (Some pipe) = length pipe.bytes
 abbrev pub pipe_lengths : Files → List ℕ
 pipe_lengths files = map unread_in_pipe files.pipes
 
+-- how many bytes a socket has still to read; 0 where the socket is gone
 abbrev pub unread_in_socket : Option Socket → ℕ
 unread_in_socket None = 0
 unread_in_socket (Some socket) = length socket.bytes

@@ -6,6 +6,7 @@ use Rattle.kabi_values.specs.declared.replies.Reply.TheVariants as reply
 use Rattle.kabi_types.specs.declared.scripts.Script.{Script}
 use Rattle.posix_defs.specs.Plain.{Plain, answered}
 
+-- What the machine answers to one call of a live process: exactly one of these four.
 pub data Answer : Type 0 where
   -- the call would block, and nothing changes
   Blocked : Answer

@@ -39,6 +39,7 @@ shown byte =
     else if is_within 32 126 byte then byte ∷ []
     else digits_of byte
 
+-- the bytes of a text one after another, each as itself or as its escape
 abbrev pub shown_bytes : List ℕ → List ℕ
 shown_bytes bytes = flat_map shown bytes
 
@@ -60,6 +61,7 @@ words_text (first ∷ words) = word_text first ++ further_words words
 abbrev pub line_text : List Word → List ℕ
 line_text words = words_text words ++ newline
 
+-- a number that isn't below 0, in decimal digits without leading zeros
 abbrev pub number_word : ℕ → Word
 number_word n = Bare (decimal n)
 
@@ -67,23 +69,28 @@ number_word n = Bare (decimal n)
 abbrev pub name_word : List ℕ → Word
 name_word name = Bare (shown_bytes name)
 
+-- a register: the letter r and its number
 abbrev pub register_word : ℕ → Word
 register_word register = Bare (codes "r" ++ decimal register)
 
+-- a register by its name, a value as a decimal number; constants are printed as the number that they come to
 abbrev pub operand_word : Operand → Word
 operand_word (Reg register) = register_word register
 operand_word (Number value) = Bare (signed_decimal value)
 
+-- the sign of a comparison
 abbrev pub test_text : Test → List ℕ
 test_text Eq = codes "=="
 test_text Ne = codes "!="
 test_text Lt = codes "<"
 test_text Le = codes "<="
 
+-- the word of a policy
 abbrev pub policy_text : Policy → List ℕ
 policy_text Heaviest = codes "heaviest"
 policy_text Youngest = codes "youngest"
 
+-- the name of the label at a place; no bytes where none stands there, which is so of no jump and no loop in a valid script
 abbrev pub label_name : Option Statement → List ℕ
 label_name (Some (statement.Label name)) = name
 label_name (Some _) = []
@@ -121,6 +128,7 @@ abbrev pub program_lines : Program → List (List Word)
 program_lines program =
     (Bare (codes "program") ∷ name_word program.name ∷ []) ∷ map (statement_words program.body) program.body ++ (Bare (codes "end") ∷ []) ∷ []
 
+-- the line of whoever chooses the events: the choices or the seed; no line where neither was given
 abbrev pub chooser_lines : Chooser → List (List Word)
 chooser_lines Plain = []
 chooser_lines (Choices choices) = (Bare (codes "choices") ∷ map number_word choices) ∷ []

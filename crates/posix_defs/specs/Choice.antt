@@ -52,6 +52,7 @@ kill_of false victim = []
 kill_of true None = []
 kill_of true (Some pid) = Kill pid ∷ []
 
+-- the kill of the victim that the script's policy names, where a kill is licensed; else no event
 abbrev pub kills_in : Script → CoreState → List Event
 kills_in script s = kill_of (is_licensed script s) (victim_of script.policy s.world.plain s.world.account)
 

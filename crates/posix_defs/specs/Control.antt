@@ -16,9 +16,11 @@ use Rattle.kabi_types.specs.declared.scripts.Script.{Script}
 use Rattle.kabi_values.specs.Reply.{first_of, second_of}
 use Rattle.posix_defs.specs.Made.{made}
 
+-- the value of a register, a signed number
 abbrev pub register_of : Control → ℕ → ℤ
 register_of control register = slice_index_or control.regs register (pos 0)
 
+-- the same control, where a register has another value
 abbrev pub with_register : Control → ℕ → ℤ → Control
 with_register control register value = record control { regs = slice_set control.regs register value }
 
@@ -26,13 +28,16 @@ with_register control register value = record control { regs = slice_set control
 abbrev pub at_place : Control → ℕ → Control
 at_place control place = record control { place = place }
 
+-- goes on to the next statement
 abbrev pub forward : Control → Control
 forward control = at_place control (control.place + 1)
 
+-- what an operand comes to: the value that its register has now, or its own number
 abbrev pub value_of : Control → Operand → ℤ
 value_of control (Reg register) = register_of control register
 value_of control (Number value) = value
 
+-- whether a comparison of two signed numbers holds
 abbrev pub passes : Test → ℤ → ℤ → Bool
 passes Eq a b = int_le a b && int_le b a
 passes Ne a b = not (int_le a b && int_le b a)
@@ -49,10 +54,12 @@ local control (statement.Label _) = Some (forward control)
 local control (statement.Loop register _) = if int_lt (pos 0) (register_of control register) then None else Some (forward control)
 local control (statement.Invoke _ _ _ _ _) = None
 
+-- the same of the statement at a place; None also at the end of the program, where `exit 0` is called
 abbrev pub local_at : Control → Option Statement → Option Control
 local_at control None = None
 local_at control (Some here) = local control here
 
+-- a local statement leads on to the rest; where a call is to be made, or the program ends, the control stays
 abbrev pub carry_on : Control → (Control → Control) → Option Control → Control
 carry_on control rest None = control
 carry_on control rest (Some next) = rest next
@@ -62,6 +69,7 @@ abbrev pub settle : ℕ → List Statement → Control → Control
 settle zero body control = control
 settle (suc turns) body control = carry_on control (λ next. settle turns body next) (local_at control (slice_get body control.place))
 
+-- the statements of a program; none where the script has no program of that number
 abbrev pub statements_of : Option Program → List Statement
 statements_of None = []
 statements_of (Some program) = program.body
@@ -78,6 +86,8 @@ settled script control = let body = body_of script control in settle (length bod
 abbrev pub statement_of : Script → Control → Option Statement
 statement_of script control = slice_get (body_of script control) control.place
 
+-- the call that stands at a place: one that is named, of its operands as they are now and of what is done of it; sched_yield
+-- at a loop that goes round again; `exit 0` at the end of the program
 abbrev pub call_at : Control → Option Statement → Call
 call_at control None = call.Exit (pos 0)
 call_at control (Some (statement.Invoke kind operands texts _ _)) = made kind (map (value_of control) operands) texts control.done
@@ -88,6 +98,7 @@ call_at control (Some _) = call.SchedYield
 abbrev pub call_of : Script → Control → Call
 call_of script control = let here = settled script control in call_at here (statement_of script here)
 
+-- a value goes to the register that is named for it, and to none where none is
 abbrev pub into : Control → Option ℕ → ℤ → Control
 into control None value = control
 into control (Some register) value = with_register control register value
@@ -96,6 +107,8 @@ into control (Some register) value = with_register control register value
 abbrev pub afresh : Control → Control
 afresh control = record control { done = 0 }
 
+-- what a reply leaves behind the call at a place: the first value goes to its register, then the second, which stays where both
+-- name one register; a loop's register falls by one and its label is next; at the end of the program nothing changes
 abbrev pub after_at : Control → Reply → Option Statement → Control
 after_at control reply None = control
 after_at control reply (Some (statement.Invoke _ _ _ first second)) = forward (into (into control first (first_of reply)) second (second_of reply))

@@ -77,6 +77,7 @@ stranded _ = Dead
 abbrev pub bury : Plain → Task → Task
 bury plain task = if is_alive plain.table task.pid then task else record task { phase = stranded task.phase }
 
+-- the process has ended, and no call of it is admitted any more
 abbrev pub is_dead : Phase → Bool
 is_dead Dead = true
 is_dead _ = false
@@ -140,6 +141,7 @@ pub record KillsOne (script : Script) (old : CoreState) (pid : ℕ) (noted : Not
   pub tasks : new.tasks ≡ buried new.world.plain old.tasks
   pub noted_so : noted ≡ note_alone (Kill pid) (entry.Killed pid waiter asked.bound (live_of old.world)) new
 
+-- one step of the core by this event, each kind by its own rule; an Ask waits, or is refused where its bound is above room
 abbrev pub StepsBy : Script → CoreState → Event → Noted → CoreState → Type 0
 StepsBy script old (Ask pid) noted new = Asks script old pid noted new ⊎ Refuses script old pid noted new
 StepsBy script old (Admit pid) noted new = Admits script old pid noted new

@@ -14,6 +14,7 @@ use Rattle.posix_defs.specs.Process.{is_alive}
 use Rattle.posix_defs.specs.Plain.{Plain, call_of}
 use Rattle.posix_defs.specs.World.{World, live_of, boot_world}
 
+-- The core's state: the world of its store, and the tasks of processes.
 pub record CoreState : Type 0 where
   pub world : World
   -- the processes that are alive, and those that have ended with their call admitted still, by rising pid
@@ -24,6 +25,7 @@ abbrev pub phase_in : List Task → ℕ → Phase
 phase_in [] pid = Dead
 phase_in (task ∷ tasks) pid = if task.pid == pid then task.phase else phase_in tasks pid
 
+-- the phase of a process; Dead where it has no task
 abbrev pub phase_of : CoreState → ℕ → Phase
 phase_of s pid = phase_in s.tasks pid
 
@@ -33,6 +35,7 @@ with_phase_in [] pid phase = []
 with_phase_in (task ∷ tasks) pid phase =
     if task.pid == pid then record task { phase = phase } ∷ tasks else task ∷ with_phase_in tasks pid phase
 
+-- the same state, where the task of a process is in another phase
 abbrev pub with_phase : CoreState → ℕ → Phase → CoreState
 with_phase s pid phase = record s { tasks = with_phase_in s.tasks pid phase }
 
@@ -58,6 +61,7 @@ next_call script s pid = call_of script s.world.plain pid
 abbrev pub asked_by : Script → Plain → ℕ → Asked
 asked_by script plain pid = record { kind = kind_of (call_of script plain pid); bound = bound (call_of script plain pid) }
 
+-- the process is there and has not ended
 abbrev pub lives : CoreState → ℕ → Bool
 lives s pid = is_alive s.world.plain.table pid
 
@@ -65,6 +69,7 @@ lives s pid = is_alive s.world.plain.table pid
 abbrev pub fits : Script → CoreState → Asked → Bool
 fits script s asked = nat_le (charged_in s + asked.bound) script.heap
 
+-- a call holds its bound in reserve: of a live process, or of one that has ended and was not abandoned yet
 abbrev pub is_admitted : Phase → Bool
 is_admitted (Admitted _) = true
 is_admitted (Stranded _) = true
@@ -74,6 +79,7 @@ is_admitted _ = false
 abbrev pub none_admitted : CoreState → Bool
 none_admitted s = not (list_any (λ task. is_admitted task.phase) s.tasks)
 
+-- a call was asked for, and waits for room
 abbrev pub is_waiting : Phase → Bool
 is_waiting (Waiting _) = true
 is_waiting _ = false
@@ -82,19 +88,21 @@ is_waiting _ = false
 abbrev pub waiting_in : List Task → List Task
 waiting_in tasks = filter (λ task. is_waiting task.phase) tasks
 
--- the task's call waits, and there is room for it; and the same where there is none
+-- the task's call waits, and there is room for it
 abbrev pub waits_and_fits : Script → CoreState → Phase → Bool
 waits_and_fits script s (Waiting asked) = fits script s asked
 waits_and_fits script s _ = false
 
+-- the task's call waits, and there is no room for it
 abbrev pub waits_in_vain : Script → CoreState → Phase → Bool
 waits_in_vain script s (Waiting asked) = not (fits script s asked)
 waits_in_vain script s _ = false
 
--- there is room for some call that waits; and for some there is none
+-- there is room for some call that waits
 abbrev pub some_fits : Script → CoreState → Bool
 some_fits script s = list_any (λ task. waits_and_fits script s task.phase) s.tasks
 
+-- there is no room for some call that waits
 abbrev pub some_wait_in_vain : Script → CoreState → Bool
 some_wait_in_vain script s = list_any (λ task. waits_in_vain script s task.phase) s.tasks
 

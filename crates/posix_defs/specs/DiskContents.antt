@@ -30,6 +30,7 @@ abbrev pub Finds : List DirEntry → List ℕ → ℕ → Type 0
 Finds [] name node = ⊥
 Finds (entry ∷ entries) name node = ((entry.name ≡ name) × (entry.node ≡ node)) ⊎ ((entry.name ≢ name) × Finds entries name node)
 
+-- the entry by which a directory names a node
 abbrev pub entry_for : ℕ → List ℕ → DirEntry
 entry_for node name = record { node = node; name = name }
 
@@ -47,6 +48,7 @@ pub record IsDirectoryOf (disk : List (List ℕ)) (node parent : ℕ) (entries :
   pub has : HasInode disk node inode
   pub list : HasEntries disk inode (entry_for node own_name ∷ entry_for parent parent_name ∷ entries)
 
+-- so many zero bytes
 unfoldable pub zeros : ℕ → List ℕ
 zeros count = replicate count 0
 

@@ -13,10 +13,12 @@ abbrev pub left_child : Status → Process → Option Process
 left_child Alive child = Some (record child { parent = 1 })
 left_child (Ended _) child = None
 
+-- what becomes of a process when another ends: a child of that one is left or reaped, any other stays as it is
 abbrev pub left_behind : ℕ → Option Process → Option Process
 left_behind pid None = None
 left_behind pid (Some process) = if process.parent == pid then left_child process.status process else Some process
 
+-- the process keeps its place with this wait status, and has no memory any more
 abbrev pub ended_as : ℕ → Option Process → Option Process
 ended_as status None = None
 ended_as status (Some process) = Some (record process { status = Ended status; memory = no_memory })

@@ -34,6 +34,7 @@ sleeps_on script s pid _ = false
 abbrev pub all_asleep : Script → CoreState → Bool
 all_asleep script s = list_all (λ task. sleeps_on script s task.pid task.phase) s.tasks
 
+-- Starved by the first process, where it has a need that can't be met; else the other end, if one stands
 abbrev pub starved_or : Option ℕ → Option End → Option End
 starved_or None otherwise = otherwise
 starved_or (Some need) otherwise = Some (Starved 1 need)

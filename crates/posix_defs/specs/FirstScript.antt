@@ -15,6 +15,7 @@ use Rattle.kabi_types.specs.declared.scripts.Script.{Script}
 use Rattle.kabi_types.specs.declared.scripts.Statement.{Statement}
 use Rattle.kabi_types.specs.declared.scripts.Statement.TheVariants.{Invoke}
 
+-- the text of the script: a heap of 8192 bytes, and a program of two statements
 abbrev pub first_text : List ℕ
 first_text = codes "heap 8192\nprogram init\nr1 = getpid\nexit 0\nend\n"
 
@@ -33,6 +34,7 @@ first_script = record {
   programs = record { name = codes "init"; body = first_body } ∷ [];
 }
 
+-- what is noted of an event of a call whose bound is 0
 abbrev pub noted : Event → CallKind → Option Entry → ℕ → Noted
 noted event kind entry charged = record { event = event; kind = Some kind; entry = entry; bound = 0; charged = charged }
 
@@ -55,5 +57,6 @@ first_run =
     ∷ noted (Turn 1) kind.Exit (Some (entry.Ended 1 kind.Exit 0)) 2304
     ∷ []
 
+-- what is written of that run: its six event lines and its end line
 abbrev pub first_report : List ℕ
 first_report = codes "1 p1 ask getpid bound 0 charged 2816\n2 p1 admit getpid bound 0 charged 2816\n3 p1 done getpid = 1 charged 2816\n4 p1 ask exit bound 0 charged 2816\n5 p1 admit exit bound 0 charged 2816\n6 p1 ended exit 0 charged 2304\nend finished events 6 charged 2304 peak 2816 reads 0\n"

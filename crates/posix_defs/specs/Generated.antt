@@ -12,6 +12,7 @@ use Rattle.kabi_types.specs.declared.scripts.Statement.TheVariants.{If, Jump, La
 use Rattle.kabi_types.specs.declared.scripts.Test.TheVariants.{Eq}
 use Rattle.posix_defs.specs.Generator.{state_after, choice_of}
 
+-- a number as an operand
 abbrev pub number : ℕ → Operand
 number n = Number (pos n)
 
@@ -27,26 +28,31 @@ names register kind values texts = Invoke kind values texts (Some register) None
 abbrev pub asks_two : ℕ → ℕ → CallKind → List Operand → Statement
 asks_two first second kind values = Invoke kind values [] (Some first) (Some second)
 
+-- the process ends with this exit status
 abbrev pub exits : ℕ → Statement
 exits status = Invoke kind.Exit (number status ∷ []) [] None None
 
--- the directory, the file in it and the two other files of a number
+-- the path of the directory of a number
 abbrev pub directory : ℕ → List ℕ
 directory q = codes "/d" ++ decimal q
 
+-- the path of the file in the directory of a number
 abbrev pub inside : ℕ → List ℕ
 inside q = codes "/d" ++ decimal q ++ codes "/f"
 
+-- the path of the file of a number
 abbrev pub file : ℕ → List ℕ
 file q = codes "/f" ++ decimal q
 
+-- the path under which the file of a number may get a further name
 abbrev pub other_file : ℕ → List ℕ
 other_file q = codes "/g" ++ decimal q
 
--- where the child of a round goes on, and where its parent does
+-- where the child of a round goes on
 abbrev pub child_label : ℕ → List ℕ
 child_label i = codes "k" ++ decimal i
 
+-- where the parent of a round's child goes on
 abbrev pub parent_label : ℕ → List ℕ
 parent_label i = codes "m" ++ decimal i
 
@@ -102,6 +108,7 @@ abbrev pub rounds_to : ℕ → ℕ → List Statement
 rounds_to n zero = asks 1 kind.Mmap (number 65536 ∷ []) ∷ []
 rounds_to n (suc i) = let before = rounds_to n i in before ++ round i (state_after n (suc i)) (length before)
 
+-- the whole program: memory is mapped, so many rounds follow, and it exits with 0
 abbrev pub body_to : ℕ → List Statement
 body_to n = rounds_to n n ++ exits 0 ∷ []
 

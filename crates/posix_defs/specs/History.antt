@@ -45,6 +45,7 @@ pub record Past : Type 0 where
   pub filled : Fills
   pub evicted : Fills
 
+-- no object of any cache
 abbrev pub no_fills : Fills
 no_fills = record { names = 0; blocks = 0; vnodes = 0 }
 
@@ -52,6 +53,7 @@ no_fills = record { names = 0; blocks = 0; vnodes = 0 }
 abbrev pub boot_past : Script → Past
 boot_past script = record { plain = boot_plain script; account = no_account; asleep = []; gone = []; filled = no_fills; evicted = no_fills }
 
+-- the process is one of these
 abbrev pub is_among : ℕ → List ℕ → Bool
 is_among pid pids = list_any (λ other. other == pid) pids
 
@@ -59,6 +61,7 @@ is_among pid pids = list_any (λ other. other == pid) pids
 abbrev pub is_up : Past → ℕ → Bool
 is_up past pid = not (is_among pid past.asleep)
 
+-- these processes but the one
 abbrev pub others : ℕ → List ℕ → List ℕ
 others pid pids = filter (λ other. not (other == pid)) pids
 

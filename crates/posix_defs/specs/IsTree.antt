@@ -38,6 +38,7 @@ pub record IsNode (node : Node) : Type 0 where
   pub single : is_directory_content node.content ≡ true → node.links ≡ 1
   pub socket : is_socket_kind (kind_of_content node.content) ≡ true → 0 < node.links
 
+-- the entry names the node of this number
 abbrev pub names_node : ℕ → DirEntry → Bool
 names_node number entry = entry.node == number
 
@@ -53,6 +54,7 @@ names_of tree number = sum_by (named_in number) tree.nodes
 abbrev pub unnamed_links : ℕ → ℕ
 unnamed_links number = if number == root then 1 else 0
 
+-- What every tree keeps: its nodes fit the disk, links count the names, and all directories hang below the root.
 pub record IsTree (tree : Tree) : Type 0 where
   -- the disk's size, and its nodes
   pub enough : 16 ≤ tree.blocks

@@ -38,6 +38,8 @@ abbrev pub sent_to : Script → Plain → ℕ → ℕ → ℤ → Option Process
 sent_to script plain pid target signal None = failed script plain pid ESRCH
 sent_to script plain pid target signal (Some process) = signalled script plain pid target signal process
 
+-- a signal to a process, the first that holds: ESRCH where none of that pid is there, alive or ended; 0 for signal 0; EPERM for
+-- the first process; 0 where it has ended; else it ends by signal 9, be it the caller or another (POSIX kill)
 abbrev pub kill : Script → Plain → ℕ → ℤ → ℤ → Answer
 kill script plain pid (negsuc _) signal = failed script plain pid ESRCH
 kill script plain pid (pos target) signal = sent_to script plain pid target signal (process_at plain.table target)

@@ -23,10 +23,11 @@ use Rattle.kabi_types.specs.declared.scripts.FaultKind.TheVariants as wrong
 use Rattle.kabi_types.specs.declared.scripts.ScriptFault.{ScriptFault}
 use Rattle.posix_defs.specs.CoreRun.{peak_of}
 
--- a newline, and a blank
+-- a newline
 abbrev pub newline : List ℕ
 newline = 10 ∷ []
 
+-- one space
 abbrev pub blank : List ℕ
 blank = 32 ∷ []
 
@@ -38,6 +39,7 @@ pid_text pid = codes "p" ++ decimal pid
 abbrev pub status_text : ℕ → List ℕ
 status_text status = if status % 256 == 0 then codes "exit " ++ decimal (status / 256) else codes "signal " ++ decimal status
 
+-- the word of a node's kind
 abbrev pub node_text : NodeKind → List ℕ
 node_text node.File = codes "file"
 node_text node.Dir = codes "dir"
@@ -48,6 +50,7 @@ node_text node.Pipe = codes "pipe"
 abbrev pub hex_byte : ℕ → List ℕ
 hex_byte byte = digits 16 false (byte / 16) ++ digits 16 false (byte % 16)
 
+-- a reply: numbers in decimal, a wait status as exit or signal, bytes in hexadecimal behind an x, a failure by its errno's name
 abbrev pub reply_text : Reply → List ℕ
 reply_text (reply.Val n) = signed_decimal n
 reply_text (reply.Pair a b) = decimal a ++ blank ++ decimal b
@@ -57,6 +60,7 @@ reply_text (reply.Polled polled) = decimal polled.hits ++ codes " revents" ++ fl
 reply_text (reply.Bytes bytes) = codes "x" ++ flat_map hex_byte bytes
 reply_text (reply.Fail errno) = name_of errno
 
+-- the word of a cache, by what it keeps
 abbrev pub cache_text : Cached → List ℕ
 cache_text cached.Name = codes "name"
 cache_text cached.Block = codes "block"
@@ -92,6 +96,7 @@ event_text (event.Turn pid) word bound = []
 event_text (event.Evict what) word bound = []
 event_text (event.Kill pid) word bound = []
 
+-- what an event's line tells: the entry that it adds to the history, or the event itself where it adds none
 abbrev pub told_text : Option Entry → Noted → List ℕ
 told_text None noted = event_text noted.event (kind_text noted.kind) noted.bound
 told_text (Some entry) noted = entry_text entry
@@ -105,6 +110,7 @@ abbrev pub event_lines : ℕ → List Noted → List ℕ
 event_lines j [] = []
 event_lines j (noted ∷ run) = event_line j noted ++ event_lines (j + 1) run
 
+-- how a run ended; of one that starved also whose call waits in vain, and its need in bytes
 abbrev pub end_text : End → List ℕ
 end_text end.Finished = codes "finished"
 end_text (end.Starved pid need) = codes "starved " ++ pid_text pid ++ codes " need " ++ decimal need

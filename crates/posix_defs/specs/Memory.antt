@@ -24,6 +24,7 @@ zero_page = replicate 4096 0
 abbrev pub page_at : Memory → ℕ → Option (List ℕ)
 page_at memory page = slice_index_or memory page None
 
+-- the page is mapped; beyond the 256 pages of the address space none is
 abbrev pub is_mapped : Memory → ℕ → Bool
 is_mapped memory page = is_some (page_at memory page)
 
@@ -106,6 +107,7 @@ abbrev pub places_of : Frames → ℕ → Places
 places_of frames zero = no_places
 places_of frames (suc before) = slice_index_or frames.places before no_places
 
+-- the same frames, where the pages of a process have other places
 abbrev pub with_places : Frames → ℕ → Places → Frames
 with_places frames pid places = record frames { places = with_pid frames.places pid places }
 
@@ -132,6 +134,7 @@ written_as frames pid page Unmapped = frames
 written_as frames pid page Zero = fresh_at frames pid page
 written_as frames pid page (Frame frame) = if nat_lt 1 (namings frames.places frame) then fresh_at frames pid page else frames
 
+-- bytes are put in a page of a process, which gets a new frame where it has zeros or shares one
 abbrev pub written_at : Frames → ℕ → ℕ → Frames
 written_at frames pid page = written_as frames pid page (place_at (places_of frames pid) page)
 
@@ -169,11 +172,13 @@ kept_from alive pid (places ∷ others) = (if alive pid then places else no_plac
 abbrev pub without_dead : (ℕ → Bool) → Frames → Frames
 without_dead alive frames = record frames { places = kept_from alive 1 frames.places }
 
+-- the page names a frame, its own or a shared one
 abbrev pub names_any : Place → Bool
 names_any (Frame frame) = true
 names_any Unmapped = false
 names_any Zero = false
 
+-- the page is mapped, whether it names a frame or has zeros alone
 abbrev pub is_place : Place → Bool
 is_place Unmapped = false
 is_place Zero = true

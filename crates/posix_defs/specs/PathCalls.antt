@@ -32,15 +32,18 @@ node_led (walked.Named _ _ number _) = Ok number
 node_led (walked.Free _ _ _) = Err ENOENT
 node_led (walked.Fail errno) = Err errno
 
+-- the kind of a node, as stat tells it, by what it holds
 abbrev pub kind_of_content : Content → NodeKind
 kind_of_content (File _) = kinds.File
 kind_of_content (Directory _ _) = kinds.Dir
 kind_of_content SocketName = kinds.Sock
 
+-- the kind of a node in use; a free one, to which no path leads, is taken for a file
 abbrev pub kind_in : Option Node → NodeKind
 kind_in None = kinds.File
 kind_in (Some node) = kind_of_content node.content
 
+-- the kind is that of a socket
 abbrev pub is_socket_kind : NodeKind → Bool
 is_socket_kind kinds.Sock = true
 is_socket_kind _ = false
@@ -55,13 +58,16 @@ stat_info tree number = record { kind = kind_in (node_at tree number); number = 
 
 -- ---- stat, chdir, connect
 
+-- what stat tells of the node that was found, or the fault of its path
 abbrev pub stat_found : Tree → Result ℕ Errno → Result StatInfo Errno
 stat_found tree (Ok number) = Ok (stat_info tree number)
 stat_found tree (Err errno) = Err errno
 
+-- what stat tells of the node that a path leads to; ENOENT for a free name (POSIX stat)
 abbrev pub stat_path : Tree → ℕ → List ℕ → Result StatInfo Errno
 stat_path tree cwd path = stat_found tree (node_led (resolve tree cwd path))
 
+-- the node that was found, if it is a directory, else ENOTDIR; the fault of the path comes first
 abbrev pub entered : Tree → Result ℕ Errno → Result ℕ Errno
 entered tree (Ok number) = unless (not (is_directory tree number)) ENOTDIR (Ok number)
 entered tree (Err errno) = Err errno
@@ -70,6 +76,7 @@ entered tree (Err errno) = Err errno
 abbrev pub enter_path : Tree → ℕ → List ℕ → Result ℕ Errno
 enter_path tree cwd path = entered tree (node_led (resolve tree cwd path))
 
+-- the node that was found, if it is a socket's name; the fault of the path comes first
 abbrev pub socket_found : Tree → Result ℕ Errno → Result (Option ℕ) Errno
 socket_found tree (Ok number) = Ok (if is_socket tree number then Some number else None)
 socket_found tree (Err errno) = Err errno
@@ -95,6 +102,8 @@ open_there tree how number =
     (unless (is_socket tree number) EOPNOTSUPP
     (Ok (number, if how.truncates then with_bytes tree number (resized 0) else tree))))
 
+-- an open where a path has led: a node that is there is opened; a free name is ENOENT without O_CREAT or with a slash behind
+-- it, and else an empty file is made, where there is room
 abbrev pub open_led : Tree → Opening → Walked → Result (ℕ × Tree) Errno
 open_led tree how (walked.Node number) = open_there tree how number
 open_led tree how (walked.Named _ _ number _) = open_there tree how number
@@ -107,24 +116,29 @@ open_path tree cwd path how = open_led tree how (resolve tree cwd path)
 
 -- ---- mkdir, bind, rmdir, unlink
 
+-- a mkdir where a path has led: EEXIST for all that is there; a free name may have a slash behind it
 abbrev pub mkdir_led : Tree → Walked → Result (ℕ × Tree) Errno
 mkdir_led tree (walked.Node _) = Err EEXIST
 mkdir_led tree (walked.Named _ _ _ _) = Err EEXIST
 mkdir_led tree (walked.Free dir name _) = make tree dir name (Directory dir [])
 mkdir_led tree (walked.Fail errno) = Err errno
 
+-- the number of the new directory, and the tree then (POSIX mkdir)
 abbrev pub mkdir_path : Tree → ℕ → List ℕ → Result (ℕ × Tree) Errno
 mkdir_path tree cwd path = mkdir_led tree (resolve tree cwd path)
 
+-- a bind where a path has led: EADDRINUSE for all that is there, ENOENT for a free name with a slash behind it
 abbrev pub bind_led : Tree → Walked → Result (ℕ × Tree) Errno
 bind_led tree (walked.Node _) = Err EADDRINUSE
 bind_led tree (walked.Named _ _ _ _) = Err EADDRINUSE
 bind_led tree (walked.Free dir name slashed) = unless slashed ENOENT (make tree dir name SocketName)
 bind_led tree (walked.Fail errno) = Err errno
 
+-- the number of the new socket's name, and the tree then (POSIX bind)
 abbrev pub bind_path : Tree → ℕ → List ℕ → Result (ℕ × Tree) Errno
 bind_path tree cwd path = bind_led tree (resolve tree cwd path)
 
+-- a directory has no entry but `.` and `..`
 abbrev pub is_empty : Tree → ℕ → Bool
 is_empty tree number = length (entries_at tree number) == 0
 
@@ -143,6 +157,7 @@ rmdir_led tree busy (walked.Named dir name number _) =
 rmdir_led tree busy (walked.Free _ _ _) = Err ENOENT
 rmdir_led tree busy (walked.Fail errno) = Err errno
 
+-- the tree without the directory; a last component `.` is EINVAL and `..` ENOTEMPTY, before the path is walked (POSIX rmdir)
 abbrev pub rmdir_path : Tree → ℕ → List ℕ → (ℕ → Bool) → Result Tree Errno
 rmdir_path tree cwd path busy =
     unless (ends_in own_name path) EINVAL (unless (ends_in parent_name path) ENOTEMPTY (rmdir_led tree busy (resolve tree cwd path)))
@@ -155,6 +170,7 @@ is_held tree opened number = opened number && not (is_directory tree number || i
 abbrev pub freed_by : Tree → ℕ → Option ℕ
 freed_by tree number = if is_socket tree number && links_at tree number == 1 then Some number else None
 
+-- an unlink where a path has led: EPERM for a directory, ENOENT for a free name; else the name goes, and a link of its node
 abbrev pub unlink_led : Tree → (ℕ → Bool) → Walked → Result (Option ℕ × Tree) Errno
 unlink_led tree opened (walked.Node _) = Err EPERM
 unlink_led tree opened (walked.Named dir name number _) =
@@ -168,16 +184,19 @@ unlink_path tree cwd path opened = unlink_led tree opened (resolve tree cwd path
 
 -- ---- link
 
+-- the new path of a link: its own fault, EEXIST for all that is there, ENOENT for a free name with a slash behind it
 abbrev pub link_to : Tree → ℕ → Walked → Result Tree Errno
 link_to tree number (walked.Node _) = Err EEXIST
 link_to tree number (walked.Named _ _ _ _) = Err EEXIST
 link_to tree number (walked.Free dir name slashed) = unless slashed ENOENT (link tree dir name number)
 link_to tree number (walked.Fail errno) = Err errno
 
+-- the old path of a link: its own fault, then EPERM for a directory, before anything is told of the new path
 abbrev pub link_from : Tree → Result ℕ Errno → Walked → Result Tree Errno
 link_from tree (Ok number) new = unless (is_directory tree number) EPERM (link_to tree number new)
 link_from tree (Err errno) new = Err errno
 
+-- the tree in which the node of the old path has the new name too (POSIX link)
 abbrev pub link_path : Tree → ℕ → List ℕ → List ℕ → Result Tree Errno
 link_path tree cwd old new = link_from tree (node_led (resolve tree cwd old)) (resolve tree cwd new)
 
@@ -218,6 +237,7 @@ abbrev pub rename_root : Walked → Result (Option ℕ × Tree) Errno
 rename_root (walked.Fail errno) = Err errno
 rename_root _ = Err EBUSY
 
+-- a rename where both paths have led: the fault of the old one comes first, also ENOENT for its free name
 abbrev pub rename_led : Tree → (ℕ → Bool) → (ℕ → Bool) → Walked → Walked → Result (Option ℕ × Tree) Errno
 rename_led tree opened busy (walked.Node _) new = rename_root new
 rename_led tree opened busy (walked.Named dir name number _) new = rename_named tree opened busy dir name number new
@@ -231,10 +251,12 @@ rename_path tree cwd old new opened busy = rename_led tree opened busy (resolve 
 
 -- ---- exec, and what is read
 
+-- the bytes of a file; a directory and a socket's name have none
 abbrev pub bytes_of : Content → List ℕ
 bytes_of (File bytes) = bytes
 bytes_of _ = []
 
+-- the bytes of a node that is a file in use, else none
 abbrev pub bytes_in : Option Node → List ℕ
 bytes_in None = []
 bytes_in (Some node) = bytes_of node.content
@@ -259,6 +281,7 @@ first_line program = codes "#!" ++ program.name ++ codes "\n"
 abbrev pub program_of : List Program → List ℕ → Result ℕ Errno
 program_of programs bytes = ok_or (position_from (λ program. starts_with nat_eq bytes (first_line program)) 0 programs) ENOEXEC
 
+-- the program of the file that was found: the fault of the path, EACCES for a directory and a socket's name, then ENOEXEC
 abbrev pub exec_found : Tree → List Program → Result ℕ Errno → Result ℕ Errno
 exec_found tree programs (Ok number) =
     unless (is_directory tree number || is_socket tree number) EACCES (program_of programs (bytes_in (node_at tree number)))

@@ -13,6 +13,7 @@ use Rattle.posix_defs.specs.Control as program
 use Rattle.posix_defs.specs.Files.State.{Files, boot_files}
 pub use Rattle.posix_defs.specs.Tree.{root}
 
+-- What the plain machine knows: the processes that are there, how far each program has come, and all of files.
 pub record Plain : Type 0 where
   pub table : Table
   -- of each process ever made, also after it ended
@@ -23,9 +24,11 @@ pub record Plain : Type 0 where
 abbrev pub last_pid : Plain → ℕ
 last_pid plain = length plain.controls
 
+-- the machine with another table of processes
 abbrev pub with_table : Plain → Table → Plain
 with_table plain table = record plain { table = table }
 
+-- the machine, where a process has another control
 abbrev pub with_control : Plain → ℕ → Control → Plain
 with_control plain pid control = record plain { controls = with_pid plain.controls pid control }
 
@@ -33,6 +36,7 @@ with_control plain pid control = record plain { controls = with_pid plain.contro
 abbrev pub at_start : ℕ → Control
 at_start program = record { program = program; place = 0; regs = replicate 16 (pos 0); done = 0 }
 
+-- the machine with other files
 abbrev pub with_files : Plain → Files → Plain
 with_files plain files = record plain { files = files }
 

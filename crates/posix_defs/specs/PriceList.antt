@@ -4,6 +4,7 @@ use Rattle.kabi_calls.specs.declared.calls.CallKind.TheVariants as kind
 use Rattle.posix_defs.specs.declared.prices.Price.{Price}
 use Rattle.posix_defs.specs.declared.prices.Price.TheVariants.{Always, Mapped, Touched, Moved}
 
+-- what a call of this kind may use of the kernel heap; to close and to end costs nothing, since two blocks are kept back for it
 abbrev pub price_of : CallKind → Price
 price_of kind.Getpid = Always 0
 price_of kind.Getppid = Always 0

@@ -13,6 +13,7 @@ use Rattle.posix_defs.specs.Sizes.{fixed, reserve}
 use Rattle.posix_defs.specs.declared.prices.Price.{Price}
 use Rattle.posix_defs.specs.declared.prices.Price.TheVariants.{Always, Mapped, Touched, Moved}
 
+-- the name of a class of heap objects, with a capital
 abbrev pub class_name : Class → List ℕ
 class_name class.Proc = codes "Proc"
 class_name class.Node = codes "Node"
@@ -25,6 +26,7 @@ class_name class.Pipe = codes "Pipe"
 class_name class.Chunk = codes "Chunk"
 class_name class.Sock = codes "Sock"
 
+-- all classes, in the order in which they are printed
 abbrev pub all_classes : List Class
 all_classes =
     class.Proc ∷ class.Node ∷ class.Page ∷ class.Desc ∷ class.Vnode ∷ class.Name ∷ class.Block ∷ class.Pipe ∷ class.Chunk ∷ class.Sock ∷ []
@@ -40,6 +42,7 @@ price_text (Mapped node) = decimal node ++ codes "*min(4,(p+62)/64+1)"
 price_text (Touched page more) = if more == 0 then decimal page ++ codes "*pages" else decimal page ++ codes "*pages+" ++ decimal more
 price_text (Moved file chunk) = codes "max(" ++ decimal file ++ codes "," ++ decimal chunk ++ codes "*ceil(min(m,4096)/512))"
 
+-- a call by its word, and its price
 abbrev pub price_line : CallKind → List ℕ
 price_line kind = codes "bound " ++ word_of kind ++ blank ++ price_text (price_of kind) ++ newline
 

@@ -20,13 +20,16 @@ pub record Process : Type 0 where
 abbrev pub Table : Type 0
 Table = List (Option Process)
 
+-- the process of a pid; None where it was waited for, and where no such process was made
 abbrev pub process_at : Table → ℕ → Option Process
 process_at table pid = unwrap_or (at_pid table pid) None
 
+-- the process has not ended
 abbrev pub runs : Status → Bool
 runs Alive = true
 runs (Ended _) = false
 
+-- a process is there and has not ended
 abbrev pub is_alive_in : Option Process → Bool
 is_alive_in None = false
 is_alive_in (Some process) = runs process.status
@@ -35,6 +38,7 @@ is_alive_in (Some process) = runs process.status
 abbrev pub is_alive : Table → ℕ → Bool
 is_alive table pid = is_alive_in (process_at table pid)
 
+-- the parent of a process that is there; 0 where none is, and for the first one
 abbrev pub parent_in : Option Process → ℕ
 parent_in None = 0
 parent_in (Some process) = process.parent
@@ -43,10 +47,12 @@ parent_in (Some process) = process.parent
 abbrev pub parent_of : Table → ℕ → ℕ
 parent_of table pid = parent_in (process_at table pid)
 
+-- a process is there, alive or ended and not waited for
 abbrev pub is_there : Option Process → Bool
 is_there None = false
 is_there (Some _) = true
 
+-- the memory of a process that is there, else one without a mapped page
 abbrev pub memory_in : Option Process → Memory
 memory_in None = no_memory
 memory_in (Some process) = process.memory
@@ -55,6 +61,7 @@ memory_in (Some process) = process.memory
 abbrev pub memory_of : Table → ℕ → Memory
 memory_of table pid = memory_in (process_at table pid)
 
+-- the process with something else in memory, if it is there
 abbrev pub remembering : Memory → Option Process → Option Process
 remembering memory None = None
 remembering memory (Some process) = Some (record process { memory = memory })
@@ -63,6 +70,7 @@ remembering memory (Some process) = Some (record process { memory = memory })
 abbrev pub with_memory : Table → ℕ → Memory → Table
 with_memory table pid memory = with_pid table pid (remembering memory (process_at table pid))
 
+-- the working directory of a process that is there, else the root
 abbrev pub directory_in : Option Process → ℕ
 directory_in None = root
 directory_in (Some process) = process.directory
@@ -71,6 +79,7 @@ directory_in (Some process) = process.directory
 abbrev pub directory_of : Table → ℕ → ℕ
 directory_of table pid = directory_in (process_at table pid)
 
+-- the process with another working directory, if it is there
 abbrev pub working_in : ℕ → Option Process → Option Process
 working_in directory None = None
 working_in directory (Some process) = Some (record process { directory = directory })

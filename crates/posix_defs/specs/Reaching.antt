@@ -65,6 +65,7 @@ descriptors_in _ = []
 
 -- ---- which calls reach a node
 
+-- what is open is a file or a directory; false where nothing is open
 abbrev pub is_on_node : Files → Option Opened → Bool
 is_on_node files None = false
 is_on_node files (Some opened) = is_some (node_of files opened.is.target)
@@ -108,6 +109,7 @@ abbrev pub name_to_leave : Plain → ℕ → Call → Option (ℕ × List ℕ)
 name_to_leave plain pid call =
     option_and_then (λ path. last_of (resolve plain.files.tree (directory_of plain.table pid) path)) (path_to_leave call)
 
+-- the reply isn't a failure
 abbrev pub is_reply : Reply → Bool
 is_reply (reply.Fail _) = false
 is_reply _ = true
@@ -136,6 +138,7 @@ path_to_walk (call.Chdir path) = Some path
 path_to_walk (call.OpenFile path flags) = if has_flag flags o_creat || has_flag flags o_trunc then None else Some path
 path_to_walk _ = None
 
+-- the name leads to a node that is kept, and the way is known from there on
 abbrev pub knows_on : Kept → (ℕ → Bool) → Option ℕ → Bool
 knows_on kept on None = false
 knows_on kept on (Some number) = is_in number kept.vnodes && on number

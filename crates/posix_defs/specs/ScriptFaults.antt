@@ -17,6 +17,7 @@ use Rattle.posix_defs.specs.ScriptMeaning.{spoken_by, label_of, is_named, settin
 abbrev pub most_programs : ℕ
 most_programs = 64
 
+-- the name of the label that a line of a program is; None where it says something else, or nothing
 abbrev pub label_by : Option Spoken → Option (List ℕ)
 label_by None = None
 label_by (Some said) = label_of said
@@ -71,6 +72,7 @@ is_set_in settings (setting.Steps _) = is_some (first_of steps_in settings)
 is_set_in settings (setting.Victims _) = is_some (first_of policy_in settings)
 is_set_in settings (setting.Choosing _) = is_some (first_of chooser_in settings)
 
+-- the name of the program that a part is; None for a line outside programs
 abbrev pub name_of : Part → Option (List ℕ)
 name_of (Alone _) = None
 name_of (Program _ name _) = Some name

@@ -28,6 +28,7 @@ spoken_in (Ok inside.Silent) = None
 spoken_in (Ok inside.Ends) = None
 spoken_in (Err _) = None
 
+-- the statement that a line says in a program; None where it says nothing, or is at fault
 abbrev pub spoken_by : Line → Option Spoken
 spoken_by line = spoken_in (inside_of line)
 
@@ -43,6 +44,7 @@ label_of (spoken.If _ _ _ _) = None
 label_of (spoken.Jump _) = None
 label_of (spoken.Loop _ _) = None
 
+-- there is a name, and it is this one
 abbrev pub is_named : List ℕ → Option (List ℕ) → Bool
 is_named name None = false
 is_named name (Some other) = bytes_eq other name
@@ -64,47 +66,58 @@ statement_of program (spoken.Loop register label) = statement.Loop register (lab
 abbrev pub body_said : List Line → List Statement
 body_said lines = map (statement_of (spoken_of lines)) (spoken_of lines)
 
+-- the program that a part is; None for a line outside programs, and for a program without an end
 abbrev pub program_in : Part → Option Program
 program_in (Alone _) = None
 program_in (Begun _ name (Some lines)) = Some (record { name = name; body = body_said lines })
 program_in (Begun _ name None) = None
 
+-- the programs of a text, in their order
 abbrev pub programs_of : List Part → List Program
 programs_of parts = filter_map program_in parts
 
+-- the setting that a line outside programs says; None where it says something else or nothing, or is at fault
 abbrev pub setting_said : Result AtTop FaultKind → Option Setting
 setting_said (Ok (top.Sets said)) = Some said
 setting_said (Ok (top.Begins _)) = None
 setting_said (Ok top.Silent) = None
 setting_said (Err _) = None
 
+-- the setting that a part is, if it is one
 abbrev pub setting_in : Part → Option Setting
 setting_in (Alone line) = setting_said (top_of line)
 setting_in (Begun _ _ _) = None
 
+-- the settings of a text, in their order
 abbrev pub settings_of : List Part → List Setting
 settings_of parts = filter_map setting_in parts
 
+-- the heap in bytes, where this sets it
 abbrev pub heap_in : Setting → Option ℕ
 heap_in (setting.Heap n) = Some n
 heap_in _ = None
 
+-- the blocks of the disk, where this sets them
 abbrev pub disk_in : Setting → Option ℕ
 disk_in (setting.Disk n) = Some n
 disk_in _ = None
 
+-- how many steps a run has at most, where this sets it
 abbrev pub steps_in : Setting → Option ℕ
 steps_in (setting.Steps n) = Some n
 steps_in _ = None
 
+-- by which policy the victim is found, where this sets it
 abbrev pub policy_in : Setting → Option Policy
 policy_in (setting.Victims policy) = Some policy
 policy_in _ = None
 
+-- who chooses the events, where this sets it
 abbrev pub chooser_in : Setting → Option Chooser
 chooser_in (setting.Choosing chooser) = Some chooser
 chooser_in _ = None
 
+-- the first where there is one, else the next
 abbrev pub or_next : {A : Type 0} → Option A → Option A → Option A
 or_next None next = next
 or_next (Some a) next = Some a
@@ -114,6 +127,7 @@ abbrev pub first_of : {A : Type 0} → (Setting → Option A) → List Setting �
 first_of gives [] = None
 first_of gives (said ∷ settings) = or_next (gives said) (first_of gives settings)
 
+-- what was given, else the default
 abbrev pub or_default : {A : Type 0} → A → Option A → A
 or_default default None = default
 or_default default (Some a) = a

@@ -30,6 +30,7 @@ top_of line = line.words >>= said_at_top
 abbrev pub inside_of : Line → Result InProgram FaultKind
 inside_of line = line.words >>= said_in_program
 
+-- the name of the program that begins with what is said; None where none begins, or the line is at fault
 abbrev pub name_begun : Result AtTop FaultKind → Option (List ℕ)
 name_begun (Ok (top.Begins name)) = Some name
 name_begun (Ok (top.Sets _)) = None
@@ -40,6 +41,7 @@ name_begun (Err _) = None
 abbrev pub begun : Line → Option (List ℕ)
 begun line = name_begun (top_of line)
 
+-- what is said ends a program; a line that is at fault ends none
 abbrev pub is_ending : Result InProgram FaultKind → Bool
 is_ending (Ok inside.Ends) = true
 is_ending (Ok (inside.Says _)) = false
@@ -50,6 +52,7 @@ is_ending (Err _) = false
 abbrev pub ends : Line → Bool
 ends line = is_ending (inside_of line)
 
+-- A part of a text: a line outside programs, or a program from its first line on.
 pub data Part : Type 0 where
   -- a line outside programs
   Alone : Line → Part

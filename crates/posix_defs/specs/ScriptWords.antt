@@ -11,6 +11,7 @@ use Rattle.posix_defs.specs.declared.said.Word.TheVariants.{Bare, Quoted}
 abbrev pub is_blank : ℕ → Bool
 is_blank byte = byte == 32 || byte == 9 || byte == 13
 
+-- the number is from the least to the most, both of them allowed
 abbrev pub is_within : ℕ → ℕ → ℕ → Bool
 is_within least most n = nat_le least n && nat_le n most
 
@@ -22,6 +23,7 @@ hex_value byte =
     else if is_within 97 102 byte then Some (byte - 87)
     else None
 
+-- the byte of a high and a low digit; None unless both are hexadecimal digits
 abbrev pub hex_number : Option ℕ → Option ℕ → Option ℕ
 hex_number (Some high) (Some low) = Some (16 * high + low)
 hex_number (Some high) None = None
@@ -52,6 +54,7 @@ abbrev pub piece : List ℕ → Option (Option ℕ × List ℕ)
 piece [] = None
 piece (byte ∷ rest) = if byte == 34 then Some (None, rest) else if byte == 92 then escape_piece rest else Some (Some byte, rest)
 
+-- a byte stands before what a text goes on with; without a text there is none
 abbrev pub with_byte : ℕ → Option (List ℕ × List ℕ) → Option (List ℕ × List ℕ)
 with_byte byte said = option_map (λ p. (byte ∷ p.0, p.1)) said
 
@@ -68,6 +71,7 @@ abbrev pub ends_word : List ℕ → Bool
 ends_word [] = true
 ends_word (byte ∷ rest) = is_blank byte
 
+-- a word stands before the further ones of its line; where one of those is broken the line has no words
 abbrev pub with_word : Word → Option (List Word) → Option (List Word)
 with_word word said = option_map (λ words. word ∷ words) said
 

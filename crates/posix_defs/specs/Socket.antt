@@ -3,6 +3,7 @@ use Rattle.std.specs.Prelude.{ℕ, ℤ, pos, negsuc, ◌==◌, ◌||◌, Bool, t
 use Rattle.kabi_values.specs.declared.errnos.Errno.{Errno}
 use Rattle.kabi_values.specs.declared.errnos.Errno.TheVariants as errno
 
+-- How far a socket has come.
 pub data Stage : Type 0 where
   -- neither listening nor connected
   Idle : Stage
@@ -25,6 +26,7 @@ new_socket = record { stage = Idle; bytes = []; node = None }
 abbrev pub connected_to : ℕ → Socket
 connected_to peer = record { stage = Connected (Some peer) false false; bytes = []; node = None }
 
+-- it is connected, also where its peer has closed
 abbrev pub is_connected : Stage → Bool
 is_connected Idle = false
 is_connected (Listening waiting) = false
@@ -111,15 +113,17 @@ without_peer Idle = Idle
 without_peer (Listening waiting) = Listening waiting
 without_peer (Connected peer shut_read shut_write) = Connected None shut_read shut_write
 
--- SHUT_RD and SHUT_RDWR shut reading, SHUT_WR and SHUT_RDWR writing
+-- SHUT_RD 0 and SHUT_RDWR 2 shut reading
 abbrev pub shuts_reading : ℤ → Bool
 shuts_reading (pos how) = how == 0 || how == 2
 shuts_reading (negsuc _) = false
 
+-- SHUT_WR 1 and SHUT_RDWR 2 shut writing
 abbrev pub shuts_writing : ℤ → Bool
 shuts_writing (pos how) = how == 1 || how == 2
 shuts_writing (negsuc _) = false
 
+-- what was shut stays shut, and this comes to it; only one that is connected can be shut
 abbrev pub shut_further : Bool → Bool → Stage → Stage
 shut_further reading writing Idle = Idle
 shut_further reading writing (Listening waiting) = Listening waiting

@@ -8,6 +8,7 @@ use Rattle.posix_defs.specs.Socket.{Stage, Idle, Listening, Connected, Socket, n
 abbrev pub Sockets : Type 0
 Sockets = List (Option Socket)
 
+-- the socket of a place; None where it has gone, and where none was made
 abbrev pub sock_at : Sockets → ℕ → Option Socket
 sock_at sockets place = slice_index_or sockets place None
 
@@ -15,6 +16,7 @@ sock_at sockets place = slice_index_or sockets place None
 abbrev pub socket_at : Sockets → ℕ → Socket
 socket_at sockets place = unwrap_or (sock_at sockets place) new_socket
 
+-- how far the socket of a place has come
 abbrev pub stage_at : Sockets → ℕ → Stage
 stage_at sockets place = (socket_at sockets place).stage
 
@@ -84,6 +86,7 @@ read_connected sockets bytes peer shut_read nonblock n =
     else (if nat_lt 0 (length bytes) then Moves (min n (length bytes))
     else (if writes_no_more sockets peer then Moves 0 else not_now nonblock))
 
+-- a read of at most n bytes; ENOTCONN of one that isn't connected
 abbrev pub read_in_stage : Sockets → Stage → List ℕ → Bool → ℕ → Moving
 read_in_stage sockets Idle bytes nonblock n = Fails errno.ENOTCONN
 read_in_stage sockets (Listening waiting) bytes nonblock n = Fails errno.ENOTCONN
@@ -106,11 +109,13 @@ abbrev pub write_within : ℕ → Bool → ℕ → Moving
 write_within free nonblock m =
     if nat_le m free then Moves m else (if free == 0 then not_now nonblock else Moves free)
 
+-- a write of m bytes to a peer: EPIPE where it has closed or was shut for reading, else by the room that it has
 abbrev pub write_to : Sockets → Option ℕ → Bool → ℕ → Moving
 write_to sockets None nonblock m = Fails errno.EPIPE
 write_to sockets (Some peer) nonblock m =
     if is_shut_read (stage_at sockets peer) then Fails errno.EPIPE else write_within (free_at sockets peer) nonblock m
 
+-- a write of m bytes: ENOTCONN of one that isn't connected, then EPIPE where it was shut for writing, before its peer is asked
 abbrev pub write_in_stage : Sockets → Stage → Bool → ℕ → Moving
 write_in_stage sockets Idle nonblock m = Fails errno.ENOTCONN
 write_in_stage sockets (Listening waiting) nonblock m = Fails errno.ENOTCONN
@@ -121,6 +126,7 @@ write_in_stage sockets (Connected peer shut_read shut_write) nonblock m =
 abbrev pub sock_write : Sockets → ℕ → Bool → ℕ → Moving
 sock_write sockets place nonblock m = write_in_stage sockets (stage_at sockets place) nonblock m
 
+-- these bytes come behind those that the peer is to read; without a peer nothing changes
 abbrev pub sent_to : Sockets → Option ℕ → List ℕ → Sockets
 sent_to sockets None bytes = sockets
 sent_to sockets (Some peer) bytes = with_bytes sockets peer ((socket_at sockets peer).bytes ++ bytes)
@@ -142,6 +148,7 @@ left_alone sockets (Some peer) = with_stage sockets peer (without_peer (stage_at
 abbrev pub gone : Sockets → ℕ → Sockets
 gone sockets place = left_alone (with_socket sockets place None) (peer_of (stage_at sockets place))
 
+-- these sockets go, one after another
 abbrev pub all_gone : Sockets → List ℕ → Sockets
 all_gone sockets [] = sockets
 all_gone sockets (place ∷ rest) = all_gone (gone sockets place) rest
@@ -150,12 +157,15 @@ all_gone sockets (place ∷ rest) = all_gone (gone sockets place) rest
 abbrev pub after_close : Sockets → ℕ → Sockets
 after_close sockets place = all_gone (gone sockets place) (waiting_of (stage_at sockets place))
 
+-- of a connected one: POLLIN if asked, where bytes are there, or the peer has closed or was shut for writing; POLLHUP where it
+-- has closed, else POLLOUT if asked, where it takes a byte; that it was shut for reading itself gives no POLLIN
 abbrev pub polled_connected : Sockets → List ℕ → Option ℕ → ℤ → ℕ
 polled_connected sockets bytes None events = (if is_asked events 1 then 1 else 0) + 16
 polled_connected sockets bytes (Some peer) events =
     (if is_asked events 1 && (nat_lt 0 (length bytes) || is_shut_write (stage_at sockets peer)) then 1 else 0)
     + (if is_asked events 4 && nat_lt 0 (free_at sockets peer) then 4 else 0)
 
+-- POLLHUP of one that is neither listening nor connected, asked or not; of a listening one POLLIN if asked, where one waits
 abbrev pub polled_in_stage : Sockets → Stage → List ℕ → ℤ → ℕ
 polled_in_stage sockets Idle bytes events = 16
 polled_in_stage sockets (Listening waiting) bytes events = if is_asked events 1 && nat_lt 0 (length waiting) then 1 else 0

@@ -36,6 +36,7 @@ abbrev pub AreRising : ℕ → List Task → Type 0
 AreRising below [] = Unit {0}
 AreRising below (task ∷ tasks) = (below < task.pid) × AreRising task.pid tasks
 
+-- Each live process has a task, tasks stand by rising pid and are as their processes are, and the caches keep what they may.
 pub record IsSound (script : Script) (s : CoreState) : Type 0 where
   pub made : length s.world.plain.table ≡ last_pid s.world.plain
   pub rising : AreRising 0 s.tasks

@@ -22,6 +22,7 @@ pub record Node : Type 0 where
   pub links : ℕ
   pub content : Content
 
+-- The tree of files on a disk.
 pub record Tree : Type 0 where
   -- how many blocks the disk has
   pub blocks : ℕ
@@ -38,6 +39,7 @@ directory = 2
 
 -- ---- one node
 
+-- the node of a number; None where it is free, and where the disk has no such node
 abbrev pub node_at : Tree → ℕ → Option Node
 node_at tree zero = None
 node_at tree (suc before) = slice_index_or tree.nodes before None
@@ -51,10 +53,12 @@ with_node tree (suc before) there = record tree { nodes = slice_set tree.nodes b
 abbrev pub is_in_use : Tree → ℕ → Bool
 is_in_use tree number = is_some (node_at tree number)
 
+-- it is what a directory holds
 abbrev pub is_directory_content : Content → Bool
 is_directory_content (Directory _ _) = true
 is_directory_content _ = false
 
+-- a node is in use and is a directory
 abbrev pub is_directory_in : Option Node → Bool
 is_directory_in None = false
 is_directory_in (Some node) = is_directory_content node.content
@@ -63,6 +67,7 @@ is_directory_in (Some node) = is_directory_content node.content
 abbrev pub is_directory : Tree → ℕ → Bool
 is_directory tree number = is_directory_in (node_at tree number)
 
+-- the links of a node in use, else 0
 abbrev pub links_in : Option Node → ℕ
 links_in None = 0
 links_in (Some node) = node.links
@@ -73,10 +78,12 @@ links_at tree number = links_in (node_at tree number)
 
 -- ---- a directory
 
+-- a directory's entries behind `.` and `..`; of anything else none
 abbrev pub entries_of : Content → List DirEntry
 entries_of (Directory _ entries) = entries
 entries_of _ = []
 
+-- the entries of a node in use, else none
 abbrev pub entries_in : Option Node → List DirEntry
 entries_in None = []
 entries_in (Some node) = entries_of node.content
@@ -85,10 +92,12 @@ entries_in (Some node) = entries_of node.content
 abbrev pub entries_at : Tree → ℕ → List DirEntry
 entries_at tree number = entries_in (node_at tree number)
 
+-- the parent that a directory has; of anything else the root
 abbrev pub parent_of : Content → ℕ
 parent_of (Directory parent _) = parent
 parent_of _ = root
 
+-- the parent of a node in use, else the root
 abbrev pub parent_in : Option Node → ℕ
 parent_in None = root
 parent_in (Some node) = parent_of node.content
@@ -97,9 +106,11 @@ parent_in (Some node) = parent_of node.content
 abbrev pub parent_at : Tree → ℕ → ℕ
 parent_at tree number = parent_in (node_at tree number)
 
+-- the entry has this name
 abbrev pub has_name : List ℕ → DirEntry → Bool
 has_name name entry = bytes_eq entry.name name
 
+-- the node of the first entry that has this name
 abbrev pub found_among : List DirEntry → List ℕ → Option ℕ
 found_among entries name = option_map (λ entry. entry.node) (find (has_name name) entries)
 
@@ -120,13 +131,16 @@ size_of (File bytes) = length bytes
 size_of (Directory _ entries) = 32 * (length entries + 2)
 size_of SocketName = 0
 
+-- the size in bytes of a node in use, else 0
 abbrev pub size_in : Option Node → ℕ
 size_in None = 0
 size_in (Some node) = size_of node.content
 
+-- the size of a node in bytes, 0 for a free one
 abbrev pub size_at : Tree → ℕ → ℕ
 size_at tree number = size_in (node_at tree number)
 
+-- how many blocks a node in use takes, that of its pointers among them; else 0
 abbrev pub blocks_in : Option Node → ℕ
 blocks_in there = blocks_of (size_in there)
 
@@ -156,6 +170,7 @@ pub record IsInodeOf (node : Node) (inode : Inode) : Type 0 where
   pub links : inode.nlink ≡ node.links
   pub size : inode.size ≡ size_of node.content
 
+-- a node is in use, and the inode says of it what there is beside its pointers
 abbrev pub IsInodeIn : Option Node → Inode → Type 0
 IsInodeIn None inode = ⊥
 IsInodeIn (Some node) inode = IsInodeOf node inode
@@ -166,6 +181,7 @@ IsInodeAt tree number inode = IsInodeIn (node_at tree number) inode
 
 -- ---- the new tree
 
+-- a directory without entries but `.` and `..`, which both name the root; its one link is no entry
 abbrev pub new_root_node : Node
 new_root_node = record { links = 1; content = Directory root [] }
 

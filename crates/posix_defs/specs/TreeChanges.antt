@@ -16,6 +16,7 @@ use Rattle.posix_defs.specs.Tree.{Content, File, Directory, Node, Tree, node_at,
 abbrev pub with_content : Tree → ℕ → (Content → Content) → Tree
 with_content tree number change = with_node tree number (option_map {T = Node} (λ node. record node { content = change node.content }) (node_at tree number))
 
+-- the entries of a directory become others; what is no directory stays as it is
 abbrev pub with_entries_in : (List DirEntry → List DirEntry) → Content → Content
 with_entries_in change (Directory parent entries) = Directory parent (change entries)
 with_entries_in change content = content
@@ -24,6 +25,7 @@ with_entries_in change content = content
 abbrev pub with_entries : Tree → ℕ → (List DirEntry → List DirEntry) → Tree
 with_entries tree dir change = with_content tree dir (with_entries_in change)
 
+-- a directory hangs below another parent; what is no directory stays as it is
 abbrev pub under : ℕ → Content → Content
 under parent (Directory _ entries) = Directory parent entries
 under parent content = content
@@ -40,6 +42,7 @@ link_added tree number = with_node tree number (option_map {T = Node} (λ node. 
 abbrev pub left_of : Bool → Node → Option Node
 left_of opened node = if node.links == 1 && not opened then None else Some (record node { links = node.links - 1 })
 
+-- the same where a node is in use; a free one stays free
 abbrev pub left_in : Bool → Option Node → Option Node
 left_in opened None = None
 left_in opened (Some node) = left_of opened node
@@ -86,6 +89,7 @@ takes_entry tree dir beside = nat_lt (size_at tree dir) greatest_size && nat_le 
 
 -- ---- files
 
+-- the bytes of a file become others; what is no file stays as it is
 abbrev pub with_bytes_in : (List ℕ → List ℕ) → Content → Content
 with_bytes_in change (File bytes) = File (change bytes)
 with_bytes_in change content = content
@@ -126,6 +130,8 @@ abbrev pub with_new : Tree → ℕ → ℕ → List ℕ → Content → Tree
 with_new tree number dir name content =
     with_entries (with_node tree number (Some (record { links = 1; content = content }))) dir (entry_put name number)
 
+-- a node is made under a new name, with this number: ENOSPC where no number is free, where the directory is at its greatest size,
+-- and where too few blocks are free for the entry and the node
 abbrev pub make_at : Tree → ℕ → List ℕ → Content → Option ℕ → Result (ℕ × Tree) Errno
 make_at tree dir name content None = Err ENOSPC
 make_at tree dir name content (Some number) =

@@ -49,6 +49,7 @@ pub record Answers (script : Script) (old : World) (pid : ℕ) (call : Call) (to
   pub left : has_succeeded told ≡ true → IsLeft new.plain.files.tree new.kept (name_to_leave old.plain pid call)
   pub known : knows_way old.plain old.kept pid call ≡ true → new.reads ≡ old.reads
 
+-- a turn of a call: it is answered where its process is alive, else it is gone and changes nothing
 abbrev pub TurnsWhere : Bool → Script → World → ℕ → Call → Turned → World → Type 0
 TurnsWhere true script old pid call told new = Answers script old pid call told new
 TurnsWhere false script old pid call told new = (told ≡ turned.Gone) × (new ≡ old)

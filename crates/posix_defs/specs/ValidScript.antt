@@ -15,6 +15,7 @@ use Rattle.posix_defs.specs.declared.said.Shape.TheVariants as shape
 use Rattle.posix_defs.specs.ScriptValues.{is_name, is_path, least_value, greatest_value}
 use Rattle.posix_defs.specs.ScriptLines.{shape_of}
 
+-- one of the registers r0 to r15
 abbrev pub IsRegister : ℕ → Type 0
 IsRegister register = register < 16
 
@@ -47,6 +48,7 @@ pub record HasText (is_text : List ℕ → Type 0) (count : ℕ) (values : List 
   pub texts_are : texts ≡ text ∷ []
   pub fits : is_text text
 
+-- No value, and two paths, the old one and the new one.
 pub record HasTwoPaths (values : List Operand) (texts : List (List ℕ)) : Type 0 where
   pub old : List ℕ
   pub new : List ℕ
@@ -99,11 +101,13 @@ IsStatement body at (statement.Invoke kind values texts first second) =
 abbrev pub too_many_statements : ℕ
 too_many_statements = 1048576
 
+-- A program has a name that a script may give it, not too many statements, and each of them is right where it stands.
 pub record IsProgram (program : Program) : Type 0 where
   pub name : is_name program.name ≡ true
   pub short : length program.body < too_many_statements
   pub body : (at : ℕ) → IfSome (slice_get program.body at) (IsStatement program.body at)
 
+-- nobody chooses, or 1 to 1000 numbers of 32 bits do, or a seed up to 2147483647
 abbrev pub IsChooser : Chooser → Type 0
 IsChooser Plain = ⊤
 IsChooser (Choices choices) = (1 ≤ length choices) × (length choices ≤ 1000) × AllByRecursion (λ choice. choice ≤ 4294967295) choices
@@ -120,6 +124,7 @@ pub record HasProgram (programs : List Program) (name : List ℕ) : Type 0 where
   pub is_there : slice_get programs at ≡ Some program
   pub is_named : program.name ≡ name
 
+-- Heap in bytes, disk in blocks and steps are within their limits; at most 64 programs differ in name, and one is called `init`.
 pub record IsValid (script : Script) : Type 0 where
   pub least_heap : 8192 ≤ script.heap
   pub most_heap : script.heap ≤ 8388608

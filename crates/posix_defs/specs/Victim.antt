@@ -38,6 +38,7 @@ abbrev pub greatest : Policy → Weight → List Weight → Weight
 greatest policy w [] = w
 greatest policy w (v ∷ weights) = greatest policy (if nat_le (score_of policy w) (score_of policy v) then v else w) weights
 
+-- the pid of the greatest of these weights, of equals that of the last; None where there is none
 abbrev pub pid_of_greatest : Policy → List Weight → Option ℕ
 pid_of_greatest policy [] = None
 pid_of_greatest policy (w ∷ weights) = let chosen = greatest policy w weights in Some chosen.pid

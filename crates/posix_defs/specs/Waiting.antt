@@ -14,6 +14,7 @@ abbrev pub is_asked_for : ℤ → ℕ → Bool
 is_asked_for (pos pid) child = pid == child
 is_asked_for (negsuc _) child = true
 
+-- the process is there, alive or ended, and has this parent
 abbrev pub is_child_of : ℕ → Option Process → Bool
 is_child_of parent None = false
 is_child_of parent (Some process) = process.parent == parent
@@ -27,10 +28,12 @@ abbrev pub any_from : ℕ → ℤ → ℕ → Table → Bool
 any_from parent which child [] = false
 any_from parent which child (there ∷ table) = matches parent which child there || any_from parent which (child + 1) table
 
+-- the process has ended
 abbrev pub has_ended : Status → Bool
 has_ended Alive = false
 has_ended (Ended _) = true
 
+-- the wait status of one that has ended: 256 times its exit status, or the number of the signal that ended it; 0 while it runs
 abbrev pub wait_status : Status → ℕ
 wait_status Alive = 0
 wait_status (Ended status) = status
@@ -40,6 +43,7 @@ pub record Exited : Type 0 where
   pub pid : ℕ
   pub status : ℕ
 
+-- what is told of the process of this pid, if it is there and has ended
 abbrev pub exited_in : ℕ → Option Process → Option Exited
 exited_in pid None = None
 exited_in pid (Some process) = if has_ended process.status then Some (record { pid = pid; status = wait_status process.status }) else None

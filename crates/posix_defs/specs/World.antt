@@ -19,6 +19,7 @@ pub record Kept : Type 0 where
   pub blocks : List ℕ
   pub vnodes : List ℕ
 
+-- What the core knows of a store; `reads` counts the blocks that were read of its disk.
 pub record World : Type 0 where
   pub plain : Plain
   pub account : Account

@@ -21,6 +21,7 @@ close script plain pid fd =
 abbrev pub shared_at : Files → ℕ → Opened → ℕ → Files
 shared_at files pid opened fd = with_open files pid fd (Some (record { description = opened.place; cloexec = false }))
 
+-- the free descriptor, by which the same description is named; EMFILE where none is free
 abbrev pub duplicated : Script → Plain → ℕ → Opened → Option ℕ → Answer
 duplicated script plain pid opened None = failed script plain pid EMFILE
 duplicated script plain pid opened (Some fd) = replied script (with_files plain (shared_at plain.files pid opened fd)) pid (Val (pos fd))
@@ -42,6 +43,7 @@ dup2 script plain pid fd to =
     on_open script plain pid fd (λ opened.
     if may_be_descriptor to then duplicated_to script plain pid opened (count_of fd) (count_of to) else failed script plain pid EBADF)
 
+-- the descriptor with or without FD_CLOEXEC, if it is open
 abbrev pub cloexec_set : Bool → Option Descriptor → Option Descriptor
 cloexec_set cloexec None = None
 cloexec_set cloexec (Some descriptor) = Some (record descriptor { cloexec = cloexec })

@@ -41,6 +41,7 @@ description_for number flags = record {
   nonblock = has_flag flags o_nonblock;
 }
 
+-- the descriptor names a new description of the node that is open now, and is told; or the fault of the path
 abbrev pub opened_node_as : Script → Plain → ℕ → ℤ → ℕ → Result (ℕ × Tree) Errno → Answer
 opened_node_as script plain pid flags fd (Ok there) =
     replied script
@@ -48,6 +49,7 @@ opened_node_as script plain pid flags fd (Ok there) =
     pid (Val (pos fd))
 opened_node_as script plain pid flags fd (Err errno) = failed script plain pid errno
 
+-- an open by the descriptor that is free; EMFILE where none is, before the path is walked
 abbrev pub open_at : Script → Plain → ℕ → List ℕ → ℤ → Option ℕ → Answer
 open_at script plain pid path flags None = failed script plain pid EMFILE
 open_at script plain pid path flags (Some fd) =
@@ -74,6 +76,8 @@ origin tree opened number (suc (suc _)) = size_at tree number
 abbrev pub is_between_entries : Tree → ℕ → ℕ → Bool
 is_between_entries tree number offset = is_directory tree number && not (offset % 32 == 0)
 
+-- EINVAL below 0, EOVERFLOW above the greatest offset, then EINVAL in a directory for what is no multiple of 32; else the
+-- offset is set and told
 abbrev pub seek_to : Script → Plain → ℕ → Opened → ℕ → ℤ → Answer
 seek_to script plain pid opened number (negsuc _) = failed script plain pid EINVAL
 seek_to script plain pid opened number (pos offset) =
@@ -81,6 +85,7 @@ seek_to script plain pid opened number (pos offset) =
     else (if is_between_entries plain.files.tree number offset then failed script plain pid EINVAL
     else replied script (moved_to plain opened offset) pid (Val (pos offset)))
 
+-- the offset of a file or a directory, counted from its origin; ESPIPE of a pipe and a socket
 abbrev pub seek_target : Script → Plain → ℕ → Opened → ℤ → ℕ → Target → Answer
 seek_target script plain pid opened offset whence (OnNode number) =
     seek_to script plain pid opened number (pos (origin plain.files.tree opened number whence) +ℤ offset)
@@ -94,10 +99,12 @@ lseek script plain pid fd offset whence =
 
 -- ---- ftruncate
 
+-- the file has its new size, and 0 is told; or the fault of that size
 abbrev pub resized_to : Script → Plain → ℕ → Result Tree Errno → Answer
 resized_to script plain pid (Ok tree) = replied script (with_files plain (with_tree plain.files tree)) pid (Val (pos 0))
 resized_to script plain pid (Err errno) = failed script plain pid errno
 
+-- EINVAL for all but a file, then EBADF where it isn't open for writing, then EFBIG, then ENOSPC
 abbrev pub truncate_target : Script → Plain → ℕ → Opened → ℕ → Target → Answer
 truncate_target script plain pid opened size (OnNode number) =
     if is_directory plain.files.tree number then failed script plain pid EINVAL
@@ -116,6 +123,7 @@ ftruncate script plain pid fd size =
 abbrev pub without_node : NodeKind → StatInfo
 without_node kind = record { kind = kind; number = 0; nlink = 0; size = 0 }
 
+-- what fstat tells: all of a node, and of a pipe or a socket only that it is one
 abbrev pub info_of : Tree → Target → StatInfo
 info_of tree (OnNode number) = stat_info tree number
 info_of tree (OnPipe place) = without_node kinds.Pipe

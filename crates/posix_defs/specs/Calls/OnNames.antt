@@ -24,6 +24,7 @@ is_busy plain number = opens plain.files number || list_any (works_in number) pl
 
 -- ---- stat, chdir
 
+-- what there is to tell of a node, or the fault of its path
 abbrev pub told_of : Script → Plain → ℕ → Result StatInfo Errno → Answer
 told_of script plain pid (Ok info) = replied script plain pid (Stat info)
 told_of script plain pid (Err errno) = failed script plain pid errno
@@ -32,6 +33,7 @@ told_of script plain pid (Err errno) = failed script plain pid errno
 unfoldable pub stat : Script → Plain → ℕ → List ℕ → Answer
 stat script plain pid path = told_of script plain pid (stat_path plain.files.tree (directory_of plain.table pid) path)
 
+-- the caller works in this directory, and 0 is told; or the fault of the path
 abbrev pub works_from : Script → Plain → ℕ → Result ℕ Errno → Answer
 works_from script plain pid (Ok number) = replied script (with_table plain (with_directory plain.table pid number)) pid (Val (pos 0))
 works_from script plain pid (Err errno) = failed script plain pid errno
@@ -47,6 +49,7 @@ abbrev pub retreed : Script → Plain → ℕ → Result Tree Errno → Answer
 retreed script plain pid (Ok tree) = replied script (with_files plain (with_tree plain.files tree)) pid (Val (pos 0))
 retreed script plain pid (Err errno) = failed script plain pid errno
 
+-- the tree with the new directory, and 0 is told, not its number; or the fault
 abbrev pub made_directory : Script → Plain → ℕ → Result (ℕ × Tree) Errno → Answer
 made_directory script plain pid (Ok made) = retreed script plain pid (Ok made.1)
 made_directory script plain pid (Err errno) = failed script plain pid errno
@@ -69,6 +72,7 @@ link script plain pid old new = retreed script plain pid (link_path plain.files.
 abbrev pub renamed : Files → Option ℕ → Tree → Files
 renamed files freed tree = with_sockets (with_tree files tree) (after_freeing files.sockets freed)
 
+-- the tree after a name has gone or changed, and 0 is told; or the fault
 abbrev pub freed_in : Script → Plain → ℕ → Result (Option ℕ × Tree) Errno → Answer
 freed_in script plain pid (Ok left) = replied script (with_files plain (renamed plain.files left.0 left.1)) pid (Val (pos 0))
 freed_in script plain pid (Err errno) = failed script plain pid errno

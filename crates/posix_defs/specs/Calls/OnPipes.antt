@@ -17,6 +17,7 @@ piped files pid two =
     (opened_as (with_pipes files (files.pipes ++ Some new_pipe ∷ [])) pid two.first false (new_description (OnPipe (length files.pipes)) ReadOnly))
     pid two.second false (new_description (OnPipe (length files.pipes)) WriteOnly)
 
+-- both ends of a new pipe, the read end first; EMFILE where two descriptors aren't free
 abbrev pub piped_under : Script → Plain → ℕ → Option Two → Answer
 piped_under script plain pid None = failed script plain pid EMFILE
 piped_under script plain pid (Some two) = replied script (with_files plain (piped plain.files pid two)) pid (Pair two.first two.second)

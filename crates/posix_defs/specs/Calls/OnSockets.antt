@@ -23,10 +23,12 @@ description_of place = new_description (OnSocket place) ReadWrite
 
 -- ---- socket, socketpair
 
+-- a new socket under this descriptor, without flags
 abbrev pub socketed : Files → ℕ → ℕ → Files
 socketed files pid fd =
     opened_as (with_sockets files (with_new files.sockets (length files.sockets))) pid fd false (description_of (length files.sockets))
 
+-- the free descriptor, by which a new socket is named; EMFILE where none is free
 abbrev pub socketed_under : Script → Plain → ℕ → Option ℕ → Answer
 socketed_under script plain pid None = failed script plain pid EMFILE
 socketed_under script plain pid (Some fd) = replied script (with_files plain (socketed plain.files pid fd)) pid (Val (pos fd))
@@ -43,6 +45,7 @@ paired files pid two =
     (description_of (length files.sockets)))
     pid two.second false (description_of (length files.sockets + 1))
 
+-- both descriptors of two new sockets, the lower one first; EMFILE where two aren't free
 abbrev pub paired_under : Script → Plain → ℕ → Option Two → Answer
 paired_under script plain pid None = failed script plain pid EMFILE
 paired_under script plain pid (Some two) = replied script (with_files plain (paired plain.files pid two)) pid (Pair two.first two.second)
@@ -53,6 +56,7 @@ socketpair script plain pid = paired_under script plain pid (two_lowest_free (de
 
 -- ---- what is a socket
 
+-- an answer that goes by the place of a socket; ENOTSOCK for anything else
 abbrev pub socket_target : Script → Plain → ℕ → (ℕ → Answer) → Target → Answer
 socket_target script plain pid answer (OnNode number) = failed script plain pid ENOTSOCK
 socket_target script plain pid answer (OnPipe place) = failed script plain pid ENOTSOCK
@@ -74,11 +78,13 @@ resocketed script plain pid sockets = replied script (with_files plain (with_soc
 
 -- ---- bind, listen, shutdown
 
+-- the socket is bound to its new name, and 0 is told; or the fault of the path
 abbrev pub bound_to : Script → Plain → ℕ → ℕ → Result (ℕ × Tree) Errno → Answer
 bound_to script plain pid place (Ok made) =
     replied script (with_files plain (with_sockets (with_tree plain.files made.1) (with_name plain.files.sockets place (Some made.0)))) pid (Val (pos 0))
 bound_to script plain pid place (Err errno) = failed script plain pid errno
 
+-- EINVAL of a socket that is bound, then EISCONN of one that is connected, and only then the faults of the path
 abbrev pub bind_at : Script → Plain → ℕ → List ℕ → ℕ → Answer
 bind_at script plain pid path place =
     unless_fault script plain pid (bind_fault (socket_at plain.files.sockets place))
@@ -88,6 +94,7 @@ bind_at script plain pid path place =
 unfoldable pub bind : Script → Plain → ℕ → ℤ → List ℕ → Answer
 bind script plain pid fd path = on_socket script plain pid fd (λ opened. bind_at script plain pid path)
 
+-- EINVAL of a socket that is connected, then EDESTADDRREQ of one that isn't bound; else it listens, and 0 is told
 abbrev pub listen_at : Script → Plain → ℕ → ℕ → Answer
 listen_at script plain pid place =
     unless_fault script plain pid (listen_fault (socket_at plain.files.sockets place))
@@ -97,6 +104,7 @@ listen_at script plain pid place =
 unfoldable pub listen : Script → Plain → ℕ → ℤ → Answer
 listen script plain pid fd = on_socket script plain pid fd (λ opened. listen_at script plain pid)
 
+-- ENOTCONN of a socket that isn't connected; else it is shut, and 0 is told
 abbrev pub shutdown_at : Script → Plain → ℕ → ℤ → ℕ → Answer
 shutdown_at script plain pid how place =
     unless_fault script plain pid (shutdown_fault (stage_at plain.files.sockets place))
@@ -120,10 +128,12 @@ connected_under script plain pid place (Some listener) =
     if is_refused plain.files.sockets (Some listener) then failed script plain pid ECONNREFUSED
     else resocketed script plain pid (after_connect plain.files.sockets place listener (length plain.files.sockets))
 
+-- the fault of the path, ENOENT for a free name; then ECONNREFUSED, also where the path leads to no socket's name
 abbrev pub connected_by : Script → Plain → ℕ → ℕ → Result (Option ℕ) Errno → Answer
 connected_by script plain pid place (Ok number) = connected_under script plain pid place (listener_under plain.files.sockets number)
 connected_by script plain pid place (Err errno) = failed script plain pid errno
 
+-- EISCONN of a socket that is connected, EOPNOTSUPP of one that listens, and only then the faults of the path
 abbrev pub connect_at : Script → Plain → ℕ → List ℕ → ℕ → Answer
 connect_at script plain pid path place =
     unless_fault script plain pid (connect_fault (stage_at plain.files.sockets place))
@@ -138,6 +148,7 @@ abbrev pub accepted : Files → ℕ → ℕ → ℕ → ℕ → Files
 accepted files pid listener fd taken =
     opened_as (with_sockets files (after_accept files.sockets listener)) pid fd false (description_of taken)
 
+-- the free descriptor, by which the socket that waited first is named; it blocks where none waits; or the fault
 abbrev pub accepted_under : Script → Plain → ℕ → ℕ → Option ℕ → Accepting → Answer
 accepted_under script plain pid listener (Some fd) (Takes taken) =
     replied script (with_files plain (accepted plain.files pid listener fd taken)) pid (Val (pos fd))
@@ -145,6 +156,8 @@ accepted_under script plain pid listener None (Takes taken) = failed script plai
 accepted_under script plain pid listener fd Waits = Blocked
 accepted_under script plain pid listener fd (Refuses errno) = failed script plain pid errno
 
+-- EINVAL of a socket that doesn't listen, then EMFILE; then the first that waits; where none does, EAGAIN with O_NONBLOCK, else
+-- it blocks
 abbrev pub accept_at : Script → Plain → ℕ → Option ℕ → Opened → ℕ → Answer
 accept_at script plain pid fd opened listener =
     accepted_under script plain pid listener fd (accept_in (stage_at plain.files.sockets listener) (is_some fd) opened.is.nonblock)

@@ -14,6 +14,7 @@ pub record Opened : Type 0 where
   pub place : ℕ
   pub is : Description
 
+-- the description that a descriptor names, with its place; None where it isn't open
 abbrev pub opened_by : Files → Option Descriptor → Option Opened
 opened_by files None = None
 opened_by files (Some descriptor) =
@@ -23,6 +24,7 @@ opened_by files (Some descriptor) =
 abbrev pub opened_at : Files → ℕ → ℤ → Option Opened
 opened_at files pid fd = opened_by files (descriptor_of (descriptors_of files pid) fd)
 
+-- an answer that goes by what is open; EBADF where nothing is
 abbrev pub answer_on : Script → Plain → ℕ → (Opened → Answer) → Option Opened → Answer
 answer_on script plain pid answer None = failed script plain pid EBADF
 answer_on script plain pid answer (Some opened) = answer opened

@@ -17,6 +17,7 @@ use Rattle.posix_defs.specs.Calls.Opened.{Opened, opened_at}
 abbrev pub polled_node : ℤ → ℕ
 polled_node events = (if is_asked events 1 then 1 else 0) + (if is_asked events 4 then 4 else 0)
 
+-- what poll tells of what is open: of a pipe by the end that the description has
 abbrev pub polled_target : Files → Description → ℤ → Target → ℕ
 polled_target files description events (OnNode number) = polled_node events
 polled_target files description events (OnPipe place) =
@@ -41,6 +42,7 @@ revents_of files pid entries = map (λ entry. polled_at files pid entry.fd entry
 abbrev pub hits_of : List ℕ → ℕ
 hits_of revents = count_by (λ events. not (events == 0)) revents
 
+-- the hits and what each entry is told; with no hit timeout -1 blocks, and timeout 0 tells that
 abbrev pub polled : Script → Plain → ℕ → ℤ → List ℕ → Answer
 polled script plain pid timeout revents =
     if (hits_of revents == 0) && is_minus_one timeout then Blocked

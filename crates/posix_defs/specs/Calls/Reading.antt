@@ -60,6 +60,7 @@ read_from_socket script plain pid place addr (Moves k) =
 read_from_socket script plain pid place addr Blocks = Blocked
 read_from_socket script plain pid place addr (Fails errno) = failed script plain pid errno
 
+-- at most n bytes: of a file from the offset on, of a pipe or a socket those that came first
 abbrev pub read_target : Script → Plain → ℕ → Opened → ℤ → ℕ → Target → Answer
 read_target script plain pid opened addr n (OnNode number) = read_file script plain pid opened number addr n
 read_target script plain pid opened addr n (OnPipe place) =
@@ -95,6 +96,7 @@ list_directory script plain pid opened number addr n =
     let bytes = list_node plain.files.tree number opened.is.offset n in
     put script (moved_to plain opened (opened.is.offset + length bytes)) pid addr bytes
 
+-- ENOTDIR for what is no directory, then EFAULT where a page of the n bytes isn't mapped, then whole entries from the offset on
 abbrev pub list_target : Script → Plain → ℕ → Opened → ℤ → ℤ → Target → Answer
 list_target script plain pid opened addr n (OnNode number) =
     if is_directory plain.files.tree number then in_range script plain pid addr (count_of n) (list_directory script plain pid opened number addr (count_of n))

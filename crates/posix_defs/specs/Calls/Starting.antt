@@ -19,6 +19,7 @@ started script plain pid place =
     with_control (with_files (remembered plain pid no_memory) (after_exec_of plain.files pid)) pid
     (program.restarted (program.settled script (control_of plain pid)) place)
 
+-- the program starts, and 0 is the reply that no register gets; or the fault, behind which the old program goes on
 abbrev pub starts : Script → Plain → ℕ → Result ℕ Errno → Answer
 starts script plain pid (Ok place) = Done (Val (pos 0)) (started script plain pid place)
 starts script plain pid (Err errno) = failed script plain pid errno

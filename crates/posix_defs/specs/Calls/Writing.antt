@@ -62,9 +62,11 @@ write_queue script plain pid nonblock n done next (Moves k) = put_in_queue scrip
 write_queue script plain pid nonblock n done next Blocks = Blocked
 write_queue script plain pid nonblock n done next (Fails errno) = stopped script plain pid done errno
 
+-- the files after the first k of these bytes were put in a pipe, behind those that are there
 abbrev pub put_in_pipe : Files → ℕ → List ℕ → ℕ → Files
 put_in_pipe files place bytes k = with_pipe files place (Some (after_write (pipe_at files place) bytes k))
 
+-- the files after the first k of these bytes were put in a socket, for its peer to read
 abbrev pub put_in_socket : Files → ℕ → List ℕ → ℕ → Files
 put_in_socket files place bytes k = with_sockets files (socket_after_write files.sockets place bytes k)
 

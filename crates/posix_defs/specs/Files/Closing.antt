@@ -19,6 +19,7 @@ target_closed files access (OnNode number) = left_node files number
 target_closed files access (OnPipe place) = with_pipe files place (pipe_after_close (pipe_at files place) (may_write access))
 target_closed files access (OnSocket place) = with_sockets files (sockets_after_close files.sockets place)
 
+-- the description of this place goes, if it is there, and then what it was open on is closed
 abbrev pub gone_in : Files → ℕ → Option Description → Files
 gone_in files place None = files
 gone_in files place (Some description) =
@@ -32,6 +33,7 @@ description_gone files place = gone_in files place (description_at files.descrip
 abbrev pub released : Files → ℕ → Files
 released files place = if is_named files.descriptors place then files else description_gone files place
 
+-- this descriptor goes, and with the last that names it its description; nothing changes where it isn't open
 abbrev pub close_in : Files → ℕ → ℕ → Option Descriptor → Files
 close_in files pid fd None = files
 close_in files pid fd (Some descriptor) = released (with_open files pid fd None) descriptor.description

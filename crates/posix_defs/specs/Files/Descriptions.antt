@@ -28,6 +28,7 @@ pub record Description : Type 0 where
 abbrev pub Descriptions : Type 0
 Descriptions = List (Option Description)
 
+-- the description of a place; None where it has gone, and where none was made
 abbrev pub description_at : Descriptions → ℕ → Option Description
 description_at descriptions place = slice_index_or descriptions place None
 
@@ -39,11 +40,13 @@ with_description descriptions place description = slice_set descriptions place d
 abbrev pub new_description : Target → Access → Description
 new_description target access = record { target = target; offset = 0; access = access; append = false; nonblock = false }
 
+-- open for reading, or for both
 abbrev pub may_read : Access → Bool
 may_read ReadOnly = true
 may_read WriteOnly = false
 may_read ReadWrite = true
 
+-- open for writing, or for both
 abbrev pub may_write : Access → Bool
 may_write ReadOnly = false
 may_write WriteOnly = true
@@ -53,21 +56,27 @@ may_write ReadWrite = true
 abbrev pub has_flag : ℤ → ℕ → Bool
 has_flag bits flag = cast_unsigned w64 bits / flag % 2 == 1
 
+-- O_CREAT: a file that is missing is made
 abbrev pub o_creat : ℕ
 o_creat = 64
 
+-- O_EXCL: with O_CREAT, what is there already is EEXIST; without O_CREAT it has no effect
 abbrev pub o_excl : ℕ
 o_excl = 128
 
+-- O_TRUNC: the size of the file becomes 0
 abbrev pub o_trunc : ℕ
 o_trunc = 512
 
+-- O_APPEND: each write goes to the end of the file
 abbrev pub o_append : ℕ
 o_append = 1024
 
+-- O_NONBLOCK: a call that would block fails with EAGAIN, or a write tells what it has moved
 abbrev pub o_nonblock : ℕ
 o_nonblock = 2048
 
+-- O_CLOEXEC: `exec` closes the new descriptor
 abbrev pub o_cloexec : ℕ
 o_cloexec = 524288
 
@@ -75,6 +84,7 @@ o_cloexec = 524288
 abbrev pub access_of : ℤ → Access
 access_of bits = if has_flag bits 2 then ReadWrite else (if has_flag bits 1 then WriteOnly else ReadOnly)
 
+-- the access mode as F_GETFL tells it: O_RDONLY 0, O_WRONLY 1, O_RDWR 2
 abbrev pub access_bits : Access → ℕ
 access_bits ReadOnly = 0
 access_bits WriteOnly = 1

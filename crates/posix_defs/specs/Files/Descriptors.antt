@@ -43,6 +43,7 @@ pub record Two : Type 0 where
   pub first : ℕ
   pub second : ℕ
 
+-- this number, and the lowest above it that isn't open; None where there is none
 abbrev pub and_next : Descriptors → ℕ → Option Two
 and_next descriptors first = option_map (λ second. record { first = first; second = second }) (lowest_free_from descriptors (first + 1))
 
@@ -63,6 +64,7 @@ names_place place (Some descriptor) = descriptor.description == place
 abbrev pub is_named : List Descriptors → ℕ → Bool
 is_named processes place = list_any (list_any (names_place place)) processes
 
+-- the descriptor is open, and `exec` closes it
 abbrev pub has_cloexec : Option Descriptor → Bool
 has_cloexec None = false
 has_cloexec (Some descriptor) = descriptor.cloexec

@@ -6,6 +6,7 @@ use Rattle.posix_defs.specs.Socket.{Stage, Idle, Listening, Connected, Socket}
 use Rattle.posix_defs.specs.Sockets.{Sockets}
 use Rattle.posix_defs.specs.Files.State.{is_number}
 
+-- a socket in this stage listens
 abbrev pub listens : Stage → Bool
 listens Idle = false
 listens (Listening waiting) = true
@@ -24,6 +25,7 @@ listener_at sockets number = position_from (listens_at number) 0 sockets
 abbrev pub unnamed : ℕ → Socket → Socket
 unnamed number socket = if is_number number socket.node then record socket { node = None } else socket
 
+-- whoever is bound to this node keeps no name
 abbrev pub none_bound_to : Sockets → ℕ → Sockets
 none_bound_to sockets number = map (option_map (unnamed number)) sockets
 

@@ -9,6 +9,7 @@ use Rattle.posix_defs.specs.Tree.{Tree, new_tree}
 use Rattle.posix_defs.specs.Files.Descriptors.{Descriptor, Descriptors, none_open, with_descriptor}
 use Rattle.posix_defs.specs.Files.Descriptions.{Target, OnNode, OnPipe, OnSocket, Description, Descriptions, with_description}
 
+-- What each process has open, and what there is of descriptions, the tree, pipes and sockets.
 pub record Files : Type 0 where
   -- of each process ever made; one that has ended has none open
   pub descriptors : List Descriptors
@@ -20,18 +21,23 @@ pub record Files : Type 0 where
 
 -- ---- one part
 
+-- the files with other descriptors
 abbrev pub with_descriptors : Files → List Descriptors → Files
 with_descriptors files descriptors = record files { descriptors = descriptors }
 
+-- the files with other descriptions
 abbrev pub with_descriptions : Files → Descriptions → Files
 with_descriptions files descriptions = record files { descriptions = descriptions }
 
+-- the files with another tree
 abbrev pub with_tree : Files → Tree → Files
 with_tree files tree = record files { tree = tree }
 
+-- the files with other pipes
 abbrev pub with_pipes : Files → List (Option Pipe) → Files
 with_pipes files pipes = record files { pipes = pipes }
 
+-- the files with other sockets
 abbrev pub with_sockets : Files → Sockets → Files
 with_sockets files sockets = record files { sockets = sockets }
 
@@ -69,6 +75,7 @@ abbrev pub opened_node : Files → Option Description → Option ℕ
 opened_node files None = None
 opened_node files (Some description) = node_of files description.target
 
+-- there is a number, and it is this one
 abbrev pub is_number : ℕ → Option ℕ → Bool
 is_number number None = false
 is_number number (Some other) = other == number
@@ -77,10 +84,12 @@ is_number number (Some other) = other == number
 abbrev pub opens : Files → ℕ → Bool
 opens files number = list_any (λ description. is_number number (opened_node files description)) files.descriptions
 
+-- these numbers, and before them one more, if there is one
 abbrev pub beside : Option ℕ → List ℕ → List ℕ
 beside None numbers = numbers
 beside (Some number) numbers = number ∷ numbers
 
+-- the nodes that these descriptions open, each as often as it is opened
 abbrev pub nodes_among : Files → Descriptions → List ℕ
 nodes_among files [] = []
 nodes_among files (description ∷ descriptions) = beside (opened_node files description) (nodes_among files descriptions)

@@ -20,6 +20,7 @@ use Rattle.posix_defs.specs.Calls.Opened.{Opened, opened_at}
 
 -- ---- ends of pipes
 
+-- it is an end of the pipe of this place
 abbrev pub is_pipe : ℕ → Target → Bool
 is_pipe place (OnNode number) = false
 is_pipe place (OnPipe other) = other == place
@@ -54,11 +55,13 @@ IsTarget files access (OnNode number) =
 IsTarget files access (OnPipe place) = (is_some (pipe_there files place) ≡ true) × (access ≢ ReadWrite)
 IsTarget files access (OnSocket place) = (is_some (sock_at files.sockets place) ≡ true) × (access ≡ ReadWrite)
 
+-- the place of the socket that a target is, if it is one
 abbrev pub socket_of : Target → Option ℕ
 socket_of (OnNode number) = None
 socket_of (OnPipe place) = None
 socket_of (OnSocket place) = Some place
 
+-- the place of the socket that a description is open on, if it is open on one
 abbrev pub socket_in : Option Description → Option ℕ
 socket_in None = None
 socket_in (Some description) = socket_of description.target
@@ -70,15 +73,18 @@ named_sockets (description ∷ descriptions) = beside (socket_in description) (n
 
 -- ---- half-done writes
 
+-- it is a pipe or a socket, in which a write may put a part
 abbrev pub is_queue : Target → Bool
 is_queue (OnNode number) = false
 is_queue (OnPipe place) = true
 is_queue (OnSocket place) = true
 
+-- something is open, and it is a pipe or a socket
 abbrev pub is_queue_in : Option Opened → Bool
 is_queue_in None = false
 is_queue_in (Some opened) = is_queue opened.is.target
 
+-- the call is a `write` by a descriptor that the process has open on a pipe or a socket
 abbrev pub is_write_of : Files → ℕ → Call → Bool
 is_write_of files pid (call.Write fd addr n done) = is_queue_in (opened_at files pid fd)
 is_write_of files pid _ = false
@@ -107,6 +113,7 @@ pub record AreSockets (files : Files) : Type 0 where
   pub bound : (place number : ℕ) → (socket_at files.sockets place).node ≡ Some number → is_socket files.tree number ≡ true
   pub alone : (place other number : ℕ) → (socket_at files.sockets place).node ≡ Some number → (socket_at files.sockets other).node ≡ Some number → place ≡ other
 
+-- All that is open, pipes, sockets, the tree and the working directories of a machine that is reached go together.
 pub record IsWhole (script : Script) (plain : Plain) : Type 0 where
   pub places : HasPlaces plain
   pub named : AreNamed plain.files
