@@ -1,11 +1,14 @@
 -- Who would be killed, among the processes as in the heap.
-use Rattle.std.proofs.Common.{◌≡◌, ℕ, ◌+◌, ◌<◌, ◌==◌, ◌&&◌, not, cond, filter, List, [], ◌∷◌, length, Option, None, Some, is_some, refl, ap, sym, ◌∙◌, arith}
+use Rattle.std.proofs.Common.{◌≡◌, ℕ, ◌+◌, ◌<◌, ◌==◌, ◌&&◌, not, cond, filter, map, List, [], ◌∷◌, length, Option, None, Some, is_some, refl, ap, sym, ◌∙◌, arith}
 use Rattle.std.specs.Prelude.{IfSome, IsNone}
 use Rattle.std.specs.List.{All, AllByRecursion}
+use Rattle.std.specs.Option.{option_map}
+use Rattle.std.proofs.lemmas.List.Sums.{sum_by-cons}
 use Rattle.std.proofs.lemmas.List.Elements.{All-cons, All-head, All-nil, All-tail, All-weaker}
 use Rattle.kabi_values.specs.declared.classes.Weight.{Weight}
 use Rattle.kabi_types.specs.declared.scripts.Policy.{Policy}
 use Rattle.kabi_types.specs.declared.scripts.Script.{Script}
+use Rattle.kheap_shelves.specs.declared.objects.Descriptor.{Descriptor as HeldDescriptor}
 use Rattle.kheap_shelves.specs.declared.objects.Proc.{Proc}
 use Rattle.kheap_slabs.specs.Heap.{Heap, IsWellFormed}
 use Rattle.kheap_slabs.specs.Spaces.{OwnsNodes}
@@ -16,8 +19,10 @@ use Rattle.posix_defs.specs.Process.{Table, runs}
 use Rattle.posix_defs.specs.Victim.{pid_of_greatest, victim_of, weight_of, weights_from}
 use Rattle.posix_defs.specs.World.{World}
 use Rattle.posix_defs.specs.Account.{Account}
-use Rattle.posix_defs.specs.Files.Descriptors.{none_open, open_count}
-use Rattle.posix_defs.specs.Files.Bare.{IsBare}
+use Rattle.posix_defs.specs.Files.Descriptors.{Descriptor, open_count}
+use Rattle.posix_defs.specs.Files.State.{descriptors_of}
+use Rattle.desc_table.specs.Numbered.{descriptor_in}
+use Rattle.open_laws.specs.Open.{descriptor_by, descriptors_by}
 use Rattle.proc_table.specs.Accounting.{IsPlaced}
 use Rattle.proc_table.specs.Procs.{status_of}
 use Rattle.proc_table.specs.Standing.{AreFrom, nobody, gone, there}
@@ -29,6 +34,7 @@ use Rattle.victim_core.specs.Victims.{IsVictim, RisesByPid}
 use Rattle.store_objects.specs.declared.objects.Objects.{Objects}
 use Rattle.store_objects.specs.Objects.{AreKept, procs_of}
 use Rattle.store_objects.specs.Standing.{StandsFor}
+use Rattle.store_objects.proofs.Opening.{by_procs}
 use Rattle.call_run.specs.Weights.{weight_in, weights_in}
 use Rattle.call_run.proofs.FrameCounts.{frames_are}
 use Rattle.call_run.proofs.Owning.{Owns, all_own}
@@ -40,21 +46,31 @@ IsWeighed h plain account proc = weight_of plain account proc.pid ≡ weight_in 
 weight : ℕ → ℕ → ℕ → ℕ → Weight
 weight pid frames nodes descs = record { pid = pid; frames = frames; nodes = nodes; descs = descs }
 
-same_weight : (pid frames other nodes more descs : ℕ) → frames ≡ other → nodes ≡ more → descs ≡ 0 → weight pid frames nodes descs ≡ weight pid other more 0
-same_weight pid frames other nodes more descs e f g = ap (λ n. weight pid n nodes descs) e ∙ ap (λ n. weight pid other n descs) f ∙ ap (weight pid other more) g
+same_weight : (pid frames other nodes more descs held : ℕ) → frames ≡ other → nodes ≡ more → descs ≡ held → weight pid frames nodes descs ≡ weight pid other more held
+same_weight pid frames other nodes more descs held e f g = ap (λ n. weight pid n nodes descs) e ∙ ap (λ n. weight pid other n descs) f ∙ ap (weight pid other more) g
 
-none_counted : open_count none_open ≡ 0
-unfolding none_open
-none_counted = refl
+-- whatever number each description has, as many are open
+same_open : (one other : HeldDescriptor → Descriptor) (places : List (Option HeldDescriptor)) → open_count (map (option_map one) places) ≡ open_count (map (option_map other) places)
+same_open one other [] = refl
+same_open one other (place ∷ places) =
+    let now = sum_by-cons (λ (o : Option Descriptor). cond {A = ℕ} (is_some o) 1 0) (option_map one place) (map (option_map one) places) in
+    let then = sum_by-cons (λ (o : Option Descriptor). cond {A = ℕ} (is_some o) 1 0) (option_map other place) (map (option_map other) places) in
+    let rest = same_open one other places in
+    let here = by_place place in
+    omega (arith, now, then, rest, here)
+  where
+    by_place : (o : Option HeldDescriptor) → cond {A = ℕ} (is_some (option_map one o)) 1 0 ≡ cond {A = ℕ} (is_some (option_map other o)) 1 0
+    by_place None = refl
+    by_place (Some held) = refl
 
 weighed_so : (h : Heap) (plain : Plain) (account : Account) (number : ℕ → ℕ) (proc : Proc) → IsWellFormed h → IsPlaced number h.nodes account.frames proc → length proc.nodes ≡ 4
-    → OwnsNodes h.nodes proc.nodes → IsBare plain.files → IsWeighed h plain account proc
+    → OwnsNodes h.nodes proc.nodes → (naming : ℕ → ℕ) → descriptors_of plain.files proc.pid ≡ descriptors_by naming proc.descriptors → IsWeighed h plain account proc
 unfolding weight
-weighed_so h plain account number proc whole placed four owns bare =
-    same_weight proc.pid _ _ _ _ _
+weighed_so h plain account number proc whole placed four owns naming opened =
+    same_weight proc.pid _ _ _ _ _ _
     (frames_are number h.nodes proc.nodes (places_of account.frames proc.pid) placed.whole placed.places owns whole.entries four)
     (nodes_by_places h proc.nodes number (places_of account.frames proc.pid) whole owns four placed.places placed.whole)
-    (ap open_count (bare.descriptors proc.pid) ∙ none_counted)
+    (ap open_count opened ∙ same_open (descriptor_by naming) descriptor_in proc.descriptors)
 
 -- a machine's weights but the first process's are those of the processes in the heap
 weighed : (told : Option ℕ) (pid : ℕ) (w : Weight) (others rest : List Weight) → w.pid ≡ pid → others ≡ filter (λ v. not (v.pid == 1)) rest
@@ -115,8 +131,14 @@ victim_is script other objects policy world chosen kept whole stands none victim
     let has = stands.memory in
     let procs = procs_of objects in
     let rising = rising_procs objects.heap.procs objects.procs.listed 0 objects.procs.last kept.holds.stored kept.holds.rising in
-    let all = all_weaker (λ (p : Proc). IsPlaced has.number objects.heap.nodes world.account.frames p × ((length p.nodes ≡ 4) × Owns objects.heap.nodes p)) (IsWeighed objects.heap world.plain world.account) procs
-    (λ p known. weighed_so objects.heap world.plain world.account has.number p whole known.0 known.1.0 known.1.1 stands.files)
-    (all_both (IsPlaced has.number objects.heap.nodes world.account.frames) (λ p. (length p.nodes ≡ 4) × Owns objects.heap.nodes p) procs has.placed
-    (all_both (λ p. length p.nodes ≡ 4) (Owns objects.heap.nodes) procs kept.groups (all_own objects.heap objects.procs kept.holds))) in
+    let naming = stands.files.numbers.descs in
+    let opened = by_procs naming procs objects.procs.last world.plain.files rising stands.files.opened.descriptors in
+    let all = all_weaker
+    (λ (p : Proc). IsPlaced has.number objects.heap.nodes world.account.frames p
+    × ((descriptors_of world.plain.files p.pid ≡ descriptors_by naming p.descriptors) × ((length p.nodes ≡ 4) × Owns objects.heap.nodes p))) (IsWeighed objects.heap world.plain world.account) procs
+    (λ p known. weighed_so objects.heap world.plain world.account has.number p whole known.0 known.1.1.0 known.1.1.1 naming known.1.0)
+    (all_both (IsPlaced has.number objects.heap.nodes world.account.frames)
+    (λ p. (descriptors_of world.plain.files p.pid ≡ descriptors_by naming p.descriptors) × ((length p.nodes ≡ 4) × Owns objects.heap.nodes p)) procs has.placed
+    (all_both (λ p. descriptors_of world.plain.files p.pid ≡ descriptors_by naming p.descriptors) (λ p. (length p.nodes ≡ 4) × Owns objects.heap.nodes p) procs opened.placed
+    (all_both (λ p. length p.nodes ≡ 4) (Owns objects.heap.nodes) procs kept.groups (all_own objects.heap objects.procs kept.holds)))) in
     chosen_is objects.heap world.plain.table procs policy world.plain world.account chosen stands.processes.table.present rising all none victim

@@ -16,11 +16,11 @@ use Rattle.posix_defs.specs.Turn.{TurnsTo, TurnsWhere}
 use Rattle.posix_defs.specs.World.{MayKeep, World, boot_kept, can_evict, live_of}
 use Rattle.posix_defs.specs.declared.turner.Turned.{Turned}
 use Rattle.posix_defs.specs.declared.turner.Turned.TheVariants as turned
-use Rattle.kern_laws.proofs.Caches.{root_may_keep, root_pinned}
 use Rattle.store_objects.specs.declared.objects.Objects.{Objects}
 use Rattle.store_objects.specs.Standing.{StandsFor, WorldAfter}
 use Rattle.call_run.proofs.LeavingNothing.{leaves_nothing}
 use Rattle.store_objects.proofs.LiveIs.{live_is}
+use Rattle.store_objects.proofs.Pinned.{may_keep_root, pins_root}
 
 -- nothing is cached but the root's node, which is pinned
 pub evicts_nothing : (script : Script) (objects : Objects) (world : World) (what : Cached) → StandsFor script objects world → can_evict world.plain world.kept what ≡ false
@@ -31,7 +31,7 @@ evicts_nothing script objects world what stands = ap (λ lists. can_evict world.
     go Block = refl
     go Vnode =
         ap (λ pins. list_any (λ node. not (list_any (λ pinned. pinned == node) pins)) (root ∷ []))
-        (root_pinned world.plain stands.home stands.files)
+        (pins_root script objects world stands)
 
 -- A turn of a live process leads to the world to which its answer leads.
 pub turns_on : (script : Script) (old new : Objects) (world : World) (pid : ℕ) (which : Call) (told : Turned)
@@ -47,7 +47,7 @@ turns_on script old new world pid which told alive built before well few led =
       subst (λ b. TurnsWhere b script world pid which told after) (sym alive) (record {
         answer = led.tells;
         account = led.account;
-        may_keep = subst (MayKeep after.plain) (sym led.stands.caches) (root_may_keep after.plain led.stands.home led.stands.files);
+        may_keep = subst (MayKeep after.plain) (sym led.stands.caches) (may_keep_root script new after led.stands);
         live = few_still (live_bytes old.heap) (live_bytes new.heap) (live_of world) (live_of after) (bound which) before behind few;
         names = no_more _ (ap (λ lists. length lists.names) led.kept);
         blocks = no_more _ (ap (λ lists. length lists.blocks) led.kept);

@@ -1,4 +1,4 @@
--- What processes weigh, by their nodes in the heap.
+-- What processes weigh, by their nodes in the heap and the descriptors that they have open.
 use Rattle.std.specs.Prelude.{ℕ, Bool, true, false, if◌then◌else◌, List, [], ◌∷◌, length, count_by, sum_by, Option, None, Some, is_some}
 use Rattle.kabi_values.specs.declared.classes.Weight.{Weight}
 use Rattle.kheap_shelves.specs.Objects.{object}
@@ -8,6 +8,8 @@ use Rattle.kheap_shelves.specs.declared.objects.PageEntry.TheVariants as entry
 use Rattle.kheap_shelves.specs.declared.objects.Proc.{Proc}
 use Rattle.kheap_slabs.specs.Heap.{Heap}
 use Rattle.kheap_slabs.specs.Spaces.{keys_in}
+use Rattle.desc_table.specs.Numbered.{descriptors_in}
+use Rattle.posix_defs.specs.Files.Descriptors.{open_count}
 
 -- the page has a frame
 abbrev pub has_frame : PageEntry → Bool
@@ -20,13 +22,13 @@ abbrev pub frames_under : Option Node → ℕ
 frames_under None = 0
 frames_under (Some node) = count_by has_frame node.entries
 
--- what a process weighs: beside itself its memory
+-- what a process weighs: beside itself its memory, and the descriptors that it has open
 abbrev pub weight_in : Heap → Proc → Weight
 weight_in h proc = record {
   pid = proc.pid;
   frames = sum_by (λ key. frames_under (object h.nodes key)) (keys_in proc.nodes);
   nodes = length (keys_in proc.nodes);
-  descs = 0;
+  descs = open_count (descriptors_in proc.descriptors);
 }
 
 -- the weights of the processes that run

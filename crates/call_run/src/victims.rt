@@ -13,6 +13,7 @@ ghost use Rattle.store_objects.specs.Standing.{StandsFor};
 ghost use Rattle.call_run.specs.Weights.{has_frame, weight_in, weights_in};
 
 use arrayvec::ArrayVec;
+use desc_table::Descs;
 use kabi_types::{Policy, Weight};
 use kheap_shelves::{Node, PageEntry, Proc};
 use kheap_slabs::KHeap;
@@ -51,7 +52,7 @@ fn pid_of(proc: &Proc) -> u32
     proc.pid
 }
 
-/// What a process weighs: until it can open files, beside itself its memory.
+/// What a process weighs: beside itself its memory, and the descriptors that it has open.
 fn weight_of(heap: &KHeap, proc: &Proc) -> Weight
     requires whole { IsWellFormed heap.now }
     requires owns { OwnsNodes heap.now.nodes proc.now.nodes }
@@ -71,7 +72,7 @@ fn weight_of(heap: &KHeap, proc: &Proc) -> Weight
         pid: pid_of(proc),
         frames,
         nodes,
-        descs: 0,
+        descs: Descs::of(proc.descriptors).open_count(),
     }
 }
 

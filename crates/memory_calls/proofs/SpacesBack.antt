@@ -17,17 +17,20 @@ use Rattle.kern_laws.proofs.Remembering.{found_before, remembers_family}
 use Rattle.proc_table.specs.Accounting.{HasAccount}
 use Rattle.proc_table.specs.Changes.{with_nodes}
 use Rattle.proc_table.specs.Moves.{SpaceTurns, TableMoves}
-use Rattle.proc_table.specs.Procs.{NoneOpen, memory_at, proc_of, process_of}
-use Rattle.proc_table.proofs.OpenLemmas.{bare_nodes}
+use Rattle.proc_descs.specs.Having.{HaveDescriptors}
+use Rattle.proc_table.specs.Opening.{HaveOpen as TableOpen}
+use Rattle.proc_table.specs.Procs.{memory_at, proc_of, process_of}
+use Rattle.proc_table.proofs.OpenLemmas.{have_nodes}
 use Rattle.proc_table.specs.Standing.{IsTable}
-use Rattle.proc_table.specs.Table.{Holds, processes}
+use Rattle.proc_table.specs.Table.{Holds, TableView, processes}
 use Rattle.proc_table.proofs.FamilyLemmas.{process_is}
 use Rattle.proc_table.proofs.LawLemmas.{back-account, back-moves, back-procs, back-table}
 use Rattle.store_objects.specs.declared.objects.Objects.{Objects}
 use Rattle.store_objects.specs.Objects.{AreAtCalls, AreKept, IsAtCall, Runs, procs_of}
 use Rattle.store_objects.specs.Standing.{AreProcesses, StandsFor, remembered_in}
-use Rattle.store_objects.proofs.Families.{fronts_on}
-use Rattle.store_objects.proofs.GoingOn.{some_same}
+use Rattle.store_objects.proofs.Namings.{names_in, names_nodes}
+use Rattle.store_objects.proofs.Opening.{by_pids, by_procs, files_moved}
+use Rattle.store_objects.proofs.GoingOn.{rising_in, some_same}
 use Rattle.store_objects.proofs.Keeping.{kept_on}
 
 all_with_nodes : (P : Proc → Type 0) (pid : ℕ) (now : List (Option ℕ)) (procs : List Proc) → ((p : Proc) → P p → P (record p { nodes = now })) → AllByRecursion P procs
@@ -94,7 +97,7 @@ kept_back script old new mid pid key proc now kept turns same four =
     (subst (AllByRecursion (λ p. length p.nodes ≡ 4)) (sym procs) (all_with_nodes (λ p. length p.nodes ≡ 4) pid now (procs_of old) (λ p long. four) kept.groups))
     (subst (AreAtCalls script) (sym procs)
     (all_with_nodes (λ p. p.status ≡ None → IsAtCall script p) pid now (procs_of old) (λ p at up. let here = at up in record { stands = here.stands; rests = here.rests }) kept.calls))
-    (subst NoneOpen (sym procs) (bare_nodes pid now (procs_of old) kept.bare))
+    (λ key. ap (names_in key) procs ∙ names_nodes key pid now (procs_of old))
 
 -- who ran runs
 pub runs_back : (script : Script) (old new : Objects) (mid : Heap) (pid key : ℕ) (proc : Proc) (now : List (Option ℕ)) → AreKept script old
@@ -133,8 +136,15 @@ stand_back script old new mid pid key proc now world after memory stands turns s
   };
   memory = subst (λ k. HasAccount new.heap k after) (sym same)
       (back-account old.heap mid new.heap old.procs pid key proc now stands.kept.holds turns world.account.frames after stands.memory moved);
-  files = stands.files;
-  fronts = fronts_on world.account (remembered_in world pid memory after).account refl refl stands.fronts;
+  files = files_moved old new world.plain.files world.plain.files world.account (remembered_in world pid memory after).account
+      (subst (TableMoves old.heap old.procs new.heap) (sym same) (back-moves old.heap mid new.heap old.procs pid key proc now stands.kept.holds turns)) refl refl refl refl refl refl
+      (λ number have.
+      subst (λ (procs : TableView). HaveDescriptors number (processes new.heap procs) procs.last world.plain.files) (sym same)
+      (by_pids number (processes new.heap old.procs) old.procs.last world.plain.files
+      (subst (λ procs. TableOpen procs old.procs.last number world.plain.files) (sym (back-procs old.heap mid new.heap old.procs pid key proc now stands.kept.holds turns))
+      (have_nodes pid now (procs_of old) old.procs.last number world.plain.files
+      (by_procs number (procs_of old) old.procs.last world.plain.files (rising_in script old stands.kept) have)))))
+      stands.files;
   caches = stands.caches;
   reads = stands.reads;
   family = remembers_family world.plain.table pid memory stands.family;

@@ -1,6 +1,6 @@
 -- A child is made, which goes on behind its parent's call.
 use Rattle.std.proofs.Common.{◌≡◌, ◌≢◌, ◌⊎◌, ℕ, zero, suc, ◌+◌, ◌<◌, ◌≤◌, ◌==◌, Bool, true, false, cond, List, [], ◌∷◌, ◌++◌, length, Option, None, Some, is_some, unwrap_or, pos, refl, ap, sym, ◌∙◌, subst, inl, inr, arith, length-append}
-use Rattle.std.specs.Prelude.{Ok, Err}
+use Rattle.std.specs.Prelude.{Ok, Err, count_by, slice_index}
 use Rattle.std.specs.List.{AllByRecursion}
 use Rattle.std.specs.Option.{option_map}
 use Rattle.std.proofs.lemmas.Bool.Decides.{eqb_tells}
@@ -10,16 +10,18 @@ use Rattle.kabi_values.specs.declared.errnos.Errno.TheVariants.{EAGAIN}
 use Rattle.kabi_values.specs.declared.replies.Reply.TheVariants.{Fail, Val}
 use Rattle.kabi_types.specs.declared.scripts.Control.{Control}
 use Rattle.kabi_types.specs.declared.scripts.Script.{Script}
+use Rattle.kheap_shelves.specs.Objects.{object}
+use Rattle.kheap_shelves.specs.declared.objects.Desc.{Desc}
 use Rattle.kheap_shelves.specs.declared.objects.Proc.{Proc}
 use Rattle.kheap_slabs.specs.Heap.{Heap}
-use Rattle.kern_laws.proofs.Bareness.{heir_bare}
 use Rattle.kern_laws.proofs.EnabledEvents.{get_behind}
 use Rattle.kern_laws.specs.AtHome.{AllAtHome}
 use Rattle.kern_laws.proofs.TablePlaces.{get_front, in_longer}
-use Rattle.posix_defs.specs.Account.{with_frames}
+use Rattle.posix_defs.specs.Account.{Account, with_frames}
 use Rattle.posix_defs.specs.Answer.{replied}
 use Rattle.posix_defs.specs.ByPid.{at_pid}
 use Rattle.posix_defs.specs.Control.{after, settled}
+use Rattle.posix_defs.specs.Files.State.{Files, with_heir}
 use Rattle.posix_defs.specs.Forking.{child_of, fork, with_child}
 use Rattle.posix_defs.specs.Memory.{Frames, after_fork}
 use Rattle.posix_defs.specs.Plain.{Plain, at_start, control_of}
@@ -30,10 +32,13 @@ use Rattle.posix_defs.specs.declared.turner.Turned.TheVariants.{Done}
 use Rattle.prog_ctl.specs.Runnable.{Rests, Stands}
 use Rattle.proc_table.specs.Accounting.{HasAccount}
 use Rattle.proc_table.specs.Changes.{child_proc, forked_as, is_full_at, replaced}
-use Rattle.open_laws.specs.Sharing.{share_all}
+use Rattle.open_laws.specs.Open.{AreOpen}
+use Rattle.open_laws.specs.Sharing.{after_shares, hand_with}
+use Rattle.open_laws.proofs.GoingLemmas.{open_on}
+use Rattle.open_laws.proofs.ShareLemmas.{opened_all}
 use Rattle.proc_table.specs.Moves.{IsForked, TableMoves, sharing}
-use Rattle.proc_table.specs.Procs.{NoneOpen, proc_of}
-use Rattle.proc_table.proofs.OpenLemmas.{bare_forked, bare_moves}
+use Rattle.proc_table.specs.Procs.{proc_of}
+use Rattle.proc_table.proofs.OpenLemmas.{have_forked}
 use Rattle.proc_table.specs.Standing.{IsTable, answered_fork, forked_in}
 use Rattle.proc_table.specs.Table.{TableView}
 use Rattle.proc_table.proofs.AccountLemmas.{pids_within}
@@ -42,13 +47,16 @@ use Rattle.proc_table.proofs.LawLemmas.{fork_is, on-account, on-table}
 use Rattle.proc_table.proofs.OwnLemmas.{all_append, has_it}
 use Rattle.proc_table.proofs.PlaceLemmas.{eqb_other, eqb_same}
 use Rattle.store_objects.specs.declared.objects.Objects.{Objects}
+use Rattle.store_objects.specs.Files.{HaveFiles}
 use Rattle.store_objects.specs.Objects.{AreAtCalls, AreKept, IsAtCall, MovesOn, Runs, procs_of}
 use Rattle.store_objects.specs.Standing.{AreProcesses, Performs, StandsFor, WorldAfter}
-use Rattle.store_objects.proofs.Families.{fronts_on}
-use Rattle.store_objects.proofs.GoingOn.{kept_moved, led_to, mapped_from, proc_made, procs_then, replaced_at, some_same}
-use Rattle.store_objects.proofs.Keeping.{kept_on}
+use Rattle.store_objects.proofs.GoingOn.{descriptors_moved, kept_moved, led_to, mapped_from, moves_then, proc_made, procs_then, replaced_at, rising_in, some_same}
+use Rattle.store_objects.proofs.Keeping.{kept_with}
+use Rattle.store_objects.proofs.Namings.{names_by, names_forked, names_in, names_in_hand}
+use Rattle.store_objects.proofs.Opening.{by_pids, by_procs, files_moved, settled_on}
 use Rattle.store_objects.proofs.Leading.{led_on}
 use Rattle.store_objects.proofs.Replies.{GoesOn, does_fail}
+use Rattle.process_calls.proofs.Sharing.{HasShared, keeps_shared}
 use Rattle.process_calls.proofs.Waits.{kept_by}
 
 -- who is found where one more stands behind the others
@@ -128,15 +136,10 @@ born_home script plain pid home other process is = elim (in_longer plain.table (
 abbrev pub forked_world : Script → World → ℕ → World
 forked_world script world pid = record world { plain = with_child script world.plain pid; account = with_frames world.account (after_fork world.account.frames pid) }
 
--- nothing was shared where nobody has a descriptor open
-pub moved_bare : (old mid : Objects) (pid : ℕ) (control : Control) → NoneOpen (procs_of old) → Runs old pid control → TableMoves (sharing old.heap mid.heap) old.procs mid.heap mid.procs
-    → ((parent : Proc) → proc_of (procs_of old) pid ≡ Some parent → mid.heap.descs ≡ share_all old.heap.descs parent.descriptors) → TableMoves old.heap old.procs mid.heap mid.procs
-moved_bare old mid pid control bare runs moves shared =
-    bare_moves old.heap mid.heap old.procs mid.procs pid runs.proc runs.found bare (shared runs.proc runs.found) moves
-
 -- The table has made a child.
 module _ (script : Script) (old mid : Objects) (pid child : ℕ) (control : Control) (kept : AreKept script old) (runs : Runs old pid control)
-    (moves : TableMoves old.heap old.procs mid.heap mid.procs) (forked : IsForked old.heap old.procs mid.heap mid.procs pid child) where
+    (moves : TableMoves (sharing old.heap mid.heap) old.procs mid.heap mid.procs) (shared : HasShared old mid runs.proc)
+    (forked : IsForked old.heap old.procs mid.heap mid.procs pid child) where
   same_parent : forked.parent ≡ runs.proc
   same_parent = some_same (proc_of (procs_of old) pid) forked.parent runs.proc forked.parent_is runs.found
 
@@ -146,13 +149,19 @@ module _ (script : Script) (old mid : Objects) (pid child : ℕ) (control : Cont
 
   pub kept_forked : AreKept script mid
   kept_forked =
-      kept_on script old mid kept moves
+      kept_with script (sharing old.heap mid.heap) old.procs mid (hand_with runs.proc.descriptors []) (keeps_shared script old mid runs.proc kept shared) moves
       (subst (AllByRecursion (λ proc. length proc.nodes ≡ 4)) (sym forked.processes_are)
       (all_append (λ proc. length proc.nodes ≡ 4) (procs_of old) (child_proc forked.parent child forked.nodes ∷ []) kept.groups (forked.groups, tt)))
       (subst (AreAtCalls script) (sym forked.processes_are)
       (all_append (λ proc. proc.status ≡ None → IsAtCall script proc) (procs_of old) (child_proc forked.parent child forked.nodes ∷ []) kept.calls
       ((λ up. record { stands = at_call.stands; rests = at_call.rests }), tt)))
-      (subst NoneOpen (sym forked.processes_are) (bare_forked pid child forked.nodes forked.parent (procs_of old) forked.parent_is kept.bare))
+      (λ key.
+      let now = ap (names_in key) forked.processes_are in
+      let more = names_forked key forked.parent child forked.nodes (procs_of old) in
+      let parent = ap (names_by key) same_parent in
+      let hand = names_in_hand key runs.proc.descriptors [] in
+      let nothing : count_by (λ (other : ℕ). other == key) [] ≡ 0 = refl in
+      omega (arith, now, more, parent, hand, nothing))
 
   pub child_there : is_some (proc_of (procs_of mid) child) ≡ true
   child_there =
@@ -169,10 +178,11 @@ module _ (script : Script) (old mid : Objects) (pid child : ℕ) (control : Cont
 
 -- The child goes on at another control.
 module _ (script : Script) (old mid moved : Objects) (pid child : ℕ) (control next : Control) (kept : AreKept script old) (runs : Runs old pid control)
-    (moves : TableMoves old.heap old.procs mid.heap mid.procs) (forked : IsForked old.heap old.procs mid.heap mid.procs pid child)
+    (moves : TableMoves (sharing old.heap mid.heap) old.procs mid.heap mid.procs) (shared : HasShared old mid runs.proc)
+    (forked : IsForked old.heap old.procs mid.heap mid.procs pid child)
     (number : child ≡ old.procs.last + 1) (turned : MovesOn mid child next moved) where
   between : AreKept script mid
-  between = kept_forked script old mid pid child control kept runs moves forked
+  between = kept_forked script old mid pid child control kept runs moves shared forked
 
   abbrev now : Proc
   now = record turned.proc { control = next }
@@ -184,7 +194,7 @@ module _ (script : Script) (old mid moved : Objects) (pid child : ℕ) (control 
   own = proc_has_pid (procs_of mid) child turned.proc turned.found
 
   apart : pid ≢ child
-  apart = made_before script old mid pid child control kept runs moves forked number
+  apart = made_before script old mid pid child control kept runs moves shared forked number
 
   pub kept_child : Stands script next → Rests script next → AreKept script moved
   kept_child stands rests = kept_moved script mid moved child next between turned stands rests
@@ -228,14 +238,40 @@ module _ (script : Script) (old mid moved : Objects) (pid child : ℕ) (control 
             ]
       ]
 
+  -- the child has open what its parent has, and the machine's says so
+  opens_forked : (files : Files) (account next : Account) → next.pipes ≡ account.pipes → next.sockets ≡ account.sockets → HaveFiles old files account → HaveFiles mid (with_heir files pid) next
+  opens_forked files account next pipes sockets have =
+      let opened = have.opened in
+      record {
+        numbers = have.numbers;
+        opened = record {
+          list = after_shares have.numbers.descs opened.list runs.proc.descriptors;
+          opened = open_on have.numbers (sharing old.heap mid.heap) mid.heap (after_shares have.numbers.descs opened.list runs.proc.descriptors) files (with_heir files pid)
+              (ap (λ (h : Heap). h.descs) moves.kept) (ap (λ (h : Heap). h.pipes) moves.kept) (ap (λ (h : Heap). h.socks) moves.kept) (ap (λ (h : Heap). h.chunks) moves.kept) refl refl refl
+              (subst (λ (descs : List (Option Desc)). AreOpen have.numbers (record old.heap { descs = descs }) (after_shares have.numbers.descs opened.list runs.proc.descriptors) files) (sym shared.descs)
+              (opened_all have.numbers old.heap opened.list files runs.proc.descriptors shared.can opened.opened));
+          descriptors = by_pids have.numbers.descs (procs_of mid) mid.procs.last (with_heir files pid)
+              (have_forked old.heap mid.heap old.procs mid.procs pid child have.numbers.descs files kept.holds number forked
+              (by_procs have.numbers.descs (procs_of old) old.procs.last files (rising_in script old kept) opened.descriptors));
+        };
+        fronts = record {
+          pipes = λ key pipe is. ap (λ fronts. slice_index fronts (have.numbers.pipes key)) pipes
+              ∙ have.fronts.pipes key pipe (sym (ap (λ (h : Heap). object h.pipes key) moves.kept) ∙ is);
+          socks = λ key sock is. ap (λ fronts. slice_index fronts (have.numbers.socks key)) sockets
+              ∙ have.fronts.socks key sock (sym (ap (λ (h : Heap). object h.socks key) moves.kept) ∙ is);
+        };
+        settled = settled_on files (with_heir files pid) account next refl refl pipes sockets have.settled;
+        tree = have.tree;
+      }
+
   -- the objects stand for the world with the child
   pub stands_forked : (world : World) → StandsFor script old world → is_alive world.plain.table pid ≡ true
       → fork script world.plain pid ≡ replied script (with_child script world.plain pid) pid (Val (pos child))
-      → AreKept script moved
+      → Stands script next × Rests script next → AreKept script moved
       → IsTable mid.heap mid.procs (with_child script world.plain pid).table → HasAccount mid.heap mid.procs (after_fork world.account.frames pid)
       → settled script (after script (control_of world.plain pid) (Val (pos 0))) ≡ next
       → StandsFor script moved (forked_world script world pid)
-  stands_forked world stands alive answers kept_too table has leads =
+  stands_forked world stands alive answers at kept_too table has leads =
       let plain = world.plain in
       let family = kept_by script old world (with_child script plain pid) pid call.Fork (Val (pos child)) stands alive answers in
       record {
@@ -250,8 +286,10 @@ module _ (script : Script) (old mid moved : Objects) (pid child : ℕ) (control 
         };
         memory = subst (λ k. HasAccount moved.heap k (after_fork world.account.frames pid)) (sym turned.same)
             (on-account mid.heap moved.heap mid.procs child turned.key turned.proc now between.holds turned.turns (after_fork world.account.frames pid) has);
-        files = heir_bare plain.files pid stands.files;
-        fronts = fronts_on world.account (forked_world script world pid).account refl refl stands.fronts;
+        files = files_moved mid moved (with_heir plain.files pid) (with_heir plain.files pid) (forked_world script world pid).account (forked_world script world pid).account
+            (moves_then script mid moved child next between turned) refl refl refl refl refl refl
+            (descriptors_moved script mid moved child next (with_heir plain.files pid) between turned at.0 at.1)
+            (opens_forked plain.files world.account (forked_world script world pid).account refl refl stands.files);
         caches = stands.caches;
         reads = stands.reads;
         family = family;
@@ -269,7 +307,7 @@ module _ (script : Script) (old mid moved : Objects) (pid child : ℕ) (control 
       let plain = world.plain in
       let answers : fork script plain pid ≡ replied script (with_child script plain pid) pid (Val (pos child)) =
       fork_is script plain old.heap old.procs pid kept.holds stands.processes.table (sym stands.processes.last) ∙ ap (answered_fork script plain pid) (sym answer) in
-      let with_it = stands_forked world stands alive answers (kept_child at rests) (table plain.table stands.processes.table) (has world.account.frames stands.memory)
+      let with_it = stands_forked world stands alive answers (at, rests) (kept_child at rests) (table plain.table stands.processes.table) (has world.account.frames stands.memory)
       (leads (control_of plain pid) (led_to script old plain pid control runs stands.processes)) in
       subst (λ answer. WorldAfter script new world pid call.Fork answer told) (sym answers)
       (led_on script moved new world (forked_world script world pid) pid call.Fork (Val (pos child)) told with_it tells (goes (forked_world script world pid) with_it)

@@ -1,4 +1,5 @@
 pub mod Waits
 pub mod Sleeping
 pub mod Striking
+pub mod Sharing
 pub mod Forking

@@ -28,8 +28,9 @@ use Rattle.kern_laws.proofs.Families.{answers_on}
 use Rattle.proc_table.specs.Accounting.{HasAccount}
 use Rattle.proc_table.specs.Changes.{after_wait, is_other, reaped_of}
 use Rattle.proc_table.specs.Moves.{TableMoves}
-use Rattle.proc_table.specs.Procs.{HasEnded, NoneOpen, proc_of}
-use Rattle.proc_table.proofs.OpenLemmas.{bare_waited}
+use Rattle.proc_table.specs.Opening.{HaveOpen as TableOpen}
+use Rattle.proc_table.specs.Procs.{HasEnded, proc_of}
+use Rattle.proc_table.proofs.OpenLemmas.{have_waited}
 use Rattle.proc_table.specs.Standing.{IsTable, answered_wait, waited_in}
 use Rattle.proc_table.specs.declared.reaped.Reaped.{Reaped}
 use Rattle.proc_table.specs.declared.reaped.Reaped.TheVariants.{NoChild, Nobody, Took}
@@ -40,9 +41,11 @@ use Rattle.proc_table.proofs.WaitLemmas.{took_ended}
 use Rattle.store_objects.specs.declared.objects.Objects.{Objects}
 use Rattle.store_objects.specs.Objects.{AreAtCalls, AreKept, IsAtCall, Runs, procs_of}
 use Rattle.store_objects.specs.Standing.{AreProcesses, Performs, StandsFor, WorldAfter}
-use Rattle.store_objects.proofs.GoingOn.{some_same}
+use Rattle.store_objects.proofs.GoingOn.{rising_in, some_same}
 use Rattle.store_objects.proofs.Keeping.{kept_on}
 use Rattle.store_objects.proofs.Leading.{led_blocked, led_on}
+use Rattle.store_objects.proofs.Namings.{names_in, names_waited}
+use Rattle.store_objects.proofs.Opening.{by_pids, by_procs, files_moved}
 use Rattle.store_objects.proofs.Replies.{GoesOn}
 use Rattle.store_objects.proofs.WithoutOne.{found_gone, found_other}
 
@@ -61,13 +64,13 @@ all_waited P (Took pid status) procs all = all_filter P (is_other pid) procs all
 all_waited P Nobody procs all = all
 all_waited P NoChild procs all = all
 
-pub kept_waited : (script : Script) (old mid : Objects) (told : Reaped) → AreKept script old → TableMoves old.heap old.procs mid.heap mid.procs
-    → procs_of mid ≡ after_wait told (procs_of old) → AreKept script mid
-kept_waited script old mid told kept moves procs =
+pub kept_waited : (script : Script) (old mid : Objects) (parent : ℕ) (which : ℤ) (told : Reaped) → AreKept script old → TableMoves old.heap old.procs mid.heap mid.procs
+    → told ≡ reaped_of parent which (procs_of old) → procs_of mid ≡ after_wait told (procs_of old) → AreKept script mid
+kept_waited script old mid parent which told kept moves is procs =
     kept_on script old mid kept moves
     (subst (AllByRecursion (λ proc. length proc.nodes ≡ 4)) (sym procs) (all_waited (λ proc. length proc.nodes ≡ 4) told (procs_of old) kept.groups))
     (subst (AreAtCalls script) (sym procs) (all_waited (λ proc. proc.status ≡ None → IsAtCall script proc) told (procs_of old) kept.calls))
-    (subst NoneOpen (sym procs) (bare_waited told (procs_of old) kept.bare))
+    (λ key. ap (names_in key) procs ∙ names_waited key old.heap old.procs parent which told kept.holds is)
 
 -- who is found then was found
 was_found : (told : Reaped) (procs : List Proc) (q : ℕ) (it : Proc) → proc_of (after_wait told procs) q ≡ Some it → proc_of procs q ≡ Some it
@@ -126,15 +129,21 @@ module _ (script : Script) (old mid : Objects) (pid : ℕ) (which options : ℤ)
   waited_stands : (world : World) → StandsFor script old world → is_alive world.plain.table pid ≡ true → StandsFor script mid (waited_world world told)
   waited_stands world stands alive = record {
     runs = stands.runs;
-    kept = kept_waited script old mid told stands.kept moves procs;
+    kept = kept_waited script old mid pid which told stands.kept moves is procs;
     processes = record {
       table = table world.plain.table stands.processes.table;
       last = last ∙ stands.processes.last;
       controls = λ q it found up. stands.processes.controls q it (was_found told (procs_of old) q it (ap (λ ps. proc_of ps q) (sym procs) ∙ found)) up;
     };
     memory = has world.account.frames stands.memory;
-    files = stands.files;
-    fronts = stands.fronts;
+    files = files_moved old mid world.plain.files world.plain.files world.account world.account moves refl refl refl refl refl refl
+        (λ number have.
+        by_pids number (procs_of mid) mid.procs.last world.plain.files
+        (subst (λ ps. TableOpen ps mid.procs.last number world.plain.files) (sym procs)
+        (subst (λ n. TableOpen (after_wait told (procs_of old)) n number world.plain.files) (sym last)
+        (have_waited old.heap old.procs pid which told number world.plain.files stands.kept.holds is
+        (by_procs number (procs_of old) old.procs.last world.plain.files (rising_in script old stands.kept) have)))))
+        stands.files;
     caches = stands.caches;
     reads = stands.reads;
     family = family told (waits_as script old world.plain pid which options told stands.processes is);

@@ -22,7 +22,8 @@ use store_objects::{Objects, behind, go_on};
 /// The only option of `waitpid`: not to wait.
 const WNOHANG: i64 = 1;
 
-/// Makes a child that goes on where its parent does, and is told 0; EAGAIN where nobody more can be made.
+/// Makes a child that goes on where its parent does, has open what its parent has, and is told 0; EAGAIN where nobody more can
+/// be made.
 pub fn fork(
     script: &Script,
     objects: &mut Objects,
@@ -39,6 +40,7 @@ pub fn fork(
     ensures paid { IsPaid objects.old.heap purse.old objects.new.heap purse.new }
     ensures does { Performs script.now objects.old pid Call.Fork (λ plain. fork script.now plain pid) result objects.new }
 {
+    objects.heap_is_well_formed();
     match objects.procs.fork(&mut objects.heap, purse, pid) {
         Ok(child) => {
             objects.move_on(child, behind(script, control, &Reply::Val(0)));

@@ -7,8 +7,7 @@ ghost use Rattle.posix_defs.specs.Answer.{Ended};
 ghost use Rattle.posix_defs.specs.Ending.{die, exit_status};
 ghost use Rattle.posix_defs.specs.Killing.{kill, struck};
 ghost use Rattle.posix_defs.specs.Sizes.{reserve};
-ghost use Rattle.proc_table.specs.Procs.{IsAlive, NoneOpen};
-ghost use Rattle.proc_table.specs.Table.{Holds};
+ghost use Rattle.proc_table.specs.Procs.{IsAlive};
 ghost use Rattle.store_objects.specs.Objects.{AreKept, Runs, procs_of};
 ghost use Rattle.store_objects.specs.Standing.{Performs};
 ghost use Rattle.store_objects.specs.Uses.{UsesAtMost};
@@ -61,9 +60,8 @@ pub fn signal_process(
 
 /// Ends the process by its own call.
 pub fn exit(objects: &mut Objects, pid: u32, status: i64) -> Turned
+    requires kept { (script : Script) × AreKept script objects.old }
     requires runs { IsAlive (procs_of objects.old) pid }
-    requires holds { Holds objects.old.heap objects.old.procs }
-    requires bare { NoneOpen (procs_of objects.old) }
     ensures kept { (script : Script) → AreKept script objects.old → AreKept script objects.new }
     ensures uses { UsesAtMost objects.old.heap objects.new.heap 0 reserve }
     ensures does { (script : Script) → Performs script objects.old pid (Call.Exit status) (λ plain. Ended (exit_status status) (die plain pid (exit_status status))) result objects.new }

@@ -1,6 +1,6 @@
 -- At boot the first process stands at the start of the program `init`, in a heap that has the root beside it.
-use Rattle.std.proofs.Common.{◌≡◌, ℕ, zero, suc, ◌+◌, ◌/◌, ◌<◌, Bool, true, false, List, [], ◌∷◌, ◌++◌, map, length, replicate, Option, None, Some, cond, refl, sym, ap, ◌∙◌, subst, arith, inl, inr}
-use Rattle.std.specs.Prelude.{codes, if◌then◌else◌, slice_get}
+use Rattle.std.proofs.Common.{◌≡◌, ℕ, zero, suc, ◌+◌, ◌/◌, ◌<◌, ◌==◌, Bool, true, false, List, [], ◌∷◌, ◌++◌, map, length, replicate, Option, None, Some, cond, refl, sym, ap, ◌∙◌, subst, arith, inl, inr}
+use Rattle.std.specs.Prelude.{codes, count_by, if◌then◌else◌, slice_get}
 use Rattle.std.specs.List.{AllByRecursion}
 use Rattle.std.specs.Str.{bytes_eq}
 use Rattle.std.proofs.lemmas.Bool.Decides.{eqb_tells}
@@ -21,15 +21,24 @@ use Rattle.kheap_shelves.specs.declared.objects.Sock.{Sock}
 use Rattle.kheap_shelves.specs.declared.objects.Vnode.{Vnode}
 use Rattle.kheap_slabs.specs.Heap.{Heap, empty_heap}
 use Rattle.kheap_slabs.specs.Keys.{AreKeysOf}
-use Rattle.kheap_slabs.specs.Owners.{IsOwned, Owners, each_of}
+use Rattle.kheap_slabs.specs.Owners.{IsOwned, Owners, each_of, pipe_queues, sock_queues, spaces_of}
 use Rattle.kheap_slabs.specs.Queues.{OwnedQueue}
 use Rattle.kheap_shelves.proofs.ObjectLemmas.{count-none, count-put_new, object-none, object_of, put-within}
 use Rattle.kheap_laws.proofs.OwnerLemmas.{IsOwned-same, empty_heap-owned}
+use Rattle.kheap_laws.proofs.TableLemmas.{OwnsItsObjects-along}
 use Rattle.posix_defs.specs.Control.{settled}
 use Rattle.posix_defs.specs.History.{boots}
 use Rattle.posix_defs.specs.Memory.{boot_frames}
 use Rattle.posix_defs.specs.Plain.{at_start, boot_plain, control_of, first_process, place_of}
 use Rattle.posix_defs.specs.ValidScript.{IsValid}
+use Rattle.open_laws.specs.Open.{AreOpen, descriptors_by}
+use Rattle.open_laws.specs.Owned.{HasItsOwners, namings_of}
+use Rattle.open_laws.proofs.GoingLemmas.{boot_open, boot_owners, held_open_on, named_on, open_on}
+use Rattle.place_laws.specs.Placed.{Numbers}
+use Rattle.posix_defs.specs.Account.{no_account}
+use Rattle.posix_defs.specs.Files.Bare.{IsBare}
+use Rattle.posix_defs.specs.Files.Descriptors.{none_open}
+use Rattle.posix_defs.specs.Files.State.{boot_files, descriptors_of}
 use Rattle.posix_defs.specs.World.{boot_world}
 use Rattle.kern_laws.specs.AtHome.{AllAtHome}
 use Rattle.kern_laws.proofs.Bareness.{boot_bare}
@@ -38,17 +47,22 @@ use Rattle.prog_ctl.specs.Runnable.{Rests, Stands}
 use Rattle.proc_table.specs.Accounting.{HasAccount}
 use Rattle.proc_table.specs.Changes.{replaced}
 use Rattle.proc_table.specs.Moves.{TableMoves}
-use Rattle.proc_table.specs.Procs.{NoneOpen, first_proc, proc_of}
+use Rattle.proc_descs.specs.Having.{AreListed, places_in}
+use Rattle.proc_table.specs.Procs.{first_proc, proc_of}
 use Rattle.proc_table.specs.Standing.{IsTable}
 use Rattle.proc_table.specs.Table.{no_table, processes}
 use Rattle.proc_table.proofs.LawLemmas.{on-account, on-moves, on-procs, on-table}
 use Rattle.store_objects.specs.declared.objects.Objects.{Objects}
 use Rattle.store_objects.specs.Booting.{HasBooted}
-use Rattle.store_objects.specs.Objects.{AreAtCalls, AreKept, CachesRootAlone, HasNoQueue, HasNothingOpen, MovesOn, no_owners, procs_of, root_vnode}
+use Rattle.store_objects.specs.Files.{HaveFiles}
+use Rattle.store_objects.specs.Objects.{AreAtCalls, AreKept, CachesRootAlone, MovesOn, no_owners, procs_of, root_vnode}
 use Rattle.store_objects.specs.Standing.{StandsFor}
 use Rattle.store_objects.proofs.GoingOn.{some_same}
-use Rattle.store_objects.proofs.ClassesOn.{caches_on, opens_on, queues_on}
-use Rattle.store_objects.proofs.Keeping.{all_on}
+use Rattle.store_objects.proofs.ClassesOn.{caches_on}
+use Rattle.store_objects.proofs.Keeping.{all_on, listed_on, owners_on}
+use Rattle.store_objects.proofs.Namings.{names_in}
+use Rattle.store_objects.proofs.Opening.{none_by}
+use Rattle.store_objects.proofs.SocketPlaces.{sock_there}
 
 -- A class without objects: no key names one, and nobody owns any.
 vacant : {X : Type 0} (limit key : ℕ) → object (replicate {A = Option X} limit None) key ≡ None
@@ -87,6 +101,13 @@ empty_owned heap =
     both : {xs ys : List QueueParts} → xs ≡ [] → ys ≡ [] → xs ++ ys ≡ []
     both {xs} {ys} one other = ap (λ zs. zs ++ ys) one ∙ other
 
+-- A heap without anything open.
+pub record IsUnopened (heap : ℕ) (h : Heap) : Type 0 where
+  pub descs : h.descs ≡ (empty_heap heap).descs
+  pub pipes : h.pipes ≡ (empty_heap heap).pipes
+  pub socks : h.socks ≡ (empty_heap heap).socks
+  pub chunks : h.chunks ≡ (empty_heap heap).chunks
+
 -- The root is put in an empty heap.
 module _ (heap disk key : ℕ) (vnode : Vnode) (empty rooted : Heap) (is_empty : empty ≡ empty_heap heap) (none : object empty.vnodes key ≡ None)
     (stored : object rooted.vnodes key ≡ Some vnode) (is_root : vnode ≡ root_vnode disk)
@@ -115,15 +136,25 @@ module _ (heap disk key : ℕ) (vnode : Vnode) (empty rooted : Heap) (is_empty :
       ∙ count-put_new empty.vnodes key vnode (put-within empty.vnodes key vnode (ap (λ vnodes. object vnodes key) (sym put_there) ∙ stored)) none
       ∙ ap (λ n. n + 1) nothing
 
-  pub rooted_opens : HasNothingOpen rooted
-  rooted_opens = record { descs = ap count (same (λ h. h.descs) (λ h vnodes high. refl)) ∙ count-none _ (heap / size class.Desc) refl }
-
-  pub rooted_queues : HasNoQueue rooted
-  rooted_queues = record {
-    pipes = ap count (same (λ h. h.pipes) (λ h vnodes high. refl)) ∙ count-none _ (heap / size class.Pipe) refl;
-    chunks = ap count (same (λ h. h.chunks) (λ h vnodes high. refl)) ∙ count-none _ (heap / size class.Chunk) refl;
-    socks = ap count (same (λ h. h.socks) (λ h vnodes high. refl)) ∙ count-none _ (heap / size class.Sock) refl;
+  -- nothing is open, and nobody owns anything
+  pub rooted_bare : IsUnopened heap rooted
+  rooted_bare = record {
+    descs = same (λ h. h.descs) (λ h vnodes high. refl);
+    pipes = same (λ h. h.pipes) (λ h vnodes high. refl);
+    socks = same (λ h. h.socks) (λ h vnodes high. refl);
+    chunks = same (λ h. h.chunks) (λ h vnodes high. refl);
   }
+
+  pub rooted_owners : HasItsOwners rooted []
+  rooted_owners =
+      let boots = boot_owners heap in
+      let procs = same (λ h. h.procs) (λ h vnodes high. refl) in
+      record {
+        objects = OwnsItsObjects-along (empty_heap heap) rooted (ap spaces_of procs) (ap pipe_queues rooted_bare.pipes) (ap sock_queues rooted_bare.socks)
+            (same (λ h. h.nodes) (λ h vnodes high. refl)) (same (λ h. h.pages) (λ h vnodes high. refl)) rooted_bare.chunks boots.objects;
+        named = named_on (empty_heap heap) rooted [] rooted_bare.descs (λ key. ap (λ objects. namings_of objects key) procs) boots.named;
+        held = held_open_on (empty_heap heap) rooted rooted_bare.descs rooted_bare.pipes rooted_bare.socks rooted_bare.chunks boots.held;
+      }
 
   pub rooted_caches : CachesRootAlone rooted disk
   rooted_caches = record {
@@ -140,7 +171,7 @@ module _ (heap disk key : ℕ) (vnode : Vnode) (empty rooted : Heap) (is_empty :
 -- The first process is put in that heap, and goes on at a control.
 module _ (heap disk : ℕ) (control : Control) (rooted : Heap) (mid new : Objects)
     (no_pages : (k : ℕ) → object rooted.pages k ≡ None) (no_procs : AreKeysOf rooted.procs []) (owned : IsOwned rooted no_owners)
-    (opens : HasNothingOpen rooted) (queues : HasNoQueue rooted) (caches : CachesRootAlone rooted disk) (bytes : rooted.heap ≡ heap)
+    (bare : IsUnopened heap rooted) (owners : HasItsOwners rooted []) (caches : CachesRootAlone rooted disk) (bytes : rooted.heap ≡ heap)
     (procs : procs_of mid ≡ first_proc ∷ []) (last : mid.procs.last ≡ 1)
     (moves : (others : Owners) → IsOwned rooted others → TableMoves rooted no_table mid.heap mid.procs)
     (table : IsTable mid.heap mid.procs (Some first_process ∷ []))
@@ -174,14 +205,39 @@ module _ (heap disk : ℕ) (control : Control) (rooted : Heap) (mid new : Object
       ∙ ap (map (replaced 1 now)) procs
       ∙ ap (λ (p : Proc). record p { control = control } ∷ []) it_is
 
+  -- nobody names a Desc
+  first_names : (key : ℕ) → names_in key (procs_of mid) ≡ 0
+  first_names key = ap (names_in key) procs
+
+  nobody : AreListed rooted no_table
+  nobody = record { stored = tt; rising = omega arith; all = no_procs }
+
+  none_in_hand : (key : ℕ) → count_by (λ (other : ℕ). other == key) [] ≡ 0
+  none_in_hand key = refl
+
+  has_first : AreListed mid.heap mid.procs
+  has_first = listed_on rooted mid.heap no_table mid.procs nobody made
+
+  first_owners : HasItsOwners mid.heap []
+  first_owners = owners_on rooted mid.heap no_table mid.procs [] nobody made owners (λ key. let first = first_names key in let hand = none_in_hand key in omega (arith, first, hand))
+
+  unopened : IsUnopened heap new.heap
+  unopened = record {
+    descs = as_was (λ h. h.descs) (λ h procs nodes pages high. refl) ∙ bare.descs;
+    pipes = as_was (λ h. h.pipes) (λ h procs nodes pages high. refl) ∙ bare.pipes;
+    socks = as_was (λ h. h.socks) (λ h procs nodes pages high. refl) ∙ bare.socks;
+    chunks = as_was (λ h. h.chunks) (λ h procs nodes pages high. refl) ∙ bare.chunks;
+  }
+
   pub has_booted : HasBooted new heap disk control
   has_booted = record {
     holds = goes.holds;
-    all = all_on mid new (all_on (record { heap = rooted; procs = no_table }) mid no_procs made) goes;
-    owned = goes.owners no_owners (made.owners no_owners owned);
-    opens = opens_on rooted new.heap (as_was (λ h. h.descs) (λ h procs nodes pages high. refl)) opens;
-    queues = queues_on rooted new.heap (as_was (λ h. h.pipes) (λ h procs nodes pages high. refl)) (as_was (λ h. h.chunks) (λ h procs nodes pages high. refl))
-        (as_was (λ h. h.socks) (λ h procs nodes pages high. refl)) queues;
+    all = all_on mid.heap new.heap mid.procs new.procs has_first.all goes;
+    owners = owners_on mid.heap new.heap mid.procs new.procs [] has_first goes first_owners
+        (λ key. let now : names_in key (procs_of new) ≡ 0 = ap (names_in key) first in let was = first_names key in let hand = none_in_hand key in omega (arith, now, was, hand));
+    nodes = λ key desc is. absurd (object-none (heap / size class.Desc) key desc (ap (λ objects. object objects key) (sym unopened.descs) ∙ is));
+    opened = λ numbers files none. open_on numbers (empty_heap heap) new.heap [] files files unopened.descs unopened.pipes unopened.socks unopened.chunks refl refl refl
+        (boot_open numbers heap files none);
     caches = caches_on rooted new.heap disk (as_was (λ h. h.vnodes) (λ h procs nodes pages high. refl)) (as_was (λ h. h.names) (λ h procs nodes pages high. refl))
         (as_was (λ h. h.blocks) (λ h procs nodes pages high. refl)) caches;
     size = as_was (λ h. h.heap) (λ h procs nodes pages high. refl) ∙ bytes;
@@ -229,15 +285,53 @@ pub boot_kept : (script : Script) (objects : Objects) (control : Control) → Ha
 boot_kept script objects control booted stands rests = record {
   holds = booted.holds;
   all = booted.all;
-  owned = booted.owned;
+  owners = booted.owners;
   groups = subst (AllByRecursion (λ proc. length proc.nodes ≡ 4)) (sym booted.first) (refl, tt);
   calls = subst (AreAtCalls script) (sym booted.first) ((λ up. record { stands = stands; rests = rests }), tt);
-  opens = booted.opens;
-  queues = booted.queues;
-  bare = subst NoneOpen (sym booted.first) (refl, tt);
+  nodes = booted.nodes;
   caches = booted.caches;
   size = booted.size;
 }
+
+-- nothing was made in the machine, and the first process has nothing open
+nothing_at : {Y : Type 0} (place : ℕ) (y : Y) → object {X = Y} [] place ≡ Some y → ⊥
+nothing_at zero y is = cc
+nothing_at (suc place) y is = cc
+
+boot_numbers : Numbers
+boot_numbers = record { descs = λ key. key; pipes = λ key. key; socks = λ key. key; frames = λ key. key }
+
+boot_opens : (script : Script) (objects : Objects) (control : Control) → HasBooted objects script.heap script.disk control → HaveFiles objects (boot_files script.disk) no_account
+boot_opens script objects control booted = record {
+  numbers = boot_numbers;
+  opened = record {
+    list = [];
+    opened = opened;
+    descriptors = record {
+      each = λ pid. each pid ∙ sym (ap (λ procs. descriptors_by boot_numbers.descs (places_in (proc_of procs pid))) booted.first);
+      made = sym booted.last;
+    };
+  };
+  fronts = record {
+    pipes = λ key pipe is. absurd (let there = opened.piped.there key pipe is in nothing_at (boot_numbers.pipes key) there.0 there.1);
+    socks = λ key sock is. absurd (let there = sock_there boot_numbers objects.heap [] opened.socketed key sock is in nothing_at (boot_numbers.socks key) there.socket there.there);
+  };
+  settled = record { pipes = refl; sockets = refl };
+  tree = refl;
+}
+  where
+    opened : AreOpen boot_numbers objects.heap [] (boot_files script.disk)
+    opened = booted.opened boot_numbers (boot_files script.disk) (boot_bare script.disk)
+
+    each : (pid : ℕ) → descriptors_of (boot_files script.disk) pid ≡ descriptors_by boot_numbers.descs (places_in (proc_of (record first_proc { control = control } ∷ []) pid))
+    each pid = bare.descriptors pid ∙ sym (by_hit (1 == pid))
+      where
+        bare : IsBare (boot_files script.disk)
+        bare = boot_bare script.disk
+
+        by_hit : (hit : Bool) → descriptors_by boot_numbers.descs (places_in (cond hit (Some (record first_proc { control = control })) None)) ≡ none_open
+        by_hit true = none_by boot_numbers.descs
+        by_hit false = none_by boot_numbers.descs
 
 -- the first process works in the root
 boot_home : AllAtHome (Some first_process ∷ [])
@@ -277,8 +371,7 @@ boot_stands_for script copy objects place control runs same named settles stands
         controls = λ pid proc found up. boot_controls script control leads pid proc (ap (λ ps. proc_of ps pid) (sym booted.first) ∙ found);
       };
       memory = booted.account;
-      files = boot_bare script.disk;
-      fronts = record { pipes = refl; sockets = refl };
+      files = boot_opens script objects control (subst (λ s. HasBooted objects s.heap s.disk control) same booted);
       caches = refl;
       reads = refl;
       family = (reached_kept {script = script} boots).family;

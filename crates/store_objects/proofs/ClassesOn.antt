@@ -2,13 +2,7 @@
 use Rattle.std.proofs.Common.{◌≡◌, ℕ, ap, ◌∙◌}
 use Rattle.kheap_shelves.specs.Objects.{count, object}
 use Rattle.kheap_slabs.specs.Heap.{Heap}
-use Rattle.store_objects.specs.Objects.{CachesRootAlone, HasNoQueue, HasNothingOpen}
-
-pub opens_on : (old new : Heap) → new.descs ≡ old.descs → HasNothingOpen old → HasNothingOpen new
-opens_on old new same none = record { descs = ap count same ∙ none.descs }
-
-pub queues_on : (old new : Heap) → new.pipes ≡ old.pipes → new.chunks ≡ old.chunks → new.socks ≡ old.socks → HasNoQueue old → HasNoQueue new
-queues_on old new pipes chunks socks none = record { pipes = ap count pipes ∙ none.pipes; chunks = ap count chunks ∙ none.chunks; socks = ap count socks ∙ none.socks }
+use Rattle.store_objects.specs.Objects.{CachesRootAlone}
 
 pub caches_on : (old new : Heap) (disk : ℕ) → new.vnodes ≡ old.vnodes → new.names ≡ old.names → new.blocks ≡ old.blocks → CachesRootAlone old disk → CachesRootAlone new disk
 caches_on old new disk vnodes names blocks root = record {

@@ -1,18 +1,28 @@
 -- All that run behind a pid end in turn.
 use Rattle.std.proofs.Common.{◌≡◌, ℕ, zero, suc, ◌+◌, ◌-◌, ◌<◌, ◌≤◌, not, true, false, cond, List, [], ◌∷◌, ◌++◌, Option, None, Some, is_some, refl, ap, sym, ◌∙◌, subst, arith}
+use Rattle.std.specs.List.{range_with_len}
 use Rattle.std.specs.Option.{option_map}
+use Rattle.kern_laws.proofs.Bareness.{end_unopened}
 use Rattle.kheap_shelves.specs.declared.objects.Proc.{Proc}
+use Rattle.open_laws.specs.Open.{descriptors_by}
+use Rattle.place_laws.specs.Placed.{Numbers}
+use Rattle.posix_defs.specs.Files.Closing.{after_end_of, after_ends_of}
+use Rattle.posix_defs.specs.Files.Descriptors.{none_open}
+use Rattle.posix_defs.specs.Files.State.{Files, descriptors_of}
 use Rattle.posix_defs.specs.Memory.{Frames, after_clear}
 use Rattle.posix_defs.specs.Process.{Table, is_alive, is_alive_in, runs}
-use Rattle.proc_table.specs.Procs.{IsAlive, proc_of, process_of, status_of}
+use Rattle.proc_descs.specs.Having.{HaveOpen, places_in}
+use Rattle.proc_table.specs.Procs.{IsAlive, IsLight, no_descriptors, proc_of, process_of, status_of}
 use Rattle.proc_table.specs.Standing.{IsTable, ends_from, ends_in}
 use Rattle.proc_table.specs.Table.{Holds}
 use Rattle.proc_table.proofs.AccountLemmas.{pids_within}
 use Rattle.proc_table.proofs.FamilyLemmas.{proc_has_pid, process_is}
 use Rattle.proc_table.proofs.OwnLemmas.{has_it}
+use Rattle.proc_table.proofs.TurnLemmas.{closed_once}
 use Rattle.store_objects.specs.declared.objects.Objects.{Objects}
 use Rattle.store_objects.specs.Endings.{ClearsSome, IsLowestBehind, cleared_in_turn}
 use Rattle.store_objects.specs.Objects.{is_running, procs_of}
+use Rattle.store_objects.proofs.Opening.{none_by}
 use Rattle.store_objects.proofs.RunningProcs.{running_as, running_none}
 
 -- who runs is alive in a table that the processes are
@@ -119,3 +129,80 @@ cleared_more frames (pid ∷ pids) next = cleared_more (after_clear frames pid) 
 
 pub clears_one : (frames after : Frames) (next : ℕ) → ClearsSome frames after → ClearsSome frames (after_clear after next)
 clears_one frames after next some = (some.0 ++ next ∷ [], ap (λ f. after_clear f next) some.1 ∙ sym (cleared_more frames some.0 next))
+
+-- ---- what they had open
+
+-- who doesn't run has nothing open
+pub unopened : (numbers : Numbers) (objects : Objects) (files : Files) → Holds objects.heap objects.procs → HaveOpen numbers objects.heap objects.procs files
+    → (pid : ℕ) → is_running (procs_of objects) pid ≡ false → descriptors_of files pid ≡ none_open
+unopened numbers objects files holds have pid not_running =
+    have.descriptors.each pid ∙ by_proc (proc_of (procs_of objects) pid) refl ∙ none_by numbers.descs
+  where
+    over : (status : Option ℕ) → not (is_some status) ≡ false → (at : ℕ) × (status ≡ Some at)
+    over None e = cc
+    over (Some at) e = (at, refl)
+
+    by_proc : (o : Option Proc) → proc_of (procs_of objects) pid ≡ o
+        → descriptors_by numbers.descs (places_in (proc_of (procs_of objects) pid)) ≡ descriptors_by numbers.descs no_descriptors
+    by_proc None none = ap (λ o. descriptors_by numbers.descs (places_in o)) none
+    by_proc (Some proc) is =
+        let light : IsLight proc = has_it IsLight (procs_of objects) pid proc holds.light is in
+        let ended = over proc.status (sym (running_as (procs_of objects) pid proc (is_some proc.status) is refl) ∙ not_running) in
+        ap (λ o. descriptors_by numbers.descs (places_in o)) is ∙ ap (descriptors_by numbers.descs) (closed_once proc.status proc.descriptors ended.0 ended.1 light.descriptors)
+
+-- those that have nothing open are passed over
+closes_past : (k more pid : ℕ) (files : Files) → ((q : ℕ) → pid ≤ q → q < pid + k → descriptors_of files q ≡ none_open)
+    → after_ends_of files (range_with_len pid (k + more)) ≡ after_ends_of files (range_with_len (pid + k) more)
+closes_past zero more pid files none =
+    ap (λ n. after_ends_of files (range_with_len pid n)) (let a : 0 + more ≡ more = omega arith in a)
+    ∙ ap (λ n. after_ends_of files (range_with_len n more)) (let b : pid ≡ pid + 0 = omega arith in b)
+closes_past (suc k) more pid files none =
+    ap (λ n. after_ends_of files (range_with_len pid n)) (let a : suc k + more ≡ suc (k + more) = omega arith in a)
+    ∙ ap (λ closed. after_ends_of closed (range_with_len (pid + 1) (k + more))) (end_unopened files pid (none pid (omega arith) (omega arith)))
+    ∙ closes_past k more (pid + 1) files (λ q low high. none q (omega arith) (omega arith))
+    ∙ ap (λ n. after_ends_of files (range_with_len n more)) (let b : pid + 1 + k ≡ pid + suc k = omega arith in b)
+
+-- What is open while those behind the first end, and what is left to close of it.
+pub record ClosesOn (start now : Objects) (pid : ℕ) (numbers : Numbers) (files : Files) : Type 0 where
+  pub more : ℕ
+  pub here : Files
+  pub counts : start.procs.last ≤ pid + more
+  pub opened : HaveOpen numbers now.heap now.procs here
+  pub same : after_ends_of files (range_with_len 2 (start.procs.last - 1)) ≡ after_ends_of here (range_with_len (pid + 1) more)
+
+pub closes_first : (start : Objects) (numbers : Numbers) (files : Files) → HaveOpen numbers start.heap start.procs files → ClosesOn start start 1 numbers files
+closes_first start numbers files have = record { more = start.procs.last - 1; here = files; counts = omega arith; opened = have; same = refl }
+
+-- the next one closes what it has open
+pub closes_one : (start mid new : Objects) (pid next : ℕ) (numbers : Numbers) (files : Files) → Holds mid.heap mid.procs → mid.procs.last ≡ start.procs.last
+    → IsLowestBehind (procs_of mid) pid next
+    → ((here : Files) → HaveOpen numbers mid.heap mid.procs here → HaveOpen numbers new.heap new.procs (after_end_of here next))
+    → ClosesOn start mid pid numbers files → ClosesOn start new next numbers files
+closes_one start mid new pid next numbers files holds last found closes on = record {
+  more = less;
+  here = after_end_of on.here next;
+  counts = (let c = on.counts in let b = found.behind in let k : start.procs.last ≤ next + (on.more - (next - pid)) = omega (arith, c, b, made) in k);
+  opened = closes on.here on.opened;
+  same =
+      on.same
+      ∙ ap (λ n. after_ends_of on.here (range_with_len (pid + 1) n)) (let c = on.counts in let b = found.behind in let a : on.more ≡ next - (pid + 1) + suc (on.more - (next - pid)) = omega (arith, c, b, made) in a)
+      ∙ closes_past (next - (pid + 1)) (suc less) (pid + 1) on.here
+      (λ q low high. let b = found.behind in unopened numbers mid on.here holds on.opened q (found.lowest q (omega arith) (omega arith)))
+      ∙ ap (λ n. after_ends_of on.here (range_with_len n (suc less))) (let b = found.behind in let c : pid + 1 + (next - (pid + 1)) ≡ next = omega arith in c);
+}
+  where
+    less : ℕ
+    less = on.more - (next - pid)
+
+    made : next ≤ start.procs.last
+    made = subst (λ n. next ≤ n) last (alive_made mid next holds found.alive)
+
+-- and at last nothing is left to close
+pub closes_all : (start now : Objects) (pid : ℕ) (numbers : Numbers) (files : Files) → Holds now.heap now.procs → ((q : ℕ) → pid < q → is_running (procs_of now) q ≡ false)
+    → ClosesOn start now pid numbers files → HaveOpen numbers now.heap now.procs (after_ends_of files (range_with_len 2 (start.procs.last - 1)))
+closes_all start now pid numbers files holds none on =
+    subst (HaveOpen numbers now.heap now.procs)
+    (sym (on.same
+    ∙ ap (λ n. after_ends_of on.here (range_with_len (pid + 1) n)) (let a : on.more ≡ on.more + 0 = omega arith in a)
+    ∙ closes_past on.more 0 (pid + 1) on.here (λ q low high. unopened numbers now on.here holds on.opened q (none q (omega arith)))))
+    on.opened

@@ -8,14 +8,16 @@ use Rattle.kheap_shelves.specs.declared.objects.Proc.{Proc}
 use Rattle.prog_ctl.specs.Runnable.{Rests, Stands}
 use Rattle.proc_table.specs.Changes.{cleared, ended, is_alone, is_other, left_behind, left_by, left_child}
 use Rattle.proc_table.specs.Moves.{TableMoves}
-use Rattle.proc_table.specs.Procs.{NoneOpen, no_nodes, proc_of}
-use Rattle.proc_table.proofs.OpenLemmas.{bare_ended}
+use Rattle.proc_table.specs.Procs.{HasClosed, no_nodes, proc_of}
 use Rattle.proc_table.proofs.FamilyLemmas.{left_pid}
 use Rattle.proc_table.proofs.OwnLemmas.{AreRising, all_filter, all_filter_map}
 use Rattle.proc_table.proofs.PlaceLemmas.{eqb_other, eqb_same, some_same}
 use Rattle.store_objects.specs.declared.objects.Objects.{Objects}
 use Rattle.store_objects.specs.Objects.{AreAtCalls, AreKept, IsAtCall, Runs, procs_of}
 use Rattle.store_objects.proofs.Keeping.{kept_on}
+use Rattle.store_objects.proofs.Namings.{names_ended, names_in}
+use Rattle.store_objects.specs.Endings.{shut}
+use Rattle.store_objects.proofs.Shutting.{still_shut}
 use Rattle.store_objects.proofs.WithoutOne.{found_other}
 
 -- What a process has it has whatever becomes of it: also without memory, as a child of the first, and once it has ended.
@@ -69,16 +71,16 @@ all_found P (proc ∷ procs) before rising each = (
       (ap (λ b. cond b (Some proc) (proc_of procs pid)) (eqb_other proc.pid pid (λ same. omega arith)) ∙ is)),
 )
 
--- what the objects keep they keep when a process ends
-pub kept_ended : (script : Script) (old new : Objects) (pid status : ℕ) → AreKept script old → TableMoves old.heap old.procs new.heap new.procs
+-- what the objects keep they keep when a process ends that has nothing open
+pub kept_ended : (script : Script) (old new : Objects) (pid status : ℕ) → AreKept script old → HasClosed (procs_of old) pid → TableMoves old.heap old.procs new.heap new.procs
     → procs_of new ≡ ended pid status (procs_of old) → AreKept script new
-kept_ended script old new pid status kept moves is =
+kept_ended script old new pid status kept closed moves is =
     kept_on script old new kept moves
     (subst (AllByRecursion (λ proc. length proc.nodes ≡ 4)) (sym is)
     (all_ended (λ proc. length proc.nodes ≡ 4) pid status (procs_of old) (record { cleared = λ proc four. refl; moved = λ proc four. four; over = λ proc four. four }) kept.groups))
     (subst (AreAtCalls script) (sym is)
     (all_ended (λ proc. proc.status ≡ None → IsAtCall script proc) pid status (procs_of old) calls kept.calls))
-    (subst NoneOpen (sym is) (bare_ended pid status (procs_of old) kept.bare))
+    (λ key. ap (names_in key) is ∙ names_ended key pid status (procs_of old) kept.holds.light closed)
   where
     here : (proc now : Proc) → now.control ≡ proc.control → IsAtCall script proc → IsAtCall script now
     here proc now same at = record { stands = subst (λ control. Stands script control) (sym same) at.stands; rests = subst (λ control. Rests script control) (sym same) at.rests }
@@ -169,9 +171,12 @@ still_ended procs gone status pid control apart still = by_alone (is_alone gone 
     }
     by_alone false = still
 
-pub runs_ended : (old new : Objects) (gone status pid : ℕ) (control : Control) → pid ≢ gone → procs_of new ≡ ended gone status (procs_of old) → Runs old pid control → Runs new pid control
+pub runs_ended : (old new : Objects) (gone status pid : ℕ) (control : Control) → pid ≢ gone → procs_of new ≡ ended gone status (map (shut gone) (procs_of old))
+    → Runs old pid control → Runs new pid control
 runs_ended old new gone status pid control apart is runs =
+    let before = still_shut gone (procs_of old) pid runs.proc apart runs.found in
     let still : Still (procs_of new) pid runs.proc.control =
     subst (λ procs. Still procs pid runs.proc.control) (sym is)
-    (still_ended (procs_of old) gone status pid runs.proc.control apart (still_left (procs_of old) gone status pid runs.proc apart runs.found runs.up)) in
+    (still_ended (map (shut gone) (procs_of old)) gone status pid runs.proc.control apart
+    (still_left (map (shut gone) (procs_of old)) gone status pid runs.proc apart before runs.up)) in
     record { proc = still.proc; found = still.found; up = still.up; at_call = still.at_call ∙ runs.at_call }

@@ -4,7 +4,6 @@ use Rattle.kabi_types.specs.declared.scripts.Control.{Control}
 use Rattle.kabi_types.specs.declared.scripts.Script.{Script}
 use Rattle.kheap_shelves.specs.declared.objects.Proc.{Proc}
 use Rattle.kheap_slabs.specs.Heap.{Heap}
-use Rattle.posix_defs.specs.Account.{Account}
 use Rattle.posix_defs.specs.ByPid.{at_pid}
 use Rattle.posix_defs.specs.Control.{settled}
 use Rattle.posix_defs.specs.Memory.{Frames}
@@ -16,7 +15,7 @@ use Rattle.proc_table.specs.Standing.{IsTable}
 use Rattle.proc_table.specs.Table.{TableView, procs_at}
 use Rattle.proc_table.proofs.LawLemmas.{elsewhere_account, elsewhere_table}
 use Rattle.store_objects.specs.declared.objects.Objects.{Objects}
-use Rattle.store_objects.specs.Standing.{AreProcesses, HasNoFronts}
+use Rattle.store_objects.specs.Standing.{AreProcesses}
 
 -- Procs, Nodes and Pages are the same
 pub record SameMemory (old new : Heap) : Type 0 where
@@ -46,7 +45,3 @@ memory_on old new frames next procs same is has =
     subst (λ (view : TableView). HasAccount new.heap view next) (sym procs)
     (subst (λ (f : Frames). HasAccount new.heap old.procs f) (sym is)
     (elsewhere_account old.heap new.heap old.procs frames same.procs same.nodes same.pages has))
-
--- the fronts of queues, where the account has the same
-pub fronts_on : (account next : Account) → next.pipes ≡ account.pipes → next.sockets ≡ account.sockets → HasNoFronts account → HasNoFronts next
-fronts_on account next pipes sockets none = record { pipes = pipes ∙ none.pipes; sockets = sockets ∙ none.sockets }

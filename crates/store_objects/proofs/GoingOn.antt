@@ -12,23 +12,27 @@ use Rattle.kheap_shelves.specs.declared.objects.Proc.{Proc}
 use Rattle.posix_defs.specs.ByPid.{at_pid, with_pid}
 use Rattle.posix_defs.specs.Control.{after, settled}
 use Rattle.posix_defs.specs.Plain.{Plain, answered, at_start, control_of, last_pid}
+use Rattle.posix_defs.specs.Files.State.{Files}
 use Rattle.posix_defs.specs.World.{World}
 use Rattle.prog_ctl.specs.Runnable.{Rests, Stands}
 use Rattle.proc_table.specs.Changes.{replaced}
 use Rattle.proc_table.specs.Moves.{TableMoves}
-use Rattle.proc_table.specs.Procs.{NoneOpen, no_descriptors, proc_of}
-use Rattle.proc_table.proofs.OpenLemmas.{bare_replaced}
+use Rattle.proc_descs.specs.Having.{HaveDescriptors}
+use Rattle.proc_table.specs.Procs.{proc_of}
+use Rattle.proc_table.proofs.OpenLemmas.{have_turned}
 use Rattle.proc_table.specs.Accounting.{HasAccount}
 use Rattle.proc_table.specs.Standing.{IsTable}
-use Rattle.proc_table.specs.Table.{processes}
+use Rattle.proc_table.specs.Table.{TableView, processes}
 use Rattle.proc_table.proofs.AccountLemmas.{pids_within}
 use Rattle.proc_table.proofs.FamilyLemmas.{proc_has_pid}
-use Rattle.proc_table.proofs.LawLemmas.{on-account, on-moves, on-procs, on-table}
-use Rattle.proc_table.proofs.OwnLemmas.{has_it}
+use Rattle.proc_table.proofs.LawLemmas.{on-account, on-moves, on-procs, on-table, only_one}
+use Rattle.proc_table.proofs.OwnLemmas.{AreRising, has_it, rising_procs}
 use Rattle.store_objects.specs.declared.objects.Objects.{Objects}
 use Rattle.store_objects.specs.Objects.{AreAtCalls, AreKept, IsAtCall, MovesOn, Runs, procs_of}
 use Rattle.store_objects.specs.Standing.{AreProcesses, StandsFor, answered_in}
 use Rattle.store_objects.proofs.Keeping.{kept_on}
+use Rattle.store_objects.proofs.Namings.{names_in, names_replaced}
+use Rattle.store_objects.proofs.Opening.{by_pids, by_procs, files_moved}
 
 pub some_same : {X : Type 0} (o : Option X) (x y : X) → o ≡ Some x → o ≡ Some y → x ≡ y
 some_same o x y e f = cc
@@ -96,6 +100,10 @@ proc_made script objects plain pid proc kept are is =
 refl_test : (n : ℕ) → (n == n) ≡ true
 refl_test n = elim (eqb_tells n n) [ inl same ↦ same.0 | inr other ↦ absurd (other.1 refl) ]
 
+-- the processes of a store stand by rising pid
+pub rising_in : (script : Script) (objects : Objects) → AreKept script objects → AreRising 0 (procs_of objects)
+rising_in script objects kept = rising_procs objects.heap.procs objects.procs.listed 0 objects.procs.last kept.holds.stored kept.holds.rising
+
 -- The process goes on: its table moves, and who is there is as before but for its control.
 pub procs_then : (script : Script) (old new : Objects) (pid : ℕ) (control : Control) → AreKept script old → (moves : MovesOn old pid control new)
     → procs_of new ≡ map (replaced pid (record moves.proc { control = control })) (procs_of old)
@@ -117,7 +125,17 @@ kept_moved script old new pid control kept moves stands rests =
     kept_on script old new kept (moves_then script old new pid control kept moves)
     (subst (AllByRecursion (λ proc. length proc.nodes ≡ 4)) (sym procs) (all_replaced (λ proc. length proc.nodes ≡ 4) (procs_of old) pid now kept.groups (has_it (λ proc. length proc.nodes ≡ 4) (procs_of old) pid moves.proc kept.groups moves.found)))
     (subst (AreAtCalls script) (sym procs) (all_replaced (λ proc. proc.status ≡ None → IsAtCall script proc) (procs_of old) pid now kept.calls (λ up. record { stands = stands; rests = rests })))
-    (subst NoneOpen (sym procs) (bare_replaced pid now (procs_of old) (has_it (λ proc. proc.descriptors ≡ no_descriptors) (procs_of old) pid moves.proc kept.bare moves.found) kept.bare))
+    (λ key. ap (names_in key) procs
+    ∙ names_replaced key pid moves.proc now (procs_of old) refl (only_one (procs_of old) 0 pid moves.proc (rising_in script old kept) moves.found))
+
+-- its descriptors are what they were
+pub descriptors_moved : (script : Script) (old new : Objects) (pid : ℕ) (control : Control) (files : Files) → (kept : AreKept script old) → (moves : MovesOn old pid control new)
+    → Stands script control → Rests script control → (number : ℕ → ℕ) → HaveDescriptors number (procs_of old) old.procs.last files → HaveDescriptors number (procs_of new) new.procs.last files
+descriptors_moved script old new pid control files kept moves at rests number have =
+    subst (λ (procs : TableView). HaveDescriptors number (processes new.heap procs) procs.last files) (sym moves.same)
+    (by_pids number (processes new.heap old.procs) old.procs.last files
+    (have_turned old.heap new.heap old.procs pid moves.key moves.proc (record moves.proc { control = control }) number files kept.holds moves.turns
+    (by_procs number (procs_of old) old.procs.last files (rising_in script old kept) have)))
 
 -- The objects stand for the world in which it goes on behind its call: its control is the new one, those of all others are what
 -- they were.
@@ -135,8 +153,8 @@ goes_on script old new world pid reply control stands moves at rests leads = rec
   };
   memory = subst (λ k. HasAccount new.heap k world.account.frames) (sym moves.same)
       (on-account old.heap new.heap old.procs pid moves.key moves.proc now stands.kept.holds moves.turns world.account.frames stands.memory);
-  files = stands.files;
-  fronts = stands.fronts;
+  files = files_moved old new world.plain.files world.plain.files world.account world.account (moves_then script old new pid control stands.kept moves)
+      refl refl refl refl refl refl (descriptors_moved script old new pid control world.plain.files stands.kept moves at rests) stands.files;
   caches = stands.caches;
   reads = stands.reads;
   family = stands.family;

@@ -1,20 +1,27 @@
 -- What the objects of a store keep when processes change.
-use Rattle.std.proofs.Common.{◌≡◌, ℕ, List, [], ◌∷◌, length, Option, is_some, ap, sym, ◌∙◌, subst, inl, inr, arith, append-nil}
+use Rattle.std.proofs.Common.{◌≡◌, ℕ, ◌+◌, ◌<◌, ◌==◌, List, [], ◌∷◌, ◌++◌, length, Option, is_some, refl, ap, sym, ◌∙◌, subst, inl, inr, arith, append-nil}
+use Rattle.std.specs.Prelude.{count_by}
 use Rattle.std.specs.List.{AllByRecursion, Contains}
 use Rattle.kabi_types.specs.declared.scripts.Script.{Script}
 use Rattle.kheap_shelves.specs.Objects.{InUse, object}
 use Rattle.kheap_shelves.specs.declared.objects.Proc.{Proc}
+use Rattle.kheap_slabs.specs.Heap.{Heap}
 use Rattle.kheap_slabs.specs.Keys.{AreKeysOf, IsOnce}
+use Rattle.kheap_slabs.specs.Owners.{pipe_queues, sock_queues}
 use Rattle.kheap_laws.proofs.KeyLemmas.{AreKeysOf-changes}
 use Rattle.kheap_laws.proofs.OnceLemmas.{IsOnce-cons}
+use Rattle.open_laws.specs.Owned.{HasItsOwners, desc_count_at, namings_of}
+use Rattle.open_laws.proofs.GoingLemmas.{held_open_on}
+use Rattle.proc_descs.specs.Having.{AreListed, OpensNoNode}
 use Rattle.proc_table.specs.Moves.{TableMoves}
-use Rattle.proc_table.specs.Procs.{NoneOpen}
-use Rattle.proc_table.specs.Table.{AreBetween, AreStored, keys_of}
+use Rattle.proc_table.specs.Table.{AreBetween, AreStored, TableView, keys_of, processes}
 use Rattle.proc_table.specs.declared.places.Listed.{Listed}
 use Rattle.proc_table.proofs.PlaceLemmas.{Contains-cases, IsAt, Misses, Misses-lower, stored_is}
 use Rattle.store_objects.specs.declared.objects.Objects.{Objects}
-use Rattle.store_objects.specs.Objects.{AreAtCalls, AreKept, no_owners, procs_of}
-use Rattle.store_objects.proofs.ClassesOn.{caches_on, opens_on, queues_on}
+use Rattle.store_objects.specs.Objects.{AreAtCalls, AreKept, CachesRootAlone, procs_of}
+use Rattle.store_objects.proofs.ClassesOn.{caches_on}
+use Rattle.store_objects.proofs.Namings.{names_in, namings_are}
+use Rattle.store_objects.proofs.Peeling.{OwnedByPid, by_key, by_pid}
 
 misses_none : (places : List Listed) (key : ℕ) → Misses key places → Contains (keys_of places) key → ⊥
 misses_none [] key misses there = omega (arith, there.1)
@@ -41,27 +48,91 @@ keys_used objects (place ∷ places) key stored there = elim (Contains-cases pla
 ]
 
 -- the table has all processes in the heap still
-pub all_on : (old new : Objects) → AreKeysOf old.heap.procs (keys_of old.procs.listed) → TableMoves old.heap old.procs new.heap new.procs
-    → AreKeysOf new.heap.procs (keys_of new.procs.listed)
-all_on old new all moves =
-    subst (AreKeysOf new.heap.procs) (append-nil (keys_of new.procs.listed))
-    (AreKeysOf-changes old.heap.procs new.heap.procs (keys_of old.procs.listed) (keys_of new.procs.listed) []
-    (subst (AreKeysOf old.heap.procs) (sym (append-nil (keys_of old.procs.listed))) all) moves.keys
-    (λ key there. keys_used new.heap.procs new.procs.listed key moves.holds.stored there)
-    (keys_once new.heap.procs new.procs.listed 0 new.procs.last moves.holds.stored moves.holds.rising))
+pub all_on : (old new : Heap) (was now : TableView) → AreKeysOf old.procs (keys_of was.listed) → TableMoves old was new now
+    → AreKeysOf new.procs (keys_of now.listed)
+all_on old new was now all moves =
+    subst (AreKeysOf new.procs) (append-nil (keys_of now.listed))
+    (AreKeysOf-changes old.procs new.procs (keys_of was.listed) (keys_of now.listed) []
+    (subst (AreKeysOf old.procs) (sym (append-nil (keys_of was.listed))) all) moves.keys
+    (λ key there. keys_used new.procs now.listed key moves.holds.stored there)
+    (keys_once new.procs now.listed 0 now.last moves.holds.stored moves.holds.rising))
 
--- The objects are kept where the table moves on, each process has four groups and stands at its call, and none has a descriptor open.
-pub kept_on : (script : Script) (old new : Objects) → AreKept script old → TableMoves old.heap old.procs new.heap new.procs
-    → AllByRecursion (λ proc. length proc.nodes ≡ 4) (procs_of new) → AreAtCalls script (procs_of new) → NoneOpen (procs_of new) → AreKept script new
-kept_on script old new kept moves groups calls bare = record {
+pub listed_on : (old new : Heap) (was now : TableView) → AreListed old was → TableMoves old was new now → AreListed new now
+listed_on old new was now listed moves =
+    record { stored = moves.holds.stored; rising = moves.holds.rising; all = all_on old new was now listed.all moves }
+
+-- the processes of a store are all in its table
+pub listed_in : (script : Script) (objects : Objects) → AreKept script objects → AreListed objects.heap objects.procs
+listed_in script objects kept = record { stored = kept.holds.stored; rising = kept.holds.rising; all = kept.all }
+
+-- All has its owner where a table moves on whose processes name as many Descs as before, with those that were in hand.
+pub owners_on : (old new : Heap) (was now : TableView) (hand : List ℕ) → AreListed old was → TableMoves old was new now → HasItsOwners old hand
+    → ((key : ℕ) → names_in key (processes new now) ≡ names_in key (processes old was) + count_by (λ other. other == key) hand) → HasItsOwners new []
+owners_on old new was now hand listed moves owners names = record {
+  objects = by_key new now (listed_on old new was now listed moves) (record {
+    queues = by.queues;
+    are = by.are ∙ sym (ap (λ (h : Heap). pipe_queues h.pipes ++ sock_queues h.socks) moves.kept);
+    owned = moves.owners (record { spaces = []; queues = by.queues }) by.owned;
+  });
+  named = record {
+    counts = counts;
+    named = λ key used. subst (λ descs. 0 < desc_count_at descs key) (sym same) (owners.named.named key (subst (λ descs. InUse descs key) same used));
+  };
+  held = held_open_on old new same (ap (λ (h : Heap). h.pipes) moves.kept) (ap (λ (h : Heap). h.socks) moves.kept) (ap (λ (h : Heap). h.chunks) moves.kept) owners.held;
+}
+  where
+    by : OwnedByPid old was
+    by = by_pid old was listed owners.objects
+
+    same : new.descs ≡ old.descs
+    same = ap (λ (h : Heap). h.descs) moves.kept
+
+    counts : (key : ℕ) → desc_count_at new.descs key ≡ namings_of new.procs key + count_by (λ other. other == key) []
+    counts key =
+        let count = ap (λ descs. desc_count_at descs key) same in
+        let before = owners.named.counts key in
+        let were = namings_are old was key listed in
+        let are = namings_are new now key (listed_on old new was now listed moves) in
+        let as_many = names key in
+        let nothing : count_by (λ (other : ℕ). other == key) [] ≡ 0 = refl in
+        omega (arith, count, before, were, are, as_many, nothing)
+
+-- What is kept of a heap and a table, with some Descs named in hand.
+pub record KeepsHeap (script : Script) (h : Heap) (kept : TableView) (hand : List ℕ) : Type 0 where
+  pub listed : AreListed h kept
+  pub owners : HasItsOwners h hand
+  pub nodes : OpensNoNode h.descs
+  pub caches : CachesRootAlone h script.disk
+  pub size : h.heap ≡ script.heap
+
+pub keeps_heap : (script : Script) (objects : Objects) → AreKept script objects → KeepsHeap script objects.heap objects.procs []
+keeps_heap script objects kept = record {
+  listed = listed_in script objects kept;
+  owners = kept.owners;
+  nodes = kept.nodes;
+  caches = kept.caches;
+  size = kept.size;
+}
+
+-- The objects are kept where a table moves on, each process has four groups and stands at its call, and all Descs that were in
+-- hand are named by one.
+pub kept_with : (script : Script) (old : Heap) (was : TableView) (new : Objects) (hand : List ℕ) → KeepsHeap script old was hand → TableMoves old was new.heap new.procs
+    → AllByRecursion (λ proc. length proc.nodes ≡ 4) (procs_of new) → AreAtCalls script (procs_of new)
+    → ((key : ℕ) → names_in key (procs_of new) ≡ names_in key (processes old was) + count_by (λ other. other == key) hand) → AreKept script new
+kept_with script old was new hand keeps moves groups calls names = record {
   holds = moves.holds;
-  all = all_on old new kept.all moves;
-  owned = moves.owners no_owners kept.owned;
+  all = all_on old new.heap was new.procs keeps.listed.all moves;
+  owners = owners_on old new.heap was new.procs hand keeps.listed moves keeps.owners names;
   groups = groups;
   calls = calls;
-  bare = bare;
-  opens = opens_on old.heap new.heap (ap (λ h. h.descs) moves.kept) kept.opens;
-  queues = queues_on old.heap new.heap (ap (λ h. h.pipes) moves.kept) (ap (λ h. h.chunks) moves.kept) (ap (λ h. h.socks) moves.kept) kept.queues;
-  caches = caches_on old.heap new.heap script.disk (ap (λ h. h.vnodes) moves.kept) (ap (λ h. h.names) moves.kept) (ap (λ h. h.blocks) moves.kept) kept.caches;
-  size = ap (λ h. h.heap) moves.kept ∙ kept.size;
+  nodes = subst OpensNoNode (sym (ap (λ (h : Heap). h.descs) moves.kept)) keeps.nodes;
+  caches = caches_on old new.heap script.disk (ap (λ (h : Heap). h.vnodes) moves.kept) (ap (λ (h : Heap). h.names) moves.kept) (ap (λ (h : Heap). h.blocks) moves.kept) keeps.caches;
+  size = ap (λ (h : Heap). h.heap) moves.kept ∙ keeps.size;
 }
+
+pub kept_on : (script : Script) (old new : Objects) → AreKept script old → TableMoves old.heap old.procs new.heap new.procs
+    → AllByRecursion (λ proc. length proc.nodes ≡ 4) (procs_of new) → AreAtCalls script (procs_of new)
+    → ((key : ℕ) → names_in key (procs_of new) ≡ names_in key (procs_of old)) → AreKept script new
+kept_on script old new kept moves groups calls names =
+    kept_with script old.heap old.procs new [] (keeps_heap script old kept) moves groups calls
+    (λ key. let same = names key in let nothing : count_by (λ (other : ℕ). other == key) [] ≡ 0 = refl in omega (arith, same, nothing))

@@ -17,13 +17,12 @@ use Rattle.posix_defs.specs.declared.turner.Turned.TheVariants as turned
 use Rattle.store_objects.specs.declared.objects.Objects.{Objects}
 use Rattle.store_objects.specs.Standing.{StandsFor, WorldAfter, answered_in, ended_in}
 use Rattle.store_objects.proofs.Forgetting.{forgotten}
-use Rattle.store_objects.proofs.NoFronts.{fronts_settled}
 
 -- An account that the objects stand for stays as it is where the machine stays: it has forgotten the dead, and its fronts follow
 -- from lengths.
 settled_account : (script : Script) (objects : Objects) (world : World) → StandsFor script objects world → account_on world.plain world.plain world.account ≡ world.account
 settled_account script objects world stands =
-    let fronts = fronts_settled world.plain world.account stands.files stands.fronts in
+    let fronts = stands.files.settled in
     ap (λ (frames : Frames). record {
       frames = frames;
       pipes = fronts_after (pipe_lengths world.plain.files) (pipe_lengths world.plain.files) world.account.pipes;
@@ -33,8 +32,8 @@ settled_account script objects world stands =
       frames = world.account.frames;
       pipes = pipes;
       sockets = fronts_after (socket_lengths world.plain.files) (socket_lengths world.plain.files) world.account.sockets;
-    }) fronts.0
-    ∙ ap (λ (sockets : List ℕ). record { frames = world.account.frames; pipes = world.account.pipes; sockets = sockets }) fronts.1
+    }) fronts.pipes
+    ∙ ap (λ (sockets : List ℕ). record { frames = world.account.frames; pipes = world.account.pipes; sockets = sockets }) fronts.sockets
 
 -- what the account becomes depends on the machine before by its pipes and sockets alone
 going_from : List (Option Pipe) → List (Option Socket) → Plain → Account → Account

@@ -13,8 +13,10 @@ use Rattle.posix_defs.specs.World.{World}
 use Rattle.proc_table.specs.Table.{with_procs}
 use Rattle.proc_table.proofs.PlaceLemmas.{Contains-cases}
 use Rattle.store_objects.specs.declared.objects.Objects.{Objects}
-use Rattle.store_objects.specs.Objects.{no_owners, procs_of}
+use Rattle.store_objects.specs.Objects.{procs_of}
 use Rattle.store_objects.specs.Standing.{StandsFor}
+use Rattle.store_objects.proofs.Keeping.{listed_in}
+use Rattle.store_objects.proofs.Peeling.{by_pid}
 
 -- the spaces of processes with four groups each have four
 spaces_have_four : (procs : List Proc) → AllByRecursion (λ proc. length proc.nodes ≡ 4) procs
@@ -39,5 +41,6 @@ sum_of_spaces count (proc ∷ procs) =
 pub named_by_all : (script : Script) (objects : Objects) (world : World) (key : ℕ) → StandsFor script objects world → IsWellFormed objects.heap
     → count_at objects.heap.pages key ≡ sum_by (λ proc. entries_naming objects.heap.nodes key proc.nodes) (procs_of objects)
 named_by_all script objects world key stands whole =
-    counts_by_entries objects.heap (with_procs (procs_of objects) no_owners) key whole stands.kept.owned (spaces_have_four (procs_of objects) stands.kept.groups)
+    let by = by_pid objects.heap objects.procs (listed_in script objects stands.kept) stands.kept.owners.objects in
+    counts_by_entries objects.heap (with_procs (procs_of objects) (record { spaces = []; queues = by.queues })) key whole by.owned (spaces_have_four (procs_of objects) stands.kept.groups)
     ∙ sum_of_spaces (entries_naming objects.heap.nodes key) (procs_of objects)

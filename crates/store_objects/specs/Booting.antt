@@ -1,25 +1,30 @@
 -- A store at boot.
 use Rattle.std.specs.Prelude.{ℕ, ◌≡◌, [], ◌∷◌}
 use Rattle.kabi_types.specs.declared.scripts.Control.{Control}
-use Rattle.kheap_slabs.specs.Owners.{IsOwned}
 use Rattle.kheap_slabs.specs.Keys.{AreKeysOf}
+use Rattle.open_laws.specs.Open.{AreOpen}
+use Rattle.open_laws.specs.Owned.{HasItsOwners}
+use Rattle.place_laws.specs.Placed.{Numbers}
+use Rattle.posix_defs.specs.Files.Bare.{IsBare}
+use Rattle.posix_defs.specs.Files.State.{Files}
 use Rattle.posix_defs.specs.Memory.{boot_frames}
 use Rattle.posix_defs.specs.Plain.{first_process}
 use Rattle.std.specs.Prelude.{Some}
 use Rattle.proc_table.specs.Accounting.{HasAccount}
 use Rattle.proc_table.specs.Procs.{first_proc}
 use Rattle.proc_table.specs.Standing.{IsTable}
-use Rattle.proc_table.specs.Table.{Holds, keys_of, with_procs}
+use Rattle.proc_table.specs.Table.{Holds, keys_of}
+use Rattle.proc_descs.specs.Having.{OpensNoNode}
 use Rattle.store_objects.specs.declared.objects.Objects.{Objects}
-use Rattle.store_objects.specs.Objects.{CachesRootAlone, HasNoQueue, HasNothingOpen, no_owners, procs_of}
+use Rattle.store_objects.specs.Objects.{CachesRootAlone, procs_of}
 
 -- The first process alone stands at this control, in a heap of so many bytes that has the root of a new disk beside it.
 pub record HasBooted (objects : Objects) (heap blocks : ℕ) (control : Control) : Type 0 where
   pub holds : Holds objects.heap objects.procs
   pub all : AreKeysOf objects.heap.procs (keys_of objects.procs.listed)
-  pub owned : IsOwned objects.heap (with_procs (procs_of objects) no_owners)
-  pub opens : HasNothingOpen objects.heap
-  pub queues : HasNoQueue objects.heap
+  pub owners : HasItsOwners objects.heap []
+  pub nodes : OpensNoNode objects.heap.descs
+  pub opened : (numbers : Numbers) (files : Files) → IsBare files → AreOpen numbers objects.heap [] files
   pub caches : CachesRootAlone objects.heap blocks
   pub size : objects.heap.heap ≡ heap
   pub first : procs_of objects ≡ record first_proc { control = control } ∷ []

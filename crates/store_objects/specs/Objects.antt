@@ -8,13 +8,15 @@ use Rattle.kheap_shelves.specs.declared.objects.Proc.{Proc}
 use Rattle.kheap_shelves.specs.declared.objects.Vnode.{Vnode}
 use Rattle.kheap_slabs.specs.Heap.{Heap}
 use Rattle.kheap_slabs.specs.Keys.{AreKeysOf}
-use Rattle.kheap_slabs.specs.Owners.{Owners, IsOwned}
+use Rattle.kheap_slabs.specs.Owners.{Owners}
+use Rattle.open_laws.specs.Owned.{HasItsOwners}
 use Rattle.posix_defs.specs.DiskContents.{new_root}
 use Rattle.posix_defs.specs.Plain.{root}
 use Rattle.kheap_slabs.specs.Paid.{TakesNothing}
 use Rattle.proc_table.specs.Moves.{ProcTurns}
-use Rattle.proc_table.specs.Procs.{NoneOpen, proc_of}
-use Rattle.proc_table.specs.Table.{Holds, keys_of, processes, with_procs}
+use Rattle.proc_descs.specs.Having.{OpensNoNode}
+use Rattle.proc_table.specs.Procs.{proc_of}
+use Rattle.proc_table.specs.Table.{Holds, keys_of, processes}
 use Rattle.prog_ctl.specs.Runnable.{Rests, Stands}
 use Rattle.store_objects.specs.declared.objects.Objects.{Objects}
 use Rattle.store_objects.specs.declared.objects.Caller.{Caller}
@@ -70,16 +72,6 @@ no_owners = record { spaces = []; queues = [] }
 abbrev pub root_vnode : ℕ → Vnode
 root_vnode blocks = record { number = root; inode = new_root blocks; pins = 1 }
 
--- Nothing is open: there is no description.
-pub record HasNothingOpen (h : Heap) : Type 0 where
-  pub descs : count h.descs ≡ 0
-
--- There is no pipe and no socket, and so no chunk of a queue.
-pub record HasNoQueue (h : Heap) : Type 0 where
-  pub pipes : count h.pipes ≡ 0
-  pub chunks : count h.chunks ≡ 0
-  pub socks : count h.socks ≡ 0
-
 -- The caches have the root's vnode alone, of a disk with so many blocks.
 pub record CachesRootAlone (h : Heap) (disk : ℕ) : Type 0 where
   pub key : ℕ
@@ -88,16 +80,15 @@ pub record CachesRootAlone (h : Heap) (disk : ℕ) : Type 0 where
   pub names : count h.names ≡ 0
   pub blocks : count h.blocks ≡ 0
 
--- What the objects of a store keep, whatever they stand for: the table has every process that is in the heap, their spaces
--- own all nodes, no descriptor is open, and of the rest the root's vnode alone is there. Who runs stands at its next call.
+-- What the objects of a store keep, whatever they stand for: the table has every process that is in the heap, all nodes,
+-- descriptions, pipes, sockets and chunks have their owners, no description is open on a node, and of the rest the root's vnode
+-- alone is there. Who runs stands at its next call.
 pub record AreKept (script : Script) (objects : Objects) : Type 0 where
   pub holds : Holds objects.heap objects.procs
   pub all : AreKeysOf objects.heap.procs (keys_of objects.procs.listed)
-  pub owned : IsOwned objects.heap (with_procs (procs_of objects) no_owners)
+  pub owners : HasItsOwners objects.heap []
   pub groups : AllByRecursion (λ proc. length proc.nodes ≡ 4) (procs_of objects)
   pub calls : AreAtCalls script (procs_of objects)
-  pub bare : NoneOpen (procs_of objects)
-  pub opens : HasNothingOpen objects.heap
-  pub queues : HasNoQueue objects.heap
+  pub nodes : OpensNoNode objects.heap.descs
   pub caches : CachesRootAlone objects.heap script.disk
   pub size : objects.heap.heap ≡ script.heap

@@ -1,17 +1,16 @@
 -- Which worlds the objects of a store stand for, family by family, and what a turn of a call does to them.
-use Rattle.std.specs.Prelude.{ℕ, ◌≡◌, true, [], None, Some}
+use Rattle.std.specs.Prelude.{ℕ, ◌≡◌, true, None, Some}
 use Rattle.kabi_calls.specs.declared.calls.Call.{Call}
 use Rattle.kabi_values.specs.declared.replies.Reply.{Reply}
 use Rattle.kabi_types.specs.declared.scripts.Script.{Script}
 use Rattle.calls_built.specs.Built.{can_run}
 use Rattle.kern_laws.specs.AtHome.{AllAtHome}
 use Rattle.kheap_shelves.specs.declared.objects.Proc.{Proc}
-use Rattle.posix_defs.specs.Account.{Account, account_on, with_frames}
+use Rattle.posix_defs.specs.Account.{account_on, with_frames}
 use Rattle.posix_defs.specs.Answer.{Answer}
 use Rattle.posix_defs.specs.Control.{settled}
 use Rattle.posix_defs.specs.Ending.{die}
 use Rattle.posix_defs.specs.Family.{IsFamily}
-use Rattle.posix_defs.specs.Files.Bare.{IsBare}
 use Rattle.posix_defs.specs.Memory.{Frames, Memory}
 use Rattle.posix_defs.specs.MemoryCalls.{remembered}
 use Rattle.posix_defs.specs.Plain.{Plain, answered, control_of, last_pid}
@@ -23,6 +22,7 @@ use Rattle.proc_table.specs.Accounting.{HasAccount}
 use Rattle.proc_table.specs.Procs.{proc_of}
 use Rattle.proc_table.specs.Standing.{IsTable}
 use Rattle.store_objects.specs.declared.objects.Objects.{Objects}
+use Rattle.store_objects.specs.Files.{HaveFiles}
 use Rattle.store_objects.specs.Objects.{AreKept, procs_of}
 
 -- A store: its script, and its objects.
@@ -39,11 +39,6 @@ pub record AreProcesses (script : Script) (objects : Objects) (plain : Plain) : 
   pub last : objects.procs.last ≡ last_pid plain
   pub controls : (pid : ℕ) (proc : Proc) → proc_of (procs_of objects) pid ≡ Some proc → proc.status ≡ None → settled script (control_of plain pid) ≡ proc.control
 
--- No pipe and no socket was made, so no queue has a front.
-pub record HasNoFronts (account : Account) : Type 0 where
-  pub pipes : account.pipes ≡ []
-  pub sockets : account.sockets ≡ []
-
 -- A store stands for a world: each family of its objects for its part of the world.
 pub record StandsFor (script : Script) (objects : Objects) (world : World) : Type 0 where
   -- no program makes a call that can't be run
@@ -52,9 +47,8 @@ pub record StandsFor (script : Script) (objects : Objects) (world : World) : Typ
   pub processes : AreProcesses script objects world.plain
   -- one numbering of the heap's pages makes the account of frames true
   pub memory : HasAccount objects.heap objects.procs world.account.frames
-  -- nothing is open, and no pipe, socket or file was made
-  pub files : IsBare world.plain.files
-  pub fronts : HasNoFronts world.account
+  -- one numbering of descriptions, pipes and sockets makes what is open the machine's, and the account of fronts true
+  pub files : HaveFiles objects world.plain.files world.account
   -- nothing is cached but the root's node
   pub caches : world.kept ≡ boot_kept
   pub reads : world.reads ≡ 0

@@ -35,6 +35,9 @@ returns-in-SchedYield-clause-does c =
     (does_tell c.args.script.now c.args.objects.now c.go_on-in-SchedYield.new.objects c.args.caller.now.pid call.SchedYield (pos 0) c.go_on-in-SchedYield.result _ (λ plain. pos 0)
     c.go_on-in-SchedYield.ensures.told c.go_on-in-SchedYield.ensures.goes (λ frames. refl) (λ world stands. refl) (λ plain. refl))
 
+pub exit-requires-clause-kept : goal.exit-requires-clause-kept
+exit-requires-clause-kept c = (c.args.script.now, c.requires.kept)
+
 pub returns-in-Exit-clause-kept : goal.returns-in-Exit-clause-kept
 returns-in-Exit-clause-kept c = c.exit.ensures.kept c.args.script.now c.requires.kept
 

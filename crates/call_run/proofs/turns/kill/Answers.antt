@@ -39,11 +39,11 @@ returns-then-pid-eq-INIT-clause-killed c = λ script world stands alive other.
       | then-pid-eq-INIT-via-else-pid-eq-INIT+then-not-runs w ↦ never (sym alive ∙ lives ∙ sym w.runs.ensures ∙ w.if-not-runs.true)
     ]
 
-pub end-requires-clause-holds : goal.end-requires-clause-holds
-end-requires-clause-holds c =
+pub end-requires-clause-kept : goal.end-requires-clause-kept
+end-requires-clause-kept c =
     let stood = c.requires in
     let marked : AreKept stood.0 (record { heap = c.mark.new.self; procs = c.args.objects.now.procs }) = rw c.mark.ensures (kept_marked stood.0 c.args.objects.now _ _ stood.2.kept) in
-    marked.holds
+    (stood.0, marked)
 
 pub end-requires-clause-alive : goal.end-requires-clause-alive
 end-requires-clause-alive c =

@@ -7,11 +7,11 @@ use Rattle.posix_defs.specs.declared.turner.Turned.TheVariants.{Done}
 use Rattle.proc_table.specs.Accounting.{HasAccount, forked_account}
 use Rattle.proc_table.specs.Changes.{forked_as}
 use Rattle.proc_table.specs.Standing.{IsTable, forked_in}
-use Rattle.proc_table.proofs.OpenLemmas.{bare_shares}
 use Rattle.store_objects.specs.declared.objects.Objects.{Objects}
-use Rattle.store_objects.specs.Objects.{AreKept, Runs, procs_of}
+use Rattle.store_objects.specs.Objects.{AreKept, Runs}
 use Rattle.store_objects.proofs.Replies.{GoesOn}
-use Rattle.process_calls.proofs.Forking.{child_there, does_fork, does_full, kept_child, moved_bare, number_of, runs_still, same_objects}
+use Rattle.process_calls.proofs.Forking.{child_there, does_fork, does_full, kept_child, number_of, runs_still, same_objects}
+use Rattle.process_calls.proofs.Sharing.{can_share}
 use Rattle.store_objects.proofs.GoingOn.{at_its_call}
 use Rattle.process_calls.proofs.children.fork.Goals as goal
 
@@ -19,7 +19,7 @@ pub fork-requires-clause-alive : goal.fork-requires-clause-alive
 fork-requires-clause-alive c = record { proc = c.requires.runs.proc; there = c.requires.runs.found; runs = c.requires.runs.up }
 
 pub fork-requires-clause-shares : goal.fork-requires-clause-shares
-fork-requires-clause-shares c = λ parent there. let can = bare_shares c.args.pid parent (procs_of c.args.objects.now) c.args.objects.now.heap.descs there c.requires.kept.bare in can.0
+fork-requires-clause-shares c = λ parent there. can_share c.args.script.now c.args.objects.now c.args.pid parent c.requires.kept c.heap_is_well_formed.ensures there
 
 pub behind-requires-clause-stands : goal.behind-requires-clause-stands
 behind-requires-clause-stands c = let at = at_its_call c.args.script.now c.args.objects.now c.args.pid c.args.control c.requires.kept c.requires.runs in at.0
@@ -33,18 +33,24 @@ move_on-requires-clause-stored c = c.fork.ensures.moves.holds.stored
 pub move_on-requires-clause-there : goal.move_on-requires-clause-there
 move_on-requires-clause-there c =
     child_there c.args.script.now c.args.objects.now (record { heap = c.fork.new.heap; procs = c.fork.new.self }) c.args.pid c.in-Ok.child c.args.control
-    c.requires.kept c.requires.runs (moved_bare c.args.objects.now (record { heap = c.fork.new.heap; procs = c.fork.new.self }) c.args.pid c.args.control c.requires.kept.bare c.requires.runs c.fork.ensures.moves c.in-Ok.ensures.shared) c.in-Ok.ensures.child
+    c.requires.kept c.requires.runs c.fork.ensures.moves
+    (record { can = can_share c.args.script.now c.args.objects.now c.args.pid c.requires.runs.proc c.requires.kept c.heap_is_well_formed.ensures c.requires.runs.found; descs = c.in-Ok.ensures.shared c.requires.runs.proc c.requires.runs.found })
+    c.in-Ok.ensures.child
 
 pub go_on-requires-clause-kept : goal.go_on-requires-clause-kept
 go_on-requires-clause-kept c =
     kept_child c.args.script.now c.args.objects.now (record { heap = c.fork.new.heap; procs = c.fork.new.self }) c.move_on.new.self c.args.pid c.in-Ok.child c.args.control c.behind.result
-    c.requires.kept c.requires.runs (moved_bare c.args.objects.now (record { heap = c.fork.new.heap; procs = c.fork.new.self }) c.args.pid c.args.control c.requires.kept.bare c.requires.runs c.fork.ensures.moves c.in-Ok.ensures.shared) c.in-Ok.ensures.child
+    c.requires.kept c.requires.runs c.fork.ensures.moves
+    (record { can = can_share c.args.script.now c.args.objects.now c.args.pid c.requires.runs.proc c.requires.kept c.heap_is_well_formed.ensures c.requires.runs.found; descs = c.in-Ok.ensures.shared c.requires.runs.proc c.requires.runs.found })
+    c.in-Ok.ensures.child
     (number_of _ _ c.in-Ok.child (sym c.in-Ok.is ∙ c.fork.ensures.answer)) c.move_on.ensures c.behind.ensures.stands c.behind.ensures.rests
 
 pub go_on-requires-clause-runs : goal.go_on-requires-clause-runs
 go_on-requires-clause-runs c =
     runs_still c.args.script.now c.args.objects.now (record { heap = c.fork.new.heap; procs = c.fork.new.self }) c.move_on.new.self c.args.pid c.in-Ok.child c.args.control c.behind.result
-    c.requires.kept c.requires.runs (moved_bare c.args.objects.now (record { heap = c.fork.new.heap; procs = c.fork.new.self }) c.args.pid c.args.control c.requires.kept.bare c.requires.runs c.fork.ensures.moves c.in-Ok.ensures.shared) c.in-Ok.ensures.child
+    c.requires.kept c.requires.runs c.fork.ensures.moves
+    (record { can = can_share c.args.script.now c.args.objects.now c.args.pid c.requires.runs.proc c.requires.kept c.heap_is_well_formed.ensures c.requires.runs.found; descs = c.in-Ok.ensures.shared c.requires.runs.proc c.requires.runs.found })
+    c.in-Ok.ensures.child
     (number_of _ _ c.in-Ok.child (sym c.in-Ok.is ∙ c.fork.ensures.answer)) c.move_on.ensures
 
 pub go_on-requires-in-Err-clause-kept : goal.go_on-requires-in-Err-clause-kept
@@ -75,7 +81,9 @@ returns-in-Ok-clause-does c =
     let answer : Ok c.in-Ok.child ≡ forked_as _ c.args.objects.now.procs.last = sym c.in-Ok.is ∙ c.fork.ensures.answer in
     let value : _ ≡ pos c.in-Ok.child = to_z-of_z w64 c.from.result (record { sfits = c.from.type_inv }) ∙ c.from.ensures in
     does_fork script c.args.objects.now mid c.move_on.new.self c.args.pid c.in-Ok.child c.args.control c.behind.result
-    c.requires.kept c.requires.runs (moved_bare c.args.objects.now (record { heap = c.fork.new.heap; procs = c.fork.new.self }) c.args.pid c.args.control c.requires.kept.bare c.requires.runs c.fork.ensures.moves c.in-Ok.ensures.shared) c.in-Ok.ensures.child (number_of _ _ c.in-Ok.child answer) c.move_on.ensures
+    c.requires.kept c.requires.runs c.fork.ensures.moves
+    (record { can = can_share c.args.script.now c.args.objects.now c.args.pid c.requires.runs.proc c.requires.kept c.heap_is_well_formed.ensures c.requires.runs.found; descs = c.in-Ok.ensures.shared c.requires.runs.proc c.requires.runs.found })
+    c.in-Ok.ensures.child (number_of _ _ c.in-Ok.child answer) c.move_on.ensures
     c.go_on.new.objects c.go_on.result c.behind.ensures.stands c.behind.ensures.rests answer
     (λ table is. subst (λ r. IsTable c.fork.new.heap c.fork.new.self (forked_in table c.args.pid r)) c.in-Ok.is (c.fork.ensures.table table is))
     (λ frames has. subst (λ r. HasAccount c.fork.new.heap c.fork.new.self (forked_account frames c.args.pid r)) c.in-Ok.is (c.fork.ensures.account frames has))

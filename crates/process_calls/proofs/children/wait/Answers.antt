@@ -13,19 +13,27 @@ use Rattle.process_calls.proofs.children.wait.Goals as goal
 
 pub go_on-requires-clause-kept : goal.go_on-requires-clause-kept
 go_on-requires-clause-kept c =
-    kept_waited c.args.script.now c.args.objects.now _ c.wait.result c.requires.kept c.wait.ensures.moves c.wait.ensures.gone
+    let told : c.wait.result ≡ reaped_of c.args.pid c.args.which (procs_of c.args.objects.now) =
+    subst (λ z. c.wait.result ≡ reaped_of c.args.pid z (procs_of c.args.objects.now)) (to_z-of_z w64 c.args.which c.ranges.which) c.wait.ensures.answer in
+    kept_waited c.args.script.now c.args.objects.now _ c.args.pid c.args.which c.wait.result c.requires.kept c.wait.ensures.moves told c.wait.ensures.gone
 
 pub go_on-requires-in-Nobody-clause-kept : goal.go_on-requires-in-Nobody-clause-kept
 go_on-requires-in-Nobody-clause-kept c =
-    kept_waited c.args.script.now c.args.objects.now _ c.wait.result c.requires.kept c.wait.ensures.moves c.wait.ensures.gone
+    let told : c.wait.result ≡ reaped_of c.args.pid c.args.which (procs_of c.args.objects.now) =
+    subst (λ z. c.wait.result ≡ reaped_of c.args.pid z (procs_of c.args.objects.now)) (to_z-of_z w64 c.args.which c.ranges.which) c.wait.ensures.answer in
+    kept_waited c.args.script.now c.args.objects.now _ c.args.pid c.args.which c.wait.result c.requires.kept c.wait.ensures.moves told c.wait.ensures.gone
 
 pub go_on-requires-in-NoChild-clause-kept : goal.go_on-requires-in-NoChild-clause-kept
 go_on-requires-in-NoChild-clause-kept c =
-    kept_waited c.args.script.now c.args.objects.now _ c.wait.result c.requires.kept c.wait.ensures.moves c.wait.ensures.gone
+    let told : c.wait.result ≡ reaped_of c.args.pid c.args.which (procs_of c.args.objects.now) =
+    subst (λ z. c.wait.result ≡ reaped_of c.args.pid z (procs_of c.args.objects.now)) (to_z-of_z w64 c.args.which c.ranges.which) c.wait.ensures.answer in
+    kept_waited c.args.script.now c.args.objects.now _ c.args.pid c.args.which c.wait.result c.requires.kept c.wait.ensures.moves told c.wait.ensures.gone
 
 pub returns-in-Nobody-2-clause-kept : goal.returns-in-Nobody-2-clause-kept
 returns-in-Nobody-2-clause-kept c =
-    kept_waited c.args.script.now c.args.objects.now _ c.wait.result c.requires.kept c.wait.ensures.moves c.wait.ensures.gone
+    let told : c.wait.result ≡ reaped_of c.args.pid c.args.which (procs_of c.args.objects.now) =
+    subst (λ z. c.wait.result ≡ reaped_of c.args.pid z (procs_of c.args.objects.now)) (to_z-of_z w64 c.args.which c.ranges.which) c.wait.ensures.answer in
+    kept_waited c.args.script.now c.args.objects.now _ c.args.pid c.args.which c.wait.result c.requires.kept c.wait.ensures.moves told c.wait.ensures.gone
 
 pub go_on-requires-clause-runs : goal.go_on-requires-clause-runs
 go_on-requires-clause-runs c =

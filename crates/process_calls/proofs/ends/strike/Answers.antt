@@ -5,6 +5,9 @@ use Rattle.store_objects.proofs.Paying.{uses_nothing, uses_then}
 use Rattle.process_calls.proofs.Striking.{does_another, does_itself}
 use Rattle.process_calls.proofs.ends.strike.Goals as goal
 
+pub end-requires-clause-kept : goal.end-requires-clause-kept
+end-requires-clause-kept c = (c.args.script.now, c.requires.kept)
+
 pub returns-then-target-pid-clause-kept : goal.returns-then-target-pid-clause-kept
 returns-then-target-pid-clause-kept c = c.end.ensures.kept c.args.script.now c.requires.kept
 

@@ -2,7 +2,7 @@ use Rattle.std.proofs.Common.{◌≡◌, ap, arith}
 use Rattle.kheap_slabs.specs.Heap.{live_bytes}
 use Rattle.kheap_slabs.specs.Owners.{IsOwned}
 use Rattle.store_objects.specs.Objects.{no_owners}
-use Rattle.store_objects.proofs.Booting.{has_booted, no_pages, no_procs, rooted_caches, rooted_opens, rooted_owned, rooted_queues, rooted_size}
+use Rattle.store_objects.proofs.Booting.{has_booted, no_pages, no_procs, rooted_bare, rooted_caches, rooted_owned, rooted_owners, rooted_size}
 use Rattle.store_objects.proofs.boot.booted.Goals as goal
 
 pub insert_vnode-requires : goal.insert_vnode-requires
@@ -29,9 +29,9 @@ returns c =
     c.insert_vnode.ensures.vacant c.insert_vnode.ensures.stored c.root.ensures c.insert_vnode.ensures.kept)
     (rooted_owned c.args.heap c.args.blocks c.insert_vnode.result c.root.result c.in_ok-heap.heap rooted c.in_ok-heap.ensures.empty
     c.insert_vnode.ensures.vacant c.insert_vnode.ensures.stored c.root.ensures c.insert_vnode.ensures.kept)
-    (rooted_opens c.args.heap c.args.blocks c.insert_vnode.result c.root.result c.in_ok-heap.heap rooted c.in_ok-heap.ensures.empty
+    (rooted_bare c.args.heap c.args.blocks c.insert_vnode.result c.root.result c.in_ok-heap.heap rooted c.in_ok-heap.ensures.empty
     c.insert_vnode.ensures.vacant c.insert_vnode.ensures.stored c.root.ensures c.insert_vnode.ensures.kept)
-    (rooted_queues c.args.heap c.args.blocks c.insert_vnode.result c.root.result c.in_ok-heap.heap rooted c.in_ok-heap.ensures.empty
+    (rooted_owners c.args.heap c.args.blocks c.insert_vnode.result c.root.result c.in_ok-heap.heap rooted c.in_ok-heap.ensures.empty
     c.insert_vnode.ensures.vacant c.insert_vnode.ensures.stored c.root.ensures c.insert_vnode.ensures.kept)
     (rooted_caches c.args.heap c.args.blocks c.insert_vnode.result c.root.result c.in_ok-heap.heap rooted c.in_ok-heap.ensures.empty
     c.insert_vnode.ensures.vacant c.insert_vnode.ensures.stored c.root.ensures c.insert_vnode.ensures.kept)

@@ -1,0 +1,101 @@
+-- What is open goes on in heap and machine, whatever becomes of the processes.
+use Rattle.std.proofs.Common.{◌≡◌, ℕ, List, map, Option, None, Some, refl, ap, sym, ◌∙◌}
+use Rattle.std.specs.Prelude.{slice_index}
+use Rattle.kheap_shelves.specs.Objects.{object}
+use Rattle.kheap_shelves.specs.declared.objects.Proc.{Proc}
+use Rattle.kheap_slabs.specs.Heap.{Heap}
+use Rattle.open_laws.specs.Open.{descriptors_by}
+use Rattle.open_laws.proofs.GoingLemmas.{open_on}
+use Rattle.posix_defs.specs.Account.{Account, fronts_after, pipe_lengths, socket_lengths, unread_in_pipe, unread_in_socket}
+use Rattle.posix_defs.specs.Files.Descriptors.{none_open}
+use Rattle.posix_defs.specs.Files.State.{Files, descriptors_of}
+use Rattle.posix_defs.specs.Pipe.{Pipe}
+use Rattle.posix_defs.specs.Sockets.{Sockets}
+use Rattle.posix_defs.specs.Tree.{Tree, new_tree}
+use Rattle.proc_descs.specs.Having.{HaveDescriptors, places_in}
+use Rattle.proc_table.specs.Moves.{TableMoves}
+use Rattle.proc_table.specs.Opening.{HaveOpen as TableOpen}
+use Rattle.proc_table.specs.Procs.{no_descriptors, proc_of}
+use Rattle.proc_table.proofs.FamilyLemmas.{proc_has_pid}
+use Rattle.proc_table.proofs.OwnLemmas.{AreRising, has_it}
+use Rattle.store_objects.specs.declared.objects.Objects.{Objects}
+use Rattle.store_objects.specs.Files.{AreSettled, HaveFiles}
+use Rattle.store_objects.specs.Objects.{procs_of}
+use Rattle.store_objects.proofs.EndingProcs.{all_found}
+
+-- ---- descriptors
+
+-- nothing open is the same to the machine
+pub none_by : (number : ℕ → ℕ) → descriptors_by number no_descriptors ≡ none_open
+unfolding none_open
+none_by number = refl
+
+-- what the machine has of each pid it has of each process that is there, and nothing of who isn't
+pub by_procs : (number : ℕ → ℕ) (procs : List Proc) (last : ℕ) (files : Files) → AreRising 0 procs → HaveDescriptors number procs last files → TableOpen procs last number files
+by_procs number procs last files rising have = record {
+  placed = all_found (λ proc. descriptors_of files proc.pid ≡ descriptors_by number proc.descriptors) procs 0 rising
+      (λ pid proc above is. ap (descriptors_of files) (proc_has_pid procs pid proc is) ∙ have.each pid ∙ ap (λ o. descriptors_by number (places_in o)) is);
+  gone = λ pid none. have.each pid ∙ ap (λ o. descriptors_by number (places_in o)) none ∙ none_by number;
+  made = have.made;
+}
+
+pub by_pids : (number : ℕ → ℕ) (procs : List Proc) (last : ℕ) (files : Files) → TableOpen procs last number files → HaveDescriptors number procs last files
+by_pids number procs last files have = record { each = λ pid. by_proc pid (proc_of procs pid) refl; made = have.made }
+  where
+    by_proc : (pid : ℕ) (o : Option Proc) → proc_of procs pid ≡ o → descriptors_of files pid ≡ descriptors_by number (places_in (proc_of procs pid))
+    by_proc pid None none = have.gone pid none ∙ sym (none_by number) ∙ sym (ap (λ o. descriptors_by number (places_in o)) none)
+    by_proc pid (Some proc) is =
+        ap (descriptors_of files) (sym (proc_has_pid procs pid proc is))
+        ∙ has_it (λ p. descriptors_of files p.pid ≡ descriptors_by number p.descriptors) procs pid proc have.placed is
+        ∙ sym (ap (λ o. descriptors_by number (places_in o)) is)
+
+-- ---- all that is open
+
+-- how many bytes are unread in pipes and in sockets
+lengths_by : (files now : Files) → now.pipes ≡ files.pipes → now.sockets ≡ files.sockets → (pipe_lengths now ≡ pipe_lengths files) × (socket_lengths now ≡ socket_lengths files)
+lengths_by files now pipes sockets = (ap (λ (there : List (Option Pipe)). map unread_in_pipe there) pipes, ap (λ (there : Sockets). map unread_in_socket there) sockets)
+
+pub settled_on : (files now : Files) (account next : Account) → now.pipes ≡ files.pipes → now.sockets ≡ files.sockets → next.pipes ≡ account.pipes → next.sockets ≡ account.sockets
+    → AreSettled files account → AreSettled now next
+settled_on files now account next pipes sockets same_pipes same_sockets settled =
+    let lengths = lengths_by files now pipes sockets in
+    record {
+      pipes = ap (λ fronts. fronts_after (pipe_lengths now) (pipe_lengths now) fronts) same_pipes ∙ ap (λ ns. fronts_after ns ns account.pipes) lengths.0 ∙ settled.pipes ∙ sym same_pipes;
+      sockets = ap (λ fronts. fronts_after (socket_lengths now) (socket_lengths now) fronts) same_sockets ∙ ap (λ ns. fronts_after ns ns account.sockets) lengths.1 ∙ settled.sockets ∙ sym same_sockets;
+    }
+
+-- Of another heap it is the same where Descs, Pipes, Socks and Chunks are the same, and the machine and the account have the same
+-- of them, and where descriptors go on.
+pub files_on : (old new : Objects) (files now : Files) (account next : Account)
+    → new.heap.descs ≡ old.heap.descs → new.heap.pipes ≡ old.heap.pipes → new.heap.socks ≡ old.heap.socks → new.heap.chunks ≡ old.heap.chunks
+    → now.descriptions ≡ files.descriptions → now.pipes ≡ files.pipes → now.sockets ≡ files.sockets → now.tree ≡ files.tree
+    → next.pipes ≡ account.pipes → next.sockets ≡ account.sockets
+    → ((number : ℕ → ℕ) → HaveDescriptors number (procs_of old) old.procs.last files → HaveDescriptors number (procs_of new) new.procs.last now)
+    → HaveFiles old files account → HaveFiles new now next
+files_on old new files now account next descs pipes socks chunks descriptions plain_pipes sockets tree fronts_of_pipes fronts_of_sockets descriptors have =
+    let opened = have.opened in record {
+      numbers = have.numbers;
+      opened = record {
+        list = opened.list;
+        opened = open_on have.numbers old.heap new.heap opened.list files now descs pipes socks chunks descriptions plain_pipes sockets opened.opened;
+        descriptors = descriptors have.numbers.descs opened.descriptors;
+      };
+      fronts = record {
+        pipes = λ key pipe is. ap (λ fronts. slice_index fronts (have.numbers.pipes key)) fronts_of_pipes
+            ∙ have.fronts.pipes key pipe (ap (λ objects. object objects key) (sym pipes) ∙ is);
+        socks = λ key sock is. ap (λ fronts. slice_index fronts (have.numbers.socks key)) fronts_of_sockets
+            ∙ have.fronts.socks key sock (ap (λ objects. object objects key) (sym socks) ∙ is);
+      };
+      settled = settled_on files now account next plain_pipes sockets fronts_of_pipes fronts_of_sockets have.settled;
+      tree = tree ∙ have.tree ∙ ap (λ (t : Tree). new_tree t.blocks) (sym tree);
+    }
+
+-- and so where a table moves on
+pub files_moved : (old new : Objects) (files now : Files) (account next : Account) → TableMoves old.heap old.procs new.heap new.procs
+    → now.descriptions ≡ files.descriptions → now.pipes ≡ files.pipes → now.sockets ≡ files.sockets → now.tree ≡ files.tree
+    → next.pipes ≡ account.pipes → next.sockets ≡ account.sockets
+    → ((number : ℕ → ℕ) → HaveDescriptors number (procs_of old) old.procs.last files → HaveDescriptors number (procs_of new) new.procs.last now)
+    → HaveFiles old files account → HaveFiles new now next
+files_moved old new files now account next moves descriptions pipes sockets tree fronts_of_pipes fronts_of_sockets descriptors =
+    files_on old new files now account next (ap (λ (h : Heap). h.descs) moves.kept) (ap (λ (h : Heap). h.pipes) moves.kept) (ap (λ (h : Heap). h.socks) moves.kept) (ap (λ (h : Heap). h.chunks) moves.kept)
+    descriptions pipes sockets tree fronts_of_pipes fronts_of_sockets descriptors
