@@ -1,20 +1,22 @@
 -- All numbers of a process are closed, one after another.
-use Rattle.std.proofs.Common.{◌≡◌, ℕ, zero, suc, ◌+◌, ◌<◌, ◌≤◌, List, [], ◌∷◌, length, replicate, set, get_or, Option, None, Some, refl, ap, sym, ◌∙◌, subst, arith, inl, inr}
+use Rattle.std.proofs.Common.{◌≡◌, ℕ, zero, suc, ◌+◌, ◌<◌, ◌≤◌, List, [], ◌∷◌, length, is_none, replicate, true, set, get_or, Option, None, Some, refl, ap, sym, ◌∙◌, subst, arith, inl, inr}
 use Rattle.std.specs.Prelude.{IsSome, slice_set}
-use Rattle.std.specs.List.{range_with_len}
-use Rattle.std.proofs.lemmas.Bool.{cases_eq}
+use Rattle.std.specs.List.{list_all, range_with_len}
+use Rattle.std.proofs.lemmas.Bool.{cases_eq, false≢true}
 use Rattle.std.proofs.lemmas.List.{ext_get_or, get_or-set_same, get_or-set_other, length-set, set-get_or}
 use Rattle.kheap_shelves.specs.Objects.{object, put}
 use Rattle.kheap_shelves.specs.declared.objects.Descriptor.{Descriptor as HeldDescriptor}
 use Rattle.kheap_shelves.specs.declared.objects.Proc.{Proc}
 use Rattle.kheap_slabs.specs.Heap.{Heap}
-use Rattle.posix_defs.specs.Files.Closing.{after_close, after_closes}
+use Rattle.place_laws.specs.Placed.{Numbers}
+use Rattle.posix_defs.specs.Files.Closing.{after_close, after_closes, after_end_of, all_numbers}
 use Rattle.posix_defs.specs.Files.State.{Files}
 use Rattle.proc_table.specs.Procs.{no_descriptors}
 use Rattle.proc_table.specs.Table.{TableView, key_of}
 use Rattle.proc_table.proofs.PlaceLemmas.{key_of-proc, some_same}
-use Rattle.proc_descs.specs.Having.{AreListed, ClosesAll, ClosesNumber}
+use Rattle.proc_descs.specs.Having.{AreListed, ClosesAll, ClosesNumber, HaveOpen}
 use Rattle.proc_descs.proofs.Listing.{put_same}
+use Rattle.proc_descs.proofs.NumberCloses.{unopened}
 
 -- ---- in the machine
 
@@ -120,3 +122,37 @@ below_all old new kept pid rows below = record {
   procs = below.procs ∙ ap (λ places. put old.procs below.key (record below.proc { descriptors = places })) (all_closed below.proc.descriptors (rows below.key below.proc below.there));
   beside = below.beside;
 }
+
+-- ---- where nothing is open
+
+all_none : (places : List (Option HeldDescriptor)) → list_all is_none places ≡ true → (fd : ℕ) → get_or places fd None ≡ None
+all_none [] all fd = refl
+all_none (None ∷ places) all zero = refl
+all_none (Some place ∷ places) all zero = absurd (false≢true all)
+all_none (None ∷ places) all (suc fd) = all_none places all fd
+all_none (Some place ∷ places) all (suc fd) = absurd (false≢true all)
+
+closes_none : (files : Files) (pid : ℕ) → ((fd : ℕ) → after_close files pid fd ≡ files) → (fds : List ℕ) → after_closes files pid fds ≡ files
+closes_none files pid same [] = refl
+closes_none files pid same (fd ∷ fds) = ap (λ f. after_closes f pid fds) (same fd) ∙ closes_none files pid same fds
+
+pub end_of_none : (numbers : Numbers) (old : Heap) (kept : TableView) (files : Files) (pid key : ℕ) (proc : Proc) → AreListed old kept → key_of kept.listed pid ≡ Some key
+    → object old.procs key ≡ Some proc → list_all is_none proc.descriptors ≡ true → HaveOpen numbers old kept files → after_end_of files pid ≡ files
+unfolding after_end_of
+end_of_none numbers old kept files pid key proc listed named there all have =
+    closes_none files pid (λ fd. unopened numbers old kept files pid fd key proc listed named there (all_none proc.descriptors all fd) have) all_numbers
+
+pub none_to_close : (h : Heap) (kept : TableView) (pid key : ℕ) (proc : Proc) → key_of kept.listed pid ≡ Some key → object h.procs key ≡ Some proc → length proc.descriptors ≡ 32
+    → list_all is_none proc.descriptors ≡ true → ClosesAll h h kept pid
+none_to_close h kept pid key proc named there long all =
+    let same : proc.descriptors ≡ no_descriptors = ext_get_or None proc.descriptors no_descriptors long (λ i within. all_none proc.descriptors all i ∙ sym (none_in 32 i)) in
+    record {
+      key = key;
+      proc = proc;
+      named = named;
+      there = there;
+      procs =
+          sym (ap (λ (places : List (Option HeldDescriptor)). put h.procs key (record proc { descriptors = places })) (sym same)
+          ∙ ap (slice_set h.procs key) (sym there) ∙ set-get_or h.procs key None);
+      beside = refl;
+    }

@@ -1,6 +1,7 @@
 //! A process closes what it has open.
 
-ghost use Rattle.std.specs.Prelude.{◌≡◌, ◌<◌, [], IsSome, None, Some, slice_index_or};
+ghost use Rattle.std.specs.Prelude.{◌≡◌, ◌<◌, [], IsSome, None, Some, is_none, slice_index_or};
+ghost use Rattle.std.specs.List.{list_all};
 ghost use Rattle.kheap_shelves.specs.declared.objects.Proc.{Proc as HeldProc};
 ghost use Rattle.kheap_slabs.specs.Heap.{IsWellFormed};
 ghost use Rattle.kheap_slabs.specs.Paid.{TakesNothing};
@@ -76,9 +77,23 @@ pub fn close_all(heap: &mut KHeap, procs: &ProcTable, pid: u32)
     ensures takes { TakesNothing heap.old heap.new }
 {
     is_well_formed(heap);
+    let Some(key) = procs.key_of(pid) else {
+        unreachable!();
+    };
+    // Most processes that end have nothing open.
+    if has_none_open(heap.get_proc(key)) {
+        return;
+    }
     for fd in 0..MOST_DESCRIPTORS {
         let _ = close_one(heap, procs, pid, fd);
     }
+}
+
+// Whether nothing is open in a process.
+fn has_none_open(proc: &Proc) -> bool
+    ensures { result ≡ list_all is_none proc.now.descriptors }
+{
+    proc.descriptors.iter().all(Option::is_none)
 }
 
 // The heap is well formed: each row of its objects is as long as it was reserved.

@@ -1,9 +1,10 @@
-use Rattle.std.proofs.Common.{◌≡◌, ◌+◌, ℕ, suc, refl, subst, sym, arith}
+use Rattle.std.proofs.Common.{◌≡◌, ◌+◌, ◌∙◌, ℕ, is_some, suc, ap, refl, subst, sym, arith}
 use Rattle.std.specs.List.{range_with_len}
 use Rattle.kheap_laws.proofs.PaidLemmas.{TakesNothing-refl, TakesNothing-trans}
 use Rattle.posix_defs.specs.Files.Closing.{after_closes, after_end_of}
 use Rattle.proc_descs.specs.Having.{HaveOpen}
-use Rattle.proc_descs.proofs.AllClose.{ClosesBelow, below_all, below_begins, below_more, closes_next}
+use Rattle.proc_table.proofs.PlaceLemmas.{key_of-proc}
+use Rattle.proc_descs.proofs.AllClose.{ClosesBelow, below_all, below_begins, below_more, closes_next, end_of_none, none_to_close}
 use Rattle.proc_descs.proofs.Fronts.{queues_same, queues_then}
 use Rattle.proc_descs.proofs.closing.close_all.Goals as goal
 
@@ -50,3 +51,22 @@ pub returns-clause-closes : goal.returns-clause-closes
 returns-clause-closes c =
     below_all c.args.heap.now c.loop-fd.heap c.args.procs.now c.args.pid c.is_well_formed.ensures.descriptors
     (subst (ClosesBelow c.args.heap.now c.loop-fd.heap c.args.procs.now c.args.pid) (let e : c.loop-fd.fd ≡ 32 = omega arith in e) c.loop-fd.invariant.closes)
+
+-- ---- nothing is open
+
+pub get_proc-requires : goal.get_proc-requires
+get_proc-requires c =
+    let named = key_of-proc c.args.heap.now.procs c.args.procs.now.listed c.args.pid c.in-Some.key c.requires.listed.stored (sym c.key_of.ensures ∙ c.in-Some.is) in
+    ap is_some named.1
+
+pub returns-then-has_none_open-clause-closed : goal.returns-then-has_none_open-clause-closed
+returns-then-has_none_open-clause-closed c = λ numbers files have.
+    subst (HaveOpen numbers c.args.heap.now c.args.procs.now)
+    (sym (end_of_none numbers c.args.heap.now c.args.procs.now files c.args.pid c.in-Some.key c.get_proc.result.now c.requires.listed (sym c.key_of.ensures ∙ c.in-Some.is)
+    c.get_proc.ensures (sym c.has_none_open.ensures ∙ c.if-has_none_open.true) have))
+    have
+
+pub returns-then-has_none_open-clause-closes : goal.returns-then-has_none_open-clause-closes
+returns-then-has_none_open-clause-closes c =
+    none_to_close c.args.heap.now c.args.procs.now c.args.pid c.in-Some.key c.get_proc.result.now (sym c.key_of.ensures ∙ c.in-Some.is) c.get_proc.ensures
+    (c.is_well_formed.ensures.descriptors c.in-Some.key c.get_proc.result.now c.get_proc.ensures) (sym c.has_none_open.ensures ∙ c.if-has_none_open.true)
