@@ -19,7 +19,7 @@ use Rattle.open_laws.specs.Sharing.{CanShare, share_all}
 use Rattle.proc_table.specs.Changes.{after_wait, child_proc, cleared, ended, is_alone, is_other, left_behind, left_by, left_child, reaped_of, replaced, with_nodes}
 use Rattle.proc_table.specs.Moves.{IsForked, ProcTurns, SpaceTurns, TableMoves, sharing}
 use Rattle.proc_table.specs.Opening.{HaveOpen, HoldsBare}
-use Rattle.proc_table.specs.Procs.{HasClosed, HasEnded, HasNoneOpenOnce, IsLight, NoneOpen, first_proc, no_descriptors, no_nodes, proc_of}
+use Rattle.proc_table.specs.Procs.{HasClosed, HasNoneOpenOnce, IsLight, NoneOpen, first_proc, no_descriptors, no_nodes, proc_of}
 use Rattle.proc_table.specs.Table.{Holds, TableView, processes}
 use Rattle.proc_table.specs.declared.reaped.Reaped.{Reaped}
 use Rattle.proc_table.specs.declared.reaped.Reaped.TheVariants.{NoChild, Nobody, Took}

@@ -49,15 +49,9 @@ pub(crate) fn find_target(listed: &[Listed], target: i64) -> Option<u32>
     None
 }
 
-// The places of all others.
-pub(crate) fn others(listed: &ArrayVec<Listed, 64>, pid: u32) -> ArrayVec<Listed, 64>
-    ensures { result.items ≡ filter (λ place. not (place.pid == pid)) listed.now.items }
+// Leaves the places of all others.
+pub(crate) fn keep_others(listed: &mut ArrayVec<Listed, 64>, pid: u32)
+    ensures { listed.new.items ≡ filter (λ place. not (place.pid == pid)) listed.old.items }
 {
-    let mut others = ArrayVec::new();
-    for place in listed.as_slice() {
-        if place.pid != pid {
-            others.push(*place);
-        }
-    }
-    others
+    listed.retain(|place| place.pid != pid);
 }

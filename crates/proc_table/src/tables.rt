@@ -23,7 +23,7 @@ ghost use Rattle.proc_table.specs.Standing.{IsTable, answered_by, cleared_in, en
 ghost use Rattle.proc_table.specs.Table.{AreBetween, AreStored, Holds, key_of, key_of_target, no_table, objects_after, places_kept, processes};
 
 use crate::children::{INIT, is_wanted, judge, leave_one};
-use crate::places::{Listed, MOST, find, find_target, others};
+use crate::places::{Listed, MOST, find, find_target, keep_others};
 use crate::reaped::Reaped;
 use arrayvec::ArrayVec;
 use desc_table::share_descs;
@@ -272,7 +272,7 @@ impl ProcTable {
         match self.key_of(pid) {
             Some(key) => {
                 let _ = heap.free_proc(key);
-                self.listed = others(&self.listed, pid);
+                keep_others(&mut self.listed, pid);
             }
             None => unreachable!(),
         }

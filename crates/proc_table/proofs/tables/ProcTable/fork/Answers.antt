@@ -1,5 +1,4 @@
-use Rattle.std.proofs.Common.{ℕ, List, Option, Some, ap, refl, subst, sym, ◌∙◌}
-use Rattle.kheap_shelves.specs.declared.objects.Desc.{Desc}
+use Rattle.std.proofs.Common.{ℕ, ap, refl, subst, sym, ◌∙◌}
 use Rattle.kheap_shelves.specs.declared.objects.Proc.{Proc}
 use Rattle.page_space.specs.Contents.{IsOwnedWith}
 use Rattle.kheap_laws.proofs.PaidLemmas.{CanPay-kept, IsPaid-nothing, IsPaid-trans}
