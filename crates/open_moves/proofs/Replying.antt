@@ -1,8 +1,10 @@
 -- A call on what is open is over: its caller goes on, in a machine whose files have become others.
 use Rattle.std.proofs.Common.{◌≡◌, ℕ, List, [], refl, ap, sym, ◌∙◌, subst}
 use Rattle.std.specs.Prelude.{IsSome}
+use Rattle.kabi_calls.specs.Arguments.{count_of}
 use Rattle.kabi_calls.specs.declared.calls.Call.{Call}
 use Rattle.kabi_values.specs.declared.replies.Reply.{Reply}
+use Rattle.kabi_values.specs.declared.replies.Reply.TheVariants.{Bytes, Fail, Pair, Polled, Stat, Val, Waited}
 use Rattle.kabi_types.specs.declared.scripts.Script.{Script}
 use Rattle.kheap_shelves.specs.Objects.{InUse}
 use Rattle.place_laws.specs.Placed.{Numbers}
@@ -10,7 +12,7 @@ use Rattle.posix_defs.specs.Account.{Account, account_on}
 use Rattle.posix_defs.specs.Answer.{Answer, replied}
 use Rattle.posix_defs.specs.Files.State.{Files}
 use Rattle.posix_defs.specs.Memory.{Frames}
-use Rattle.posix_defs.specs.MemoryCalls.{frames_after}
+use Rattle.posix_defs.specs.MemoryCalls.{frames_after, frames_of}
 use Rattle.posix_defs.specs.Plain.{Plain, with_files}
 use Rattle.posix_defs.specs.Tree.{Tree, new_tree}
 use Rattle.posix_defs.specs.Turn.{touched}
@@ -115,3 +117,14 @@ performs_opened script old mid new pid which said told answer same changes moves
     (led_opened script old mid new world it.files pid which said told stands
     (stands_opened script old mid world (opened_in world it.files) stands moves (reached_opened script old mid world pid it.files stands same changes it.become))
     tells goes (none world.account.frames))
+
+-- a call whose replies say nothing of frames leaves them
+pub no_frames : (which : Call) → ((frames : Frames) (pid value : ℕ) → frames_of frames pid which value ≡ frames) → (pid : ℕ) (said : Reply) (frames : Frames)
+    → frames_after frames pid which said ≡ frames
+no_frames which none pid (Val value) frames = none frames pid (count_of value)
+no_frames which none pid (Pair one other) frames = refl
+no_frames which none pid (Stat info) frames = refl
+no_frames which none pid (Waited child status) frames = refl
+no_frames which none pid (Polled hits) frames = refl
+no_frames which none pid (Bytes bytes) frames = refl
+no_frames which none pid (Fail errno) frames = refl
