@@ -1,6 +1,5 @@
 -- A call on what is open is over: its caller goes on, in a machine whose files have become others.
 use Rattle.std.proofs.Common.{◌≡◌, ℕ, List, [], refl, ap, sym, ◌∙◌, subst}
-use Rattle.std.specs.Prelude.{IsSome}
 use Rattle.kabi_calls.specs.Arguments.{count_of}
 use Rattle.kabi_calls.specs.declared.calls.Call.{Call}
 use Rattle.kabi_values.specs.declared.replies.Reply.{Reply}
@@ -35,7 +34,7 @@ use Rattle.store_objects.proofs.Fronts.{settled_after}
 use Rattle.store_objects.proofs.Leading.{led_done}
 use Rattle.store_objects.proofs.Replies.{GoesOn}
 use Rattle.open_moves.specs.Moves.{OpenMoves}
-use Rattle.open_moves.specs.Worlds.{HasReached, HaveBecome, RepliesOn, opened_in}
+use Rattle.open_moves.specs.Worlds.{HasReached, HaveBecome, RepliesOn, StayOnPipes, opened_in}
 use Rattle.open_moves.proofs.Moving.{stands_opened}
 use Rattle.open_moves.proofs.Numbers.{account_opened, table_opened}
 
@@ -55,18 +54,19 @@ files_become old new plain now account have become = record {
   opened = become.opened;
   fronts = become.fronts;
   settled = settled_files plain.files now account plain;
-  tree = become.tree ∙ have.tree ∙ ap (λ (t : Tree). new_tree t.blocks) (sym become.tree);
+  tree = become.stay.tree ∙ have.tree ∙ ap (λ (t : Tree). new_tree t.blocks) (sym become.stay.tree);
+  sockets = become.stay.sockets have.sockets;
 }
 
 -- Where queues stand where they stood, and what was there keeps its numbers, the account goes on with the fronts.
 pub become_where_queues_stand : (old new : Objects) (files now : Files) (account : Account) (numbers : Numbers) → (have : HaveFiles old files account) → QueuesStand old.heap new.heap
     → ((key : ℕ) → InUse old.heap.pipes key → numbers.pipes key ≡ have.numbers.pipes key) → ((key : ℕ) → InUse old.heap.socks key → numbers.socks key ≡ have.numbers.socks key)
-    → HaveOpen numbers new.heap new.procs now → now.tree ≡ files.tree → HaveBecome new files now account
-become_where_queues_stand old new files now account numbers have stand pipes socks opened tree = record {
+    → HaveOpen numbers new.heap new.procs now → StayOnPipes files now → HaveBecome new files now account
+become_where_queues_stand old new files now account numbers have stand pipes socks opened stay = record {
   numbers = numbers;
   opened = opened;
   fronts = fronts_follow have.numbers numbers old.heap new.heap have.opened.list opened.list files now account have.opened.opened opened.opened stand pipes socks have.fronts;
-  tree = tree;
+  stay = stay;
 }
 
 -- ---- worlds

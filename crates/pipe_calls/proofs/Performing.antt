@@ -31,11 +31,11 @@ use Rattle.store_objects.proofs.EndingOne.{has_key}
 use Rattle.store_objects.proofs.Replies.{GoesOn}
 use Rattle.store_objects.proofs.TreeStays.{OffNodes, off_by_heap}
 use Rattle.open_moves.specs.Moves.{OpenMoves}
-use Rattle.open_moves.specs.Worlds.{HaveBecome, RepliesOn}
+use Rattle.open_moves.specs.Worlds.{RepliesOn, StayOnPipes}
 use Rattle.open_moves.proofs.Moving.{kept_opened, runs_opened}
 use Rattle.open_moves.proofs.Numbers.{moves_opened}
 use Rattle.open_moves.proofs.Replying.{become_where_queues_stand, performs_opened}
-use Rattle.pipe_calls.proofs.Trees.{LeavesTree, tree_in}
+use Rattle.pipe_calls.proofs.Staying.{Stay, files_in}
 
 -- who runs is alive, and has a key
 pub alive_who_runs : (objects : Objects) (pid : ℕ) (control : Control) → Runs objects pid control → IsAlive (procs_of objects) pid
@@ -47,8 +47,8 @@ key_who_runs script objects pid control kept runs = has_key script objects pid k
 
 -- the files of a reply are those that it leads to
 files_told : (script : Script) (plain : Plain) (files : Files) (pid : ℕ) (answer : Answer) (said : Reply) → answer ≡ replied script (with_files plain files) pid said
-    → LeavesTree plain answer → files.tree ≡ plain.files.tree
-files_told script plain files pid answer said is leaves = sym (ap (tree_in plain.files.tree) is) ∙ leaves
+    → Stay plain answer → StayOnPipes plain.files files
+files_told script plain files pid answer said is stay = subst (StayOnPipes plain.files) (ap (files_in plain.files) is) stay
 
 -- A call has changed what the process of a pid, which runs, has open in a heap.
 module _ (script : Script) (objects : Objects) (heap : Heap) (pid : ℕ) (control : Control) (kept : AreKept script objects) (runs : Runs objects pid control)
@@ -68,7 +68,7 @@ module _ (script : Script) (objects : Objects) (heap : Heap) (pid : ℕ) (contro
   runs_then = runs_opened objects mid pid control moves runs
 
   module _ (new : Objects) (which : Call) (said : Reply) (told : Turned) (answer : Plain → Answer) (stand : QueuesStand objects.heap heap)
-      (leaves : (plain : Plain) → OffNodes plain.files.descriptions → LeavesTree plain (answer plain))
+      (leaves : (plain : Plain) → OffNodes plain.files.descriptions → Stay plain (answer plain))
       (tells : told ≡ turned.Done said) (goes : GoesOn script mid pid said new) (none : (frames : Frames) → frames_after frames pid which said ≡ frames) where
     off_in : (world : World) → StandsFor script objects world → OffNodes world.plain.files.descriptions
     off_in world stands =
