@@ -85,8 +85,8 @@ pub fn fcntl(
     ensures takes { TakesNothing objects.old.heap objects.new.heap }
     ensures does { Performs script.now objects.old pid (Call.Fcntl fd cmd arg) (λ plain. fcntl script.now plain pid fd cmd arg) result objects.new }
 {
-    let controlled = proc_pipes::control(&mut objects.heap, &objects.procs, pid, fd, cmd, arg);
-    go_on(script, objects, pid, control, value(controlled))
+    let reply = value(proc_pipes::control(&mut objects.heap, &objects.procs, pid, fd, cmd, arg));
+    go_on(script, objects, pid, control, reply)
 }
 
 /// Tells what a number is open on. EBADF where it isn't open.

@@ -1,12 +1,8 @@
 use Rattle.std.proofs.Common.{◌≡◌, ap, refl, subst, sym, w64}
 use Rattle.std.proofs.lemmas.Int.{to_z-of_z}
 use Rattle.kabi_calls.specs.declared.calls.Call.TheVariants as call
-use Rattle.kabi_types.specs.declared.scripts.Script.{Script}
 use Rattle.kheap_laws.proofs.PaidLemmas.{TakesNothing-trans}
-use Rattle.place_laws.specs.Placed.{Numbers}
 use Rattle.posix_defs.specs.Calls.OnDescriptors.{close}
-use Rattle.posix_defs.specs.Plain.{Plain}
-use Rattle.proc_descs.specs.Having.{HaveOpen}
 use Rattle.proc_pipes.specs.Answering.{Answers, zero_of}
 use Rattle.store_objects.proofs.Keeping.{listed_in}
 use Rattle.open_moves.proofs.Replying.{no_frames}
@@ -40,13 +36,16 @@ pub returns-clause-does : goal.returns-clause-does
 returns-clause-does c =
     let script = c.args.script.now in
     let old = c.args.objects.now in
+    let heap = c.close_number.new.heap in
     let pid = c.args.pid in
     let done = c.close_number.ensures in
     let said = c.zero-reply.result in
-    performs script old c.close_number.new.heap pid c.args.control c.requires.kept c.requires.runs done.changes done.listed done.owners done.nodes
-    c.go_on.new.objects (call.Close c.args.fd) said c.go_on.result (λ plain. close script plain pid c.args.fd) done.queues
-    (λ plain off. close_stay script plain pid c.args.fd off) c.go_on.ensures.told c.go_on.ensures.goes (no_frames (call.Close c.args.fd) (λ frames pid value. refl) pid said)
+    let which = call.Close c.args.fd in
+    performs script old heap pid c.args.control c.requires.kept c.requires.runs done.changes done.listed done.owners done.nodes
+    c.go_on.new.objects which said c.go_on.result (λ plain. close script plain pid c.args.fd)
+    done.queues
+    (λ plain off. close_stay script plain pid c.args.fd off) c.go_on.ensures.told c.go_on.ensures.goes (no_frames which (λ frames pid value. refl) pid said)
     (λ numbers plain have.
-    subst (Answers numbers c.close_number.new.heap old.procs script plain pid (close script plain pid c.args.fd)) (sym c.zero-reply.ensures)
-    (subst (λ z. Answers numbers c.close_number.new.heap old.procs script plain pid (close script plain pid z) (zero_of c.close_number.result)) (to_z-of_z w64 c.args.fd c.ranges.fd)
+    subst (Answers numbers heap old.procs script plain pid (close script plain pid c.args.fd)) (sym c.zero-reply.ensures)
+    (subst (λ z. Answers numbers heap old.procs script plain pid (close script plain pid z) (zero_of c.close_number.result)) (to_z-of_z w64 c.args.fd c.ranges.fd)
     (done.answers numbers script plain have)))
