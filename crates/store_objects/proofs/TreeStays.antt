@@ -110,7 +110,7 @@ gone_stays files place off = by_description (description_at files.descriptions p
     by_description None is = record { off = off; sockets = λ none. none; tree = refl }
     by_description (Some description) is = by_target description description.target (λ number on. off place description number is on)
 
-close_stays : (files : Files) (pid fd : ℕ) → OffNodes files.descriptions → Stays files (after_close files pid fd)
+pub close_stays : (files : Files) (pid fd : ℕ) → OffNodes files.descriptions → Stays files (after_close files pid fd)
 close_stays files pid fd off = by_descriptor (descriptor_at (descriptors_of files pid) fd)
   where
     by_name : (place : ℕ) (b : Bool) → Stays files (cond b (with_open files pid fd None) (description_gone (with_open files pid fd None) place))
