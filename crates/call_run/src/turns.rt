@@ -1,8 +1,6 @@
 //! Turns over a script and its objects, as the core asks for them.
 
 ghost use Rattle.std.specs.Prelude.{◌≡◌, ◌≢◌, ◌+◌, ◌%◌, ◌^◌, ◌≤◌, true, false};
-ghost use Rattle.calls_built.specs.Built.{is_built};
-ghost use Rattle.kabi_calls.specs.Call.{kind_of};
 ghost use Rattle.kabi_types.specs.declared.scripts.Script.{Script};
 ghost use Rattle.posix_defs.specs.Needs.{bound, need_of, slack};
 ghost use Rattle.posix_defs.specs.Plain.{call_of};
@@ -45,12 +43,12 @@ pub fn waits_for(script: &Script, objects: &Objects, pid: u32) -> Option<Awaited
     prog_ctl::wait_here(script, &proc.control)
 }
 
-/// A turn of a process's call, which is one that can be run where the process is alive; `Gone` where it has ended.
+/// A turn of a process's call, which is its next one where the process is alive; `Gone` where it has ended.
 pub fn turn(script: &Script, objects: &mut Objects, pid: u32, call: &Call, need: Need) -> Turned
     requires kept { AreKept script.now objects.old }
     requires needed { need ≡ need_of call.now }
     requires may { (world : World) × StandsFor script.now objects.old world
-        × (is_alive world.plain.table pid ≡ true → is_built (kind_of call.now) ≡ true)
+        × (is_alive world.plain.table pid ≡ true → call.now ≡ call_of script.now world.plain pid)
         × (live_of world + bound call.now + reserve ≤ script.now.heap) }
     ensures kept { AreKept script.now objects.new }
     ensures turned { (world : World) → StandsFor script.now objects.old world
