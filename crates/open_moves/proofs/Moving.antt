@@ -1,5 +1,5 @@
 -- A store goes on where only what is open has changed, and what a process has in memory.
-use Rattle.std.proofs.Common.{◌≡◌, ℕ, List, [], length, Option, None, Some, refl, ap, sym, ◌∙◌, subst}
+use Rattle.std.proofs.Common.{◌≡◌, ℕ, List, length, Option, None, Some, ap, sym, ◌∙◌, subst}
 use Rattle.std.specs.List.{AllByRecursion}
 use Rattle.std.specs.Option.{option_map}
 use Rattle.std.specs.Prelude.{unwrap_or}
@@ -9,10 +9,10 @@ use Rattle.kheap_shelves.specs.declared.objects.Descriptor.{Descriptor}
 use Rattle.kheap_shelves.specs.declared.objects.Proc.{Proc}
 use Rattle.posix_defs.specs.ByPid.{at_pid}
 use Rattle.posix_defs.specs.Control.{settled}
-use Rattle.posix_defs.specs.Plain.{at_start, control_of}
+use Rattle.posix_defs.specs.Plain.{at_start}
 use Rattle.posix_defs.specs.World.{World}
 use Rattle.proc_table.specs.Procs.{IsAlive, proc_of}
-use Rattle.proc_table.proofs.OwnLemmas.{AreRising, has_it, rising_procs}
+use Rattle.proc_table.proofs.OwnLemmas.{has_it, rising_procs}
 use Rattle.store_objects.specs.declared.objects.Objects.{Objects}
 use Rattle.store_objects.specs.Objects.{AreKept, IsAtCall, Runs, procs_of}
 use Rattle.store_objects.specs.Standing.{StandsFor}

@@ -1,9 +1,8 @@
 -- A store of which a call changes what one process has open.
-use Rattle.std.proofs.Common.{◌≡◌, ◌≢◌, ◌⊎◌, ℕ, ◌==◌, Bool, true, false, cond, List, [], map, Option, None, Some, IsSome, refl, ap, sym, ◌∙◌, subst, inl, inr}
+use Rattle.std.proofs.Common.{◌≡◌, ◌≢◌, ◌⊎◌, ℕ, ◌==◌, Bool, true, false, cond, List, [], map, Option, None, Some, refl, ap, sym, ◌∙◌, subst, inl, inr}
 use Rattle.std.specs.List.{AllByRecursion}
 use Rattle.std.specs.Option.{option_map}
 use Rattle.std.proofs.lemmas.Bool.Decides.{eqb_tells}
-use Rattle.kheap_shelves.specs.Objects.{object}
 use Rattle.kheap_shelves.specs.declared.objects.Descriptor.{Descriptor}
 use Rattle.kheap_shelves.specs.declared.objects.Proc.{Proc}
 use Rattle.kheap_slabs.specs.Heap.{Heap}
@@ -26,7 +25,7 @@ use Rattle.proc_table.proofs.OwnLemmas.{all_by, has_it, rising_procs}
 use Rattle.proc_table.proofs.PlaceLemmas.{Follows, eqb_other, eqb_same, follows_one, follows_procs, some_same}
 use Rattle.proc_table.proofs.TurnLemmas.{all_changed, all_kept}
 use Rattle.store_objects.specs.declared.objects.Objects.{Objects}
-use Rattle.store_objects.specs.Objects.{AreKept, procs_of}
+use Rattle.store_objects.specs.Objects.{procs_of}
 use Rattle.store_objects.proofs.EndingProcs.{all_found}
 use Rattle.store_objects.proofs.Peeling.{by_pid}
 use Rattle.open_moves.specs.Moves.{OpenMoves, opening}

@@ -1,5 +1,5 @@
 -- A call on what is open is over: its caller goes on, in a machine whose files have become others.
-use Rattle.std.proofs.Common.{◌≡◌, ℕ, List, [], refl, ap, sym, ◌∙◌, subst}
+use Rattle.std.proofs.Common.{◌≡◌, ℕ, refl, ap, sym, ◌∙◌, subst}
 use Rattle.kabi_calls.specs.Arguments.{count_of}
 use Rattle.kabi_calls.specs.declared.calls.Call.{Call}
 use Rattle.kabi_values.specs.declared.replies.Reply.{Reply}
@@ -27,7 +27,6 @@ use Rattle.proc_table.specs.Standing.{IsTable}
 use Rattle.proc_table.specs.Table.{TableView}
 use Rattle.store_objects.specs.declared.objects.Objects.{Objects}
 use Rattle.store_objects.specs.Files.{AreSettled, HaveFiles}
-use Rattle.store_objects.specs.Objects.{AreKept}
 use Rattle.store_objects.specs.Standing.{Performs, StandsFor, WorldAfter}
 use Rattle.store_objects.proofs.Forgetting.{forgotten}
 use Rattle.store_objects.proofs.Fronts.{settled_after}

@@ -1,10 +1,9 @@
 -- A call on what a process has open changes that as the machine's does, and then its caller goes on.
-use Rattle.std.proofs.Common.{◌≡◌, ℕ, [], IsSome, refl, ap, sym, ◌∙◌, subst}
+use Rattle.std.proofs.Common.{◌≡◌, ℕ, [], IsSome, refl, ap, subst}
 use Rattle.kabi_calls.specs.declared.calls.Call.{Call}
 use Rattle.kabi_values.specs.declared.replies.Reply.{Reply}
 use Rattle.kabi_types.specs.declared.scripts.Control.{Control}
 use Rattle.kabi_types.specs.declared.scripts.Script.{Script}
-use Rattle.kheap_shelves.specs.Objects.{InUse}
 use Rattle.kheap_slabs.specs.Heap.{Heap}
 use Rattle.open_laws.specs.Owned.{HasItsOwners}
 use Rattle.place_laws.specs.Placed.{Numbers}
@@ -24,7 +23,6 @@ use Rattle.proc_pipes.specs.Opening.{AnswersAnew}
 use Rattle.proc_table.specs.Procs.{IsAlive}
 use Rattle.proc_table.specs.Table.{key_of}
 use Rattle.store_objects.specs.declared.objects.Objects.{Objects}
-use Rattle.store_objects.specs.Files.{HaveFiles}
 use Rattle.store_objects.specs.Objects.{AreKept, Runs, procs_of}
 use Rattle.store_objects.specs.Standing.{Performs, StandsFor}
 use Rattle.store_objects.proofs.EndingOne.{has_key}

@@ -1,5 +1,5 @@
 -- No call on descriptors changes the tree where no description is open on a node, and none opens anything on a socket.
-use Rattle.std.proofs.Common.{◌≡◌, ℕ, ℤ, pos, zero, suc, ◌==◌, Bool, true, false, cond, List, [], ◌∷◌, ◌++◌, Option, None, Some, refl, ap, sym, ◌∙◌, subst, length}
+use Rattle.std.proofs.Common.{◌≡◌, ℕ, ℤ, pos, zero, suc, ◌==◌, Bool, true, false, cond, [], ◌∷◌, ◌++◌, Option, None, Some, refl, ap, sym, ◌∙◌, subst, length}
 use Rattle.std.specs.Option.{option_map}
 use Rattle.kabi_calls.specs.Arguments.{count_of, may_be_descriptor}
 use Rattle.kabi_types.specs.declared.scripts.Script.{Script}

@@ -1,6 +1,5 @@
-use Rattle.std.proofs.Common.{◌≡◌, ap, refl, subst, sym, w64}
+use Rattle.std.proofs.Common.{of_z, refl, subst, sym, to_z, w64}
 use Rattle.std.proofs.lemmas.Int.{to_z-of_z}
-use Rattle.std.specs.Int.{of_z, to_z}
 use Rattle.kabi_calls.specs.declared.calls.Call.TheVariants as call
 use Rattle.kheap_laws.proofs.PaidLemmas.{TakesNothing-trans}
 use Rattle.posix_defs.specs.Calls.OnDescriptors.{dup2}

@@ -1,8 +1,7 @@
-use Rattle.std.proofs.Common.{◌≡◌, ap, refl, subst, sym}
+use Rattle.std.proofs.Common.{refl, subst, sym}
 use Rattle.kabi_calls.specs.declared.calls.Call.TheVariants as call
 use Rattle.kheap_laws.proofs.PaidLemmas.{IsPaid-nothing, IsPaid-trans}
 use Rattle.posix_defs.specs.Calls.OnPipes.{pipe}
-use Rattle.proc_pipes.specs.Answering.{pair_of}
 use Rattle.proc_pipes.specs.Opening.{AnswersAnew}
 use Rattle.store_objects.proofs.Keeping.{listed_in}
 use Rattle.open_moves.proofs.Replying.{no_frames}
