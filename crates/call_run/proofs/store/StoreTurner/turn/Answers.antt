@@ -1,7 +1,4 @@
 use Rattle.std.proofs.Common.{◌+◌, ◌≤◌, ap, subst, sym, ◌∙◌}
-use Rattle.calls_built.specs.Built.{is_built}
-use Rattle.calls_built.proofs.NextCalls.{next_built}
-use Rattle.kabi_calls.specs.Call.{kind_of}
 use Rattle.posix_defs.specs.Needs.{bound}
 use Rattle.posix_defs.specs.Plain.{call_of}
 use Rattle.posix_defs.specs.Sizes.{reserve}
@@ -17,9 +14,7 @@ turn-requires-clause-may g c =
     let at : StandsFor script c.self.inside.objects may.0 = subst (λ store. StandsFor store.script store.objects may.0) (sym c.self.view_is) may.1 in (
       may.0,
       at,
-      (λ alive. ap (λ call. is_built (kind_of call)) (may.2 alive)
-          ∙ ap (λ store. is_built (kind_of (call_of store.script may.0.plain c.args.pid))) (sym c.self.view_is)
-          ∙ next_built script may.0.plain c.args.pid at.runs),
+      (λ alive. may.2 alive ∙ ap (λ store. call_of store.script may.0.plain c.args.pid) (sym c.self.view_is)),
       subst (λ store. live_of may.0 + bound c.args.call.now + reserve ≤ store.script.heap) (sym c.self.view_is) may.3,
     )
 
