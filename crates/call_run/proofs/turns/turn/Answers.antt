@@ -1,13 +1,12 @@
-use Rattle.std.proofs.Common.{◌≡◌, ◌+◌, ◌≤◌, ◌∙◌, max, ℕ, ap, le_refl, subst, sym, arith}
-use Rattle.calls_built.specs.Built.{is_built}
-use Rattle.calls_built.proofs.NextCalls.{next_built}
-use Rattle.kabi_calls.specs.Call.{kind_of}
+use Rattle.std.proofs.Common.{◌≡◌, ◌+◌, ◌≤◌, ◌∙◌, max, ℕ, Some, ap, le_refl, subst, sym, arith}
 use Rattle.kabi_types.specs.declared.scripts.Control.{Control}
 use Rattle.kheap_slabs.specs.Heap.{Heap, live_bytes}
 use Rattle.posix_defs.specs.Machine.{machine}
 use Rattle.posix_defs.specs.Needs.{bound, slack}
 use Rattle.posix_defs.specs.Sizes.{reserve}
 use Rattle.posix_defs.specs.World.{live_of}
+use Rattle.proc_table.specs.Procs.{proc_of}
+use Rattle.proc_table.specs.Table.{processes}
 use Rattle.store_objects.specs.declared.objects.Objects.{Objects}
 use Rattle.store_objects.specs.Objects.{IsCaller}
 use Rattle.store_objects.specs.Standing.{Performs, StandsFor}
@@ -16,7 +15,6 @@ use Rattle.store_objects.proofs.LiveIs.{live_is}
 use Rattle.store_objects.proofs.Marking.{kept_marked, since_mark, stands_marked}
 use Rattle.store_objects.proofs.RunningProcs.{alive_is}
 use Rattle.call_run.specs.Families.{HasDone}
-use Rattle.call_run.proofs.Turning.{next_done}
 use Rattle.call_run.proofs.Worlds.{gone_on, turns_on}
 use Rattle.call_run.proofs.turns.turn.Goals as goal
 
@@ -26,30 +24,24 @@ run-turned-requires-clause-kept c = rw c.mark.ensures (kept_marked c.args.script
 pub run-turned-requires-clause-caller : goal.run-turned-requires-clause-caller
 run-turned-requires-clause-caller c = caller_of (record { heap = c.mark.new.self; procs = c.args.objects.now.procs }) c.args.pid c.in-Some.caller c.in-Some.ensures.some
 
-pub run-turned-requires-clause-stands : goal.run-turned-requires-clause-stands
-run-turned-requires-clause-stands c =
-    let may = c.requires.may in
-    (may.0, rw c.mark.ensures (stands_marked c.args.script.now c.args.objects.now _ _ may.0 may.1))
-
 pub run-turned-requires-clause-built : goal.run-turned-requires-clause-built
 run-turned-requires-clause-built c =
     let may = c.requires.may in
     let world = may.0 in
     let marked : Objects = record { heap = c.mark.new.self; procs = c.args.objects.now.procs } in
     let stands : StandsFor c.args.script.now marked world = rw c.mark.ensures (stands_marked c.args.script.now c.args.objects.now _ _ world may.1) in
-    let alive = alive_is c.args.script.now marked world.plain c.args.pid stands.processes ∙ caller_running marked c.args.pid c.in-Some.caller c.in-Some.ensures.some in
-    ap (λ call. is_built (kind_of call)) (may.2 alive) ∙ next_built c.args.script.now world.plain c.args.pid stands.runs
+    may.2 (alive_is c.args.script.now marked world.plain c.args.pid stands.processes ∙ caller_running marked c.args.pid c.in-Some.caller c.in-Some.ensures.some)
+
+pub run-turned-requires-clause-stands : goal.run-turned-requires-clause-stands
+run-turned-requires-clause-stands c =
+    let may = c.requires.may in
+    (may.0, rw c.mark.ensures (stands_marked c.args.script.now c.args.objects.now _ _ may.0 may.1))
 
 pub run-turned-requires-clause-so_far : goal.run-turned-requires-clause-so_far
 run-turned-requires-clause-so_far c =
-    let may = c.requires.may in
-    let world = may.0 in
-    let marked : Objects = record { heap = c.mark.new.self; procs = c.args.objects.now.procs } in
-    let stands : StandsFor c.args.script.now marked world = rw c.mark.ensures (stands_marked c.args.script.now c.args.objects.now _ _ world may.1) in
-    let caller : IsCaller marked c.args.pid c.in-Some.caller = c.in-Some.ensures.some in
-    let alive = alive_is c.args.script.now marked world.plain c.args.pid stands.processes ∙ caller_running marked c.args.pid c.in-Some.caller caller in
+    let caller : IsCaller (record { heap = c.mark.new.self; procs = c.args.objects.now.procs }) c.args.pid c.in-Some.caller = c.in-Some.ensures.some in
     subst (λ (control : Control). HasDone c.args.call.now control.done) (sym caller.control)
-    (next_done c.args.script.now marked world c.args.pid caller.proc c.args.call.now stands alive caller.found (may.2 alive))
+    (c.requires.so_far caller.proc (subst (λ (h : Heap). proc_of (processes h c.args.objects.now.procs) c.args.pid ≡ Some caller.proc) c.mark.ensures caller.found) caller.up)
 
 -- the heap has room for the call
 fits : (live bytes spare size marked marked_size of script : ℕ) → of + bytes + spare ≤ script → live ≡ of → size ≡ script → marked ≡ live → marked_size ≡ size → marked + bytes ≤ marked_size
@@ -97,8 +89,7 @@ returns-clause-turned c = λ world stands.
     subst (λ p. Performs script marked p which (λ plain. machine script plain p which) c.run-turned.result new) caller.same c.run-turned.ensures.does in
     let may = c.requires.may in
     let first : StandsFor script marked may.0 = rw c.mark.ensures (stands_marked script c.args.objects.now _ _ may.0 may.1) in
-    let up = alive_is script marked may.0.plain pid first.processes ∙ caller_running marked pid c.in-Some.caller caller in
-    let built = ap (λ call. is_built (kind_of call)) (may.2 up) ∙ next_built script may.0.plain pid first.runs in
+    let built = may.2 (alive_is script marked may.0.plain pid first.processes ∙ caller_running marked pid c.in-Some.caller caller) in
     turns_on script marked new world pid which c.run-turned.result alive built live c.heap_is_well_formed-2.ensures c.run-turned.ensures.uses.live
     (does world stands_marked_too alive)
 
