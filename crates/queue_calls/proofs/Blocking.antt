@@ -1,5 +1,5 @@
 -- A call with a wrong operand never blocks.
-use Rattle.std.proofs.Common.{◌≡◌, ◌&&◌, ℕ, zero, suc, ◌==◌, ℤ, pos, negsuc, Bool, true, false, cond, List, Option, None, Some, refl, ap, sym, ◌∙◌}
+use Rattle.std.proofs.Common.{◌≡◌, ◌&&◌, ℕ, ◌==◌, ℤ, Bool, true, false, cond, List, Option, None, Some, refl, ap, sym, ◌∙◌}
 use Rattle.std.specs.Prelude.{◌||◌, is_none}
 use Rattle.kabi_calls.specs.Arguments.{argument_fault, invalid_unless, is_minus_one, is_number}
 use Rattle.kabi_calls.specs.declared.calls.Call.{Call}
@@ -31,19 +31,16 @@ no_fault (Some errno) e = cc
 -- ---- poll
 
 -- with a wrong timeout it wouldn't wait either, were it right
-polled_alike : (script : Script) (plain : Plain) (pid : ℕ) (timeout : ℤ) (none : Bool) (told : Answer) → blocks told ≡ false
-    → blocks (unless_wrong script plain pid (invalid_unless (is_number 0 timeout || is_minus_one timeout)) (cond (none && is_minus_one timeout) Blocked told))
-    ≡ blocks (cond (none && is_minus_one timeout) Blocked told)
-polled_alike script plain pid (pos zero) none told is = refl
-polled_alike script plain pid (pos (suc n)) true told is = sym is
-polled_alike script plain pid (pos (suc n)) false told is = sym is
-polled_alike script plain pid (negsuc zero) none told is = refl
-polled_alike script plain pid (negsuc (suc n)) true told is = sym is
-polled_alike script plain pid (negsuc (suc n)) false told is = sym is
+polled_alike : (script : Script) (plain : Plain) (pid : ℕ) (at_once forever none : Bool) (told : Answer) → blocks told ≡ false
+    → blocks (unless_wrong script plain pid (invalid_unless (at_once || forever)) (cond (none && forever) Blocked told)) ≡ blocks (cond (none && forever) Blocked told)
+polled_alike script plain pid true forever none told is = refl
+polled_alike script plain pid false true none told is = refl
+polled_alike script plain pid false false true told is = sym is
+polled_alike script plain pid false false false told is = sym is
 
 pub poll_alike : (script : Script) (plain : Plain) (pid : ℕ) (timeout : ℤ) (entries : List PollEntry)
     → blocks (machine script plain pid (call.Poll timeout entries)) ≡ blocks (poll script plain pid timeout entries)
 unfolding poll
 poll_alike script plain pid timeout entries =
     let revents = revents_of plain.files pid entries in
-    polled_alike script plain pid timeout (hits_of revents == 0) (replied script plain pid (Polled (record { hits = hits_of revents; revents = revents }))) refl
+    polled_alike script plain pid (is_number 0 timeout) (is_minus_one timeout) (hits_of revents == 0) (replied script plain pid (Polled (record { hits = hits_of revents; revents = revents }))) refl

@@ -1,4 +1,4 @@
-pub mod Operands
+pub mod MovedNumbers
 pub mod Remaining
 pub mod Queueing
 pub mod Telling

@@ -182,8 +182,8 @@ module _ (Parts : ℕ → Type 0) (script : Script) (plain : Plain) (pid : ℕ) 
         → ((moved : ℕ) → done + moved ≤ n → Parts moved) → k ≤ n - done → (all : Bool) → (k == n - done) ≡ all
         → Left (cond all (replied script (with_files plain files) pid (Val (pos n)))
         (cond nonblock (replied script (with_files plain files) pid (Val (pos (done + k)))) (did_part (with_files plain files) pid k)))
-    put_k files n done k nonblock descriptions tree parts less true is = tells_with files _ descriptions tree
-    put_k files n done k true descriptions tree parts less false is = tells_with files _ descriptions tree
+    put_k files n done k nonblock descriptions tree parts less true is = tells_with files (Val (pos n)) descriptions tree
+    put_k files n done k true descriptions tree parts less false is = tells_with files (Val (pos (done + k))) descriptions tree
     put_k files n done k false descriptions tree parts less false is = (
       parts k (elim (eqb_tells k (n - done)) [
         | inl same ↦ absurd (let g : true ≡ false = sym same.0 ∙ is in cc)

@@ -5,7 +5,7 @@ use Rattle.kheap_laws.proofs.PaidLemmas.{IsPaid-nothing, IsPaid-trans}
 use Rattle.posix_defs.specs.Calls.Reading.{read}
 use Rattle.proc_queues.specs.Standing.{Leads}
 use Rattle.store_objects.specs.Standing.{Performs}
-use Rattle.queue_calls.proofs.Operands.{of_three}
+use Rattle.queue_calls.proofs.MovedNumbers.{of_three}
 use Rattle.queue_calls.proofs.Queueing.{is_kept, kept_mid, leaves_rest, off_nodes, opens_pipes, runs_alive, runs_mid}
 use Rattle.queue_calls.proofs.Remaining.{read_leaves}
 use Rattle.queue_calls.proofs.Telling.{follows_done, performs}

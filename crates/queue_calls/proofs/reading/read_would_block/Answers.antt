@@ -6,7 +6,7 @@ use Rattle.posix_defs.specs.Calls.Reading.{read}
 use Rattle.posix_defs.specs.Machine.{blocks}
 use Rattle.store_objects.proofs.RunningProcs.{alive_runs}
 use Rattle.queue_calls.proofs.Blocking.{blocks_right, blocks_wrong, no_fault}
-use Rattle.queue_calls.proofs.Operands.{of_three}
+use Rattle.queue_calls.proofs.MovedNumbers.{of_three}
 use Rattle.queue_calls.proofs.Queueing.{is_kept, opens_pipes, queues_stand}
 use Rattle.queue_calls.proofs.reading.read_would_block.Goals as goal
 
@@ -39,4 +39,4 @@ returns-else-may_move c = λ script world stands.
     let addr = to_z-of_z w64 c.args.addr c.ranges.addr in
     let n = to_z-of_z w64 c.args.n c.ranges.n in
     let right = of_three (λ x y z. c.may_move.result ≡ is_none (moved_fault 0 y z)) _ _ _ c.args.fd c.args.addr c.args.n fd addr n c.may_move.ensures in
-    sym (blocks_wrong script world.plain c.args.pid (moved_fault 0 c.args.addr c.args.n) (read script world.plain c.args.pid c.args.fd c.args.addr c.args.n) (sym right ∙ c.if-may_move.false))
+    c.if-may_move.false ∙ sym (blocks_wrong script world.plain c.args.pid (moved_fault 0 c.args.addr c.args.n) (read script world.plain c.args.pid c.args.fd c.args.addr c.args.n) (sym right ∙ c.if-may_move.false))

@@ -3,12 +3,18 @@ use Rattle.std.proofs.lemmas.Int.{to_z-of_z}
 use Rattle.kabi_calls.specs.Arguments.{count_of}
 use Rattle.kabi_calls.specs.declared.calls.Call.TheVariants as call
 use Rattle.kheap_laws.proofs.PaidLemmas.{IsPaid-nothing, IsPaid-trans}
+use Rattle.kabi_types.specs.declared.scripts.Script.{Script}
+use Rattle.kheap_slabs.specs.Heap.{Heap}
+use Rattle.place_laws.specs.Placed.{Numbers}
+use Rattle.posix_defs.specs.Account.{Account}
 use Rattle.posix_defs.specs.Calls.Writing.{write}
+use Rattle.posix_defs.specs.Plain.{Plain}
+use Rattle.posix_defs.specs.declared.turner.Turned.{Turned}
 use Rattle.posix_defs.specs.declared.turner.Turned.TheVariants as turned
-use Rattle.proc_queues.specs.Standing.{IsTold, Leads}
+use Rattle.proc_queues.specs.Standing.{IsKept, IsTold, Leads, StandsFor as QueuesStandFor}
 use Rattle.store_objects.specs.declared.objects.Objects.{Objects}
 use Rattle.store_objects.specs.Standing.{Performs}
-use Rattle.queue_calls.proofs.Operands.{count_few, of_three}
+use Rattle.queue_calls.proofs.MovedNumbers.{count_few, of_three}
 use Rattle.queue_calls.proofs.Queueing.{is_kept, kept_mid, leaves_more, off_nodes, opens_pipes, queues_stand, runs_alive, runs_mid}
 use Rattle.queue_calls.proofs.Remaining.{write_leaves}
 use Rattle.queue_calls.proofs.Telling.{Follows, follows_done, follows_part, part_told, performs}
@@ -64,6 +70,12 @@ go_on_done-requires-clause-runs c =
     runs_mid c.args.script.now c.args.objects.now c.write-told.new.heap c.write-told.ensures.kept (leaves_more c.args.objects.now.heap c.write-told.new.heap c.write-told.ensures.beside)
     c.args.pid c.args.control c.requires.runs
 
+pub returns-in-Part-clause-kept : goal.returns-in-Part-clause-kept
+returns-in-Part-clause-kept c =
+    let some = c.requires.stands in
+    c.do_part.ensures.kept c.args.script.now
+    (kept_mid c.args.script.now c.args.objects.now c.write-told.new.heap c.write-told.ensures.kept (leaves_more c.args.objects.now.heap c.write-told.new.heap c.write-told.ensures.beside) some.1.kept)
+
 pub returns-in-Part-clause-paid : goal.returns-in-Part-clause-paid
 returns-in-Part-clause-paid c =
     IsPaid-trans c.args.objects.now.heap c.args.purse.now c.write-told.new.heap c.write-told.new.purse c.do_part.new.objects.heap c.write-told.new.purse c.write-told.ensures.paid
@@ -75,24 +87,19 @@ returns-in_default-clause-paid c =
     (IsPaid-nothing c.write-told.new.heap c.go_on_done.new.objects.heap c.write-told.new.purse c.write-told.new.purse c.go_on_done.ensures.takes refl refl)
 
 -- what it leads to, whatever was told
-leads : (c : goal.After-write-told) (new : Objects) → Follows c.args.script.now (record { heap = c.write-told.new.heap; procs = c.args.objects.now.procs }) c.args.pid
-    (λ moved. c.args.done + moved ≤ count_of c.args.n) c.write-told.result new
-    → Performs c.args.script.now c.args.objects.now c.args.pid (call.Write c.args.fd c.args.addr c.args.n c.args.done)
-    (λ plain. write c.args.script.now plain c.args.pid c.args.fd c.args.addr c.args.n c.args.done) c.write-told.result new
-leads c new follows =
-    let script = c.args.script.now in
-    let old = c.args.objects.now in
-    let heap = c.write-told.new.heap in
-    let pid = c.args.pid in
-    let within : ℕ → Type 0 = λ moved. c.args.done + moved ≤ count_of c.args.n in
-    performs script old heap c.write-told.ensures.kept (leaves_more old.heap heap c.write-told.ensures.beside) pid (call.Write c.args.fd c.args.addr c.args.n c.args.done) within new
-    (λ plain. write script plain pid c.args.fd c.args.addr c.args.n c.args.done) c.write-told.result
+leads : (script : Script) (old new : Objects) (heap : Heap) (pid : ℕ) (fd addr n as_fd as_addr as_n : ℤ) (done : ℕ) (told : Turned) → as_fd ≡ fd → as_addr ≡ addr → as_n ≡ n
+    → (kept : IsKept heap old.procs) → (beside : heap ≡ record old.heap { pipes = heap.pipes; chunks = heap.chunks; high = heap.high })
+    → ((numbers : Numbers) (plain : Plain) (account : Account) → QueuesStandFor numbers old.heap old.procs plain account
+    → Leads script numbers heap old.procs plain account pid (call.Write as_fd as_addr as_n done) (write script plain pid as_fd as_addr as_n done) told)
+    → Follows script (record { heap = heap; procs = old.procs }) pid (λ moved. done + moved ≤ count_of n) told new
+    → Performs script old pid (call.Write fd addr n done) (λ plain. write script plain pid fd addr n done) told new
+leads script old new heap pid fd addr n as_fd as_addr as_n done told first second third kept beside leads follows =
+    performs script old heap kept (leaves_more old.heap heap beside) pid (call.Write fd addr n done) (λ moved. done + moved ≤ count_of n) new
+    (λ plain. write script plain pid fd addr n done) told
     (λ numbers plain account stands.
-    of_three (λ fd addr n. Leads script numbers heap old.procs plain account pid (call.Write fd addr n c.args.done) (write script plain pid fd addr n c.args.done) c.write-told.result)
-    _ _ _ c.args.fd c.args.addr c.args.n
-    (to_z-of_z w64 c.args.fd c.ranges.fd) (to_z-of_z w64 c.args.addr c.ranges.addr) (to_z-of_z w64 c.args.n c.ranges.n) (c.write-told.ensures.leads script numbers plain account stands))
-    (λ world stands.
-    write_leaves within script world.plain pid (off_nodes script old world stands) stands.files.sockets c.args.fd c.args.addr c.args.n c.args.done (λ moved less. less))
+    of_three (λ x y z. Leads script numbers heap old.procs plain account pid (call.Write x y z done) (write script plain pid x y z done) told) as_fd as_addr as_n fd addr n
+    first second third (leads numbers plain account stands))
+    (λ world stands. write_leaves (λ moved. done + moved ≤ count_of n) script world.plain pid (off_nodes script old world stands) stands.files.sockets fd addr n done (λ moved less. less))
     follows
 
 pub returns-in-Part-clause-does : goal.returns-in-Part-clause-does
@@ -103,7 +110,9 @@ returns-in-Part-clause-does c =
     let new = c.do_part.new.objects in
     subst (λ t. Performs script old pid (call.Write c.args.fd c.args.addr c.args.n c.args.done) (λ plain. write script plain pid c.args.fd c.args.addr c.args.n c.args.done) t new)
     (c.in-Part.is ∙ sym c.do_part.ensures.told)
-    (leads c new
+    (leads script old new c.write-told.new.heap pid c.args.fd c.args.addr c.args.n _ _ _ c.args.done c.write-told.result
+    (to_z-of_z w64 c.args.fd c.ranges.fd) (to_z-of_z w64 c.args.addr c.ranges.addr) (to_z-of_z w64 c.args.n c.ranges.n) c.write-told.ensures.kept c.write-told.ensures.beside
+    (c.write-told.ensures.leads script)
     (follows_part script (record { heap = c.write-told.new.heap; procs = old.procs }) pid (λ moved. c.args.done + moved ≤ count_of c.args.n) c.write-told.result new c.in-Part.moved
     c.in-Part.is (c.do_part.ensures.goes script)))
 
@@ -115,6 +124,8 @@ returns-in_default-clause-does c =
     let new = c.go_on_done.new.objects in
     subst (λ t. Performs script old pid (call.Write c.args.fd c.args.addr c.args.n c.args.done) (λ plain. write script plain pid c.args.fd c.args.addr c.args.n c.args.done) t new)
     (sym c.go_on_done.ensures.told)
-    (leads c new
+    (leads script old new c.write-told.new.heap pid c.args.fd c.args.addr c.args.n _ _ _ c.args.done c.write-told.result
+    (to_z-of_z w64 c.args.fd c.ranges.fd) (to_z-of_z w64 c.args.addr c.ranges.addr) (to_z-of_z w64 c.args.n c.ranges.n) c.write-told.ensures.kept c.write-told.ensures.beside
+    (c.write-told.ensures.leads script)
     (follows_done script (record { heap = c.write-told.new.heap; procs = old.procs }) pid (λ moved. c.args.done + moved ≤ count_of c.args.n) c.write-told.result new
     c.go_on_done.ensures.goes (λ moved is some. c.in_default.not-Part moved is)))
