@@ -101,13 +101,13 @@ open_left _ built other queued p q y e w k u l = cc
 pub refused_left : (which : Call) → is_open (kind_of which) ≡ true → ((a : ℤ) → which ≡ call.Close a → ⊥) → ((a : ℤ) → which ≡ call.Dup a → ⊥)
     → ((a b : ℤ) → which ≡ call.Dup2 a b → ⊥) → ((a b c : ℤ) → which ≡ call.Fcntl a b c → ⊥) → ((a : ℤ) → which ≡ call.Fstat a → ⊥)
     → ((a : ℤ) (entries : List PollEntry) → which ≡ call.Poll a entries → ⊥) → is_refused (kind_of which) ≡ true
-refused_left (call.Close a) open c d e f s p = absurd (c a refl)
-refused_left (call.Dup a) open c d e f s p = absurd (d a refl)
-refused_left (call.Dup2 a b) open c d e f s p = absurd (e a b refl)
-refused_left (call.Fcntl a b z) open c d e f s p = absurd (f a b z refl)
-refused_left (call.Fstat a) open c d e f s p = absurd (s a refl)
-refused_left (call.Poll a entries) open c d e f s p = absurd (p a entries refl)
-refused_left _ open c d e f s p = open
+refused_left (call.Close a) among c d e f s p = absurd (c a refl)
+refused_left (call.Dup a) among c d e f s p = absurd (d a refl)
+refused_left (call.Dup2 a b) among c d e f s p = absurd (e a b refl)
+refused_left (call.Fcntl a b z) among c d e f s p = absurd (f a b z refl)
+refused_left (call.Fstat a) among c d e f s p = absurd (s a refl)
+refused_left (call.Poll a entries) among c d e f s p = absurd (p a entries refl)
+refused_left _ among c d e f s p = among
 
 -- and those are five
 pub none_left : (which : Call) → is_refused (kind_of which) ≡ true → ((a b c d : ℤ) → which ≡ call.Pread a b c d → ⊥) → ((a b c d : ℤ) → which ≡ call.Pwrite a b c d → ⊥)

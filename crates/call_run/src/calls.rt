@@ -146,7 +146,7 @@ fn run_free(script: &Script, objects: &mut Objects, caller: &Caller, call: &Call
 fn run_open(script: &Script, objects: &mut Objects, caller: &Caller, call: &Call) -> Turned
     requires kept { AreKept script.now objects.old }
     requires caller { IsCaller objects.old caller.now.pid caller.now }
-    requires open { is_open (kind_of call.now) ≡ true }
+    requires among { is_open (kind_of call.now) ≡ true }
     ensures kept { AreKept script.now objects.new }
     ensures uses { UsesAtMost objects.old.heap objects.new.heap 0 (slack call.now) }
     ensures does { Performs script.now objects.old caller.now.pid call.now (λ plain. answer_to script.now plain caller.now.pid call.now) result objects.new }

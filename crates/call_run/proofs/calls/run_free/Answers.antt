@@ -66,8 +66,8 @@ returns-in-Load-clause-does c =
     does_two c.args.script.now c.args.objects.now c.load.new.objects c.args.caller.now.pid c.args.call.now c.load.result call.Load c.in-Load.addr c.in-Load.n c.in-Load.is
     (search (rules, to_z-of_z)) (search (rules, to_z-of_z)) c.load.ensures.does
 
-pub run_open-requires-clause-open : goal.run_open-requires-clause-open
-run_open-requires-clause-open c =
+pub run_open-requires-clause-among : goal.run_open-requires-clause-among
+run_open-requires-clause-among c =
     open_left c.args.call.now c.requires.built c.requires.other c.requires.queued
     c.in_default.not-Getpid c.in_default.not-Getppid c.in_default.not-SchedYield
     c.in_default.not-Exit c.in_default.not-Waitpid c.in_default.not-Kill c.in_default.not-Munmap c.in_default.not-Load

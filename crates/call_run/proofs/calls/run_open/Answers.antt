@@ -55,4 +55,4 @@ returns-in-Poll-clause-uses c = uses_nothing c.args.objects.now.heap c.poll.new.
 
 pub run_refused-requires-clause-refused : goal.run_refused-requires-clause-refused
 run_refused-requires-clause-refused c =
-    refused_left c.args.call.now c.requires.open c.in_default.not-Close c.in_default.not-Dup c.in_default.not-Dup2 c.in_default.not-Fcntl c.in_default.not-Fstat c.in_default.not-Poll
+    refused_left c.args.call.now c.requires.among c.in_default.not-Close c.in_default.not-Dup c.in_default.not-Dup2 c.in_default.not-Fcntl c.in_default.not-Fstat c.in_default.not-Poll

@@ -10,3 +10,6 @@ turn-requires-clause-may g c =
     let live = live_is c.store.inside.script c.store.inside.objects world at c.heap-heap.ensures.well_formed in
     let size : c.store.inside.objects.heap.heap ≡ c.store.inside.script.heap = c.store.invariant.size in
     (world, at, (λ alive. c.requires.built), omega arith)
+
+pub turn-requires-clause-so_far : goal.turn-requires-clause-so_far
+turn-requires-clause-so_far g c = λ proc found up. c.is_so_far.ensures c.is_so_far.is-true proc found
