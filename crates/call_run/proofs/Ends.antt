@@ -1,6 +1,6 @@
 -- Each pipe has an end that some process has open.
 use Rattle.std.proofs.Common.{◌≡◌, ℕ, zero, suc, ◌+◌, ◌<◌, ◌==◌, ◌&&◌, ◌⊎◌, Bool, true, false, cond, List, [], ◌∷◌, Option, None, Some, inl, inr, refl, ap, sym, ◌∙◌, subst, arith}
-use Rattle.std.specs.Prelude.{IsSome, count_by}
+use Rattle.std.specs.Prelude.{count_by}
 use Rattle.std.proofs.lemmas.Bool.Decides.{eqb_tells}
 use Rattle.std.proofs.lemmas.List.Sums.{sum_by-cons}
 use Rattle.kabi_types.specs.declared.scripts.Script.{Script}
@@ -71,10 +71,7 @@ end_open script objects pipe kept there =
     no_more : (a b : ℕ) → a ≡ b + 0 → 0 < a → 0 < b
     no_more a b same some = omega arith
 
-    is_there : (desc : Desc) → IsSome (Some desc)
-    is_there desc = grind arith
-
     named : (key : ℕ) (desc : Desc) → object objects.heap.descs key ≡ Some desc → 0 < namings_of objects.heap.procs key
     named key desc is =
         no_more (desc_count_at objects.heap.descs key) (namings_of objects.heap.procs key) (kept.owners.named.counts key)
-        (kept.owners.named.named key (let used : InUse objects.heap.descs key = subst (λ (o : Option Desc). IsSome o) (sym is) (is_there desc) in used))
+        (kept.owners.named.named key (let used : InUse objects.heap.descs key = rw is refl in used))

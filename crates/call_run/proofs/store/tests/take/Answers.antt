@@ -1,4 +1,4 @@
-use Rattle.std.proofs.Common.{◌≡◌, subst, sym, arith}
+use Rattle.std.proofs.Common.{◌≡◌, true, subst, sym, arith}
 use Rattle.store_objects.specs.Standing.{StandsFor}
 use Rattle.store_objects.proofs.LiveIs.{live_is}
 use Rattle.call_run.proofs.store.tests.take.Goals as goal
@@ -12,4 +12,6 @@ turn-requires-clause-may g c =
     (world, at, (λ alive. c.requires.built), omega arith)
 
 pub turn-requires-clause-so_far : goal.turn-requires-clause-so_far
-turn-requires-clause-so_far g c = λ proc found up. c.is_so_far.ensures c.is_so_far.is-true proc found
+turn-requires-clause-so_far g c = λ proc found up.
+    let right : c.is_so_far.result ≡ true = cc in
+    c.is_so_far.ensures right proc found
