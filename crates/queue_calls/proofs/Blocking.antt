@@ -1,8 +1,7 @@
 -- A call with a wrong operand never blocks.
-use Rattle.std.proofs.Common.{◌≡◌, ◌&&◌, ℕ, ◌==◌, ℤ, Bool, true, false, cond, List, Option, None, Some, refl, ap, sym, ◌∙◌}
+use Rattle.std.proofs.Common.{◌≡◌, ◌&&◌, ℕ, ◌==◌, ℤ, Bool, true, false, cond, List, Option, None, Some, refl, sym}
 use Rattle.std.specs.Prelude.{◌||◌, is_none}
-use Rattle.kabi_calls.specs.Arguments.{argument_fault, invalid_unless, is_minus_one, is_number}
-use Rattle.kabi_calls.specs.declared.calls.Call.{Call}
+use Rattle.kabi_calls.specs.Arguments.{invalid_unless, is_minus_one, is_number}
 use Rattle.kabi_calls.specs.declared.calls.Call.TheVariants as call
 use Rattle.kabi_values.specs.declared.errnos.Errno.{Errno}
 use Rattle.kabi_values.specs.declared.short_lists.PollEntry.{PollEntry}

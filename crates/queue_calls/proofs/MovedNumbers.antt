@@ -1,10 +1,9 @@
 -- What numbers the operands of a call that moves bytes are.
-use Rattle.std.proofs.Common.{◌≡◌, ℕ, ◌≤◌, ◌&&◌, ℤ, pos, negsuc, Bool, true, false, Option, None, Some, refl, sym, subst, ◌∙◌, inl, inr}
+use Rattle.std.proofs.Common.{◌≡◌, ◌≤◌, ◌&&◌, ℤ, pos, negsuc, Bool, true, false, None, Some, refl, sym, subst, ◌∙◌, inl, inr}
 use Rattle.std.specs.Prelude.{nat_le}
 use Rattle.std.specs.Option.{option_or}
 use Rattle.std.proofs.lemmas.Bool.Decides.{leb_tells}
 use Rattle.kabi_calls.specs.Arguments.{count_of, invalid_unless, moved_fault, range_fault}
-use Rattle.kabi_values.specs.declared.errnos.Errno.{Errno}
 use Rattle.kabi_values.specs.declared.errnos.Errno.TheVariants.{EINVAL}
 
 -- what holds of three numbers holds of the same three

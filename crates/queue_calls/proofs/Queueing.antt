@@ -1,17 +1,15 @@
 -- The objects of a store after a call that changed queues and its caller's memory.
-use Rattle.std.proofs.Common.{◌≡◌, ℕ, List, Option, [], length, None, Some, is_some, unwrap_or, ap, sym, subst, ◌∙◌}
+use Rattle.std.proofs.Common.{◌≡◌, ℕ, List, Option, length, unwrap_or, ap, sym, subst, ◌∙◌}
 use Rattle.std.specs.List.{AllByRecursion}
 use Rattle.std.specs.Prelude.{IsSome}
 use Rattle.kabi_types.specs.declared.scripts.Control.{Control}
 use Rattle.kabi_types.specs.declared.scripts.Script.{Script}
-use Rattle.kheap_shelves.specs.declared.objects.Desc.{Desc}
 use Rattle.kheap_shelves.specs.declared.objects.Proc.{Proc}
 use Rattle.kheap_slabs.specs.Heap.{Heap}
 use Rattle.posix_defs.specs.Account.{Account}
 use Rattle.posix_defs.specs.ByPid.{at_pid}
 use Rattle.posix_defs.specs.Control.{settled}
 use Rattle.posix_defs.specs.Plain.{Plain, at_start}
-use Rattle.posix_defs.specs.Process.{is_alive}
 use Rattle.posix_defs.specs.Tree.{Tree, new_tree}
 use Rattle.posix_defs.specs.World.{World}
 use Rattle.proc_descs.specs.Having.{OpensNoNode}
@@ -27,7 +25,6 @@ use Rattle.store_objects.specs.Standing.{StandsFor}
 use Rattle.store_objects.proofs.ClassesOn.{caches_on}
 use Rattle.store_objects.proofs.Keeping.{listed_in}
 use Rattle.store_objects.proofs.OnPipes.{opens_no_socket}
-use Rattle.store_objects.proofs.RunningProcs.{alive_runs}
 use Rattle.store_objects.proofs.TreeStays.{OffNodes, off_by_heap}
 use Rattle.queue_calls.proofs.Remaining.{Remains}
 

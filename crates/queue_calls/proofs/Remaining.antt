@@ -4,7 +4,6 @@ use Rattle.std.specs.Prelude.{nat_le}
 use Rattle.std.specs.Option.{option_map}
 use Rattle.std.proofs.lemmas.Bool.Decides.{eqb_tells, leb_tells}
 use Rattle.kabi_calls.specs.Arguments.{count_of, is_minus_one}
-use Rattle.kabi_values.specs.declared.errnos.Errno.{Errno}
 use Rattle.kabi_values.specs.declared.errnos.Errno.TheVariants.{EAGAIN, EBADF, EFAULT, EISDIR, EPIPE}
 use Rattle.kabi_values.specs.declared.replies.Reply.{Reply}
 use Rattle.kabi_values.specs.declared.replies.Reply.TheVariants.{Fail, Polled, Val}
@@ -12,7 +11,7 @@ use Rattle.kabi_values.specs.declared.short_lists.PollEntry.{PollEntry}
 use Rattle.kabi_types.specs.declared.scripts.Script.{Script}
 use Rattle.kern_laws.specs.AtHome.{AllAtHome}
 use Rattle.kern_laws.proofs.Remembering.{found_before, remembers_family}
-use Rattle.posix_defs.specs.Answer.{Answer, Blocked, Done, Ended, Part, failed, replied}
+use Rattle.posix_defs.specs.Answer.{Answer, Blocked, Done, Ended, Part, replied}
 use Rattle.posix_defs.specs.Calls.Opened.{Opened, answer_on, if_readable, if_writable, opened_at, opened_by}
 use Rattle.posix_defs.specs.Calls.Polling.{hits_of, poll, revents_of}
 use Rattle.posix_defs.specs.Calls.Reading.{is_directory_target, of_bytes, put, read, read_from_pipe, read_target, unless_directory}

@@ -6,7 +6,7 @@ use Rattle.kabi_types.specs.declared.scripts.Script.{Script}
 use Rattle.kheap_slabs.specs.Heap.{Heap}
 use Rattle.place_laws.specs.Placed.{Numbers}
 use Rattle.posix_defs.specs.Account.{Account}
-use Rattle.posix_defs.specs.Answer.{Answer, Blocked, Part, replied}
+use Rattle.posix_defs.specs.Answer.{Answer, Part, replied}
 use Rattle.posix_defs.specs.Control.{after_part}
 use Rattle.posix_defs.specs.Plain.{Plain, answered, control_of, with_control}
 use Rattle.posix_defs.specs.Turn.{account_after, touched}
@@ -20,7 +20,7 @@ use Rattle.store_objects.proofs.Fronts.{settled_after}
 use Rattle.store_objects.proofs.Leading.{led_blocked}
 use Rattle.queue_calls.specs.Told.{behind_in, partly_in}
 use Rattle.queue_calls.proofs.Queueing.{LeavesRest, mid, queues_stand, stands_mid}
-use Rattle.queue_calls.proofs.Remaining.{Leaves, Remains}
+use Rattle.queue_calls.proofs.Remaining.{Leaves}
 
 -- What was told has been done: behind a call that is over its caller goes on, at a write of which a part was done it stays with
 -- that, and at one that would block it stays.

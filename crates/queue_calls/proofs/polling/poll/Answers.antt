@@ -1,4 +1,4 @@
-use Rattle.std.proofs.Common.{◌≡◌, refl, subst, sym, w64}
+use Rattle.std.proofs.Common.{refl, subst, sym, w64}
 use Rattle.std.proofs.lemmas.Int.{to_z-of_z}
 use Rattle.kabi_calls.specs.declared.calls.Call.TheVariants as call
 use Rattle.posix_defs.specs.Calls.Polling.{poll}

@@ -1,4 +1,4 @@
-use Rattle.std.proofs.Common.{◌≡◌, ◌∙◌, subst, sym, true, false, w64}
+use Rattle.std.proofs.Common.{◌≡◌, ◌∙◌, sym, w64}
 use Rattle.std.specs.Prelude.{is_none}
 use Rattle.std.proofs.lemmas.Int.{to_z-of_z}
 use Rattle.kabi_calls.specs.Arguments.{moved_fault}

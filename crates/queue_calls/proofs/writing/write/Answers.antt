@@ -93,12 +93,12 @@ leads : (script : Script) (old new : Objects) (heap : Heap) (pid : ℕ) (fd addr
     → Leads script numbers heap old.procs plain account pid (call.Write as_fd as_addr as_n done) (write script plain pid as_fd as_addr as_n done) told)
     → Follows script (record { heap = heap; procs = old.procs }) pid (λ moved. done + moved ≤ count_of n) told new
     → Performs script old pid (call.Write fd addr n done) (λ plain. write script plain pid fd addr n done) told new
-leads script old new heap pid fd addr n as_fd as_addr as_n done told first second third kept beside leads follows =
+leads script old new heap pid fd addr n as_fd as_addr as_n done told first second third kept beside each follows =
     performs script old heap kept (leaves_more old.heap heap beside) pid (call.Write fd addr n done) (λ moved. done + moved ≤ count_of n) new
     (λ plain. write script plain pid fd addr n done) told
     (λ numbers plain account stands.
     of_three (λ x y z. Leads script numbers heap old.procs plain account pid (call.Write x y z done) (write script plain pid x y z done) told) as_fd as_addr as_n fd addr n
-    first second third (leads numbers plain account stands))
+    first second third (each numbers plain account stands))
     (λ world stands. write_leaves (λ moved. done + moved ≤ count_of n) script world.plain pid (off_nodes script old world stands) stands.files.sockets fd addr n done (λ moved less. less))
     follows
 
