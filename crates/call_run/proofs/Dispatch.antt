@@ -1,10 +1,11 @@
 -- The dispatch over all calls.
-use Rattle.std.proofs.Common.{◌≡◌, ℕ, ℤ, true, List, Option, None, Some, refl, ap, sym, ◌∙◌, subst, w64}
+use Rattle.std.proofs.Common.{◌≡◌, ℕ, ℤ, true, false, List, Option, None, Some, refl, ap, sym, ◌∙◌, subst, w64}
 use Rattle.kabi_calls.specs.Call.{kind_of}
 use Rattle.kabi_calls.specs.declared.calls.Call.{Call}
 use Rattle.kabi_calls.specs.declared.calls.Call.TheVariants as call
 use mir.Val.{of_z, to_z}
 use Rattle.kabi_values.specs.declared.errnos.Errno.{Errno}
+use Rattle.kabi_values.specs.declared.short_lists.PollEntry.{PollEntry}
 use Rattle.kabi_types.specs.declared.scripts.Script.{Script}
 use Rattle.calls_built.specs.Built.{is_built}
 use Rattle.posix_defs.specs.Answer.{Answer, failed}
@@ -13,6 +14,7 @@ use Rattle.posix_defs.specs.Plain.{Plain}
 use Rattle.posix_defs.specs.declared.turner.Turned.{Turned}
 use Rattle.store_objects.specs.declared.objects.Objects.{Objects}
 use Rattle.store_objects.specs.Standing.{Performs}
+use Rattle.call_run.specs.Families.{HasDone, is_open, is_queued, is_refused, makes_memory}
 
 -- a wrong operand is told
 pub wrong_told : (script : Script) (plain : Plain) (pid : ℕ) (fault : Option Errno) (errno : Errno) (answer : Answer) → fault ≡ Some errno
@@ -44,20 +46,81 @@ does_two script old new pid which told of a b is one other does =
     does_that script old new pid which (of (to_z w64 (of_z w64 a)) (to_z w64 (of_z w64 b))) told
     (is ∙ ap (λ z. of z b) (sym one) ∙ ap (of (to_z w64 (of_z w64 a))) (sym other)) does
 
--- a call that can be run is one of these
-pub none_left : (which : Call) → is_built (kind_of which) ≡ true → (which ≡ call.Fork → ⊥) → ((a : ℤ) → which ≡ call.Mmap a → ⊥) → ((a : ℤ) (bytes : List ℕ) → which ≡ call.Store a bytes → ⊥)
+-- one with three
+pub does_three : (script : Script) (old new : Objects) (pid : ℕ) (which : Call) (told : Turned) (of : ℤ → ℤ → ℤ → Call) (a b c : ℤ) → which ≡ of a b c
+    → to_z w64 (of_z w64 a) ≡ a → to_z w64 (of_z w64 b) ≡ b → to_z w64 (of_z w64 c) ≡ c
+    → PerformsCall script old pid (of (to_z w64 (of_z w64 a)) (to_z w64 (of_z w64 b)) (to_z w64 (of_z w64 c))) told new → PerformsCall script old pid which told new
+does_three script old new pid which told of a b c is one other third does =
+    does_two script old new pid which told (λ x y. of x y c) a b is one other
+    (does_that script old new pid (of (to_z w64 (of_z w64 a)) (to_z w64 (of_z w64 b)) c) (of (to_z w64 (of_z w64 a)) (to_z w64 (of_z w64 b)) (to_z w64 (of_z w64 c))) told
+    (ap (of (to_z w64 (of_z w64 a)) (to_z w64 (of_z w64 b))) (sym third)) does)
+
+-- and one with four
+pub does_four : (script : Script) (old new : Objects) (pid : ℕ) (which : Call) (told : Turned) (of : ℤ → ℤ → ℤ → ℤ → Call) (a b c d : ℤ) → which ≡ of a b c d
+    → to_z w64 (of_z w64 a) ≡ a → to_z w64 (of_z w64 b) ≡ b → to_z w64 (of_z w64 c) ≡ c → to_z w64 (of_z w64 d) ≡ d
+    → PerformsCall script old pid (of (to_z w64 (of_z w64 a)) (to_z w64 (of_z w64 b)) (to_z w64 (of_z w64 c)) (to_z w64 (of_z w64 d))) told new
+    → PerformsCall script old pid which told new
+does_four script old new pid which told of a b c d is one other third fourth does =
+    does_two script old new pid which told (λ x y. of x y c d) a b is one other
+    (does_two script old new pid (of (to_z w64 (of_z w64 a)) (to_z w64 (of_z w64 b)) c d) told (of (to_z w64 (of_z w64 a)) (to_z w64 (of_z w64 b))) c d refl third fourth does)
+
+-- ---- which calls are left
+
+-- one that makes no object of a process or of its memory
+pub others_left : (which : Call) → (which ≡ call.Fork → ⊥) → ((a : ℤ) → which ≡ call.Mmap a → ⊥) → ((a : ℤ) (bytes : List ℕ) → which ≡ call.Store a bytes → ⊥)
+    → makes_memory (kind_of which) ≡ false
+others_left call.Fork f m s = absurd (f refl)
+others_left (call.Mmap length) f m s = absurd (m length refl)
+others_left (call.Store addr bytes) f m s = absurd (s addr bytes refl)
+others_left _ f m s = refl
+
+-- one that neither makes a pipe nor moves bytes
+pub queued_left : (which : Call) → (which ≡ call.Pipe → ⊥) → ((a b c : ℤ) → which ≡ call.Read a b c → ⊥) → ((a b c : ℤ) (done : ℕ) → which ≡ call.Write a b c done → ⊥)
+    → is_queued (kind_of which) ≡ false
+queued_left call.Pipe p r w = absurd (p refl)
+queued_left (call.Read fd addr n) p r w = absurd (r fd addr n refl)
+queued_left (call.Write fd addr n done) p r w = absurd (w fd addr n done refl)
+queued_left _ p r w = refl
+
+-- one that can be run, makes no object, and is none of these is on descriptors
+pub open_left : (which : Call) → is_built (kind_of which) ≡ true → makes_memory (kind_of which) ≡ false → is_queued (kind_of which) ≡ false
     → (which ≡ call.Getpid → ⊥) → (which ≡ call.Getppid → ⊥) → (which ≡ call.SchedYield → ⊥)
     → ((a : ℤ) → which ≡ call.Exit a → ⊥) → ((a b : ℤ) → which ≡ call.Waitpid a b → ⊥) → ((a b : ℤ) → which ≡ call.Kill a b → ⊥) → ((a b : ℤ) → which ≡ call.Munmap a b → ⊥)
-    → ((a b : ℤ) → which ≡ call.Load a b → ⊥) → ⊥
-none_left call.Fork built f m s p q y e w k u l = f refl
-none_left (call.Mmap length) built f m s p q y e w k u l = m length refl
-none_left (call.Store addr bytes) built f m s p q y e w k u l = s addr bytes refl
-none_left call.Getpid built f m s p q y e w k u l = p refl
-none_left call.Getppid built f m s p q y e w k u l = q refl
-none_left call.SchedYield built f m s p q y e w k u l = y refl
-none_left (call.Exit a) built f m s p q y e w k u l = e a refl
-none_left (call.Waitpid a b) built f m s p q y e w k u l = w a b refl
-none_left (call.Kill a b) built f m s p q y e w k u l = k a b refl
-none_left (call.Munmap a b) built f m s p q y e w k u l = u a b refl
-none_left (call.Load a b) built f m s p q y e w k u l = l a b refl
-none_left _ built f m s p q y e w k u l = cc
+    → ((a b : ℤ) → which ≡ call.Load a b → ⊥) → is_open (kind_of which) ≡ true
+open_left call.Getpid built other queued p q y e w k u l = absurd (p refl)
+open_left call.Getppid built other queued p q y e w k u l = absurd (q refl)
+open_left call.SchedYield built other queued p q y e w k u l = absurd (y refl)
+open_left (call.Exit a) built other queued p q y e w k u l = absurd (e a refl)
+open_left (call.Waitpid a b) built other queued p q y e w k u l = absurd (w a b refl)
+open_left (call.Kill a b) built other queued p q y e w k u l = absurd (k a b refl)
+open_left (call.Munmap a b) built other queued p q y e w k u l = absurd (u a b refl)
+open_left (call.Load a b) built other queued p q y e w k u l = absurd (l a b refl)
+open_left _ built other queued p q y e w k u l = cc
+
+-- one on descriptors that is none of these is refused by pipes
+pub refused_left : (which : Call) → is_open (kind_of which) ≡ true → ((a : ℤ) → which ≡ call.Close a → ⊥) → ((a : ℤ) → which ≡ call.Dup a → ⊥)
+    → ((a b : ℤ) → which ≡ call.Dup2 a b → ⊥) → ((a b c : ℤ) → which ≡ call.Fcntl a b c → ⊥) → ((a : ℤ) → which ≡ call.Fstat a → ⊥)
+    → ((a : ℤ) (entries : List PollEntry) → which ≡ call.Poll a entries → ⊥) → is_refused (kind_of which) ≡ true
+refused_left (call.Close a) among c d e f s p = absurd (c a refl)
+refused_left (call.Dup a) among c d e f s p = absurd (d a refl)
+refused_left (call.Dup2 a b) among c d e f s p = absurd (e a b refl)
+refused_left (call.Fcntl a b z) among c d e f s p = absurd (f a b z refl)
+refused_left (call.Fstat a) among c d e f s p = absurd (s a refl)
+refused_left (call.Poll a entries) among c d e f s p = absurd (p a entries refl)
+refused_left _ among c d e f s p = among
+
+-- and those are five
+pub none_left : (which : Call) → is_refused (kind_of which) ≡ true → ((a b c d : ℤ) → which ≡ call.Pread a b c d → ⊥) → ((a b c d : ℤ) → which ≡ call.Pwrite a b c d → ⊥)
+    → ((a b c : ℤ) → which ≡ call.Lseek a b c → ⊥) → ((a b c : ℤ) → which ≡ call.Readdir a b c → ⊥) → ((a b : ℤ) → which ≡ call.Ftruncate a b → ⊥) → ⊥
+none_left (call.Pread a b c d) refused r w l e t = r a b c d refl
+none_left (call.Pwrite a b c d) refused r w l e t = w a b c d refl
+none_left (call.Lseek a b c) refused r w l e t = l a b c refl
+none_left (call.Readdir a b c) refused r w l e t = e a b c refl
+none_left (call.Ftruncate a b) refused r w l e t = t a b refl
+none_left _ refused r w l e t = cc
+
+-- ---- what is done
+
+-- as much is moved before as the write says
+pub done_is : (which : Call) (fd addr n : ℤ) (done moved : ℕ) → which ≡ call.Write fd addr n done → HasDone which moved → moved ≡ done
+done_is which fd addr n done moved is has = subst (λ w. HasDone w moved) is has

@@ -8,3 +8,4 @@ pub mod Owning
 pub mod Weighing
 pub mod Choosing
 pub mod Killing
+pub mod Ends

@@ -1,26 +1,22 @@
 -- Which calls block.
-use Rattle.std.proofs.Common.{◌≡◌, ℕ, ◌==◌, ℤ, pos, negsuc, Bool, true, false, cond, length, Option, None, Some, refl, ap, sym, ◌∙◌}
+use Rattle.std.proofs.Common.{◌≡◌, ℕ, ℤ, Bool, true, false, Option, None, Some, refl, ap, sym, ◌∙◌, subst}
 use Rattle.std.specs.Prelude.{is_none}
-use Rattle.kabi_calls.specs.Arguments.{argument_fault, count_of}
-use Rattle.calls_built.specs.Built.{is_built}
+use Rattle.kabi_calls.specs.Arguments.{argument_fault}
 use Rattle.kabi_calls.specs.Call.{kind_of}
 use Rattle.kabi_calls.specs.declared.calls.Call.{Call}
-use Rattle.kabi_values.specs.declared.errnos.Errno.{Errno}
 use Rattle.kabi_calls.specs.declared.calls.Call.TheVariants as call
+use Rattle.kabi_values.specs.declared.errnos.Errno.{Errno}
 use Rattle.kabi_types.specs.declared.scripts.Script.{Script}
-use Rattle.posix_defs.specs.Memory.{is_mapped_range, lowest_run}
-use Rattle.posix_defs.specs.MemoryCalls.{mapped_from}
-use Rattle.posix_defs.specs.Answer.{Answer}
-use Rattle.posix_defs.specs.Forking.{is_full}
-use Rattle.posix_defs.specs.Killing.{is_asking, sent_to}
-use Rattle.posix_defs.specs.Machine.{answer_to, blocks, machine, unless_wrong}
-use Rattle.posix_defs.specs.Needs.{pages_in}
+use Rattle.answer_laws.specs.Shapes.{may_block}
+use Rattle.answer_laws.proofs.Blocking.{blocked_may}
+use Rattle.calls_built.specs.Built.{is_built}
+use Rattle.posix_defs.specs.Answer.{Answer, Blocked}
+use Rattle.posix_defs.specs.Machine.{blocks, machine, unless_wrong}
 use Rattle.posix_defs.specs.Plain.{Plain}
-use Rattle.posix_defs.specs.Process.{Process, memory_of, process_at, runs}
 use Rattle.posix_defs.specs.Waiting.{waitpid}
 use Rattle.prog_ctl.specs.Waits.{wait_of}
 use Rattle.prog_ctl.specs.declared.waits.Awaited.{Awaited}
-use Rattle.prog_ctl.specs.declared.waits.Awaited.TheVariants.{Child}
+use Rattle.prog_ctl.specs.declared.waits.Awaited.TheVariants.{Child, Bytes, Room, Peer, Events}
 
 -- whether a wait with right operands blocks
 pub blocks_as : (script : Script) (plain : Plain) (pid : ℕ) (which options : ℤ) → argument_fault (call.Waitpid which options) ≡ None
@@ -32,58 +28,61 @@ pub no_fault : (fault : Option Errno) → is_none fault ≡ true → fault ≡ N
 no_fault None e = refl
 no_fault (Some errno) e = cc
 
-waited_pid : Option Awaited → ℤ
-waited_pid (Some (Child child options)) = child
-waited_pid _ = pos 0
+-- ---- the call that waits
 
-waited_options : Option Awaited → ℤ
-waited_options (Some (Child child options)) = options
-waited_options _ = pos 0
+-- the call that waits for this
+abbrev pub waiting_call : Option Awaited → Call
+waiting_call None = call.SchedYield
+waiting_call (Some (Child pid options)) = call.Waitpid pid options
+waiting_call (Some (Bytes fd addr n)) = call.Read fd addr n
+waiting_call (Some (Room fd addr n done)) = call.Write fd addr n done
+waiting_call (Some (Peer fd)) = call.Accept fd
+waiting_call (Some (Events timeout entries)) = call.Poll timeout entries
 
--- a call that waits for a child is that wait
-pub is_wait : (which : Call) (child options : ℤ) → Some (Child child options) ≡ wait_of which → call.Waitpid child options ≡ which
-unfolding waited_pid waited_options
-is_wait (call.Waitpid a b) child options e = ap (λ o. call.Waitpid (waited_pid o) (waited_options o)) e
-is_wait _ child options e = cc
+pub is_waiting : (which : Call) (wait : Awaited) → Some wait ≡ wait_of which → waiting_call (Some wait) ≡ which
+is_waiting (call.Waitpid pid options) wait e = ap waiting_call e
+is_waiting (call.Read fd addr n) wait e = ap waiting_call e
+is_waiting (call.Write fd addr n done) wait e = ap waiting_call e
+is_waiting (call.Accept fd) wait e = ap waiting_call e
+is_waiting (call.Poll timeout entries) wait e = ap waiting_call e
+is_waiting _ wait e = cc
 
-abbrev pub waits_for_child : Option Awaited → Bool
-waits_for_child (Some (Child child options)) = true
-waits_for_child _ = false
+-- none that can be run waits for a peer
+pub no_peer : (which : Call) (fd : ℤ) → is_built (kind_of which) ≡ true → Some (Peer fd) ≡ wait_of which → ⊥
+no_peer which fd built e = never (subst (λ w. is_built (kind_of w) ≡ true) (sym (is_waiting which (Peer fd) e)) built)
+  where
+    never : false ≡ true → ⊥
+    never f = cc
 
-if_goes_on : (b : Bool) (one other : Answer) → blocks one ≡ false → blocks other ≡ false → blocks (cond b one other) ≡ false
-if_goes_on true one other first second = first
-if_goes_on false one other first second = second
+-- a call that waits for nothing never blocks
+waits_not : (which : Call) → None ≡ wait_of which → may_block which ≡ false
+waits_not (call.Waitpid pid options) e = cc
+waits_not (call.Read fd addr n) e = cc
+waits_not (call.Write fd addr n done) e = cc
+waits_not (call.Accept fd) e = cc
+waits_not (call.Poll timeout entries) e = cc
+waits_not _ e = refl
 
--- Of the calls that can be run a wait for a child alone blocks.
-module _ (script : Script) (plain : Plain) (pid : ℕ) where
-  sent_goes_on : (target : ℕ) (signal : ℤ) (there : Option Process) → blocks (sent_to script plain pid target signal there) ≡ false
-  sent_goes_on target signal None = refl
-  sent_goes_on target signal (Some process) =
-      if_goes_on (is_asking signal) _ _ refl (if_goes_on (target == 1) _ _ refl (if_goes_on (runs process.status) _ _ (if_goes_on (target == pid) _ _ refl refl) refl))
+pub goes_on : (script : Script) (plain : Plain) (pid : ℕ) (which : Call) → None ≡ wait_of which → blocks (machine script plain pid which) ≡ false
+goes_on script plain pid which none = go (machine script plain pid which) refl
+  where
+    both : {X : Type 0} → may_block which ≡ true → may_block which ≡ false → X
+    both e f = cc
 
-  mapped_goes_on : (count : ℕ) (first : Option ℕ) → blocks (mapped_from script plain pid count first) ≡ false
-  mapped_goes_on count None = refl
-  mapped_goes_on count (Some first) = refl
+    go : (answer : Answer) → machine script plain pid which ≡ answer → blocks answer ≡ false
+    go Blocked is = both (blocked_may script plain pid which is) (waits_not which none)
+    go _ is = refl
 
-  answer_goes_on : (which : Call) → is_built (kind_of which) ≡ true → waits_for_child (wait_of which) ≡ false → blocks (answer_to script plain pid which) ≡ false
-  answer_goes_on call.Getpid built other = refl
-  answer_goes_on call.Getppid built other = refl
-  answer_goes_on call.SchedYield built other = refl
-  answer_goes_on (call.Exit status) built other = refl
-  answer_goes_on (call.Munmap addr length) built other = refl
-  answer_goes_on call.Fork built other = if_goes_on (is_full plain) _ _ refl refl
-  answer_goes_on (call.Waitpid child options) built other = cc
-  answer_goes_on (call.Kill (pos target) signal) built other = sent_goes_on target signal (process_at plain.table target)
-  answer_goes_on (call.Kill (negsuc target) signal) built other = refl
-  answer_goes_on (call.Mmap length) built other = mapped_goes_on (pages_in (count_of length)) (lowest_run (memory_of plain.table pid) (pages_in (count_of length)))
-  answer_goes_on (call.Store addr bytes) built other = if_goes_on (is_mapped_range (memory_of plain.table pid) (count_of addr) (length bytes)) _ _ refl refl
-  answer_goes_on (call.Load addr n) built other = if_goes_on (is_mapped_range (memory_of plain.table pid) (count_of addr) (count_of n)) _ _ refl refl
-  answer_goes_on _ built other = cc
+-- ---- operands are handed on as numbers of 64 bits
 
-  unless_wrong_goes_on : (fault : Option Errno) (answer : Answer) → blocks answer ≡ false → blocks (unless_wrong script plain pid fault answer) ≡ false
-  unless_wrong_goes_on None answer goes = goes
-  unless_wrong_goes_on (Some errno) answer goes = refl
+module _ (script : Script) (plain : Plain) (pid : ℕ) (which : Call) (told : Bool) where
+  pub told_one : (of : ℤ → Call) (x a : ℤ) → x ≡ a → of a ≡ which → told ≡ blocks (machine script plain pid (of x)) → told ≡ blocks (machine script plain pid which)
+  told_one of x a e is said = said ∙ ap (λ w. blocks (machine script plain pid w)) (ap of e ∙ is)
 
-  pub goes_on : (which : Call) (wait : Option Awaited) → is_built (kind_of which) ≡ true → wait ≡ wait_of which → waits_for_child wait ≡ false → blocks (machine script plain pid which) ≡ false
-  goes_on which wait built is other =
-      unless_wrong_goes_on (argument_fault which) (answer_to script plain pid which) (answer_goes_on which built (ap waits_for_child (sym is) ∙ other))
+  pub told_two : (of : ℤ → ℤ → Call) (x y a b : ℤ) → x ≡ a → y ≡ b → of a b ≡ which → told ≡ blocks (machine script plain pid (of x y)) → told ≡ blocks (machine script plain pid which)
+  told_two of x y a b e f is said = said ∙ ap (λ w. blocks (machine script plain pid w)) (ap (λ v. of v y) e ∙ ap (of a) f ∙ is)
+
+  pub told_three : (of : ℤ → ℤ → ℤ → Call) (x y z a b c : ℤ) → x ≡ a → y ≡ b → z ≡ c → of a b c ≡ which → told ≡ blocks (machine script plain pid (of x y z))
+      → told ≡ blocks (machine script plain pid which)
+  told_three of x y z a b c e f g is said =
+      said ∙ ap (λ w. blocks (machine script plain pid w)) (ap (λ v. of v y z) e ∙ ap (λ v. of a v z) f ∙ ap (of a b) g ∙ is)

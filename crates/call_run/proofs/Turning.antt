@@ -1,9 +1,16 @@
 -- What a process does next.
-use Rattle.std.proofs.Common.{◌≡◌, ℕ, true, Option, None, Some, ap, sym, ◌∙◌}
+use Rattle.std.proofs.Common.{◌≡◌, ℕ, ℤ, true, List, Option, None, Some, map, refl, ap, sym, ◌∙◌, subst}
+use Rattle.kabi_calls.specs.declared.calls.Call.{Call}
+use Rattle.kabi_calls.specs.declared.calls.CallKind.{CallKind}
+use Rattle.kabi_calls.specs.declared.calls.CallKind.TheVariants as kind
+use Rattle.kabi_types.specs.declared.scripts.Control.{Control}
 use Rattle.kabi_types.specs.declared.scripts.Script.{Script}
+use Rattle.kabi_types.specs.declared.scripts.Statement.{Statement}
+use Rattle.kabi_types.specs.declared.scripts.Statement.TheVariants as statement
 use Rattle.kheap_shelves.specs.declared.objects.Proc.{Proc}
 use Rattle.posix_defs.specs.Control as program
-use Rattle.posix_defs.specs.Control.{call_at, statement_of}
+use Rattle.posix_defs.specs.Control.{call_at, settled, statement_of, value_of}
+use Rattle.posix_defs.specs.Made.{made}
 use Rattle.posix_defs.specs.Plain.{call_of}
 use Rattle.posix_defs.specs.Process.{is_alive}
 use Rattle.posix_defs.specs.World.{World}
@@ -15,6 +22,7 @@ use Rattle.store_objects.specs.Objects.{IsAtCall, procs_of}
 use Rattle.store_objects.specs.Standing.{StandsFor}
 use Rattle.store_objects.proofs.GoingOn.{some_same}
 use Rattle.store_objects.proofs.RunningProcs.{alive_runs}
+use Rattle.call_run.specs.Families.{HasDone}
 
 -- who is found isn't missing
 pub missing : (o : Option Proc) (proc : Proc) → o ≡ None → o ≡ Some proc → ⊥
@@ -39,3 +47,23 @@ next_is script objects world pid proc stands alive found =
     let leads = stands.processes.controls pid proc found (up script objects world pid proc stands alive found) in
     ap (λ here. call_at here (statement_of script here))
     (rests_settled script proc.control (up_at_call script objects world pid proc stands alive found).rests ∙ sym leads)
+
+-- ---- what is done of it
+
+made_done : (which : CallKind) (numbers : List ℤ) (texts : List (List ℕ)) (done : ℕ) → HasDone (made which numbers texts done) done
+made_done kind.Write numbers texts done = refl
+made_done _ numbers texts done = tt
+
+-- of a write as much as its control says
+at_done : (control : Control) (here : Option Statement) → HasDone (call_at control here) control.done
+at_done control None = tt
+at_done control (Some (statement.Invoke which operands texts first second)) = made_done which (map (value_of control) operands) texts control.done
+at_done control (Some _) = tt
+
+-- and so of the next call of a process that stands at it
+pub next_done : (script : Script) (objects : Objects) (world : World) (pid : ℕ) (proc : Proc) (which : Call) → StandsFor script objects world
+    → is_alive world.plain.table pid ≡ true → proc_of (procs_of objects) pid ≡ Some proc → which ≡ call_of script world.plain pid → HasDone which proc.control.done
+next_done script objects world pid proc which stands alive found is =
+    subst (λ w. HasDone w proc.control.done) (next_is script objects world pid proc stands alive found ∙ sym is)
+    (subst (λ (c : Control). HasDone (program.call_of script proc.control) c.done) (rests_settled script proc.control (up_at_call script objects world pid proc stands alive found).rests)
+    (at_done (settled script proc.control) (statement_of script (settled script proc.control))))

@@ -1,6 +1,6 @@
 //! A case for each call that can be run. A turn of each stands to the plain machine's definition of its call.
 
-ghost use Rattle.std.specs.Prelude.{◌≡◌, ◌≢◌, ◌+◌, ◌≤◌, ℤ, List, ℕ, None, option_copied, true};
+ghost use Rattle.std.specs.Prelude.{◌≡◌, ◌+◌, ◌≤◌, None, option_copied, false, true};
 ghost use Rattle.kabi_calls.specs.Arguments.{argument_fault};
 ghost use Rattle.kabi_calls.specs.Call.{kind_of};
 ghost use Rattle.kabi_calls.specs.declared.calls.Call.{Call};
@@ -9,21 +9,28 @@ ghost use Rattle.calls_built.specs.Built.{is_built};
 ghost use Rattle.kheap_slabs.specs.Heap.{live_bytes};
 ghost use Rattle.posix_defs.specs.Machine.{answer_to, blocks, machine};
 ghost use Rattle.posix_defs.specs.Needs.{bound, need_of, slack};
+ghost use Rattle.posix_defs.specs.Process.{is_alive};
 ghost use Rattle.posix_defs.specs.World.{World};
-ghost use Rattle.proc_table.specs.Table.{Holds};
 ghost use Rattle.prog_ctl.specs.Waits.{wait_of};
 ghost use Rattle.store_objects.specs.Objects.{AreKept, IsCaller};
 ghost use Rattle.store_objects.specs.Standing.{Performs, StandsFor};
 ghost use Rattle.store_objects.specs.Uses.{UsesAtMost};
+ghost use Rattle.call_run.specs.Families.{HasDone, is_open, is_queued, is_refused, makes_memory};
 
 use kabi_types::{Call, Need, Reply, Script, may_wait};
 use memory_calls::{load, mmap, munmap, store};
+use pipe_calls::{close, dup, dup2, fcntl, fstat, pipe};
 use posix_defs::Turned;
 use process_calls::{exit, fork, signal_process, wait, would_sleep};
 use prog_ctl::Awaited;
+use queue_calls::{
+    ftruncate, lseek, poll, poll_would_block, pread, pwrite, read, read_would_block, readdir,
+    write, write_would_block,
+};
 use store_objects::{Caller, Objects, Target, go_on, purse_for};
 
-/// Runs a call that makes objects, whose operands are right, and pays for them; all others go to `run_free`.
+/// Runs a call that makes objects of a process or of its memory, whose operands are right, and pays for them; all others go to
+/// `run_queued`.
 fn run_right(
     script: &Script,
     objects: &mut Objects,
@@ -31,10 +38,12 @@ fn run_right(
     call: &Call,
     need: Need,
 ) -> Turned
+    requires stands { (world : World) × StandsFor script.now objects.old world }
     requires kept { AreKept script.now objects.old }
     requires caller { IsCaller objects.old caller.now.pid caller.now }
     requires right { argument_fault call.now ≡ None }
     requires built { is_built (kind_of call.now) ≡ true }
+    requires so_far { HasDone call.now caller.now.control.done }
     requires needed { need ≡ need_of call.now }
     requires room { live_bytes objects.old.heap + bound call.now ≤ objects.old.heap.heap }
     ensures kept { AreKept script.now objects.new }
@@ -50,19 +59,58 @@ fn run_right(
         Call::Store { addr, bytes } => {
             store(script, objects, &mut purse, pid, control, *addr, bytes)
         }
+        _ => run_queued(script, objects, caller, call, need),
+    }
+}
+
+/// Runs a call that makes a pipe or moves bytes through one, whose operands are right, and pays for its objects; all others go
+/// to `run_free`.
+fn run_queued(
+    script: &Script,
+    objects: &mut Objects,
+    caller: &Caller,
+    call: &Call,
+    need: Need,
+) -> Turned
+    requires stands { (world : World) × StandsFor script.now objects.old world }
+    requires kept { AreKept script.now objects.old }
+    requires caller { IsCaller objects.old caller.now.pid caller.now }
+    requires right { argument_fault call.now ≡ None }
+    requires built { is_built (kind_of call.now) ≡ true }
+    requires other { makes_memory (kind_of call.now) ≡ false }
+    requires so_far { HasDone call.now caller.now.control.done }
+    requires needed { need ≡ need_of call.now }
+    requires room { live_bytes objects.old.heap + bound call.now ≤ objects.old.heap.heap }
+    ensures kept { AreKept script.now objects.new }
+    ensures uses { UsesAtMost objects.old.heap objects.new.heap (bound call.now) (slack call.now) }
+    ensures does { Performs script.now objects.old caller.now.pid call.now (λ plain. answer_to script.now plain caller.now.pid call.now) result objects.new }
+{
+    let pid = caller.pid;
+    let control = caller.control;
+    // All descriptions are open on pipes, so a write needs chunks and no blocks.
+    let mut purse = purse_for(need, Target::Queue);
+    match call {
+        Call::Pipe => pipe(script, objects, &mut purse, pid, control),
+        Call::Read { fd, addr, n } => {
+            read(script, objects, &mut purse, pid, control, *fd, *addr, *n)
+        }
+        Call::Write { fd, addr, n, done } => {
+            write(
+                script, objects, &mut purse, pid, control, *fd, *addr, *n, *done,
+            )
+        }
         _ => run_free(script, objects, caller, call),
     }
 }
 
-/// Runs a call that makes no object, whose operands are right.
+/// Runs a call on processes or memory that makes no object, whose operands are right; all others go to `run_open`.
 fn run_free(script: &Script, objects: &mut Objects, caller: &Caller, call: &Call) -> Turned
     requires kept { AreKept script.now objects.old }
     requires caller { IsCaller objects.old caller.now.pid caller.now }
     requires right { argument_fault call.now ≡ None }
     requires built { is_built (kind_of call.now) ≡ true }
-    requires not_fork { call.now ≢ Call.Fork }
-    requires not_mmap { (length : ℤ) → call.now ≢ Call.Mmap length }
-    requires not_store { (addr : ℤ) (bytes : List ℕ) → call.now ≢ Call.Store addr bytes }
+    requires other { makes_memory (kind_of call.now) ≡ false }
+    requires queued { is_queued (kind_of call.now) ≡ false }
     ensures kept { AreKept script.now objects.new }
     ensures uses { UsesAtMost objects.old.heap objects.new.heap 0 (slack call.now) }
     ensures does { Performs script.now objects.old caller.now.pid call.now (λ plain. answer_to script.now plain caller.now.pid call.now) result objects.new }
@@ -90,6 +138,55 @@ fn run_free(script: &Script, objects: &mut Objects, caller: &Caller, call: &Call
         } => signal_process(script, objects, pid, control, *target, *signal),
         Call::Munmap { addr, length } => munmap(script, objects, pid, control, *addr, *length),
         Call::Load { addr, n } => load(script, objects, pid, control, *addr, *n),
+        _ => run_open(script, objects, caller, call),
+    }
+}
+
+/// Runs a call on descriptors that makes no object, whose operands are right.
+fn run_open(script: &Script, objects: &mut Objects, caller: &Caller, call: &Call) -> Turned
+    requires kept { AreKept script.now objects.old }
+    requires caller { IsCaller objects.old caller.now.pid caller.now }
+    requires among { is_open (kind_of call.now) ≡ true }
+    ensures kept { AreKept script.now objects.new }
+    ensures uses { UsesAtMost objects.old.heap objects.new.heap 0 (slack call.now) }
+    ensures does { Performs script.now objects.old caller.now.pid call.now (λ plain. answer_to script.now plain caller.now.pid call.now) result objects.new }
+{
+    let pid = caller.pid;
+    let control = caller.control;
+    match call {
+        Call::Close { fd } => close(script, objects, pid, control, *fd),
+        Call::Dup { fd } => dup(script, objects, pid, control, *fd),
+        Call::Dup2 { fd, to } => dup2(script, objects, pid, control, *fd, *to),
+        Call::Fcntl { fd, cmd, arg } => fcntl(script, objects, pid, control, *fd, *cmd, *arg),
+        Call::Fstat { fd } => fstat(script, objects, pid, control, *fd),
+        Call::Poll { timeout, entries } => poll(script, objects, pid, control, *timeout, entries),
+        _ => run_refused(script, objects, caller, call),
+    }
+}
+
+/// Runs a call on descriptors that pipes refuse, whose operands are right.
+fn run_refused(script: &Script, objects: &mut Objects, caller: &Caller, call: &Call) -> Turned
+    requires kept { AreKept script.now objects.old }
+    requires caller { IsCaller objects.old caller.now.pid caller.now }
+    requires refused { is_refused (kind_of call.now) ≡ true }
+    ensures kept { AreKept script.now objects.new }
+    ensures uses { UsesAtMost objects.old.heap objects.new.heap 0 (slack call.now) }
+    ensures does { Performs script.now objects.old caller.now.pid call.now (λ plain. answer_to script.now plain caller.now.pid call.now) result objects.new }
+{
+    let pid = caller.pid;
+    let control = caller.control;
+    match call {
+        Call::Pread { fd, addr, n, at } => {
+            pread(script, objects, pid, control, *fd, *addr, *n, *at)
+        }
+        Call::Pwrite { fd, addr, n, at } => {
+            pwrite(script, objects, pid, control, *fd, *addr, *n, *at)
+        }
+        Call::Lseek { fd, offset, whence } => {
+            lseek(script, objects, pid, control, *fd, *offset, *whence)
+        }
+        Call::Readdir { fd, addr, n } => readdir(script, objects, pid, control, *fd, *addr, *n),
+        Call::Ftruncate { fd, length } => ftruncate(script, objects, pid, control, *fd, *length),
         // No script makes another call.
         _ => unreachable!(),
     }
@@ -104,9 +201,11 @@ pub fn run(
     call: &Call,
     need: Need,
 ) -> Turned
+    requires stands { (world : World) × StandsFor script.now objects.old world }
     requires kept { AreKept script.now objects.old }
     requires caller { IsCaller objects.old caller.now.pid caller.now }
     requires built { is_built (kind_of call.now) ≡ true }
+    requires so_far { HasDone call.now caller.now.control.done }
     requires needed { need ≡ need_of call.now }
     requires room { live_bytes objects.old.heap + bound call.now ≤ objects.old.heap.heap }
     ensures kept { AreKept script.now objects.new }
@@ -125,10 +224,10 @@ pub fn run(
     }
 }
 
-/// Whether a process's call that can be run would block now. Of the call it asks only for what that waits for: a call that waits
-/// for nothing never blocks, and none that can be run waits for anything but a child.
+/// Whether a live process's call that can be run would block now. Of the call it asks only for what that waits for: a call that
+/// waits for nothing never blocks, and none that can be run waits for a peer.
 pub fn would_block(objects: &Objects, pid: u32, wait: Option<&Awaited>) -> bool
-    requires { Holds objects.now.heap objects.now.procs }
+    requires { (script : Script) × (world : World) × StandsFor script objects.now world × (is_alive world.plain.table pid ≡ true) }
     ensures { (script : Script) (world : World) → StandsFor script objects.now world
         → (call : Call) → is_built (kind_of call) ≡ true → option_copied wait.entry ≡ wait_of call → result ≡ blocks (machine script world.plain pid call) }
 {
@@ -139,10 +238,14 @@ pub fn would_block(objects: &Objects, pid: u32, wait: Option<&Awaited>) -> bool
                 options,
             },
         ) => may_wait(*child, *options) && would_sleep(objects, pid, *child, *options),
-        Some(Awaited::Bytes { .. }) => false,
-        Some(Awaited::Room { .. }) => false,
+        Some(Awaited::Bytes { fd, addr, n }) => read_would_block(objects, pid, *fd, *addr, *n),
+        Some(Awaited::Room { fd, addr, n, done }) => {
+            write_would_block(objects, pid, *fd, *addr, *n, *done)
+        }
         Some(Awaited::Peer { .. }) => false,
-        Some(Awaited::Events { .. }) => false,
+        Some(Awaited::Events { timeout, entries }) => {
+            poll_would_block(objects, pid, *timeout, entries)
+        }
         None => false,
     }
 }

@@ -1,9 +1,10 @@
 //! Turns over a script and its objects, as the core asks for them.
 
-ghost use Rattle.std.specs.Prelude.{◌≡◌, ◌≢◌, ◌+◌, ◌%◌, ◌^◌, ◌≤◌, true, false};
+ghost use Rattle.std.specs.Prelude.{◌≡◌, ◌≢◌, ◌+◌, ◌%◌, ◌^◌, ◌≤◌, None, Some, true, false};
 ghost use Rattle.calls_built.specs.Built.{is_built};
 ghost use Rattle.kabi_calls.specs.Call.{kind_of};
 ghost use Rattle.kabi_types.specs.declared.scripts.Script.{Script};
+ghost use Rattle.kheap_shelves.specs.declared.objects.Proc.{Proc};
 ghost use Rattle.posix_defs.specs.Needs.{bound, need_of, slack};
 ghost use Rattle.posix_defs.specs.Plain.{call_of};
 ghost use Rattle.posix_defs.specs.Process.{is_alive};
@@ -11,9 +12,11 @@ ghost use Rattle.posix_defs.specs.Relief.{Kills, refused_in};
 ghost use Rattle.posix_defs.specs.Sizes.{reserve};
 ghost use Rattle.posix_defs.specs.Turn.{TurnsTo};
 ghost use Rattle.posix_defs.specs.World.{World, live_of};
+ghost use Rattle.proc_table.specs.Procs.{proc_of};
 ghost use Rattle.prog_ctl.specs.Waits.{wait_of};
-ghost use Rattle.store_objects.specs.Objects.{AreKept};
+ghost use Rattle.store_objects.specs.Objects.{AreKept, procs_of};
 ghost use Rattle.store_objects.specs.Standing.{StandsFor};
+ghost use Rattle.call_run.specs.Families.{HasDone};
 
 use crate::calls;
 use kabi_types::{Call, Errno, Need, Reply, Script};
@@ -45,10 +48,12 @@ pub fn waits_for(script: &Script, objects: &Objects, pid: u32) -> Option<Awaited
     prog_ctl::wait_here(script, &proc.control)
 }
 
-/// A turn of a process's call, which is one that can be run where the process is alive; `Gone` where it has ended.
+/// A turn of a process's call, which is one that can be run where the process is alive, and says how much of it is done; `Gone`
+/// where the process has ended.
 pub fn turn(script: &Script, objects: &mut Objects, pid: u32, call: &Call, need: Need) -> Turned
     requires kept { AreKept script.now objects.old }
     requires needed { need ≡ need_of call.now }
+    requires so_far { (proc : Proc) → proc_of (procs_of objects.old) pid ≡ Some proc → proc.status ≡ None → HasDone call.now proc.control.done }
     requires may { (world : World) × StandsFor script.now objects.old world
         × (is_alive world.plain.table pid ≡ true → is_built (kind_of call.now) ≡ true)
         × (live_of world + bound call.now + reserve ≤ script.now.heap) }

@@ -21,6 +21,20 @@ is_built kind.Mmap = true
 is_built kind.Munmap = true
 is_built kind.Store = true
 is_built kind.Load = true
+is_built kind.Pipe = true
+is_built kind.Close = true
+is_built kind.Dup = true
+is_built kind.Dup2 = true
+is_built kind.Fcntl = true
+is_built kind.Fstat = true
+is_built kind.Read = true
+is_built kind.Write = true
+is_built kind.Poll = true
+is_built kind.Pread = true
+is_built kind.Pwrite = true
+is_built kind.Lseek = true
+is_built kind.Readdir = true
+is_built kind.Ftruncate = true
 is_built _ = false
 
 -- a statement makes no call but one that can be run

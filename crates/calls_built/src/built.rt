@@ -21,7 +21,21 @@ pub fn is_built(kind: CallKind) -> bool
         | CallKind::Mmap
         | CallKind::Munmap
         | CallKind::Store
-        | CallKind::Load => true,
+        | CallKind::Load
+        | CallKind::Pipe
+        | CallKind::Close
+        | CallKind::Dup
+        | CallKind::Dup2
+        | CallKind::Fcntl
+        | CallKind::Fstat
+        | CallKind::Read
+        | CallKind::Write
+        | CallKind::Poll
+        | CallKind::Pread
+        | CallKind::Pwrite
+        | CallKind::Lseek
+        | CallKind::Readdir
+        | CallKind::Ftruncate => true,
         _ => false,
     }
 }

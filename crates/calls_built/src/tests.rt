@@ -47,7 +47,7 @@ fn script(alloc: Global, first: CallKind, second: CallKind) -> Result<Script, Fa
     })
 }
 
-/// The calls of processes and of memory.
+/// The calls of processes, of memory, and on pipes.
 const BUILT: &[CallKind] = &[
     CallKind::Getpid,
     CallKind::Getppid,
@@ -60,15 +60,29 @@ const BUILT: &[CallKind] = &[
     CallKind::Munmap,
     CallKind::Store,
     CallKind::Load,
+    CallKind::Pipe,
+    CallKind::Close,
+    CallKind::Dup,
+    CallKind::Dup2,
+    CallKind::Fcntl,
+    CallKind::Fstat,
+    CallKind::Read,
+    CallKind::Write,
+    CallKind::Poll,
+    CallKind::Pread,
+    CallKind::Pwrite,
+    CallKind::Lseek,
+    CallKind::Readdir,
+    CallKind::Ftruncate,
 ];
 
 #[test]
-fn eleven_of_the_calls_can_be_run(rt: HostRuntime) {
+fn twenty_five_of_the_calls_can_be_run(rt: HostRuntime) {
     for kind in BUILT {
         assert!(rt; is_built(*kind), "{kind:?}");
     }
     let count = CallKind::ALL.iter().filter(|kind| is_built(**kind)).count();
-    assert!(rt; count == 11);
+    assert!(rt; count == 25);
 }
 
 #[test]
@@ -84,6 +98,7 @@ fn scripts_of_such_calls_can_be_run(rt: HostRuntime) -> Result<(), Fail> {
     };
     assert!(rt; can_run(&none));
     assert!(rt; can_run(&script(alloc, CallKind::Getpid, CallKind::Fork)?));
+    assert!(rt; can_run(&script(alloc, CallKind::Pipe, CallKind::Poll)?));
     Ok(())
 }
 
@@ -92,6 +107,6 @@ fn one_call_of_any_program_is_enough(rt: HostRuntime) -> Result<(), Fail> {
     let alloc = rt.alloc();
     assert!(rt; !can_run(&script(alloc, CallKind::Socket, CallKind::Fork)?));
     assert!(rt; !can_run(&script(alloc, CallKind::Fork, CallKind::Exec)?));
-    assert!(rt; !can_run(&script(alloc, CallKind::Pipe, CallKind::Poll)?));
+    assert!(rt; !can_run(&script(alloc, CallKind::Pipe, CallKind::OpenFile)?));
     Ok(())
 }

@@ -262,6 +262,7 @@ module _ (script : Script) (old mid moved : Objects) (pid child : ℕ) (control 
         };
         settled = settled_on files (with_heir files pid) account next refl refl pipes sockets have.settled;
         tree = have.tree;
+        sockets = have.sockets;
       }
 
   -- the objects stand for the world with the child

@@ -318,6 +318,7 @@ boot_opens script objects control booted = record {
   };
   settled = record { pipes = refl; sockets = refl };
   tree = refl;
+  sockets = λ place description number is on. nothing_at place description is;
 }
   where
     opened : AreOpen boot_numbers objects.heap [] (boot_files script.disk)

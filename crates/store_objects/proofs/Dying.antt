@@ -124,6 +124,7 @@ module _ (script : Script) (old : Objects) (world : World) (stands : StandsFor s
           before.opened.opened.socketed (closes.opened before.numbers before.opened).opened.socketed;
       settled = settled_after plain (die plain pid status) world.account;
       tree = stays.tree ∙ before.tree ∙ ap (λ (t : Tree). new_tree t.blocks) (sym stays.tree);
+      sockets = stays.sockets before.sockets;
     };
     caches = stands.caches;
     reads = stands.reads;

@@ -11,7 +11,7 @@ use Rattle.kabi_types.specs.declared.scripts.Script.{Script}
 use Rattle.kheap_shelves.specs.declared.objects.Proc.{Proc}
 use Rattle.posix_defs.specs.ByPid.{at_pid, with_pid}
 use Rattle.posix_defs.specs.Control.{after, settled}
-use Rattle.posix_defs.specs.Plain.{Plain, answered, at_start, control_of, last_pid}
+use Rattle.posix_defs.specs.Plain.{Plain, at_start, control_of, last_pid, with_control}
 use Rattle.posix_defs.specs.Files.State.{Files}
 use Rattle.posix_defs.specs.World.{World}
 use Rattle.prog_ctl.specs.Runnable.{Rests, Stands}
@@ -137,18 +137,18 @@ descriptors_moved script old new pid control files kept moves at rests number ha
     (have_turned old.heap new.heap old.procs pid moves.key moves.proc (record moves.proc { control = control }) number files kept.holds moves.turns
     (by_procs number (procs_of old) old.procs.last files (rising_in script old kept) have)))
 
--- The objects stand for the world in which it goes on behind its call: its control is the new one, those of all others are what
--- they were.
-pub goes_on : (script : Script) (old new : Objects) (world : World) (pid : ℕ) (reply : Reply) (control : Control) → StandsFor script old world
-    → MovesOn old pid control new → Stands script control → Rests script control → settled script (after script (control_of world.plain pid) reply) ≡ control
-    → StandsFor script new (answered_in script world pid reply)
-goes_on script old new world pid reply control stands moves at rests leads = record {
+-- The objects stand for the world in which its control is another, which leads to the new one; those of all others are what they
+-- were.
+pub goes_to : (script : Script) (old new : Objects) (world : World) (pid : ℕ) (then control : Control) → StandsFor script old world
+    → MovesOn old pid control new → Stands script control → Rests script control → settled script then ≡ control
+    → StandsFor script new (record world { plain = with_control world.plain pid then })
+goes_to script old new world pid then control stands moves at rests leads = record {
   runs = stands.runs;
   kept = kept_moved script old new pid control stands.kept moves at rests;
   processes = record {
     table = subst (λ k. IsTable new.heap k world.plain.table) (sym moves.same)
         (on-table old.heap new.heap old.procs pid moves.key moves.proc now stands.kept.holds moves.turns world.plain.table refl stands.processes.table);
-    last = ap (λ k. k.last) moves.same ∙ stands.processes.last ∙ sym (length-with world.plain.controls pid (after script (control_of world.plain pid) reply));
+    last = ap (λ k. k.last) moves.same ∙ stands.processes.last ∙ sym (length-with world.plain.controls pid then);
     controls = controls;
   };
   memory = subst (λ k. HasAccount new.heap k world.account.frames) (sym moves.same)
@@ -171,21 +171,28 @@ goes_on script old new world pid reply control stands moves at rests leads = rec
     own = proc_has_pid (procs_of old) pid moves.proc moves.found
 
     controls : (q : ℕ) (it : Proc) → proc_of (procs_of new) q ≡ Some it → it.status ≡ None
-        → settled script (control_of (answered script world.plain pid reply) q) ≡ it.control
+        → settled script (control_of (with_control world.plain pid then) q) ≡ it.control
     controls q it found runs =
         let was = mapped_from (replaced pid now) (proc_of (procs_of old) q) it
         (sym (replaced_at (procs_of old) pid now q own) ∙ ap (λ procs. proc_of procs q) (sym (procs_then script old new pid control stands.kept moves)) ∙ found) in
         let old_pid : was.0.pid ≡ q = proc_has_pid (procs_of old) q was.0 was.1 in
         elim (eqb_tells q pid) [
           | inl same ↦
-              ap (λ n. settled script (control_of (answered script world.plain pid reply) n)) same.1
-              ∙ ap (settled script) (at_itself world.plain.controls pid (after script (control_of world.plain pid) reply) (at_start 0) made.0 made.1)
+              ap (λ n. settled script (control_of (with_control world.plain pid then) n)) same.1
+              ∙ ap (settled script) (at_itself world.plain.controls pid then (at_start 0) made.0 made.1)
               ∙ leads ∙ sym (ap (λ p. p.control) (was.2 ∙ ap (λ b. cond b now was.0) (ap (λ n. n == pid) (old_pid ∙ same.1) ∙ refl_test pid)))
           | inr apart ↦
               let same : it ≡ was.0 = was.2 ∙ ap (λ b. cond b now was.0) (ap (λ n. n == pid) old_pid ∙ apart.0) in
-              ap (settled script) (at_another world.plain.controls pid q (after script (control_of world.plain pid) reply) (at_start 0) apart.1)
+              ap (settled script) (at_another world.plain.controls pid q then (at_start 0) apart.1)
               ∙ stands.processes.controls q was.0 was.1 (sym (ap (λ p. p.status) same) ∙ runs) ∙ sym (ap (λ p. p.control) same)
         ]
+
+-- and so the world in which it goes on behind its call
+pub goes_on : (script : Script) (old new : Objects) (world : World) (pid : ℕ) (reply : Reply) (control : Control) → StandsFor script old world
+    → MovesOn old pid control new → Stands script control → Rests script control → settled script (after script (control_of world.plain pid) reply) ≡ control
+    → StandsFor script new (answered_in script world pid reply)
+goes_on script old new world pid reply control stands moves at rests leads =
+    goes_to script old new world pid (after script (control_of world.plain pid) reply) control stands moves at rests leads
 
 -- who runs at a call stands there
 pub at_its_call : (script : Script) (objects : Objects) (pid : ℕ) (control : Control) → AreKept script objects → Runs objects pid control

@@ -4,6 +4,7 @@ pub mod PlacedSums
 pub mod SocketPlaces
 pub mod Fronts
 pub mod TreeStays
+pub mod OnPipes
 pub mod Pinned
 pub mod PidSums
 pub mod LiveIs

@@ -9,7 +9,7 @@ const TOLD: &[(&str, u32)] = &[
     ("program init\nr1 = socket\nend\n", 2),
     (
         "# socket\nheap 8192\n\nprogram init\nfork\n  r1 r2 = pipe\nsocket\nend\n",
-        6,
+        7,
     ),
     (
         "program init\nend\nprogram other\nlabel socket\nopen \"a\" O_RDONLY\nend\n",

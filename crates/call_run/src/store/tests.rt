@@ -1,13 +1,18 @@
 //! Stores by hand, with the heap's bytes at each step.
 
-ghost use Rattle.std.specs.Prelude.{◌≤◌, ◌≡◌, IfOk, true};
+ghost use Rattle.std.specs.Prelude.{◌≤◌, ◌≡◌, IfOk, Some, true};
 ghost use Rattle.calls_built.specs.Built.{can_run, is_built};
 ghost use Rattle.kabi_calls.specs.Call.{kind_of};
 ghost use Rattle.kabi_types.specs.declared.scripts.Policy.TheVariants.{Heaviest, Youngest};
+ghost use Rattle.kheap_shelves.specs.declared.objects.Proc.{Proc};
 ghost use Rattle.posix_defs.specs.ValidScript.{IsValid};
 ghost use Rattle.posix_defs.specs.Victim.{score_of};
 ghost use Rattle.posix_defs.specs.World.{World};
+ghost use Rattle.proc_table.specs.Procs.{proc_of};
+ghost use Rattle.proc_table.specs.Table.{AreStored};
+ghost use Rattle.store_objects.specs.Objects.{procs_of};
 ghost use Rattle.store_objects.specs.Standing.{StandsFor};
+ghost use Rattle.call_run.specs.Families.{HasDone};
 
 use super::Store;
 use crate::calls::would_block;
@@ -21,6 +26,7 @@ use prog_ctl::Awaited;
 use std::alloc::Global;
 use std::process::Abort;
 use std::test::Fail;
+use store_objects::Objects;
 use victim_core::{Score, Scorer};
 
 /// A script whose first process only ends.
@@ -56,6 +62,11 @@ enum Ask {
     Munmap(i64, i64),
     Store(i64, &'static [u8]),
     Load(i64, i64),
+    Pipe,
+    Close(i64),
+    /// A number, an address, and how many bytes.
+    Read(i64, i64, i64),
+    Write(i64, i64, i64),
 }
 
 /// The call.
@@ -82,12 +93,27 @@ fn call_of(ask: &Ask) -> Call
             Bytes64::of(bytes).map_or(Call::SchedYield, |bytes| Call::Store { addr: *addr, bytes })
         }
         Ask::Load(addr, n) => Call::Load { addr: *addr, n: *n },
+        Ask::Pipe => Call::Pipe,
+        Ask::Close(fd) => Call::Close { fd: *fd },
+        Ask::Read(fd, addr, n) => Call::Read {
+            fd: *fd,
+            addr: *addr,
+            n: *n,
+        },
+        Ask::Write(fd, addr, n) => Call::Write {
+            fd: *fd,
+            addr: *addr,
+            n: *n,
+            done: 0,
+        },
     }
 }
 
 /// What a turn tells, as the rows write it.
 enum Told {
     Val(i64),
+    /// The read end of a pipe, and its write end.
+    Pair(u32, u32),
     Fails(Errno),
     /// A child, and its wait status.
     Child(u32, u16),
@@ -101,6 +127,9 @@ enum Told {
 fn tells(turned: &Turned, told: &Told) -> bool {
     match (turned, told) {
         (Turned::Done(Reply::Val(value)), Told::Val(wanted)) => value == wanted,
+        (Turned::Done(Reply::Pair(reading, writing)), Told::Pair(first, second)) => {
+            reading == first && writing == second
+        }
         (Turned::Done(Reply::Fail(errno)), Told::Fails(wanted)) => errno == wanted,
         (Turned::Done(Reply::Waited(pid, status)), Told::Child(child, ended)) => {
             pid == child && status == ended
@@ -111,6 +140,17 @@ fn tells(turned: &Turned, told: &Told) -> bool {
         (Turned::Sleep, Told::Sleeps) => true,
         (Turned::Gone, Told::Gone) => true,
         _ => false,
+    }
+}
+
+/// Whether a call says how much of it is done: of all calls a write alone does.
+fn is_so_far(objects: &Objects, pid: u32, call: &Call) -> bool
+    requires { AreStored objects.now.heap.procs objects.now.procs.listed }
+    ensures { result ≡ true → (proc : Proc) → proc_of (procs_of objects.now) pid ≡ Some proc → HasDone call.now proc.control.done }
+{
+    match (objects.proc(pid), call) {
+        (Some(proc), Call::Write { done, .. }) => proc.control.done == *done,
+        _ => true,
     }
 }
 
@@ -128,6 +168,7 @@ fn take<F: Scorer, G: Scorer>(
     let heap = store.objects.heap.heap();
     let live = store.objects.heap.live();
     assert!(rt; need_table::bound(call) + 2176 <= heap - live);
+    assert!(rt; is_so_far(&store.objects, pid, call));
     turn(
         &store.script,
         &mut store.objects,
@@ -187,6 +228,20 @@ const KILLS: &[Row] = &[
     (1, Ask::Wait(2, 0), Told::Child(2, 9), 640),
 ];
 
+/// A chunk goes with its last byte, a pipe with its last end.
+const QUEUES: &[Row] = &[
+    (1, Ask::Mmap(8192), Told::Val(4096), 1152),
+    (1, Ask::Pipe, Told::Pair(0, 1), 1408),
+    (1, Ask::Write(1, 4096, 513), Told::Val(513), 2560),
+    (1, Ask::Read(0, 8192, 512), Told::Val(512), 6080),
+    (1, Ask::Read(0, 8192, 512), Told::Val(1), 5504),
+    (1, Ask::Read(0, 8192, 512), Told::Sleeps, 5504),
+    (1, Ask::Close(1), Told::Val(0), 5440),
+    (1, Ask::Read(0, 8192, 512), Told::Val(0), 5440),
+    (1, Ask::Close(0), Told::Val(0), 5248),
+    (1, Ask::Close(0), Told::Fails(Errno::EBADF), 5248),
+];
+
 /// What is tried with a store at boot.
 enum Trial {
     Turns(&'static [Row]),
@@ -195,6 +250,7 @@ enum Trial {
     AtBoot,
     Refusal,
     Blocking,
+    Closing,
     Heights,
 }
 
@@ -223,7 +279,8 @@ fn try_with<F: Scorer, G: Scorer>(
         Trial::YoungestGoes => youngest_goes(rt, &mut store),
         Trial::AtBoot => is_at_boot(rt, &mut store),
         Trial::Refusal => refuses(rt, &mut store),
-        Trial::Blocking => only_a_wait_blocks(rt, &mut store),
+        Trial::Blocking => only_what_waits_blocks(rt, &mut store),
+        Trial::Closing => closes_in_all_orders(rt, &mut store),
         Trial::Heights => high_begins(rt, &mut store),
     }
     drop(store);
@@ -255,10 +312,11 @@ fn try_it(
 }
 
 #[test]
-fn calls_of_processes_and_memory(rt: HostRuntime) -> Result<(), Fail> {
+fn calls_of_processes_memory_and_pipes(rt: HostRuntime) -> Result<(), Fail> {
     try_it(&rt, 65536, Policy::Heaviest, &Trial::Turns(WHOLE))?;
     try_it(&rt, 65536, Policy::Heaviest, &Trial::Turns(SHARED))?;
-    try_it(&rt, 65536, Policy::Heaviest, &Trial::Turns(KILLS))
+    try_it(&rt, 65536, Policy::Heaviest, &Trial::Turns(KILLS))?;
+    try_it(&rt, 65536, Policy::Heaviest, &Trial::Turns(QUEUES))
 }
 
 /// The bytes lie on two pages that aren't mapped; the bound of the store is all the room that there is.
@@ -359,43 +417,73 @@ fn a_refused_call_is_over(rt: HostRuntime) -> Result<(), Fail> {
 /// The first process has a child that lives.
 const PARENT: &[Row] = &[(1, Ask::Fork, Told::Val(2), 1152)];
 
+/// Whether a call of a process that waits for this would block; a process that has ended makes none.
+fn would_wait<F: Scorer, G: Scorer>(store: &Store<F, G>, pid: u32, wait: Option<&Awaited>) -> bool
+    requires { (world : World) × StandsFor store.now.script store.now.objects world }
+{
+    store.alive(pid) && would_block(&store.objects, pid, wait)
+}
+
 /// Whether a wait of the first process for a child would block.
 fn waits<F: Scorer, G: Scorer>(store: &Store<F, G>, child: i64, options: i64) -> bool
     requires { (world : World) × StandsFor store.now.script store.now.objects world }
 {
-    would_block(
-        &store.objects,
-        1,
-        Some(&Awaited::Child {
-            pid: child,
-            options,
-        }),
-    )
+    let wait = Awaited::Child {
+        pid: child,
+        options,
+    };
+    would_wait(store, 1, Some(&wait))
 }
 
-fn only_a_wait_blocks<F: Scorer, G: Scorer>(rt: &impl Abort, store: &mut Store<F, G>)
-    requires { (world : World) × StandsFor store.old.script store.old.objects world }
+/// Whether a read of the first process would, of one byte from the first number that it has open.
+fn reads<F: Scorer, G: Scorer>(store: &Store<F, G>) -> bool
+    requires { (world : World) × StandsFor store.now.script store.now.objects world }
 {
-    go_through(rt, store, PARENT);
-    assert!(rt; waits(store, -1, 0) && !waits(store, -1, 1) && !waits(store, 0, 0));
-    let child = Awaited::Child {
-        pid: -1,
-        options: 0,
-    };
-    let read = Awaited::Bytes {
+    let bytes = Awaited::Bytes {
         fd: 0,
         addr: 4096,
         n: 1,
     };
-    assert!(rt; !would_block(&store.objects, 2, Some(&child)));
-    assert!(rt;
-        !would_block(&store.objects, 1, Some(&read)) && !would_block(&store.objects, 1, None)
-    );
+    would_wait(store, 1, Some(&bytes))
+}
+
+/// Whether its write of so many bytes to the second would.
+fn writes<F: Scorer, G: Scorer>(store: &Store<F, G>, n: i64) -> bool
+    requires { (world : World) × StandsFor store.now.script store.now.objects world }
+{
+    let room = Awaited::Room {
+        fd: 1,
+        addr: 4096,
+        n,
+        done: 0,
+    };
+    would_wait(store, 1, Some(&room))
+}
+
+/// A pipe with two pages, which are zero, to write from.
+const OPENED: &[Row] = &[
+    (1, Ask::Mmap(8192), Told::Val(4096), 1664),
+    (1, Ask::Pipe, Told::Pair(0, 1), 1920),
+];
+
+/// So many bytes are in it that 512 more don't fit.
+const FILLED: &[Row] = &[(1, Ask::Write(1, 4096, 3585), Told::Val(3585), 6528)];
+
+fn only_what_waits_blocks<F: Scorer, G: Scorer>(rt: &impl Abort, store: &mut Store<F, G>)
+    requires { (world : World) × StandsFor store.old.script store.old.objects world }
+{
+    go_through(rt, store, PARENT);
+    assert!(rt; waits(store, -1, 0) && !waits(store, -1, 1) && !waits(store, 0, 0));
+    assert!(rt; !reads(store) && !would_wait(store, 1, None));
+    go_through(rt, store, OPENED);
+    assert!(rt; reads(store) && !writes(store, 4097));
+    go_through(rt, store, FILLED);
+    assert!(rt; !reads(store) && writes(store, 512) && !writes(store, 513));
 }
 
 #[test]
-fn only_a_wait_would_block(rt: HostRuntime) -> Result<(), Fail> {
-    try_it(&rt, 8192, Policy::Heaviest, &Trial::Blocking)
+fn only_what_waits_would_block(rt: HostRuntime) -> Result<(), Fail> {
+    try_it(&rt, 65536, Policy::Heaviest, &Trial::Blocking)
 }
 
 /// The heap grows, shrinks, and stays as it is.
@@ -423,4 +511,98 @@ fn high_begins<F: Scorer, G: Scorer>(rt: &impl Abort, store: &mut Store<F, G>)
 #[test]
 fn high_begins_with_each_turn(rt: HostRuntime) -> Result<(), Fail> {
     try_it(&rt, 8192, Policy::Heaviest, &Trial::Heights)
+}
+
+/// Two chunks are in a pipe of the first process, who has a page beside.
+const SENT: &[Row] = &[
+    (1, Ask::Pipe, Told::Pair(0, 1), 1408),
+    (1, Ask::Write(1, 4096, 600), Told::Val(600), 2560),
+];
+
+const MAPPED: &[Row] = &[(1, Ask::Mmap(4096), Told::Val(4096), 1152)];
+
+/// In which order the first process closes its read end (r) and its write end (w), and its child its own (R and W).
+const ORDERS: &[&[u8]] = &[
+    b"rwRW", b"rwWR", b"rRwW", b"rRWw", b"rWwR", b"rWRw", b"wrRW", b"wrWR", b"wRrW", b"wRWr",
+    b"wWrR", b"wWRr", b"RrwW", b"RrWw", b"RwrW", b"RwWr", b"RWrw", b"RWwr", b"WrwR", b"WrRw",
+    b"WwrR", b"WwRr", b"WRrw", b"WRwr",
+];
+
+/// The bytes in use where so many numbers name each end: beside two processes with a node each, a Desc for an end that is open,
+/// the Pipe while one is, and its two chunks while somebody can read.
+fn live_with(readers: u32, writers: u32) -> u64 {
+    let read = if readers > 0 { 64 + 1152 } else { 0 };
+    let write = if writers > 0 { 64 } else { 0 };
+    let pipe = if readers > 0 || writers > 0 { 128 } else { 0 };
+    2176 + read + write + pipe
+}
+
+/// One of the four ends is closed, of which so many are open then.
+fn closes<F: Scorer, G: Scorer>(
+    rt: &impl Abort,
+    store: &mut Store<F, G>,
+    child: u32,
+    end: u8,
+    readers: &mut u32,
+    writers: &mut u32,
+)
+    requires { (world : World) × StandsFor store.old.script store.old.objects world }
+    ensures { (world : World) × StandsFor store.new.script store.new.objects world }
+{
+    let pid = if matches!(end, b'r' | b'w') { 1 } else { child };
+    let reads = matches!(end, b'r' | b'R');
+    let turned = take(
+        rt,
+        store,
+        pid,
+        &Call::Close {
+            fd: if reads { 0 } else { 1 },
+        },
+    );
+    if reads {
+        *readers = readers.saturating_sub(1);
+    } else {
+        *writers = writers.saturating_sub(1);
+    }
+    assert!(rt; tells(&turned, &Told::Val(0)) && store.live() == live_with(*readers, *writers));
+}
+
+/// All four are closed in this order; nothing of the pipe is left.
+fn closes_in<F: Scorer, G: Scorer>(rt: &impl Abort, store: &mut Store<F, G>, order: &[u8])
+    requires { (world : World) × StandsFor store.old.script store.old.objects world }
+    ensures { (world : World) × StandsFor store.new.script store.new.objects world }
+{
+    go_through(rt, store, SENT);
+    let _ = take(rt, store, 1, &Call::Fork);
+    let child = store.last_pid();
+    let mut readers = 2;
+    let mut writers = 2;
+    for end in order {
+        closes(rt, store, child, *end, &mut readers, &mut writers);
+    }
+    let _ = take(rt, store, child, &Call::Exit { status: 0 });
+    let _ = take(
+        rt,
+        store,
+        1,
+        &Call::Waitpid {
+            pid: -1,
+            options: 0,
+        },
+    );
+    assert!(rt; store.live() == 1152);
+}
+
+fn closes_in_all_orders<F: Scorer, G: Scorer>(rt: &impl Abort, store: &mut Store<F, G>)
+    requires { (world : World) × StandsFor store.old.script store.old.objects world }
+{
+    go_through(rt, store, MAPPED);
+    for order in ORDERS {
+        closes_in(rt, store, order);
+    }
+}
+
+#[test]
+fn a_pipe_goes_with_its_last_end(rt: HostRuntime) -> Result<(), Fail> {
+    try_it(&rt, 65536, Policy::Heaviest, &Trial::Closing)
 }

@@ -7,7 +7,7 @@ use Rattle.posix_defs.specs.Process.{parent_of}
 use Rattle.store_objects.specs.Uses.{UsesAtMost}
 use Rattle.store_objects.proofs.Paying.{uses_nothing}
 use Rattle.store_objects.proofs.Replies.{does_tell, parent_is}
-use Rattle.call_run.proofs.Dispatch.{does_one, does_that, does_two, none_left}
+use Rattle.call_run.proofs.Dispatch.{does_one, does_that, does_two, open_left}
 use Rattle.call_run.proofs.calls.run_free.Goals as goal
 
 pub returns-in-Getpid-clause-does : goal.returns-in-Getpid-clause-does
@@ -66,9 +66,9 @@ returns-in-Load-clause-does c =
     does_two c.args.script.now c.args.objects.now c.load.new.objects c.args.caller.now.pid c.args.call.now c.load.result call.Load c.in-Load.addr c.in-Load.n c.in-Load.is
     (search (rules, to_z-of_z)) (search (rules, to_z-of_z)) c.load.ensures.does
 
-pub unreachable-requires : goal.unreachable-requires
-unreachable-requires c =
-    none_left c.args.call.now c.requires.built c.requires.not_fork c.requires.not_mmap c.requires.not_store
+pub run_open-requires-clause-among : goal.run_open-requires-clause-among
+run_open-requires-clause-among c =
+    open_left c.args.call.now c.requires.built c.requires.other c.requires.queued
     c.in_default.not-Getpid c.in_default.not-Getppid c.in_default.not-SchedYield
     c.in_default.not-Exit c.in_default.not-Waitpid c.in_default.not-Kill c.in_default.not-Munmap c.in_default.not-Load
 

@@ -6,8 +6,8 @@ use Rattle.kabi_calls.specs.declared.calls.Call.TheVariants as call
 use Rattle.kabi_values.specs.declared.classes.Need.{Need}
 use Rattle.posix_defs.specs.Needs.{bound, nodes_for, pages_in, pages_touched}
 use Rattle.store_objects.specs.declared.purses.Target.TheVariants.{File}
-use Rattle.store_objects.proofs.Paying.{can_pay, left_is, uses_more, uses_paid}
-use Rattle.call_run.proofs.Dispatch.{does_one, does_that}
+use Rattle.store_objects.proofs.Paying.{can_pay, left_is, uses_paid}
+use Rattle.call_run.proofs.Dispatch.{does_one, does_that, others_left}
 use Rattle.call_run.proofs.calls.run_right.Goals as goal
 
 pub fork-requires-clause-room : goal.fork-requires-clause-room
@@ -76,5 +76,5 @@ returns-in-Store-clause-does c =
     does_one c.args.script.now c.args.objects.now c.store.new.objects c.args.caller.now.pid c.args.call.now c.store.result (λ z. call.Store z c.in-Store.bytes) c.in-Store.addr c.in-Store.is
     (search (rules, to_z-of_z)) c.store.ensures.does
 
-pub returns-in_default-clause-uses : goal.returns-in_default-clause-uses
-returns-in_default-clause-uses c = uses_more c.args.objects.now.heap c.run_free.new.objects.heap _ _ c.run_free.ensures.uses
+pub run_queued-requires-clause-other : goal.run_queued-requires-clause-other
+run_queued-requires-clause-other c = others_left c.args.call.now c.in_default.not-Fork c.in_default.not-Mmap c.in_default.not-Store

@@ -1,45 +1,54 @@
-use Rattle.std.proofs.Common.{◌≡◌, ◌∙◌, ap, option_copied, sym, w64, false, rules, Some}
+use Rattle.std.proofs.Common.{◌≡◌, ◌∙◌, ap, option_copied, sym, w64, rules, Some}
 use Rattle.std.proofs.lemmas.Int.{to_z-of_z}
 use mir.Val.{of_z, to_z}
-use Rattle.kabi_calls.specs.declared.calls.Call.TheVariants.{Waitpid}
-use Rattle.posix_defs.specs.Machine.{blocks, machine}
-use Rattle.prog_ctl.specs.declared.waits.Awaited.TheVariants.{Child}
-use Rattle.call_run.proofs.Sleeping.{blocks_as, goes_on, is_wait, no_fault, waits_for_child}
+use Rattle.kabi_calls.specs.declared.calls.Call.TheVariants.{Poll, Read, Waitpid, Write}
+use Rattle.prog_ctl.specs.declared.waits.Awaited.TheVariants.{Bytes, Child, Events, Peer, Room}
+use Rattle.call_run.proofs.Sleeping.{blocks_as, goes_on, is_waiting, no_fault, no_peer, told_one, told_three, told_two}
 use Rattle.call_run.proofs.calls.would_block.Goals as goal
+
+pub would_sleep-requires : goal.would_sleep-requires
+would_sleep-requires c = let some = c.requires in some.2.kept.holds
 
 pub returns-then-may_wait : goal.returns-then-may_wait
 returns-then-may_wait c = λ script world stands call built e.
     let child : to_z w64 (of_z w64 c.in-Some-Child.child) ≡ c.in-Some-Child.child = search (rules, to_z-of_z) in
     let options : to_z w64 (of_z w64 c.in-Some-Child.options) ≡ c.in-Some-Child.options = search (rules, to_z-of_z) in
     let seen : option_copied c.args.wait ≡ Some (Child c.in-Some-Child.child c.in-Some-Child.options) = search rules in
-    let it = is_wait call c.in-Some-Child.child c.in-Some-Child.options (sym seen ∙ e) in
+    let it = is_waiting call (Child c.in-Some-Child.child c.in-Some-Child.options) (sym seen ∙ e) in
     let none = no_fault _ (sym c.may_wait.ensures.checked ∙ c.if-may_wait.true) in
-    c.would_sleep.ensures script world stands
-    ∙ sym (blocks_as script world.plain c.args.pid (to_z w64 (of_z w64 c.in-Some-Child.child)) (to_z w64 (of_z w64 c.in-Some-Child.options)) none)
-    ∙ ap (λ z. blocks (machine script world.plain c.args.pid (Waitpid z (to_z w64 (of_z w64 c.in-Some-Child.options))))) child
-    ∙ ap (λ z. blocks (machine script world.plain c.args.pid (Waitpid c.in-Some-Child.child z))) options
-    ∙ ap (λ z. blocks (machine script world.plain c.args.pid z)) it
+    told_two script world.plain c.args.pid call c.would_sleep.result Waitpid _ _ c.in-Some-Child.child c.in-Some-Child.options child options it
+    (c.would_sleep.ensures script world stands ∙ sym (blocks_as script world.plain c.args.pid (to_z w64 (of_z w64 c.in-Some-Child.child)) (to_z w64 (of_z w64 c.in-Some-Child.options)) none))
 
 pub returns-in-Some-Bytes : goal.returns-in-Some-Bytes
 returns-in-Some-Bytes c = λ script world stands call built e.
-    let other : waits_for_child (option_copied c.args.wait) ≡ false = search rules in
-    sym (goes_on script world.plain c.args.pid call (option_copied c.args.wait) built e other)
+    let fd : to_z w64 (of_z w64 c.in-Some-Bytes.fd) ≡ c.in-Some-Bytes.fd = search (rules, to_z-of_z) in
+    let addr : to_z w64 (of_z w64 c.in-Some-Bytes.addr) ≡ c.in-Some-Bytes.addr = search (rules, to_z-of_z) in
+    let n : to_z w64 (of_z w64 c.in-Some-Bytes.n) ≡ c.in-Some-Bytes.n = search (rules, to_z-of_z) in
+    let seen : option_copied c.args.wait ≡ Some (Bytes c.in-Some-Bytes.fd c.in-Some-Bytes.addr c.in-Some-Bytes.n) = search rules in
+    told_three script world.plain c.args.pid call c.read_would_block.result Read _ _ _ c.in-Some-Bytes.fd c.in-Some-Bytes.addr c.in-Some-Bytes.n fd addr n
+    (is_waiting call (Bytes c.in-Some-Bytes.fd c.in-Some-Bytes.addr c.in-Some-Bytes.n) (sym seen ∙ e)) (c.read_would_block.ensures script world stands)
 
 pub returns-in-Some-Room : goal.returns-in-Some-Room
 returns-in-Some-Room c = λ script world stands call built e.
-    let other : waits_for_child (option_copied c.args.wait) ≡ false = search rules in
-    sym (goes_on script world.plain c.args.pid call (option_copied c.args.wait) built e other)
+    let fd : to_z w64 (of_z w64 c.in-Some-Room.fd) ≡ c.in-Some-Room.fd = search (rules, to_z-of_z) in
+    let addr : to_z w64 (of_z w64 c.in-Some-Room.addr) ≡ c.in-Some-Room.addr = search (rules, to_z-of_z) in
+    let n : to_z w64 (of_z w64 c.in-Some-Room.n) ≡ c.in-Some-Room.n = search (rules, to_z-of_z) in
+    let seen : option_copied c.args.wait ≡ Some (Room c.in-Some-Room.fd c.in-Some-Room.addr c.in-Some-Room.n c.in-Some-Room.done) = search rules in
+    told_three script world.plain c.args.pid call c.write_would_block.result (λ x y z. Write x y z c.in-Some-Room.done) _ _ _ c.in-Some-Room.fd c.in-Some-Room.addr c.in-Some-Room.n fd addr n
+    (is_waiting call (Room c.in-Some-Room.fd c.in-Some-Room.addr c.in-Some-Room.n c.in-Some-Room.done) (sym seen ∙ e)) (c.write_would_block.ensures script world stands)
 
 pub returns-in-Some-Peer : goal.returns-in-Some-Peer
 returns-in-Some-Peer c = λ script world stands call built e.
-    let other : waits_for_child (option_copied c.args.wait) ≡ false = search rules in
-    sym (goes_on script world.plain c.args.pid call (option_copied c.args.wait) built e other)
+    let seen : option_copied c.args.wait ≡ Some (Peer c.in-Some-Peer.fd) = search rules in
+    absurd (no_peer call c.in-Some-Peer.fd built (sym seen ∙ e))
 
 pub returns-in-Some-Events : goal.returns-in-Some-Events
 returns-in-Some-Events c = λ script world stands call built e.
-    let other : waits_for_child (option_copied c.args.wait) ≡ false = search rules in
-    sym (goes_on script world.plain c.args.pid call (option_copied c.args.wait) built e other)
+    let timeout : to_z w64 (of_z w64 c.in-Some-Events.timeout) ≡ c.in-Some-Events.timeout = search (rules, to_z-of_z) in
+    let seen : option_copied c.args.wait ≡ Some (Events c.in-Some-Events.timeout c.in-Some-Events.entries) = search rules in
+    told_one script world.plain c.args.pid call c.poll_would_block.result (λ x. Poll x c.in-Some-Events.entries) _ c.in-Some-Events.timeout timeout
+    (is_waiting call (Events c.in-Some-Events.timeout c.in-Some-Events.entries) (sym seen ∙ e)) (c.poll_would_block.ensures script world stands)
 
 pub returns-in-None : goal.returns-in-None
 returns-in-None c = λ script world stands call built e.
-    sym (goes_on script world.plain c.args.pid call (option_copied c.args.wait) built e (ap (λ wait. waits_for_child (option_copied wait)) c.in-None.is))
+    sym (goes_on script world.plain c.args.pid call (ap option_copied (sym c.in-None.is) ∙ e))

@@ -1,9 +1,12 @@
-use Rattle.std.proofs.Common.{◌≡◌, ◌+◌, ◌≤◌, ◌∙◌, max, ℕ, ap, le_refl, subst, arith}
+use Rattle.std.proofs.Common.{◌≡◌, ◌+◌, ◌≤◌, ◌∙◌, max, ℕ, Some, ap, le_refl, subst, sym, arith}
+use Rattle.kabi_types.specs.declared.scripts.Control.{Control}
 use Rattle.kheap_slabs.specs.Heap.{Heap, live_bytes}
 use Rattle.posix_defs.specs.Machine.{machine}
 use Rattle.posix_defs.specs.Needs.{bound, slack}
 use Rattle.posix_defs.specs.Sizes.{reserve}
 use Rattle.posix_defs.specs.World.{live_of}
+use Rattle.proc_table.specs.Procs.{proc_of}
+use Rattle.proc_table.specs.Table.{processes}
 use Rattle.store_objects.specs.declared.objects.Objects.{Objects}
 use Rattle.store_objects.specs.Objects.{IsCaller}
 use Rattle.store_objects.specs.Standing.{Performs, StandsFor}
@@ -11,6 +14,7 @@ use Rattle.store_objects.proofs.Callers.{caller_of, caller_running}
 use Rattle.store_objects.proofs.LiveIs.{live_is}
 use Rattle.store_objects.proofs.Marking.{kept_marked, since_mark, stands_marked}
 use Rattle.store_objects.proofs.RunningProcs.{alive_is}
+use Rattle.call_run.specs.Families.{HasDone}
 use Rattle.call_run.proofs.Worlds.{gone_on, turns_on}
 use Rattle.call_run.proofs.turns.turn.Goals as goal
 
@@ -27,6 +31,17 @@ run-turned-requires-clause-built c =
     let marked : Objects = record { heap = c.mark.new.self; procs = c.args.objects.now.procs } in
     let stands : StandsFor c.args.script.now marked world = rw c.mark.ensures (stands_marked c.args.script.now c.args.objects.now _ _ world may.1) in
     may.2 (alive_is c.args.script.now marked world.plain c.args.pid stands.processes ∙ caller_running marked c.args.pid c.in-Some.caller c.in-Some.ensures.some)
+
+pub run-turned-requires-clause-stands : goal.run-turned-requires-clause-stands
+run-turned-requires-clause-stands c =
+    let may = c.requires.may in
+    (may.0, rw c.mark.ensures (stands_marked c.args.script.now c.args.objects.now _ _ may.0 may.1))
+
+pub run-turned-requires-clause-so_far : goal.run-turned-requires-clause-so_far
+run-turned-requires-clause-so_far c =
+    let caller : IsCaller (record { heap = c.mark.new.self; procs = c.args.objects.now.procs }) c.args.pid c.in-Some.caller = c.in-Some.ensures.some in
+    subst (λ (control : Control). HasDone c.args.call.now control.done) (sym caller.control)
+    (c.requires.so_far caller.proc (subst (λ (h : Heap). proc_of (processes h c.args.objects.now.procs) c.args.pid ≡ Some caller.proc) c.mark.ensures caller.found) caller.up)
 
 -- the heap has room for the call
 fits : (live bytes spare size marked marked_size of script : ℕ) → of + bytes + spare ≤ script → live ≡ of → size ≡ script → marked ≡ live → marked_size ≡ size → marked + bytes ≤ marked_size

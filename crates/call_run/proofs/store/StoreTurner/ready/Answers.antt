@@ -12,3 +12,7 @@ returns g c = λ world stands alive.
     (next_built c.self.inside.script world.plain c.args.pid at.runs)
     (c.as_ref.ensures.value ∙ c.waits_for-wait.ensures world at alive))
     ∙ ap (λ store. not (would_block store.script world.plain c.args.pid)) c.self.view_is
+
+pub would_block-requires : goal.would_block-requires
+would_block-requires g c =
+    let some = c.requires in (c.self.inside.script, some.0, subst (λ store. StandsFor store.script store.objects some.0) (sym c.self.view_is) some.1, some.2)

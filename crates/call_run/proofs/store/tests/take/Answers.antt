@@ -1,4 +1,4 @@
-use Rattle.std.proofs.Common.{◌≡◌, subst, sym, arith}
+use Rattle.std.proofs.Common.{◌≡◌, true, subst, sym, arith}
 use Rattle.store_objects.specs.Standing.{StandsFor}
 use Rattle.store_objects.proofs.LiveIs.{live_is}
 use Rattle.call_run.proofs.store.tests.take.Goals as goal
@@ -10,3 +10,8 @@ turn-requires-clause-may g c =
     let live = live_is c.store.inside.script c.store.inside.objects world at c.heap-heap.ensures.well_formed in
     let size : c.store.inside.objects.heap.heap ≡ c.store.inside.script.heap = c.store.invariant.size in
     (world, at, (λ alive. c.requires.built), omega arith)
+
+pub turn-requires-clause-so_far : goal.turn-requires-clause-so_far
+turn-requires-clause-so_far g c = λ proc found up.
+    let right : c.is_so_far.result ≡ true = cc in
+    c.is_so_far.ensures right proc found

@@ -1,0 +1,5 @@
+pub mod MovedNumbers
+pub mod Remaining
+pub mod Queueing
+pub mod Telling
+pub mod Blocking

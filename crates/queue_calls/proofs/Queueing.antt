@@ -1,0 +1,143 @@
+-- The objects of a store after a call that changed queues and its caller's memory.
+use Rattle.std.proofs.Common.{◌≡◌, ℕ, List, Option, length, unwrap_or, ap, sym, subst, ◌∙◌}
+use Rattle.std.specs.List.{AllByRecursion}
+use Rattle.std.specs.Prelude.{IsSome}
+use Rattle.kabi_types.specs.declared.scripts.Control.{Control}
+use Rattle.kabi_types.specs.declared.scripts.Script.{Script}
+use Rattle.kheap_shelves.specs.declared.objects.Proc.{Proc}
+use Rattle.kheap_slabs.specs.Heap.{Heap}
+use Rattle.posix_defs.specs.Account.{Account}
+use Rattle.posix_defs.specs.ByPid.{at_pid}
+use Rattle.posix_defs.specs.Control.{settled}
+use Rattle.posix_defs.specs.Plain.{Plain, at_start}
+use Rattle.posix_defs.specs.Tree.{Tree, new_tree}
+use Rattle.posix_defs.specs.World.{World}
+use Rattle.proc_descs.specs.Having.{OpensNoNode}
+use Rattle.proc_queues.specs.Found.{OpensPipes}
+use Rattle.proc_queues.specs.Standing.{IsKept, StandsFor as QueuesStandFor}
+use Rattle.proc_queues.proofs.Finding.{alive_listed}
+use Rattle.proc_table.specs.Procs.{IsAlive, proc_of}
+use Rattle.proc_table.specs.Table.{key_of, procs_at}
+use Rattle.store_objects.specs.declared.objects.Objects.{Objects}
+use Rattle.store_objects.specs.Files.{AreSettled, OffSockets}
+use Rattle.store_objects.specs.Objects.{AreAtCalls, AreKept, Runs, procs_of}
+use Rattle.store_objects.specs.Standing.{StandsFor}
+use Rattle.store_objects.proofs.ClassesOn.{caches_on}
+use Rattle.store_objects.proofs.Keeping.{listed_in}
+use Rattle.store_objects.proofs.OnPipes.{opens_no_socket}
+use Rattle.store_objects.proofs.TreeStays.{OffNodes, off_by_heap}
+use Rattle.queue_calls.proofs.Remaining.{Remains}
+
+-- ---- what calls ask
+
+-- processes and what is open are kept
+pub is_kept : (script : Script) (objects : Objects) → AreKept script objects → IsKept objects.heap objects.procs
+is_kept script objects kept = record { holds = kept.holds; listed = listed_in script objects kept; owners = kept.owners }
+
+-- who runs is alive, and has a key
+pub runs_alive : (objects : Objects) (pid : ℕ) (control : Control) → Runs objects pid control → IsAlive (procs_of objects) pid
+runs_alive objects pid control runs = record { proc = runs.proc; there = runs.found; runs = runs.up }
+
+pub has_key : (script : Script) (objects : Objects) (pid : ℕ) → AreKept script objects → IsAlive (procs_of objects) pid → IsSome (key_of objects.procs.listed pid)
+has_key script objects pid kept alive = alive_listed objects.heap objects.procs pid kept.holds.stored alive
+
+-- what is open is open on pipes
+pub opens_pipes : (script : Script) (objects : Objects) (world : World) → StandsFor script objects world → OpensPipes objects.heap.descs
+opens_pipes script objects world stands = record { nodes = stands.kept.nodes; sockets = opens_no_socket script objects world stands }
+
+pub off_nodes : (script : Script) (objects : Objects) (world : World) → StandsFor script objects world → OffNodes world.plain.files.descriptions
+off_nodes script objects world stands =
+    off_by_heap stands.files.numbers objects.heap stands.files.opened.list world.plain.files stands.files.opened.opened stands.kept.nodes
+
+-- they stand for the machine, by the store's numbers
+pub queues_stand : (script : Script) (objects : Objects) (world : World) → (stands : StandsFor script objects world)
+    → QueuesStandFor stands.files.numbers objects.heap objects.procs world.plain world.account
+queues_stand script objects world stands = record {
+  table = stands.processes.table;
+  opened = stands.files.opened;
+  frames = stands.memory;
+  fronts = stands.files.fronts;
+}
+
+-- ---- what they leave
+
+-- A heap but for nodes, pages, pipes, chunks, and how high it was.
+pub record LeavesRest (old new : Heap) : Type 0 where
+  pub procs : new.procs ≡ old.procs
+  pub descs : new.descs ≡ old.descs
+  pub vnodes : new.vnodes ≡ old.vnodes
+  pub names : new.names ≡ old.names
+  pub blocks : new.blocks ≡ old.blocks
+  pub size : new.heap ≡ old.heap
+
+pub leaves_rest : (old new : Heap) → new ≡ record old { nodes = new.nodes; pages = new.pages; pipes = new.pipes; chunks = new.chunks; high = new.high } → LeavesRest old new
+leaves_rest old new beside = record {
+  procs = ap (λ (h : Heap). h.procs) beside;
+  descs = ap (λ (h : Heap). h.descs) beside;
+  vnodes = ap (λ (h : Heap). h.vnodes) beside;
+  names = ap (λ (h : Heap). h.names) beside;
+  blocks = ap (λ (h : Heap). h.blocks) beside;
+  size = ap (λ (h : Heap). h.heap) beside;
+}
+
+pub leaves_more : (old new : Heap) → new ≡ record old { pipes = new.pipes; chunks = new.chunks; high = new.high } → LeavesRest old new
+leaves_more old new beside = record {
+  procs = ap (λ (h : Heap). h.procs) beside;
+  descs = ap (λ (h : Heap). h.descs) beside;
+  vnodes = ap (λ (h : Heap). h.vnodes) beside;
+  names = ap (λ (h : Heap). h.names) beside;
+  blocks = ap (λ (h : Heap). h.blocks) beside;
+  size = ap (λ (h : Heap). h.heap) beside;
+}
+
+module _ (script : Script) (old : Objects) (new : Heap) (is : IsKept new old.procs) (rest : LeavesRest old.heap new) where
+  abbrev pub mid : Objects
+  mid = record { heap = new; procs = old.procs }
+
+  -- the objects are kept
+  pub kept_mid : AreKept script old → AreKept script mid
+  kept_mid kept = record {
+    holds = is.holds;
+    all = is.listed.all;
+    owners = is.owners;
+    groups = subst (λ (procs : List (Option Proc)). AllByRecursion (λ proc. length proc.nodes ≡ 4) (procs_at procs old.procs.listed)) (sym rest.procs) kept.groups;
+    calls = subst (λ (procs : List (Option Proc)). AreAtCalls script (procs_at procs old.procs.listed)) (sym rest.procs) kept.calls;
+    nodes = subst OpensNoNode (sym rest.descs) kept.nodes;
+    caches = caches_on old.heap new script.disk rest.vnodes rest.names rest.blocks kept.caches;
+    size = rest.size ∙ kept.size;
+  }
+
+  -- who ran runs
+  pub runs_mid : (pid : ℕ) (control : Control) → Runs old pid control → Runs mid pid control
+  runs_mid pid control runs =
+      subst (λ (procs : List (Option Proc)). Runs (record mid { heap = record new { procs = procs } }) pid control) (sym rest.procs)
+      (record { proc = runs.proc; found = runs.found; up = runs.up; at_call = runs.at_call })
+
+  -- The objects stand for the world with another machine and its account, where heap and table stand for these.
+  pub stands_mid : (world : World) → (stands : StandsFor script old world) → (next : Plain) (account : Account)
+      → QueuesStandFor stands.files.numbers new old.procs next account → next.controls ≡ world.plain.controls → Remains world.plain next
+      → AreSettled next.files account → StandsFor script mid (record world { plain = next; account = account })
+  stands_mid world stands next account leads controls remains settles = record {
+    runs = stands.runs;
+    kept = kept_mid stands.kept;
+    processes = record {
+      table = leads.table;
+      last = stands.processes.last ∙ sym (ap (λ (list : List Control). length list) controls);
+      controls = λ pid proc found up.
+          ap (λ (list : List Control). settled script (unwrap_or (at_pid list pid) (at_start 0))) controls
+          ∙ stands.processes.controls pid proc (sym (ap (λ (procs : List (Option Proc)). proc_of (procs_at procs old.procs.listed) pid) rest.procs) ∙ found) up;
+    };
+    memory = leads.frames;
+    files = record {
+      numbers = stands.files.numbers;
+      opened = leads.opened;
+      fronts = leads.fronts;
+      settled = settles;
+      tree = remains.tree ∙ stands.files.tree ∙ ap (λ (tree : Tree). new_tree tree.blocks) (sym remains.tree);
+      sockets = subst OffSockets (sym remains.descriptions) stands.files.sockets;
+    };
+    caches = stands.caches;
+    reads = stands.reads;
+    family = remains.family stands.family;
+    home = remains.home stands.home;
+  }

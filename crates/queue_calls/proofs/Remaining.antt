@@ -1,0 +1,219 @@
+-- What an answer of a call that goes by what is open leaves of the machine, where nothing is open on a node or a socket.
+use Rattle.std.proofs.Common.{◌≡◌, ℕ, ◌+◌, ◌-◌, ◌≤◌, ◌==◌, ◌&&◌, ℤ, pos, Bool, true, false, cond, List, take, Option, None, Some, refl, sym, subst, ◌∙◌, arith, inl, inr}
+use Rattle.std.specs.Prelude.{nat_le}
+use Rattle.std.specs.Option.{option_map}
+use Rattle.std.proofs.lemmas.Bool.Decides.{eqb_tells, leb_tells}
+use Rattle.kabi_calls.specs.Arguments.{count_of, is_minus_one}
+use Rattle.kabi_values.specs.declared.errnos.Errno.TheVariants.{EAGAIN, EBADF, EFAULT, EISDIR, EPIPE}
+use Rattle.kabi_values.specs.declared.replies.Reply.{Reply}
+use Rattle.kabi_values.specs.declared.replies.Reply.TheVariants.{Fail, Polled, Val}
+use Rattle.kabi_values.specs.declared.short_lists.PollEntry.{PollEntry}
+use Rattle.kabi_types.specs.declared.scripts.Script.{Script}
+use Rattle.kern_laws.specs.AtHome.{AllAtHome}
+use Rattle.kern_laws.proofs.Remembering.{found_before, remembers_family}
+use Rattle.posix_defs.specs.Answer.{Answer, Blocked, Done, Ended, Part, replied}
+use Rattle.posix_defs.specs.Calls.Opened.{Opened, answer_on, if_readable, if_writable, opened_at, opened_by}
+use Rattle.posix_defs.specs.Calls.Polling.{hits_of, poll, revents_of}
+use Rattle.posix_defs.specs.Calls.Reading.{is_directory_target, of_bytes, put, read, read_from_pipe, read_target, unless_directory}
+use Rattle.posix_defs.specs.Calls.Writing.{bytes_left, did_part, put_in_pipe, write, write_queue, write_target}
+use Rattle.posix_defs.specs.Family.{IsFamily}
+use Rattle.posix_defs.specs.Files.Descriptions.{Target, OnNode, OnPipe, OnSocket, Description, description_at, may_read, may_write}
+use Rattle.posix_defs.specs.Files.Descriptors.{Descriptor, descriptor_of}
+use Rattle.posix_defs.specs.Files.State.{Files, descriptors_of, pipe_at, with_pipe}
+use Rattle.posix_defs.specs.Memory.{Memory, is_mapped_range, stored}
+use Rattle.posix_defs.specs.Pipe.{Moving, Moves, Blocks, Fails, Pipe, after_read, free_in, not_now, pipe_read, pipe_write, whole}
+use Rattle.posix_defs.specs.Plain.{Plain, with_files}
+use Rattle.posix_defs.specs.Process.{memory_of}
+use Rattle.store_objects.specs.Files.{OffSockets}
+use Rattle.store_objects.proofs.TreeStays.{OffNodes}
+
+-- The machine becomes another: who is whose child, who works where, on what descriptions are open, and the tree are what they were.
+pub record Remains (plain next : Plain) : Type 0 where
+  pub family : IsFamily plain.table → IsFamily next.table
+  pub home : AllAtHome plain.table → AllAtHome next.table
+  pub descriptions : next.files.descriptions ≡ plain.files.descriptions
+  pub tree : next.files.tree ≡ plain.files.tree
+
+-- so does whatever an answer leads to, whose caller doesn't end; of the parts that a call does this is true
+abbrev pub Leaves : (ℕ → Type 0) → Plain → Answer → Type 0
+Leaves Parts plain Blocked = Unit {0}
+Leaves Parts plain (Done reply next) = Remains plain next
+Leaves Parts plain (Part moved next) = Parts moved × Remains plain next
+Leaves Parts plain (Ended status next) = ⊥
+
+-- the description that a number names is there
+opened_there : (files : Files) (o : Option Descriptor) (opened : Opened) → opened_by files o ≡ Some opened → description_at files.descriptions opened.place ≡ Some opened.is
+opened_there files None opened e = cc
+opened_there files (Some descriptor) opened e = by_description (description_at files.descriptions descriptor.description) refl e
+  where
+    named : Description → Opened
+    named description = record { place = descriptor.description; is = description }
+
+    same : (description : Description) → Some (named description) ≡ Some opened → named description ≡ opened
+    same description e = cc
+
+    by_description : (o : Option Description) → description_at files.descriptions descriptor.description ≡ o
+        → option_map (λ description. record { place = descriptor.description; is = description }) o ≡ Some opened
+        → description_at files.descriptions opened.place ≡ Some opened.is
+    by_description None is e = cc
+    by_description (Some description) is e =
+        subst (λ (one : Opened). description_at files.descriptions one.place ≡ Some one.is) (same description e) is
+
+-- a write of a pipe moves no more than is left
+moves_within : (pipe : Pipe) (nonblock : Bool) (n m k : ℕ) → pipe_write pipe nonblock n m ≡ Moves k → k ≤ m
+moves_within pipe nonblock n m k = by_readers (pipe.readers == 0)
+  where
+    same : (a : ℕ) → Moves a ≡ Moves k → a ≡ k
+    same a e = cc
+
+    all : Moves m ≡ Moves k → k ≤ m
+    all e = let s : m ≡ k = same m e in omega arith
+
+    not_yet : (b : Bool) → cond b (Fails EAGAIN) Blocks ≡ Moves k → k ≤ m
+    not_yet true e = cc
+    not_yet false e = cc
+
+    by_room : (fits : Bool) → nat_le m (free_in pipe) ≡ fits → (none : Bool)
+        → cond fits (Moves m) (cond none (not_now nonblock) (Moves (free_in pipe))) ≡ Moves k → k ≤ m
+    by_room true is none e = all e
+    by_room false is true e = not_yet nonblock e
+    by_room false is false e = elim (leb_tells m (free_in pipe)) [
+      | inl less ↦ absurd (let g : true ≡ false = sym less.0 ∙ is in cc)
+      | inr more ↦ (let s : free_in pipe ≡ k = same (free_in pipe) e in let l = more.1 in omega arith)
+    ]
+
+    by_fit : (fits : Bool) → cond fits (Moves m) (not_now nonblock) ≡ Moves k → k ≤ m
+    by_fit true e = all e
+    by_fit false e = not_yet nonblock e
+
+    by_size : (small : Bool)
+        → cond small (cond (nat_le n (free_in pipe)) (Moves m) (not_now nonblock))
+        (cond (nat_le m (free_in pipe)) (Moves m) (cond (free_in pipe == 0) (not_now nonblock) (Moves (free_in pipe)))) ≡ Moves k → k ≤ m
+    by_size true e = by_fit (nat_le n (free_in pipe)) e
+    by_size false e = by_room (nat_le m (free_in pipe)) refl (free_in pipe == 0) e
+
+    by_readers : (gone : Bool)
+        → cond gone (Fails EPIPE)
+        (cond (nat_le n whole) (cond (nat_le n (free_in pipe)) (Moves m) (not_now nonblock))
+        (cond (nat_le m (free_in pipe)) (Moves m) (cond (free_in pipe == 0) (not_now nonblock) (Moves (free_in pipe))))) ≡ Moves k → k ≤ m
+    by_readers true e = cc
+    by_readers false e = by_size (nat_le n whole) e
+
+module _ (Parts : ℕ → Type 0) (script : Script) (plain : Plain) (pid : ℕ) where
+  abbrev Left : Answer → Type 0
+  Left answer = Leaves Parts plain answer
+
+  choose : (b : Bool) (one two : Answer) → Left one → Left two → Left (cond b one two)
+  choose true one two first second = first
+  choose false one two first second = second
+
+  -- what changes the caller's control alone
+  tells : (reply : Reply) → Left (replied script plain pid reply)
+  tells reply = record { family = λ is. is; home = λ is. is; descriptions = refl; tree = refl }
+
+  -- and what changes pipes
+  tells_with : (files : Files) (reply : Reply) → files.descriptions ≡ plain.files.descriptions → files.tree ≡ plain.files.tree
+      → Left (replied script (with_files plain files) pid reply)
+  tells_with files reply descriptions tree = record { family = λ is. is; home = λ is. is; descriptions = descriptions; tree = tree }
+
+  -- and what puts bytes in memory
+  puts : (files : Files) (addr : ℤ) (bytes : List ℕ) → files.descriptions ≡ plain.files.descriptions → files.tree ≡ plain.files.tree
+      → Left (put script (with_files plain files) pid addr bytes)
+  puts files addr bytes descriptions tree =
+      let memory : Memory = stored (memory_of plain.table pid) (count_of addr) bytes in record {
+        family = λ is. remembers_family plain.table pid memory is;
+        home = λ home q process e. let old = found_before plain.table pid q memory process e in old.2.directory ∙ home q old.0 old.1;
+        descriptions = descriptions;
+        tree = tree;
+      }
+
+  -- ---- poll
+
+  pub poll_leaves : (timeout : ℤ) (entries : List PollEntry) → Left (poll script plain pid timeout entries)
+  unfolding poll
+  poll_leaves timeout entries =
+      let revents = revents_of plain.files pid entries in
+      choose ((hits_of revents == 0) && is_minus_one timeout) Blocked _ tt (tells (Polled (record { hits = hits_of revents; revents = revents })))
+
+  module _ (nodes : OffNodes plain.files.descriptions) (sockets : OffSockets plain.files.descriptions) where
+    -- what is open is open on a pipe
+    on_pipe : (fd : ℤ) (opened : Opened) (on : Target) (X : Target → Type 0) → opened_at plain.files pid fd ≡ Some opened → opened.is.target ≡ on
+        → ((place : ℕ) → X (OnPipe place)) → X on
+    on_pipe fd opened (OnNode number) X is at by_place =
+        absurd (nodes opened.place opened.is number (opened_there plain.files (descriptor_of (descriptors_of plain.files pid) fd) opened is) at)
+    on_pipe fd opened (OnPipe place) X is at by_place = by_place place
+    on_pipe fd opened (OnSocket number) X is at by_place =
+        absurd (sockets opened.place opened.is number (opened_there plain.files (descriptor_of (descriptors_of plain.files pid) fd) opened is) at)
+
+    -- ---- read
+
+    from_pipe : (place : ℕ) (addr : ℤ) (moving : Moving) → Left (read_from_pipe script plain pid place addr moving)
+    from_pipe place addr (Moves k) =
+        let pipe = pipe_at plain.files place in
+        puts (with_pipe plain.files place (Some (after_read pipe k))) addr (take k pipe.bytes) refl refl
+    from_pipe place addr Blocks = tt
+    from_pipe place addr (Fails errno) = tells (Fail errno)
+
+    pub read_leaves : (fd addr n : ℤ) → Left (read script plain pid fd addr n)
+    unfolding read
+    read_leaves fd addr n = by_opened (opened_at plain.files pid fd) refl
+      where
+        by_opened : (o : Option Opened) → opened_at plain.files pid fd ≡ o
+            → Left (answer_on script plain pid
+            (λ opened. if_readable script plain pid opened
+            (unless_directory script plain pid opened
+            (of_bytes script plain pid addr n (read_target script plain pid opened addr (count_of n) opened.is.target)))) o)
+        by_opened None is = tells (Fail EBADF)
+        by_opened (Some opened) is =
+            choose (may_read opened.is.access) _ _
+            (choose (is_directory_target plain.files.tree opened.is.target) _ _ (tells (Fail EISDIR))
+            (choose (is_mapped_range (memory_of plain.table pid) (count_of addr) (count_of n)) _ _
+            (choose (count_of n == 0) _ _ (tells (Val (pos 0)))
+            (on_pipe fd opened opened.is.target (λ on. Left (read_target script plain pid opened addr (count_of n) on)) is refl
+            (λ place. from_pipe place addr (pipe_read (pipe_at plain.files place) opened.is.nonblock (count_of n)))))
+            (tells (Fail EFAULT))))
+            (tells (Fail EBADF))
+
+    -- ---- write
+
+    -- k of the bytes that are left were put in the pipe
+    put_k : (files : Files) (n done k : ℕ) (nonblock : Bool) → files.descriptions ≡ plain.files.descriptions → files.tree ≡ plain.files.tree
+        → ((moved : ℕ) → done + moved ≤ n → Parts moved) → k ≤ n - done → (all : Bool) → (k == n - done) ≡ all
+        → Left (cond all (replied script (with_files plain files) pid (Val (pos n)))
+        (cond nonblock (replied script (with_files plain files) pid (Val (pos (done + k)))) (did_part (with_files plain files) pid k)))
+    put_k files n done k nonblock descriptions tree parts less true is = tells_with files (Val (pos n)) descriptions tree
+    put_k files n done k true descriptions tree parts less false is = tells_with files (Val (pos (done + k))) descriptions tree
+    put_k files n done k false descriptions tree parts less false is = (
+      parts k (elim (eqb_tells k (n - done)) [
+        | inl same ↦ absurd (let g : true ≡ false = sym same.0 ∙ is in cc)
+        | inr other ↦ (let apart = other.1 in omega arith)
+      ]),
+      record { family = λ is. is; home = λ is. is; descriptions = descriptions; tree = tree },
+    )
+
+    to_pipe : (place : ℕ) (n done : ℕ) (nonblock : Bool) (bytes : List ℕ) → ((moved : ℕ) → done + moved ≤ n → Parts moved)
+        → (moving : Moving) → pipe_write (pipe_at plain.files place) nonblock n (n - done) ≡ moving
+        → Left (write_queue script plain pid nonblock n done (put_in_pipe plain.files place bytes) moving)
+    to_pipe place n done nonblock bytes parts (Moves k) is =
+        put_k (put_in_pipe plain.files place bytes k) n done k nonblock refl refl parts (moves_within (pipe_at plain.files place) nonblock n (n - done) k is) (k == n - done) refl
+    to_pipe place n done nonblock bytes parts Blocks is = tt
+    to_pipe place n done nonblock bytes parts (Fails errno) is = choose (done == 0) _ _ (tells (Fail errno)) (tells (Val (pos done)))
+
+    pub write_leaves : (fd addr n : ℤ) (done : ℕ) → ((moved : ℕ) → done + moved ≤ count_of n → Parts moved) → Left (write script plain pid fd addr n done)
+    unfolding write
+    write_leaves fd addr n done parts = by_opened (opened_at plain.files pid fd) refl
+      where
+        by_opened : (o : Option Opened) → opened_at plain.files pid fd ≡ o
+            → Left (answer_on script plain pid
+            (λ opened. if_writable script plain pid opened
+            (of_bytes script plain pid addr n (write_target script plain pid opened addr (count_of n) done opened.is.target))) o)
+        by_opened None is = tells (Fail EBADF)
+        by_opened (Some opened) is =
+            choose (may_write opened.is.access) _ _
+            (choose (is_mapped_range (memory_of plain.table pid) (count_of addr) (count_of n)) _ _
+            (choose (count_of n == 0) _ _ (tells (Val (pos 0)))
+            (on_pipe fd opened opened.is.target (λ on. Left (write_target script plain pid opened addr (count_of n) done on)) is refl
+            (λ place. to_pipe place (count_of n) done opened.is.nonblock (bytes_left plain pid addr (count_of n) done) parts
+            (pipe_write (pipe_at plain.files place) opened.is.nonblock (count_of n) (count_of n - done)) refl)))
+            (tells (Fail EFAULT)))
+            (tells (Fail EBADF))

@@ -1,0 +1,45 @@
+//! `poll`.
+
+ghost use Rattle.std.specs.Prelude.{◌≡◌, true};
+ghost use Rattle.kabi_calls.specs.declared.calls.Call.{Call};
+ghost use Rattle.kabi_types.specs.declared.scripts.Script.{Script};
+ghost use Rattle.kheap_slabs.specs.Paid.{TakesNothing};
+ghost use Rattle.posix_defs.specs.Calls.Polling.{poll};
+ghost use Rattle.posix_defs.specs.Machine.{blocks, machine};
+ghost use Rattle.posix_defs.specs.Process.{is_alive};
+ghost use Rattle.posix_defs.specs.World.{World};
+ghost use Rattle.store_objects.specs.Objects.{AreKept, Runs};
+ghost use Rattle.store_objects.specs.Standing.{Performs, StandsFor};
+
+use crate::told::go_on_done;
+use kabi_types::{Control, PollList, Script};
+use posix_defs::Turned;
+use store_objects::Objects;
+
+/// Tells what each entry is ready for; sleeps with timeout -1 where none is ready for anything (POSIX poll).
+pub fn poll(
+    script: &Script,
+    objects: &mut Objects,
+    pid: u32,
+    control: Control,
+    timeout: i64,
+    entries: &PollList,
+) -> Turned
+    requires kept { AreKept script.now objects.old }
+    requires runs { Runs objects.old pid control }
+    ensures kept { AreKept script.now objects.new }
+    ensures takes { TakesNothing objects.old.heap objects.new.heap }
+    ensures does { Performs script.now objects.old pid (Call.Poll timeout entries.now) (λ plain. poll script.now plain pid timeout entries.now) result objects.new }
+{
+    let told = proc_queues::poll(&objects.heap, &objects.procs, pid, timeout, entries);
+    go_on_done(script, objects, pid, control, told)
+}
+
+/// Whether a `poll` of a live process would sleep, whatever its operands are.
+pub fn poll_would_block(objects: &Objects, pid: u32, timeout: i64, entries: &PollList) -> bool
+    requires { (script : Script) × (world : World) × StandsFor script objects.now world × (is_alive world.plain.table pid ≡ true) }
+    ensures { (script : Script) (world : World) → StandsFor script objects.now world
+        → result ≡ blocks (machine script world.plain pid (Call.Poll timeout entries.now)) }
+{
+    proc_queues::poll_waits(&objects.heap, &objects.procs, pid, timeout, entries)
+}

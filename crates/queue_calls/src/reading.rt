@@ -1,0 +1,58 @@
+//! `read`.
+
+ghost use Rattle.std.specs.Prelude.{◌≡◌, ◌≤◌, None, true};
+ghost use Rattle.kabi_calls.specs.Arguments.{argument_fault, count_of};
+ghost use Rattle.kabi_calls.specs.declared.calls.Call.{Call};
+ghost use Rattle.kabi_types.specs.declared.scripts.Script.{Script};
+ghost use Rattle.kheap_slabs.specs.Paid.{CanPay, IsPaid};
+ghost use Rattle.posix_defs.specs.Calls.Reading.{read};
+ghost use Rattle.posix_defs.specs.Machine.{blocks, machine};
+ghost use Rattle.posix_defs.specs.Needs.{pages_touched};
+ghost use Rattle.posix_defs.specs.Process.{is_alive};
+ghost use Rattle.posix_defs.specs.World.{World};
+ghost use Rattle.store_objects.specs.Objects.{AreKept, Runs};
+ghost use Rattle.store_objects.specs.Standing.{Performs, StandsFor};
+
+use crate::operands::may_move;
+use crate::told::go_on_done;
+use kabi_types::{Control, Script};
+use kheap_shelves::Purse;
+use posix_defs::Turned;
+use store_objects::Objects;
+
+/// Reads at most n bytes from the pipe that a number is open on into memory, as many as are there; none are the end of the file.
+/// It sleeps where nothing is there and somebody can write (POSIX read).
+///
+/// EBADF where the number isn't open for reading, EFAULT where a page that n bytes would touch isn't mapped, EAGAIN in place of
+/// a sleep where the description has O_NONBLOCK.
+pub fn read(
+    script: &Script,
+    objects: &mut Objects,
+    purse: &mut Purse,
+    pid: u32,
+    control: Control,
+    fd: i64,
+    addr: i64,
+    n: i64,
+) -> Turned
+    requires stands { (world : World) × StandsFor script.now objects.old world }
+    requires runs { Runs objects.old pid control }
+    requires right { argument_fault (Call.Read fd addr n) ≡ None }
+    requires room { CanPay objects.old.heap purse.old }
+    requires left { pages_touched (count_of addr) (count_of n) ≤ purse.old.left.page }
+    ensures kept { AreKept script.now objects.new }
+    ensures paid { IsPaid objects.old.heap purse.old objects.new.heap purse.new }
+    ensures does { Performs script.now objects.old pid (Call.Read fd addr n) (λ plain. read script.now plain pid fd addr n) result objects.new }
+{
+    let told = proc_queues::read(&mut objects.heap, purse, &objects.procs, pid, fd, addr, n);
+    go_on_done(script, objects, pid, control, told)
+}
+
+/// Whether a `read` of a live process would sleep, whatever its operands are.
+pub fn read_would_block(objects: &Objects, pid: u32, fd: i64, addr: i64, n: i64) -> bool
+    requires { (script : Script) × (world : World) × StandsFor script objects.now world × (is_alive world.plain.table pid ≡ true) }
+    ensures { (script : Script) (world : World) → StandsFor script objects.now world
+        → result ≡ blocks (machine script world.plain pid (Call.Read fd addr n)) }
+{
+    may_move(addr, n) && proc_queues::read_waits(&objects.heap, &objects.procs, pid, fd, addr, n)
+}

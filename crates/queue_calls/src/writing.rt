@@ -1,0 +1,74 @@
+//! `write`.
+
+ghost use Rattle.std.specs.Prelude.{◌≡◌, ◌-◌, ◌≤◌, None, true};
+ghost use Rattle.kabi_calls.specs.Arguments.{argument_fault, count_of};
+ghost use Rattle.kabi_calls.specs.declared.calls.Call.{Call};
+ghost use Rattle.kabi_types.specs.declared.scripts.Script.{Script};
+ghost use Rattle.kheap_slabs.specs.Paid.{CanPay, IsPaid};
+ghost use Rattle.posix_defs.specs.Calls.Writing.{write};
+ghost use Rattle.posix_defs.specs.Machine.{blocks, machine};
+ghost use Rattle.posix_defs.specs.Needs.{chunks_for};
+ghost use Rattle.posix_defs.specs.Process.{is_alive};
+ghost use Rattle.posix_defs.specs.World.{World};
+ghost use Rattle.store_objects.specs.Objects.{AreKept, Runs};
+ghost use Rattle.store_objects.specs.Standing.{Performs, StandsFor};
+
+use crate::operands::may_move;
+use crate::told::{do_part, go_on_done};
+use kabi_types::{Control, Script};
+use kheap_shelves::Purse;
+use posix_defs::Turned;
+use store_objects::Objects;
+
+/// Writes n bytes of memory, of which so many were moved before, to the pipe that a number is open on: up to 512 whole or not at
+/// all, of more as many as there is room for. It sleeps where there is no room, and is told a part where some bytes are left
+/// (POSIX write).
+///
+/// EBADF where the number isn't open for writing, EFAULT where a page of the bytes isn't mapped, EPIPE where nobody can read,
+/// EAGAIN in place of a sleep where the description has O_NONBLOCK; where bytes were moved their number in place of the last two.
+pub fn write(
+    script: &Script,
+    objects: &mut Objects,
+    purse: &mut Purse,
+    pid: u32,
+    control: Control,
+    fd: i64,
+    addr: i64,
+    n: i64,
+    done: u32,
+) -> Turned
+    requires stands { (world : World) × StandsFor script.now objects.old world }
+    requires runs { Runs objects.old pid control }
+    requires so_far { control.done ≡ done }
+    requires right { argument_fault (Call.Write fd addr n done) ≡ None }
+    requires room { CanPay objects.old.heap purse.old }
+    requires left { chunks_for (count_of n - done) ≤ purse.old.left.chunk }
+    ensures kept { AreKept script.now objects.new }
+    ensures paid { IsPaid objects.old.heap purse.old objects.new.heap purse.new }
+    ensures does { Performs script.now objects.old pid (Call.Write fd addr n done) (λ plain. write script.now plain pid fd addr n done) result objects.new }
+{
+    let told = proc_queues::write(
+        &mut objects.heap,
+        purse,
+        &objects.procs,
+        pid,
+        fd,
+        addr,
+        n,
+        done,
+    );
+    match told {
+        Turned::Part(moved) => do_part(objects, pid, control, moved),
+        told => go_on_done(script, objects, pid, control, told),
+    }
+}
+
+/// Whether a `write` of a live process would sleep, of which so many bytes were moved before, whatever its operands are.
+pub fn write_would_block(objects: &Objects, pid: u32, fd: i64, addr: i64, n: i64, done: u32) -> bool
+    requires { (script : Script) × (world : World) × StandsFor script objects.now world × (is_alive world.plain.table pid ≡ true) }
+    ensures { (script : Script) (world : World) → StandsFor script objects.now world
+        → result ≡ blocks (machine script world.plain pid (Call.Write fd addr n done)) }
+{
+    may_move(addr, n)
+        && proc_queues::write_waits(&objects.heap, &objects.procs, pid, fd, addr, n, done)
+}
