@@ -55,8 +55,12 @@ waits_for_peer _ = false
 pub no_peer : (which : Call) (wait : Option Awaited) → is_built (kind_of which) ≡ true → wait ≡ wait_of which → waits_for_peer wait ≡ true → ⊥
 no_peer which wait built is peer = go which built (ap waits_for_peer (sym is) ∙ peer)
   where
+    never : false ≡ true → ⊥
+    never e = cc
+
     go : (which : Call) → is_built (kind_of which) ≡ true → waits_for_peer (wait_of which) ≡ true → ⊥
-    go _ built peer = cc
+    go (call.Accept fd) built peer = never built
+    go _ built peer = never peer
 
 -- a call that waits for nothing never blocks
 waits_not : (which : Call) → None ≡ wait_of which → may_block which ≡ false
