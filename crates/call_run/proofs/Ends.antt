@@ -23,20 +23,22 @@ one_if passes = cond passes 1 0
 one_of : (test : Option Desc → Bool) (descs : List (Option Desc)) → test None ≡ false → 0 < count_by test descs
     → (key : ℕ) × (desc : Desc) × (object descs key ≡ Some desc) × (test (Some desc) ≡ true)
 one_of test [] none some = absurd (let nothing : count_by test [] ≡ 0 = refl in omega (arith, some, nothing))
-one_of test (first ∷ descs) none some = go first refl (test first) refl
+one_of test (first ∷ descs) none some = go (λ more. one_of test descs none more) first refl (test first) refl
   where
     whole : count_by test (first ∷ descs) ≡ one_if (test first) + count_by test descs
     whole = sum_by-cons (λ o. one_if (test o)) first descs
 
-    behind : test first ≡ false → (key : ℕ) × (desc : Desc) × (object (first ∷ descs) key ≡ Some desc) × (test (Some desc) ≡ true)
-    behind is =
+    behind : (0 < count_by test descs → (key : ℕ) × (desc : Desc) × (object descs key ≡ Some desc) × (test (Some desc) ≡ true)) → test first ≡ false
+        → (key : ℕ) × (desc : Desc) × (object (first ∷ descs) key ≡ Some desc) × (test (Some desc) ≡ true)
+    behind rest is =
         let no : one_if (test first) ≡ 0 = ap one_if is in
-        let it = one_of test descs none (omega (arith, some, whole, no)) in (suc it.0, it.1, it.2, it.3)
+        let it = rest (omega (arith, some, whole, no)) in (suc it.0, it.1, it.2, it.3)
 
-    go : (o : Option Desc) → first ≡ o → (b : Bool) → test first ≡ b → (key : ℕ) × (desc : Desc) × (object (first ∷ descs) key ≡ Some desc) × (test (Some desc) ≡ true)
-    go None e b is = behind (ap test e ∙ none)
-    go (Some desc) e true is = (0, desc, e, sym (ap test e) ∙ is)
-    go (Some desc) e false is = behind is
+    go : (0 < count_by test descs → (key : ℕ) × (desc : Desc) × (object descs key ≡ Some desc) × (test (Some desc) ≡ true)) → (o : Option Desc) → first ≡ o
+        → (b : Bool) → test first ≡ b → (key : ℕ) × (desc : Desc) × (object (first ∷ descs) key ≡ Some desc) × (test (Some desc) ≡ true)
+    go rest None e b is = behind rest (ap test e ∙ none)
+    go rest (Some desc) e true is = (0, desc, e, sym (ap test e) ∙ is)
+    go rest (Some desc) e false is = behind rest is
 
 -- what is on a pipe is on that one
 on_that : (pipe : ℕ) (on : Target) (end : Bool) → is_on_pipe pipe on && end ≡ true → on ≡ target.Pipe pipe
@@ -51,7 +53,7 @@ on_that pipe (target.Pipe other) end is = elim (eqb_tells other pipe) [
     never e = cc
 
 some_of : (a b : ℕ) → 0 < a + b → (0 < a) ⊎ (0 < b)
-some_of zero b some = inr some
+some_of zero b some = inr (omega arith)
 some_of (suc a) b some = inl (omega arith)
 
 pub end_open : (script : Script) (objects : Objects) (pipe : ℕ) → AreKept script objects → InUse objects.heap.pipes pipe

@@ -1,5 +1,5 @@
 -- Which calls block.
-use Rattle.std.proofs.Common.{◌≡◌, ℕ, ℤ, Bool, true, false, Option, None, Some, refl, ap, sym, ◌∙◌, subst}
+use Rattle.std.proofs.Common.{◌≡◌, ℕ, ℤ, Bool, true, false, Option, None, Some, refl, ap, sym, ◌∙◌}
 use Rattle.std.specs.Prelude.{is_none}
 use Rattle.kabi_calls.specs.Arguments.{argument_fault}
 use Rattle.kabi_calls.specs.Call.{kind_of}
@@ -47,12 +47,20 @@ is_waiting (call.Accept fd) wait e = ap waiting_call e
 is_waiting (call.Poll timeout entries) wait e = ap waiting_call e
 is_waiting _ wait e = cc
 
+abbrev pub waits_for_peer : Option Awaited → Bool
+waits_for_peer (Some (Peer fd)) = true
+waits_for_peer _ = false
+
 -- none that can be run waits for a peer
-pub no_peer : (which : Call) (fd : ℤ) → is_built (kind_of which) ≡ true → Some (Peer fd) ≡ wait_of which → ⊥
-no_peer which fd built e = never (subst (λ w. is_built (kind_of w) ≡ true) (sym (is_waiting which (Peer fd) e)) built)
+pub no_peer : (which : Call) (wait : Option Awaited) → is_built (kind_of which) ≡ true → wait ≡ wait_of which → waits_for_peer wait ≡ true → ⊥
+no_peer which wait built is peer = go which built (ap waits_for_peer (sym is) ∙ peer)
   where
     never : false ≡ true → ⊥
-    never f = cc
+    never e = cc
+
+    go : (which : Call) → is_built (kind_of which) ≡ true → waits_for_peer (wait_of which) ≡ true → ⊥
+    go (call.Accept fd) built peer = never built
+    go _ built peer = never peer
 
 -- a call that waits for nothing never blocks
 waits_not : (which : Call) → None ≡ wait_of which → may_block which ≡ false

@@ -1,9 +1,9 @@
-use Rattle.std.proofs.Common.{◌≡◌, ◌∙◌, ap, option_copied, sym, w64, rules, Some}
+use Rattle.std.proofs.Common.{◌≡◌, ◌∙◌, ap, option_copied, sym, w64, true, rules, Some}
 use Rattle.std.proofs.lemmas.Int.{to_z-of_z}
 use mir.Val.{of_z, to_z}
 use Rattle.kabi_calls.specs.declared.calls.Call.TheVariants.{Poll, Read, Waitpid, Write}
-use Rattle.prog_ctl.specs.declared.waits.Awaited.TheVariants.{Bytes, Child, Events, Peer, Room}
-use Rattle.call_run.proofs.Sleeping.{blocks_as, goes_on, is_waiting, no_fault, no_peer, told_one, told_three, told_two}
+use Rattle.prog_ctl.specs.declared.waits.Awaited.TheVariants.{Bytes, Child, Events, Room}
+use Rattle.call_run.proofs.Sleeping.{blocks_as, goes_on, is_waiting, no_fault, no_peer, told_one, told_three, told_two, waits_for_peer}
 use Rattle.call_run.proofs.calls.would_block.Goals as goal
 
 pub would_sleep-requires : goal.would_sleep-requires
@@ -39,8 +39,8 @@ returns-in-Some-Room c = λ script world stands call built e.
 
 pub returns-in-Some-Peer : goal.returns-in-Some-Peer
 returns-in-Some-Peer c = λ script world stands call built e.
-    let seen : option_copied c.args.wait ≡ Some (Peer c.in-Some-Peer.fd) = search rules in
-    absurd (no_peer call c.in-Some-Peer.fd built (sym seen ∙ e))
+    let peer : waits_for_peer (option_copied c.args.wait) ≡ true = search rules in
+    absurd (no_peer call (option_copied c.args.wait) built e peer)
 
 pub returns-in-Some-Events : goal.returns-in-Some-Events
 returns-in-Some-Events c = λ script world stands call built e.
