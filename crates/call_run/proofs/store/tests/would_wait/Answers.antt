@@ -1,4 +1,4 @@
-use Rattle.std.proofs.Common.{◌≡◌, ◌∙◌, subst, sym}
+use Rattle.std.proofs.Common.{◌∙◌, subst, sym}
 use Rattle.store_objects.specs.Standing.{StandsFor}
 use Rattle.call_run.proofs.store.tests.would_wait.Goals as goal
 
