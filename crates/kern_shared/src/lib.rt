@@ -7,6 +7,7 @@
 mod attends;
 mod boot;
 mod closing;
+mod crossing;
 mod held;
 mod histories;
 mod kernel;
@@ -21,6 +22,7 @@ mod values;
 
 pub use attends::Attended;
 pub use closing::Closed;
+pub use crossing::crosses_threads;
 pub use held::Held;
 pub use histories::{
     a_held_call_is_given_up_once, entries_are_a_run, no_reserved_call_comes_behind_starved,
