@@ -8,7 +8,7 @@ ghost use Rattle.shared_trials.specs.Pair.{pair};
 ghost use Rattle.shared_trials.specs.Workers.{IsAsMany, Works};
 
 use crate::pair::{Pair, at_boot};
-use crate::workers::{Ask, Line, Told, ask, line_of, release};
+use crate::workers::{Ask, Line, Told, line_of, release, step};
 use charge_words::{Charge, ChargeSeat};
 use kabi_types::{Cached, Call, CallKind, End, Entry, Errno, Memory};
 use kern_events::Relief;
@@ -17,6 +17,13 @@ use std::alloc::Global;
 use std::marker::Brand;
 use std::sync::Wait;
 use std::test::Fail;
+
+/// The heap of a run in bytes, and how many steps it may take.
+#[derive(Clone, Copy)]
+struct Size {
+    heap: u64,
+    steps: u32,
+}
 
 /// Who asks, the first or the second worker, what, and what that one is answered.
 type Row = (u32, Ask, Told);
@@ -39,9 +46,9 @@ fn asks<R: Wait, L: RunName>(
 {
     let (who, what, wanted) = row;
     let told = if *who == 1 {
-        ask(rt, kernel, first, one, *what)
+        step(rt, kernel, first, one, *what)
     } else {
-        ask(rt, kernel, second, other, *what)
+        step(rt, kernel, second, other, *what)
     };
     told == *wanted
 }
@@ -77,18 +84,19 @@ fn plays<R: Wait, L: RunName>(
 fn run<R: Wait, L: RunName>(
     rt: &R,
     alloc: Global,
-    (heap, steps): (u64, u32),
+    size: Size,
     charge: Charge,
     seat: ChargeSeat,
     rows: &[Row],
 ) -> Result<(usize, Closed<Pair>), Memory>
-    requires script { L.script ≡ pair heap }
-    requires steps { L.steps ≡ steps }
+    requires script { L.script ≡ pair size.heap }
+    requires steps { L.steps ≡ size.steps }
     requires charge { L.charge ≡ charge }
-    requires heap { charge.heap ≡ heap }
+    requires heap { charge.heap ≡ size.heap }
     requires seat { seat.charge ≡ charge }
     requires boot { (seat.known.is_boot ≡ true) × (seat.known.others ≡ 0) × (seat.known.holds ≡ fixed) }
 {
+    let Size { heap, steps } = size;
     let (kernel, mut passes) =
         Kernel::<Pair, L>::boot(alloc, at_boot(heap), steps, heap, 2, charge, seat)?;
     let Some(mut first) = passes.pop() else {
@@ -119,15 +127,14 @@ type Left = (&'static [Line], Option<End>, u64);
 fn goes_so<R: Wait>(
     rt: &R,
     alloc: Global,
-    heap: u64,
-    steps: u32,
+    size: Size,
     rows: &[Row],
     left: &Left,
 ) -> Result<bool, Memory>
-    requires { 2816 ≤ heap }
+    requires { 2816 ≤ size.heap }
 {
-    let (charge, seat) = Charge::boot(alloc, heap)?;
-    let (right, closed) = run::<R, Brand>(rt, alloc, (heap, steps), charge, seat, rows)?;
+    let (charge, seat) = Charge::boot(alloc, size.heap)?;
+    let (right, closed) = run::<R, Brand>(rt, alloc, size, charge, seat, rows)?;
     let same = has_entries(closed.history.items(), left.0);
     let ended = closed.end == left.1 && closed.charged == left.2;
     drop(closed);
@@ -267,30 +274,30 @@ const GIVEN_BACK: Left = (&[Line::Done(1, CallKind::Fork)], None, 3328);
 
 #[test]
 fn a_call_is_short_until_a_block_goes(rt: HostRuntime) -> Result<(), Fail> {
-    assert!(rt; goes_so(&rt, rt.alloc(), 6000, 100, EVICTS, &EVICTED)?);
+    assert!(rt; goes_so(&rt, rt.alloc(), Size { heap: 6000, steps: 100 }, EVICTS, &EVICTED)?);
     Ok(())
 }
 
 #[test]
 fn the_child_is_killed_and_then_the_first_starves(rt: HostRuntime) -> Result<(), Fail> {
-    assert!(rt; goes_so(&rt, rt.alloc(), 5500, 100, KILLS, &KILLED)?);
+    assert!(rt; goes_so(&rt, rt.alloc(), Size { heap: 5500, steps: 100 }, KILLS, &KILLED)?);
     Ok(())
 }
 
 #[test]
 fn steps_are_spent_while_one_is_held(rt: HostRuntime) -> Result<(), Fail> {
-    assert!(rt; goes_so(&rt, rt.alloc(), 8192, 2, SPENDS, &SPENT)?);
+    assert!(rt; goes_so(&rt, rt.alloc(), Size { heap: 8192, steps: 2 }, SPENDS, &SPENT)?);
     Ok(())
 }
 
 #[test]
 fn what_the_heap_never_gives_is_refused(rt: HostRuntime) -> Result<(), Fail> {
-    assert!(rt; goes_so(&rt, rt.alloc(), 5000, 100, REFUSES, &REFUSED)?);
+    assert!(rt; goes_so(&rt, rt.alloc(), Size { heap: 5000, steps: 100 }, REFUSES, &REFUSED)?);
     Ok(())
 }
 
 #[test]
 fn who_is_held_is_given_back(rt: HostRuntime) -> Result<(), Fail> {
-    assert!(rt; goes_so(&rt, rt.alloc(), 8192, 100, GIVES_BACK, &GIVEN_BACK)?);
+    assert!(rt; goes_so(&rt, rt.alloc(), Size { heap: 8192, steps: 100 }, GIVES_BACK, &GIVEN_BACK)?);
     Ok(())
 }

@@ -7,7 +7,7 @@ ghost use Rattle.shared_trials.specs.Pair.{pair};
 ghost use Rattle.shared_trials.specs.Workers.{IsAsMany, Works};
 
 use crate::pair::{Pair, at_boot};
-use crate::workers::{Ask, Line, Told, ask, line_of, release};
+use crate::workers::{Ask, Line, Told, line_of, release, step};
 use charge_words::{Charge, ChargeSeat};
 use kabi_types::{Cached, CallKind, End, Memory};
 use kern_shared::{Closed, Kernel, Pass, RunName};
@@ -31,11 +31,11 @@ fn works_on<R: Wait, L: RunName>(
     let mut pass = pass;
     let mut held = None;
     for _ in rt.forever() {
-        if let Told::Over(_) = ask(rt, kernel, &mut pass, &mut held, Ask::Pick) {
+        if let Told::Over(_) = step(rt, kernel, &mut pass, &mut held, Ask::Pick) {
             break;
         }
-        if let Told::Short { .. } = ask(rt, kernel, &mut pass, &mut held, Ask::Attend) {
-            ask(rt, kernel, &mut pass, &mut held, Ask::Relieve);
+        if let Told::Short { .. } = step(rt, kernel, &mut pass, &mut held, Ask::Attend) {
+            step(rt, kernel, &mut pass, &mut held, Ask::Relieve);
         }
         release(rt, kernel, &mut pass, &mut held);
         thread::yield_now();

@@ -40,7 +40,7 @@ pub enum Told {
 }
 
 /// What an answer to a call tells.
-fn told(answer: &Attended) -> Told {
+fn told_by(answer: &Attended) -> Told {
     match answer {
         Attended::Done(Reply::Val(value)) => Told::Value(*value),
         Attended::Done(Reply::Fail(errno)) => Told::Failed(*errno),
@@ -103,10 +103,12 @@ fn attend<R: Wait, L: RunName>(
         return Told::Nothing;
     };
     let answer = kernel.attend(rt, pass, pid, &call);
+    let told = told_by(&answer);
     if is_short(&answer) {
         *held = Some((pid, call));
+        return told;
     }
-    told(&answer)
+    told
 }
 
 /// Helps the calls that wait.
@@ -143,7 +145,7 @@ pub fn release<R: Wait, L: RunName>(
 }
 
 /// Asks this of the kernel.
-pub fn ask<R: Wait, L: RunName>(
+pub fn step<R: Wait, L: RunName>(
     rt: &R,
     kernel: &Kernel<Pair, L>,
     pass: &mut Pass<Pair, L>,
