@@ -82,7 +82,7 @@ module _ {T : Type 0} (script : Script) (steps : ℕ) (charge : ChargeWord) (tur
       → Works script steps charge turns turn own given held
   works_idle turn own given held rests none is = record {
     rests = rests;
-    given = none ∙ sym (ap pid_of is);
+    same = none ∙ sym (ap pid_of is);
     holds = λ pid call some. absurd (never pid call (sym is ∙ some));
   }
     where
@@ -94,7 +94,7 @@ module _ {T : Type 0} (script : Script) (steps : ℕ) (charge : ChargeWord) (tur
       → given ≡ Some pid → held ≡ Some (pid, call) → HoldsCall script steps (heard turn.known.seen) pid call → Works script steps charge turns turn own given held
   works_holding turn own given held pid call rests some is holds = record {
     rests = rests;
-    given = some ∙ sym (ap pid_of is);
+    same = some ∙ sym (ap pid_of is);
     holds = λ other which same. subst (λ (h : ℕ × Call). HoldsCall script steps (heard turn.known.seen) h.0 h.1) (one pid call other which (sym is ∙ same)) holds;
   }
     where

@@ -28,7 +28,7 @@ use Rattle.shared_trials.specs.declared.scenes.Next.TheVariants as next
 use Rattle.shared_trials.specs.declared.scenes.Scene.{Scene}
 use Rattle.shared_trials.specs.declared.scenes.Scene.TheVariants as scene
 use Rattle.shared_trials.specs.declared.scenes.Who.{Who}
-use Rattle.shared_trials.specs.declared.scenes.Who.TheVariants as who
+use Rattle.shared_trials.specs.declared.scenes.Who.TheVariants as one
 
 -- `fork`, `bind 3 "/d"` where 3 isn't open, and the end, on so much heap
 abbrev pub pair : ℕ → Script
@@ -43,10 +43,10 @@ pair heap = record {
 
 -- which process a pid names
 abbrev pub who : ℕ → Who
-who zero = who.Nobody
-who (suc zero) = who.First
-who (suc (suc zero)) = who.Second
-who (suc (suc (suc _))) = who.Nobody
+who zero = one.Nobody
+who (suc zero) = one.First
+who (suc (suc zero)) = one.Second
+who (suc (suc (suc _))) = one.Nobody
 
 -- where a process is that makes this call next
 abbrev pub place_of : Next → ℕ
@@ -146,9 +146,9 @@ second_act scene.Over = None
 second_act (scene.BothOver _) = None
 
 abbrev pub act_of : Who → Scene → Option Act
-act_of who.First now = first_act now
-act_of who.Second now = second_act now
-act_of who.Nobody now = None
+act_of one.First now = first_act now
+act_of one.Second now = second_act now
+act_of one.Nobody now = None
 
 -- the call that this is
 abbrev pub call_as : Act → Call
@@ -195,9 +195,9 @@ second_after scene.Over = scene.Over
 second_after (scene.BothOver second) = scene.BothOver second
 
 abbrev pub scene_after : Who → Scene → Scene
-scene_after who.First now = first_after now
-scene_after who.Second now = second_after now
-scene_after who.Nobody now = now
+scene_after one.First now = first_after now
+scene_after one.Second now = second_after now
+scene_after one.Nobody now = now
 
 -- the scene where a call of each of the two was refused
 abbrev pub first_refused : Scene → Scene
@@ -219,9 +219,9 @@ second_refused scene.Over = scene.Over
 second_refused (scene.BothOver second) = scene.BothOver second
 
 abbrev pub scene_refused : Who → Scene → Scene
-scene_refused who.First now = first_refused now
-scene_refused who.Second now = second_refused now
-scene_refused who.Nobody now = now
+scene_refused one.First now = first_refused now
+scene_refused one.Second now = second_refused now
+scene_refused one.Nobody now = now
 
 -- the scene where the child was killed, if it lived
 abbrev pub without_child : Scene → Scene
@@ -234,9 +234,9 @@ without_child scene.Over = scene.Over
 without_child (scene.BothOver second) = scene.BothOver second
 
 abbrev pub scene_killed : Who → Scene → Scene
-scene_killed who.First now = now
-scene_killed who.Second now = without_child now
-scene_killed who.Nobody now = now
+scene_killed one.First now = now
+scene_killed one.Second now = without_child now
+scene_killed one.Nobody now = now
 
 -- whom the policy kills: the child, if it lives
 abbrev pub victim_in : Scene → Option ℕ

@@ -19,7 +19,7 @@ pid_of (Some held) = Some held.0
 -- The pass is between two calls and holds just this process, of which this is the call.
 pub record Works {T : Type 0} (script : Script) (steps : ℕ) (charge : ChargeWord) (turns : TableId) (turn : TurnState T) (own : ChargeState) (given : Option ℕ) (held : Option (ℕ × Call)) : Type 0 where
   pub rests : IsAtRest script steps charge turns turn own given
-  pub given : given ≡ pid_of held
+  pub same : given ≡ pid_of held
   pub holds : (pid : ℕ) (call : Call) → held ≡ Some (pid, call) → HoldsCall script steps (heard turn.known.seen) pid call
 
 -- the seat is that of `boot` where it was, and counts as many others

@@ -51,7 +51,11 @@ fn tells_what_is_outstanding<L: RunName>(
     let picked = state.pick_next();
     let (beside, alone) = helps_twice(&mut state, word, own, other);
     drop(state);
-    let given = picked == Picked::Run { pid: 1, call: Call::Fork };
+    let given = picked
+        == Picked::Run {
+            pid: 1,
+            call: Call::Fork,
+        };
     let waits = beside
         == (
             Relief::Outstanding {

@@ -97,8 +97,15 @@ fn run<R: Wait, L: RunName>(
     requires boot { (seat.known.is_boot ≡ true) × (seat.known.others ≡ 0) × (seat.known.holds ≡ fixed) }
 {
     let Size { heap, steps } = size;
-    let (kernel, mut passes) =
-        Kernel::<Pair, L>::boot(alloc, at_boot(heap), steps, heap, 2, charge, seat)?;
+    let (kernel, mut passes) = Kernel::<Pair, L>::boot(
+        alloc,
+        at_boot(heap),
+        steps,
+        heap,
+        2,
+        charge,
+        seat,
+    )?;
     let Some(mut first) = passes.pop() else {
         unreachable!()
     };
@@ -153,8 +160,19 @@ const EVICTS: &[Row] = &[
     (1, Ask::Pick, Told::Run(1, CallKind::Bind)),
     (2, Ask::Pick, Told::Run(2, CallKind::Bind)),
     (1, Ask::Attend, FAILED),
-    (2, Ask::Attend, Told::Short { charged: 4416, need: 2560 }),
-    (1, Ask::Relieve, Told::Helped(Relief::Evicted(Cached::Block))),
+    (
+        2,
+        Ask::Attend,
+        Told::Short {
+            charged: 4416,
+            need: 2560,
+        },
+    ),
+    (
+        1,
+        Ask::Relieve,
+        Told::Helped(Relief::Evicted(Cached::Block)),
+    ),
     (1, Ask::Relieve, Told::Helped(Relief::Fits(2))),
     (2, Ask::Attend, FAILED),
     (1, Ask::Pick, Told::Run(1, CallKind::Exit)),
@@ -197,7 +215,11 @@ const KILLS: &[Row] = &[
     (2, Ask::Relieve, Told::Helped(Relief::Starved)),
     (1, Ask::Pick, Told::Nothing),
     (2, Ask::Release, Told::Released),
-    (2, Ask::Pick, Told::Over(End::Starved { pid: 1, need: 2560 })),
+    (
+        2,
+        Ask::Pick,
+        Told::Over(End::Starved { pid: 1, need: 2560 }),
+    ),
 ];
 
 const KILLED: Left = (
@@ -228,10 +250,7 @@ const SPENDS: &[Row] = &[
 ];
 
 const SPENT: Left = (
-    &[
-        Line::Done(1, CallKind::Fork),
-        Line::Done(1, CallKind::Bind),
-    ],
+    &[Line::Done(1, CallKind::Fork), Line::Done(1, CallKind::Bind)],
     Some(End::Spent),
     4416,
 );
@@ -274,30 +293,85 @@ const GIVEN_BACK: Left = (&[Line::Done(1, CallKind::Fork)], None, 3328);
 
 #[test]
 fn a_call_is_short_until_a_block_goes(rt: HostRuntime) -> Result<(), Fail> {
-    assert!(rt; goes_so(&rt, rt.alloc(), Size { heap: 6000, steps: 100 }, EVICTS, &EVICTED)?);
+    assert!(rt;
+        goes_so(
+            &rt,
+            rt.alloc(),
+            Size {
+                heap: 6000,
+                steps: 100
+            },
+            EVICTS,
+            &EVICTED
+        )?
+    );
     Ok(())
 }
 
 #[test]
 fn the_child_is_killed_and_then_the_first_starves(rt: HostRuntime) -> Result<(), Fail> {
-    assert!(rt; goes_so(&rt, rt.alloc(), Size { heap: 5500, steps: 100 }, KILLS, &KILLED)?);
+    assert!(rt;
+        goes_so(
+            &rt,
+            rt.alloc(),
+            Size {
+                heap: 5500,
+                steps: 100
+            },
+            KILLS,
+            &KILLED
+        )?
+    );
     Ok(())
 }
 
 #[test]
 fn steps_are_spent_while_one_is_held(rt: HostRuntime) -> Result<(), Fail> {
-    assert!(rt; goes_so(&rt, rt.alloc(), Size { heap: 8192, steps: 2 }, SPENDS, &SPENT)?);
+    assert!(rt;
+        goes_so(
+            &rt,
+            rt.alloc(),
+            Size {
+                heap: 8192,
+                steps: 2
+            },
+            SPENDS,
+            &SPENT
+        )?
+    );
     Ok(())
 }
 
 #[test]
 fn what_the_heap_never_gives_is_refused(rt: HostRuntime) -> Result<(), Fail> {
-    assert!(rt; goes_so(&rt, rt.alloc(), Size { heap: 5000, steps: 100 }, REFUSES, &REFUSED)?);
+    assert!(rt;
+        goes_so(
+            &rt,
+            rt.alloc(),
+            Size {
+                heap: 5000,
+                steps: 100
+            },
+            REFUSES,
+            &REFUSED
+        )?
+    );
     Ok(())
 }
 
 #[test]
 fn who_is_held_is_given_back(rt: HostRuntime) -> Result<(), Fail> {
-    assert!(rt; goes_so(&rt, rt.alloc(), Size { heap: 8192, steps: 100 }, GIVES_BACK, &GIVEN_BACK)?);
+    assert!(rt;
+        goes_so(
+            &rt,
+            rt.alloc(),
+            Size {
+                heap: 8192,
+                steps: 100
+            },
+            GIVES_BACK,
+            &GIVEN_BACK
+        )?
+    );
     Ok(())
 }

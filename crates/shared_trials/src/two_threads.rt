@@ -59,8 +59,15 @@ fn run<R: Threads + Wait + Sync, L: RunName + Send + Sync>(
     requires seat { seat.charge ≡ charge }
     requires boot { (seat.known.is_boot ≡ true) × (seat.known.others ≡ 0) × (seat.known.holds ≡ fixed) }
 {
-    let (kernel, mut passes) =
-        Kernel::<Pair, L>::boot(alloc, at_boot(heap), 1000, heap, 2, charge, seat)?;
+    let (kernel, mut passes) = Kernel::<Pair, L>::boot(
+        alloc,
+        at_boot(heap),
+        1000,
+        heap,
+        2,
+        charge,
+        seat,
+    )?;
     let Some(first) = passes.pop() else {
         unreachable!()
     };
@@ -73,7 +80,7 @@ fn run<R: Threads + Wait + Sync, L: RunName + Send + Sync>(
         move || -> Pass<Pair, L>
             requires { IsAtRest L.script L.steps L.charge shared.now.turns first.turn first.own first.given × (first.given ≡ None) }
             ensures rests { IsAtRest L.script L.steps L.charge shared.entry.now.turns result.turn result.own result.given × (result.given ≡ None) }
-            ensures many { IsAsMany first.entry.turn result.turn }
+            ensures many { IsAsMany first.turn result.turn }
         { works_on(rt, shared, first) },
         move || -> Pass<Pair, L>
             requires { IsAtRest L.script L.steps L.charge shared.now.turns second.turn second.own second.given × (second.given ≡ None) }
@@ -145,11 +152,7 @@ fn is_whole(closed: &Closed<Pair>) -> bool {
 }
 
 /// Whether two threads bring a run on so much heap to its end, each time.
-fn are_whole<R: Threads + Wait + Sync>(
-    rt: &R,
-    alloc: Global,
-    heap: u64,
-) -> Result<bool, Memory>
+fn are_whole<R: Threads + Wait + Sync>(rt: &R, alloc: Global, heap: u64) -> Result<bool, Memory>
     requires { 2816 ≤ heap }
 {
     for _ in 0..20 {
