@@ -1,0 +1,257 @@
+//! The calls of a tree of files, each with a purse of its own.
+ghost use Rattle.std.specs.Prelude.{◌≡◌, ℕ, ◌+◌, ◌<◌, ◌≤◌, ◌^◌, ◌%◌, None, IsTrue, MatchResult, length};
+ghost use Rattle.std.specs.List.{All};
+ghost use Rattle.kabi_calls.specs.Arguments.{path_fault};
+ghost use Rattle.posix_defs.specs.PathCalls.{stat_info};
+ghost use Rattle.posix_defs.specs.Tree.{Tree};
+ghost use Rattle.memfs_ops.specs.FileTree.{Stands};
+ghost use Rattle.tree_trials.specs.Trials.{StandsUpTo, HoldsUpTo, HoldsFile, HoldsDirectory};
+
+use crate::world::{World, expect_few, purse};
+use kabi_types::{Call, Errno, NodeKind, Path, StatInfo};
+use memfs_ops::Opening;
+use std::process::Abort;
+
+/// What a call answers.
+#[derive(Clone, Copy, PartialEq, Eq)]
+pub enum Answer {
+    /// The kind of a node, its number, its links and its size.
+    Told(NodeKind, u32, u32, u32),
+    /// The number of a node, or of bytes.
+    Number(u32),
+    /// That no socket has the name.
+    Nothing,
+    Done,
+    Fault(Errno),
+}
+
+pub fn told(info: StatInfo) -> Answer {
+    Answer::Told(info.kind, info.number, info.nlink, info.size)
+}
+
+fn told_of(answer: Result<StatInfo, Errno>) -> Answer {
+    match answer {
+        Ok(info) => told(info),
+        Err(errno) => Answer::Fault(errno),
+    }
+}
+
+pub fn number_of(answer: Result<u32, Errno>) -> Answer {
+    match answer {
+        Ok(number) => Answer::Number(number),
+        Err(errno) => Answer::Fault(errno),
+    }
+}
+
+pub fn done_of(answer: Result<(), Errno>) -> Answer {
+    match answer {
+        Ok(()) => Answer::Done,
+        Err(errno) => Answer::Fault(errno),
+    }
+}
+
+fn name_of(answer: Result<Option<u32>, Errno>) -> Answer {
+    match answer {
+        Ok(Some(number)) => Answer::Number(number),
+        Ok(None) => Answer::Nothing,
+        Err(errno) => Answer::Fault(errno),
+    }
+}
+
+// Whether the argument check passes a path that has no zero byte.
+fn passes(path: &[u8]) -> bool
+    ensures { IsTrue result → (path_fault path.now ≡ None) × All (λ byte. (0 < byte) × (byte < 2 ^ 8)) path.now }
+{
+    let checked = match Path::of(path) {
+        Some(path) => Call::Stat { path }.checked().is_ok(),
+        None => false,
+    };
+    checked && !path.contains(&0)
+}
+
+pub fn stat(rt: &impl Abort, world: &mut World, path: &[u8]) -> Answer
+    requires { StandsUpTo world.old.heap world.old.files world.old.holders }
+    ensures stands { StandsUpTo world.new.heap world.new.files world.new.holders }
+    ensures holders { world.new.holders ≡ world.old.holders }
+{
+    assert!(rt; passes(path));
+    let mut paid = purse(rt, &world.heap);
+    told_of(world.files.stat_path(&mut world.heap, &mut paid, 1, path))
+}
+
+/// A stat by a path from a directory that is held.
+pub fn stat_from(rt: &impl Abort, world: &mut World, dir: u32, path: &[u8]) -> Answer
+    requires { HoldsDirectory world.old.heap world.old.files dir world.old.holders }
+    ensures holds { HoldsDirectory world.new.heap world.new.files dir world.new.holders }
+    ensures holders { world.new.holders ≡ world.old.holders }
+{
+    assert!(rt; passes(path));
+    let mut paid = purse(rt, &world.heap);
+    told_of(world.files.stat_path(&mut world.heap, &mut paid, dir, path))
+}
+
+pub fn mkdir(rt: &impl Abort, world: &mut World, path: &[u8]) -> Answer
+    requires { StandsUpTo world.old.heap world.old.files world.old.holders }
+    ensures stands { StandsUpTo world.new.heap world.new.files world.new.holders }
+    ensures holders { world.new.holders ≡ world.old.holders }
+{
+    assert!(rt; passes(path));
+    let mut paid = purse(rt, &world.heap);
+    done_of(world.files.make_dir(&mut world.heap, &mut paid, 1, path))
+}
+
+pub fn bind(rt: &impl Abort, world: &mut World, path: &[u8]) -> Answer
+    requires { StandsUpTo world.old.heap world.old.files world.old.holders }
+    ensures stands { StandsUpTo world.new.heap world.new.files world.new.holders }
+    ensures holders { world.new.holders ≡ world.old.holders }
+{
+    assert!(rt; passes(path));
+    let mut paid = purse(rt, &world.heap);
+    number_of(world.files.bind_name(&mut world.heap, &mut paid, 1, path))
+}
+
+pub fn connect(rt: &impl Abort, world: &mut World, path: &[u8]) -> Answer
+    requires { StandsUpTo world.old.heap world.old.files world.old.holders }
+    ensures stands { StandsUpTo world.new.heap world.new.files world.new.holders }
+    ensures holders { world.new.holders ≡ world.old.holders }
+{
+    assert!(rt; passes(path));
+    let mut paid = purse(rt, &world.heap);
+    name_of(world.files.find_name(&mut world.heap, &mut paid, 1, path))
+}
+
+/// The directory that a path leads to, which is held then.
+pub fn enter(rt: &impl Abort, world: &mut World, path: &[u8]) -> Result<u32, Errno>
+    requires { StandsUpTo world.old.heap world.old.files world.old.holders }
+    ensures held { MatchResult result
+        (λ node. HoldsUpTo world.new.heap world.new.files node world.new.holders)
+        (λ _. StandsUpTo world.new.heap world.new.files world.new.holders) }
+    ensures holders { world.new.holders ≡ world.old.holders + 1 }
+{
+    assert!(rt; passes(path));
+    expect_few(rt, world.holders);
+    let mut paid = purse(rt, &world.heap);
+    world.holders += 1;
+    world.files.enter(&mut world.heap, &mut paid, 1, path)
+}
+
+/// The node that is opened, which is held then.
+pub fn open_path(
+    rt: &impl Abort,
+    world: &mut World,
+    path: &[u8],
+    how: Opening,
+) -> Result<u32, Errno>
+    requires { StandsUpTo world.old.heap world.old.files world.old.holders }
+    ensures held { MatchResult result
+        (λ node. HoldsUpTo world.new.heap world.new.files node world.new.holders)
+        (λ _. StandsUpTo world.new.heap world.new.files world.new.holders) }
+    ensures holders { world.new.holders ≡ world.old.holders + 1 }
+{
+    assert!(rt; passes(path));
+    expect_few(rt, world.holders);
+    let mut paid = purse(rt, &world.heap);
+    world.holders += 1;
+    world
+        .files
+        .open_node(&mut world.heap, &mut paid, 1, path, how)
+}
+
+pub fn fstat(world: &mut World, node: u32) -> StatInfo
+    requires { HoldsUpTo world.old.heap world.old.files node world.old.holders }
+    ensures holds { HoldsUpTo world.new.heap world.new.files node world.new.holders }
+    ensures holders { world.new.holders ≡ world.old.holders }
+    ensures value { (tree : Tree) (pins : ℕ → ℕ) → Stands world.old.heap world.old.files tree pins
+        → result ≡ stat_info tree node }
+    ensures stands { (tree : Tree) (pins : ℕ → ℕ) → Stands world.old.heap world.old.files tree pins
+        → Stands world.new.heap world.new.files tree pins }
+{
+    world.files.stat_node(&world.heap, node)
+}
+
+/// One holds the node once more.
+pub fn pin(rt: &impl Abort, world: &mut World, node: u32)
+    requires { HoldsUpTo world.old.heap world.old.files node world.old.holders }
+    ensures holds { HoldsUpTo world.new.heap world.new.files node world.new.holders }
+    ensures holders { world.new.holders ≡ world.old.holders + 1 }
+{
+    expect_few(rt, world.holders);
+    world.holders += 1;
+    world.files.pin_node(&mut world.heap, node);
+}
+
+/// The node is a file.
+pub fn expect_file(rt: &impl Abort, world: &mut World, node: u32)
+    requires { HoldsUpTo world.old.heap world.old.files node world.old.holders }
+    ensures holds { HoldsFile world.new.heap world.new.files node world.new.holders }
+    ensures holders { world.new.holders ≡ world.old.holders }
+{
+    let info = fstat(world, node);
+    expect_kind(rt, info.kind, NodeKind::File);
+}
+
+/// The node is a directory.
+pub fn expect_directory(rt: &impl Abort, world: &mut World, node: u32)
+    requires { HoldsUpTo world.old.heap world.old.files node world.old.holders }
+    ensures holds { HoldsDirectory world.new.heap world.new.files node world.new.holders }
+    ensures holders { world.new.holders ≡ world.old.holders }
+{
+    let info = fstat(world, node);
+    expect_kind(rt, info.kind, NodeKind::Dir);
+}
+
+fn expect_kind(rt: &impl Abort, kind: NodeKind, want: NodeKind)
+    ensures { kind ≡ want }
+{
+    assert!(rt; kind == want);
+}
+
+pub fn read(rt: &impl Abort, world: &mut World, node: u32, at: u64, out: &mut [u8]) -> u32
+    requires { HoldsFile world.old.heap world.old.files node world.old.holders }
+    ensures holds { HoldsUpTo world.new.heap world.new.files node world.new.holders }
+    ensures holders { world.new.holders ≡ world.old.holders }
+{
+    let mut paid = purse(rt, &world.heap);
+    world
+        .files
+        .read_node(&mut world.heap, &mut paid, node, at, out)
+}
+
+pub fn list(rt: &impl Abort, world: &mut World, node: u32, at: u64, out: &mut [u8]) -> u32
+    requires holds { HoldsDirectory world.old.heap world.old.files node world.old.holders }
+    requires whole { at % 32 ≡ 0 }
+    ensures holds { HoldsDirectory world.new.heap world.new.files node world.new.holders }
+    ensures holders { world.new.holders ≡ world.old.holders }
+{
+    let mut paid = purse(rt, &world.heap);
+    world
+        .files
+        .list_node(&mut world.heap, &mut paid, node, at, out)
+}
+
+pub fn write(rt: &impl Abort, world: &mut World, node: u32, at: u64, bytes: &[u8]) -> Answer
+    requires { HoldsFile world.old.heap world.old.files node world.old.holders }
+    ensures holds { HoldsUpTo world.new.heap world.new.files node world.new.holders }
+    ensures holders { world.new.holders ≡ world.old.holders }
+{
+    assert!(rt; bytes.len() != 0);
+    let mut paid = purse(rt, &world.heap);
+    number_of(
+        world
+            .files
+            .write_node(&mut world.heap, &mut paid, node, at, bytes),
+    )
+}
+
+pub fn resize(rt: &impl Abort, world: &mut World, node: u32, size: u64) -> Answer
+    requires { HoldsFile world.old.heap world.old.files node world.old.holders }
+    ensures holds { HoldsUpTo world.new.heap world.new.files node world.new.holders }
+    ensures holders { world.new.holders ≡ world.old.holders }
+{
+    let mut paid = purse(rt, &world.heap);
+    done_of(
+        world
+            .files
+            .size_node(&mut world.heap, &mut paid, node, size),
+    )
+}
