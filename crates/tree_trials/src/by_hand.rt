@@ -62,13 +62,12 @@ pub fn clear(world: &mut World, what: Cached) -> u32
     requires { StandsUpTo world.old.heap world.old.files world.old.holders }
     ensures stands { StandsUpTo world.new.heap world.new.files world.new.holders }
 {
-    let mut gone: u32 = 0;
-    for _ in 0..100 {
-        if evict(world, what) {
-            gone = gone.wrapping_add(1);
+    for gone in 0..100 {
+        if !evict(world, what) {
+            return gone;
         }
     }
-    gone
+    100
 }
 
 // The first directory: the root's entries are read for its name, then the map and the table for a node and a block, and the

@@ -229,11 +229,19 @@ pub fn list(rt: &impl Abort, world: &mut World, node: u32, at: u64, out: &mut [u
         .list_node(&mut world.heap, &mut paid, node, at, out)
 }
 
+// What is written has no zero byte, so that it differs from a gap.
+fn expect_no_zero(rt: &impl Abort, bytes: &[u8])
+    ensures { All (λ byte. byte < 2 ^ 8) bytes.now }
+{
+    assert!(rt; !bytes.contains(&0));
+}
+
 pub fn write(rt: &impl Abort, world: &mut World, node: u32, at: u64, bytes: &[u8]) -> Answer
     requires { HoldsFile world.old.heap world.old.files node world.old.holders }
     ensures holds { HoldsUpTo world.new.heap world.new.files node world.new.holders }
     ensures holders { world.new.holders ≡ world.old.holders }
 {
+    expect_no_zero(rt, bytes);
     assert!(rt; bytes.len() != 0);
     let mut paid = purse(rt, &world.heap);
     number_of(

@@ -361,7 +361,7 @@ fn check_opened(rt: &impl Abort, world: &mut World, rows: &[Opened])
 fn entry(node: u8, name: &str) -> [u8; 32] {
     let mut bytes = [0; 32];
     bytes[3] = node;
-    bytes[4] = name.len() as u8;
+    bytes[4] = name.len().min(27) as u8;
     for (k, letter) in name.bytes().enumerate() {
         if k < 27 {
             bytes[5 + k] = letter;

@@ -99,7 +99,7 @@ fn write_both(rt: &impl Abort, world: &mut World, plain: &mut Plain, node: u32, 
 {
     let at = place_of(dice.roll());
     let count = count_of(dice.roll());
-    let byte = dice.roll() as u8;
+    let byte = (dice.roll() % 64) as u8 + 1;
     let bytes = [byte; 2048];
     expect_file(rt, world, node);
     let answer = write(rt, world, node, at, &bytes[..count]);

@@ -168,9 +168,11 @@ impl Plain {
 
     // The free node of the lowest number.
     fn free_node(&self) -> Option<u32> {
-        for (place, node) in self.nodes.iter().enumerate() {
+        let mut number: u32 = 0;
+        for node in &self.nodes {
+            number = number.wrapping_add(1);
             if node.kind.is_none() {
-                return Some((place as u32).wrapping_add(1));
+                return Some(number);
             }
         }
         None
