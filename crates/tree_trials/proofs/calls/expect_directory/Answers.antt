@@ -1,4 +1,4 @@
-use Rattle.std.proofs.Common.{sym, ap, ◌∙◌}
+use Rattle.std.proofs.Common.{sym, ap, ◌∙◌, arith}
 use Rattle.kabi_values.specs.declared.replies.StatInfo.{StatInfo}
 use Rattle.tree_trials.proofs.Holding.{kind_directory}
 use Rattle.tree_trials.proofs.calls.expect_directory.Goals as goal
@@ -9,4 +9,5 @@ returns-clause-holds g c =
     let i = c.fstat-info in
     let now = i.ensures.stands s.0 s.1 s.2 in
     let kind = sym (ap (λ (info : StatInfo). info.kind) (i.ensures.value s.0 s.1 s.2)) ∙ c.expect_kind.ensures in
-    (s.0, s.1, now, s.3, s.4, kind_directory s.0 c.args.node kind)
+    let same = i.ensures.holders in
+    (s.0, s.1, now, (λ number. let here = s.3 number in omega (arith, here, same)), s.4, kind_directory s.0 c.args.node kind)
