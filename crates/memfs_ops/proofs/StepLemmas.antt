@@ -1,6 +1,5 @@
 -- A step from one tree to the next, in the midst of a change, and the tree at its end.
 use Rattle.std.proofs.Common.{◌≡◌, ◌≢◌, ℕ, ◌+◌, ◌<◌, ◌≤◌, ◌⊎◌, Bool, true, false, not, ◌&&◌, eqb, List, length, Option, Some, None, Result, Ok, Err, refl, sym, ap, ◌∙◌, subst, inl, inr, arith}
-use Rattle.std.specs.Prelude.{¬}
 use Rattle.kabi_values.specs.declared.inodes.Inode.{Inode}
 use Rattle.kheap_shelves.specs.Objects.{object}
 use Rattle.kheap_shelves.specs.Purse.{Purse}

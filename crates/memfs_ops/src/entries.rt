@@ -1,5 +1,5 @@
 //! One entry of a directory changes, on a disk and in the tree that it stands for.
-ghost use Rattle.std.specs.Prelude.{◌≡◌, ◌≢◌, ℕ, ◌<◌, ◌≤◌, ¬, true, length};
+ghost use Rattle.std.specs.Prelude.{◌≡◌, ◌≢◌, ℕ, ◌<◌, ◌≤◌, true, length};
 ghost use Rattle.posix_defs.specs.DiskContents.{own_name, parent_name, entry_for};
 ghost use Rattle.posix_defs.specs.DiskFormat.{IsName};
 ghost use Rattle.posix_defs.specs.DiskTree.{StandsFor, ChangesNode};

@@ -1,6 +1,6 @@
 //! The steps of a call that changes more than one node, each from one tree to the next: in between a tree need not be one
 //! that a call leaves, and the names that are cached are those of the tree before.
-ghost use Rattle.std.specs.Prelude.{◌≡◌, ◌<◌, ◌≤◌, ◌↔◌, ℕ, true, false, ¬, IsTrue};
+ghost use Rattle.std.specs.Prelude.{◌≡◌, ◌<◌, ◌≤◌, ◌↔◌, ℕ, true, false, IsTrue};
 ghost use Rattle.posix_defs.specs.SoundDisk.{HasNode, free_in_map};
 ghost use Rattle.posix_defs.specs.Tree.{Tree, is_directory as directory_in};
 ghost use Rattle.posix_defs.specs.TreeChanges.{link_added, link_dropped, most_links};

@@ -1,6 +1,6 @@
 //! What is changed of a directory and of a node's links on a disk behind a cache of its blocks, each a call that lends its
 //! parts and makes one change.
-ghost use Rattle.std.specs.Prelude.{◌≡◌, ◌+◌, ◌<◌, ◌≤◌, ◌^◌, ◌&&◌, ◌==◌, ◌↔◌, ℕ, true, not, ¬, IsTrue};
+ghost use Rattle.std.specs.Prelude.{◌≡◌, ◌+◌, ◌<◌, ◌≤◌, ◌^◌, ◌&&◌, ◌==◌, ◌↔◌, ℕ, true, not, IsTrue};
 ghost use Rattle.posix_defs.specs.DiskFormat.{greatest_size};
 ghost use Rattle.posix_defs.specs.DiskTree.{StandsFor, ChangesNode};
 ghost use Rattle.posix_defs.specs.SoundDisk.{HasNode, Sound};

@@ -1,5 +1,5 @@
 use Rattle.std.proofs.Common.{◌≡◌, ℕ, List, refl, sym, ap, ◌∙◌, subst}
-use Rattle.std.specs.Prelude.{◌↔◌, ¬, IsTrue}
+use Rattle.std.specs.Prelude.{◌↔◌, IsTrue}
 use Rattle.posix_defs.specs.SoundDisk.{HasNode}
 use Rattle.memfs_dir.specs.Listed.{IsFull}
 use Rattle.cached_disk.specs.Lent.{parts, GoesOn}
