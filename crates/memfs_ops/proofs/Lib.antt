@@ -14,3 +14,4 @@ pub mod CloseLemmas
 pub mod StepLemmas
 pub mod RemoveLemmas
 pub mod LinkLemmas
+pub mod RenameLemmas
