@@ -1,0 +1,5 @@
+pub mod Renaming
+pub mod Owners
+pub mod Opens
+pub mod Told
+pub mod Pairing

@@ -1,0 +1,69 @@
+//! What a call on a socket names, and which number of its caller is free.
+
+ghost use Rattle.std.specs.Prelude.{◌≡◌, ◌<◌, ◌≤◌, ℕ, [], IfOk, IfSome, IsSome, None};
+ghost use Rattle.std.specs.List.{Contains};
+ghost use Rattle.kabi_types.specs.declared.scripts.Script.{Script};
+ghost use Rattle.open_laws.specs.Owned.{HasItsOwners, socks_named};
+ghost use Rattle.place_laws.specs.Placed.{Numbers};
+ghost use Rattle.posix_defs.specs.Answer.{Answer};
+ghost use Rattle.posix_defs.specs.Calls.Opened.{Opened};
+ghost use Rattle.posix_defs.specs.Files.Descriptors.{lowest_free_from};
+ghost use Rattle.posix_defs.specs.Files.State.{Files, descriptors_of};
+ghost use Rattle.posix_defs.specs.Plain.{Plain};
+ghost use Rattle.proc_table.specs.Table.{key_of};
+ghost use Rattle.proc_descs.specs.Having.{AreListed, HaveOpen};
+ghost use Rattle.proc_descs.specs.Naming.{named_at};
+ghost use Rattle.proc_socks.specs.Finding.{FindsSocket};
+
+use desc_table::Descs;
+use kabi_types::Errno;
+use kheap_shelves::Target;
+use kheap_slabs::KHeap;
+use proc_descs::{descriptor_of, places_of};
+use proc_table::ProcTable;
+
+/// The socket that a number of a process is open on.
+#[derive(Clone, Copy)]
+pub struct OnSocket {
+    /// The key of the socket.
+    pub key: u32,
+    /// Whether a call by this number that would have to wait fails (O_NONBLOCK).
+    pub nonblock: bool,
+}
+
+/// The socket that a number of a process is open on.
+///
+/// EBADF where the number isn't open, ENOTSOCK where it is open on something else.
+pub fn socket_of(heap: &KHeap, procs: &ProcTable, pid: u32, fd: i64) -> Result<OnSocket, Errno>
+    requires listed { AreListed heap.now procs.now }
+    requires owners { HasItsOwners heap.now [] }
+    requires there { IsSome (key_of procs.now.listed pid) }
+    ensures found { (numbers : Numbers) (script : Script) (plain : Plain) (answer : Opened → ℕ → Answer)
+        → HaveOpen numbers heap.now procs.now plain.files
+        → FindsSocket numbers script plain pid fd answer result }
+    ensures there { IfOk result (λ found. Contains (socks_named heap.now.descs) found.key) }
+{
+    let Some(held) = descriptor_of(heap, procs, pid, fd) else {
+        return Err(Errno::EBADF);
+    };
+    let desc = heap.get_desc(held.desc);
+    match desc.target {
+        Target::Sock(key) => Ok(OnSocket {
+            key,
+            nonblock: desc.flags.nonblock,
+        }),
+        Target::Inode(_) | Target::Pipe(_) => Err(Errno::ENOTSOCK),
+    }
+}
+
+// The lowest number of a process at or above one that is free.
+pub(crate) fn lowest_from(heap: &KHeap, procs: &ProcTable, pid: u32, from: u32) -> Option<u32>
+    requires listed { AreListed heap.now procs.now }
+    requires there { IsSome (key_of procs.now.listed pid) }
+    ensures lowest { (numbers : Numbers) (files : Files) → HaveOpen numbers heap.now procs.now files
+        → lowest_free_from (descriptors_of files pid) from ≡ result }
+    ensures free { IfSome result (λ fd. (fd < 32) × (from ≤ fd) × (named_at heap.now procs.now pid fd ≡ None)) }
+{
+    let descs = Descs::of(places_of(heap, procs, pid));
+    descs.lowest(from)
+}
