@@ -3,3 +3,6 @@ pub mod Owners
 pub mod Opens
 pub mod Told
 pub mod Pairing
+pub mod Moved
+pub mod Reads
+pub mod Writes

@@ -8,7 +8,7 @@ use Rattle.kheap_shelves.specs.declared.objects.Desc.{Desc}
 use Rattle.kheap_slabs.specs.Heap.{Heap}
 use Rattle.kheap_slabs.specs.Owners.{OwnsItsObjects}
 use Rattle.open_laws.specs.Owned.{CountsItsNames, HasItsOwners, desc_count, desc_count_at}
-use Rattle.place_laws.specs.Placed.{Numbers}
+use Rattle.place_laws.specs.Placed.{Numbers, numbered}
 use Rattle.posix_defs.specs.Calls.OnSockets.{description_of}
 use Rattle.posix_defs.specs.Files.State.{Files, with_sockets}
 use Rattle.posix_defs.specs.Sockets.{Sockets, with_pair}
@@ -61,7 +61,7 @@ module _ (old made mid new : Heap) (one other here there : ℕ) (vacant : object
     (owners : HasItsOwners old []) where
   but : HasOwnersBut made [] (one ∷ other ∷ [])
   but =
-      owners_two old made [] one other (record { others = others; objects = objects; held = λ named is. held_turned made one other named (held named is); queues = queues })
+      owners_two old made [] one other (record { others = others; objects = objects; held = λ named is. held_turned made one other named (held named is)})
       owners vacant also_vacant apart
 
   then_but : HasOwnersBut mid (here ∷ []) (other ∷ [])
@@ -100,10 +100,10 @@ module _ (old made mid new : Heap) (one other here there : ℕ) (vacant : object
     numbers_new = with_desc numbers_mid files_mid there
 
     at_one_sock : numbers_made.socks one ≡ length files.sockets
-    at_one_sock = stays _ other (length files.sockets + 1) one apart ∙ given numbers.socks one (length files.sockets)
+    at_one_sock = stays (numbered numbers.socks one (length files.sockets)) other (length files.sockets + 1) one apart ∙ given numbers.socks one (length files.sockets)
 
     at_other_sock : numbers_made.socks other ≡ length files.sockets + 1
-    at_other_sock = given _ other (length files.sockets + 1)
+    at_other_sock = given (numbered numbers.socks one (length files.sockets)) other (length files.sockets + 1)
 
     listed_made : AreListed made kept
     listed_made = listed_on old made kept (ap (λ (h : Heap). h.procs) others.kept) listed

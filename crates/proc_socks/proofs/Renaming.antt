@@ -180,7 +180,7 @@ pair_within keyed one other within also_within apart =
     let most = length-with_most first other (Some (connected_to one)) in
     (by_one (cases_lt (length keyed) one) (cases_lt other (length first)), omega (arith, also_within, most))
   where
-    abbrev first : Sockets
+    first : Sockets
     first = with_socket keyed one (Some (connected_to other))
 
     by_one : (length keyed < one) ⊎ (one ≤ length keyed) → (other < length first) ⊎ (length first ≤ other) → one ≤ length keyed
@@ -211,16 +211,16 @@ module _ (number : ℕ → ℕ) (keyed sockets : Sockets) (linked : AreLinked ke
       (λ k z w is means. means ∙ ap (λ n. socket_by (numbered between other n) z) (sym next_place))
       made)
     where
-      abbrev between : ℕ → ℕ
+      between : ℕ → ℕ
       between = numbered number one (length sockets)
 
-      abbrev now : ℕ → ℕ
+      now : ℕ → ℕ
       now = numbered between other (length sockets + 1)
 
-      abbrev first : Sockets
+      first : Sockets
       first = with_socket keyed one (Some (connected_to other))
 
-      abbrev placed : Sockets
+      placed : Sockets
       placed = with_socket sockets (length sockets) (Some (connected_to (length sockets + 1)))
 
       next_place : length placed ≡ length sockets + 1

@@ -1,5 +1,5 @@
 -- What the machine answers to a call on sockets, and what heap and table have open once one has changed.
-use Rattle.std.proofs.Common.{◌≡◌, ◌≢◌, ◌⊎◌, ℕ, ℤ, pos, ◌+◌, ◌<◌, ◌≤◌, ◌++◌, Bool, true, false, List, [], ◌∷◌, length, Option, None, Some, IsSome, is_some, refl, sym, ap, subst, ◌∙◌, arith, inl, inr, length-append, Contains}
+use Rattle.std.proofs.Common.{◌≡◌, ◌≢◌, ◌⊎◌, ℕ, ℤ, pos, ◌+◌, ◌<◌, ◌≤◌, ◌++◌, Bool, true, false, cond, List, [], ◌∷◌, length, Option, None, Some, IsSome, is_some, refl, sym, ap, subst, ◌∙◌, arith, inl, inr, length-append, Contains}
 use Rattle.std.proofs.lemmas.Bool.{cases_eq}
 use Rattle.std.proofs.lemmas.List.{get_or-set_other}
 use Rattle.std.specs.Prelude.{MatchResult, Result, Ok, Err, IsOk}
@@ -15,20 +15,21 @@ use Rattle.kheap_shelves.specs.declared.objects.Target.{Target}
 use Rattle.kheap_shelves.specs.declared.objects.Target.TheVariants as target
 use Rattle.kheap_shelves.proofs.ObjectLemmas.{InUse-within, object_of}
 use Rattle.kheap_slabs.specs.Heap.{Heap}
-use Rattle.open_laws.specs.Described.{counted_in, target_in}
-use Rattle.open_laws.specs.Owned.{HasItsOwners, sock_in, socks_named}
+use Rattle.open_laws.specs.Described.{access_in, counted_in, target_in}
+use Rattle.open_laws.specs.Owned.{HasItsOwners, sock_in, sock_of, socks_named}
 use Rattle.open_laws.specs.Socketed.{AreRenamed, AreSocketed}
 use Rattle.open_laws.proofs.OwnerLemmas.{named_by as sock_named_by}
 use Rattle.place_laws.specs.Placed.{Numbers, numbered}
 use Rattle.posix_defs.specs.Answer.{Answer, Blocked, failed, replied}
 use Rattle.posix_defs.specs.Calls.OnSockets.{accept as call_accept, accept_at, accepted, accepted_under, description_of, listen as call_listen, listen_at, on_socket, paired, paired_under, resocketed, shutdown as call_shutdown, shutdown_at, socket, socket_target, socketed, socketed_under, socketpair, unless_fault}
-use Rattle.posix_defs.specs.Calls.Opened.{Opened}
+use Rattle.posix_defs.specs.Calls.Opened.{Opened, on_open}
 use Rattle.posix_defs.specs.Files.Descriptors.{Two, lowest_free_from, two_lowest_free}
 use Rattle.posix_defs.specs.Files.State.{Files, descriptors_of, with_open, with_sockets}
+use Rattle.posix_defs.specs.Machine.{blocks}
 use Rattle.posix_defs.specs.Plain.{Plain, with_files}
-use Rattle.posix_defs.specs.Socket.{Accepting, Takes, Connected, Idle, Listening, Stage, accept as accept_in, listen_fault, shutdown_fault, waiting_of}
+use Rattle.posix_defs.specs.Socket.{Accepting, Takes, Waits, Refuses, Connected, Idle, Listening, Stage, accept as accept_in, listen_fault, shutdown_fault, waiting_of}
 use Rattle.posix_defs.specs.Sockets.{Sockets, sock_at, socket_at, stage_at, after_accept, after_listen, after_shut, with_new, with_pair}
-use Rattle.usock_core.specs.Answers.{Answers as IsFault}
+use Rattle.usock_core.specs.Answers.{Answers as IsFault, accept_would_wait}
 use Rattle.usock_core.specs.Standing.{IsSocketIn, LeavesOthers, QueuesStay, StandsFor as SocketsStandFor}
 use Rattle.usock_core.proofs.HeldLemmas.{socket_held}
 use Rattle.usock_core.proofs.StandingLemmas.{found, free_from}
@@ -38,10 +39,10 @@ use Rattle.proc_descs.specs.Naming.{named_by}
 use Rattle.proc_descs.specs.Queues.{QueuesStand}
 use Rattle.proc_pipes.specs.Answering.{Answers, zero_of}
 use Rattle.proc_pipes.proofs.Answered.{named_there, on_it, on_nothing, refused}
-use Rattle.proc_socks.specs.Finding.{FindsSocket}
+use Rattle.proc_socks.specs.Finding.{FindsSocket, FindsToMove, if_movable, may_move}
 use Rattle.proc_socks.specs.Opening.{KeepsNumbers, with_both, with_desc, with_sock, with_socks}
 use Rattle.proc_socks.specs.Owning.{SocketsChange}
-use Rattle.proc_socks.specs.declared.finding.OnSocket.{OnSocket}
+use Rattle.proc_socks.specs.declared.finding.Found.{Found}
 use Rattle.proc_socks.proofs.Opens.{have_changed}
 use Rattle.proc_socks.proofs.Renaming.{accept_renamed, accept_told, accepting_by, listen_renamed, listen_told, new_renamed, new_within, pair_renamed, pair_within, shut_renamed, shut_told, stays}
 
@@ -81,6 +82,30 @@ module _ (h : Heap) (hand : List ℕ) (key : ℕ) (owners : HasItsOwners h hand)
   pub keyed_there : (keyed : Sockets) → SocketsStandFor h keyed → IsSome (sock_at keyed key)
   keyed_there keyed stands = let o = object_of h.socks key socket_there.used in (found h keyed key o.0 stands.table o.1).there
 
+-- ---- the calls, by the socket that they name
+
+abbrev pub listen_as : Script → Plain → ℕ → Opened → ℕ → Answer
+listen_as script plain pid opened = listen_at script plain pid
+
+abbrev pub shutdown_as : Script → Plain → ℕ → ℤ → Opened → ℕ → Answer
+shutdown_as script plain pid how opened = shutdown_at script plain pid how
+
+abbrev pub accept_as : Script → Plain → ℕ → Opened → ℕ → Answer
+accept_as script plain pid = accept_at script plain pid (lowest_free_from (descriptors_of plain.files pid) 0)
+
+module _ (script : Script) (plain : Plain) (pid : ℕ) (fd : ℤ) where
+  pub listen_asks : call_listen script plain pid fd ≡ on_socket script plain pid fd (listen_as script plain pid)
+  unfolding call_listen
+  listen_asks = refl
+
+  pub shutdown_asks : (how : ℤ) → call_shutdown script plain pid fd how ≡ on_socket script plain pid fd (shutdown_as script plain pid how)
+  unfolding call_shutdown
+  shutdown_asks how = refl
+
+  pub accept_asks : call_accept script plain pid fd ≡ on_socket script plain pid fd (accept_as script plain pid)
+  unfolding call_accept
+  accept_asks = refl
+
 -- ---- a socket changes, and no number does
 
 module _ (numbers : Numbers) (old new : Heap) (kept : TableView) (loose : List ℕ) (change : SocketsChange old new loose) (owners : HasItsOwners old []) (files : Files) (have : HaveOpen numbers old kept files) where
@@ -89,7 +114,7 @@ module _ (numbers : Numbers) (old new : Heap) (kept : TableView) (loose : List �
   have_after keyed sockets stands renamed =
       have_changed old new change.others numbers numbers.socks (λ k used. refl) owners.held.targets sockets (record { keyed = keyed; stands = stands; renamed = renamed }) kept files have
 
-module _ (numbers : Numbers) (old new : Heap) (kept : TableView) (script : Script) (plain : Plain) (pid : ℕ) (fd : ℤ) (on : OnSocket) (owners : HasItsOwners old [])
+module _ (numbers : Numbers) (old new : Heap) (kept : TableView) (script : Script) (plain : Plain) (pid : ℕ) (fd : ℤ) (on : Found) (owners : HasItsOwners old [])
     (named : Contains (socks_named old.descs) on.key) (change : SocketsChange old new []) (have : HaveOpen numbers old kept plain.files) where
   abbrev keyed : Sockets
   keyed = have.opened.socketed.keyed
@@ -113,20 +138,20 @@ module _ (numbers : Numbers) (old new : Heap) (kept : TableView) (script : Scrip
   settled call fault (Some errno) next (Ok done) is same told stands unchanged = cc
   settled call fault (Some errno) next (Err other) is same told stands unchanged =
       refused numbers new kept script plain pid call other
-      (is ∙ ap (λ f. unless_fault script plain pid f (resocketed script plain pid next)) same ∙ ap (λ e. failed script plain pid e) (same_errno told))
+      (is ∙ ap (λ f. unless_fault script plain pid f (resocketed script plain pid next)) same ∙ ap (λ e. failed script plain pid e) (same_errno (Err other) errno other refl told))
       (subst (λ (h : Heap). HaveOpen numbers h kept plain.files) (sym (unchanged other refl)) have)
     where
-      same_errno : {X : Type 0} {a b : Errno} → Err {A = X} a ≡ Err b → b ≡ a
-      same_errno e = cc
+      same_errno : {Y : Type 0} (r : Result Y Errno) (a b : Errno) → r ≡ Err b → r ≡ Err a → b ≡ a
+      same_errno r a b e f = cc
 
   -- what an answer leaves, by what it is
-  good : {X Y Z : Type 0} (r : Result X Errno) → IsOk r → MatchResult r (λ _. Y) (λ _. Z) → Y
-  good (Ok done) ok match = match
-  good (Err errno) ok match = cc
+  good : {X : Type 0} (Y Z : Type 0) (r : Result X Errno) → IsOk r → MatchResult r (λ _. Y) (λ _. Z) → Y
+  good Y Z (Ok done) ok match = match
+  good Y Z (Err errno) ok match = cc
 
-  bad : {X Y Z : Type 0} (r : Result X Errno) (errno : Errno) → r ≡ Err errno → MatchResult r (λ _. Y) (λ _. Z) → Z
-  bad (Ok done) errno is match = cc
-  bad (Err other) errno is match = match
+  bad : {X : Type 0} (Y Z : Type 0) (r : Result X Errno) (errno : Errno) → r ≡ Err errno → MatchResult r (λ _. Y) (λ _. Z) → Z
+  bad Y Z (Ok done) errno is match = cc
+  bad Y Z (Err other) errno is match = match
 
   pub listens : {X : Type 0} (result : Result X Errno) → ((answer : Opened → ℕ → Answer) → FindsSocket numbers script plain pid fd answer (Ok on)) → IsFault result (listen_fault (socket_at keyed on.key))
       → MatchResult result (λ _. SocketsStandFor new (after_listen keyed on.key)) (λ _. new ≡ old)
@@ -136,9 +161,9 @@ module _ (numbers : Numbers) (old new : Heap) (kept : TableView) (script : Scrip
       let it = finds_it (λ opened. listen_at script plain pid) in
       settled (call_listen script plain pid fd) (listen_fault (socket_at plain.files.sockets place)) (listen_fault (socket_at keyed on.key)) (after_listen plain.files.sockets place) result it.1
       (listen_told numbers.socks keyed plain.files.sockets on.key there have.opened.socketed.renamed) told
-      (λ ok. have_after numbers old new kept [] change owners plain.files have (after_listen keyed on.key) (after_listen plain.files.sockets place) (good result ok stands)
+      (λ ok. have_after numbers old new kept [] change owners plain.files have (after_listen keyed on.key) (after_listen plain.files.sockets place) (good (SocketsStandFor new (after_listen keyed on.key)) (new ≡ old) result ok stands)
       (listen_renamed numbers.socks keyed plain.files.sockets on.key there have.opened.socketed.renamed))
-      (λ errno is. bad result errno is stands)
+      (λ errno is. bad (SocketsStandFor new (after_listen keyed on.key)) (new ≡ old) result errno is stands)
 
   pub shuts : {X : Type 0} (how : ℤ) (result : Result X Errno) → ((answer : Opened → ℕ → Answer) → FindsSocket numbers script plain pid fd answer (Ok on)) → IsFault result (shutdown_fault (stage_at keyed on.key))
       → MatchResult result (λ _. SocketsStandFor new (after_shut keyed on.key how)) (λ _. new ≡ old)
@@ -148,9 +173,9 @@ module _ (numbers : Numbers) (old new : Heap) (kept : TableView) (script : Scrip
       let it = finds_it (λ opened. shutdown_at script plain pid how) in
       settled (call_shutdown script plain pid fd how) (shutdown_fault (stage_at plain.files.sockets place)) (shutdown_fault (stage_at keyed on.key)) (after_shut plain.files.sockets place how) result it.1
       (shut_told numbers.socks keyed plain.files.sockets on.key there have.opened.socketed.renamed) told
-      (λ ok. have_after numbers old new kept [] change owners plain.files have (after_shut keyed on.key how) (after_shut plain.files.sockets place how) (good result ok stands)
+      (λ ok. have_after numbers old new kept [] change owners plain.files have (after_shut keyed on.key how) (after_shut plain.files.sockets place how) (good (SocketsStandFor new (after_shut keyed on.key how)) (new ≡ old) result ok stands)
       (shut_renamed numbers.socks keyed plain.files.sockets on.key there have.opened.socketed.renamed how))
-      (λ errno is. bad result errno is stands)
+      (λ errno is. bad (SocketsStandFor new (after_shut keyed on.key how)) (new ≡ old) result errno is stands)
 
 -- ---- sockets are made
 
@@ -287,7 +312,7 @@ paired_so files pid first second here there here_is there_is =
 
 -- ---- one that waits is taken
 
-module _ (numbers : Numbers) (old : Heap) (kept : TableView) (script : Script) (plain : Plain) (pid : ℕ) (fd : ℤ) (on : OnSocket) (owners : HasItsOwners old [])
+module _ (numbers : Numbers) (old : Heap) (kept : TableView) (script : Script) (plain : Plain) (pid : ℕ) (fd : ℤ) (on : Found) (owners : HasItsOwners old [])
     (named : Contains (socks_named old.descs) on.key) (have : HaveOpen numbers old kept plain.files)
     (finds_it : (answer : Opened → ℕ → Answer) → FindsSocket numbers script plain pid fd answer (Ok on))
     (lowest : Option ℕ) (is_lowest : lowest_free_from (descriptors_of plain.files pid) 0 ≡ lowest) (accepting : Accepting)
@@ -320,3 +345,74 @@ pub taken_apart : (h : Heap) (key taken : ℕ) (room nonblock : Bool) → HasIts
 taken_apart h key taken room nonblock owners told at is =
     let held = owners.held.socks in
     held.held.apart taken (sock_named_by h.descs at taken is) key (takes_waiting (stage_at held.sockets key) room nonblock taken (told held.sockets held.stands))
+
+-- ---- whether an accept would have to wait
+
+pub wont_wait : (numbers : Numbers) (script : Script) (plain : Plain) (pid : ℕ) (fd : ℤ) (result : Result Found Errno) → ((on : Found) → result ≡ Ok on → ⊥)
+    → FindsSocket numbers script plain pid fd (accept_as script plain pid) result → false ≡ blocks (call_accept script plain pid fd)
+wont_wait numbers script plain pid fd (Ok on) never finds_it = absurd (never on refl)
+wont_wait numbers script plain pid fd (Err errno) never finds_it = sym (ap blocks (accept_asks script plain pid fd ∙ finds_it))
+
+blocks_by : (script : Script) (plain : Plain) (pid listener : ℕ) (lowest : Option ℕ) (number : ℕ → ℕ) (accepting : Accepting) → blocks (accepted_under script plain pid listener lowest (accepting_by number accepting)) ≡ accept_would_wait accepting
+blocks_by script plain pid listener (Some fd) number (Takes place) = refl
+blocks_by script plain pid listener None number (Takes place) = refl
+blocks_by script plain pid listener (Some fd) number Waits = refl
+blocks_by script plain pid listener None number Waits = refl
+blocks_by script plain pid listener (Some fd) number (Refuses errno) = refl
+blocks_by script plain pid listener None number (Refuses errno) = refl
+
+pub accept_sleeps : (numbers : Numbers) (old : Heap) (kept : TableView) (script : Script) (plain : Plain) (pid : ℕ) (fd : ℤ) (on : Found) (owners : HasItsOwners old []) (named : Contains (socks_named old.descs) on.key)
+    (have : HaveOpen numbers old kept plain.files) (finds_it : (answer : Opened → ℕ → Answer) → FindsSocket numbers script plain pid fd answer (Ok on))
+    (lowest : Option ℕ) (is_lowest : lowest_free_from (descriptors_of plain.files pid) 0 ≡ lowest) (waits : Bool)
+    (told : (sockets : Sockets) → SocketsStandFor old sockets → waits ≡ accept_would_wait (accept_in (stage_at sockets on.key) (is_some lowest) on.nonblock))
+    → waits ≡ blocks (call_accept script plain pid fd)
+accept_sleeps numbers old kept script plain pid fd on owners named have finds_it lowest is_lowest waits told =
+    let keyed = have.opened.socketed in
+    let it = finds_it (accept_as script plain pid) in
+    let accepting = accept_in (stage_at keyed.keyed on.key) (is_some lowest) on.nonblock in
+    told keyed.keyed keyed.stands
+    ∙ sym (ap blocks (accept_asks script plain pid fd ∙ it.1
+    ∙ ap (λ o. accepted_under script plain pid (numbers.socks on.key) o (accept_in (stage_at plain.files.sockets (numbers.socks on.key)) (is_some o) it.0.is.nonblock)) is_lowest
+    ∙ ap (λ b. accepted_under script plain pid (numbers.socks on.key) lowest (accept_in (stage_at plain.files.sockets (numbers.socks on.key)) (is_some lowest) b)) it.2
+    ∙ ap (accepted_under script plain pid (numbers.socks on.key) lowest)
+    (accept_told numbers.socks keyed.keyed plain.files.sockets on.key (keyed_there old [] on.key owners named keyed.keyed keyed.stands) keyed.renamed (is_some lowest) on.nonblock))
+    ∙ blocks_by script plain pid (numbers.socks on.key) lowest numbers.socks accepting)
+
+-- ---- who may read and write
+
+only_one : (what : Target) → IsSome (sock_of what) → ((key : ℕ) → what ≡ target.Sock key → ⊥) → ⊥
+only_one (target.Inode number) some never = cc
+only_one (target.Pipe pipe) some never = cc
+only_one (target.Sock key) some never = never key refl
+
+pub only_socket : (desc : Desc) → IsSome (sock_of desc.target) → ((key : ℕ) → desc.target ≡ target.Sock key → ⊥) → ⊥
+only_socket desc some never = only_one desc.target some never
+
+module _ (numbers : Numbers) (h : Heap) (kept : TableView) (script : Script) (plain : Plain) (pid : ℕ) (have : HaveOpen numbers h kept plain.files) (fd : ℤ) (writing : Bool) (answer : Opened → Answer) where
+  pub moves_nothing : named_by h kept pid fd ≡ None → FindsToMove numbers script plain pid fd writing answer None
+  moves_nothing none = on_nothing numbers h kept script plain pid have fd (λ opened. if_movable script plain pid writing opened (answer opened)) none
+
+  module _ (held : HeldDescriptor) (desc : Desc) (is : named_by h kept pid fd ≡ Some held) (there : object h.descs held.desc ≡ Some desc) where
+    abbrev this : Opened
+    this = record { place = numbers.descs held.desc; is = (counted_in numbers desc).is }
+
+    moves : (b : Bool) → may_move writing (access_in desc.access) ≡ b
+        → on_open script plain pid fd (λ opened. if_movable script plain pid writing opened (answer opened)) ≡ cond b (answer this) (failed script plain pid EBADF)
+    moves b tells =
+        on_it numbers h kept script plain pid have fd held desc is there (λ opened. if_movable script plain pid writing opened (answer opened))
+        ∙ ap (λ t. cond t (answer this) (failed script plain pid EBADF)) tells
+
+    pub finds_mover : (key : ℕ) (nonblock : Bool) → desc.target ≡ target.Sock key → nonblock ≡ desc.flags.nonblock → may_move writing (access_in desc.access) ≡ true
+        → FindsToMove numbers script plain pid fd writing answer (Some (record { key = key; nonblock = nonblock }))
+    finds_mover key nonblock on waits may = (this, moves true may, ap (target_in numbers) on, sym waits)
+
+    pub finds_no_mover : may_move writing (access_in desc.access) ≡ false → FindsToMove numbers script plain pid fd writing answer None
+    finds_no_mover may = moves false may
+
+pub waits_so : (script : Script) (plain : Plain) (pid listener : ℕ) (lowest : Option ℕ) → accepted_under script plain pid listener lowest Waits ≡ Blocked
+waits_so script plain pid listener (Some fd) = refl
+waits_so script plain pid listener None = refl
+
+pub refuses_so : (script : Script) (plain : Plain) (pid listener : ℕ) (lowest : Option ℕ) (errno : Errno) → accepted_under script plain pid listener lowest (Refuses errno) ≡ failed script plain pid errno
+refuses_so script plain pid listener (Some fd) errno = refl
+refuses_so script plain pid listener None errno = refl

@@ -11,7 +11,7 @@ use Rattle.kheap_slabs.specs.Owners.{OwnsItsObjects}
 use Rattle.open_laws.specs.Owned.{CountsItsNames, HasItsEnds, IsThereFor, sock_in, socks_named}
 use Rattle.pipe_ends.specs.Standing.{IsPipeAt}
 use Rattle.posix_defs.specs.SocketLinks.{NoneTwice}
-use Rattle.usock_core.specs.Standing.{IsHeldIn, LeavesOthers, QueuesStay}
+use Rattle.usock_core.specs.Standing.{IsHeldIn, LeavesOthers}
 
 -- a new description of a socket, which one descriptor names
 abbrev pub desc_on : ℕ → Desc
@@ -40,4 +40,3 @@ pub record SocketsChange (old new : Heap) (loose : List ℕ) : Type 0 where
   pub others : LeavesOthers old new
   pub objects : OwnsItsObjects new
   pub held : (named : List ℕ) → IsHeldIn old named → IsHeldIn new (loose ++ named)
-  pub queues : QueuesStay old new

@@ -3,6 +3,7 @@
 ghost use Rattle.std.specs.Prelude.{◌≡◌, ◌<◌, ◌≤◌, ℕ, [], IfOk, IfSome, IsSome, None};
 ghost use Rattle.std.specs.List.{Contains};
 ghost use Rattle.kabi_types.specs.declared.scripts.Script.{Script};
+ghost use Rattle.open_laws.specs.Described.{access_in};
 ghost use Rattle.open_laws.specs.Owned.{HasItsOwners, socks_named};
 ghost use Rattle.place_laws.specs.Placed.{Numbers};
 ghost use Rattle.posix_defs.specs.Answer.{Answer};
@@ -13,18 +14,18 @@ ghost use Rattle.posix_defs.specs.Plain.{Plain};
 ghost use Rattle.proc_table.specs.Table.{key_of};
 ghost use Rattle.proc_descs.specs.Having.{AreListed, HaveOpen};
 ghost use Rattle.proc_descs.specs.Naming.{named_at};
-ghost use Rattle.proc_socks.specs.Finding.{FindsSocket};
+ghost use Rattle.proc_socks.specs.Finding.{FindsSocket, FindsToMove, IsOnSocket, may_move as plain_may_move};
 
 use desc_table::Descs;
 use kabi_types::Errno;
-use kheap_shelves::Target;
+use kheap_shelves::{Access, Target};
 use kheap_slabs::KHeap;
 use proc_descs::{descriptor_of, places_of};
 use proc_table::ProcTable;
 
 /// The socket that a number of a process is open on.
 #[derive(Clone, Copy)]
-pub struct OnSocket {
+pub struct Found {
     /// The key of the socket.
     pub key: u32,
     /// Whether a call by this number that would have to wait fails (O_NONBLOCK).
@@ -34,7 +35,7 @@ pub struct OnSocket {
 /// The socket that a number of a process is open on.
 ///
 /// EBADF where the number isn't open, ENOTSOCK where it is open on something else.
-pub fn socket_of(heap: &KHeap, procs: &ProcTable, pid: u32, fd: i64) -> Result<OnSocket, Errno>
+pub fn socket_of(heap: &KHeap, procs: &ProcTable, pid: u32, fd: i64) -> Result<Found, Errno>
     requires listed { AreListed heap.now procs.now }
     requires owners { HasItsOwners heap.now [] }
     requires there { IsSome (key_of procs.now.listed pid) }
@@ -47,13 +48,13 @@ pub fn socket_of(heap: &KHeap, procs: &ProcTable, pid: u32, fd: i64) -> Result<O
         return Err(Errno::EBADF);
     };
     let desc = heap.get_desc(held.desc);
-    match desc.target {
-        Target::Sock(key) => Ok(OnSocket {
-            key,
-            nonblock: desc.flags.nonblock,
-        }),
-        Target::Inode(_) | Target::Pipe(_) => Err(Errno::ENOTSOCK),
-    }
+    let Target::Sock(key) = desc.target else {
+        return Err(Errno::ENOTSOCK);
+    };
+    Ok(Found {
+        key,
+        nonblock: desc.flags.nonblock,
+    })
 }
 
 // The lowest number of a process at or above one that is free.
@@ -66,4 +67,49 @@ pub(crate) fn lowest_from(heap: &KHeap, procs: &ProcTable, pid: u32, from: u32) 
 {
     let descs = Descs::of(places_of(heap, procs, pid));
     descs.lowest(from)
+}
+
+// The socket that a number is open on which may be written, or read; None, which is EBADF, where it isn't open or not for this.
+pub(crate) fn mover_of(
+    heap: &KHeap,
+    procs: &ProcTable,
+    pid: u32,
+    fd: i64,
+    writing: bool,
+) -> Option<Found>
+    requires listed { AreListed heap.now procs.now }
+    requires owners { HasItsOwners heap.now [] }
+    requires there { IsSome (key_of procs.now.listed pid) }
+    requires on { IsOnSocket heap.now procs.now pid fd }
+    ensures found { (numbers : Numbers) (script : Script) (plain : Plain) (answer : Opened → Answer)
+        → HaveOpen numbers heap.now procs.now plain.files
+        → FindsToMove numbers script plain pid fd writing answer result }
+    ensures there { IfSome result (λ found. Contains (socks_named heap.now.descs) found.key) }
+{
+    let Some(held) = descriptor_of(heap, procs, pid, fd) else {
+        return None;
+    };
+    let desc = heap.get_desc(held.desc);
+    let Target::Sock(key) = desc.target else {
+        unreachable!();
+    };
+    if may_move(desc.access, writing) {
+        Some(Found {
+            key,
+            nonblock: desc.flags.nonblock,
+        })
+    } else {
+        None
+    }
+}
+
+// Whether what is opened so may be written, or read.
+fn may_move(access: Access, writing: bool) -> bool
+    ensures { result ≡ plain_may_move writing (access_in access) }
+{
+    match access {
+        Access::Read => !writing,
+        Access::Write => writing,
+        Access::Both => true,
+    }
 }

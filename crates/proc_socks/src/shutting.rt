@@ -45,11 +45,10 @@ pub fn listen_number(
     ensures queues { QueuesStand heap.old heap.new }
     ensures takes { TakesNothing heap.old heap.new }
 {
-    let found = match socket_of(heap, procs, pid, fd) {
-        Ok(found) => found,
-        Err(errno) => return Err(errno),
-    };
-    listen(heap, found.key)
+    match socket_of(heap, procs, pid, fd) {
+        Ok(found) => listen(heap, found.key),
+        Err(errno) => Err(errno),
+    }
 }
 
 /// The socket that a number of a process is open on is shut for reading (SHUT_RD 0), for writing (SHUT_WR 1) or both
@@ -80,9 +79,8 @@ pub fn shut_number(
     ensures queues { QueuesStand heap.old heap.new }
     ensures takes { TakesNothing heap.old heap.new }
 {
-    let found = match socket_of(heap, procs, pid, fd) {
-        Ok(found) => found,
-        Err(errno) => return Err(errno),
-    };
-    shutdown(heap, found.key, how)
+    match socket_of(heap, procs, pid, fd) {
+        Ok(found) => shutdown(heap, found.key, how),
+        Err(errno) => Err(errno),
+    }
 }
