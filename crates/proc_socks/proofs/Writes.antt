@@ -393,6 +393,11 @@ module _ (script : Script) (numbers : Numbers) (plain : Plain) (pid : ℕ) (fd a
       by_range true tells ∙ ap (λ b. cond b (replied script plain pid (Val (pos 0))) (of_socket v (count_of addr))) (ne_eqb v 0 some)
       ∙ ap (of_socket v) (sym (begins (positive v some)))
 
+  connected_blocks : blocks (of_connected v start) ≡ would_wait (sock_write plain.files.sockets at on.nonblock (v - done))
+  unfolding of_connected
+  connected_blocks =
+      queue_blocks script plain pid on.nonblock v done (put_in_socket plain.files at (loaded (memory_of plain.table pid) (start + done) (v - done))) (sock_write plain.files.sockets at on.nonblock (v - done))
+
   -- a write by key and by place
   module _ (h : Heap) (kept : TableView) (account : Account) (stands : StandsFor numbers h kept plain account) (used : IsSome (sock_at stands.opened.opened.socketed.keyed on.key)) where
     abbrev by_key : Sockets
@@ -420,11 +425,7 @@ module _ (script : Script) (numbers : Numbers) (plain : Plain) (pid : ℕ) (fd a
         never (Connected peer shut_read shut_write) is_not = cc
 
         by_connected : (t : Bool) → is_connected (stage_at by_key on.key) ≡ t → b ≡ blocks (write script plain pid fd addr n done)
-        unfolding of_connected
-        by_connected true t_is =
-            is ∙ sym (ap would_wait same_told)
-            ∙ sym (ap blocks (goes tells some ∙ connected true t_is)
-            ∙ queue_blocks script plain pid on.nonblock v done (put_in_socket plain.files at (loaded (memory_of plain.table pid) (start + done) (v - done))) (sock_write plain.files.sockets at on.nonblock (v - done)))
+        by_connected true t_is = is ∙ sym (ap would_wait same_told) ∙ sym (ap blocks (goes tells some ∙ connected true t_is) ∙ connected_blocks)
         by_connected false t_is = is ∙ never (stage_at by_key on.key) t_is ∙ sym (ap blocks (write_unconnected tells some t_is))
 
     -- What it leads to once its bytes have moved.

@@ -83,3 +83,9 @@ abbrev pub UnlessTaken : Result (Option ℕ) Errno → Type 0 → Type 0
 UnlessTaken (Ok (Some fd)) Holds = Unit {0}
 UnlessTaken (Ok None) Holds = Holds
 UnlessTaken (Err errno) Holds = Holds
+
+-- and this where one was
+abbrev pub IfTaken : Result (Option ℕ) Errno → Type 0 → Type 0
+IfTaken (Ok (Some fd)) Holds = Holds
+IfTaken (Ok None) Holds = Unit {0}
+IfTaken (Err errno) Holds = Unit {0}

@@ -1,8 +1,10 @@
 //! `accept`.
 
-ghost use Rattle.std.specs.Prelude.{◌≡◌, ◌<◌, ℕ, ℤ, [], IsSome, Ok};
+ghost use Rattle.std.specs.Prelude.{◌≡◌, ◌-◌, ◌<◌, ℕ, ℤ, [], IsSome, Ok};
 ghost use Rattle.std.specs.List.{Contains};
 ghost use Rattle.kabi_types.specs.declared.scripts.Script.{Script};
+ghost use Rattle.kabi_values.specs.declared.classes.Class.TheVariants as class;
+ghost use Rattle.kheap_shelves.specs.Counts.{with_count};
 ghost use Rattle.kheap_slabs.specs.Paid.{CanPay, IsPaid};
 ghost use Rattle.open_laws.specs.Owned.{HasItsOwners, socks_named};
 ghost use Rattle.place_laws.specs.Placed.{Numbers};
@@ -16,7 +18,7 @@ ghost use Rattle.proc_descs.specs.Having.{AreListed, HaveOpen, OpensNoNode};
 ghost use Rattle.proc_descs.specs.Naming.{ChangesNumbers};
 ghost use Rattle.proc_descs.specs.Queues.{QueuesStand};
 ghost use Rattle.proc_socks.specs.Finding.{FindsSocket};
-ghost use Rattle.proc_socks.specs.Opening.{Accepts, UnlessTaken};
+ghost use Rattle.proc_socks.specs.Opening.{Accepts, IfTaken, UnlessTaken};
 
 use crate::describing::open_on;
 use crate::finding::{Found, lowest_from, socket_of};
@@ -55,6 +57,8 @@ pub fn accept_number(
     ensures unchanged { UnlessTaken result ((heap.new ≡ heap.old) × (purse.new ≡ purse.old)) }
     ensures paid { IsPaid heap.old purse.old heap.new purse.new }
     ensures pays { CanPay heap.new purse.new }
+    ensures spent { IfTaken result (purse.new
+        ≡ record purse.old { left = with_count purse.old.left class.Desc (purse.old.left.desc - 1) }) }
 {
     match socket_of(heap, procs, pid, fd) {
         Ok(found) => accept_on(heap, purse, procs, pid, found),
@@ -102,6 +106,8 @@ fn accept_on(
     ensures unchanged { UnlessTaken result ((heap.new ≡ heap.old) × (purse.new ≡ purse.old)) }
     ensures paid { IsPaid heap.old purse.old heap.new purse.new }
     ensures pays { CanPay heap.new purse.new }
+    ensures spent { IfTaken result (purse.new
+        ≡ record purse.old { left = with_count purse.old.left class.Desc (purse.old.left.desc - 1) }) }
 {
     let lowest = lowest_from(heap, procs, pid, 0);
     match accept(heap, on.key, lowest.is_some(), on.nonblock) {

@@ -42,15 +42,15 @@ use usock_core::{sock_write, sock_write_waits};
 /// How many bytes a socket takes at most.
 const CAPACITY: u32 = 4096;
 
-/// The bytes of a write, from an address on, of which some were moved before.
+// The bytes of a write, from an address on, of which some were moved before.
 #[derive(Clone, Copy)]
-pub(crate) struct Written {
+struct Written {
     /// Where they begin.
-    pub start: u32,
+    start: u32,
     /// How many they are.
-    pub n: u32,
+    n: u32,
     /// How many of them were moved before.
-    pub done: u32,
+    done: u32,
 }
 
 impl Written {
