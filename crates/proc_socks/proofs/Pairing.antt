@@ -61,7 +61,7 @@ module _ (old made mid new : Heap) (one other here there : ℕ) (vacant : object
     (owners : HasItsOwners old []) where
   but : HasOwnersBut made [] (one ∷ other ∷ [])
   but =
-      owners_two old made [] one other (record { others = others; objects = objects; held = λ named is. held_turned made one other named (held named is)})
+      owners_two old made [] one other (record { others = others; objects = objects; held = λ named is. held_turned made one other named (held named is) })
       owners vacant also_vacant apart
 
   then_but : HasOwnersBut mid (here ∷ []) (other ∷ [])

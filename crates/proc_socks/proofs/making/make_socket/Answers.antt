@@ -49,7 +49,7 @@ open_on-requires-clause-listed c =
 pub open_on-requires-clause-named : goal.open_on-requires-clause-named
 open_on-requires-clause-named c =
     (owners_one c.args.heap.now c.sock_make-made.new.heap [] c.sock_make-made.result
-    (record { others = c.sock_make-made.ensures.others; objects = c.sock_make-made.ensures.owned; held = c.sock_make-made.ensures.held})
+    (record { others = c.sock_make-made.ensures.others; objects = c.sock_make-made.ensures.owned; held = c.sock_make-made.ensures.held })
     c.requires.owners (free_apart c.args.heap.now [] c.sock_make-made.result c.requires.owners c.sock_make-made.ensures.vacant)).named
 
 pub open_on-requires-clause-number : goal.open_on-requires-clause-number
@@ -88,7 +88,7 @@ returns-clause-nodes c = λ none. c.open_on.ensures.nodes (subst (λ (h : Heap).
 pub returns-clause-owners : goal.returns-clause-owners
 returns-clause-owners c =
     c.open_on.ensures.owners (owners_one c.args.heap.now c.sock_make-made.new.heap [] c.sock_make-made.result
-    (record { others = c.sock_make-made.ensures.others; objects = c.sock_make-made.ensures.owned; held = c.sock_make-made.ensures.held})
+    (record { others = c.sock_make-made.ensures.others; objects = c.sock_make-made.ensures.owned; held = c.sock_make-made.ensures.held })
     c.requires.owners (free_apart c.args.heap.now [] c.sock_make-made.result c.requires.owners c.sock_make-made.ensures.vacant))
 
 pub returns-clause-changes : goal.returns-clause-changes
