@@ -1,19 +1,15 @@
 -- What the process of the tests does, by cases.
-use Rattle.std.proofs.Common.{◌≡◌, ◌≢◌, ℕ, zero, suc, ◌+◌, ◌-◌, ◌*◌, ◌≤◌, max, ap, ◌∙◌, pos, Bool, true, false, [], ◌∷◌, lit≤, refl, sym, subst, arith}
+use Rattle.std.proofs.Common.{◌≡◌, ◌≢◌, ℕ, zero, suc, ◌+◌, ◌≤◌, ap, ◌∙◌, pos, Bool, true, false, lit≤, refl, sym, subst, arith}
 use Rattle.kabi_calls.specs.declared.calls.Call.{Call}
-use Rattle.kabi_types.specs.declared.entries.Cached.{Cached}
-use Rattle.kabi_types.specs.declared.entries.Cached.TheVariants.{Name, Block, Vnode}
-use Rattle.kabi_values.specs.declared.errnos.Errno.TheVariants.{EINVAL}
-use Rattle.kabi_values.specs.declared.replies.Reply.TheVariants.{Fail, Val}
+use Rattle.kabi_values.specs.declared.replies.Reply.TheVariants.{Val}
 use Rattle.posix_defs.specs.declared.turner.Turned.TheVariants.{Done, Ended}
 use Rattle.posix_defs.specs.Memory.{no_places}
 use Rattle.posix_defs.specs.Files.Closing.{after_end_of}
 use Rattle.posix_defs.specs.Files.Descriptors.{none_open}
-use Rattle.posix_defs.specs.Needs.{bound, need_of, slack}
+use Rattle.posix_defs.specs.Needs.{bound, need_of}
 use Rattle.posix_defs.specs.Process.{is_alive}
 use Rattle.posix_defs.specs.Plain.{call_of}
-use Rattle.posix_defs.specs.World.{MayKeep, World, boot_kept, can_evict, live_of}
-use Rattle.posix_defs.specs.Relief.{Evicts}
+use Rattle.posix_defs.specs.World.{World, boot_kept, live_of}
 use Rattle.posix_defs.specs.Turn.{Answers, TurnsTo}
 use Rattle.work_crew.specs.Sample.{sample, world_at, live_at}
 

@@ -1,8 +1,7 @@
 -- The script that the tests run, and the worlds of their one process.
-use Rattle.std.specs.Prelude.{ℕ, zero, suc, Bool, true, if◌then◌else◌, pos, List, [], ◌∷◌, replicate, None, Some, codes}
+use Rattle.std.specs.Prelude.{ℕ, Bool, if◌then◌else◌, pos, List, [], ◌∷◌, replicate, None, Some, codes}
 use Rattle.kabi_calls.specs.declared.calls.CallKind.TheVariants as kind
 use Rattle.kabi_types.specs.declared.scripts.Chooser.TheVariants.{Plain}
-use Rattle.kabi_types.specs.declared.scripts.Operand.{Operand}
 use Rattle.kabi_types.specs.declared.scripts.Operand.TheVariants.{Number}
 use Rattle.kabi_types.specs.declared.scripts.Policy.TheVariants.{Heaviest}
 use Rattle.kabi_types.specs.declared.scripts.Script.{Script}
@@ -10,7 +9,7 @@ use Rattle.kabi_types.specs.declared.scripts.Statement.{Statement}
 use Rattle.kabi_types.specs.declared.scripts.Statement.TheVariants.{Invoke}
 use Rattle.posix_defs.specs.Plain.{first_process}
 use Rattle.posix_defs.specs.Files.State.{boot_files}
-use Rattle.posix_defs.specs.World.{Kept, World, no_account, boot_kept}
+use Rattle.posix_defs.specs.World.{Kept, World, no_account}
 
 abbrev with_body : List Statement → Script
 with_body body = record {

@@ -224,7 +224,8 @@ fn workers_stop_where_all_steps_are_used_up(rt: HostRuntime) -> Result<(), Fail>
     Ok(())
 }
 
-/// A door that counts who comes by, as many units for a pick and as many for an answer.
+/// A door that adds up the pids that were picked, and those whose calls were answered.
+#[derive(Drop)]
 struct Counter {
     picked: AtomicU32,
     answered: AtomicU32,
