@@ -30,7 +30,7 @@ use queue_calls::{
 use store_objects::{Caller, Objects, Target, go_on, purse_for};
 
 /// Runs a call that makes objects of a process or of its memory, whose operands are right, and pays for them; all others go to
-/// `run_queued`.
+/// `run_others`.
 fn run_right(
     script: &Script,
     objects: &mut Objects,
@@ -59,13 +59,12 @@ fn run_right(
         Call::Store { addr, bytes } => {
             store(script, objects, &mut purse, pid, control, *addr, bytes)
         }
-        _ => run_queued(script, objects, caller, call, need),
+        _ => run_others(script, objects, caller, call, need),
     }
 }
 
-/// Runs a call that makes a pipe or moves bytes through one, whose operands are right, and pays for its objects; all others go
-/// to `run_free`.
-fn run_queued(
+/// Runs a call that makes nothing of a process or of its memory, whose operands are right.
+fn run_others(
     script: &Script,
     objects: &mut Objects,
     caller: &Caller,
@@ -78,6 +77,42 @@ fn run_queued(
     requires right { argument_fault call.now ≡ None }
     requires built { is_built (kind_of call.now) ≡ true }
     requires other { makes_memory (kind_of call.now) ≡ false }
+    requires so_far { HasDone call.now caller.now.control.done }
+    requires needed { need ≡ need_of call.now }
+    requires room { live_bytes objects.old.heap + bound call.now ≤ objects.old.heap.heap }
+    ensures kept { AreKept script.now objects.new }
+    ensures uses { UsesAtMost objects.old.heap objects.new.heap (bound call.now) (slack call.now) }
+    ensures does { Performs script.now objects.old caller.now.pid call.now (λ plain. answer_to script.now plain caller.now.pid call.now) result objects.new }
+{
+    if is_queued(call) {
+        run_queued(script, objects, caller, call, need)
+    } else {
+        run_free(script, objects, caller, call)
+    }
+}
+
+/// Whether a call makes a pipe, or moves bytes through one.
+fn is_queued(call: &Call) -> bool
+    ensures { result ≡ is_queued (kind_of call.now) }
+{
+    matches!(call, Call::Pipe | Call::Read { .. } | Call::Write { .. })
+}
+
+/// Runs a call that makes a pipe or moves bytes through one, whose operands are right, and pays for its objects. It stands by
+/// itself, since a function pays for the room of all its locals whenever it is entered.
+#[inline(never)]
+fn run_queued(
+    script: &Script,
+    objects: &mut Objects,
+    caller: &Caller,
+    call: &Call,
+    need: Need,
+) -> Turned
+    requires stands { (world : World) × StandsFor script.now objects.old world }
+    requires kept { AreKept script.now objects.old }
+    requires caller { IsCaller objects.old caller.now.pid caller.now }
+    requires right { argument_fault call.now ≡ None }
+    requires among { is_queued (kind_of call.now) ≡ true }
     requires so_far { HasDone call.now caller.now.control.done }
     requires needed { need ≡ need_of call.now }
     requires room { live_bytes objects.old.heap + bound call.now ≤ objects.old.heap.heap }
@@ -99,7 +134,7 @@ fn run_queued(
                 script, objects, &mut purse, pid, control, *fd, *addr, *n, *done,
             )
         }
-        _ => run_free(script, objects, caller, call),
+        _ => unreachable!(),
     }
 }
 
@@ -226,10 +261,10 @@ pub fn run(
 
 /// Whether a live process's call that can be run would block now. Of the call it asks only for what that waits for: a call that
 /// waits for nothing never blocks, and none that can be run waits for a peer.
-pub fn would_block(objects: &Objects, pid: u32, wait: Option<&Awaited>) -> bool
+pub fn would_block(objects: &Objects, pid: u32, wait: Option<Awaited>) -> bool
     requires { (script : Script) × (world : World) × StandsFor script objects.now world × (is_alive world.plain.table pid ≡ true) }
     ensures { (script : Script) (world : World) → StandsFor script objects.now world
-        → (call : Call) → is_built (kind_of call) ≡ true → option_copied wait.entry ≡ wait_of call → result ≡ blocks (machine script world.plain pid call) }
+        → (call : Call) → is_built (kind_of call) ≡ true → wait ≡ wait_of call → result ≡ blocks (machine script world.plain pid call) }
 {
     match wait {
         Some(
@@ -237,14 +272,14 @@ pub fn would_block(objects: &Objects, pid: u32, wait: Option<&Awaited>) -> bool
                 pid: child,
                 options,
             },
-        ) => may_wait(*child, *options) && would_sleep(objects, pid, *child, *options),
-        Some(Awaited::Bytes { fd, addr, n }) => read_would_block(objects, pid, *fd, *addr, *n),
+        ) => may_wait(child, options) && would_sleep(objects, pid, child, options),
+        Some(Awaited::Bytes { fd, addr, n }) => read_would_block(objects, pid, fd, addr, n),
         Some(Awaited::Room { fd, addr, n, done }) => {
-            write_would_block(objects, pid, *fd, *addr, *n, *done)
+            write_would_block(objects, pid, fd, addr, n, done)
         }
         Some(Awaited::Peer { .. }) => false,
         Some(Awaited::Events { timeout, entries }) => {
-            poll_would_block(objects, pid, *timeout, entries)
+            poll_would_block(objects, pid, timeout, &entries)
         }
         None => false,
     }

@@ -108,7 +108,7 @@ impl<F: Scorer, G: Scorer> Turner for Store<F, G> {
 
     fn ready(&self, pid: u32) -> bool {
         let wait = turns::waits_for(&self.script, &self.objects, pid);
-        !would_block(&self.objects, pid, wait.as_ref())
+        !would_block(&self.objects, pid, wait)
     }
 
     fn evictable(&self, _what: Cached) -> bool {

@@ -418,7 +418,7 @@ fn a_refused_call_is_over(rt: HostRuntime) -> Result<(), Fail> {
 const PARENT: &[Row] = &[(1, Ask::Fork, Told::Val(2), 1152)];
 
 /// Whether a call of a process that waits for this would block; a process that has ended makes none.
-fn would_wait<F: Scorer, G: Scorer>(store: &Store<F, G>, pid: u32, wait: Option<&Awaited>) -> bool
+fn would_wait<F: Scorer, G: Scorer>(store: &Store<F, G>, pid: u32, wait: Option<Awaited>) -> bool
     requires { (world : World) × StandsFor store.now.script store.now.objects world }
 {
     store.alive(pid) && would_block(&store.objects, pid, wait)
@@ -432,7 +432,7 @@ fn waits<F: Scorer, G: Scorer>(store: &Store<F, G>, child: i64, options: i64) ->
         pid: child,
         options,
     };
-    would_wait(store, 1, Some(&wait))
+    would_wait(store, 1, Some(wait))
 }
 
 /// Whether a read of the first process would, of one byte from the first number that it has open.
@@ -444,7 +444,7 @@ fn reads<F: Scorer, G: Scorer>(store: &Store<F, G>) -> bool
         addr: 4096,
         n: 1,
     };
-    would_wait(store, 1, Some(&bytes))
+    would_wait(store, 1, Some(bytes))
 }
 
 /// Whether its write of so many bytes to the second would.
@@ -457,7 +457,7 @@ fn writes<F: Scorer, G: Scorer>(store: &Store<F, G>, n: i64) -> bool
         n,
         done: 0,
     };
-    would_wait(store, 1, Some(&room))
+    would_wait(store, 1, Some(room))
 }
 
 /// A pipe with two pages, which are zero, to write from.

@@ -1,4 +1,4 @@
-use Rattle.std.proofs.Common.{◌≡◌, ◌<◌, ◌≤◌, ◌-◌, le_refl, rules, subst, sym, w64, arith}
+use Rattle.std.proofs.Common.{◌≡◌, Bool, true, false, ◌<◌, ◌≤◌, ◌-◌, le_refl, rules, subst, sym, w64, arith}
 use Rattle.std.proofs.lemmas.Int.{to_z-of_z}
 use mir.Val.{of_z, to_z}
 use Rattle.kabi_calls.specs.Arguments.{count_of}
@@ -6,7 +6,7 @@ use Rattle.kabi_calls.specs.declared.calls.Call.TheVariants as call
 use Rattle.kabi_values.specs.declared.classes.Need.{Need}
 use Rattle.posix_defs.specs.Needs.{bound, chunks_for, pages_touched}
 use Rattle.store_objects.specs.declared.purses.Target.TheVariants.{Queue}
-use Rattle.store_objects.proofs.Paying.{can_pay, left_is, uses_more, uses_paid}
+use Rattle.store_objects.proofs.Paying.{can_pay, left_is, uses_paid}
 use Rattle.call_run.proofs.Dispatch.{does_that, does_three, done_is, queued_left}
 use Rattle.call_run.proofs.calls.run_queued.Goals as goal
 
@@ -78,8 +78,8 @@ returns-in-Write-clause-does c =
     does_three c.args.script.now c.args.objects.now c.write.new.objects c.args.caller.now.pid c.args.call.now c.write.result (λ x y z. call.Write x y z c.in-Write.done) c.in-Write.fd c.in-Write.addr c.in-Write.n c.in-Write.is
     (search (rules, to_z-of_z)) (search (rules, to_z-of_z)) (search (rules, to_z-of_z)) c.write.ensures.does
 
-pub run_free-requires-clause-queued : goal.run_free-requires-clause-queued
-run_free-requires-clause-queued c = queued_left c.args.call.now c.in_default.not-Pipe c.in_default.not-Read c.in_default.not-Write
-
-pub returns-in_default-clause-uses : goal.returns-in_default-clause-uses
-returns-in_default-clause-uses c = uses_more c.args.objects.now.heap c.run_free.new.objects.heap _ _ c.run_free.ensures.uses
+pub unreachable-requires : goal.unreachable-requires
+unreachable-requires c = both c.requires.among (queued_left c.args.call.now c.in_default.not-Pipe c.in_default.not-Read c.in_default.not-Write)
+  where
+    both : {b : Bool} → b ≡ true → b ≡ false → ⊥
+    both e f = cc

@@ -76,5 +76,5 @@ returns-in-Store-clause-does c =
     does_one c.args.script.now c.args.objects.now c.store.new.objects c.args.caller.now.pid c.args.call.now c.store.result (λ z. call.Store z c.in-Store.bytes) c.in-Store.addr c.in-Store.is
     (search (rules, to_z-of_z)) c.store.ensures.does
 
-pub run_queued-requires-clause-other : goal.run_queued-requires-clause-other
-run_queued-requires-clause-other c = others_left c.args.call.now c.in_default.not-Fork c.in_default.not-Mmap c.in_default.not-Store
+pub run_others-requires-clause-other : goal.run_others-requires-clause-other
+run_others-requires-clause-other c = others_left c.args.call.now c.in_default.not-Fork c.in_default.not-Mmap c.in_default.not-Store

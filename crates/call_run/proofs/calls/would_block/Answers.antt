@@ -1,4 +1,4 @@
-use Rattle.std.proofs.Common.{◌≡◌, ◌∙◌, ap, option_copied, sym, w64, true, rules, Some}
+use Rattle.std.proofs.Common.{◌≡◌, ◌∙◌, sym, w64, true, rules, Some}
 use Rattle.std.proofs.lemmas.Int.{to_z-of_z}
 use mir.Val.{of_z, to_z}
 use Rattle.kabi_calls.specs.declared.calls.Call.TheVariants.{Poll, Read, Waitpid, Write}
@@ -13,7 +13,7 @@ pub returns-then-may_wait : goal.returns-then-may_wait
 returns-then-may_wait c = λ script world stands call built e.
     let child : to_z w64 (of_z w64 c.in-Some-Child.child) ≡ c.in-Some-Child.child = search (rules, to_z-of_z) in
     let options : to_z w64 (of_z w64 c.in-Some-Child.options) ≡ c.in-Some-Child.options = search (rules, to_z-of_z) in
-    let seen : option_copied c.args.wait ≡ Some (Child c.in-Some-Child.child c.in-Some-Child.options) = search rules in
+    let seen : c.args.wait ≡ Some (Child c.in-Some-Child.child c.in-Some-Child.options) = search rules in
     let it = is_waiting call (Child c.in-Some-Child.child c.in-Some-Child.options) (sym seen ∙ e) in
     let none = no_fault _ (sym c.may_wait.ensures.checked ∙ c.if-may_wait.true) in
     told_two script world.plain c.args.pid call c.would_sleep.result Waitpid _ _ c.in-Some-Child.child c.in-Some-Child.options child options it
@@ -24,7 +24,7 @@ returns-in-Some-Bytes c = λ script world stands call built e.
     let fd : to_z w64 (of_z w64 c.in-Some-Bytes.fd) ≡ c.in-Some-Bytes.fd = search (rules, to_z-of_z) in
     let addr : to_z w64 (of_z w64 c.in-Some-Bytes.addr) ≡ c.in-Some-Bytes.addr = search (rules, to_z-of_z) in
     let n : to_z w64 (of_z w64 c.in-Some-Bytes.n) ≡ c.in-Some-Bytes.n = search (rules, to_z-of_z) in
-    let seen : option_copied c.args.wait ≡ Some (Bytes c.in-Some-Bytes.fd c.in-Some-Bytes.addr c.in-Some-Bytes.n) = search rules in
+    let seen : c.args.wait ≡ Some (Bytes c.in-Some-Bytes.fd c.in-Some-Bytes.addr c.in-Some-Bytes.n) = search rules in
     told_three script world.plain c.args.pid call c.read_would_block.result Read _ _ _ c.in-Some-Bytes.fd c.in-Some-Bytes.addr c.in-Some-Bytes.n fd addr n
     (is_waiting call (Bytes c.in-Some-Bytes.fd c.in-Some-Bytes.addr c.in-Some-Bytes.n) (sym seen ∙ e)) (c.read_would_block.ensures script world stands)
 
@@ -33,22 +33,22 @@ returns-in-Some-Room c = λ script world stands call built e.
     let fd : to_z w64 (of_z w64 c.in-Some-Room.fd) ≡ c.in-Some-Room.fd = search (rules, to_z-of_z) in
     let addr : to_z w64 (of_z w64 c.in-Some-Room.addr) ≡ c.in-Some-Room.addr = search (rules, to_z-of_z) in
     let n : to_z w64 (of_z w64 c.in-Some-Room.n) ≡ c.in-Some-Room.n = search (rules, to_z-of_z) in
-    let seen : option_copied c.args.wait ≡ Some (Room c.in-Some-Room.fd c.in-Some-Room.addr c.in-Some-Room.n c.in-Some-Room.done) = search rules in
+    let seen : c.args.wait ≡ Some (Room c.in-Some-Room.fd c.in-Some-Room.addr c.in-Some-Room.n c.in-Some-Room.done) = search rules in
     told_three script world.plain c.args.pid call c.write_would_block.result (λ x y z. Write x y z c.in-Some-Room.done) _ _ _ c.in-Some-Room.fd c.in-Some-Room.addr c.in-Some-Room.n fd addr n
     (is_waiting call (Room c.in-Some-Room.fd c.in-Some-Room.addr c.in-Some-Room.n c.in-Some-Room.done) (sym seen ∙ e)) (c.write_would_block.ensures script world stands)
 
 pub returns-in-Some-Peer : goal.returns-in-Some-Peer
 returns-in-Some-Peer c = λ script world stands call built e.
-    let peer : waits_for_peer (option_copied c.args.wait) ≡ true = search rules in
-    absurd (no_peer call (option_copied c.args.wait) built e peer)
+    let peer : waits_for_peer (c.args.wait) ≡ true = search rules in
+    absurd (no_peer call (c.args.wait) built e peer)
 
 pub returns-in-Some-Events : goal.returns-in-Some-Events
 returns-in-Some-Events c = λ script world stands call built e.
     let timeout : to_z w64 (of_z w64 c.in-Some-Events.timeout) ≡ c.in-Some-Events.timeout = search (rules, to_z-of_z) in
-    let seen : option_copied c.args.wait ≡ Some (Events c.in-Some-Events.timeout c.in-Some-Events.entries) = search rules in
+    let seen : c.args.wait ≡ Some (Events c.in-Some-Events.timeout c.in-Some-Events.entries) = search rules in
     told_one script world.plain c.args.pid call c.poll_would_block.result (λ x. Poll x c.in-Some-Events.entries) _ c.in-Some-Events.timeout timeout
     (is_waiting call (Events c.in-Some-Events.timeout c.in-Some-Events.entries) (sym seen ∙ e)) (c.poll_would_block.ensures script world stands)
 
 pub returns-in-None : goal.returns-in-None
 returns-in-None c = λ script world stands call built e.
-    sym (goes_on script world.plain c.args.pid call (ap option_copied (sym c.in-None.is) ∙ e))
+    sym (goes_on script world.plain c.args.pid call (sym c.in-None.is ∙ e))
