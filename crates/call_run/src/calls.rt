@@ -177,7 +177,8 @@ fn run_free(script: &Script, objects: &mut Objects, caller: &Caller, call: &Call
     }
 }
 
-/// Runs a call on descriptors that makes no object, whose operands are right.
+/// Runs a call on descriptors that makes no object, whose operands are right. It stands by itself, as `run_queued` does.
+#[inline(never)]
 fn run_open(script: &Script, objects: &mut Objects, caller: &Caller, call: &Call) -> Turned
     requires kept { AreKept script.now objects.old }
     requires caller { IsCaller objects.old caller.now.pid caller.now }

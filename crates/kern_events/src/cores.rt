@@ -682,6 +682,17 @@ fn asked_of(call: &Call) -> Asked
     }
 }
 
+/// What a process asks for with the rest of a call of which a part is done. It stands by itself, since a function pays for the
+/// room of all its locals whenever it is entered, and few turns do a part.
+#[inline(never)]
+fn rest_of<T: Turner>(store: &T, pid: u32) -> Asked
+    requires { (world : World) × T.stands store.now world × (is_alive world.plain.table pid ≡ true) }
+    ensures { (world : World) → T.stands store.now world → is_alive world.plain.table pid ≡ true
+        → result ≡ asked_by (T.script store.now) world.plain pid }
+{
+    asked_of(&store.next(pid))
+}
+
 /// Whether an event brings no call nearer to the heap.
 fn asks_nothing(event: Event) -> bool
     ensures { result ≡ asks_nothing event }
@@ -712,7 +723,7 @@ fn phase_after<T: Turner>(store: &T, pid: u32, asked: Asked, turned: &Turned) ->
 {
     match turned {
         Turned::Done(_) => Phase::User,
-        Turned::Part(_) => Phase::Asleep(asked_of(&store.next(pid))),
+        Turned::Part(_) => Phase::Asleep(rest_of(store, pid)),
         Turned::Sleep => Phase::Asleep(asked),
         Turned::Ended(_) | Turned::Gone => Phase::Dead,
     }
