@@ -1,9 +1,10 @@
 -- What is lent stays so where a block is filled, and where one is written.
 use Rattle.std.proofs.Common.{◌≡◌, ℕ, zero, suc, ◌+◌, ◌-◌, ◌*◌, ◌/◌, ◌<◌, ◌≤◌, List, [], ◌∷◌, ◌++◌, length, min, Option, Some, None, IsSome, nat_eq, eqb-true, refl, sym, ap, ◌∙◌, subst, inl, inr, arith, length-append, length-set}
-use Rattle.std.specs.Prelude.{slice_get, slice_set, MatchOption}
+use Rattle.std.specs.Prelude.{slice_get, slice_set, remove, MatchOption}
 use Rattle.std.specs.Cmp.{nat_eq_equiv}
 use Rattle.std.specs.Option.{option_map}
 use Rattle.std.proofs.lemmas.Bool.{cases_lt}
+use Rattle.std.proofs.lemmas.List.Edits.{length-remove}
 use Rattle.std.proofs.lemmas.Option.{slice_get_past}
 use Rattle.kabi_values.specs.Class.{size}
 use Rattle.kabi_values.specs.declared.classes.Class.TheVariants as class
@@ -17,6 +18,7 @@ use Rattle.kheap_laws.proofs.PaidLemmas.{CanPay-kept, IsPaid-nothing}
 use Rattle.kheap_laws.proofs.FillLemmas.{AreFills-kept}
 use Rattle.kheap_shelves.proofs.ObjectLemmas.{object_of}
 use Rattle.cache_laws.proofs.KeepsLemmas.{keeps_used, cached_is}
+use Rattle.cache_laws.specs.Caches.{fills_kept, left_kept}
 use Rattle.lru_index.specs.Order.{Order, order, touched}
 use Rattle.lru_index.proofs.Pairs.{touched_absent}
 use Rattle.block_cache.specs.Blocks.{block, block_slot, cached_block, KeepsBlocks, TrueToDisk, HasBlockFills, MayFill, with_blocks, BlockFilled}
@@ -63,6 +65,27 @@ module _ (made : Block) (old new : Heap) (before after : Purse) (had has : Order
   filled_capacity : has.capacity ≡ had.capacity
   filled_capacity = ap (λ (o : Order ℕ). o.capacity) filled.added.cache ∙ ap (λ (o : Order ℕ). o.capacity) filled.room.cache
 
+  -- each Block that is no more left is one that was filled
+  pub filled_still : 0 < before.left.block + length before.blocks → after.left.block + length after.blocks ≡ before.left.block + length before.blocks
+  filled_still some = by_left before.left.block refl
+    where
+      left_after : after.left.block ≡ filled.purse.left.block - 1
+      left_after = ap (λ (p : Purse). p.left.block) filled.added.purse
+
+      long_after : length after.blocks ≡ length filled.purse.blocks + 1
+      long_after = ap (λ (p : Purse). length p.blocks) filled.added.purse ∙ length-append filled.purse.blocks (filled.slot ∷ [])
+
+      by_left : (left : ℕ) → before.left.block ≡ left → after.left.block + length after.blocks ≡ before.left.block + length before.blocks
+      by_left zero none =
+          let left_room : filled.purse.left.block ≡ 1 = ap (λ (p : Purse). p.left.block) filled.room.purse ∙ ap left_kept none in
+          let long_room : length filled.purse.blocks ≡ length (remove before.blocks 0) = ap (λ (p : Purse). length p.blocks) filled.room.purse ∙ ap (λ n. length (fills_kept n before.blocks)) none in
+          let shorter : length (remove before.blocks 0) + 1 ≡ length before.blocks = length-remove before.blocks 0 (omega (arith, some, none)) in
+          omega (arith, left_after, long_after, left_room, long_room, shorter, none)
+      by_left (suc left) more =
+          let left_room : filled.purse.left.block ≡ suc left = ap (λ (p : Purse). p.left.block) filled.room.purse ∙ ap left_kept more in
+          let long_room : length filled.purse.blocks ≡ length before.blocks = ap (λ (p : Purse). length p.blocks) filled.room.purse ∙ ap (λ n. length (fills_kept n before.blocks)) more in
+          omega (arith, left_after, long_after, left_room, long_room, more)
+
   filled_some : 0 < after.left.block + length after.blocks
   filled_some =
       let long : length after.blocks ≡ length filled.purse.blocks + 1 = ap (λ (p : Purse). length p.blocks) filled.added.purse ∙ length-append filled.purse.blocks (filled.slot ∷ []) in
@@ -91,6 +114,7 @@ pub written_goes_on : (old new : Heap) (purse : Purse) (cache : Order ℕ) (was 
 written_goes_on old new purse cache was is heap takes reads = record {
   heap = only_blocks old new new.blocks old.high heap;
   purse = refl;
+  filled = refl;
   paid = IsPaid-nothing old new purse purse takes refl refl;
   capacity = refl;
   reads = omega (arith, reads);

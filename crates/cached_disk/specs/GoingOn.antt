@@ -20,6 +20,7 @@ pub GoesOn-refl : (a : Parts) → GoesOn a a
 GoesOn-refl a = record {
   heap = refl;
   purse = refl;
+  filled = refl;
   paid = IsPaid-refl a.heap a.purse;
   capacity = refl;
   reads = le_refl _;
@@ -29,6 +30,7 @@ pub GoesOn-trans : (a b c : Parts) → GoesOn a b → GoesOn b c → GoesOn a c
 GoesOn-trans a b c first second = record {
   heap = second.heap ∙ ap (λ (h : Heap). record h { blocks = c.heap.blocks; high = c.heap.high }) first.heap;
   purse = second.purse ∙ ap (λ (p : Purse). with_blocks p c.purse.left.block c.purse.blocks) first.purse;
+  filled = second.filled ∙ first.filled;
   paid = IsPaid-trans a.heap a.purse b.heap b.purse c.heap c.purse first.paid second.paid;
   capacity = second.capacity ∙ first.capacity;
   reads = le_trans first.reads second.reads;

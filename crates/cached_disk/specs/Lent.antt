@@ -32,10 +32,12 @@ pub record AreLent (heap : Heap) (purse : Purse) (cache : Order ℕ) (disk : Dis
   pub room : min (heap.heap / size class.Block) (length disk.blocks) ≤ cache.capacity
 
 -- Calls in a row lead from the first to the second: of the heap the Blocks alone are other, of the purse its counts and
--- fills of Blocks; what was made is paid for, and no read is taken back.
+-- fills of Blocks, and each Block that it has no more left it has filled; what was made is paid for, and no read is taken
+-- back.
 pub record GoesOn (before after : Parts) : Type 0 where
   pub heap : after.heap ≡ record before.heap { blocks = after.heap.blocks; high = after.heap.high }
   pub purse : after.purse ≡ with_blocks before.purse after.purse.left.block after.purse.blocks
+  pub filled : after.purse.left.block + length after.purse.blocks ≡ before.purse.left.block + length before.purse.blocks
   pub paid : IsPaid before.heap before.purse after.heap after.purse
   pub capacity : after.cache.capacity ≡ before.cache.capacity
   pub reads : before.disk.reads ≤ after.disk.reads

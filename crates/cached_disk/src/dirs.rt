@@ -239,7 +239,7 @@ fn find_beyond(
 }
 
 /// The directory that `..` of a directory names.
-fn find_parent(
+pub fn find_parent(
     heap: &mut KHeap,
     purse: &mut Purse,
     vnodes: &mut VnodeCache,

@@ -20,6 +20,6 @@ mod walking;
 
 pub use blocks::CachedBlocks;
 pub use changing::{free_through, make_through, size_through, write_through};
-pub use dirs::{CachedDirs, find_inode, find_name};
+pub use dirs::{CachedDirs, find_inode, find_name, find_parent};
 pub use through::read_through;
 pub use walking::walk_through;
