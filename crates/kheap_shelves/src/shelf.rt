@@ -1,10 +1,13 @@
-ghost use Rattle.std.specs.Prelude.{◌≡◌, ◌+◌, ◌<◌, ◌≤◌, length, IfOk, None, Some, replicate, slice_index_or, vec_len, vec_capacity};
+ghost use Rattle.std.specs.Prelude.{◌≡◌, ◌+◌, ◌<◌, ◌≤◌, ◌++◌, [], ◌∷◌, length, IfOk, None, Some, replicate, slice_index_or, vec_len, vec_capacity};
 ghost use Rattle.std.specs.Borrow.{sem};
 ghost use Rattle.kheap_shelves.specs.Objects.{object, InUse, count, put, without};
+ghost use Rattle.kheap_shelves.specs.Places.{TakesPlace};
+ghost use Rattle.slab.specs.Slab.{ContainsKey, HasRoomFor};
 
 mod pages;
 mod processes;
 
+use crate::Name;
 use slab::Slab;
 use std::alloc::{AllocError, Global};
 use std::marker::Model;
@@ -18,6 +21,9 @@ pub struct Shelf<T> {
     places: Vec<Option<usize>>,
     // The keys without an object. The last is the next to be given out.
     free: Vec<u32>,
+    // Places of the slab whose objects are no key's any more. They are used again first; to remove such an object would clear
+    // all its bytes.
+    spare: Vec<usize>,
 }
 
 impl<T> Model for Shelf<T> {
@@ -33,7 +39,7 @@ impl<T> Model for Shelf<T> {
     ghost view = { λ shelf. shelved shelf.slab shelf.places.items };
 
     ghost invariant = { λ shelf.
-        IsSound shelf.slab shelf.places.items shelf.free.items (vec_capacity shelf.free) };
+        IsSound shelf.slab shelf.places.items shelf.free.items (vec_capacity shelf.free) shelf.spare.items (vec_capacity shelf.spare) };
 }
 
 // The place of a key that has one.
@@ -44,6 +50,38 @@ fn place_at(places: &[Option<usize>], key: u32) -> usize
     match places[key as usize] {
         Some(place) => place,
         None => unreachable!(),
+    }
+}
+
+// Takes its place from a key that has one; the key is free from then on.
+fn let_go(places: &mut Vec<Option<usize>>, free: &mut Vec<u32>, key: u32) -> usize
+    requires used { InUse places.old.items key }
+    requires room { vec_len free.old < vec_capacity free.old }
+    ensures place { object places.old.items key ≡ Some result }
+    ensures gone { places.new.items ≡ without places.old.items key }
+    ensures freed { free.new.items ≡ free.old.items ++ key ∷ [] }
+    ensures capacity { vec_capacity free.new ≡ vec_capacity free.old }
+{
+    let place = place_at(places, key);
+    places[key as usize] = None;
+    free.push_reserved(key);
+    place
+}
+
+// Puts an object in the last spare place, or in a new one where none is spare.
+fn put_in<T: Drop>(slab: &mut Slab<T>, spare: &mut Vec<usize>, value: T) -> usize
+    requires left_there { (i : _) → i < vec_len spare.old → ContainsKey slab.old (slice_index_or spare.old.items i 0) }
+    requires room { vec_len spare.old ≡ 0 → HasRoomFor slab.old 1 }
+    ensures takes { TakesPlace slab.old slab.new spare.old.items spare.new.items result value }
+    ensures capacity { slab.new.capacity ≡ slab.old.capacity }
+    ensures spare_room { vec_capacity spare.new ≡ vec_capacity spare.old }
+{
+    match spare.pop() {
+        Some(place) => {
+            slab[place] = value;
+            place
+        }
+        None => slab.insert_reserved(value),
     }
 }
 
@@ -74,7 +112,13 @@ impl<T: Drop> Shelf<T> {
         let mut places = Vec::with_capacity(alloc, limit as usize)?;
         places.resize(limit as usize, None)?;
         let free = falling_keys(alloc, limit)?;
-        Ok(Shelf { slab, places, free })
+        let spare = Vec::with_capacity(alloc, limit as usize)?;
+        Ok(Shelf {
+            slab,
+            places,
+            free,
+            spare,
+        })
     }
 
     /// Puts the object under a key that was free.
@@ -89,27 +133,12 @@ impl<T: Drop> Shelf<T> {
     {
         match self.free.pop() {
             Some(key) => {
-                let place = self.slab.insert_reserved(value);
+                let place = put_in(&mut self.slab, &mut self.spare, value);
                 self.places[key as usize] = Some(place);
                 key
             }
             None => unreachable!(),
         }
-    }
-
-    /// Takes the object of a key out; the key is free from then on.
-    pub fn free(&mut self, key: u32) -> T
-        requires { InUse self.old key }
-        ensures value { object self.old key ≡ Some result }
-        ensures gone { object self.new key ≡ None }
-        ensures kept { self.new ≡ without self.old key }
-        ensures counted { count self.new + 1 ≡ count self.old }
-        ensures len { length self.new ≡ length self.old }
-    {
-        let place = place_at(&self.places, key);
-        self.places[key as usize] = None;
-        self.free.push_reserved(key);
-        self.slab.remove(place)
     }
 
     /// The object of a key.
@@ -139,5 +168,36 @@ impl<T: Drop> Shelf<T> {
         ensures len { length self.new ≡ length self.old }
     {
         *self.get_mut(key) = value;
+    }
+}
+
+impl<T: Copy> Shelf<T> {
+    /// Takes the object of a key out; the key is free from then on.
+    pub fn free(&mut self, key: u32) -> T
+        requires { InUse self.old key }
+        ensures value { object self.old key ≡ Some result }
+        ensures gone { object self.new key ≡ None }
+        ensures kept { self.new ≡ without self.old key }
+        ensures counted { count self.new + 1 ≡ count self.old }
+        ensures len { length self.new ≡ length self.old }
+    {
+        let place = let_go(&mut self.places, &mut self.free, key);
+        self.spare.push_reserved(place);
+        self.slab[place]
+    }
+}
+
+impl Shelf<Name> {
+    /// Takes the name of a key out; the key is free from then on. A name isn't copied, so its place in the slab is emptied.
+    pub fn take_out(&mut self, key: u32) -> Name
+        requires { InUse self.old key }
+        ensures value { object self.old key ≡ Some result }
+        ensures gone { object self.new key ≡ None }
+        ensures kept { self.new ≡ without self.old key }
+        ensures counted { count self.new + 1 ≡ count self.old }
+        ensures len { length self.new ≡ length self.old }
+    {
+        let place = let_go(&mut self.places, &mut self.free, key);
+        self.slab.remove(place)
     }
 }

@@ -132,7 +132,7 @@ impl KHeap {
         ensures live { live_bytes self.new + size class.Name ≡ live_bytes self.old }
         ensures frees { Frees class.Name self.old self.new }
     {
-        let value = self.files.names.free(key);
+        let value = self.files.names.take_out(key);
         self.meter.shrink(Class::Name.bytes());
         value
     }

@@ -12,7 +12,7 @@ pub invariant_of-result : goal.invariant_of-result
 invariant_of-result g c =
     let places = all_none c.in_ok-places.places.items c.resize.new.self.items c.args.limit _ c.in_ok-places.ensures.items c.in_ok-places.ensures.len c.in_ok-resize.ensures.items in
     let free = c.in_ok-free.ensures in
-    rw places (IsSound-boot c.in_ok-slab.slab c.in_ok-free.free.items c.args.limit _ c.in_ok-slab.ensures.empty c.in_ok-slab.ensures.capacity (omega (arith, c.in_ok-free.free.ok, free.len)) free.falling free.room)
+    rw places (IsSound-boot c.in_ok-slab.slab c.in_ok-free.free.items c.in_ok-spare.spare.items c.args.limit _ _ c.in_ok-slab.ensures.empty c.in_ok-slab.ensures.capacity (omega (arith, c.in_ok-free.free.ok, free.len)) free.falling free.room c.in_ok-spare.ensures.items c.in_ok-spare.ensures.capacity)
 
 pub returns-clause-empty : goal.returns-clause-empty
 returns-clause-empty g c =

@@ -8,6 +8,6 @@ pub returns : goal.returns
 returns g c =
     let placed : get_or c.self.inside.places.items c.args.key None ≡ Some c.place_at-place.result = rw c.deref.ensures.value at c.place_at-place.ensures in
     let read = get_or-map (found_at c.self.inside.slab) c.self.inside.places.items c.args.key None None (placed_within c.self.inside.places.items c.args.key c.place_at-place.result placed) in (
-      (refl {a = c.index_mut.result.ghost_name}, λ w. rw (← c.self.view_is) (shelved-changed c.self.inside.slab c.self.inside.places.items c.self.inside.free.items _ c.args.key c.place_at-place.result w c.self.invariant placed)),
+      (refl {a = c.index_mut.result.ghost_name}, λ w. rw (← c.self.view_is) (shelved-changed c.self.inside.slab c.self.inside.places.items c.self.inside.free.items c.self.inside.spare.items _ _ c.args.key c.place_at-place.result w c.self.invariant placed)),
       record { writes_back = tt; value = rw (← c.self.view_is) (read ∙ ap (found_at c.self.inside.slab) placed ∙ c.index_mut.ensures.value) },
     )
