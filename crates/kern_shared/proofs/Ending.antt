@@ -1,5 +1,5 @@
 -- What is left at the end.
-use Rattle.std.proofs.Common.{◌≡◌, ℕ, ◌+◌, List, Option, ap, ◌∙◌, subst}
+use Rattle.std.proofs.Common.{◌≡◌, ℕ, ◌+◌, ◌≤◌, List, Option, ap, ◌∙◌, subst, arith}
 use Rattle.kabi_types.specs.declared.entries.End.{End}
 use Rattle.kabi_types.specs.declared.entries.Entry.{Entry}
 use Rattle.kabi_types.specs.declared.scripts.Script.{Script}
@@ -16,9 +16,9 @@ use Rattle.kern_shared.proofs.OnePast.{one_past}
 -- the value's parts, by the items that it stands for
 pub closed : {T : Type 0} (stands_for : T → World → Type 0) (script_of : T → Script) (script : Script) (steps : ℕ) (charge : ChargeWord) (value : KernelValue T) (items : List Item)
     (s : Shares stands_for script_of script steps charge value items) (past : Past) → IsShared script steps items past → (entries : List Entry) (end : Option End) (live : ℕ)
-    → entries ≡ value.history → EndsAs script steps items s.past end → live ≡ live_of s.world
+    → entries ≡ value.history → EndsAs script steps items s.past end → live ≡ live_of s.world → value.seat.known.holds ≤ charge.heap
     → Closes stands_for script_of script steps items past entries end (live + 2176) value.store
-closed stands_for script_of script steps charge value items s past shared entries end live entries_are ends live_is =
+closed stands_for script_of script steps charge value items s past shared entries end live entries_are ends live_is below =
     subst (λ p. Closes stands_for script_of script steps items p entries end (live + 2176) value.store) (one_past script steps items s.past past s.shared shared) (record {
       history = entries_are ∙ s.history;
       ends = ends;
@@ -29,4 +29,6 @@ closed stands_for script_of script steps charge value items s past shared entrie
       account = s.account;
       may_keep = s.may_keep;
       charged = ap (λ n. n + 2176) live_is;
+      within = (let holds : value.seat.known.holds ≡ live_of s.world + 2176 = s.holds in let heap = s.heap in omega (arith, holds, live_is, below, heap));
+      bare = s.bare;
     })

@@ -111,7 +111,8 @@ keeps_to_room script past next (entry.Gone _ _) follows = tt
 keeps_to_room script past next (entry.Killed _ _ _ _) follows = tt
 keeps_to_room script past next (entry.Evicted _) follows = tt
 
-entry_keeps : (script : Script) (told : List Entry) (past : Past) → IsRun script told past
+-- each entry of a legal history is allowed there, and keeps to the room
+pub entry_keeps : (script : Script) (told : List Entry) (past : Past) → IsRun script told past
     → (i : ℕ) (added : Entry) → slice_get told i ≡ Some added → EntryKeeps script (take i told) added
 entry_keeps script _ _ history.boots i added is = absurd (cc)
 entry_keeps script _ _ (history.goes_on told past next last before follows) i added is = elim (before_or_last told last added i is) [

@@ -1,2 +1,3 @@
 pub mod Reports
 pub mod Headline
+pub mod Histories

@@ -1,0 +1,4 @@
+mod Ending
+mod Places
+mod SampleSteps
+mod Working

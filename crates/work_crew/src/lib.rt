@@ -1,0 +1,12 @@
+//! Workers over a shared kernel: each in a thread of its own, where one can be made, with a pass of its own, until the run is over.
+#![tactic(auto)]
+
+mod doors;
+mod runs;
+#[cfg(test)]
+mod tests;
+mod workers;
+
+pub use doors::{Door, OpenDoor, Point};
+pub use runs::run_workers;
+pub use workers::crew;
