@@ -24,8 +24,8 @@ use posix_defs::Turned;
 use process_calls::{exit, fork, signal_process, wait, would_sleep};
 use prog_ctl::Awaited;
 use queue_calls::{
-    ftruncate, lseek, poll, poll_would_block, pread, pwrite, read, read_would_block, readdir,
-    write, write_would_block,
+    Buffer, ftruncate, lseek, poll, poll_would_block, pread, pwrite, read, read_would_block,
+    readdir, write, write_would_block,
 };
 use store_objects::{Caller, Objects, Target, go_on, purse_for};
 
@@ -34,6 +34,7 @@ use store_objects::{Caller, Objects, Target, go_on, purse_for};
 fn run_right(
     script: &Script,
     objects: &mut Objects,
+    buffer: &mut Buffer,
     caller: &Caller,
     call: &Call,
     need: Need,
@@ -59,7 +60,7 @@ fn run_right(
         Call::Store { addr, bytes } => {
             store(script, objects, &mut purse, pid, control, *addr, bytes)
         }
-        _ => run_others(script, objects, caller, call, need),
+        _ => run_others(script, objects, buffer, caller, call, need),
     }
 }
 
@@ -67,6 +68,7 @@ fn run_right(
 fn run_others(
     script: &Script,
     objects: &mut Objects,
+    buffer: &mut Buffer,
     caller: &Caller,
     call: &Call,
     need: Need,
@@ -85,7 +87,7 @@ fn run_others(
     ensures does { Performs script.now objects.old caller.now.pid call.now (λ plain. answer_to script.now plain caller.now.pid call.now) result objects.new }
 {
     if is_queued(call) {
-        run_queued(script, objects, caller, call, need)
+        run_queued(script, objects, buffer, caller, call, need)
     } else {
         run_free(script, objects, caller, call)
     }
@@ -104,6 +106,7 @@ fn is_queued(call: &Call) -> bool
 fn run_queued(
     script: &Script,
     objects: &mut Objects,
+    buffer: &mut Buffer,
     caller: &Caller,
     call: &Call,
     need: Need,
@@ -127,11 +130,13 @@ fn run_queued(
     match call {
         Call::Pipe => pipe(script, objects, &mut purse, pid, control),
         Call::Read { fd, addr, n } => {
-            read(script, objects, &mut purse, pid, control, *fd, *addr, *n)
+            read(
+                script, objects, &mut purse, buffer, pid, control, *fd, *addr, *n,
+            )
         }
         Call::Write { fd, addr, n, done } => {
             write(
-                script, objects, &mut purse, pid, control, *fd, *addr, *n, *done,
+                script, objects, &mut purse, buffer, pid, control, *fd, *addr, *n, *done,
             )
         }
         _ => unreachable!(),
@@ -233,6 +238,7 @@ fn run_refused(script: &Script, objects: &mut Objects, caller: &Caller, call: &C
 pub fn run(
     script: &Script,
     objects: &mut Objects,
+    buffer: &mut Buffer,
     caller: &Caller,
     call: &Call,
     need: Need,
@@ -249,7 +255,7 @@ pub fn run(
     ensures does { Performs script.now objects.old caller.now.pid call.now (λ plain. machine script.now plain caller.now.pid call.now) result objects.new }
 {
     match call.checked() {
-        Ok(()) => run_right(script, objects, caller, call, need),
+        Ok(()) => run_right(script, objects, buffer, caller, call, need),
         Err(errno) => go_on(
             script,
             objects,

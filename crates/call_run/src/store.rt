@@ -15,6 +15,7 @@ use crate::calls::would_block;
 use crate::{turns, victims};
 use kabi_types::{Cached, Call, Control, Memory, Need, Program, Script};
 use posix_defs::{Turned, Turner};
+use queue_calls::{Buffer, SSIZE_MAX};
 use std::alloc::Global;
 use std::marker::Model;
 use store_objects::{Objects, booted};
@@ -26,6 +27,8 @@ use victim_core::{Score, Scorer};
 pub struct Store<F: Scorer, G: Scorer> {
     script: Script,
     objects: Objects,
+    // What reads and writes move their bytes through.
+    buffer: Box<Buffer>,
     score: Score<F, G>,
 }
 
@@ -58,9 +61,11 @@ impl<F: Scorer, G: Scorer> Store<F, G> {
         };
         prog_ctl::go_to_call(&script, &mut control);
         let objects = booted(alloc, script.heap, script.disk, control)?;
+        let buffer = Box::new(alloc, [0; SSIZE_MAX])?;
         Ok(Store {
             script,
             objects,
+            buffer,
             score,
         })
     }
@@ -99,7 +104,14 @@ impl<F: Scorer, G: Scorer> Turner for Store<F, G> {
     }
 
     fn turn(&mut self, pid: u32, call: &Call, need: Need) -> Turned {
-        turns::turn(&self.script, &mut self.objects, pid, call, need)
+        turns::turn(
+            &self.script,
+            &mut self.objects,
+            &mut self.buffer,
+            pid,
+            call,
+            need,
+        )
     }
 
     fn refuse(&mut self, pid: u32) {

@@ -22,6 +22,7 @@ use crate::calls;
 use kabi_types::{Call, Errno, Need, Reply, Script};
 use posix_defs::Turned;
 use prog_ctl::Awaited;
+use queue_calls::Buffer;
 use store_objects::{INIT, Objects, SIGKILL, end, go_on};
 
 /// The call that a live process makes next.
@@ -50,7 +51,14 @@ pub fn waits_for(script: &Script, objects: &Objects, pid: u32) -> Option<Awaited
 
 /// A turn of a process's call, which is one that can be run where the process is alive, and says how much of it is done; `Gone`
 /// where the process has ended.
-pub fn turn(script: &Script, objects: &mut Objects, pid: u32, call: &Call, need: Need) -> Turned
+pub fn turn(
+    script: &Script,
+    objects: &mut Objects,
+    buffer: &mut Buffer,
+    pid: u32,
+    call: &Call,
+    need: Need,
+) -> Turned
     requires kept { AreKept script.now objects.old }
     requires needed { need ≡ need_of call.now }
     requires so_far { (proc : Proc) → proc_of (procs_of objects.old) pid ≡ Some proc → proc.status ≡ None → HasDone call.now proc.control.done }
@@ -69,7 +77,7 @@ pub fn turn(script: &Script, objects: &mut Objects, pid: u32, call: &Call, need:
     let Some(caller) = objects.caller(pid) else {
         return Turned::Gone;
     };
-    let turned = calls::run(script, objects, &caller, call, need);
+    let turned = calls::run(script, objects, buffer, &caller, call, need);
     objects.heap_is_well_formed();
     turned
 }

@@ -4,6 +4,7 @@
 //! blocks the call is told to sleep and nothing changes; whether it would is told without making it.
 #![tactic(auto)]
 
+mod buffer;
 mod lookups;
 mod polling;
 mod reading;
@@ -11,6 +12,7 @@ mod refusals;
 mod spaces;
 mod writing;
 
+pub use buffer::{Buffer, SSIZE_MAX};
 pub use lookups::{Found, opened, readable, writable};
 pub use polling::{poll, poll_waits};
 pub use reading::{read, read_waits};

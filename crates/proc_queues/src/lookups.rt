@@ -42,8 +42,7 @@ pub fn opened(heap: &KHeap, procs: &ProcTable, pid: u32, fd: i64) -> Option<Foun
     let Some(key) = procs.key_of(pid) else {
         unreachable!();
     };
-    let places = heap.get_proc(key).descriptors;
-    match held_at(&places, fd) {
+    match held_at(&heap.get_proc(key).descriptors, fd) {
         Some(descriptor) => Some(Found {
             key: descriptor.desc,
             desc: *heap.get_desc(descriptor.desc),

@@ -22,6 +22,7 @@ ghost use Rattle.proc_queues.specs.Found.{OpensPipes};
 ghost use Rattle.proc_queues.specs.Moving.{ReadsPipe, UnlessMoves, told_read};
 ghost use Rattle.proc_queues.specs.Standing.{IsKept, Leads, StandsFor};
 
+use crate::buffer::Buffer;
 use crate::lookups::readable;
 use crate::spaces::{space_of, start_of};
 use chunk_queue::Moved;
@@ -45,6 +46,7 @@ pub fn read(
     heap: &mut KHeap,
     purse: &mut Purse,
     procs: &ProcTable,
+    buffer: &mut Buffer,
     pid: u32,
     fd: i64,
     addr: i64,
@@ -89,6 +91,7 @@ pub fn read(
         heap,
         purse,
         &mut space,
+        buffer,
         key,
         found.desc.flags.nonblock,
         start,
@@ -129,6 +132,7 @@ fn take_from_pipe(
     heap: &mut KHeap,
     purse: &mut Purse,
     space: &mut Space,
+    buffer: &mut Buffer,
     key: u32,
     nonblock: bool,
     start: u32,
@@ -158,8 +162,7 @@ fn take_from_pipe(
     } }
     ensures paid { IsPaid heap.old purse.old heap.new purse.new }
 {
-    let mut room = [0; CAPACITY as usize];
-    let out = &mut room[..n.min(CAPACITY) as usize];
+    let out = &mut buffer[..n.min(CAPACITY) as usize];
     match pipe_read(heap, key, nonblock, out) {
         Moved::Bytes(count) => {
             space.copy_in(heap, purse, start, &out[..count as usize]);

@@ -25,6 +25,7 @@ ghost use Rattle.proc_queues.specs.Found.{OpensPipes};
 ghost use Rattle.proc_queues.specs.Moving.{UnlessMoves, moved_in, told_write};
 ghost use Rattle.proc_queues.specs.Standing.{IsKept, Leads, StandsFor};
 
+use crate::buffer::Buffer;
 use crate::lookups::writable;
 use crate::spaces::{space_of, start_of};
 use chunk_queue::Moved;
@@ -82,6 +83,7 @@ pub fn write(
     heap: &mut KHeap,
     purse: &mut Purse,
     procs: &ProcTable,
+    buffer: &mut Buffer,
     pid: u32,
     fd: i64,
     addr: i64,
@@ -123,6 +125,7 @@ pub fn write(
         heap,
         purse,
         &space,
+        buffer,
         key,
         found.desc.flags.nonblock,
         &written,
@@ -171,6 +174,7 @@ fn put_in_pipe(
     heap: &mut KHeap,
     purse: &mut Purse,
     space: &Space,
+    buffer: &mut Buffer,
     key: u32,
     nonblock: bool,
     written: &Written,
@@ -197,8 +201,7 @@ fn put_in_pipe(
     ensures refused { (pipe : PlainPipe) (at : ℕ) → PipeStandsFor heap.old key pipe at
         → UnlessMoves (write_answer pipe nonblock written.now.n (written.now.n - written.now.done)) (heap.new ≡ heap.old) }
 {
-    let mut room = [0; CAPACITY as usize];
-    let bytes = &mut room[..written.left().min(CAPACITY) as usize];
+    let bytes = &mut buffer[..written.left().min(CAPACITY) as usize];
     space.copy_out(heap, written.rest(), bytes);
     let moved = pipe_write(heap, purse, key, nonblock, written.n, bytes);
     told(moved, nonblock, written)

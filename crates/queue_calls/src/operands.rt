@@ -3,8 +3,7 @@
 ghost use Rattle.std.specs.Prelude.{◌≡◌, is_none};
 ghost use Rattle.kabi_calls.specs.Arguments.{count_of, is_within, lie_in_space, moved_fault};
 
-/// The most bytes that a call may be asked to move.
-const SSIZE_MAX: i64 = 32767;
+use proc_queues::SSIZE_MAX;
 
 /// How many bytes an address space has.
 const SPACE: u64 = 1048576;
@@ -21,7 +20,7 @@ pub(crate) fn may_move(addr: i64, n: i64) -> bool
 fn are_few(n: i64) -> bool
     ensures { result ≡ is_within 0 32767 n }
 {
-    0 <= n && n <= SSIZE_MAX
+    0 <= n && n <= SSIZE_MAX as i64
 }
 
 fn count_of(n: i64) -> u64

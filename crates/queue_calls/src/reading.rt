@@ -18,6 +18,7 @@ use crate::told::go_on_done;
 use kabi_types::{Control, Script};
 use kheap_shelves::Purse;
 use posix_defs::Turned;
+use proc_queues::Buffer;
 use store_objects::Objects;
 
 /// Reads at most n bytes from the pipe that a number is open on into memory, as many as are there; none are the end of the file.
@@ -29,6 +30,7 @@ pub fn read(
     script: &Script,
     objects: &mut Objects,
     purse: &mut Purse,
+    buffer: &mut Buffer,
     pid: u32,
     control: Control,
     fd: i64,
@@ -44,7 +46,16 @@ pub fn read(
     ensures paid { IsPaid objects.old.heap purse.old objects.new.heap purse.new }
     ensures does { Performs script.now objects.old pid (Call.Read fd addr n) (λ plain. read script.now plain pid fd addr n) result objects.new }
 {
-    let told = proc_queues::read(&mut objects.heap, purse, &objects.procs, pid, fd, addr, n);
+    let told = proc_queues::read(
+        &mut objects.heap,
+        purse,
+        &objects.procs,
+        buffer,
+        pid,
+        fd,
+        addr,
+        n,
+    );
     go_on_done(script, objects, pid, control, told)
 }
 

@@ -18,6 +18,7 @@ use crate::told::{do_part, go_on_done};
 use kabi_types::{Control, Script};
 use kheap_shelves::Purse;
 use posix_defs::Turned;
+use proc_queues::Buffer;
 use store_objects::Objects;
 
 /// Writes n bytes of memory, of which so many were moved before, to the pipe that a number is open on: up to 512 whole or not at
@@ -30,6 +31,7 @@ pub fn write(
     script: &Script,
     objects: &mut Objects,
     purse: &mut Purse,
+    buffer: &mut Buffer,
     pid: u32,
     control: Control,
     fd: i64,
@@ -51,6 +53,7 @@ pub fn write(
         &mut objects.heap,
         purse,
         &objects.procs,
+        buffer,
         pid,
         fd,
         addr,

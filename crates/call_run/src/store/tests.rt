@@ -172,6 +172,7 @@ fn take<F: Scorer, G: Scorer>(
     turn(
         &store.script,
         &mut store.objects,
+        &mut store.buffer,
         pid,
         call,
         need_table::need(call),
