@@ -1,0 +1,3 @@
+pub mod PairSteps
+pub mod SleeperSteps
+pub mod Working

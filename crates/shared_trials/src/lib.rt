@@ -1,0 +1,25 @@
+//! The shared kernel over stores of its own: one of two processes, and one of a process that sleeps. Tests alone, and what there is of
+//! the processes.
+#![tactic(auto)]
+
+#[cfg(test)]
+mod asleep;
+#[cfg(test)]
+mod beside;
+#[cfg(test)]
+mod one_thread;
+#[cfg(test)]
+mod pair;
+#[cfg(test)]
+mod rows;
+mod scenes;
+#[cfg(test)]
+mod sleeper;
+mod stages;
+#[cfg(test)]
+mod two_threads;
+#[cfg(test)]
+mod workers;
+
+pub use scenes::{Act, Next, Scene, Who};
+pub use stages::Stage;
