@@ -1,0 +1,4 @@
+pub mod Finding
+pub mod Owning
+pub mod Opening
+pub mod Moving
