@@ -115,16 +115,17 @@ pub fn read_waits(heap: &KHeap, procs: &ProcTable, pid: u32, fd: i64, addr: i64,
     let Target::Pipe(key) = found.desc.target else {
         unreachable!();
     };
+    // the pipe mostly tells it, which is the cheaper question
+    if !pipe_read_waits(heap, key, found.desc.flags.nonblock) {
+        return false;
+    }
     let n = n.cast_unsigned() as u32;
     let start = start_of(addr, n);
     let space = space_of(heap, procs, pid);
     if !space.mapped(heap, start, n) {
         return false;
     }
-    if n == 0 {
-        return false;
-    }
-    pipe_read_waits(heap, key, found.desc.flags.nonblock)
+    n != 0
 }
 
 // Takes bytes out of a pipe, at most n, and puts them in memory.

@@ -157,16 +157,17 @@ pub fn write_waits(
         unreachable!();
     };
     let n = n.cast_unsigned() as u32;
+    let left = n.saturating_sub(done);
+    // the pipe mostly tells it, which is the cheaper question
+    if !pipe_write_waits(heap, key, found.desc.flags.nonblock, n, left) {
+        return false;
+    }
     let start = start_of(addr, n);
     let space = space_of(heap, procs, pid);
     if !space.mapped(heap, start, n) {
         return false;
     }
-    if n == 0 {
-        return false;
-    }
-    let left = n.saturating_sub(done);
-    pipe_write_waits(heap, key, found.desc.flags.nonblock, n, left)
+    n != 0
 }
 
 // Puts what is left of a write in a pipe, as far as it goes now.
