@@ -1,6 +1,6 @@
 //! Bytes in the pages of an address space.
 
-ghost use Rattle.std.specs.Prelude.{◌≡◌, ◌≢◌, ◌+◌, ◌-◌, ◌/◌, ◌%◌, ◌<◌, ◌≤◌, ◌++◌, Some, length, min, replicate, true, take, drop};
+ghost use Rattle.std.specs.Prelude.{◌≡◌, ◌≢◌, ◌+◌, ◌-◌, ◌/◌, ◌%◌, ◌<◌, ◌≤◌, ◌++◌, Some, length, min, true, take, drop};
 ghost use Rattle.kabi_values.specs.declared.classes.Class.TheVariants as class;
 ghost use Rattle.kheap_shelves.specs.Counts.{with_count};
 ghost use Rattle.kheap_slabs.specs.Paid.{CanPay, IsPaid};
@@ -21,15 +21,6 @@ use kheap_slabs::KHeap;
 
 /// How many bytes a page has.
 const PAGE: usize = 4096;
-
-static ZEROS: [u8; PAGE] = [0; PAGE];
-
-// What a page without a frame has.
-fn zeros() -> &'static [u8; PAGE]
-    ensures { result.now ≡ replicate 4096 0 }
-{
-    &ZEROS
-}
 
 impl Space {
     // Gives a mapped page a frame of its own with its bytes, in place of what it had.
@@ -143,7 +134,7 @@ impl Space {
         let piece = &mut out[..count];
         match self.entry(heap, addr / PAGE as u32) {
             PageEntry::Unmapped => unreachable!(),
-            PageEntry::Zero => piece.copy_from_slice(&zeros()[..count]),
+            PageEntry::Zero => piece.fill(0),
             PageEntry::Frame(key) => piece.copy_from_slice(
                 &heap.get_page(key).bytes[place..place + count],
             ),

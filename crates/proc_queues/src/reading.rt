@@ -22,7 +22,7 @@ ghost use Rattle.proc_queues.specs.Found.{OpensPipes};
 ghost use Rattle.proc_queues.specs.Moving.{ReadsPipe, UnlessMoves, told_read};
 ghost use Rattle.proc_queues.specs.Standing.{IsKept, Leads, StandsFor};
 
-use crate::buffer::Buffer;
+use crate::buffer::{Buffer, CAPACITY};
 use crate::lookups::readable;
 use crate::spaces::{space_of, start_of};
 use chunk_queue::Moved;
@@ -33,9 +33,6 @@ use page_space::Space;
 use pipe_ends::{pipe_read, pipe_read_waits};
 use posix_defs::Turned;
 use proc_table::ProcTable;
-
-/// How many bytes a pipe has at most.
-const CAPACITY: u32 = 4096;
 
 /// Reads at most n bytes from the pipe that a number is open on into a process's memory, as many as are there. None are the end of
 /// the file: nobody can write any more.
@@ -163,7 +160,7 @@ fn take_from_pipe(
     } }
     ensures paid { IsPaid heap.old purse.old heap.new purse.new }
 {
-    let out = &mut buffer[..n.min(CAPACITY) as usize];
+    let out = &mut buffer[..(n as usize).min(CAPACITY)];
     match pipe_read(heap, key, nonblock, out) {
         Moved::Bytes(count) => {
             space.copy_in(heap, purse, start, &out[..count as usize]);
