@@ -15,7 +15,7 @@ use crate::calls::would_block;
 use crate::{turns, victims};
 use kabi_types::{Cached, Call, Control, Memory, Need, Program, Script};
 use posix_defs::{Turned, Turner};
-use queue_calls::{Buffer, SSIZE_MAX};
+use queue_calls::{Buffer, CAPACITY};
 use std::alloc::Global;
 use std::marker::Model;
 use store_objects::{Objects, booted};
@@ -61,7 +61,7 @@ impl<F: Scorer, G: Scorer> Store<F, G> {
         };
         prog_ctl::go_to_call(&script, &mut control);
         let objects = booted(alloc, script.heap, script.disk, control)?;
-        let buffer = Box::new(alloc, [0; SSIZE_MAX])?;
+        let buffer = Box::new(alloc, [0; CAPACITY])?;
         Ok(Store {
             script,
             objects,

@@ -41,6 +41,13 @@ pipe_blocks script plain pid place addr (Moves k) = refl
 pipe_blocks script plain pid place addr Blocks = refl
 pipe_blocks script plain pid place addr (Fails errno) = refl
 
+-- where an answer doesn't block, neither does the choice between it, a reply of nothing, and a fault
+pub calm : (script : Script) (plain : Plain) (pid : ℕ) (mapped none : Bool) (answer : Answer) → blocks answer ≡ false
+    → blocks (cond mapped (cond none (replied script plain pid (Val (pos 0))) answer) (failed script plain pid EFAULT)) ≡ false
+calm script plain pid true true answer is = refl
+calm script plain pid true false answer is = is
+calm script plain pid false none answer is = refl
+
 module _ (script : Script) (numbers : Numbers) (plain : Plain) (pid : ℕ) (fd addr n : ℤ) where
   -- what a call with this description is answered
   abbrev pub of_opened : Opened → Answer
@@ -106,6 +113,18 @@ module _ (script : Script) (numbers : Numbers) (plain : Plain) (pid : ℕ) (fd a
         ∙ ap (λ p. would_wait (pipe_read p nonblock v)) (sym (pipe_there numbers h kept plain.files key pipe at stands.opened was))
         ∙ sym (ap blocks (read_goes tells some)
         ∙ pipe_blocks script plain pid (numbers.pipes key) addr (pipe_read (pipe_at plain.files (numbers.pipes key)) nonblock v))
+
+    -- who needn't wait for the pipe doesn't sleep, whatever is mapped
+    pub read_flows : (h : Heap) (kept : TableView) (account : Account) → StandsFor numbers h kept plain account
+        → (pipe : Pipe) (at : ℕ) → PipeStandsFor h key pipe at → (b : Bool) → b ≡ would_wait (pipe_read pipe nonblock v) → b ≡ false
+        → false ≡ blocks (read script plain pid fd addr n)
+    unfolding of_pipe
+    read_flows h kept account stands pipe at was b is flows =
+        sym (ap blocks (by_range (is_mapped_range (memory_of plain.table pid) start v) refl)
+        ∙ calm script plain pid (is_mapped_range (memory_of plain.table pid) start v) (v == 0) (of_pipe v)
+        (pipe_blocks script plain pid (numbers.pipes key) addr (pipe_read (pipe_at plain.files (numbers.pipes key)) nonblock v)
+        ∙ ap (λ p. would_wait (pipe_read p nonblock v)) (pipe_there numbers h kept plain.files key pipe at stands.opened was)
+        ∙ sym is ∙ flows))
 
     -- What it leads to once bytes have moved.
     pub read_leads : is_mapped_range (memory_of plain.table pid) start v ≡ true → v ≢ 0 → (old : Heap) (before : Purse) (new : Heap) (after : Purse) (kept : TableView) (account : Account)

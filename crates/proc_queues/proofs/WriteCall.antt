@@ -30,6 +30,7 @@ use Rattle.proc_queues.specs.Found.{opened_in}
 use Rattle.proc_queues.specs.Moving.{UnlessMoves, moved_in, told_write}
 use Rattle.proc_queues.specs.Standing.{IsKept, Leads, StandsFor}
 use Rattle.proc_queues.specs.declared.lookups.Found.{Found}
+use Rattle.proc_queues.proofs.ReadCall.{calm}
 use Rattle.proc_queues.proofs.Putting.{leads_written, pipe_there}
 use Rattle.proc_queues.proofs.RightBytes.{mapped_at}
 
@@ -124,6 +125,20 @@ module _ (script : Script) (numbers : Numbers) (plain : Plain) (pid : ℕ) (fd a
         ∙ sym (ap blocks (write_goes tells some)
         ∙ queue_blocks script plain pid nonblock v done (put_in_pipe plain.files (numbers.pipes key) (loaded (memory_of plain.table pid) (start + done) (v - done)))
         (pipe_write (pipe_at plain.files (numbers.pipes key)) nonblock v (v - done)))
+
+    -- who needn't wait for the pipe doesn't sleep, whatever is mapped
+    pub write_flows : (h : Heap) (kept : TableView) (account : Account) → StandsFor numbers h kept plain account
+        → (pipe : Pipe) (at : ℕ) → PipeStandsFor h key pipe at → (b : Bool) → b ≡ would_wait (pipe_write pipe nonblock v (v - done)) → b ≡ false
+        → false ≡ blocks (write script plain pid fd addr n done)
+    unfolding of_pipe
+    write_flows h kept account stands pipe at was b is flows =
+        sym (ap blocks (by_range (is_mapped_range (memory_of plain.table pid) start v) refl)
+        ∙ calm script plain pid (is_mapped_range (memory_of plain.table pid) start v) (v == 0) of_pipe
+        (queue_blocks script plain pid nonblock (count_of n) done (put_in_pipe plain.files (numbers.pipes key) (bytes_left plain pid addr (count_of n) done))
+        (pipe_write (pipe_at plain.files (numbers.pipes key)) nonblock (count_of n) (count_of n - done))
+        ∙ ap (λ p. would_wait (pipe_write p nonblock (count_of n) (count_of n - done))) (pipe_there numbers h kept plain.files key pipe at stands.opened was)
+        ∙ ap (λ m. would_wait (pipe_write pipe nonblock m (m - done))) (sym v_is)
+        ∙ sym is ∙ flows))
 
     -- What it leads to once its bytes have moved.
     pub write_leads : is_mapped_range (memory_of plain.table pid) start v ≡ true → v ≢ 0 → (old new : Heap) (kept : TableView) (account : Account) → IsKept old kept

@@ -12,7 +12,7 @@ mod refusals;
 mod spaces;
 mod writing;
 
-pub use buffer::{Buffer, SSIZE_MAX};
+pub use buffer::{Buffer, CAPACITY};
 pub use lookups::{Found, opened, readable, writable};
 pub use polling::{poll, poll_waits};
 pub use reading::{read, read_waits};

@@ -22,7 +22,7 @@ ghost use Rattle.proc_queues.specs.Found.{OpensPipes};
 ghost use Rattle.proc_queues.specs.Moving.{ReadsPipe, UnlessMoves, told_read};
 ghost use Rattle.proc_queues.specs.Standing.{IsKept, Leads, StandsFor};
 
-use crate::buffer::Buffer;
+use crate::buffer::{Buffer, CAPACITY};
 use crate::lookups::readable;
 use crate::spaces::{space_of, start_of};
 use chunk_queue::Moved;
@@ -33,9 +33,6 @@ use page_space::Space;
 use pipe_ends::{pipe_read, pipe_read_waits};
 use posix_defs::Turned;
 use proc_table::ProcTable;
-
-/// How many bytes a pipe has at most.
-const CAPACITY: u32 = 4096;
 
 /// Reads at most n bytes from the pipe that a number is open on into a process's memory, as many as are there. None are the end of
 /// the file: nobody can write any more.
@@ -115,16 +112,17 @@ pub fn read_waits(heap: &KHeap, procs: &ProcTable, pid: u32, fd: i64, addr: i64,
     let Target::Pipe(key) = found.desc.target else {
         unreachable!();
     };
+    // the pipe mostly tells it, which is the cheaper question
+    if !pipe_read_waits(heap, key, found.desc.flags.nonblock) {
+        return false;
+    }
     let n = n.cast_unsigned() as u32;
     let start = start_of(addr, n);
     let space = space_of(heap, procs, pid);
     if !space.mapped(heap, start, n) {
         return false;
     }
-    if n == 0 {
-        return false;
-    }
-    pipe_read_waits(heap, key, found.desc.flags.nonblock)
+    n != 0
 }
 
 // Takes bytes out of a pipe, at most n, and puts them in memory.
@@ -162,7 +160,7 @@ fn take_from_pipe(
     } }
     ensures paid { IsPaid heap.old purse.old heap.new purse.new }
 {
-    let out = &mut buffer[..n.min(CAPACITY) as usize];
+    let out = &mut buffer[..(n as usize).min(CAPACITY)];
     match pipe_read(heap, key, nonblock, out) {
         Moved::Bytes(count) => {
             space.copy_in(heap, purse, start, &out[..count as usize]);

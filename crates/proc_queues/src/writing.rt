@@ -25,7 +25,7 @@ ghost use Rattle.proc_queues.specs.Found.{OpensPipes};
 ghost use Rattle.proc_queues.specs.Moving.{UnlessMoves, moved_in, told_write};
 ghost use Rattle.proc_queues.specs.Standing.{IsKept, Leads, StandsFor};
 
-use crate::buffer::Buffer;
+use crate::buffer::{Buffer, CAPACITY};
 use crate::lookups::writable;
 use crate::spaces::{space_of, start_of};
 use chunk_queue::Moved;
@@ -36,9 +36,6 @@ use page_space::Space;
 use pipe_ends::{pipe_write, pipe_write_waits};
 use posix_defs::Turned;
 use proc_table::ProcTable;
-
-/// How many bytes a pipe takes at most.
-const CAPACITY: u32 = 4096;
 
 /// The bytes of a write, from an address on, of which some were moved before.
 #[derive(Clone, Copy)]
@@ -157,16 +154,17 @@ pub fn write_waits(
         unreachable!();
     };
     let n = n.cast_unsigned() as u32;
+    let left = n.saturating_sub(done);
+    // the pipe mostly tells it, which is the cheaper question
+    if !pipe_write_waits(heap, key, found.desc.flags.nonblock, n, left) {
+        return false;
+    }
     let start = start_of(addr, n);
     let space = space_of(heap, procs, pid);
     if !space.mapped(heap, start, n) {
         return false;
     }
-    if n == 0 {
-        return false;
-    }
-    let left = n.saturating_sub(done);
-    pipe_write_waits(heap, key, found.desc.flags.nonblock, n, left)
+    n != 0
 }
 
 // Puts what is left of a write in a pipe, as far as it goes now.
@@ -201,7 +199,7 @@ fn put_in_pipe(
     ensures refused { (pipe : PlainPipe) (at : ℕ) → PipeStandsFor heap.old key pipe at
         → UnlessMoves (write_answer pipe nonblock written.now.n (written.now.n - written.now.done)) (heap.new ≡ heap.old) }
 {
-    let bytes = &mut buffer[..written.left().min(CAPACITY) as usize];
+    let bytes = &mut buffer[..(written.left() as usize).min(CAPACITY)];
     space.copy_out(heap, written.rest(), bytes);
     let moved = pipe_write(heap, purse, key, nonblock, written.n, bytes);
     told(moved, nonblock, written)

@@ -74,7 +74,8 @@ TakesSocket kind.Accept = ⊤
 TakesSocket kind.Shutdown = ⊤
 TakesSocket _ = ⊥
 
--- the calls of this kind go through descriptors or paths: they are neither of processes nor of memory
+-- The calls of this kind go through descriptors or paths: they are neither of processes nor of memory. `read` and `write` stand
+-- with those.
 abbrev pub TakesFiles : CallKind → Type 0
 TakesFiles kind.Getpid = ⊥
 TakesFiles kind.Getppid = ⊥
@@ -88,6 +89,8 @@ TakesFiles kind.Mmap = ⊥
 TakesFiles kind.Munmap = ⊥
 TakesFiles kind.Store = ⊥
 TakesFiles kind.Load = ⊥
+TakesFiles kind.Read = ⊥
+TakesFiles kind.Write = ⊥
 TakesFiles _ = ⊤
 
 -- a later place

@@ -260,8 +260,8 @@ fn made_on_socket(control: &Control, kind: CallKind, operands: &[Operand], texts
     }
 }
 
-/// The call of a kind that goes through descriptors or paths, and neither `exec` nor on memory: each family of them has a
-/// function.
+/// The call of a kind that goes through descriptors or paths, and is neither `exec`, `read` nor `write` nor on memory: each family
+/// of them has a function.
 #[inline(never)]
 fn made_on_files(control: &Control, kind: CallKind, operands: &[Operand], texts: &[Text]) -> Call
     requires count { length operands.now ≤ 17 }
@@ -275,8 +275,6 @@ fn made_on_files(control: &Control, kind: CallKind, operands: &[Operand], texts:
         CallKind::Dup => made_on_descriptor(control, kind, operands),
         CallKind::Dup2 => made_on_descriptor(control, kind, operands),
         CallKind::Fcntl => made_on_descriptor(control, kind, operands),
-        CallKind::Read => made_of_bytes(control, kind, operands),
-        CallKind::Write => made_of_bytes(control, kind, operands),
         CallKind::Pread => made_of_bytes(control, kind, operands),
         CallKind::Pwrite => made_of_bytes(control, kind, operands),
         CallKind::Lseek => made_on_descriptor(control, kind, operands),
@@ -305,8 +303,8 @@ fn made_on_files(control: &Control, kind: CallKind, operands: &[Operand], texts:
 
 /// The call of this kind, with these operands and texts in the order of its fields, behind what is done of it. It stands by
 /// itself, so that its cases are no part of who hands the call on: a call has room for two paths, and among many cases it
-/// would be copied for each function that hands it on. So the calls of processes and memory, which are made most, have their
-/// cases here.
+/// would be copied for each function that hands it on. So the calls of processes and memory, `read` and `write`, which are made
+/// most, have their cases here.
 #[inline(never)]
 fn made(control: &Control, kind: CallKind, operands: &[Operand], texts: &[Text]) -> Call
     requires count { length operands.now ≤ 17 }
@@ -343,6 +341,8 @@ fn made(control: &Control, kind: CallKind, operands: &[Operand], texts: &[Text])
             addr: operand_at(control, operands, 0),
             n: operand_at(control, operands, 1),
         },
+        CallKind::Read => made_of_bytes(control, kind, operands),
+        CallKind::Write => made_of_bytes(control, kind, operands),
         _ => made_on_files(control, kind, operands, texts),
     }
 }

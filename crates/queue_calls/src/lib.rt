@@ -11,7 +11,7 @@ mod told;
 mod writing;
 
 pub use polling::{poll, poll_would_block};
-pub use proc_queues::{Buffer, SSIZE_MAX};
+pub use proc_queues::{Buffer, CAPACITY};
 pub use reading::{read, read_would_block};
 pub use refusals::{ftruncate, lseek, pread, pwrite, readdir};
 pub use writing::{write, write_would_block};

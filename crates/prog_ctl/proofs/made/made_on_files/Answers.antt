@@ -18,14 +18,8 @@ returns-in-Dup2 c = λ _. c.made_on_descriptor-in-Dup2.ensures c.args.texts.now 
 pub returns-in-Fcntl : goal.returns-in-Fcntl
 returns-in-Fcntl c = λ _. c.made_on_descriptor-in-Fcntl.ensures c.args.texts.now c.args.control.now.done (subst TakesDescriptor (sym c.in-Fcntl.is) tt)
 
-pub returns-in-Read : goal.returns-in-Read
-returns-in-Read c = λ _. c.made_of_bytes.ensures c.args.texts.now (subst MovesBytes (sym c.in-Read.is) tt)
-
-pub returns-in-Write : goal.returns-in-Write
-returns-in-Write c = λ _. c.made_of_bytes-in-Write.ensures c.args.texts.now (subst MovesBytes (sym c.in-Write.is) tt)
-
 pub returns-in-Pread : goal.returns-in-Pread
-returns-in-Pread c = λ _. c.made_of_bytes-in-Pread.ensures c.args.texts.now (subst MovesBytes (sym c.in-Pread.is) tt)
+returns-in-Pread c = λ _. c.made_of_bytes.ensures c.args.texts.now (subst MovesBytes (sym c.in-Pread.is) tt)
 
 pub returns-in-Pwrite : goal.returns-in-Pwrite
 returns-in-Pwrite c = λ _. c.made_of_bytes-in-Pwrite.ensures c.args.texts.now (subst MovesBytes (sym c.in-Pwrite.is) tt)
