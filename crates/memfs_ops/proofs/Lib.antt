@@ -9,3 +9,6 @@ pub mod EvictLemmas
 pub mod BootLemmas
 pub mod KindLemmas
 pub mod PurseLemmas
+pub mod ForgetLemmas
+pub mod CloseLemmas
+pub mod StepLemmas

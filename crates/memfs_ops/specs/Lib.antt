@@ -3,3 +3,5 @@ pub mod Fetching
 pub mod Changing
 pub mod Opening
 pub mod Evicting
+pub mod Closing
+pub mod Entries

@@ -5,14 +5,18 @@
 #![tactic(auto)]
 
 mod changing;
+mod entries;
 mod evicting;
 mod file_tree;
+mod forgetting;
 mod held;
 mod holding;
 mod making;
 mod opening;
 mod reading;
+mod stepping;
 mod telling;
+mod through;
 mod writing;
 
 pub use file_tree::FileTree;
