@@ -12,3 +12,4 @@ pub mod PurseLemmas
 pub mod ForgetLemmas
 pub mod CloseLemmas
 pub mod StepLemmas
+pub mod ProgramLemmas

@@ -5,3 +5,4 @@ pub mod Opening
 pub mod Evicting
 pub mod Closing
 pub mod Entries
+pub mod Starting

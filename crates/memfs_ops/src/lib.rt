@@ -14,6 +14,7 @@ mod holding;
 mod making;
 mod opening;
 mod reading;
+mod starting;
 mod stepping;
 mod telling;
 mod through;
