@@ -5,6 +5,7 @@
 #![tactic(auto)]
 
 mod changing;
+mod closing;
 mod entries;
 mod evicting;
 mod file_tree;
