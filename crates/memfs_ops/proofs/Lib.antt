@@ -12,4 +12,5 @@ pub mod PurseLemmas
 pub mod ForgetLemmas
 pub mod CloseLemmas
 pub mod StepLemmas
+pub mod RemoveLemmas
 pub mod ProgramLemmas

@@ -5,4 +5,5 @@ pub mod Opening
 pub mod Evicting
 pub mod Closing
 pub mod Entries
+pub mod Removing
 pub mod Starting

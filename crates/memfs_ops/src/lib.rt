@@ -15,6 +15,7 @@ mod holding;
 mod making;
 mod opening;
 mod reading;
+mod removing;
 mod starting;
 mod stepping;
 mod telling;
