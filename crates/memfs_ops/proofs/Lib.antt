@@ -13,4 +13,5 @@ pub mod ForgetLemmas
 pub mod CloseLemmas
 pub mod StepLemmas
 pub mod RemoveLemmas
+pub mod LinkLemmas
 pub mod ProgramLemmas

@@ -12,6 +12,7 @@ mod file_tree;
 mod forgetting;
 mod held;
 mod holding;
+mod linking;
 mod making;
 mod opening;
 mod reading;
