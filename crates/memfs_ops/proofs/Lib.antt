@@ -14,4 +14,5 @@ pub mod CloseLemmas
 pub mod StepLemmas
 pub mod RemoveLemmas
 pub mod LinkLemmas
+pub mod RenameLemmas
 pub mod ProgramLemmas

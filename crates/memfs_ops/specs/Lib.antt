@@ -7,3 +7,4 @@ pub mod Closing
 pub mod Entries
 pub mod Removing
 pub mod Starting
+pub mod Renaming

@@ -17,6 +17,7 @@ mod making;
 mod opening;
 mod reading;
 mod removing;
+mod renaming;
 mod starting;
 mod stepping;
 mod telling;
