@@ -35,7 +35,7 @@ use Rattle.cached_disk.specs.Lent.{parts, AreLent, GoesOn}
 use Rattle.cached_disk.specs.TreeLent.{HasPins, with_cached}
 use Rattle.memfs_ops.specs.FileTree.{TreeView, Stands, HasRoom, MayWalk, Looks, Pays}
 use Rattle.memfs_ops.specs.Fetching.{MayFetch}
-use Rattle.memfs_ops.specs.Changing.{Lags, LagsAs, LedTo, DoneAs}
+use Rattle.memfs_ops.specs.Changing.{Between, MidWay, Lags, LagsAs, LedTo, DoneAs}
 use Rattle.memfs_ops.proofs.PinLemmas.{IsCachedAs, cached_as}
 use Rattle.memfs_ops.proofs.FetchLemmas.{names_stay, vnodes_stay}
 
@@ -102,15 +102,15 @@ pins_renewed pins objects cache number inode has at = record {
     stored : object (put objects at.slot now) at.slot ≡ Some now
     stored = object-put objects at.slot now (InUse-within objects at.slot (subst (λ (o : Option Vnode). IsSome o) (sym at.is) refl))
 
-module _ (old new : Heap) (fs : TreeView) (tree : Tree) (pins : ℕ → ℕ) (number : ℕ) (inode : Inode) (lags : Lags number old fs tree pins) (has : HasNode fs.disk.blocks number inode) where
+module _ (old new : Heap) (fs : TreeView) (told tree : Tree) (pins : ℕ → ℕ) (number : ℕ) (inode : Inode) (lags : Between number old fs told tree pins) (has : HasNode fs.disk.blocks number inode) where
   -- it is cached
-  pub renewed : (nodes : Nodes) → IsSome (node_slot fs.vnodes number) → NodeSet number (λ was. record was { inode = inode }) old new fs.vnodes nodes → KeepsNodes new.vnodes nodes → nodes ≡ fs.vnodes → (other : ℕ) → Lags other new (record fs { vnodes = nodes }) tree pins
+  pub renewed : (nodes : Nodes) → IsSome (node_slot fs.vnodes number) → NodeSet number (λ was. record was { inode = inode }) old new fs.vnodes nodes → KeepsNodes new.vnodes nodes → nodes ≡ fs.vnodes → MidWay new (record fs { vnodes = nodes }) told tree pins
   renewed nodes some set keeps same other =
       let at = cached_as old.vnodes fs.vnodes number lags.nodes some in
       let is = set at.slot at.vnode at.there at.is in
       let all : TrueNodes (HasNode fs.disk.blocks) (put old.vnodes at.slot (record at.vnode { inode = inode })) =
       told_true (λ n i. n ≢ number → HasNode fs.disk.blocks n i) (HasNode fs.disk.blocks) old.vnodes fs.vnodes number at.slot at.vnode inode lags.true_others lags.nodes (λ n i differs was. was differs) at.there at.is has in
-      subst (λ (h : Heap). Lags other h (record fs { vnodes = nodes }) tree pins) (sym is) (record {
+      subst (λ (h : Heap). Between other h (record fs { vnodes = nodes }) told tree pins) (sym is) (record {
         behind = lags.behind;
         names = lags.names;
         nodes = subst (λ (h : Heap). KeepsNodes h.vnodes nodes) is keeps;
@@ -124,7 +124,7 @@ module _ (old new : Heap) (fs : TreeView) (tree : Tree) (pins : ℕ → ℕ) (nu
       })
 
   -- it isn't
-  pub not_cached : node_slot fs.vnodes number ≡ None → (other : ℕ) → Lags other old fs tree pins
+  pub not_cached : node_slot fs.vnodes number ≡ None → MidWay old fs told tree pins
   not_cached none other =
       let all : TrueNodes (HasNode fs.disk.blocks) old.vnodes =
       absent_true (λ n i. n ≢ number → HasNode fs.disk.blocks n i) (HasNode fs.disk.blocks) old.vnodes fs.vnodes number lags.true_others lags.nodes (λ n i differs was. was differs) none in
@@ -224,9 +224,9 @@ lags_led number heap last fs end tree (Ok (made, next)) pins answer is renew = (
 lags_led number heap last fs end tree (Err errno) pins answer is renew = (is.0, stands_all last end tree pins is.1 (renew tree is.2))
 
 -- some tree is lagged for
-pub some_lags : (number : ℕ) (heap : Heap) (fs : TreeView) (tree : Tree) (led : Result (ℕ × Tree) Errno) (pins : ℕ → ℕ) (answer : Result ℕ Errno) → LagsAs number heap fs tree led pins answer → (t : Tree) × (p : ℕ → ℕ) × Lags number heap fs t p
-some_lags number heap fs tree (Ok (made, next)) pins answer is = (next, pins, is.2)
-some_lags number heap fs tree (Err errno) pins answer is = (tree, pins, is.2)
+pub some_lags : (number : ℕ) (heap : Heap) (fs : TreeView) (tree : Tree) (led : Result (ℕ × Tree) Errno) (pins : ℕ → ℕ) (answer : Result ℕ Errno) → LagsAs number heap fs tree led pins answer → (t u : Tree) × (p : ℕ → ℕ) × Between number heap fs t u p
+some_lags number heap fs tree (Ok (made, next)) pins answer is = (next, next, pins, is.2)
+some_lags number heap fs tree (Err errno) pins answer is = (tree, tree, pins, is.2)
 
 -- ---- what a change leaves of all else
 

@@ -9,3 +9,10 @@ pub mod EvictLemmas
 pub mod BootLemmas
 pub mod KindLemmas
 pub mod PurseLemmas
+pub mod ForgetLemmas
+pub mod CloseLemmas
+pub mod StepLemmas
+pub mod RemoveLemmas
+pub mod LinkLemmas
+pub mod RenameLemmas
+pub mod ProgramLemmas

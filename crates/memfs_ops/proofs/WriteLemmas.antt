@@ -25,7 +25,7 @@ use Rattle.memfs_node.proofs.Named.{same_others, changed_others}
 use Rattle.cached_disk.specs.Lent.{parts, AreLent, GoesOn}
 use Rattle.memfs_ops.specs.FileTree.{TreeView, Stands}
 use Rattle.memfs_ops.specs.Fetching.{IsFile}
-use Rattle.memfs_ops.specs.Changing.{LagsAs, LagsTo, ChangedTo, Lags}
+use Rattle.memfs_ops.specs.Changing.{Between, LagsAs, LagsTo, ChangedTo, Lags}
 use Rattle.memfs_ops.proofs.ChangeLemmas.{changed_lags, lags_of, stands_all}
 
 -- a file's inode is of a file's kind
@@ -136,6 +136,6 @@ lags_to number heap last fs end tree (Ok next) pins answer is renew = (is.0, sta
 lags_to number heap last fs end tree (Err errno) pins answer is renew = (is.0, stands_all last end tree pins is.1 (renew tree is.2))
 
 -- some tree is lagged for
-pub some_to : (number : ℕ) (heap : Heap) (fs : TreeView) (tree : Tree) (led : Result Tree Errno) (pins : ℕ → ℕ) (answer : Result (Unit {0}) Errno) → LagsTo number heap fs tree led pins answer → (t : Tree) × (p : ℕ → ℕ) × Lags number heap fs t p
-some_to number heap fs tree (Ok next) pins answer is = (next, pins, is.2)
-some_to number heap fs tree (Err errno) pins answer is = (tree, pins, is.2)
+pub some_to : (number : ℕ) (heap : Heap) (fs : TreeView) (tree : Tree) (led : Result Tree Errno) (pins : ℕ → ℕ) (answer : Result (Unit {0}) Errno) → LagsTo number heap fs tree led pins answer → (t u : Tree) × (p : ℕ → ℕ) × Between number heap fs t u p
+some_to number heap fs tree (Ok next) pins answer is = (next, next, pins, is.2)
+some_to number heap fs tree (Err errno) pins answer is = (tree, tree, pins, is.2)

@@ -12,19 +12,28 @@ use Rattle.vnode_cache.specs.Nodes.{KeepsNodes, TrueNodes}
 use Rattle.cached_disk.specs.TreeLent.{HasPins}
 use Rattle.memfs_ops.specs.FileTree.{TreeView, Stands, HasRoom}
 
--- It stands for this tree but for one node: the disk has another inode of it than the one that may be cached. Nothing is said
--- of what every tree keeps.
-pub record Lags (number : ℕ) (heap : Heap) (fs : TreeView) (tree : Tree) (pins : ℕ → ℕ) : Type 0 where
+-- In the midst of a change: the disk stands for this tree, of which nothing is said that every tree keeps. The names that are
+-- cached lead where they led in the tree that was told; and of one node the disk may have another inode than the one that is
+-- cached.
+pub record Between (number : ℕ) (heap : Heap) (fs : TreeView) (told tree : Tree) (pins : ℕ → ℕ) : Type 0 where
   pub behind : StandsFor fs.disk.blocks tree
   pub names : KeepsNames heap.names fs.names
   pub nodes : KeepsNodes heap.vnodes fs.vnodes
   pub blocks : KeepsBlocks heap.blocks fs.blocks
-  pub true_names : TrueNames (found tree) heap.names
+  pub true_names : TrueNames (found told) heap.names
   pub true_others : TrueNodes (λ other inode. other ≢ number → HasNode fs.disk.blocks other inode) heap.vnodes
   pub true_blocks : TrueToDisk fs.disk.blocks heap.blocks
   pub held : HasPins pins heap.vnodes
   pub root : 0 < pins root
   pub room : HasRoom heap fs
+
+-- the same where the names lead where they lead in this tree
+abbrev pub Lags : ℕ → Heap → TreeView → Tree → (ℕ → ℕ) → Type 0
+Lags number heap fs tree pins = Between number heap fs tree tree pins
+
+-- the same where each cached inode is that of the disk
+abbrev pub MidWay : Heap → TreeView → Tree → Tree → (ℕ → ℕ) → Type 0
+MidWay heap fs told tree pins = (number : ℕ) → Between number heap fs told tree pins
 
 -- The answer is the plain tree's, and it stands for the tree after it but for one node; where the answer is a fault, for
 -- the tree as it was.

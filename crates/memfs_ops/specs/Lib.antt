@@ -3,3 +3,8 @@ pub mod Fetching
 pub mod Changing
 pub mod Opening
 pub mod Evicting
+pub mod Closing
+pub mod Entries
+pub mod Removing
+pub mod Starting
+pub mod Renaming

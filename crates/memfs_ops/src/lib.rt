@@ -5,14 +5,23 @@
 #![tactic(auto)]
 
 mod changing;
+mod closing;
+mod entries;
 mod evicting;
 mod file_tree;
+mod forgetting;
 mod held;
 mod holding;
+mod linking;
 mod making;
 mod opening;
 mod reading;
+mod removing;
+mod renaming;
+mod starting;
+mod stepping;
 mod telling;
+mod through;
 mod writing;
 
 pub use file_tree::FileTree;

@@ -1,10 +1,13 @@
 //! Nodes that are opened: each description of one holds it.
-ghost use Rattle.std.specs.Prelude.{◌≡◌, ℕ, ◌<◌, ◌^◌, ◌&&◌, ◌||◌, true, false, None, Ok, IsSome, Result, List};
+ghost use Rattle.std.specs.Prelude.{◌≡◌, ℕ, ◌<◌, ◌^◌, ◌&&◌, ◌||◌, true, false, None, Ok, IsSome, Result, List, pos};
 ghost use Rattle.std.specs.List.{All};
 ghost use Rattle.kabi_calls.specs.Arguments.{path_fault};
+ghost use Rattle.kabi_values.specs.OpenFlags.{bits_of};
 ghost use Rattle.kabi_values.specs.declared.errnos.Errno.{Errno as Fault};
 ghost use Rattle.kabi_values.specs.declared.errnos.Errno.TheVariants.{EEXIST, EISDIR, EOPNOTSUPP};
 ghost use Rattle.lru_index.specs.NameKeys.{name_key};
+ghost use Rattle.posix_defs.specs.Calls.OnFiles.{opening_of};
+ghost use Rattle.posix_defs.specs.Files.Descriptions as descriptions;
 ghost use Rattle.posix_defs.specs.IsTree.{IsEntryName};
 ghost use Rattle.posix_defs.specs.PathCalls as calls;
 ghost use Rattle.posix_defs.specs.SoundDisk.{HasNode};
@@ -18,7 +21,8 @@ ghost use Rattle.memfs_ops.specs.Opening.{asks_of, cut_tree, unless_fault, Opene
 
 use crate::FileTree;
 use crate::telling::{is_directory, is_socket};
-use kabi_types::{Errno, Inode, Name27};
+use bitflags::Flags;
+use kabi_types::{Errno, Inode, Name27, OpenFlags};
 use kheap_shelves::Purse;
 use kheap_slabs::KHeap;
 use memfs_node::NewNode;
@@ -35,6 +39,36 @@ pub struct Opening {
     pub excludes: bool,
     /// To take all bytes from a file that is there.
     pub truncates: bool,
+}
+
+impl Opening {
+    /// What the flags of an `open` ask of the tree; what they ask of the description isn't among it.
+    pub fn of(flags: OpenFlags) -> Opening
+        ensures { asks_of result ≡ opening_of (pos (bits_of flags)) }
+    {
+        let bits = i64::from(flags.bits());
+        Opening {
+            writes: may_write(bits),
+            creates: has_flag(bits, 64),
+            excludes: has_flag(bits, 128),
+            truncates: has_flag(bits, 512),
+        }
+    }
+}
+
+// Whether these flags open for writing, or for both.
+fn may_write(bits: i64) -> bool
+    ensures { result ≡ descriptions.may_write (descriptions.access_of bits) }
+{
+    has_flag(bits, 2) || has_flag(bits, 1)
+}
+
+// Whether a flag, which is a power of 2, is among these bits.
+fn has_flag(bits: i64, flag: u64) -> bool
+    requires { 0 < flag }
+    ensures { result ≡ descriptions.has_flag bits flag }
+{
+    bits.cast_unsigned() / flag % 2 == 1
 }
 
 impl FileTree {

@@ -81,7 +81,7 @@ impl FileTree {
     }
 
     // The bytes of a node, by its inode.
-    fn read_bytes(
+    pub(crate) fn read_bytes(
         &mut self,
         heap: &mut KHeap,
         purse: &mut Purse,
@@ -95,6 +95,7 @@ impl FileTree {
         ensures count { result ≡ min (length out.old) (inode.now.size - at) }
         ensures bytes { out.new
             ≡ take result (drop at (node_bytes self.old.disk.blocks inode.now)) ++ drop result out.old }
+        ensures nodes { self.new.vnodes ≡ self.old.vnodes }
         ensures fetches { Fetches heap.old heap.new purse.old purse.new self.old self.new }
         ensures saved { AllByRecursion (IsCached self.old.blocks)
             (asked_to_read self.old.disk.blocks inode.now at result)

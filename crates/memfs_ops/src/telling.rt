@@ -1,5 +1,5 @@
 //! Calls that look at the tree and change nothing of it.
-ghost use Rattle.std.specs.Prelude.{◌≡◌, ℕ, true, Bool, List, None, Some, IsSome, if◌then◌else◌};
+ghost use Rattle.std.specs.Prelude.{◌≡◌, ◌||◌, ℕ, true, not, Bool, List, None, Some, IsSome, if◌then◌else◌};
 ghost use Rattle.std.specs.List.{AllByRecursion};
 ghost use Rattle.kabi_calls.specs.Arguments.{path_fault};
 ghost use Rattle.lru_index.specs.NameKeys.{name_key};
@@ -20,6 +20,8 @@ use kabi_types::{Errno, Inode, NodeKind, StatInfo};
 use kheap_shelves::Purse;
 use kheap_slabs::KHeap;
 use path_walk::Walked;
+
+const FILE: u8 = 1;
 
 const DIRECTORY: u8 = 2;
 
@@ -202,6 +204,14 @@ pub(crate) fn told(number: u32, inode: &Inode) -> StatInfo
         nlink: u32::from(inode.nlink),
         size: inode.size,
     }
+}
+
+/// Whether a node is a file, by its inode.
+pub(crate) fn is_file(inode: &Inode) -> bool
+    ensures { (tree : Tree) (number : ℕ) → IsInodeAt tree number inode.now
+        → result ≡ not (directory_in tree number || calls.is_socket tree number) }
+{
+    inode.kind == FILE
 }
 
 /// Whether a node is a directory, by its inode.

@@ -42,7 +42,7 @@ pub returns-clause-stands : goal.returns-clause-stands
 returns-clause-stands c = λ tree pins stands.
     let m = c.size_in-done in
     subst (λ (b : Bool). Stands c.renew.new.heap c.renew.new.self (cut_tree tree c.args.node b) pins) (sym c.if-not-asked.false)
-    (cut_stands c.renew.new.heap c.renew.new.self tree c.args.node pins m.result (lags_to c.args.node m.new.heap c.renew.new.heap m.new.self c.renew.new.self tree (resize tree c.args.node 0) pins m.result (m.ensures.answer tree pins stands) (λ t lags. c.renew.ensures.stands t pins lags)))
+    (cut_stands c.renew.new.heap c.renew.new.self tree c.args.node pins m.result (lags_to c.args.node m.new.heap c.renew.new.heap m.new.self c.renew.new.self tree (resize tree c.args.node 0) pins m.result (m.ensures.answer tree pins stands) (λ t lags. c.renew.ensures.stands t t pins lags)))
 
 pub returns-clause-pays : goal.returns-clause-pays
 returns-clause-pays c =

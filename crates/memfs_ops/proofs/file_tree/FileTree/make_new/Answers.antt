@@ -36,7 +36,7 @@ pub returns-clause-answer : goal.returns-clause-answer
 returns-clause-answer c = λ tree pins stands.
     let m = c.make_in-made in
     lags_led c.args.parent m.new.heap c.renew.new.heap m.new.self c.renew.new.self tree (make tree c.args.parent c.args.name (content_of c.args.new)) pins m.result (m.ensures.answer tree pins (c.inode-dir.ensures.looks.stands tree pins stands))
-    (λ t lags. c.renew.ensures.stands t pins lags)
+    (λ t lags. c.renew.ensures.stands t t pins lags)
 
 pub returns-clause-pays : goal.returns-clause-pays
 returns-clause-pays c =

@@ -49,3 +49,6 @@ pub returns-clause-last : goal.returns-clause-last
 returns-clause-last c =
     let t = c.read_through in
     subst (λ (v : TreeView). 0 < t.result → IsCached t.new.cache (data_block v.disk.blocks c.args.inode.now ((c.args.at + t.result - 1) / block_size))) c.self.view_is t.ensures.last
+
+pub returns-clause-nodes : goal.returns-clause-nodes
+returns-clause-nodes c = ap (λ (v : TreeView). v.vnodes) c.self.view_is

@@ -37,7 +37,7 @@ returns-clause-answer c = λ tree pins stands.
     let same = ap (λ n. resize tree c.args.node n) c.place_of.ensures ∙ same_resize tree c.args.node c.args.size in
     subst (λ (led : Result Tree Errno). ChangedTo c.renew.new.heap c.renew.new.self tree led pins m.result) same
     (lags_to c.args.node m.new.heap c.renew.new.heap m.new.self c.renew.new.self tree (resize tree c.args.node c.place_of.result) pins m.result (m.ensures.answer tree pins (c.held_inode-inode.ensures.stands tree pins stands))
-    (λ t lags. c.renew.ensures.stands t pins lags))
+    (λ t lags. c.renew.ensures.stands t t pins lags))
 
 pub returns-clause-pays : goal.returns-clause-pays
 returns-clause-pays c =

@@ -37,7 +37,7 @@ returns-clause-answer c = λ tree pins stands.
     let same = ap (λ n. write tree c.args.node n c.args.bytes.now) c.place_of.ensures ∙ same_write tree c.args.node c.args.at c.args.bytes.now in
     subst (λ (led : Result (ℕ × Tree) Errno). LedTo c.renew.new.heap c.renew.new.self tree led pins m.result) same
     (lags_led c.args.node m.new.heap c.renew.new.heap m.new.self c.renew.new.self tree (write tree c.args.node c.place_of.result c.args.bytes.now) pins m.result (m.ensures.answer tree pins (c.held_inode-inode.ensures.stands tree pins stands))
-    (λ t lags. c.renew.ensures.stands t pins lags))
+    (λ t lags. c.renew.ensures.stands t t pins lags))
 
 pub returns-clause-pays : goal.returns-clause-pays
 returns-clause-pays c =

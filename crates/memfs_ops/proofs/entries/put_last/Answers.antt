@@ -1,0 +1,56 @@
+use Rattle.std.proofs.Common.{◌≡◌, ℕ, ◌+◌, ◌*◌, ◌<◌, ◌++◌, ◌∷◌, [], List, Option, Some, None, Result, OnOk, refl, sym, ap, ◌∙◌, subst, arith}
+use Rattle.kabi_values.specs.declared.errnos.Errno.{Errno}
+use Rattle.kabi_values.specs.declared.inodes.DirEntry.{DirEntry}
+use Rattle.kabi_values.specs.declared.inodes.Inode.{Inode}
+use Rattle.posix_defs.specs.DiskContents.{entry_for, HasEntries, parent_name}
+use Rattle.posix_defs.specs.DiskFormat.{IsEntry, IsName}
+use Rattle.posix_defs.specs.DiskTree.{StandsFor, ChangesNode}
+use Rattle.posix_defs.specs.SoundDisk.{HasNode}
+use Rattle.posix_defs.specs.Tree.{Tree, is_directory, entries_at}
+use Rattle.posix_defs.specs.TreeChanges.{with_entries, entry_put, entry_taken, entry_renamed, hung, place_of, no_entry}
+use Rattle.memfs_dir.specs.Listed.{Relists}
+use Rattle.memfs_dir.proofs.InTree.{listed, put_in_tree, taken_from_tree, renamed_in_tree, hung_in_tree}
+use Rattle.memfs_node.proofs.Looking.{known_of, same_directory, has_two}
+use Rattle.disk_laws.proofs.DiskNodes.{one_tree}
+use Rattle.memfs_ops.specs.Entries.{HasEntry}
+use Rattle.memfs_node.proofs.Named.{is_done}
+use Rattle.memfs_ops.proofs.entries.put_last.Goals as goal
+
+pub dir_add-requires-clause-entries : goal.dir_add-requires-clause-entries
+dir_add-requires-clause-entries g c =
+    let disk : List (List ℕ) = g.B.Blocks.blocks c.args.b.now in
+    let s = c.requires.stands in
+    (listed s.0 c.args.dir, (known_of disk s.0 c.args.dir c.args.inode.now s.1 s.2 c.requires.node).list)
+
+pub dir_add-requires-clause-entry : goal.dir_add-requires-clause-entry
+dir_add-requires-clause-entry g c = record { node = (c.requires.number, omega (arith, c.ranges.node)); name = subst (λ (n : List ℕ). IsName n) (sym c.copy.ensures) c.requires.name }
+
+pub unwrap-requires : goal.unwrap-requires
+unwrap-requires g c = is_done c.dir_add.result c.dir_add.ensures.only (λ fault. c.requires.room (c.dir_add.ensures.full.0 fault))
+
+pub returns-clause-stands : goal.returns-clause-stands
+returns-clause-stands g c = λ tree stands.
+    let disk : List (List ℕ) = g.B.Blocks.blocks c.args.b.now in
+    let after : List (List ℕ) = g.B.Blocks.blocks c.dir_add.new.b in
+    let s = c.requires.stands in
+    let is_dir = same_directory disk s.0 tree c.args.dir s.1 stands s.2 in
+    let Put : Result (Unit {0}) Errno → Type 0 = λ r. OnOk r (Relists c.args.dir disk c.args.inode.now (λ entries. entries ++ entry_for c.args.node c.copy.result ∷ []) after c.dir_add.new.dir) in
+    let relists = subst Put c.unwrap.ensures c.dir_add.ensures.ok in
+    subst (λ (n : List ℕ). StandsFor after (with_entries tree c.args.dir (entry_put n c.args.node))) c.copy.ensures
+    (put_in_tree disk after tree c.args.dir c.args.node c.args.inode.now c.dir_add.new.dir c.copy.result stands is_dir c.requires.node relists)
+
+pub returns-clause-node : goal.returns-clause-node
+returns-clause-node g c =
+    let disk : List (List ℕ) = g.B.Blocks.blocks c.args.b.now in
+    let after : List (List ℕ) = g.B.Blocks.blocks c.dir_add.new.b in
+    let Put : Result (Unit {0}) Errno → Type 0 = λ r. OnOk r (Relists c.args.dir disk c.args.inode.now (λ entries. entries ++ entry_for c.args.node c.copy.result ∷ []) after c.dir_add.new.dir) in
+    let relists = subst Put c.unwrap.ensures c.dir_add.ensures.ok in
+    relists.has
+
+pub returns-clause-changes : goal.returns-clause-changes
+returns-clause-changes g c =
+    let disk : List (List ℕ) = g.B.Blocks.blocks c.args.b.now in
+    let after : List (List ℕ) = g.B.Blocks.blocks c.dir_add.new.b in
+    let Put : Result (Unit {0}) Errno → Type 0 = λ r. OnOk r (Relists c.args.dir disk c.args.inode.now (λ entries. entries ++ entry_for c.args.node c.copy.result ∷ []) after c.dir_add.new.dir) in
+    let relists = subst Put c.unwrap.ensures c.dir_add.ensures.ok in
+    relists.changes

@@ -1,0 +1,58 @@
+use Rattle.std.proofs.Common.{◌≡◌, ℕ, Result, Ok, Err, refl, sym, ap, ◌∙◌, subst}
+use Rattle.kabi_values.specs.declared.errnos.Errno.TheVariants.{EEXIST}
+use Rattle.posix_defs.specs.PathCalls as calls
+use Rattle.posix_defs.specs.Paths.{IsLed, last_name}
+use Rattle.posix_defs.specs.declared.walked.Walked.{Walked}
+use Rattle.posix_defs.specs.declared.walked.Walked.TheVariants as walked
+use Rattle.tree_laws.proofs.PathLeads.{path_led, last_is_entry_name}
+use Rattle.memfs_ops.specs.Changing.{ChangedTo}
+use Rattle.memfs_ops.proofs.LookLemmas.{pays_of, pays_trans}
+use Rattle.memfs_ops.proofs.file_tree.FileTree.link_at.Goals as goal
+
+pub link_free-requires-clause-stands : goal.link_free-requires-clause-stands
+link_free-requires-clause-stands c =
+    let r = c.requires.stands in
+    let w : Walked = walked.Free c.in-Free.parent c.in-Free.name c.in-Free.slash in
+    let led : IsLed r.0 w = subst (λ (x : Walked). IsLed r.0 x) (sym (c.in-Free.ensures.resolved r.0 r.1 r.2)) (path_led r.0 c.args.cwd c.args.new.now r.2.is_tree r.3) in
+    (r.0, r.1, c.walk.ensures.looks.stands r.0 r.1 r.2, led.0, led.1, r.4, r.5)
+
+pub link_free-requires-clause-name : goal.link_free-requires-clause-name
+link_free-requires-clause-name c =
+    let r = c.requires.stands in
+    last_is_entry_name r.0 c.args.cwd c.args.new.now c.in-Free.name c.requires.new c.requires.bytes (ap last_name (sym (c.in-Free.ensures.resolved r.0 r.1 r.2)))
+
+pub link_free-requires-clause-may : goal.link_free-requires-clause-may
+link_free-requires-clause-may c = c.walk.ensures.looks.may
+
+pub returns-in-Free-clause-answer : goal.returns-in-Free-clause-answer
+returns-in-Free-clause-answer c = λ tree pins stands.
+    let m = c.link_free in
+    subst (λ (x : Walked). ChangedTo m.new.heap m.new.self tree (calls.link_to tree c.args.number x) pins m.result) (c.in-Free.ensures.resolved tree pins stands)
+    (m.ensures.answer tree pins (c.walk.ensures.looks.stands tree pins stands))
+
+pub returns-in-Free-clause-pays : goal.returns-in-Free-clause-pays
+returns-in-Free-clause-pays c =
+    let w = c.walk in
+    let m = c.link_free in
+    pays_trans c.args.heap.now w.new.heap m.new.heap c.args.purse.now w.new.purse m.new.purse c.args.self.now w.new.self m.new.self w.ensures.looks m.ensures.pays
+
+pub returns-in-Node-clause-answer : goal.returns-in-Node-clause-answer
+returns-in-Node-clause-answer c = λ tree pins stands.
+    subst (λ (x : Walked). ChangedTo c.walk.new.heap c.walk.new.self tree (calls.link_to tree c.args.number x) pins (Err EEXIST)) (c.in-Node.ensures.resolved tree pins stands) (refl, c.walk.ensures.looks.stands tree pins stands)
+
+pub returns-in-Node-clause-pays : goal.returns-in-Node-clause-pays
+returns-in-Node-clause-pays c = pays_of c.args.heap.now c.walk.new.heap c.args.purse.now c.walk.new.purse c.args.self.now c.walk.new.self c.walk.ensures.looks
+
+pub returns-in-Named-clause-answer : goal.returns-in-Named-clause-answer
+returns-in-Named-clause-answer c = λ tree pins stands.
+    subst (λ (x : Walked). ChangedTo c.walk.new.heap c.walk.new.self tree (calls.link_to tree c.args.number x) pins (Err EEXIST)) (c.in-Named.ensures.resolved tree pins stands) (refl, c.walk.ensures.looks.stands tree pins stands)
+
+pub returns-in-Named-clause-pays : goal.returns-in-Named-clause-pays
+returns-in-Named-clause-pays c = pays_of c.args.heap.now c.walk.new.heap c.args.purse.now c.walk.new.purse c.args.self.now c.walk.new.self c.walk.ensures.looks
+
+pub returns-in-Fail-clause-answer : goal.returns-in-Fail-clause-answer
+returns-in-Fail-clause-answer c = λ tree pins stands.
+    subst (λ (x : Walked). ChangedTo c.walk.new.heap c.walk.new.self tree (calls.link_to tree c.args.number x) pins (Err c.in-Fail.errno)) (c.in-Fail.ensures.resolved tree pins stands) (refl, c.walk.ensures.looks.stands tree pins stands)
+
+pub returns-in-Fail-clause-pays : goal.returns-in-Fail-clause-pays
+returns-in-Fail-clause-pays c = pays_of c.args.heap.now c.walk.new.heap c.args.purse.now c.walk.new.purse c.args.self.now c.walk.new.self c.walk.ensures.looks

@@ -1,0 +1,21 @@
+use Rattle.std.proofs.Common.{◌≡◌, ℕ, Bool, true, false, Result, Ok, Err, refl, sym, ap, ◌∙◌, subst}
+use Rattle.kabi_values.specs.declared.errnos.Errno.TheVariants.{ENOENT}
+use Rattle.posix_defs.specs.PathCalls as calls
+use Rattle.posix_defs.specs.TreeChanges.{link}
+use Rattle.memfs_ops.specs.Changing.{ChangedTo}
+use Rattle.memfs_ops.proofs.PaysLemmas.{pays_nothing}
+use Rattle.memfs_ops.proofs.file_tree.FileTree.link_free.Goals as goal
+
+pub returns-then-slash-clause-answer : goal.returns-then-slash-clause-answer
+returns-then-slash-clause-answer c = λ tree pins stands.
+    subst (λ (b : Bool). ChangedTo c.args.heap.now c.args.self.now tree (calls.unless b ENOENT (link tree c.args.parent c.args.name.now c.args.number)) pins (Err ENOENT)) (sym c.if-slash.true) (refl, stands)
+
+pub returns-then-slash-clause-pays : goal.returns-then-slash-clause-pays
+returns-then-slash-clause-pays c = pays_nothing c.args.heap.now c.args.purse.now c.args.self.now c.requires.may.fills
+
+pub add_name-requires-clause-stands : goal.add_name-requires-clause-stands
+add_name-requires-clause-stands c = c.requires.stands
+
+pub returns-clause-answer : goal.returns-clause-answer
+returns-clause-answer c = λ tree pins stands.
+    subst (λ (b : Bool). ChangedTo c.add_name.new.heap c.add_name.new.self tree (calls.unless b ENOENT (link tree c.args.parent c.args.name.now c.args.number)) pins c.add_name.result) (sym c.if-slash.false) (c.add_name.ensures.answer tree pins stands)
