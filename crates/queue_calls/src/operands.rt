@@ -3,7 +3,8 @@
 ghost use Rattle.std.specs.Prelude.{◌≡◌, is_none};
 ghost use Rattle.kabi_calls.specs.Arguments.{count_of, is_within, lie_in_space, moved_fault};
 
-use proc_queues::SSIZE_MAX;
+/// The most bytes that a call may be asked to move.
+const SSIZE_MAX: i64 = 32767;
 
 /// How many bytes an address space has.
 const SPACE: u64 = 1048576;
@@ -20,7 +21,7 @@ pub(crate) fn may_move(addr: i64, n: i64) -> bool
 fn are_few(n: i64) -> bool
     ensures { result ≡ is_within 0 32767 n }
 {
-    0 <= n && n <= SSIZE_MAX as i64
+    0 <= n && n <= SSIZE_MAX
 }
 
 fn count_of(n: i64) -> u64
