@@ -1,5 +1,5 @@
 -- The new tree stands over a heap that has the root's Vnode alone.
-use Rattle.std.proofs.Common.{◌≡◌, ◌≢◌, ℕ, zero, suc, ◌+◌, ◌*◌, ◌/◌, ◌<◌, ◌≤◌, ◌⊎◌, Bool, true, false, cond, List, [], ◌∷◌, ◌++◌, length, min, replicate, Option, Some, None, IsSome, nat_eq, eqb-true, refl, sym, ap, ◌∙◌, subst, inl, inr, arith}
+use Rattle.std.proofs.Common.{◌≡◌, ℕ, ◌+◌, ◌/◌, ◌<◌, ◌≤◌, cond, List, [], ◌∷◌, ◌++◌, length, replicate, Option, Some, None, nat_eq, refl, sym, ap, ◌∙◌, subst, inl, inr, arith}
 use Rattle.std.specs.Prelude.{slice_get}
 use Rattle.std.specs.Option.{option_map}
 use Rattle.std.specs.List.{Contains}
@@ -19,15 +19,14 @@ use Rattle.kheap_slabs.specs.Heap.{Heap}
 use Rattle.lru_index.specs.Order.{Order, order}
 use Rattle.lru_index.specs.declared.keys.NameKey.{NameKey}
 use Rattle.cache_laws.proofs.KeepsLemmas.{keeps_none, true_put}
-use Rattle.posix_defs.specs.DiskFormat.{table_nodes}
 use Rattle.posix_defs.specs.DiskContents.{IsFormatted, IsDirectoryOf, new_root}
 use Rattle.posix_defs.specs.DiskTree.{StandsFor}
 use Rattle.posix_defs.specs.SoundDisk.{HasInode, HasNode}
-use Rattle.posix_defs.specs.Tree.{Tree, root, new_tree, found}
+use Rattle.posix_defs.specs.Tree.{root, new_tree, found}
 use Rattle.disk_laws.proofs.FormattedDisk.{new_node, one_inode, no_inode, no_kind}
 use Rattle.tree_laws.proofs.NewTree.{new_is_tree}
-use Rattle.name_cache.specs.Names.{KeepsNames, TrueNames, same_key, key_of}
-use Rattle.block_cache.specs.Blocks.{KeepsBlocks, TrueToDisk}
+use Rattle.name_cache.specs.Names.{KeepsNames, same_key, key_of}
+use Rattle.block_cache.specs.Blocks.{KeepsBlocks}
 use Rattle.vnode_cache.specs.Nodes.{Nodes, KeepsNodes, TrueNodes}
 use Rattle.vnode_cache.specs.Calls.{new_vnode, HasNodeFills, NodeFilled, NodeSet}
 use Rattle.cached_disk.specs.TreeLent.{HasPins}

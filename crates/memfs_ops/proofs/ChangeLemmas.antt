@@ -1,6 +1,5 @@
 -- What stands in the midst of a change of the tree, and at its end.
-use Rattle.std.proofs.Common.{◌≡◌, ◌≢◌, ◌⊎◌, ℕ, zero, suc, ◌+◌, ◌<◌, ◌≤◌, true, List, length, Option, Some, None, IsSome, Result, Ok, Err, MatchResult, nat_eq, refl, sym, ap, ◌∙◌, subst, inl, inr, arith, le_refl}
-use Rattle.std.specs.Option.{option_map}
+use Rattle.std.proofs.Common.{◌≡◌, ◌≢◌, ℕ, ◌+◌, ◌<◌, ◌≤◌, true, List, length, Option, Some, None, IsSome, Result, Ok, Err, MatchResult, refl, sym, ap, ◌∙◌, subst, inl, inr, arith}
 use Rattle.std.proofs.lemmas.Bool.{cases_eq}
 use Rattle.kabi_values.specs.declared.errnos.Errno.{Errno}
 use Rattle.kabi_values.specs.declared.inodes.Inode.{Inode}
@@ -10,7 +9,7 @@ use Rattle.kheap_shelves.specs.declared.objects.Name.{Name}
 use Rattle.kheap_shelves.specs.declared.objects.Vnode.{Vnode}
 use Rattle.kheap_shelves.proofs.ObjectLemmas.{object-put, object-put_other, InUse-within, InUse-put}
 use Rattle.kheap_slabs.specs.Heap.{Heap}
-use Rattle.kheap_slabs.specs.Paid.{AreFills, HasFills, TakesNothing}
+use Rattle.kheap_slabs.specs.Paid.{HasFills, TakesNothing}
 use Rattle.kheap_laws.proofs.PaidLemmas.{IsPaid-trans, IsPaid-nothing, CanPay-kept}
 use Rattle.kheap_laws.proofs.FillLemmas.{AreFills-kept}
 use Rattle.lru_index.specs.Order.{Order}
@@ -26,14 +25,13 @@ use Rattle.tree_laws.proofs.OtherNodes.{make_names}
 use Rattle.memfs_node.specs.NodeOnDisk.{AnswersAs, HasParent, KeepsOthers, content_of}
 use Rattle.memfs_node.specs.declared.making.NewNode.{NewNode}
 use Rattle.memfs_node.specs.declared.making.NewNode.TheVariants as kinds
-use Rattle.block_cache.specs.Blocks.{with_blocks}
 use Rattle.name_cache.specs.Names.{KeepsNames, TrueNames}
 use Rattle.vnode_cache.specs.Nodes.{Nodes, KeepsNodes, TrueNodes, IsLoose, AreLoose, is_loose, node_slot}
 use Rattle.vnode_cache.specs.Calls.{NodeSet}
 use Rattle.vnode_cache.proofs.TrueLemmas.{told_true, absent_true}
 use Rattle.cached_disk.specs.Lent.{parts, AreLent, GoesOn}
 use Rattle.cached_disk.specs.TreeLent.{HasPins, with_cached}
-use Rattle.memfs_ops.specs.FileTree.{TreeView, Stands, HasRoom, MayWalk, Looks, Pays}
+use Rattle.memfs_ops.specs.FileTree.{TreeView, Stands, MayWalk, Pays}
 use Rattle.memfs_ops.specs.Fetching.{MayFetch}
 use Rattle.memfs_ops.specs.Changing.{Between, MidWay, Lags, LagsAs, LedTo, DoneAs}
 use Rattle.memfs_ops.proofs.PinLemmas.{IsCachedAs, cached_as}

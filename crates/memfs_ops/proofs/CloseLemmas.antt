@@ -1,5 +1,5 @@
 -- One less holds a node, and a file without links goes with the last that holds it.
-use Rattle.std.proofs.Common.{◌≡◌, ◌≢◌, ℕ, zero, suc, ◌+◌, ◌-◌, ◌<◌, ◌≤◌, Bool, true, false, cond, List, [], length, Option, Some, None, IsSome, nat_eq, eqb, eqb-true, refl, sym, ap, ◌∙◌, subst, inl, inr, arith}
+use Rattle.std.proofs.Common.{◌≡◌, ◌≢◌, ℕ, ◌+◌, ◌-◌, ◌<◌, true, false, cond, List, [], length, Option, Some, None, IsSome, eqb, eqb-true, refl, sym, ap, ◌∙◌, subst, inl, inr, arith}
 use Rattle.std.specs.Prelude.{is_some}
 use Rattle.std.specs.Option.{option_map}
 use Rattle.std.proofs.lemmas.Bool.{cases_eq, cond-true, cond-false, eq-eqb, ne_eqb}
@@ -9,7 +9,7 @@ use Rattle.kheap_shelves.specs.Purse.{Purse}
 use Rattle.kheap_shelves.specs.declared.objects.Vnode.{Vnode}
 use Rattle.kheap_shelves.proofs.ObjectLemmas.{object-put, object-put_other, InUse-within, InUse-put}
 use Rattle.kheap_slabs.specs.Heap.{Heap}
-use Rattle.kheap_slabs.specs.Paid.{AreFills, HasFills, TakesNothing}
+use Rattle.kheap_slabs.specs.Paid.{HasFills, TakesNothing}
 use Rattle.kheap_laws.proofs.PaidLemmas.{IsPaid-nothing}
 use Rattle.kheap_laws.proofs.FillLemmas.{AreFills-kept}
 use Rattle.lru_index.specs.Order.{Order}
@@ -17,7 +17,7 @@ use Rattle.disk_layout.specs.Disk.{Disk}
 use Rattle.posix_defs.specs.DiskTree.{StandsFor}
 use Rattle.posix_defs.specs.SoundDisk.{HasNode}
 use Rattle.posix_defs.specs.IsTree.{IsTree}
-use Rattle.posix_defs.specs.Tree.{Node, Tree, root, found, is_in_use, links_at, links_in, node_at, IsInodeAt, IsInodeIn}
+use Rattle.posix_defs.specs.Tree.{Node, Tree, root, is_in_use, links_at, links_in, node_at, IsInodeAt, IsInodeIn}
 use Rattle.posix_defs.specs.TreeChanges.{closed}
 use Rattle.tree_laws.proofs.TreeKeeps.{closed_keeps}
 use Rattle.tree_laws.proofs.OtherNodes.{closed_names}
@@ -31,7 +31,7 @@ use Rattle.vnode_cache.specs.Calls.{NodeSet}
 use Rattle.vnode_cache.proofs.TrueLemmas.{pinned_true}
 use Rattle.cached_disk.specs.Lent.{parts, AreLent, GoesOn}
 use Rattle.cached_disk.specs.TreeLent.{HasPins, with_cached}
-use Rattle.memfs_ops.specs.FileTree.{TreeView, Stands, HasRoom, Pays}
+use Rattle.memfs_ops.specs.FileTree.{TreeView, Stands, Pays}
 use Rattle.memfs_ops.specs.Fetching.{MayFetch}
 use Rattle.memfs_ops.specs.Changing.{Lags}
 use Rattle.memfs_ops.specs.Closing.{one_less, left_tree, GoesThen}

@@ -1,9 +1,8 @@
 -- The tree goes on to stand where an object of a cache has gone.
-use Rattle.std.proofs.Common.{◌≡◌, ℕ, ◌+◌, ◌<◌, ◌≤◌, List, [], length, Option, Some, None, nat_eq, eqb-true, refl, sym, ap, ◌∙◌, subst, arith}
+use Rattle.std.proofs.Common.{◌≡◌, ℕ, ◌<◌, [], length, Option, Some, None, sym, ap, ◌∙◌, subst, arith}
 use Rattle.std.specs.Prelude.{MatchOption}
-use Rattle.std.specs.Cmp.{nat_eq_equiv}
 use Rattle.std.specs.Option.{option_and_then}
-use Rattle.kheap_shelves.specs.Objects.{object, count, without}
+use Rattle.kheap_shelves.specs.Objects.{object, count}
 use Rattle.kheap_shelves.specs.declared.objects.Block.{Block}
 use Rattle.kheap_shelves.specs.declared.objects.Name.{Name}
 use Rattle.kheap_shelves.specs.declared.objects.Vnode.{Vnode}
@@ -17,7 +16,7 @@ use Rattle.name_cache.specs.Names as names
 use Rattle.name_cache.specs.Names.{KeepsNames}
 use Rattle.block_cache.specs.Blocks as blocks
 use Rattle.block_cache.specs.Blocks.{KeepsBlocks}
-use Rattle.vnode_cache.specs.Nodes.{Nodes, KeepsNodes, IsLoose, is_loose, node_is_loose, loose_count, node_slot}
+use Rattle.vnode_cache.specs.Nodes.{Nodes, KeepsNodes, IsLoose, is_loose, loose_count}
 use Rattle.vnode_cache.specs.Calls as calls
 use Rattle.cached_disk.proofs.NodesStep.{pins_without}
 use Rattle.std.specs.Prelude.{slice_get}

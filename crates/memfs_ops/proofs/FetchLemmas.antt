@@ -22,7 +22,7 @@ use Rattle.memfs_file.proofs.Bytes.{bytes_len}
 use Rattle.memfs_file.proofs.OnTree.{its_bytes}
 use Rattle.memfs_dir.proofs.InTree.{told_by_bytes}
 use Rattle.name_cache.specs.Names.{KeepsNames, TrueNames}
-use Rattle.vnode_cache.specs.Nodes.{Nodes, KeepsNodes, TrueNodes}
+use Rattle.vnode_cache.specs.Nodes.{KeepsNodes, TrueNodes}
 use Rattle.cached_disk.specs.Lent.{parts, AreLent, GoesOn}
 use Rattle.cached_disk.specs.TreeLent.{HasPins}
 use Rattle.memfs_ops.specs.FileTree.{TreeView, Stands, IsUsed}

@@ -1,10 +1,9 @@
 -- The tree goes on to stand where the inode of a node that no one holds has gone from its cache, and where blocks have.
-use Rattle.std.proofs.Common.{◌≡◌, ◌≢◌, ℕ, zero, suc, ◌+◌, ◌-◌, ◌<◌, ◌≤◌, Bool, true, false, cond, List, [], ◌∷◌, length, Option, Some, None, IsSome, nat_eq, eqb-true, refl, sym, ap, ◌∙◌, subst, inl, inr, arith, le_refl}
+use Rattle.std.proofs.Common.{◌≡◌, ◌≢◌, ℕ, ◌+◌, ◌<◌, ◌≤◌, Bool, true, false, cond, List, [], ◌∷◌, length, Option, Some, None, IsSome, nat_eq, eqb-true, refl, sym, ap, ◌∙◌, subst, inl, inr, arith, le_refl}
 use Rattle.std.specs.Prelude.{MatchOption, slice_get}
 use Rattle.std.specs.Cmp.{nat_eq_equiv}
 use Rattle.std.specs.Option.{option_map, option_and_then}
 use Rattle.std.proofs.lemmas.Bool.{eq-eqb}
-use Rattle.kabi_values.specs.declared.inodes.Inode.{Inode}
 use Rattle.kheap_shelves.specs.Objects.{object, without}
 use Rattle.kheap_shelves.specs.Purse.{Purse}
 use Rattle.kheap_shelves.specs.declared.objects.Block.{Block}
@@ -13,7 +12,7 @@ use Rattle.kheap_shelves.specs.declared.objects.Vnode.{Vnode}
 use Rattle.kheap_slabs.specs.Heap.{Heap}
 use Rattle.kheap_slabs.specs.Paid.{AreFills, HasFills, IsPaid}
 use Rattle.cache_laws.specs.Caches.{AreTrue, objects_without}
-use Rattle.cache_laws.proofs.KeepsLemmas.{keeps_used, cached_is, true_without}
+use Rattle.cache_laws.proofs.KeepsLemmas.{cached_is, true_without}
 use Rattle.kheap_laws.proofs.PaidLemmas.{CanPay-kept}
 use Rattle.lru_index.specs.Order.{Order}
 use Rattle.lru_index.specs.declared.keys.NameKey.{NameKey}
@@ -23,15 +22,14 @@ use Rattle.posix_defs.specs.SoundDisk.{HasNode}
 use Rattle.posix_defs.specs.Tree.{Tree, found}
 use Rattle.block_cache.specs.Blocks as blocks
 use Rattle.block_cache.specs.Blocks.{KeepsBlocks, TrueToDisk, with_blocks}
-use Rattle.vnode_cache.specs.Nodes.{Nodes, node_slot, cached_pins, KeepsNodes, TrueNodes, IsLoose, AreLoose, is_loose}
+use Rattle.vnode_cache.specs.Nodes.{Nodes, node_slot, cached_pins, KeepsNodes, IsLoose, AreLoose, is_loose}
 use Rattle.vnode_cache.specs.Calls as nodes
 use Rattle.vnode_cache.specs.Calls.{NodeGone, TakenBack, HasNodeFills, with_vnodes}
-use Rattle.vnode_cache.proofs.TrueLemmas.{absent_true}
 use Rattle.cached_disk.specs.TreeLent.{HasPins, with_cached}
 use Rattle.cached_disk.proofs.NodesStep.{pins_without}
-use Rattle.memfs_ops.specs.FileTree.{TreeView, Stands, HasRoom, MayWalk, Looks, Pays}
+use Rattle.memfs_ops.specs.FileTree.{TreeView, Stands, MayWalk, Looks, Pays}
 use Rattle.memfs_ops.specs.Changing.{Between, MidWay}
-use Rattle.memfs_ops.proofs.PinLemmas.{IsCachedAs, cached_as}
+use Rattle.memfs_ops.proofs.PinLemmas.{cached_as}
 
 -- ---- how many hold a cached node
 

@@ -1,11 +1,9 @@
 -- A further name, and the room for it.
-use Rattle.std.proofs.Common.{◌≡◌, ◌≢◌, ℕ, zero, suc, ◌+◌, ◌-◌, ◌<◌, ◌≤◌, ◌⊎◌, ◌↔◌, Bool, true, false, not, cond, eqb, List, length, Option, Some, None, Result, Ok, Err, refl, sym, ap, ◌∙◌, subst, inl, inr, arith, eqb-true}
+use Rattle.std.proofs.Common.{◌≡◌, ◌≢◌, ℕ, ◌<◌, ◌↔◌, Bool, true, false, cond, eqb, List, Option, Some, None, Ok, Err, refl, sym, ap, ◌∙◌, inl, inr, arith}
 use Rattle.std.specs.Prelude.{IsTrue}
 use Rattle.std.proofs.lemmas.Bool.{cases_Bool, cases_eq, cond-true, cond-false, eq-eqb, ne_eqb, false≢true}
-use Rattle.kabi_values.specs.declared.errnos.Errno.{Errno}
 use Rattle.kabi_values.specs.declared.errnos.Errno.TheVariants.{EMLINK, ENOSPC}
 use Rattle.kabi_values.specs.declared.inodes.Inode.{Inode}
-use Rattle.kheap_shelves.specs.Objects.{object}
 use Rattle.kheap_shelves.specs.declared.objects.Name.{Name}
 use Rattle.kheap_slabs.specs.Heap.{Heap}
 use Rattle.posix_defs.specs.DiskTree.{StandsFor}
@@ -19,7 +17,7 @@ use Rattle.tree_laws.proofs.OtherNodes.{link_names}
 use Rattle.memfs_dir.specs.Listed.{IsFull}
 use Rattle.memfs_dir.proofs.Room.{full_beside}
 use Rattle.memfs_ops.specs.FileTree.{TreeView, Stands}
-use Rattle.memfs_ops.specs.Changing.{MidWay, ChangedTo}
+use Rattle.memfs_ops.specs.Changing.{MidWay}
 use Rattle.memfs_ops.proofs.CloseLemmas.{links_of}
 use Rattle.memfs_ops.proofs.StepLemmas.{mid_stands, full_alone, full_beside_none}
 

@@ -1,13 +1,13 @@
 -- A call that looks around, from what a tree of files stands for to what its caches are lent for, and back.
-use Rattle.std.proofs.Common.{◌≡◌, ℕ, ◌+◌, ◌<◌, ◌≤◌, List, length, min, refl, sym, ap, ◌∙◌, subst, arith}
+use Rattle.std.proofs.Common.{◌≡◌, ℕ, List, refl, sym, ap, ◌∙◌, subst}
 use Rattle.kheap_shelves.specs.Purse.{Purse}
 use Rattle.kheap_slabs.specs.Heap.{Heap}
 use Rattle.posix_defs.specs.Tree.{Tree}
 use Rattle.std.proofs.Common.{le_trans}
 use Rattle.kheap_laws.proofs.PaidLemmas.{IsPaid-trans}
-use Rattle.cached_disk.specs.TreeLent.{TreeParts, AllLent, NamesLent, NodesLent, StandsThrough, TreeGoesOn, with_cached}
+use Rattle.cached_disk.specs.TreeLent.{AllLent, StandsThrough, TreeGoesOn, with_cached}
 use Rattle.cached_disk.specs.TreeGoing.{TreeGoesOn-trans}
-use Rattle.std.proofs.Common.{Bool, IsSome, Result, Ok, Err}
+use Rattle.std.proofs.Common.{Bool, IsSome, Ok, Err}
 use Rattle.kabi_values.specs.declared.errnos.Errno.{Errno}
 use Rattle.lru_index.specs.NameKeys.{name_key}
 use Rattle.name_cache.specs.Names.{name_slot}

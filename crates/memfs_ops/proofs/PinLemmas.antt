@@ -1,10 +1,9 @@
 -- One more holds a node that is cached.
-use Rattle.std.proofs.Common.{◌≡◌, ◌≢◌, ℕ, zero, suc, ◌+◌, ◌<◌, ◌≤◌, Bool, true, false, cond, List, Option, Some, None, IsSome, nat_eq, eqb-true, refl, sym, ap, ◌∙◌, subst, inl, inr, arith}
+use Rattle.std.proofs.Common.{◌≡◌, ◌≢◌, ℕ, ◌+◌, ◌<◌, cond, List, Option, Some, None, IsSome, eqb-true, refl, sym, ap, ◌∙◌, subst, inl, inr, arith}
 use Rattle.std.specs.Cmp.{nat_eq_equiv}
 use Rattle.std.specs.Option.{option_map}
-use Rattle.std.proofs.lemmas.Bool.{cases_eq, cases_lt, eqb-false, ne_eqb, eq-eqb}
-use Rattle.kabi_values.specs.declared.inodes.Inode.{Inode}
-use Rattle.kheap_shelves.specs.Objects.{object, InUse, put}
+use Rattle.std.proofs.lemmas.Bool.{cases_eq, ne_eqb, eq-eqb}
+use Rattle.kheap_shelves.specs.Objects.{object, put}
 use Rattle.kheap_shelves.specs.declared.objects.Vnode.{Vnode}
 use Rattle.kheap_shelves.proofs.ObjectLemmas.{object-put, object-put_other, InUse-within, InUse-put, object_of}
 use Rattle.kheap_shelves.specs.Purse.{Purse}
@@ -15,11 +14,11 @@ use Rattle.kheap_slabs.specs.Heap.{Heap}
 use Rattle.cache_laws.proofs.KeepsLemmas.{keeps_used, cached_is}
 use Rattle.posix_defs.specs.SoundDisk.{HasNode}
 use Rattle.posix_defs.specs.Tree.{Tree}
-use Rattle.vnode_cache.specs.Nodes.{Nodes, node_slot, cached_inode, cached_pins, KeepsNodes, TrueNodes}
+use Rattle.vnode_cache.specs.Nodes.{Nodes, node_slot, cached_inode, cached_pins, KeepsNodes}
 use Rattle.vnode_cache.specs.Calls.{NodeSet}
 use Rattle.vnode_cache.proofs.TrueLemmas.{pinned_true}
 use Rattle.cached_disk.specs.TreeLent.{HasPins}
-use Rattle.memfs_ops.specs.FileTree.{TreeView, Stands, HasRoom, one_more, Looks, Pays}
+use Rattle.memfs_ops.specs.FileTree.{TreeView, Stands, one_more, Looks, Pays}
 
 -- the Vnode of a cached node
 pub record IsCachedAs (objects : List (Option Vnode)) (cache : Nodes) (number : ℕ) : Type 0 where

@@ -1,5 +1,5 @@
 -- A purse of which nothing is spent.
-use Rattle.std.proofs.Common.{◌≡◌, ℕ, ◌+◌, ◌<◌, ◌≤◌, List, [], length, sym, subst, arith}
+use Rattle.std.proofs.Common.{◌≡◌, ◌+◌, ◌<◌, ◌≤◌, [], sym, subst, arith}
 use Rattle.kabi_values.specs.declared.classes.Need.{Need}
 use Rattle.kheap_shelves.specs.Counts.{need_bytes}
 use Rattle.kheap_shelves.specs.Purse.{Purse}

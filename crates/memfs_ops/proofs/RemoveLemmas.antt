@@ -1,7 +1,7 @@
 -- A name that goes, and its node with the last one.
-use Rattle.std.proofs.Common.{◌≡◌, ◌≢◌, ℕ, zero, suc, ◌+◌, ◌*◌, ◌<◌, ◌≤◌, ◌⊎◌, Bool, true, false, not, ◌&&◌, ◌||◌, cond, eqb, eqb-true, ltb, List, [], ◌∷◌, length, Option, Some, None, Result, Ok, Err, refl, sym, ap, ◌∙◌, subst, inl, inr, arith}
+use Rattle.std.proofs.Common.{◌≡◌, ◌≢◌, ℕ, zero, suc, ◌+◌, ◌*◌, ◌<◌, Bool, true, false, not, ◌&&◌, ◌||◌, eqb, eqb-true, ltb, List, [], ◌∷◌, length, Option, Some, None, Result, Ok, refl, sym, ap, ◌∙◌, subst, inl, inr, arith}
 use Rattle.std.specs.Option.{option_map}
-use Rattle.std.proofs.lemmas.Bool.{cases_Bool, cases_eq, cases_lt, cond-true, cond-false, false≢true, ne_eqb, ltb-false}
+use Rattle.std.proofs.lemmas.Bool.{cases_Bool, cases_eq, cases_lt, false≢true, ne_eqb, ltb-false}
 use Rattle.kabi_values.specs.declared.errnos.Errno.{Errno}
 use Rattle.kabi_values.specs.declared.errnos.Errno.TheVariants.{EBUSY, EINVAL, ENOTDIR, ENOTEMPTY, EPERM}
 use Rattle.kabi_values.specs.declared.inodes.DirEntry.{DirEntry}
@@ -13,17 +13,15 @@ use Rattle.kheap_slabs.specs.Heap.{Heap}
 use Rattle.lru_index.specs.NameKeys.{name_key}
 use Rattle.lru_index.specs.Order.{Order}
 use Rattle.lru_index.specs.declared.keys.NameKey.{NameKey}
-use Rattle.posix_defs.specs.DiskContents.{own_name, parent_name}
 use Rattle.posix_defs.specs.DiskFormat.{IsName}
 use Rattle.posix_defs.specs.DiskTree.{StandsFor}
-use Rattle.posix_defs.specs.SoundDisk.{HasNode}
 use Rattle.posix_defs.specs.IsTree.{IsTree}
 use Rattle.posix_defs.specs.PathCalls as calls
 use Rattle.posix_defs.specs.Paths.{IsLed, resolve}
 use Rattle.posix_defs.specs.declared.walked.Walked.{Walked}
 use Rattle.posix_defs.specs.declared.walked.Walked.TheVariants as walked
 use Rattle.posix_defs.specs.PathCalls.{is_socket, is_empty, unless}
-use Rattle.posix_defs.specs.Tree.{Content, File, Directory, SocketName, Node, Tree, node_at, found, found_among, is_directory, is_directory_in, is_in_use, entries_at, entries_in, links_at, size_of, is_directory_content, entries_of, IsInodeAt, IsInodeIn}
+use Rattle.posix_defs.specs.Tree.{Content, File, Directory, SocketName, Node, Tree, node_at, found, found_among, is_directory, is_directory_in, is_in_use, entries_at, entries_in, size_of, is_directory_content, entries_of, IsInodeAt, IsInodeIn}
 use Rattle.posix_defs.specs.TreeChanges.{no_entry, place_of, unlink}
 use Rattle.posix_defs.proofs.TreeNodes.{found_in_directory}
 use Rattle.disk_laws.proofs.DiskNodes.{one_tree}
@@ -41,7 +39,7 @@ use Rattle.memfs_ops.specs.Entries.{HasEntry}
 use Rattle.memfs_ops.specs.Removing.{ToldTo, is_held, TellsHeld, TellsOpened, HoldsNoSocket, MayUnlink}
 use Rattle.memfs_ops.proofs.ChangeLemmas.{fetch_of}
 use Rattle.memfs_ops.proofs.CloseLemmas.{links_of, same_pins}
-use Rattle.memfs_ops.proofs.StepLemmas.{mid_of, mid_stands}
+use Rattle.memfs_ops.proofs.StepLemmas.{mid_stands}
 
 pub free_of : (heap : Heap) (purse : Purse) → MayWalk heap purse → MayFree heap purse
 free_of heap purse may = record { fetch = fetch_of heap purse may; few = may.few.1 }

@@ -1,5 +1,5 @@
 -- A name that goes over to another.
-use Rattle.std.proofs.Common.{◌≡◌, ◌≢◌, ℕ, zero, suc, ◌+◌, ◌-◌, ◌<◌, ◌≤◌, ◌⊎◌, ◌↔◌, Bool, true, false, not, ◌&&◌, cond, eqb, List, [], length, Option, Some, None, Result, Ok, Err, refl, sym, ap, ◌∙◌, subst, inl, inr, arith, eqb-true}
+use Rattle.std.proofs.Common.{◌≡◌, ◌≢◌, ℕ, zero, suc, ◌+◌, ◌-◌, ◌<◌, ◌≤◌, Bool, true, false, not, ◌&&◌, eqb, List, [], length, Option, Some, None, Result, Ok, Err, refl, sym, ap, ◌∙◌, subst, inl, inr, arith}
 use Rattle.std.specs.Prelude.{MatchBool, MatchResult, ◌==◌, if◌then◌else◌}
 use Rattle.std.proofs.lemmas.Bool.{cases_Bool, cases_eq, cases_lt, cond-true, cond-false, eq-eqb, ne_eqb, false≢true}
 use Rattle.kabi_values.specs.declared.errnos.Errno.{Errno}
@@ -9,16 +9,15 @@ use Rattle.kabi_values.specs.declared.inodes.Inode.{Inode}
 use Rattle.kheap_shelves.specs.Purse.{Purse}
 use Rattle.kheap_slabs.specs.Heap.{Heap}
 use Rattle.lru_index.specs.NameKeys.{name_key}
-use Rattle.posix_defs.specs.IsTree.{IsEntryName, IsTree}
+use Rattle.posix_defs.specs.IsTree.{IsTree}
 use Rattle.posix_defs.specs.DiskTree.{StandsFor}
-use Rattle.posix_defs.specs.SoundDisk.{HasNode}
 use Rattle.posix_defs.specs.PathCalls as calls
 use Rattle.posix_defs.specs.Paths.{IsLed}
 use Rattle.posix_defs.specs.declared.walked.Walked.{Walked}
 use Rattle.posix_defs.specs.declared.walked.Walked.TheVariants as walked
 use Rattle.posix_defs.specs.PathCalls.{goes_below, is_socket, is_empty, unless}
 use Rattle.posix_defs.specs.Tree.{Tree, root, found, found_among, is_directory, entries_at, parent_at, climbed, IsInodeAt}
-use Rattle.posix_defs.specs.TreeChanges.{IsAtOrAbove, is_at_or_above, with_entries, entry_put, entry_taken, entry_renamed, entry_aimed, hung_if_directory, hung, rename_over, rename_to, takes_entry}
+use Rattle.posix_defs.specs.TreeChanges.{is_at_or_above, with_entries, entry_put, entry_taken, entry_renamed, entry_aimed, hung_if_directory, rename_over, rename_to, takes_entry}
 use Rattle.posix_defs.proofs.TreeNodes.{found_in_directory}
 use Rattle.disk_laws.proofs.DiskNodes.{one_tree}
 use Rattle.tree_laws.proofs.TreeKeeps.{found_not_root}

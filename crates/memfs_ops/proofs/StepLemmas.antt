@@ -1,5 +1,5 @@
 -- A step from one tree to the next, in the midst of a change, and the tree at its end.
-use Rattle.std.proofs.Common.{◌≡◌, ◌≢◌, ℕ, ◌+◌, ◌<◌, ◌≤◌, ◌⊎◌, Bool, true, false, not, ◌&&◌, eqb, List, length, Option, Some, None, Result, Ok, Err, refl, sym, ap, ◌∙◌, subst, inl, inr, arith}
+use Rattle.std.proofs.Common.{◌≡◌, ◌≢◌, ℕ, ◌+◌, Bool, true, false, not, ◌&&◌, eqb, List, Option, Some, refl, sym, ap, ◌∙◌, subst, inl, inr, arith}
 use Rattle.kabi_values.specs.declared.inodes.Inode.{Inode}
 use Rattle.kheap_shelves.specs.Objects.{object}
 use Rattle.kheap_shelves.specs.Purse.{Purse}
@@ -10,24 +10,21 @@ use Rattle.kheap_slabs.specs.Paid.{HasFills, IsPaid}
 use Rattle.kheap_laws.proofs.PaidLemmas.{CanPay-kept}
 use Rattle.lru_index.specs.Order.{Order}
 use Rattle.disk_layout.specs.Disk.{Disk}
-use Rattle.posix_defs.specs.DiskContents.{own_name, parent_name}
-use Rattle.posix_defs.specs.DiskFormat.{greatest_size}
 use Rattle.posix_defs.specs.DiskTree.{StandsFor}
-use Rattle.posix_defs.specs.SoundDisk.{HasNode, HasInode, free_in_map}
+use Rattle.posix_defs.specs.SoundDisk.{HasNode}
 use Rattle.posix_defs.specs.IsTree.{IsTree}
 use Rattle.posix_defs.specs.Tree.{Tree, found, is_directory, entries_at}
 use Rattle.posix_defs.specs.TreeChanges.{place_of}
-use Rattle.disk_laws.proofs.DiskNodes.{one_tree}
 use Rattle.memfs_dir.specs.Listed.{IsFull, IsFullBeside, place_called}
 use Rattle.memfs_dir.proofs.InTree.{found_on_disk, listed}
-use Rattle.memfs_node.specs.NodeOnDisk.{DropsLink, Frees, Retags, KeepsOthers}
+use Rattle.memfs_node.specs.NodeOnDisk.{DropsLink, Retags, KeepsOthers}
 use Rattle.memfs_node.proofs.Looking.{known_of}
 use Rattle.memfs_node.proofs.Named.{changed_others}
 use Rattle.name_cache.specs.Names.{KeepsNames, TrueNames}
 use Rattle.vnode_cache.specs.Nodes.{KeepsNodes, TrueNodes}
 use Rattle.cached_disk.specs.Lent.{parts, AreLent, GoesOn}
 use Rattle.cached_disk.specs.TreeLent.{HasPins}
-use Rattle.memfs_ops.specs.FileTree.{TreeView, Stands, HasRoom}
+use Rattle.memfs_ops.specs.FileTree.{TreeView, Stands}
 use Rattle.memfs_ops.specs.Fetching.{MayFetch}
 use Rattle.memfs_ops.specs.Changing.{Between, MidWay}
 use Rattle.memfs_ops.specs.Closing.{MayFree}

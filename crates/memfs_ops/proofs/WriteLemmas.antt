@@ -1,5 +1,5 @@
 -- A file that is written, on the disk and in the tree.
-use Rattle.std.proofs.Common.{◌≡◌, ◌≢◌, ◌⊎◌, ◌↔◌, ℕ, ◌<◌, ◌≤◌, ◌^◌, List, length, min, take, Result, Ok, Err, IfOk, IfErr, OnOk, refl, sym, ap, ◌∙◌, subst, inl, inr, arith}
+use Rattle.std.proofs.Common.{◌≡◌, ◌⊎◌, ◌↔◌, ℕ, ◌<◌, ◌≤◌, ◌^◌, List, length, min, take, Result, Ok, Err, IfOk, IfErr, OnOk, refl, sym, ap, ◌∙◌, subst, inl, inr, arith}
 use Rattle.std.specs.List.{All}
 use Rattle.std.proofs.lemmas.Bool.{cases_lt}
 use Rattle.kabi_values.specs.declared.errnos.Errno.{Errno}
@@ -14,7 +14,7 @@ use Rattle.posix_defs.specs.DiskTree.{StandsFor}
 use Rattle.posix_defs.specs.DiskContents.{node_bytes}
 use Rattle.posix_defs.specs.FileBytes.{fitting, overwritten, resized}
 use Rattle.posix_defs.specs.SoundDisk.{HasNode}
-use Rattle.posix_defs.specs.Tree.{File, Node, Tree, node_at, IsInodeIn}
+use Rattle.posix_defs.specs.Tree.{Tree, IsInodeIn}
 use Rattle.posix_defs.specs.TreeChanges.{resize, write}
 use Rattle.tree_laws.proofs.FileKeeps.{write_keeps, resize_keeps}
 use Rattle.tree_laws.proofs.OtherNodes.{write_names, resize_names}

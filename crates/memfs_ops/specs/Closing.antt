@@ -1,5 +1,5 @@
 -- Who holds a node lets it go: what is left of the tree, and who holds what then.
-use Rattle.std.specs.Prelude.{◌≡◌, ℕ, ◌-◌, ◌<◌, ◌≤◌, ◌==◌, if◌then◌else◌, Bool, cond, nat_eq, nat_lt}
+use Rattle.std.specs.Prelude.{◌≡◌, ℕ, ◌-◌, ◌<◌, ◌≤◌, ◌==◌, if◌then◌else◌, cond, nat_eq}
 use Rattle.kheap_shelves.specs.Purse.{Purse}
 use Rattle.kheap_slabs.specs.Heap.{Heap}
 use Rattle.posix_defs.specs.Tree.{Tree, links_at, root}

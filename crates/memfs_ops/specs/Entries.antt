@@ -1,5 +1,5 @@
 -- What becomes of one entry of a directory: in the tree, and what has to be so before.
-use Rattle.std.specs.Prelude.{◌≡◌, ◌≢◌, ℕ, ◌<◌, ◌^◌, List, Some}
+use Rattle.std.specs.Prelude.{◌≡◌, ◌≢◌, ℕ, ◌<◌, List, Some}
 use Rattle.kabi_values.specs.declared.inodes.Inode.{Inode}
 use Rattle.posix_defs.specs.DiskContents.{own_name, parent_name}
 use Rattle.posix_defs.specs.DiskFormat.{IsName}

@@ -1,5 +1,5 @@
 -- The tree of files over three caches: what it stands for, and what a call may use.
-use Rattle.std.specs.Prelude.{◌≡◌, ℕ, ◌+◌, ◌/◌, ◌<◌, ◌≤◌, Bool, cond, nat_eq, List, Option, None, Some, IsSome, Ok, length, min, replicate}
+use Rattle.std.specs.Prelude.{◌≡◌, ℕ, ◌+◌, ◌/◌, ◌<◌, ◌≤◌, cond, nat_eq, List, None, IsSome, Ok, length, min, replicate}
 use Rattle.std.specs.List.{AllByRecursion}
 use Rattle.kabi_values.specs.Class.{size}
 use Rattle.kabi_values.specs.declared.classes.Class.TheVariants as class

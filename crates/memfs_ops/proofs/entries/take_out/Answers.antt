@@ -1,17 +1,13 @@
-use Rattle.std.proofs.Common.{◌≡◌, ℕ, ◌+◌, ◌*◌, ◌<◌, ◌++◌, ◌∷◌, [], List, Option, Some, None, Result, OnOk, refl, sym, ap, ◌∙◌, subst, arith}
+use Rattle.std.proofs.Common.{◌≡◌, ℕ, ◌+◌, List, Option, Some, None, sym, ap, ◌∙◌, subst}
 use Rattle.std.specs.List.{swap_remove}
-use Rattle.kabi_values.specs.declared.errnos.Errno.{Errno}
-use Rattle.kabi_values.specs.declared.inodes.DirEntry.{DirEntry}
-use Rattle.kabi_values.specs.declared.inodes.Inode.{Inode}
-use Rattle.posix_defs.specs.DiskContents.{entry_for, HasEntries, parent_name}
-use Rattle.posix_defs.specs.DiskFormat.{IsEntry, IsName}
-use Rattle.posix_defs.specs.DiskTree.{StandsFor, ChangesNode}
+use Rattle.posix_defs.specs.DiskContents.{HasEntries}
+use Rattle.posix_defs.specs.DiskTree.{ChangesNode}
 use Rattle.posix_defs.specs.SoundDisk.{HasNode}
-use Rattle.posix_defs.specs.Tree.{Tree, is_directory, entries_at}
-use Rattle.posix_defs.specs.TreeChanges.{with_entries, entry_put, entry_taken, entry_renamed, hung, place_of, no_entry}
+use Rattle.posix_defs.specs.Tree.{Tree, entries_at}
+use Rattle.posix_defs.specs.TreeChanges.{place_of, no_entry}
 use Rattle.memfs_dir.specs.Listed.{Relists, place_called}
-use Rattle.memfs_dir.proofs.InTree.{listed, put_in_tree, taken_from_tree, renamed_in_tree, hung_in_tree}
-use Rattle.memfs_node.proofs.Looking.{known_of, same_directory, has_two}
+use Rattle.memfs_dir.proofs.InTree.{listed, taken_from_tree}
+use Rattle.memfs_node.proofs.Looking.{known_of, same_directory}
 use Rattle.disk_laws.proofs.DiskNodes.{one_tree}
 use Rattle.memfs_ops.specs.Entries.{HasEntry}
 use Rattle.memfs_ops.proofs.StepLemmas.{entry_place}

@@ -1,4 +1,4 @@
-use Rattle.std.proofs.Common.{◌≡◌, ◌++◌, List, ℕ, nat_eq, ap, ◌∙◌}
+use Rattle.std.proofs.Common.{◌++◌, List, ℕ, nat_eq, ap, ◌∙◌}
 use Rattle.std.specs.Prelude.{codes}
 use Rattle.std.specs.List.{starts_with}
 use Rattle.memfs_ops.proofs.ProgramLemmas.{marked, named, no_name}

@@ -1,4 +1,4 @@
-use Rattle.std.proofs.Common.{◌≡◌, nat_eq, Option, Some, None, ap, ◌∙◌, rules, tests}
+use Rattle.std.proofs.Common.{nat_eq, Some, None, ap, ◌∙◌, rules, tests}
 use Rattle.std.specs.List.{starts_with}
 use Rattle.std.specs.Option.{ok_or}
 use Rattle.std.proofs.lemmas.Iterator.{YieldsList-from_slice}

@@ -1,10 +1,10 @@
-use Rattle.std.proofs.Common.{◌≡◌, ℕ, true, false, None, List, Result, Ok, Err, refl, sym, ap, ◌∙◌, subst}
+use Rattle.std.proofs.Common.{◌≡◌, ℕ, true, false, None, List, Result, Ok, Err, refl, sym, ◌∙◌, subst}
 use Rattle.kabi_values.specs.declared.errnos.Errno.{Errno}
 use Rattle.kabi_values.specs.declared.errnos.Errno.TheVariants.{EMLINK, ENOSPC}
 use Rattle.posix_defs.specs.DiskFormat.{IsName}
 use Rattle.posix_defs.specs.SoundDisk.{HasNode}
 use Rattle.posix_defs.specs.Tree.{Tree, found, is_directory, is_in_use}
-use Rattle.posix_defs.specs.TreeChanges.{link, link_added, with_entries, entry_put}
+use Rattle.posix_defs.specs.TreeChanges.{link_added, with_entries, entry_put}
 use Rattle.posix_defs.proofs.TreeNodes.{directory_in_use}
 use Rattle.disk_laws.proofs.DiskNodes.{one_tree}
 use Rattle.tree_laws.proofs.OtherNodes.{added_directories}

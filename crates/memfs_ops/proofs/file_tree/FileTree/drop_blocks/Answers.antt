@@ -1,4 +1,4 @@
-use Rattle.std.proofs.Common.{◌≡◌, ℕ, sym, ap, ◌∙◌, subst}
+use Rattle.std.proofs.Common.{sym, subst}
 use Rattle.memfs_ops.specs.FileTree.{TreeView, Stands, Pays}
 use Rattle.memfs_ops.specs.declared.file_tree.FileTree.TheInside.{Inside}
 use Rattle.memfs_ops.proofs.ForgetLemmas.{dropped_stands, dropped_pays}

@@ -1,5 +1,4 @@
-use Rattle.std.proofs.Common.{◌≡◌, ℕ, ◌+◌, List, refl, sym, ap, ◌∙◌, subst}
-use Rattle.kabi_values.specs.declared.inodes.Inode.{Inode}
+use Rattle.std.proofs.Common.{sym, ap, subst}
 use Rattle.posix_defs.specs.SoundDisk.{HasNode}
 use Rattle.memfs_node.specs.NodeOnDisk.{KeepsOthers}
 use Rattle.cached_disk.specs.Lent.{parts, GoesOn}

@@ -1,6 +1,6 @@
 use Rattle.std.proofs.Common.{◌≡◌, None, ap, sym, ◌∙◌, subst}
 use Rattle.lru_index.specs.declared.keys.NameKey.{NameKey}
-use Rattle.name_cache.specs.Names.{name_slot, KeepsNames}
+use Rattle.name_cache.specs.Names.{name_slot}
 use Rattle.name_cache.proofs.KeyLemmas.{key_itself}
 use Rattle.memfs_ops.specs.FileTree.{TreeView, Stands, Looks}
 use Rattle.memfs_ops.specs.declared.file_tree.FileTree.TheInside.{Inside}

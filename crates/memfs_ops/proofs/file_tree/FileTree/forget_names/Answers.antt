@@ -1,4 +1,3 @@
-use Rattle.std.proofs.Common.{sym, ap, ◌∙◌}
 use Rattle.lru_index.specs.NameKeys.{name_key}
 use Rattle.memfs_ops.proofs.LookLemmas.{looks_trans}
 use Rattle.memfs_ops.proofs.file_tree.FileTree.forget_names.Goals as goal

@@ -1,4 +1,4 @@
-use Rattle.std.proofs.Common.{◌≡◌, ℕ, sym, ap, ◌∙◌, subst}
+use Rattle.std.proofs.Common.{sym, ap, subst}
 use Rattle.memfs_ops.specs.FileTree.{TreeView, Pays}
 use Rattle.memfs_ops.specs.Changing.{Between}
 use Rattle.memfs_ops.specs.declared.file_tree.FileTree.TheInside.{Inside}

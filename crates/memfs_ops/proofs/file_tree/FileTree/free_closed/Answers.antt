@@ -1,4 +1,4 @@
-use Rattle.std.proofs.Common.{◌≡◌, ℕ, sym, ap, ◌∙◌, subst}
+use Rattle.std.proofs.Common.{ap}
 use Rattle.posix_defs.specs.TreeChanges.{closed}
 use Rattle.memfs_ops.proofs.ChangeLemmas.{stands_all}
 use Rattle.memfs_ops.proofs.PaysLemmas.{pays_on}

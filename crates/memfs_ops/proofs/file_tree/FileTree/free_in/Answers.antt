@@ -1,4 +1,4 @@
-use Rattle.std.proofs.Common.{◌≡◌, ℕ, sym, ap, ◌∙◌, subst}
+use Rattle.std.proofs.Common.{sym, subst}
 use Rattle.posix_defs.specs.SoundDisk.{HasNode}
 use Rattle.cached_disk.specs.Lent.{parts, GoesOn}
 use Rattle.memfs_ops.specs.FileTree.{TreeView, Stands}

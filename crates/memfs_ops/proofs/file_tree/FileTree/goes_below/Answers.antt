@@ -1,4 +1,4 @@
-use Rattle.std.proofs.Common.{◌≡◌, ℕ, Bool, true, false, ◌&&◌, sym, ap, ◌∙◌, subst}
+use Rattle.std.proofs.Common.{Bool, ◌&&◌, sym, ap, ◌∙◌}
 use Rattle.posix_defs.specs.TreeChanges.{is_at_or_above}
 use Rattle.memfs_ops.proofs.LookLemmas.{looks_trans}
 use Rattle.memfs_ops.proofs.file_tree.FileTree.goes_below.Goals as goal

@@ -1,6 +1,6 @@
-use Rattle.std.proofs.Common.{◌≡◌, ℕ, Bool, true, false, cond, refl, sym, ap, ◌∙◌, subst}
-use Rattle.posix_defs.specs.Tree.{Tree, is_directory}
-use Rattle.posix_defs.specs.TreeChanges.{hung, hung_if_directory}
+use Rattle.std.proofs.Common.{◌≡◌, Bool, true, false, cond, sym, ◌∙◌, subst}
+use Rattle.posix_defs.specs.Tree.{is_directory}
+use Rattle.posix_defs.specs.TreeChanges.{hung}
 use Rattle.memfs_node.proofs.Looking.{shown}
 use Rattle.memfs_ops.specs.Changing.{MidWay}
 use Rattle.memfs_ops.proofs.PaysLemmas.{pays_nothing}

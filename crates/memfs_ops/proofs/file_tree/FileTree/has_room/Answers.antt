@@ -1,8 +1,6 @@
-use Rattle.std.proofs.Common.{◌≡◌, ℕ, List, refl, sym, ap, ◌∙◌, subst}
+use Rattle.std.proofs.Common.{ℕ, List, sym, ap, ◌∙◌, subst}
 use Rattle.std.specs.Prelude.{◌↔◌, IsTrue}
-use Rattle.posix_defs.specs.SoundDisk.{HasNode}
 use Rattle.memfs_dir.specs.Listed.{IsFull}
-use Rattle.cached_disk.specs.Lent.{parts, GoesOn}
 use Rattle.memfs_ops.specs.FileTree.{TreeView, Stands, Pays}
 use Rattle.memfs_ops.specs.declared.file_tree.FileTree.TheInside.{Inside}
 use Rattle.memfs_ops.proofs.FetchLemmas.{block_lent, still_may_fetch, fetched_stands, few_bytes}

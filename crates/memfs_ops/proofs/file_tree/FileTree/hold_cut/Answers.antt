@@ -1,4 +1,4 @@
-use Rattle.std.proofs.Common.{◌≡◌, ℕ, IsSome, sym, ap, ◌∙◌, subst}
+use Rattle.std.proofs.Common.{IsSome, sym, ap, subst}
 use Rattle.vnode_cache.specs.Nodes.{Nodes, node_slot}
 use Rattle.memfs_ops.specs.FileTree.{TreeView}
 use Rattle.memfs_ops.specs.Opening.{cut_tree}

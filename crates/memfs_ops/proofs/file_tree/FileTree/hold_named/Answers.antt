@@ -1,10 +1,9 @@
-use Rattle.std.proofs.Common.{◌≡◌, ℕ, IsSome, nat_eq, sym, ap, ◌∙◌, subst}
+use Rattle.std.proofs.Common.{ℕ, IsSome, nat_eq, sym, ap, ◌∙◌, subst}
 use Rattle.lru_index.specs.NameKeys.{name_key}
 use Rattle.lru_index.specs.Order.{Order}
 use Rattle.lru_index.specs.declared.keys.NameKey.{NameKey}
 use Rattle.posix_defs.specs.Tree.{found}
 use Rattle.name_cache.specs.Names.{name_slot}
-use Rattle.vnode_cache.specs.Nodes.{node_slot}
 use Rattle.tree_laws.proofs.TreeFacts.{found_in_use}
 use Rattle.cache_laws.specs.Caches.{slot_of}
 use Rattle.memfs_ops.specs.FileTree.{TreeView}

@@ -1,4 +1,4 @@
-use Rattle.std.proofs.Common.{◌≡◌, ℕ, ◌-◌, Bool, true, sym, ap, ◌∙◌, subst}
+use Rattle.std.proofs.Common.{◌-◌, ap, ◌∙◌}
 use Rattle.posix_defs.specs.Tree.{Tree, is_directory}
 use Rattle.disk_laws.proofs.DiskNodes.{one_tree}
 use Rattle.memfs_ops.proofs.RenameLemmas.{climbs_none, climbs_more, climbed_directory, is_met, not_met, decided}

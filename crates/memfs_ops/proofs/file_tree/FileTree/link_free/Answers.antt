@@ -1,4 +1,4 @@
-use Rattle.std.proofs.Common.{◌≡◌, ℕ, Bool, true, false, Result, Ok, Err, refl, sym, ap, ◌∙◌, subst}
+use Rattle.std.proofs.Common.{Bool, Err, refl, sym, subst}
 use Rattle.kabi_values.specs.declared.errnos.Errno.TheVariants.{ENOENT}
 use Rattle.posix_defs.specs.PathCalls as calls
 use Rattle.posix_defs.specs.TreeChanges.{link}

@@ -1,7 +1,7 @@
-use Rattle.std.proofs.Common.{◌≡◌, ℕ, [], Some, Result, Ok, Err, MatchResult, refl, sym, ap, ◌∙◌, subst}
+use Rattle.std.proofs.Common.{[], Err, refl, sym, ap, subst}
 use Rattle.kabi_values.specs.declared.errnos.Errno.TheVariants.{EEXIST}
 use Rattle.posix_defs.specs.PathCalls as calls
-use Rattle.posix_defs.specs.Paths.{IsLed, last_name, resolve}
+use Rattle.posix_defs.specs.Paths.{IsLed, last_name}
 use Rattle.posix_defs.specs.Tree.{Directory}
 use Rattle.posix_defs.specs.TreeChanges.{make}
 use Rattle.posix_defs.specs.declared.walked.Walked.{Walked}

@@ -1,10 +1,10 @@
-use Rattle.std.proofs.Common.{◌≡◌, ℕ, List, refl, sym, ap, ◌∙◌, subst}
+use Rattle.std.proofs.Common.{refl, sym, ap, ◌∙◌, subst}
 use Rattle.posix_defs.specs.SoundDisk.{HasNode}
 use Rattle.posix_defs.specs.TreeChanges.{make}
 use Rattle.memfs_dir.proofs.InTree.{listed}
 use Rattle.memfs_node.proofs.Looking.{known_of, same_directory}
 use Rattle.memfs_node.specs.NodeOnDisk.{content_of}
-use Rattle.cached_disk.specs.Lent.{parts, AreLent, GoesOn}
+use Rattle.cached_disk.specs.Lent.{parts, GoesOn}
 use Rattle.disk_laws.proofs.DiskNodes.{one_tree}
 use Rattle.posix_defs.specs.Tree.{Tree, found}
 use Rattle.memfs_ops.specs.FileTree.{TreeView, Stands}

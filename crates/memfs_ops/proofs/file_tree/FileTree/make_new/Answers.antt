@@ -1,9 +1,8 @@
-use Rattle.std.proofs.Common.{◌≡◌, ℕ, sym, ap, ◌∙◌, subst}
+use Rattle.std.proofs.Common.{sym, subst}
 use Rattle.posix_defs.specs.SoundDisk.{HasNode}
 use Rattle.posix_defs.specs.TreeChanges.{make}
 use Rattle.posix_defs.proofs.TreeNodes.{directory_in_use}
 use Rattle.memfs_node.specs.NodeOnDisk.{content_of}
-use Rattle.memfs_ops.specs.FileTree.{TreeView}
 use Rattle.memfs_ops.proofs.LookLemmas.{pays_trans}
 use Rattle.memfs_ops.proofs.ChangeLemmas.{fetch_of, lags_led, some_lags, pays_changed, walk_still}
 use Rattle.memfs_ops.proofs.file_tree.FileTree.make_new.Goals as goal

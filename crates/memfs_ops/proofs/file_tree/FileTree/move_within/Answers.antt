@@ -1,26 +1,19 @@
-use Rattle.std.proofs.Common.{◌≡◌, ◌≢◌, ℕ, Bool, true, false, None, not, cond, List, Result, Ok, Err, refl, sym, ap, ◌∙◌, subst}
-use Rattle.kabi_values.specs.declared.errnos.Errno.{Errno}
-use Rattle.kabi_values.specs.declared.errnos.Errno.TheVariants.{ENOSPC}
+use Rattle.std.proofs.Common.{◌≡◌, ℕ, None, List, refl, sym, ap, ◌∙◌, subst}
 use Rattle.lru_index.specs.NameKeys.{name_key}
 use Rattle.name_cache.specs.Names.{name_slot}
 use Rattle.posix_defs.specs.DiskFormat.{IsName}
 use Rattle.posix_defs.specs.SoundDisk.{HasNode}
-use Rattle.posix_defs.specs.PathCalls as calls
-use Rattle.posix_defs.specs.Tree.{Tree, found, is_directory, IsInodeAt}
-use Rattle.posix_defs.specs.TreeChanges.{with_entries, entry_renamed, entry_put, entry_taken, entry_aimed, link_dropped, hung_if_directory, takes_entry, rename_to, rename_over}
-use Rattle.posix_defs.proofs.TreeNodes.{directory_in_use, found_in_directory}
+use Rattle.posix_defs.specs.Tree.{Tree}
+use Rattle.posix_defs.specs.TreeChanges.{with_entries, entry_renamed}
+use Rattle.posix_defs.proofs.TreeNodes.{directory_in_use}
 use Rattle.disk_laws.proofs.DiskNodes.{one_tree}
 use Rattle.tree_laws.proofs.TreeFacts.{found_in_use}
-use Rattle.tree_laws.proofs.RenameSteps.{over_steps, to_steps}
-use Rattle.memfs_dir.specs.Listed.{IsFull}
-use Rattle.memfs_node.proofs.Looking.{shown}
-use Rattle.memfs_ops.specs.Changing.{MidWay, ChangedTo}
+use Rattle.memfs_ops.specs.Changing.{MidWay}
 use Rattle.memfs_ops.specs.Entries.{HasEntry}
-use Rattle.memfs_ops.specs.Renaming.{MayMove, MayReplace}
-use Rattle.memfs_ops.proofs.LookLemmas.{looks_trans, pays_of, pays_trans}
-use Rattle.memfs_ops.proofs.PaysLemmas.{pays_on}
+use Rattle.memfs_ops.specs.Renaming.{MayMove}
+use Rattle.memfs_ops.proofs.LookLemmas.{looks_trans, pays_trans}
 use Rattle.memfs_ops.proofs.StepLemmas.{mid_of}
-use Rattle.memfs_ops.proofs.RemoveLemmas.{free_of, has_entry, held_alike, in_use_above, some_links}
+use Rattle.memfs_ops.proofs.RemoveLemmas.{free_of, has_entry, in_use_above}
 use Rattle.memfs_ops.proofs.RenameLemmas.{moved_stands, within_is}
 use Rattle.memfs_ops.proofs.file_tree.FileTree.move_within.Goals as goal
 

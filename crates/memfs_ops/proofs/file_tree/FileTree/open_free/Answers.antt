@@ -1,4 +1,4 @@
-use Rattle.std.proofs.Common.{◌≡◌, ℕ, Bool, true, false, ◌||◌, List, [], Result, Ok, Err, refl, sym, ap, ◌∙◌, subst}
+use Rattle.std.proofs.Common.{ℕ, Bool, false, ◌||◌, List, [], Result, Ok, Err, refl, sym, ap, ◌∙◌, subst}
 use Rattle.kabi_values.specs.declared.errnos.Errno.{Errno}
 use Rattle.kabi_values.specs.declared.errnos.Errno.TheVariants.{ENOENT}
 use Rattle.posix_defs.specs.PathCalls as calls
@@ -6,7 +6,7 @@ use Rattle.posix_defs.specs.Tree.{File, Tree}
 use Rattle.posix_defs.specs.TreeChanges.{make}
 use Rattle.memfs_node.proofs.Looking.{same_directory}
 use Rattle.disk_laws.proofs.DiskNodes.{one_tree}
-use Rattle.posix_defs.specs.Tree.{found, is_directory}
+use Rattle.posix_defs.specs.Tree.{found}
 use Rattle.memfs_ops.specs.Opening.{OpenedAs}
 use Rattle.memfs_ops.proofs.OpenLemmas.{is_made, not_made}
 use Rattle.memfs_ops.proofs.PaysLemmas.{pays_nothing, pays_on}

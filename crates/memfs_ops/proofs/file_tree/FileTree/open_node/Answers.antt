@@ -1,4 +1,4 @@
-use Rattle.std.proofs.Common.{◌≡◌, ℕ, Result, Ok, Err, refl, sym, ap, ◌∙◌, subst}
+use Rattle.std.proofs.Common.{Err, refl, sym, ap, subst}
 use Rattle.posix_defs.specs.PathCalls as calls
 use Rattle.posix_defs.specs.Paths.{IsLed, last_name}
 use Rattle.posix_defs.specs.declared.walked.Walked.{Walked}

@@ -1,4 +1,4 @@
-use Rattle.std.proofs.Common.{sym, ap, subst}
+use Rattle.std.proofs.Common.{sym, subst}
 use Rattle.memfs_ops.specs.FileTree.{TreeView, Stands, Looks}
 use Rattle.memfs_ops.specs.declared.file_tree.FileTree.TheInside.{Inside}
 use Rattle.memfs_ops.proofs.LookLemmas.{lent_of, stands_of, looks_of}

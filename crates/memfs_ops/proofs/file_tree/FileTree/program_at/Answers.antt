@@ -1,11 +1,10 @@
-use Rattle.std.proofs.Common.{◌≡◌, ℕ, Bool, not, ◌||◌, List, length, take, drop, ◌++◌, sym, ap, ◌∙◌, subst, refl}
+use Rattle.std.proofs.Common.{◌≡◌, ℕ, Bool, ◌||◌, List, length, take, drop, sym, ap, ◌∙◌, subst, refl}
 use Rattle.kabi_types.specs.declared.scripts.Program.{Program}
 use Rattle.kabi_values.specs.declared.errnos.Errno.TheVariants.{EACCES}
 use Rattle.posix_defs.specs.DiskContents.{node_bytes}
 use Rattle.posix_defs.specs.PathCalls as calls
 use Rattle.posix_defs.specs.SoundDisk.{HasNode}
-use Rattle.posix_defs.specs.Tree.{Tree, node_at, is_directory}
-use Rattle.memfs_ops.specs.FileTree.{TreeView, Stands}
+use Rattle.posix_defs.specs.Tree.{node_at, is_directory}
 use Rattle.memfs_ops.proofs.FetchLemmas.{told_bytes, told_count}
 use Rattle.memfs_ops.proofs.LookLemmas.{pays_trans}
 use Rattle.memfs_ops.proofs.OpenLemmas.{is_file}

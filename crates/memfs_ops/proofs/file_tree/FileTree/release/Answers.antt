@@ -1,4 +1,4 @@
-use Rattle.std.proofs.Common.{◌≡◌, ℕ, ◌-◌, eqb, sym, ap, ◌∙◌, subst, arith}
+use Rattle.std.proofs.Common.{◌-◌, eqb, sym, ap, subst, arith}
 use Rattle.kheap_shelves.specs.declared.objects.Vnode.{Vnode}
 use Rattle.memfs_ops.specs.FileTree.{TreeView, Stands}
 use Rattle.memfs_ops.specs.declared.file_tree.FileTree.TheInside.{Inside}

@@ -1,12 +1,11 @@
-use Rattle.std.proofs.Common.{◌≡◌, ◌≢◌, ℕ, Bool, true, false, not, List, Result, Ok, Err, refl, sym, ap, ◌∙◌, subst}
+use Rattle.std.proofs.Common.{ℕ, Bool, false, not, List, Result, Ok, Err, refl, sym, ◌∙◌, subst}
 use Rattle.kabi_values.specs.declared.errnos.Errno.{Errno}
 use Rattle.kabi_values.specs.declared.errnos.Errno.TheVariants.{EBUSY, ENOTDIR, ENOTEMPTY}
 use Rattle.posix_defs.specs.PathCalls as calls
-use Rattle.posix_defs.specs.Tree.{Tree, is_directory}
+use Rattle.posix_defs.specs.Tree.{Tree}
 use Rattle.posix_defs.specs.TreeChanges.{unlink}
 use Rattle.tree_laws.proofs.TreeFacts.{found_in_use}
 use Rattle.tree_laws.proofs.TreeKeeps.{found_not_root}
-use Rattle.memfs_ops.specs.FileTree.{Stands}
 use Rattle.memfs_ops.specs.Changing.{ChangedTo}
 use Rattle.memfs_ops.specs.Removing.{is_held}
 use Rattle.memfs_ops.proofs.LookLemmas.{pays_of, pays_trans}

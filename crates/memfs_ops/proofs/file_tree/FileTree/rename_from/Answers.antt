@@ -1,7 +1,7 @@
-use Rattle.std.proofs.Common.{◌≡◌, ℕ, Bool, Result, Ok, Err, refl, sym, ap, ◌∙◌, subst}
-use Rattle.kabi_values.specs.declared.errnos.Errno.TheVariants.{EBUSY, ENOENT}
+use Rattle.std.proofs.Common.{Err, refl, sym, ap, subst}
+use Rattle.kabi_values.specs.declared.errnos.Errno.TheVariants.{EBUSY}
 use Rattle.posix_defs.specs.PathCalls as calls
-use Rattle.posix_defs.specs.Paths.{IsLed, last_name, resolve}
+use Rattle.posix_defs.specs.Paths.{IsLed, last_name}
 use Rattle.posix_defs.specs.declared.walked.Walked.{Walked}
 use Rattle.posix_defs.specs.declared.walked.Walked.TheVariants as walked
 use Rattle.tree_laws.proofs.PathLeads.{path_led, last_is_entry_name}

@@ -1,18 +1,14 @@
-use Rattle.std.proofs.Common.{◌≡◌, ◌≢◌, ℕ, Bool, true, false, not, ◌&&◌, cond, eqb, Option, Some, None, List, Result, Ok, Err, refl, sym, ap, ◌∙◌, subst}
-use Rattle.std.proofs.lemmas.Bool.{cond-true, cond-false, eq-eqb, ne_eqb}
+use Rattle.std.proofs.Common.{◌≡◌, ℕ, Bool, not, ◌&&◌, eqb, Option, None, Result, Ok, Err, refl, sym, ◌∙◌, subst}
+use Rattle.std.proofs.lemmas.Bool.{cond-true, eq-eqb}
 use Rattle.kabi_values.specs.declared.errnos.Errno.{Errno}
 use Rattle.kabi_values.specs.declared.errnos.Errno.TheVariants.{EBUSY, EINVAL, EISDIR, ENOTDIR, ENOTEMPTY}
 use Rattle.posix_defs.specs.PathCalls as calls
-use Rattle.posix_defs.specs.Tree.{Tree, found, is_directory}
-use Rattle.posix_defs.specs.TreeChanges.{rename_over, rename_to, takes_entry}
+use Rattle.posix_defs.specs.Tree.{Tree, is_directory}
+use Rattle.posix_defs.specs.TreeChanges.{rename_over}
 use Rattle.posix_defs.proofs.TreeNodes.{found_in_directory}
-use Rattle.disk_laws.proofs.DiskNodes.{one_tree}
 use Rattle.tree_laws.proofs.TreeFacts.{found_in_use}
-use Rattle.memfs_ops.specs.FileTree.{Stands}
-use Rattle.memfs_ops.specs.Changing.{ChangedTo}
 use Rattle.memfs_ops.specs.Removing.{ToldTo, is_held}
-use Rattle.memfs_ops.specs.Renaming.{MayMove, unless_told}
-use Rattle.memfs_ops.proofs.LookLemmas.{looks_trans, pays_of, pays_trans}
+use Rattle.memfs_ops.proofs.LookLemmas.{pays_of, pays_trans}
 use Rattle.memfs_ops.proofs.RenameLemmas.{off_way}
 use Rattle.memfs_ops.proofs.file_tree.FileTree.rename_onto.Goals as goal
 

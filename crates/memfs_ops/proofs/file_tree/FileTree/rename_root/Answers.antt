@@ -1,12 +1,9 @@
-use Rattle.std.proofs.Common.{◌≡◌, ℕ, Bool, Result, Ok, Err, refl, sym, ap, ◌∙◌, subst}
-use Rattle.kabi_values.specs.declared.errnos.Errno.TheVariants.{EBUSY, ENOENT}
+use Rattle.std.proofs.Common.{Err, refl, subst}
+use Rattle.kabi_values.specs.declared.errnos.Errno.TheVariants.{EBUSY}
 use Rattle.posix_defs.specs.PathCalls as calls
-use Rattle.posix_defs.specs.Paths.{IsLed, last_name, resolve}
 use Rattle.posix_defs.specs.declared.walked.Walked.{Walked}
-use Rattle.posix_defs.specs.declared.walked.Walked.TheVariants as walked
-use Rattle.tree_laws.proofs.PathLeads.{path_led, last_is_entry_name}
-use Rattle.memfs_ops.specs.Removing.{ToldTo, is_held}
-use Rattle.memfs_ops.proofs.LookLemmas.{pays_of, pays_trans}
+use Rattle.memfs_ops.specs.Removing.{ToldTo}
+use Rattle.memfs_ops.proofs.LookLemmas.{pays_of}
 use Rattle.memfs_ops.proofs.file_tree.FileTree.rename_root.Goals as goal
 
 pub returns-in-Node-clause-answer : goal.returns-in-Node-clause-answer

@@ -1,4 +1,4 @@
-use Rattle.std.proofs.Common.{◌≡◌, ℕ, None, IsSome, sym, ap, ◌∙◌, subst}
+use Rattle.std.proofs.Common.{◌≡◌, None, sym, ap, ◌∙◌, subst}
 use Rattle.posix_defs.specs.SoundDisk.{HasNode}
 use Rattle.vnode_cache.specs.Nodes.{Nodes, node_slot}
 use Rattle.cached_disk.proofs.Filled.{no_slot}

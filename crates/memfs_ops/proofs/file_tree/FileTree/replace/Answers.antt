@@ -1,16 +1,13 @@
-use Rattle.std.proofs.Common.{◌≡◌, ◌≢◌, ℕ, Bool, true, false, not, ◌&&◌, eqb, Option, Some, None, List, Result, Ok, Err, refl, sym, ap, ◌∙◌, subst}
+use Rattle.std.proofs.Common.{ℕ, Bool, not, ◌&&◌, eqb, Option, Some, None, Result, Ok, Err, refl, sym, ap, subst}
 use Rattle.kabi_values.specs.declared.errnos.Errno.{Errno}
-use Rattle.posix_defs.specs.PathCalls as calls
-use Rattle.posix_defs.specs.Tree.{Tree, is_directory}
+use Rattle.posix_defs.specs.Tree.{Tree}
 use Rattle.posix_defs.specs.TreeChanges.{rename_over}
-use Rattle.posix_defs.proofs.TreeNodes.{found_in_directory}
 use Rattle.tree_laws.proofs.TreeFacts.{found_in_use}
 use Rattle.tree_laws.proofs.TreeKeeps.{found_not_root}
 use Rattle.memfs_ops.specs.FileTree.{Stands}
-use Rattle.memfs_ops.specs.Removing.{ToldTo, is_held}
-use Rattle.memfs_ops.specs.Renaming.{unless_told}
+use Rattle.memfs_ops.specs.Removing.{ToldTo}
 use Rattle.memfs_ops.proofs.LookLemmas.{looks_trans, pays_of, pays_trans}
-use Rattle.memfs_ops.proofs.RemoveLemmas.{held_same, told_alike}
+use Rattle.memfs_ops.proofs.RemoveLemmas.{held_same}
 use Rattle.memfs_ops.proofs.RenameLemmas.{replace_may, full_alike, onto_is, no_fault}
 use Rattle.memfs_ops.proofs.file_tree.FileTree.replace.Goals as goal
 

@@ -1,4 +1,4 @@
-use Rattle.std.proofs.Common.{◌≡◌, ℕ, List, refl, sym, ap, ◌∙◌, subst}
+use Rattle.std.proofs.Common.{sym, ap, subst}
 use Rattle.posix_defs.specs.FileBytes.{resized}
 use Rattle.posix_defs.specs.DiskContents.{node_bytes}
 use Rattle.posix_defs.specs.SoundDisk.{HasNode}

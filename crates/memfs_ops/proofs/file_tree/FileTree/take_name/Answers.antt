@@ -1,11 +1,10 @@
-use Rattle.std.proofs.Common.{◌≡◌, ℕ, List, None, refl, sym, ap, ◌∙◌, subst}
+use Rattle.std.proofs.Common.{◌≡◌, ℕ, List, None, sym, ap, ◌∙◌, subst}
 use Rattle.lru_index.specs.NameKeys.{name_key}
 use Rattle.name_cache.specs.Names.{name_slot}
 use Rattle.posix_defs.specs.SoundDisk.{HasNode}
-use Rattle.posix_defs.specs.TreeChanges.{with_entries, entry_taken, unlink, link_dropped}
+use Rattle.posix_defs.specs.TreeChanges.{with_entries, entry_taken, link_dropped}
 use Rattle.posix_defs.proofs.TreeNodes.{directory_in_use, found_in_directory}
 use Rattle.tree_laws.proofs.TreeFacts.{found_in_use}
-use Rattle.memfs_ops.specs.FileTree.{TreeView, Stands, Looks}
 use Rattle.memfs_ops.specs.Changing.{MidWay}
 use Rattle.memfs_ops.specs.Entries.{HasEntry}
 use Rattle.memfs_ops.proofs.LookLemmas.{looks_trans, pays_trans}

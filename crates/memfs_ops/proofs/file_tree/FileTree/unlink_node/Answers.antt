@@ -1,5 +1,4 @@
-use Rattle.std.proofs.Common.{◌≡◌, ℕ, List, refl, sym, ap, ◌∙◌, subst}
-use Rattle.posix_defs.specs.SoundDisk.{HasNode, free_in_map}
+use Rattle.std.proofs.Common.{refl, sym, ap, ◌∙◌, subst}
 use Rattle.kheap_laws.proofs.PaidLemmas.{IsPaid-nothing}
 use Rattle.memfs_node.specs.NodeOnDisk.{KeepsOthers}
 use Rattle.memfs_ops.specs.FileTree.{TreeView}

@@ -1,4 +1,4 @@
-use Rattle.std.proofs.Common.{◌≡◌, ℕ, List, Result, Err, IfOk, IfErr, take, refl, sym, ap, ◌∙◌, subst}
+use Rattle.std.proofs.Common.{take, sym, subst}
 use Rattle.posix_defs.specs.FileBytes.{overwritten}
 use Rattle.posix_defs.specs.DiskContents.{node_bytes}
 use Rattle.posix_defs.specs.SoundDisk.{HasNode}

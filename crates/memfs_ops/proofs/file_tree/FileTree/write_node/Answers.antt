@@ -1,4 +1,4 @@
-use Rattle.std.proofs.Common.{◌≡◌, ℕ, Result, sym, ap, ◌∙◌, subst}
+use Rattle.std.proofs.Common.{ℕ, Result, sym, ap, ◌∙◌, subst}
 use Rattle.kabi_values.specs.declared.errnos.Errno.{Errno}
 use Rattle.posix_defs.specs.SoundDisk.{HasNode}
 use Rattle.posix_defs.specs.Tree.{Tree}
