@@ -1,0 +1,15 @@
+//! The tree of files by hand and beside a plain tree. Tests alone.
+#![tactic(auto)]
+
+#[cfg(test)]
+mod by_hand;
+#[cfg(test)]
+mod calls;
+#[cfg(test)]
+mod held;
+#[cfg(test)]
+mod mixed;
+#[cfg(test)]
+mod plain;
+#[cfg(test)]
+mod world;
