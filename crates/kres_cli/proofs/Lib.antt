@@ -1,4 +1,6 @@
+pub mod Asking
 pub mod Headlines
+pub mod Histories
+pub mod Numbers
 pub mod Outcomes
 pub mod Puts
-pub mod Rounds

@@ -1,7 +1,5 @@
 -- What a command ends with, from what was read, answered and put.
-use Rattle.std.proofs.Common.{◌≡◌, ℕ, ◌≤◌, false, List, [], ◌∷◌, length, Option, None, Some, Result, Ok, Err, IfOk, string_bytes, refl, sym, ap, ◌∙◌, subst, arith}
-use Rattle.std.specs.Prelude.{String}
-use Rattle.std.proofs.lemmas.Fmt.{decimal_injective}
+use Rattle.std.proofs.Common.{◌≡◌, ℕ, ◌≤◌, true, false, List, [], ◌∷◌, length, Option, None, Some, Result, Ok, Err, IfOk, string_bytes, refl, sym, ap, ◌∙◌, subst, arith}
 use Rattle.kabi_types.specs.declared.entries.End.{End}
 use Rattle.kabi_types.specs.declared.entries.End.TheVariants as end
 use Rattle.kabi_types.specs.declared.scripts.FaultKind.TheVariants.{NotBuilt}
@@ -15,8 +13,6 @@ use Rattle.store_objects.specs.Standing.{StoreView}
 use Rattle.unbuilt_lines.specs.Unbuilt.{IsUnbuiltLine}
 use Rattle.run_report.specs.Reports.{IsReport}
 use Rattle.run_report.specs.declared.runs.Reported.{Reported}
-use Rattle.kres_cli.specs.declared.commands.Command.{Command}
-use Rattle.kres_cli.specs.declared.commands.Command.TheVariants.{OnScript, Table, Gen}
 use Rattle.kres_cli.specs.declared.commands.Task.{Task}
 use Rattle.kres_cli.specs.declared.commands.Task.TheVariants as task
 use Rattle.kres_cli.specs.declared.statuses.Status.{Status}
@@ -26,8 +22,7 @@ use Rattle.kres_cli.specs.Status.{status_of}
 use Rattle.kres_cli.specs.Read.{HasReadAs, HasTaken, IsReadAs, Says}
 use Rattle.kres_cli.specs.declared.reading.Reading.{Reading}
 use Rattle.kres_cli.specs.declared.reading.Reading.TheVariants as reading
-use Rattle.kres_cli.specs.Tool.{Input, Output, AnswerEnds, answers_so, lacks_memory, AnswersText, refuses, makes, AnswersSource, Broke, FaultEnds, HandsOut, Makes, Refuses, cannot_run, no_script, ScriptEnds, TextEnds, Wrote, whole_text, beginning, ends_so, wants_memory, TaskEnds}
-use Rattle.kres_cli.specs.Words.{Asks, IsAllowed, most_rounds, words_of}
+use Rattle.kres_cli.specs.Tool.{Input, Output, AnswerEnds, answers_so, lacks_memory, AnswersText, refuses, makes, AnswersSource, Broke, FaultEnds, HandsOut, Makes, Refuses, cannot_run, no_script, ScriptEnds, TextEnds, Wrote, whole_text, beginning, ends_so, wants_memory, TaskEnds, runs}
 
 -- a run's report was written
 reported : (i : Input) (o : Output) (asked : Task) (whole : List ℕ) (handed : Option StoreView) (e : End)
@@ -42,6 +37,9 @@ made : (i : Input) (o : Output) (asked : Task) (script : Script) (whole : List �
 made i o task.Sim script whole handed st ran source wrote =
     subst (TaskEnds i o handed task.Sim) (sym ran.1.status_is)
     (reported i o task.Sim whole handed ran.1.end (subst (AnswersSource i task.Sim whole handed) ran.1.status_is source) wrote)
+made i o (task.Threads workers) script whole handed st ran source wrote =
+    subst (TaskEnds i o handed (task.Threads workers)) (sym ran.1.status_is)
+    (reported i o (task.Threads workers) whole handed ran.1.end (subst (AnswersSource i (task.Threads workers) whole handed) ran.1.status_is source) wrote)
 made i o task.Print script whole handed st printed source wrote =
     subst (TaskEnds i o handed task.Print) (sym printed.2)
     (whole, subst (AnswersSource i task.Print whole handed) printed.2 source, wrote)
@@ -110,10 +108,10 @@ fault_ends i o asked fault handed st read none ends =
     (text_ends i o asked read.text None st read.taken read.no_fault (refusal_ends o asked read.text fault st (no_script asked fault read.reads) ends))
 
 -- a script that can't be run
-pub unbuilt_ends : (o : Output) (text : List ℕ) (script : Script) (line : ℕ) (st : Status) → ReadsText text (Ok script) → can_run script ≡ false
-    → IsUnbuiltLine text line → FaultEnds o (record { line = line; what = NotBuilt }) st → AnswerEnds o task.Sim text None st
-unbuilt_ends o text script line st says cannot first ends =
-    refusal_ends o task.Sim text (record { line = line; what = NotBuilt }) st (cannot_run script line says cannot first) ends
+pub unbuilt_ends : (o : Output) (asked : Task) (text : List ℕ) (script : Script) (line : ℕ) (st : Status) → runs asked ≡ true → ReadsText text (Ok script)
+    → can_run script ≡ false → IsUnbuiltLine text line → FaultEnds o (record { line = line; what = NotBuilt }) st → AnswerEnds o asked text None st
+unbuilt_ends o asked text script line st wanted says cannot first ends =
+    refusal_ends o asked text (record { line = line; what = NotBuilt }) st (cannot_run asked script line wanted says cannot first) ends
 
 -- a text that says a script isn't too long
 pub says_short : (text : List ℕ) (script : Script) → ReadsText text (Ok script) → length text ≤ 1048576
@@ -148,41 +146,3 @@ pub run_handed : {E : Type 0} (script : Script) (store : StoreView) (handed : Op
 run_handed script store handed (Ok it) same is report =
     record { end = it.end; store = store; handed_is = is; same = same; report = report; status_is = refl }
 run_handed script store handed (Err _) same is report = tt
-
--- the first byte of the first of some words
-first_byte : List (List ℕ) → ℕ
-first_byte [] = 0
-first_byte ([] ∷ words) = 0
-first_byte ((byte ∷ bytes) ∷ words) = byte
-
-second_word : List (List ℕ) → List ℕ
-second_word (_ ∷ word ∷ words) = word
-second_word _ = []
-
--- two numbers of rounds whose digits are the same
-same_rounds : (rounds rounds' : ℕ) → rounds ≤ most_rounds → rounds' ≤ most_rounds → words_of (Gen rounds) ≡ words_of (Gen rounds') → Gen rounds ≡ Gen rounds'
-unfolding second_word
-same_rounds rounds rounds' few few' same = ap Gen (decimal_injective rounds rounds' (omega arith) (omega arith) (ap second_word same))
-
--- words are one command at most
-one_command : (first second : Command) → IsAllowed first → IsAllowed second → words_of first ≡ words_of second → first ≡ second
-unfolding first_byte
-one_command (OnScript task.Sim) (OnScript task.Sim) _ _ same = refl
-one_command (OnScript task.Sim) (OnScript task.Print) _ _ same = absurd (let wrong : 115 ≡ 112 = ap first_byte same in omega (arith, wrong))
-one_command (OnScript task.Sim) Table _ _ same = absurd (let wrong : 115 ≡ 116 = ap first_byte same in omega (arith, wrong))
-one_command (OnScript task.Sim) (Gen rounds) _ _ same = absurd (let wrong : 115 ≡ 103 = ap first_byte same in omega (arith, wrong))
-one_command (OnScript task.Print) (OnScript task.Sim) _ _ same = absurd (let wrong : 112 ≡ 115 = ap first_byte same in omega (arith, wrong))
-one_command (OnScript task.Print) (OnScript task.Print) _ _ same = refl
-one_command (OnScript task.Print) Table _ _ same = absurd (let wrong : 112 ≡ 116 = ap first_byte same in omega (arith, wrong))
-one_command (OnScript task.Print) (Gen rounds) _ _ same = absurd (let wrong : 112 ≡ 103 = ap first_byte same in omega (arith, wrong))
-one_command Table (OnScript task.Sim) _ _ same = absurd (let wrong : 116 ≡ 115 = ap first_byte same in omega (arith, wrong))
-one_command Table (OnScript task.Print) _ _ same = absurd (let wrong : 116 ≡ 112 = ap first_byte same in omega (arith, wrong))
-one_command Table Table _ _ same = refl
-one_command Table (Gen rounds) _ _ same = absurd (let wrong : 116 ≡ 103 = ap first_byte same in omega (arith, wrong))
-one_command (Gen rounds) (OnScript task.Sim) _ _ same = absurd (let wrong : 103 ≡ 115 = ap first_byte same in omega (arith, wrong))
-one_command (Gen rounds) (OnScript task.Print) _ _ same = absurd (let wrong : 103 ≡ 112 = ap first_byte same in omega (arith, wrong))
-one_command (Gen rounds) Table _ _ same = absurd (let wrong : 103 ≡ 116 = ap first_byte same in omega (arith, wrong))
-one_command (Gen rounds) (Gen rounds') few few' same = same_rounds rounds rounds' few few' same
-
-pub asks_once : {A : Type 0} (words : List (String A)) (first second : Command) → Asks words first → Asks words second → first ≡ second
-asks_once words first second asks asks_too = one_command first second asks.1 asks_too.1 (sym asks.0 ∙ asks_too.0)

@@ -1,10 +1,13 @@
--- A run of the core over the store.
+-- A run of the store: by the core, or by workers.
 use Rattle.std.specs.Prelude.{ℕ, ◌≡◌, List, Option, Some}
 use Rattle.kabi_types.specs.declared.entries.End.{End}
+use Rattle.kabi_types.specs.declared.entries.Entry.{Entry}
 use Rattle.kabi_types.specs.declared.scripts.Script.{Script}
 use Rattle.posix_defs.specs.World.{World}
 use Rattle.store_objects.specs.Standing.{StandsFor, StoreView}
+use Rattle.run_report.specs.Histories.{report_threads}
 use Rattle.run_report.specs.Reports.{IsReport}
+use Rattle.work_crew.specs.Whole.{IsWhole}
 use Rattle.kres_cli.specs.declared.statuses.Status.{Status}
 use Rattle.kres_cli.specs.Status.{status_of}
 
@@ -26,4 +29,17 @@ pub record IsRunOf (script : Script) (whole : List ℕ) (handed : Option StoreVi
   pub handed_is : handed ≡ Some store
   pub same : store.script ≡ script
   pub report : IsReport stands marks high script store end whole
+  pub status_is : status ≡ status_of end
+
+-- The text is the report of a history of the script's run by workers, the status is that of its end, and the store that is handed out
+-- is the one that was left. What is told as charged is what is live in it and the reserve, and the reads are its world's.
+pub record IsThreadsRunOf (script : Script) (whole : List ℕ) (handed : Option StoreView) (status : Status) : Type 0 where
+  pub entries : List Entry
+  pub end : End
+  pub bytes : ℕ
+  pub store : StoreView
+  pub handed_is : handed ≡ Some store
+  pub same : store.script ≡ script
+  pub run : IsWhole stands (λ s. s.script) script script.steps entries end bytes store
+  pub text_is : whole ≡ report_threads entries end bytes run.closes.world.reads
   pub status_is : status ≡ status_of end

@@ -22,7 +22,7 @@ use Rattle.kres_cli.specs.declared.commands.Task.TheVariants as task
 use Rattle.kres_cli.specs.declared.statuses.Status.{Status}
 use Rattle.kres_cli.specs.declared.statuses.Status.TheVariants.{Finished, BadScript, Usage, Starved, AllAsleep, Spent, ReadFault, WriteFault, Memory}
 use Rattle.kres_cli.specs.Read.{HasTaken}
-use Rattle.kres_cli.specs.Run.{IsRunOf}
+use Rattle.kres_cli.specs.Run.{IsRunOf, IsThreadsRunOf}
 use Rattle.kres_cli.specs.Words.{Asks}
 
 -- what is written where the words aren't the program's
@@ -72,17 +72,24 @@ module _ {K : Type 0} (held : K → Option (List ℕ)) (faults : K → ℕ) (giv
   }
 
 -- What a task makes of a script: the report of its run, where it can be run, with that end's status and the store as it was
--- left; or the script in its canonical form.
+-- left; the same of a run by workers; or the script in its canonical form.
 abbrev pub Makes : Task → Script → List ℕ → Option StoreView → Status → Type 0
 Makes task.Sim script whole handed status = (can_run script ≡ true) × IsRunOf script whole handed status
+Makes (task.Threads _) script whole handed status = (can_run script ≡ true) × IsThreadsRunOf script whole handed status
 Makes task.Print script whole handed status = (whole ≡ canonical script) × (handed ≡ None) × (status ≡ Finished)
+
+-- the task runs its script
+abbrev pub runs : Task → Bool
+runs task.Sim = true
+runs (task.Threads _) = true
+runs task.Print = false
 
 -- A task refuses a text for this fault: the text is no script; or its script can't be run and is to be, and this is the first
 -- line that calls what can't.
 pub data Refuses (text : List ℕ) : Task → ScriptFault → Type 0 where
   no_script : (asked : Task) (fault : ScriptFault) → ReadsText text (Err fault) → Refuses text asked fault
-  cannot_run : (script : Script) (line : ℕ) → ReadsText text (Ok script) → can_run script ≡ false → IsUnbuiltLine text line
-      → Refuses text task.Sim (record { line = line; what = NotBuilt })
+  cannot_run : (asked : Task) (script : Script) (line : ℕ) → runs asked ≡ true → ReadsText text (Ok script) → can_run script ≡ false
+      → IsUnbuiltLine text line → Refuses text asked (record { line = line; what = NotBuilt })
 
 -- The text is answered by this one, with this store and this status: the line of its fault, or what the task makes of its
 -- script.

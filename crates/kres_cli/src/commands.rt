@@ -1,12 +1,16 @@
 ghost use Rattle.std.specs.Prelude.{◌≡◌, ℕ, ◌≤◌, [], ◌∷◌, IfNone, IfSome, MatchOption, decimal};
 ghost use Rattle.kres_cli.specs.declared.commands.Command.{Command};
-ghost use Rattle.kres_cli.specs.Words.{Asks, IsAllowed, most_rounds, words_of};
+ghost use Rattle.kres_cli.specs.declared.commands.Command.TheVariants.{OnScript};
+ghost use Rattle.kres_cli.specs.declared.commands.Task.TheVariants.{Threads};
+ghost use Rattle.kres_cli.specs.Words.{Asks, IsAllowed, most_workers, words_of};
 
 /// What is done with a script that is read from the source.
 #[derive(Clone, Copy, Debug, PartialEq, Eq)]
 pub enum Task {
     /// It is run, and its events are reported.
     Sim,
+    /// It is run by so many workers, and its history is reported.
+    Threads(u32),
     /// It is printed in its canonical form.
     Print,
 }
@@ -24,6 +28,20 @@ pub enum Command {
 
 /// The most rounds of a generated script.
 const MOST_ROUNDS: u32 = 1000;
+
+/// The most workers that run a script.
+const MOST_WORKERS: u32 = 64;
+
+/// By how many workers the words want a script to be run; None where they are another command, or none.
+pub fn workers_asked(words: &[String]) -> Option<u32>
+    ensures { MatchOption result ((workers : ℕ) → Asks words.now (OnScript (Threads workers)) → ⊥)
+        (λ workers. Asks words.now (OnScript (Threads workers))) }
+{
+    match command_of(words) {
+        Some(Command::OnScript(Task::Threads(workers))) => Some(workers),
+        _ => None,
+    }
+}
 
 /// The command that the words are; None where they are none.
 pub fn command_of(words: &[String]) -> Option<Command>
@@ -58,16 +76,30 @@ fn with_number(word: &str, number: &str) -> Option<Command>
     ensures { MatchOption result ((command : Command) → word.now ∷ number.now ∷ [] ≡ words_of command → IsAllowed command → ⊥)
         (λ command. (word.now ∷ number.now ∷ [] ≡ words_of command) × IsAllowed command) }
 {
-    if word != "gen" {
-        return None;
+    if word == "gen" {
+        return Some(Command::Gen(number_within(number, MOST_ROUNDS)?));
     }
-    Some(Command::Gen(rounds_of(number)?))
+    if word == "threads" {
+        return Some(Command::OnScript(Task::Threads(workers_of(number)?)));
+    }
+    None
 }
 
-/// A number of rounds: decimal digits without a sign, and no zero before others.
-fn rounds_of(number: &str) -> Option<u32>
-    ensures some { IfSome result (λ n. (number.now ≡ decimal n) × (n ≤ most_rounds)) }
-    ensures none { IfNone result ((n : ℕ) → n ≤ most_rounds → number.now ≡ decimal n → ⊥) }
+/// A number of workers: one at least.
+fn workers_of(number: &str) -> Option<u32>
+    ensures some { IfSome result (λ n. (number.now ≡ decimal n) × (1 ≤ n) × (n ≤ most_workers)) }
+    ensures none { IfNone result ((n : ℕ) → 1 ≤ n → n ≤ most_workers → number.now ≡ decimal n → ⊥) }
+{
+    match number_within(number, MOST_WORKERS)? {
+        0 => None,
+        workers => Some(workers),
+    }
+}
+
+/// A number of at most so much: decimal digits without a sign, and no zero before others.
+fn number_within(number: &str, most: u32) -> Option<u32>
+    ensures some { IfSome result (λ n. (number.now ≡ decimal n) × (n ≤ most)) }
+    ensures none { IfNone result ((n : ℕ) → n ≤ most → number.now ≡ decimal n → ⊥) }
 {
     if number == "0" {
         return Some(0);
@@ -80,12 +112,8 @@ fn rounds_of(number: &str) -> Option<u32>
     if digits[0] < b'1' {
         return None;
     }
-    let Ok(rounds) = number.parse::<u32>() else {
+    let Ok(read) = number.parse::<u32>() else {
         return None;
     };
-    if rounds <= MOST_ROUNDS {
-        Some(rounds)
-    } else {
-        None
-    }
+    if read <= most { Some(read) } else { None }
 }

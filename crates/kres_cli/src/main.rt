@@ -19,8 +19,11 @@ mod tests_print;
 #[cfg(test)]
 mod tests_processes;
 #[cfg(test)]
+mod tests_threads;
+#[cfg(test)]
 mod tests_words;
 mod text;
+mod threads;
 mod tool;
 mod writing;
 
@@ -29,6 +32,7 @@ use kio_ports::{StdSink, StdSource};
 use program::run_program;
 use std::env;
 use std::process::ExitCode;
+use work_crew::OpenDoor;
 
 fn main(rt: HostRuntime) -> ExitCode {
     let mut source = StdSource::new(rt.stdin());
@@ -39,6 +43,7 @@ fn main(rt: HostRuntime) -> ExitCode {
         env::args(&rt),
         &mut source,
         &mut sink,
+        &OpenDoor,
         |w: Weight| -> u64
             ensures { result ≡ score_of Heaviest w }
         { 512 + 4096 * u64::from(w.frames) + 512 * u64::from(w.nodes) + 64 * u64::from(w.descs) },

@@ -18,16 +18,27 @@ use std::alloc::{AllocError, Global};
 use std::env;
 use std::io::{self, ErrorKind};
 use std::process::ExitCode;
+use std::sync::Wait;
+use std::thread::Threads;
 use victim_core::Scorer;
+use work_crew::Door;
 
 /// Runs the tool on the words after the program's name, and ends with the number of its status. An argument that is no
 /// text is no word of the program's; 8 is also for arguments that the host had no memory for.
-pub fn run_program<R, S: Source, K: Sink, F: Scorer, G: Scorer>(
+pub fn run_program<
+    R: Threads + Wait + Sync,
+    S: Source,
+    K: Sink,
+    D: Door + Sync,
+    F: Scorer + Send,
+    G: Scorer + Send,
+>(
     rt: &R,
     alloc: Global,
     arguments: io::Result<env::Args>,
     source: &mut S,
     sink: &mut K,
+    door: &D,
     heaviest: F,
     youngest: G,
 ) -> ExitCode
@@ -40,7 +51,7 @@ pub fn run_program<R, S: Source, K: Sink, F: Scorer, G: Scorer>(
         → (exit_status result ≡ number_of Memory) × NothingDone (input S.left S.faults source.old source.new) (output K.held K.faults K.put_gives sink.old sink.new)) }
 {
     match arguments {
-        Ok(all) => code_of(run_words(rt, alloc, all, source, sink, heaviest, youngest)),
+        Ok(all) => code_of(run_words(rt, alloc, all, source, sink, door, heaviest, youngest)),
         Err(error) => match error.kind() {
             ErrorKind::OutOfMemory => code_of(Status::Memory),
             _ => code_of(tell_usage(sink)),
@@ -49,12 +60,20 @@ pub fn run_program<R, S: Source, K: Sink, F: Scorer, G: Scorer>(
 }
 
 /// Runs the tool on the words after the program's name, where the host has the memory for them.
-fn run_words<R, S: Source, K: Sink, F: Scorer, G: Scorer>(
+fn run_words<
+    R: Threads + Wait + Sync,
+    S: Source,
+    K: Sink,
+    D: Door + Sync,
+    F: Scorer + Send,
+    G: Scorer + Send,
+>(
     rt: &R,
     alloc: Global,
     all: env::Args,
     source: &mut S,
     sink: &mut K,
+    door: &D,
     heaviest: F,
     youngest: G,
 ) -> Status
@@ -73,6 +92,7 @@ fn run_words<R, S: Source, K: Sink, F: Scorer, G: Scorer>(
         words.as_slice(),
         source,
         sink,
+        door,
         heaviest,
         youngest,
         &mut store_out,

@@ -8,13 +8,16 @@ use kabi_types::{Memory, Weight};
 use kio_ports::{MemSink, MemSource};
 use posix_defs::Turner;
 use std::process::Abort;
+use std::sync::Wait;
 use std::test::Fail;
+use std::thread::Threads;
 use victim_core::Scorer;
+use work_crew::{Door, OpenDoor};
 
 /// Room for every text that a test writes, in bytes.
 const ROOM: usize = 262144;
 
-const PID_SCRIPT: &str = "heap 8192\nprogram init\nr1 = getpid\nexit 0\nend\n";
+pub const PID_SCRIPT: &str = "heap 8192\nprogram init\nr1 = getpid\nexit 0\nend\n";
 
 const PID_REPORT: &str = "1 p1 ask getpid bound 0 charged 2816
 2 p1 admit getpid bound 0 charged 2816
@@ -25,16 +28,22 @@ const PID_REPORT: &str = "1 p1 ask getpid bound 0 charged 2816
 end finished events 6 charged 2304 peak 2816 reads 0
 ";
 
+pub const PID_HISTORY: &str = "1 p1 done getpid = 1
+2 p1 ended exit 0
+end finished entries 2 charged 2304 reads 0
+";
+
 const USAGE: &str = "usage: kres sim | threads W | print | table | gen N | load N\n";
 
 /// What the store that the tool hands out has in use, in bytes, and how many blocks it has read.
 type Left = Option<(u64, u64)>;
 
-fn run_with<F: Scorer, G: Scorer>(
-    rt: &impl AllocGlobal,
+fn run_with<D: Door + Sync, F: Scorer + Send, G: Scorer + Send>(
+    rt: &(impl AllocGlobal + Threads + Wait + Sync),
     words: &[String],
     source: &mut MemSource,
     sink: &mut MemSink,
+    door: &D,
     heaviest: F,
     youngest: G,
 ) -> (Status, Left)
@@ -48,6 +57,7 @@ fn run_with<F: Scorer, G: Scorer>(
         words,
         source,
         sink,
+        door,
         heaviest,
         youngest,
         &mut store_out,
@@ -61,17 +71,19 @@ fn run_with<F: Scorer, G: Scorer>(
 }
 
 /// What the tool answers to these words, and what it leaves.
-fn run_words(
-    rt: &impl AllocGlobal,
+fn run_words<D: Door + Sync>(
+    rt: &(impl AllocGlobal + Threads + Wait + Sync),
     words: &[String],
     source: &mut MemSource,
     sink: &mut MemSink,
+    door: &D,
 ) -> (Status, Left) {
     run_with(
         rt,
         words,
         source,
         sink,
+        door,
         |w: Weight| -> u64
             ensures { result ≡ score_of Heaviest w }
         { 512 + 4096 * u64::from(w.frames) + 512 * u64::from(w.nodes) + 64 * u64::from(w.descs) },
@@ -116,17 +128,28 @@ fn words_of(rt: &impl AllocGlobal, line: &str) -> Result<Vec<String>, Memory> {
 
 /// What the tool makes of the words of a line on a text.
 pub fn outcome_of(
-    rt: &impl AllocGlobal,
+    rt: &(impl AllocGlobal + Threads + Wait + Sync),
     line: &str,
     text: &[u8],
     trouble: Trouble,
+) -> Result<Outcome, Memory> {
+    outcome_at(rt, line, text, trouble, &OpenDoor)
+}
+
+/// The same where workers pass this door.
+pub fn outcome_at<D: Door + Sync>(
+    rt: &(impl AllocGlobal + Threads + Wait + Sync),
+    line: &str,
+    text: &[u8],
+    trouble: Trouble,
+    door: &D,
 ) -> Result<Outcome, Memory> {
     let words = words_of(rt, line)?;
     let puts = trouble.puts.to_vec(rt.alloc())?;
     let mut sink = MemSink::new(rt.alloc(), ROOM, puts, trouble.most)?;
     let takes = trouble.takes.to_vec(rt.alloc())?;
     let mut source = MemSource::new(text.to_vec(rt.alloc())?, takes, 4096);
-    let (status, left) = run_words(rt, words.as_slice(), &mut source, &mut sink);
+    let (status, left) = run_words(rt, words.as_slice(), &mut source, &mut sink, door);
     Ok(Outcome {
         status,
         left,
@@ -142,7 +165,7 @@ pub fn check(rt: &impl Abort, right: bool, what: &str) {
 
 /// The word answers this text with this status and this text.
 pub fn expect_answer(
-    rt: &(impl Abort + AllocGlobal),
+    rt: &(impl Abort + AllocGlobal + Threads + Wait + Sync),
     word: &str,
     text: &[u8],
     wanted: Status,
@@ -156,7 +179,7 @@ pub fn expect_answer(
 
 /// The word answers each of these scripts with its status and its text.
 pub fn expect_answers(
-    rt: &(impl Abort + AllocGlobal),
+    rt: &(impl Abort + AllocGlobal + Threads + Wait + Sync),
     word: &str,
     rows: &[(&str, Status, &str)],
 ) -> Result<(), Fail> {
@@ -167,7 +190,11 @@ pub fn expect_answers(
 }
 
 /// The script runs to its first process's end, and its report has the line.
-fn expect_line(rt: &(impl Abort + AllocGlobal), script: &str, line: &str) -> Result<(), Fail> {
+fn expect_line(
+    rt: &(impl Abort + AllocGlobal + Threads + Wait + Sync),
+    script: &str,
+    line: &str,
+) -> Result<(), Fail> {
     let outcome = outcome_of(rt, "sim", script.as_bytes(), NONE)?;
     let written = str::from_utf8(outcome.sink.bytes())?;
     let right = outcome.status == Status::Finished && written.contains(line);
@@ -196,7 +223,7 @@ const RUNS: &[(&str, Status, &str)] = &[
     (LOOP_SCRIPT, Status::Spent, LOOP_REPORT),
 ];
 
-const LOOP_SCRIPT: &str =
+pub const LOOP_SCRIPT: &str =
     "heap 8192\nsteps 10\nprogram init\nset r1 100\nlabel again\nr2 = getpid\nloop r1 again\nend\n";
 
 const LOOP_REPORT: &str = "1 p1 ask getpid bound 0 charged 2816
@@ -225,10 +252,13 @@ const STORES: &[(&str, &str, Left)] = &[
     ("sim", "", None),
     ("sim", "program init\nsocket\nend\n", None),
     ("print", PID_SCRIPT, None),
+    ("threads 1", PID_SCRIPT, Some((128, 0))),
+    ("threads 2", LOOP_SCRIPT, Some((640, 0))),
+    ("threads 2", "program init\nsocket\nend\n", None),
 ];
 
 fn expect_left(
-    rt: &(impl Abort + AllocGlobal),
+    rt: &(impl Abort + AllocGlobal + Threads + Wait + Sync),
     word: &str,
     script: &str,
     wanted: Left,
@@ -246,14 +276,17 @@ fn hands_out_the_store_of_a_run(rt: HostRuntime) -> Result<(), Fail> {
     Ok(())
 }
 
-const REFUSALS: &[(&str, Status, &str)] = &[
-    (PID_SCRIPT, Status::Finished, PID_REPORT),
+const REFUSALS: &[(&str, &str, Status, &str)] = &[
+    ("sim", PID_SCRIPT, Status::Finished, PID_REPORT),
+    ("threads 2", PID_SCRIPT, Status::Finished, PID_HISTORY),
     (
+        "sim",
         "program init\nr1 = socket\nend\n",
         Status::BadScript,
         "bad script: line 2: not built\n",
     ),
     (
+        "sim",
         "heap 8192\nchoices 3 1 4\nprogram init\nr1 = getpid\nexit 0\nend\n",
         Status::Finished,
         PID_REPORT,
@@ -262,8 +295,14 @@ const REFUSALS: &[(&str, Status, &str)] = &[
 
 /// Whether the answer is this one with this text, or want of memory with a beginning of it; None where the test itself
 /// has no memory.
-fn is_right(rt: &HostRuntime, script: &str, wanted: Status, whole: &str) -> Option<bool> {
-    let outcome = outcome_of(rt, "sim", script.as_bytes(), NONE).ok()?;
+fn is_right(
+    rt: &(impl AllocGlobal + Threads + Wait + Sync),
+    word: &str,
+    script: &str,
+    wanted: Status,
+    whole: &str,
+) -> Option<bool> {
+    let outcome = outcome_of(rt, word, script.as_bytes(), NONE).ok()?;
     let ended = outcome.status;
     let written = outcome.sink.bytes();
     Some(match ended {
@@ -275,8 +314,8 @@ fn is_right(rt: &HostRuntime, script: &str, wanted: Status, whole: &str) -> Opti
 /// To be run with each allocation refused in turn.
 #[test]
 fn ends_right_whichever_allocation_is_refused(rt: HostRuntime) {
-    for (script, wanted, whole) in REFUSALS {
-        let right = is_right(&rt, *script, *wanted, *whole);
+    for (word, script, wanted, whole) in REFUSALS {
+        let right = is_right(&rt, *word, *script, *wanted, *whole);
         check(&rt, right != Some(false), *script);
     }
 }
@@ -450,13 +489,23 @@ const OTHER_WORDS: &[&str] = &[
     "gen 1 2",
     "Gen 1",
     "1 gen",
-    // These come later.
-    "threads 4",
+    "threads",
+    "threads 0",
+    "threads 01",
+    "threads 65",
+    "threads +4",
+    "threads 4x",
+    "threads 4 4",
+    "4 threads",
+    // This comes later.
     "load 1",
 ];
 
 /// The words of a line aren't the program's, and the source isn't touched.
-fn expect_usage(rt: &(impl Abort + AllocGlobal), line: &str) -> Result<(), Fail> {
+fn expect_usage(
+    rt: &(impl Abort + AllocGlobal + Threads + Wait + Sync),
+    line: &str,
+) -> Result<(), Fail> {
     let outcome = outcome_of(rt, line, PID_SCRIPT.as_bytes(), NONE)?;
     let right = outcome.status == Status::Usage && outcome.sink.bytes() == USAGE.as_bytes();
     check(rt, right && outcome.takes == 0, line);
@@ -473,7 +522,7 @@ fn tells_the_words_that_it_knows(rt: HostRuntime) -> Result<(), Fail> {
 
 /// A word on a script where a stream fails: the status, and what is written. No store is handed out.
 pub fn expect_broken(
-    rt: &(impl Abort + AllocGlobal),
+    rt: &(impl Abort + AllocGlobal + Threads + Wait + Sync),
     word: &str,
     script: &str,
     trouble: Trouble,

@@ -1,7 +1,9 @@
 use crate::statuses::Status;
 use crate::tests::{NONE, Outcome, Trouble, check, outcome_of};
 use std::process::Abort;
+use std::sync::Wait;
 use std::test::Fail;
+use std::thread::Threads;
 
 const GEN_0: &str = "heap 8388608
 disk 4096
@@ -60,7 +62,7 @@ const WRITTEN: &[(&str, &str)] = &[("gen 0", GEN_0), ("gen 1", GEN_1), ("gen 7",
 
 /// What comes of the words of a line, on a source that isn't touched.
 fn answer_to(
-    rt: &(impl Abort + AllocGlobal),
+    rt: &(impl Abort + AllocGlobal + Threads + Wait + Sync),
     line: &str,
     trouble: Trouble,
 ) -> Result<Outcome, Fail> {
@@ -69,7 +71,11 @@ fn answer_to(
     Ok(outcome)
 }
 
-fn expect_text(rt: &(impl Abort + AllocGlobal), line: &str, wanted: &str) -> Result<(), Fail> {
+fn expect_text(
+    rt: &(impl Abort + AllocGlobal + Threads + Wait + Sync),
+    line: &str,
+    wanted: &str,
+) -> Result<(), Fail> {
     let outcome = answer_to(rt, line, NONE)?;
     let right = outcome.status == Status::Finished && outcome.sink.bytes() == wanted.as_bytes();
     check(rt, right, line);

@@ -6,20 +6,21 @@ ghost use Rattle.posix_defs.specs.Canonical.{canonical};
 ghost use Rattle.posix_defs.specs.Generated.{generated};
 ghost use Rattle.posix_defs.specs.ScriptText.{ReadsText};
 ghost use Rattle.posix_defs.specs.ValidScript.{IsValid};
-ghost use Rattle.kres_cli.specs.Headline.{SimKeeps};
+ghost use Rattle.kres_cli.specs.Headline.{SimKeeps, ThreadsKeep};
 ghost use Rattle.kres_cli.specs.Run.{IsRunOf};
 ghost use Rattle.kres_cli.specs.Status.{status_of};
-ghost use Rattle.kres_cli.specs.Tool.{AnswerEnds, CommandEnds, FaultEnds, HandsOut, HasPut, Obeys, OthersEnd, ScriptEnds, TaskEnds, TextEnds, input, output};
+ghost use Rattle.kres_cli.specs.Tool.{AnswerEnds, CommandEnds, FaultEnds, HandsOut, HasPut, Obeys, OthersEnd, ScriptEnds, TaskEnds, TextEnds, input, output, runs};
 ghost use Rattle.kres_cli.specs.Words.{Asks, IsAllowed, most_rounds};
 ghost use Rattle.kres_cli.specs.declared.commands.Command.{Command};
 ghost use Rattle.kres_cli.specs.declared.commands.Command.TheVariants.{OnScript};
 ghost use Rattle.kres_cli.specs.declared.commands.Task.{Task};
-ghost use Rattle.kres_cli.specs.declared.commands.Task.TheVariants.{Sim};
+ghost use Rattle.kres_cli.specs.declared.commands.Task.TheVariants.{Sim, Threads};
 
-use crate::commands::{Command, Task, command_of};
+use crate::commands::{Command, Task, command_of, workers_asked};
 use crate::lines::fault_line;
 use crate::reading::{Reading, read_script};
 use crate::statuses::Status;
+use crate::threads::run_by_threads;
 use crate::writing::write_text;
 use call_run::Store;
 use calls_built::can_run;
@@ -31,23 +32,34 @@ use need_table::table;
 use run_report::{Reported, run_core};
 use script_parse::print;
 use std::alloc::Global;
+use std::sync::Wait;
+use std::thread::Threads;
 use unbuilt_lines::unbuilt_line;
 use victim_core::{Score, Scorer};
+use work_crew::Door;
 
 /// What is written where the words aren't the program's.
 const USAGE: &str = "usage: kres sim | threads W | print | table | gen N | load N\n";
 
 /// Runs the tool on the words after the program's name: reads what they ask for from the source, and writes the whole
-/// answer to the sink. The two closures score processes by weight and by age.
+/// answer to the sink. The two closures score processes by weight and by age. Where workers run a script, they pass the door.
 ///
 /// Where a script was run and the status is its end's, `store_out` holds the run's store as it was left, else None; what it
 /// held before is dropped.
-pub fn run_tool<R, S: Source, K: Sink, F: Scorer, G: Scorer>(
-    _rt: &R,
+pub fn run_tool<
+    R: Threads + Wait + Sync,
+    S: Source,
+    K: Sink,
+    D: Door + Sync,
+    F: Scorer + Send,
+    G: Scorer + Send,
+>(
+    rt: &R,
     alloc: Global,
     words: &[String],
     source: &mut S,
     sink: &mut K,
+    door: &D,
     heaviest: F,
     youngest: G,
     store_out: &mut Option<Store<F, G>>,
@@ -56,8 +68,16 @@ pub fn run_tool<R, S: Source, K: Sink, F: Scorer, G: Scorer>(
     requires by_age { G.scores youngest Youngest }
     ensures obeys { Obeys words.now (input S.left S.faults source.old source.new) (output K.held K.faults K.put_gives sink.old sink.new) store_out.new result }
     ensures headline { Asks words.now (OnScript Sim) → SimKeeps (input S.left S.faults source.old source.new) (output K.held K.faults K.put_gives sink.old sink.new) store_out.new result }
+    ensures threads { (workers : ℕ) → Asks words.now (OnScript (Threads workers)) → ThreadsKeep (input S.left S.faults source.old source.new) (output K.held K.faults K.put_gives sink.old sink.new) store_out.new result }
 {
-    run_plain(alloc, words, source, sink, heaviest, youngest, store_out)
+    match workers_asked(words) {
+        Some(workers) => {
+            forget(store_out);
+            let score = Score::new(heaviest, youngest);
+            run_by_threads(rt, alloc, workers, source, sink, door, score, store_out)
+        }
+        None => run_plain(alloc, words, source, sink, heaviest, youngest, store_out),
+    }
 }
 
 /// The same for the words that start no thread. It takes no runtime, so it returns.
@@ -72,7 +92,9 @@ pub fn run_plain<S: Source, K: Sink, F: Scorer, G: Scorer>(
 ) -> Status
     requires by_weight { F.scores heaviest Heaviest }
     requires by_age { G.scores youngest Youngest }
-    ensures { Obeys words.now (input S.left S.faults source.old source.new) (output K.held K.faults K.put_gives sink.old sink.new) store_out.new result }
+    requires plain { (workers : ℕ) → Asks words.now (OnScript (Threads workers)) → ⊥ }
+    ensures obeys { Obeys words.now (input S.left S.faults source.old source.new) (output K.held K.faults K.put_gives sink.old sink.new) store_out.new result }
+    ensures headline { Asks words.now (OnScript Sim) → SimKeeps (input S.left S.faults source.old source.new) (output K.held K.faults K.put_gives sink.old sink.new) store_out.new result }
 {
     forget(store_out);
     match command_of(words) {
@@ -85,7 +107,7 @@ pub fn run_plain<S: Source, K: Sink, F: Scorer, G: Scorer>(
 }
 
 /// Lets the store go that would be handed out.
-fn forget<F: Scorer, G: Scorer>(store_out: &mut Option<Store<F, G>>)
+pub fn forget<F: Scorer, G: Scorer>(store_out: &mut Option<Store<F, G>>)
     ensures { store_out.new ≡ None }
 {
     drop(store_out.take());
@@ -140,6 +162,7 @@ fn obey<S: Source, K: Sink, F: Scorer, G: Scorer>(
     store_out: &mut Option<Store<F, G>>,
 ) -> Status
     requires allowed { IsAllowed command }
+    requires plain { (workers : ℕ) → command ≢ OnScript (Threads workers) }
     requires none { store_out.old ≡ None }
     ensures ends { CommandEnds (input S.left S.faults source.old source.new) (output K.held K.faults K.put_gives sink.old sink.new) store_out.new command result }
     ensures untouched { ((task : Task) → command ≢ OnScript task) → source.new ≡ source.old }
@@ -160,7 +183,8 @@ fn answer_source<S: Source, K: Sink, F: Scorer, G: Scorer>(
     score: Score<F, G>,
     store_out: &mut Option<Store<F, G>>,
 ) -> Status
-    requires { store_out.old ≡ None }
+    requires plain { (workers : ℕ) → task ≢ Threads workers }
+    requires none { store_out.old ≡ None }
     ensures { TaskEnds (input S.left S.faults source.old source.new) (output K.held K.faults K.put_gives sink.old sink.new) store_out.new task result }
 {
     match read_script(alloc, source) {
@@ -178,7 +202,7 @@ fn answer_source<S: Source, K: Sink, F: Scorer, G: Scorer>(
 }
 
 /// Writes the line that tells why a text is no script.
-fn tell_fault<K: Sink>(alloc: Global, sink: &mut K, fault: ScriptFault) -> Status
+pub fn tell_fault<K: Sink>(alloc: Global, sink: &mut K, fault: ScriptFault) -> Status
     ensures { FaultEnds (output K.held K.faults K.put_gives sink.old sink.new) fault result }
 {
     let Ok(line) = fault_line(alloc, fault) else {
@@ -202,6 +226,7 @@ fn answer_script<K: Sink, F: Scorer, G: Scorer>(
 ) -> Status
     requires reads { ReadsText text.now (Ok script.now) }
     requires valid { IsValid script.now }
+    requires plain { (workers : ℕ) → task ≢ Threads workers }
     requires none { store_out.old ≡ None }
     ensures { AnswerEnds (output K.held K.faults K.put_gives sink.old sink.new) task text.now store_out.new result }
 {
@@ -214,14 +239,15 @@ fn answer_script<K: Sink, F: Scorer, G: Scorer>(
             }
         }
         Task::Print => tell(sink, print(alloc, script)),
+        Task::Threads(_) => unreachable!(),
     }
 }
 
 /// Writes the line that tells where a script calls what can't be run.
-fn tell_unbuilt<K: Sink>(alloc: Global, text: &[u8], sink: &mut K) -> Status
+pub fn tell_unbuilt<K: Sink>(alloc: Global, text: &[u8], sink: &mut K) -> Status
     requires { length text.now ≤ 1048576 }
-    ensures { (script : Script) → ReadsText text.now (Ok script) → can_run script ≡ false
-        → AnswerEnds (output K.held K.faults K.put_gives sink.old sink.new) Sim text.now None result }
+    ensures { (asked : Task) (script : Script) → runs asked ≡ true → ReadsText text.now (Ok script) → can_run script ≡ false
+        → AnswerEnds (output K.held K.faults K.put_gives sink.old sink.new) asked text.now None result }
 {
     match unbuilt_line(alloc, text) {
         Ok(line) => {
@@ -255,7 +281,7 @@ fn simulate<K: Sink, F: Scorer, G: Scorer>(
 }
 
 /// Writes the report of a run. The store stays where the whole report was written.
-fn tell_run<K: Sink, F: Scorer, G: Scorer>(
+pub fn tell_run<K: Sink, F: Scorer, G: Scorer>(
     sink: &mut K,
     reported: &Reported,
     store_out: &mut Option<Store<F, G>>,
@@ -290,7 +316,7 @@ fn run_script<F: Scorer, G: Scorer>(
 }
 
 /// Hands a store out.
-fn hand_out<F: Scorer, G: Scorer>(store_out: &mut Option<Store<F, G>>, store: Store<F, G>)
+pub fn hand_out<F: Scorer, G: Scorer>(store_out: &mut Option<Store<F, G>>, store: Store<F, G>)
     ensures { store_out.new ≡ Some store }
 {
     drop(store_out.replace(store));

@@ -1,4 +1,4 @@
-use Rattle.std.proofs.Common.{sym, subst, ◌∙◌}
+use Rattle.std.proofs.Common.{refl, sym, subst, ◌∙◌}
 use Rattle.posix_defs.specs.Canonical.{canonical}
 use Rattle.kres_cli.specs.declared.commands.Task.TheVariants.{Print, Sim}
 use Rattle.kres_cli.specs.Tool.{AnswerEnds, Output, output}
@@ -19,7 +19,7 @@ returns-else-can_run g c =
     let o : Output = output g.K.Sink.held g.K.Sink.faults g.K.Sink.put_gives c.args.sink.now c.tell_unbuilt.new.sink in
     subst (λ task. AnswerEnds o task c.args.text.now c.args.store_out.now c.tell_unbuilt.result) (sym c.in-Sim.is)
     (subst (λ store. AnswerEnds o Sim c.args.text.now store c.tell_unbuilt.result) (sym c.requires.none)
-    (c.tell_unbuilt.ensures c.args.script.now c.requires.reads (sym c.can_run.ensures ∙ c.if-can_run.false)))
+    (c.tell_unbuilt.ensures Sim c.args.script.now refl c.requires.reads (sym c.can_run.ensures ∙ c.if-can_run.false)))
 
 pub returns-in-Print : goal.returns-in-Print
 returns-in-Print g c =

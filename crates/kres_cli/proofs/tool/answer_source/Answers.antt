@@ -17,4 +17,4 @@ returns-in-Ok-Bad g c =
     let i : Input = input g.S.Source.left g.S.Source.faults c.args.source.now c.read_script.new.source in
     let o : Output = output g.K.Sink.held g.K.Sink.faults g.K.Sink.put_gives c.args.sink.now c.tell_fault.new.sink in
     fault_ends i o c.args.task c.in-Ok-Bad.fault c.args.store_out.now c.tell_fault.result
-    (subst (λ it. IsReadAs it i.left i.left' i.takes i.takes') c.in-Ok-Bad.field-0-is c.in-Ok-Bad.ensures) c.requires c.tell_fault.ensures
+    (subst (λ it. IsReadAs it i.left i.left' i.takes i.takes') c.in-Ok-Bad.field-0-is c.in-Ok-Bad.ensures) c.requires.none c.tell_fault.ensures

@@ -1,7 +1,8 @@
-use Rattle.std.proofs.Common.{sym, subst}
+use Rattle.std.proofs.Common.{ap, sym, subst, ◌∙◌}
 use Rattle.posix_defs.specs.Canonical.{canonical}
 use Rattle.posix_defs.specs.Generated.{generated}
 use Rattle.posix_defs.specs.PriceText.{table_text}
+use Rattle.kres_cli.specs.declared.commands.Command.TheVariants.{OnScript}
 use Rattle.kres_cli.specs.Tool.{CommandEnds, Input, Output, input, output}
 use Rattle.kres_cli.proofs.tool.obey.Goals as goal
 
@@ -20,3 +21,6 @@ returns-in-Gen-clause-ends g c =
 
 pub returns-in-OnScript-clause-untouched : goal.returns-in-OnScript-clause-untouched
 returns-in-OnScript-clause-untouched g c = λ other. absurd (other c.in-OnScript.task c.in-OnScript.is)
+
+pub answer_source-requires-clause-plain : goal.answer_source-requires-clause-plain
+answer_source-requires-clause-plain g c = λ workers is. c.requires.plain workers (c.in-OnScript.is ∙ ap OnScript is)

@@ -1,11 +1,17 @@
 use Rattle.std.proofs.Common.{refl, subst}
-use Rattle.kres_cli.specs.Tool.{CommandEnds, input, output}
+use Rattle.kres_cli.specs.declared.commands.Command.TheVariants.{OnScript}
+use Rattle.kres_cli.specs.declared.commands.Task.TheVariants.{Sim}
+use Rattle.kres_cli.specs.Tool.{CommandEnds, TaskEnds, input, output}
 use Rattle.kres_cli.specs.Words.{Asks}
-use Rattle.kres_cli.proofs.Outcomes.{asks_once}
+use Rattle.kres_cli.proofs.Headlines.{sim_keeps}
+use Rattle.kres_cli.proofs.Asking.{asks_once}
 use Rattle.kres_cli.proofs.tool.run_plain.Goals as goal
 
-pub returns-in-Some : goal.returns-in-Some
-returns-in-Some g c = record {
+pub obey-requires-clause-plain : goal.obey-requires-clause-plain
+obey-requires-clause-plain g c = λ workers is. c.requires.plain workers (subst (Asks c.args.words.now) is c.in-Some.ensures)
+
+pub returns-in-Some-clause-obeys : goal.returns-in-Some-clause-obeys
+returns-in-Some-clause-obeys g c = record {
   commands = λ command asks.
       subst
       (λ asked. CommandEnds (input g.S.Source.left g.S.Source.faults c.args.source.now c.obey.new.source)
@@ -15,9 +21,21 @@ returns-in-Some g c = record {
   untouched = λ none. c.obey.ensures.untouched (λ task is. none task (subst (Asks c.args.words.now) is c.in-Some.ensures));
 }
 
-pub returns-in-None : goal.returns-in-None
-returns-in-None g c = record {
+pub returns-in-Some-clause-headline : goal.returns-in-Some-clause-headline
+returns-in-Some-clause-headline g c = λ asks.
+    sim_keeps (input g.S.Source.left g.S.Source.faults c.args.source.now c.obey.new.source)
+    (output g.K.Sink.held g.K.Sink.faults g.K.Sink.put_gives c.args.sink.now c.obey.new.sink) c.obey.new.store_out c.obey.result
+    (subst
+    (λ asked. CommandEnds (input g.S.Source.left g.S.Source.faults c.args.source.now c.obey.new.source)
+    (output g.K.Sink.held g.K.Sink.faults g.K.Sink.put_gives c.args.sink.now c.obey.new.sink) c.obey.new.store_out asked c.obey.result)
+    (asks_once c.args.words.now c.in-Some.command (OnScript Sim) c.in-Some.ensures asks) c.obey.ensures.ends)
+
+pub returns-in-None-clause-obeys : goal.returns-in-None-clause-obeys
+returns-in-None-clause-obeys g c = record {
   commands = λ command asks. absurd (c.in-None.ensures command asks);
   others = λ _. (c.tell_usage.ensures, c.forget.ensures);
   untouched = λ _. refl;
 }
+
+pub returns-in-None-clause-headline : goal.returns-in-None-clause-headline
+returns-in-None-clause-headline g c = λ asks. absurd (c.in-None.ensures (OnScript Sim) asks)
