@@ -1,0 +1,7 @@
+//! A turn of each call on names of the tree of files leads the objects of a store to what the call's definition says: `stat`.
+#![tactic(auto)]
+
+mod directories;
+mod telling;
+
+pub use telling::stat;
