@@ -1,8 +1,9 @@
 -- Who holds a node, from one call to the next.
-use Rattle.std.proofs.Common.{◌≡◌, ℕ, ◌+◌, ◌<◌, ◌≤◌, Bool, true, false, cond, if◌then◌else◌, List, [], ◌∷◌, ◌++◌, length, Option, Some, None, Result, Ok, Err, nat_eq, refl, sym, ap, ◌∙◌, subst, arith}
+use Rattle.std.proofs.Common.{◌≡◌, ℕ, ◌+◌, ◌-◌, ◌<◌, ◌≤◌, Bool, true, false, cond, if◌then◌else◌, List, [], ◌∷◌, ◌++◌, length, Option, Some, None, Result, Ok, Err, nat_eq, refl, sym, ap, ◌∙◌, subst, arith}
 use Rattle.std.proofs.lemmas.Bool.{eq-eqb}
 use Rattle.kabi_values.specs.declared.errnos.Errno.{Errno}
 use Rattle.kabi_values.specs.declared.inodes.Inode.{Inode}
+use Rattle.kabi_values.specs.declared.replies.NodeKind.{NodeKind}
 use Rattle.kabi_values.specs.declared.replies.NodeKind.TheVariants as kinds
 use Rattle.kheap_slabs.specs.Heap.{Heap, empty_heap}
 use Rattle.posix_defs.specs.PathCalls.{kind_in, kind_of_content}
@@ -10,6 +11,7 @@ use Rattle.posix_defs.specs.SoundDisk.{HasNode}
 use Rattle.posix_defs.specs.Tree.{Content, File, Directory, SocketName, Node, Tree, root, IsInodeAt, IsInodeIn, node_at, is_directory, is_directory_in, is_directory_content}
 use Rattle.memfs_node.proofs.Looking.{shown}
 use Rattle.memfs_ops.specs.Changing.{ChangedTo}
+use Rattle.memfs_ops.specs.Closing.{one_less}
 use Rattle.memfs_ops.specs.FileTree.{TreeView, Stands, HasNoFiles, one_more, root_alone}
 use Rattle.memfs_ops.specs.Fetching.{IsFile}
 use Rattle.memfs_ops.specs.Opening.{OpenedAs}
@@ -63,6 +65,17 @@ more_held held node number = one_counted (nat_eq node number) (root_alone number
 -- a node that one more holds is put down
 pub stands_noted : (heap : Heap) (fs : TreeView) (tree : Tree) (held next : List ℕ) (node : ℕ) → next ≡ held ++ node ∷ [] → Stands heap fs tree (one_more (holders held) node) → StandsHeld heap fs next
 stands_noted heap fs tree held next node is stands = subst (λ (l : List ℕ). StandsHeld heap fs l) (sym is) (tree, alike heap fs tree (one_more (holders held) node) (holders (held ++ node ∷ [])) (more_held held node) stands)
+
+one_uncounted : (b : Bool) (alone there more : ℕ) → more ≡ there + cond b 1 0 → cond b (alone + more - 1) (alone + more) ≡ alone + there
+one_uncounted true alone there more is = omega (arith, is)
+one_uncounted false alone there more is = omega (arith, is)
+
+-- who lets a node go is taken from the list
+pub less_held : (rest : List ℕ) (node number : ℕ) → one_less (holders (rest ++ node ∷ [])) node number ≡ holders rest number
+less_held rest node number = one_uncounted (nat_eq node number) (root_alone number) (times number rest) (times number (rest ++ node ∷ [])) (times_last rest node number)
+
+pub stands_closed : (heap : Heap) (fs : TreeView) (tree : Tree) (rest : List ℕ) (node : ℕ) → Stands heap fs tree (one_less (holders (rest ++ node ∷ [])) node) → StandsHeld heap fs rest
+stands_closed heap fs tree rest node stands = (tree, alike heap fs tree (one_less (holders (rest ++ node ∷ [])) node) (holders rest) (less_held rest node) stands)
 
 same_counts : (node : ℕ) → nat_eq node node ≡ true
 same_counts node = eq-eqb node node refl

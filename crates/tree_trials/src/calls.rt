@@ -5,9 +5,10 @@ ghost use Rattle.kabi_calls.specs.Arguments.{path_fault};
 ghost use Rattle.posix_defs.specs.PathCalls.{stat_info};
 ghost use Rattle.posix_defs.specs.Tree.{Tree};
 ghost use Rattle.memfs_ops.specs.FileTree.{Stands};
+ghost use Rattle.memfs_ops.specs.Removing.{HoldsNoSocket, is_held as has_holder};
 ghost use Rattle.tree_trials.specs.Trials.{StandsHeld, HasFile, HasDirectory, holders};
 
-use crate::world::{World, expect_few, note, purse};
+use crate::world::{World, closing_purse, double_purse, expect_few, note, purse};
 use kabi_types::{Call, Errno, NodeKind, Path, StatInfo};
 use memfs_ops::Opening;
 use std::process::Abort;
@@ -277,4 +278,104 @@ pub fn resize(rt: &impl Abort, world: &mut World, node: u32, size: u64) -> Answe
             .files
             .size_node(&mut world.heap, &mut paid, node, size),
     )
+}
+
+fn freed_of(answer: Result<Option<u32>, Errno>) -> Answer {
+    match answer {
+        Ok(Some(number)) => Answer::Number(number),
+        Ok(None) => Answer::Done,
+        Err(errno) => Answer::Fault(errno),
+    }
+}
+
+// No node that is held is the name of a socket.
+fn expect_no_socket(rt: &impl Abort, world: &mut World)
+    requires { StandsHeld world.old.heap world.old.files world.old.held.items }
+    ensures stands { (tree : Tree) × Stands world.new.heap world.new.files tree (holders world.new.held.items)
+        × HoldsNoSocket tree (holders world.new.held.items) }
+    ensures held { world.new.held.items ≡ world.old.held.items }
+{
+    for k in 0..world.held.len() {
+        let node = world.held[k];
+        let info = fstat(world, node);
+        assert!(rt; info.kind != NodeKind::Sock);
+    }
+}
+
+// Whether someone holds a node.
+fn is_held(held: &[u32], node: u32) -> bool
+    ensures { result ≡ has_holder (holders held.now) node }
+{
+    node == 1 || held.contains(&node)
+}
+
+pub fn unlink(rt: &impl Abort, world: &mut World, path: &[u8]) -> Answer
+    requires { StandsHeld world.old.heap world.old.files world.old.held.items }
+    ensures stands { StandsHeld world.new.heap world.new.files world.new.held.items }
+    ensures held { world.new.held.items ≡ world.old.held.items }
+{
+    assert!(rt; passes(path));
+    expect_no_socket(rt, world);
+    let mut paid = purse(rt, &world.heap);
+    freed_of(world.files.remove_name(&mut world.heap, &mut paid, 1, path))
+}
+
+pub fn rmdir(rt: &impl Abort, world: &mut World, path: &[u8]) -> Answer
+    requires { StandsHeld world.old.heap world.old.files world.old.held.items }
+    ensures stands { StandsHeld world.new.heap world.new.files world.new.held.items }
+    ensures held { world.new.held.items ≡ world.old.held.items }
+{
+    assert!(rt; passes(path));
+    let mut paid = purse(rt, &world.heap);
+    let held = world.held.as_slice();
+    let busy = |node: u32| is_held(held, node);
+    done_of(
+        world
+            .files
+            .remove_dir(&mut world.heap, &mut paid, 1, path, &busy),
+    )
+}
+
+pub fn link(rt: &impl Abort, world: &mut World, old: &[u8], new: &[u8]) -> Answer
+    requires { StandsHeld world.old.heap world.old.files world.old.held.items }
+    ensures stands { StandsHeld world.new.heap world.new.files world.new.held.items }
+    ensures held { world.new.held.items ≡ world.old.held.items }
+{
+    assert!(rt; passes(old));
+    assert!(rt; passes(new));
+    let mut paid = double_purse(rt, &world.heap);
+    done_of(
+        world
+            .files
+            .link_name(&mut world.heap, &mut paid, 1, old, new),
+    )
+}
+
+pub fn rename(rt: &impl Abort, world: &mut World, old: &[u8], new: &[u8]) -> Answer
+    requires { StandsHeld world.old.heap world.old.files world.old.held.items }
+    ensures stands { StandsHeld world.new.heap world.new.files world.new.held.items }
+    ensures held { world.new.held.items ≡ world.old.held.items }
+{
+    assert!(rt; passes(old));
+    assert!(rt; passes(new));
+    expect_no_socket(rt, world);
+    let mut paid = double_purse(rt, &world.heap);
+    let held = world.held.as_slice();
+    let busy = |node: u32| is_held(held, node);
+    freed_of(
+        world
+            .files
+            .rename_name(&mut world.heap, &mut paid, 1, old, new, &busy),
+    )
+}
+
+/// Who held a node last lets it go.
+pub fn close_last(rt: &impl Abort, world: &mut World)
+    requires { StandsHeld world.old.heap world.old.files world.old.held.items }
+    ensures stands { StandsHeld world.new.heap world.new.files world.new.held.items }
+{
+    let mut paid = closing_purse(rt, &world.heap);
+    if let Some(node) = world.held.pop() {
+        world.files.close_node(&mut world.heap, &mut paid, node);
+    }
 }

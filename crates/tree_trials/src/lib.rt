@@ -10,6 +10,8 @@ mod held;
 #[cfg(test)]
 mod mixed;
 #[cfg(test)]
+mod named;
+#[cfg(test)]
 mod plain;
 #[cfg(test)]
 mod world;
