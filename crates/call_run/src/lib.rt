@@ -5,13 +5,11 @@
 #![tactic(auto)]
 
 mod calls;
-mod crossing;
 pub mod laws;
 mod store;
 mod turns;
 mod victims;
 
 pub use calls::{run, would_block};
-pub use crossing::a_store_crosses_threads;
 pub use store::Store;
 pub use store_objects::{Caller, Objects, Target, go_on, purse_for};
