@@ -1,37 +1,22 @@
 -- The worlds that a store stands for.
-use Rattle.std.proofs.Common.{◌≡◌, ℕ, ◌+◌, ◌≤◌, ◌==◌, not, true, false, [], ◌∷◌, length, refl, ap, sym, ◌∙◌, subst, arith}
-use Rattle.std.specs.List.{list_any}
+use Rattle.std.proofs.Common.{◌≡◌, ℕ, ◌+◌, ◌≤◌, true, false, length, refl, ap, sym, subst, arith}
 use Rattle.calls_built.specs.Built.{is_built}
 use Rattle.kabi_calls.specs.Call.{kind_of}
 use Rattle.kabi_calls.specs.declared.calls.Call.{Call}
-use Rattle.kabi_types.specs.declared.entries.Cached.{Cached}
-use Rattle.kabi_types.specs.declared.entries.Cached.TheVariants.{Name, Block, Vnode}
 use Rattle.kabi_types.specs.declared.scripts.Script.{Script}
 use Rattle.kheap_slabs.specs.Heap.{IsWellFormed, live_bytes}
 use Rattle.posix_defs.specs.Machine.{machine}
 use Rattle.posix_defs.specs.Needs.{bound}
-use Rattle.posix_defs.specs.Plain.{root}
 use Rattle.posix_defs.specs.Process.{is_alive}
 use Rattle.posix_defs.specs.Turn.{TurnsTo, TurnsWhere}
-use Rattle.posix_defs.specs.World.{MayKeep, World, boot_kept, can_evict, live_of}
+use Rattle.posix_defs.specs.World.{World, live_of}
 use Rattle.posix_defs.specs.declared.turner.Turned.{Turned}
 use Rattle.posix_defs.specs.declared.turner.Turned.TheVariants as turned
 use Rattle.store_objects.specs.declared.objects.Objects.{Objects}
 use Rattle.store_objects.specs.Standing.{StandsFor, WorldAfter}
 use Rattle.call_run.proofs.LeavingNothing.{leaves_nothing}
 use Rattle.store_objects.proofs.LiveIs.{live_is}
-use Rattle.store_objects.proofs.Pinned.{may_keep_root, pins_root}
-
--- nothing is cached but the root's node, which is pinned
-pub evicts_nothing : (script : Script) (objects : Objects) (world : World) (what : Cached) → StandsFor script objects world → can_evict world.plain world.kept what ≡ false
-evicts_nothing script objects world what stands = ap (λ lists. can_evict world.plain lists what) stands.caches ∙ go what
-  where
-    go : (what : Cached) → can_evict world.plain boot_kept what ≡ false
-    go Name = refl
-    go Block = refl
-    go Vnode =
-        ap (λ pins. list_any (λ node. not (list_any (λ pinned. pinned == node) pins)) (root ∷ []))
-        (pins_root script objects world stands)
+use Rattle.store_objects.proofs.KeptNow.{may_keep_in}
 
 -- A turn of a live process leads to the world to which its answer leads.
 pub turns_on : (script : Script) (old new : Objects) (world : World) (pid : ℕ) (which : Call) (told : Turned)
@@ -47,7 +32,7 @@ turns_on script old new world pid which told alive built before well few led =
       subst (λ b. TurnsWhere b script world pid which told after) (sym alive) (record {
         answer = led.tells;
         account = led.account;
-        may_keep = subst (MayKeep after.plain) (sym led.stands.caches) (may_keep_root script new after led.stands);
+        may_keep = may_keep_in script new after led.stands;
         live = few_still (live_bytes old.heap) (live_bytes new.heap) (live_of world) (live_of after) (bound which) before behind few;
         names = no_more _ (ap (λ lists. length lists.names) led.kept);
         blocks = no_more _ (ap (λ lists. length lists.blocks) led.kept);

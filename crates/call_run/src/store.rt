@@ -18,7 +18,7 @@ use posix_defs::{Turned, Turner};
 use queue_calls::{Buffer, CAPACITY};
 use std::alloc::Global;
 use std::marker::Model;
-use store_objects::{Objects, booted};
+use store_objects::{Objects, booted, evictable};
 use victim_core::{Score, Scorer};
 
 /// A store of the processes of a script, in a heap whose room is reserved at boot. It is told how processes are scored where
@@ -123,12 +123,12 @@ impl<F: Scorer, G: Scorer> Turner for Store<F, G> {
         !would_block(&self.objects, pid, wait)
     }
 
-    fn evictable(&self, _what: Cached) -> bool {
-        false
+    fn evictable(&self, what: Cached) -> bool {
+        evictable(&self.objects, what)
     }
 
-    fn evict(&mut self, _what: Cached) {
-        turns::evict(&mut self.objects);
+    fn evict(&mut self, what: Cached) {
+        turns::evict(&mut self.objects, what);
     }
 
     fn victim(&self) -> Option<u32> {
@@ -153,6 +153,6 @@ impl<F: Scorer, G: Scorer> Turner for Store<F, G> {
     }
 
     fn reads(&self) -> u64 {
-        0
+        self.objects.tree.reads()
     }
 }

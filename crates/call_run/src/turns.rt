@@ -8,10 +8,10 @@ ghost use Rattle.kheap_shelves.specs.declared.objects.Proc.{Proc};
 ghost use Rattle.posix_defs.specs.Needs.{bound, need_of, slack};
 ghost use Rattle.posix_defs.specs.Plain.{call_of};
 ghost use Rattle.posix_defs.specs.Process.{is_alive};
-ghost use Rattle.posix_defs.specs.Relief.{Kills, refused_in};
+ghost use Rattle.posix_defs.specs.Relief.{Evicts, Kills, refused_in};
 ghost use Rattle.posix_defs.specs.Sizes.{reserve};
 ghost use Rattle.posix_defs.specs.Turn.{TurnsTo};
-ghost use Rattle.posix_defs.specs.World.{World, live_of};
+ghost use Rattle.posix_defs.specs.World.{World, can_evict, live_of};
 ghost use Rattle.proc_table.specs.Procs.{proc_of};
 ghost use Rattle.prog_ctl.specs.Waits.{wait_of};
 ghost use Rattle.store_objects.specs.Objects.{AreKept, procs_of};
@@ -19,7 +19,7 @@ ghost use Rattle.store_objects.specs.Standing.{StandsFor};
 ghost use Rattle.call_run.specs.Families.{HasDone};
 
 use crate::calls;
-use kabi_types::{Call, Errno, Need, Reply, Script};
+use kabi_types::{Cached, Call, Errno, Need, Reply, Script};
 use posix_defs::Turned;
 use prog_ctl::Awaited;
 use queue_calls::Buffer;
@@ -123,14 +123,19 @@ pub fn kill(objects: &mut Objects, pid: u32)
     objects.heap_is_well_formed();
 }
 
-/// Drops nothing: of all that a cache may keep the heap has the root's node alone, which is pinned.
-pub fn evict(objects: &mut Objects)
+/// Of what a cache keeps and isn't pinned the object that was used longest ago goes; where there is none nothing changes.
+pub fn evict(objects: &mut Objects, what: Cached)
+    requires { (script : Script) × (world : World) × StandsFor script objects.old world }
     ensures kept { (script : Script) → AreKept script objects.old → AreKept script objects.new }
-    ensures same { (script : Script) (world : World) → StandsFor script objects.old world → StandsFor script objects.new world }
+    ensures evicted { (script : Script) (world : World) → StandsFor script objects.old world → can_evict world.plain world.kept what ≡ true
+        → (after : World) × StandsFor script objects.new after × Evicts world what after }
+    ensures same { (script : Script) (world : World) → StandsFor script objects.old world → can_evict world.plain world.kept what ≡ false
+        → StandsFor script objects.new world }
     ensures marked { objects.new.heap.marks ≡ (objects.old.heap.marks + 1) % 2 ^ 64 }
     ensures since { (script : Script) (world : World) → StandsFor script objects.old world → live_of world ≤ objects.new.heap.high }
     ensures high { (script : Script) (world : World) → StandsFor script objects.old world → objects.new.heap.high ≤ live_of world }
 {
     objects.heap_is_well_formed();
     objects.heap.mark();
+    store_objects::evict(objects, what);
 }

@@ -31,7 +31,10 @@ use Rattle.store_objects.specs.Standing.{AreProcesses, StandsFor, remembered_in}
 use Rattle.store_objects.proofs.Namings.{names_in, names_nodes}
 use Rattle.store_objects.proofs.Opening.{by_pids, by_procs, files_moved}
 use Rattle.store_objects.proofs.GoingOn.{rising_in, some_same}
-use Rattle.store_objects.proofs.Keeping.{kept_on}
+use Rattle.store_objects.proofs.Keeping.{kept_on, moved_caches}
+use Rattle.store_objects.proofs.TreesOn.{tree_goes_on}
+use Rattle.store_objects.specs.Files.{HaveFiles}
+use Rattle.kern_laws.specs.AtHome.{AllAtHome}
 
 all_with_nodes : (P : Proc → Type 0) (pid : ℕ) (now : List (Option ℕ)) (procs : List Proc) → ((p : Proc) → P p → P (record p { nodes = now })) → AllByRecursion P procs
     → AllByRecursion P (map (with_nodes pid now) procs)
@@ -89,10 +92,10 @@ procs_back script old new mid pid key proc now holds turns same =
 
 -- the objects are kept
 pub kept_back : (script : Script) (old new : Objects) (mid : Heap) (pid key : ℕ) (proc : Proc) (now : List (Option ℕ)) → AreKept script old
-    → SpaceTurns old.heap mid new.heap old.procs pid key proc now → new.procs ≡ old.procs → length now ≡ 4 → AreKept script new
-kept_back script old new mid pid key proc now kept turns same four =
+    → SpaceTurns old.heap mid new.heap old.procs pid key proc now → new.procs ≡ old.procs → new.tree ≡ old.tree → length now ≡ 4 → AreKept script new
+kept_back script old new mid pid key proc now kept turns same tree four =
     let procs = procs_back script old new mid pid key proc now kept.holds turns same in
-    kept_on script old new kept
+    kept_on script old new kept tree
     (subst (TableMoves old.heap old.procs new.heap) (sym same) (back-moves old.heap mid new.heap old.procs pid key proc now kept.holds turns))
     (subst (AllByRecursion (λ p. length p.nodes ≡ 4)) (sym procs) (all_with_nodes (λ p. length p.nodes ≡ 4) pid now (procs_of old) (λ p long. four) kept.groups))
     (subst (AreAtCalls script) (sym procs)
@@ -119,12 +122,12 @@ memory_here script objects plain pid proc are found =
 
 -- The objects stand for the world with another memory.
 pub stand_back : (script : Script) (old new : Objects) (mid : Heap) (pid key : ℕ) (proc : Proc) (now : List (Option ℕ)) (world : World) (after : Frames) (memory : Memory)
-    → (stands : StandsFor script old world) → SpaceTurns old.heap mid new.heap old.procs pid key proc now → new.procs ≡ old.procs → length now ≡ 4
+    → (stands : StandsFor script old world) → SpaceTurns old.heap mid new.heap old.procs pid key proc now → new.procs ≡ old.procs → new.tree ≡ old.tree → length now ≡ 4
     → IsMemory mid now memory → length memory ≡ 256 → AccountMoves old.heap mid proc.nodes now stands.memory.number world.account.frames after pid
     → StandsFor script new (remembered_in world pid memory after)
-stand_back script old new mid pid key proc now world after memory stands turns same four is whole moved = record {
+stand_back script old new mid pid key proc now world after memory stands turns same tree four is whole moved = record {
   runs = stands.runs;
-  kept = kept_back script old new mid pid key proc now stands.kept turns same four;
+  kept = kept;
   processes = record {
     table = subst (λ k. IsTable new.heap k (remembered world.plain pid memory).table) (sym same)
         (back-table old.heap mid new.heap old.procs pid key proc now stands.kept.holds turns world.plain.table memory is whole stands.processes.table);
@@ -136,17 +139,28 @@ stand_back script old new mid pid key proc now world after memory stands turns s
   };
   memory = subst (λ k. HasAccount new.heap k after) (sym same)
       (back-account old.heap mid new.heap old.procs pid key proc now stands.kept.holds turns world.account.frames after stands.memory moved);
-  files = files_moved old new world.plain.files world.plain.files world.account (remembered_in world pid memory after).account
-      (subst (TableMoves old.heap old.procs new.heap) (sym same) (back-moves old.heap mid new.heap old.procs pid key proc now stands.kept.holds turns)) refl refl refl refl refl refl
-      (λ number have.
-      subst (λ (procs : TableView). HaveDescriptors number (processes new.heap procs) procs.last world.plain.files) (sym same)
-      (by_pids number (processes new.heap old.procs) old.procs.last world.plain.files
-      (subst (λ procs. TableOpen procs old.procs.last number world.plain.files) (sym (back-procs old.heap mid new.heap old.procs pid key proc now stands.kept.holds turns))
-      (have_nodes pid now (procs_of old) old.procs.last number world.plain.files
-      (by_procs number (procs_of old) old.procs.last world.plain.files (rising_in script old stands.kept) have)))))
-      stands.files;
-  caches = stands.caches;
-  reads = stands.reads;
+  files = files;
+  tree = tree_goes_on script old new world (remembered_in world pid memory after) stands kept files home
+      (record { tree = tree; caches = moved_caches old.heap new.heap old.procs new.procs moves }) refl refl refl;
   family = remembers_family world.plain.table pid memory stands.family;
-  home = λ q process e. let old = found_before world.plain.table pid q memory process e in old.2.directory ∙ stands.home q old.0 old.1;
+  home = home;
 }
+  where
+    kept : AreKept script new
+    kept = kept_back script old new mid pid key proc now stands.kept turns same tree four
+
+    moves : TableMoves old.heap old.procs new.heap new.procs
+    moves = subst (TableMoves old.heap old.procs new.heap) (sym same) (back-moves old.heap mid new.heap old.procs pid key proc now stands.kept.holds turns)
+
+    home : AllAtHome (remembered world.plain pid memory).table
+    home q process e = let old = found_before world.plain.table pid q memory process e in old.2.directory ∙ stands.home q old.0 old.1
+
+    files : HaveFiles new world.plain.files (remembered_in world pid memory after).account
+    files = files_moved old new world.plain.files world.plain.files world.account (remembered_in world pid memory after).account moves refl refl refl refl refl
+        (λ number have.
+        subst (λ (procs : TableView). HaveDescriptors number (processes new.heap procs) procs.last world.plain.files) (sym same)
+        (by_pids number (processes new.heap old.procs) old.procs.last world.plain.files
+        (subst (λ procs. TableOpen procs old.procs.last number world.plain.files) (sym (back-procs old.heap mid new.heap old.procs pid key proc now stands.kept.holds turns))
+        (have_nodes pid now (procs_of old) old.procs.last number world.plain.files
+        (by_procs number (procs_of old) old.procs.last world.plain.files (rising_in script old stands.kept) have)))))
+        stands.files

@@ -16,9 +16,9 @@ use Rattle.proc_table.proofs.OwnLemmas.{has_it, rising_procs}
 use Rattle.store_objects.specs.declared.objects.Objects.{Objects}
 use Rattle.store_objects.specs.Objects.{AreKept, IsAtCall, Runs, procs_of}
 use Rattle.store_objects.specs.Standing.{StandsFor}
-use Rattle.store_objects.proofs.ClassesOn.{caches_on}
 use Rattle.store_objects.proofs.EndingProcs.{all_found}
 use Rattle.store_objects.proofs.GoingOn.{mapped_from}
+use Rattle.store_objects.proofs.TreesOn.{tree_goes_on, tree_kept}
 use Rattle.open_moves.specs.Moves.{OpenMoves, opening}
 use Rattle.open_moves.specs.Worlds.{HasReached}
 
@@ -49,8 +49,8 @@ kept_opened script old new kept moves = record {
   calls = all_moved (λ proc. proc.status ≡ None → IsAtCall script proc) script old new moves kept.calls
       (λ proc places at up. let here : IsAtCall script proc = at up in record { stands = here.stands; rests = here.rests });
   nodes = moves.nodes;
-  caches = caches_on old.heap new.heap script.disk moves.caches.vnodes moves.caches.names moves.caches.blocks kept.caches;
-  size = moves.caches.size ∙ kept.size;
+  caches = tree_kept old new moves.tree kept.caches;
+  size = moves.tree.caches.size ∙ kept.size;
 }
 
 -- who ran runs, where he stood
@@ -85,8 +85,7 @@ stands_opened script old new world next stands moves reached = record {
   };
   memory = reached.memory;
   files = reached.files;
-  caches = reached.kept ∙ stands.caches;
-  reads = reached.reads ∙ stands.reads;
+  tree = tree_goes_on script old new world next stands (kept_opened script old new stands.kept moves) reached.files reached.home moves.tree reached.tree reached.kept reached.reads;
   family = reached.family;
   home = reached.home;
 }

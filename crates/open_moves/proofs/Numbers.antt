@@ -176,28 +176,31 @@ module _ (old new : Heap) (kept : TableView) (pid : ℕ) (holds : Holds old kept
       }
 
 -- Where a call changes what a process has open that runs, only what is open has changed of the store.
-pub moves_opened : (old new : Objects) (pid : ℕ) → Holds old.heap old.procs → new.procs ≡ old.procs → IsAlive (procs_of old) pid → ChangesNumbers old.heap new.heap old.procs pid
+pub moves_opened : (old new : Objects) (pid : ℕ) → Holds old.heap old.procs → new.procs ≡ old.procs → new.tree ≡ old.tree → IsAlive (procs_of old) pid → ChangesNumbers old.heap new.heap old.procs pid
     → AreListed new.heap old.procs → HasItsOwners new.heap [] → OpensNoNode new.heap.descs → OpenMoves old new
-moves_opened old new pid holds same alive changes listed owners nodes =
-    subst (λ (procs : TableView). OpenMoves old (record { heap = new.heap; procs = procs })) (sym same) (record {
+moves_opened old new pid holds same tree alive changes listed owners nodes =
+    subst (λ (procs : TableView). OpenMoves old (record { heap = new.heap; procs = procs; tree = new.tree })) (sym same) (record {
       procs = record { same = refl; each = each old.heap new.heap old.procs pid holds changes };
       holds = holds_opened old.heap new.heap old.procs pid holds changes alive listed owners.objects;
       all = listed.all;
       owners = owners;
       nodes = nodes;
-      caches = record {
-        vnodes = ap (λ (h : Heap). h.vnodes) changes.beside;
-        names = ap (λ (h : Heap). h.names) changes.beside;
-        blocks = ap (λ (h : Heap). h.blocks) changes.beside;
-        size = ap (λ (h : Heap). h.heap) changes.beside;
+      tree = record {
+        tree = tree;
+        caches = record {
+          vnodes = ap (λ (h : Heap). h.vnodes) changes.beside;
+          names = ap (λ (h : Heap). h.names) changes.beside;
+          blocks = ap (λ (h : Heap). h.blocks) changes.beside;
+          size = ap (λ (h : Heap). h.heap) changes.beside;
+        };
       };
     })
 
 -- and so where it leaves all processes
-pub moves_elsewhere : (old new : Objects) → new.procs ≡ old.procs → new.heap.procs ≡ old.heap.procs → Holds new.heap new.procs → AreListed new.heap new.procs → HasItsOwners new.heap []
+pub moves_elsewhere : (old new : Objects) → new.procs ≡ old.procs → new.tree ≡ old.tree → new.heap.procs ≡ old.heap.procs → Holds new.heap new.procs → AreListed new.heap new.procs → HasItsOwners new.heap []
     → OpensNoNode new.heap.descs → new.heap.vnodes ≡ old.heap.vnodes → new.heap.names ≡ old.heap.names → new.heap.blocks ≡ old.heap.blocks → new.heap.heap ≡ old.heap.heap
     → OpenMoves old new
-moves_elsewhere old new same procs holds listed owners nodes vnodes names blocks size = record {
+moves_elsewhere old new same tree procs holds listed owners nodes vnodes names blocks size = record {
   procs = record {
     same = same;
     each = λ pid. (
@@ -210,5 +213,5 @@ moves_elsewhere old new same procs holds listed owners nodes vnodes names blocks
   all = listed.all;
   owners = owners;
   nodes = nodes;
-  caches = record { vnodes = vnodes; names = names; blocks = blocks; size = size };
+  tree = record { tree = tree; caches = record { vnodes = vnodes; names = names; blocks = blocks; size = size } };
 }

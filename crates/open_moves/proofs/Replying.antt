@@ -13,7 +13,6 @@ use Rattle.posix_defs.specs.Files.State.{Files}
 use Rattle.posix_defs.specs.Memory.{Frames}
 use Rattle.posix_defs.specs.MemoryCalls.{frames_after, frames_of}
 use Rattle.posix_defs.specs.Plain.{Plain, with_files}
-use Rattle.posix_defs.specs.Tree.{Tree, new_tree}
 use Rattle.posix_defs.specs.Turn.{touched}
 use Rattle.posix_defs.specs.World.{World}
 use Rattle.posix_defs.specs.declared.turner.Turned.{Turned}
@@ -53,7 +52,6 @@ files_become old new plain now account have become = record {
   opened = become.opened;
   fronts = become.fronts;
   settled = settled_files plain.files now account plain;
-  tree = become.stay.tree ∙ have.tree ∙ ap (λ (t : Tree). new_tree t.blocks) (sym become.stay.tree);
   sockets = become.stay.sockets have.sockets;
 }
 
@@ -79,6 +77,7 @@ reached_opened script old new world pid files stands same changes become = recor
   memory = subst (λ (view : TableView). HasAccount new.heap view world.account.frames) (sym same)
       (account_opened old.heap new.heap old.procs pid stands.kept.holds changes world.account.frames stands.memory);
   files = files_become old new world.plain files world.account stands.files become;
+  tree = become.stay.tree;
   family = stands.family;
   home = stands.home;
   controls = refl;

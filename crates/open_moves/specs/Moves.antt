@@ -3,7 +3,6 @@ use Rattle.std.specs.Prelude.{ℕ, ◌≡◌, List, [], Option}
 use Rattle.std.specs.Option.{option_map}
 use Rattle.kheap_shelves.specs.declared.objects.Descriptor.{Descriptor}
 use Rattle.kheap_shelves.specs.declared.objects.Proc.{Proc}
-use Rattle.kheap_slabs.specs.Heap.{Heap}
 use Rattle.kheap_slabs.specs.Keys.{AreKeysOf}
 use Rattle.open_laws.specs.Owned.{HasItsOwners}
 use Rattle.proc_descs.specs.Having.{OpensNoNode}
@@ -11,6 +10,7 @@ use Rattle.proc_table.specs.Procs.{proc_of}
 use Rattle.proc_table.specs.Table.{Holds, keys_of}
 use Rattle.store_objects.specs.declared.objects.Objects.{Objects}
 use Rattle.store_objects.specs.Objects.{procs_of}
+use Rattle.store_objects.specs.Trees.{TreeStays}
 
 -- the same process with other descriptors
 abbrev pub opening : List (Option Descriptor) → Proc → Proc
@@ -21,19 +21,12 @@ pub record ProcsStay (old new : Objects) : Type 0 where
   pub same : new.procs ≡ old.procs
   pub each : (pid : ℕ) → (places : List (Option Descriptor)) × (proc_of (procs_of new) pid ≡ option_map (opening places) (proc_of (procs_of old) pid))
 
--- caches keep what they kept, in a heap of the same size
-pub record CachesStay (old new : Heap) : Type 0 where
-  pub vnodes : new.vnodes ≡ old.vnodes
-  pub names : new.names ≡ old.names
-  pub blocks : new.blocks ≡ old.blocks
-  pub size : new.heap ≡ old.heap
-
 -- Of a store only what is open has changed, and what a process has in memory: its processes stay but for their descriptors, all that
--- is in the heap has its owner, and caches keep what they kept.
+-- is in the heap has its owner, and the tree of files is the same.
 pub record OpenMoves (old new : Objects) : Type 0 where
   pub procs : ProcsStay old new
   pub holds : Holds new.heap new.procs
   pub all : AreKeysOf new.heap.procs (keys_of new.procs.listed)
   pub owners : HasItsOwners new.heap []
   pub nodes : OpensNoNode new.heap.descs
-  pub caches : CachesStay old.heap new.heap
+  pub tree : TreeStays old new

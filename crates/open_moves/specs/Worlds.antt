@@ -28,6 +28,7 @@ pub record HasReached (new : Objects) (world next : World) : Type 0 where
   pub table : IsTable new.heap new.procs next.plain.table
   pub memory : HasAccount new.heap new.procs next.account.frames
   pub files : HaveFiles new next.plain.files next.account
+  pub tree : next.plain.files.tree ≡ world.plain.files.tree
   pub family : IsFamily next.plain.table
   pub home : AllAtHome next.plain.table
   pub controls : next.plain.controls ≡ world.plain.controls

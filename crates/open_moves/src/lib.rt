@@ -37,7 +37,7 @@ pub fn a_store_goes_on_with_what_is_open()
 /// reply that leaves all memory, with which the machine's files have become those that the objects have, its caller goes on in that
 /// machine.
 pub fn a_call_changes_what_a_process_has_open()
-    ensures moves { (old : Objects) (new : Objects) (pid : ℕ) → Holds old.heap old.procs → new.procs ≡ old.procs → IsAlive (procs_of old) pid
+    ensures moves { (old : Objects) (new : Objects) (pid : ℕ) → Holds old.heap old.procs → new.procs ≡ old.procs → new.tree ≡ old.tree → IsAlive (procs_of old) pid
         → ChangesNumbers old.heap new.heap old.procs pid → AreListed new.heap old.procs → HasItsOwners new.heap [] → OpensNoNode new.heap.descs
         → OpenMoves old new }
     ensures performs { (script : Script) (old : Objects) (mid : Objects) (new : Objects) (pid : ℕ) (call : Call) (said : Reply) (told : Turned)

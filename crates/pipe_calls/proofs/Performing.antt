@@ -54,10 +54,10 @@ module _ (script : Script) (objects : Objects) (heap : Heap) (pid : ℕ) (contro
     (nodes : OpensNoNode objects.heap.descs → OpensNoNode heap.descs) where
   -- the objects mid
   abbrev pub mid : Objects
-  mid = record { heap = heap; procs = objects.procs }
+  mid = record { heap = heap; procs = objects.procs; tree = objects.tree }
 
   moves : OpenMoves objects mid
-  moves = moves_opened objects mid pid kept.holds refl (alive_who_runs objects pid control runs) changes listed owners (nodes kept.nodes)
+  moves = moves_opened objects mid pid kept.holds refl refl (alive_who_runs objects pid control runs) changes listed owners (nodes kept.nodes)
 
   pub kept_then : AreKept script mid
   kept_then = kept_opened script objects mid kept moves

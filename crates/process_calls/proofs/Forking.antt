@@ -51,7 +51,9 @@ use Rattle.store_objects.specs.Files.{HaveFiles}
 use Rattle.store_objects.specs.Objects.{AreAtCalls, AreKept, IsAtCall, MovesOn, Runs, procs_of}
 use Rattle.store_objects.specs.Standing.{AreProcesses, Performs, StandsFor, WorldAfter}
 use Rattle.store_objects.proofs.GoingOn.{descriptors_moved, kept_moved, led_to, mapped_from, moves_then, proc_made, procs_then, replaced_at, rising_in, some_same}
-use Rattle.store_objects.proofs.Keeping.{kept_with}
+use Rattle.store_objects.proofs.Keeping.{kept_with, moved_caches}
+use Rattle.store_objects.proofs.TreesOn.{caches_then, tree_goes_on}
+use Rattle.store_objects.specs.Trees.{TreeStays}
 use Rattle.store_objects.proofs.Namings.{names_by, names_forked, names_in, names_in_hand}
 use Rattle.store_objects.proofs.Opening.{by_pids, by_procs, files_moved, settled_on}
 use Rattle.store_objects.proofs.Leading.{led_on}
@@ -109,9 +111,9 @@ at_last controls last d (suc i) h =
     ∙ ap (λ found. unwrap_or found d) (get_behind controls last [])
 
 -- where neither has changed the objects are the same
-pub same_objects : (old : Objects) (heap : Heap) (procs : TableView) → heap ≡ old.heap → procs ≡ old.procs → record { heap = heap; procs = procs } ≡ old
+pub same_objects : (old : Objects) (heap : Heap) (procs : TableView) → heap ≡ old.heap → procs ≡ old.procs → record { heap = heap; procs = procs; tree = old.tree } ≡ old
 same_objects old heap procs same_heap same_procs =
-    ap (λ (h : Heap). record { heap = h; procs = procs }) same_heap ∙ ap (λ (t : TableView). record { heap = old.heap; procs = t }) same_procs
+    ap (λ (h : Heap). record { heap = h; procs = procs; tree = old.tree }) same_heap ∙ ap (λ (t : TableView). record { heap = old.heap; procs = t; tree = old.tree }) same_procs
 
 -- the child's pid is the one behind the last
 pub number_of : (there last child : ℕ) → Ok child ≡ forked_as there last → child ≡ last + 1
@@ -138,7 +140,7 @@ forked_world script world pid = record world { plain = with_child script world.p
 
 -- The table has made a child.
 module _ (script : Script) (old mid : Objects) (pid child : ℕ) (control : Control) (kept : AreKept script old) (runs : Runs old pid control)
-    (moves : TableMoves (sharing old.heap mid.heap) old.procs mid.heap mid.procs) (shared : HasShared old mid runs.proc)
+    (moves : TableMoves (sharing old.heap mid.heap) old.procs mid.heap mid.procs) (tree : mid.tree ≡ old.tree) (shared : HasShared old mid runs.proc)
     (forked : IsForked old.heap old.procs mid.heap mid.procs pid child) where
   same_parent : forked.parent ≡ runs.proc
   same_parent = some_same (proc_of (procs_of old) pid) forked.parent runs.proc forked.parent_is runs.found
@@ -149,7 +151,7 @@ module _ (script : Script) (old mid : Objects) (pid child : ℕ) (control : Cont
 
   pub kept_forked : AreKept script mid
   kept_forked =
-      kept_with script (sharing old.heap mid.heap) old.procs mid (hand_with runs.proc.descriptors []) (keeps_shared script old mid runs.proc kept shared) moves
+      kept_with script (sharing old.heap mid.heap) old.procs old.tree mid (hand_with runs.proc.descriptors []) (keeps_shared script old mid runs.proc kept shared) tree moves
       (subst (AllByRecursion (λ proc. length proc.nodes ≡ 4)) (sym forked.processes_are)
       (all_append (λ proc. length proc.nodes ≡ 4) (procs_of old) (child_proc forked.parent child forked.nodes ∷ []) kept.groups (forked.groups, tt)))
       (subst (AreAtCalls script) (sym forked.processes_are)
@@ -178,11 +180,11 @@ module _ (script : Script) (old mid : Objects) (pid child : ℕ) (control : Cont
 
 -- The child goes on at another control.
 module _ (script : Script) (old mid moved : Objects) (pid child : ℕ) (control next : Control) (kept : AreKept script old) (runs : Runs old pid control)
-    (moves : TableMoves (sharing old.heap mid.heap) old.procs mid.heap mid.procs) (shared : HasShared old mid runs.proc)
+    (moves : TableMoves (sharing old.heap mid.heap) old.procs mid.heap mid.procs) (tree : mid.tree ≡ old.tree) (shared : HasShared old mid runs.proc)
     (forked : IsForked old.heap old.procs mid.heap mid.procs pid child)
     (number : child ≡ old.procs.last + 1) (turned : MovesOn mid child next moved) where
   between : AreKept script mid
-  between = kept_forked script old mid pid child control kept runs moves shared forked
+  between = kept_forked script old mid pid child control kept runs moves tree shared forked
 
   abbrev now : Proc
   now = record turned.proc { control = next }
@@ -194,7 +196,7 @@ module _ (script : Script) (old mid moved : Objects) (pid child : ℕ) (control 
   own = proc_has_pid (procs_of mid) child turned.proc turned.found
 
   apart : pid ≢ child
-  apart = made_before script old mid pid child control kept runs moves shared forked number
+  apart = made_before script old mid pid child control kept runs moves tree shared forked number
 
   pub kept_child : Stands script next → Rests script next → AreKept script moved
   kept_child stands rests = kept_moved script mid moved child next between turned stands rests
@@ -261,8 +263,17 @@ module _ (script : Script) (old mid moved : Objects) (pid child : ℕ) (control 
               ∙ have.fronts.socks key sock (sym (ap (λ (h : Heap). object h.socks key) moves.kept) ∙ is);
         };
         settled = settled_on files (with_heir files pid) account next refl refl pipes sockets have.settled;
-        tree = have.tree;
         sockets = have.sockets;
+      }
+
+  -- the tree of files is the same
+  tree_stays : TreeStays old moved
+  tree_stays =
+      let first = moved_caches (sharing old.heap mid.heap) mid.heap old.procs mid.procs moves in
+      let then = moved_caches mid.heap moved.heap mid.procs moved.procs (moves_then script mid moved child next between turned) in
+      record {
+        tree = turned.tree ∙ tree;
+        caches = caches_then old.heap mid.heap moved.heap (record { vnodes = first.vnodes; names = first.names; blocks = first.blocks; size = first.size }) then;
       }
 
   -- the objects stand for the world with the child
@@ -275,6 +286,10 @@ module _ (script : Script) (old mid moved : Objects) (pid child : ℕ) (control 
   stands_forked world stands alive answers at kept_too table has leads =
       let plain = world.plain in
       let family = kept_by script old world (with_child script plain pid) pid call.Fork (Val (pos child)) stands alive answers in
+      let files = files_moved mid moved (with_heir plain.files pid) (with_heir plain.files pid) (forked_world script world pid).account (forked_world script world pid).account
+      (moves_then script mid moved child next between turned) refl refl refl refl refl
+      (descriptors_moved script mid moved child next (with_heir plain.files pid) between turned at.0 at.1)
+      (opens_forked plain.files world.account (forked_world script world pid).account refl refl stands.files) in
       record {
         runs = stands.runs;
         kept = kept_too;
@@ -287,12 +302,8 @@ module _ (script : Script) (old mid moved : Objects) (pid child : ℕ) (control 
         };
         memory = subst (λ k. HasAccount moved.heap k (after_fork world.account.frames pid)) (sym turned.same)
             (on-account mid.heap moved.heap mid.procs child turned.key turned.proc now between.holds turned.turns (after_fork world.account.frames pid) has);
-        files = files_moved mid moved (with_heir plain.files pid) (with_heir plain.files pid) (forked_world script world pid).account (forked_world script world pid).account
-            (moves_then script mid moved child next between turned) refl refl refl refl refl refl
-            (descriptors_moved script mid moved child next (with_heir plain.files pid) between turned at.0 at.1)
-            (opens_forked plain.files world.account (forked_world script world pid).account refl refl stands.files);
-        caches = stands.caches;
-        reads = stands.reads;
+        files = files;
+        tree = tree_goes_on script old moved world (forked_world script world pid) stands kept_too files (born_home script plain pid stands.home) tree_stays refl refl refl;
         family = family;
         home = born_home script plain pid stands.home;
       }

@@ -20,7 +20,7 @@ use Rattle.proc_table.specs.Moves.{sharing}
 use Rattle.proc_table.specs.Procs.{proc_of}
 use Rattle.store_objects.specs.declared.objects.Objects.{Objects}
 use Rattle.store_objects.specs.Objects.{AreKept, procs_of}
-use Rattle.store_objects.proofs.ClassesOn.{caches_on}
+use Rattle.store_objects.proofs.TreesOn.{caches_on}
 use Rattle.store_objects.proofs.Keeping.{KeepsHeap, listed_in}
 
 -- A heap has room to count all that a process has open once more.
@@ -77,12 +77,12 @@ shared_nodes descs (Some descriptor ∷ places) none = shared_nodes (share_one d
 
 -- what is kept of the heap in which all is shared, with what is in hand for the child
 pub keeps_shared : (script : Script) (old mid : Objects) (parent : Proc) → AreKept script old → HasShared old mid parent
-    → KeepsHeap script (sharing old.heap mid.heap) old.procs (hand_with parent.descriptors [])
+    → KeepsHeap script (sharing old.heap mid.heap) old.procs old.tree (hand_with parent.descriptors [])
 keeps_shared script old mid parent kept shared = record {
   listed = (let listed = listed_in script old kept in record { stored = listed.stored; rising = listed.rising; all = listed.all });
   owners = subst (λ (descs : List (Option Desc)). HasItsOwners (record old.heap { descs = descs }) (hand_with parent.descriptors [])) (sym shared.descs)
       (owners_all old.heap [] parent.descriptors shared.can kept.owners);
   nodes = subst OpensNoNode (sym shared.descs) (shared_nodes old.heap.descs parent.descriptors kept.nodes);
-  caches = caches_on old.heap (sharing old.heap mid.heap) script.disk refl refl refl kept.caches;
+  caches = caches_on old.heap (sharing old.heap mid.heap) old.tree old.tree refl (record { vnodes = refl; names = refl; blocks = refl; size = refl }) kept.caches;
   size = kept.size;
 }

@@ -42,7 +42,9 @@ use Rattle.store_objects.specs.declared.objects.Objects.{Objects}
 use Rattle.store_objects.specs.Objects.{AreAtCalls, AreKept, IsAtCall, Runs, procs_of}
 use Rattle.store_objects.specs.Standing.{AreProcesses, Performs, StandsFor, WorldAfter}
 use Rattle.store_objects.proofs.GoingOn.{rising_in, some_same}
-use Rattle.store_objects.proofs.Keeping.{kept_on}
+use Rattle.store_objects.proofs.Keeping.{kept_on, moved_caches}
+use Rattle.store_objects.proofs.TreesOn.{tree_goes_on}
+use Rattle.store_objects.specs.Files.{HaveFiles}
 use Rattle.store_objects.proofs.Leading.{led_blocked, led_on}
 use Rattle.store_objects.proofs.Namings.{names_in, names_waited}
 use Rattle.store_objects.proofs.Opening.{by_pids, by_procs, files_moved}
@@ -64,10 +66,10 @@ all_waited P (Took pid status) procs all = all_filter P (is_other pid) procs all
 all_waited P Nobody procs all = all
 all_waited P NoChild procs all = all
 
-pub kept_waited : (script : Script) (old mid : Objects) (parent : ℕ) (which : ℤ) (told : Reaped) → AreKept script old → TableMoves old.heap old.procs mid.heap mid.procs
+pub kept_waited : (script : Script) (old mid : Objects) (parent : ℕ) (which : ℤ) (told : Reaped) → AreKept script old → TableMoves old.heap old.procs mid.heap mid.procs → mid.tree ≡ old.tree
     → told ≡ reaped_of parent which (procs_of old) → procs_of mid ≡ after_wait told (procs_of old) → AreKept script mid
-kept_waited script old mid parent which told kept moves is procs =
-    kept_on script old mid kept moves
+kept_waited script old mid parent which told kept moves tree is procs =
+    kept_on script old mid kept tree moves
     (subst (AllByRecursion (λ proc. length proc.nodes ≡ 4)) (sym procs) (all_waited (λ proc. length proc.nodes ≡ 4) told (procs_of old) kept.groups))
     (subst (AreAtCalls script) (sym procs) (all_waited (λ proc. proc.status ≡ None → IsAtCall script proc) told (procs_of old) kept.calls))
     (λ key. ap (names_in key) procs ∙ names_waited key old.heap old.procs parent which told kept.holds is)
@@ -122,34 +124,37 @@ waits_leave frames pid which options _ = refl
 
 -- The table has answered a wait: who is told is gone from it.
 module _ (script : Script) (old mid : Objects) (pid : ℕ) (which options : ℤ) (told : Reaped) (moves : TableMoves old.heap old.procs mid.heap mid.procs)
-    (right : argument_fault (call.Waitpid which options) ≡ None) (is : told ≡ reaped_of pid which (procs_of old)) (procs : procs_of mid ≡ after_wait told (procs_of old))
+    (same_tree : mid.tree ≡ old.tree) (right : argument_fault (call.Waitpid which options) ≡ None) (is : told ≡ reaped_of pid which (procs_of old)) (procs : procs_of mid ≡ after_wait told (procs_of old))
     (last : mid.procs.last ≡ old.procs.last) (table : (table : Table) → IsTable old.heap old.procs table → IsTable mid.heap mid.procs (waited_in table told))
     (has : (frames : Frames) → HasAccount old.heap old.procs frames → HasAccount mid.heap mid.procs frames) where
   -- the objects stand for the world without who was told
   waited_stands : (world : World) → StandsFor script old world → is_alive world.plain.table pid ≡ true → StandsFor script mid (waited_world world told)
   waited_stands world stands alive = record {
     runs = stands.runs;
-    kept = kept_waited script old mid pid which told stands.kept moves is procs;
+    kept = kept_waited script old mid pid which told stands.kept moves same_tree is procs;
     processes = record {
       table = table world.plain.table stands.processes.table;
       last = last ∙ stands.processes.last;
       controls = λ q it found up. stands.processes.controls q it (was_found told (procs_of old) q it (ap (λ ps. proc_of ps q) (sym procs) ∙ found)) up;
     };
     memory = has world.account.frames stands.memory;
-    files = files_moved old mid world.plain.files world.plain.files world.account world.account moves refl refl refl refl refl refl
-        (λ number have.
-        by_pids number (procs_of mid) mid.procs.last world.plain.files
-        (subst (λ ps. TableOpen ps mid.procs.last number world.plain.files) (sym procs)
-        (subst (λ n. TableOpen (after_wait told (procs_of old)) n number world.plain.files) (sym last)
-        (have_waited old.heap old.procs pid which told number world.plain.files stands.kept.holds is
-        (by_procs number (procs_of old) old.procs.last world.plain.files (rising_in script old stands.kept) have)))))
-        stands.files;
-    caches = stands.caches;
-    reads = stands.reads;
+    files = files;
+    tree = tree_goes_on script old mid world (waited_world world told) stands (kept_waited script old mid pid which told stands.kept moves same_tree is procs) files (home told)
+        (record { tree = same_tree; caches = moved_caches old.heap mid.heap old.procs mid.procs moves }) refl refl refl;
     family = family told (waits_as script old world.plain pid which options told stands.processes is);
     home = home told;
   }
     where
+      files : HaveFiles mid world.plain.files world.account
+      files = files_moved old mid world.plain.files world.plain.files world.account world.account moves refl refl refl refl refl
+          (λ number have.
+          by_pids number (procs_of mid) mid.procs.last world.plain.files
+          (subst (λ ps. TableOpen ps mid.procs.last number world.plain.files) (sym procs)
+          (subst (λ n. TableOpen (after_wait told (procs_of old)) n number world.plain.files) (sym last)
+          (have_waited old.heap old.procs pid which told number world.plain.files stands.kept.holds is
+          (by_procs number (procs_of old) old.procs.last world.plain.files (rising_in script old stands.kept) have)))))
+          stands.files
+
       home : (told : Reaped) → AllAtHome (waited_in world.plain.table told)
       home Nobody = stands.home
       home NoChild = stands.home

@@ -1,5 +1,5 @@
 -- The objects of a store after a call that changed queues and its caller's memory.
-use Rattle.std.proofs.Common.{◌≡◌, ℕ, List, Option, length, unwrap_or, ap, sym, subst, ◌∙◌}
+use Rattle.std.proofs.Common.{◌≡◌, ℕ, List, Option, length, unwrap_or, ap, refl, sym, subst, ◌∙◌}
 use Rattle.std.specs.List.{AllByRecursion}
 use Rattle.std.specs.Prelude.{IsSome}
 use Rattle.kabi_types.specs.declared.scripts.Control.{Control}
@@ -10,7 +10,6 @@ use Rattle.posix_defs.specs.Account.{Account}
 use Rattle.posix_defs.specs.ByPid.{at_pid}
 use Rattle.posix_defs.specs.Control.{settled}
 use Rattle.posix_defs.specs.Plain.{Plain, at_start}
-use Rattle.posix_defs.specs.Tree.{Tree, new_tree}
 use Rattle.posix_defs.specs.World.{World}
 use Rattle.proc_descs.specs.Having.{OpensNoNode}
 use Rattle.proc_queues.specs.Found.{OpensPipes}
@@ -19,10 +18,11 @@ use Rattle.proc_queues.proofs.Finding.{alive_listed}
 use Rattle.proc_table.specs.Procs.{IsAlive, proc_of}
 use Rattle.proc_table.specs.Table.{key_of, procs_at}
 use Rattle.store_objects.specs.declared.objects.Objects.{Objects}
-use Rattle.store_objects.specs.Files.{AreSettled, OffSockets}
+use Rattle.store_objects.specs.Files.{AreSettled, HaveFiles, OffSockets}
 use Rattle.store_objects.specs.Objects.{AreAtCalls, AreKept, Runs, procs_of}
 use Rattle.store_objects.specs.Standing.{StandsFor}
-use Rattle.store_objects.proofs.ClassesOn.{caches_on}
+use Rattle.store_objects.proofs.TreesOn.{caches_on, tree_goes_on}
+use Rattle.store_objects.specs.Trees.{CachesStay}
 use Rattle.store_objects.proofs.Keeping.{listed_in}
 use Rattle.store_objects.proofs.OnPipes.{opens_no_socket}
 use Rattle.store_objects.proofs.TreeStays.{OffNodes, off_by_heap}
@@ -92,7 +92,10 @@ leaves_more old new beside = record {
 
 module _ (script : Script) (old : Objects) (new : Heap) (is : IsKept new old.procs) (rest : LeavesRest old.heap new) where
   abbrev pub mid : Objects
-  mid = record { heap = new; procs = old.procs }
+  mid = record { heap = new; procs = old.procs; tree = old.tree }
+
+  caches : CachesStay old.heap new
+  caches = record { vnodes = rest.vnodes; names = rest.names; blocks = rest.blocks; size = rest.size }
 
   -- the objects are kept
   pub kept_mid : AreKept script old → AreKept script mid
@@ -103,7 +106,7 @@ module _ (script : Script) (old : Objects) (new : Heap) (is : IsKept new old.pro
     groups = subst (λ (procs : List (Option Proc)). AllByRecursion (λ proc. length proc.nodes ≡ 4) (procs_at procs old.procs.listed)) (sym rest.procs) kept.groups;
     calls = subst (λ (procs : List (Option Proc)). AreAtCalls script (procs_at procs old.procs.listed)) (sym rest.procs) kept.calls;
     nodes = subst OpensNoNode (sym rest.descs) kept.nodes;
-    caches = caches_on old.heap new script.disk rest.vnodes rest.names rest.blocks kept.caches;
+    caches = caches_on old.heap new old.tree old.tree refl caches kept.caches;
     size = rest.size ∙ kept.size;
   }
 
@@ -128,16 +131,18 @@ module _ (script : Script) (old : Objects) (new : Heap) (is : IsKept new old.pro
           ∙ stands.processes.controls pid proc (sym (ap (λ (procs : List (Option Proc)). proc_of (procs_at procs old.procs.listed) pid) rest.procs) ∙ found) up;
     };
     memory = leads.frames;
-    files = record {
-      numbers = stands.files.numbers;
-      opened = leads.opened;
-      fronts = leads.fronts;
-      settled = settles;
-      tree = remains.tree ∙ stands.files.tree ∙ ap (λ (tree : Tree). new_tree tree.blocks) (sym remains.tree);
-      sockets = subst OffSockets (sym remains.descriptions) stands.files.sockets;
-    };
-    caches = stands.caches;
-    reads = stands.reads;
+    files = files;
+    tree = tree_goes_on script old mid world (record world { plain = next; account = account }) stands (kept_mid stands.kept) files (remains.home stands.home)
+        (record { tree = refl; caches = caches }) remains.tree refl refl;
     family = remains.family stands.family;
     home = remains.home stands.home;
   }
+    where
+      files : HaveFiles mid next.files account
+      files = record {
+        numbers = stands.files.numbers;
+        opened = leads.opened;
+        fronts = leads.fronts;
+        settled = settles;
+        sockets = subst OffSockets (sym remains.descriptions) stands.files.sockets;
+      }

@@ -1,5 +1,5 @@
 -- At boot the first process stands at the start of the program `init`, in a heap that has the root beside it.
-use Rattle.std.proofs.Common.{◌≡◌, ℕ, zero, suc, ◌+◌, ◌/◌, ◌<◌, ◌==◌, Bool, true, false, List, [], ◌∷◌, ◌++◌, map, length, replicate, Option, None, Some, cond, refl, sym, ap, ◌∙◌, subst, arith, inl, inr}
+use Rattle.std.proofs.Common.{◌≡◌, ℕ, zero, suc, ◌+◌, ◌*◌, ◌/◌, ◌<◌, ◌==◌, Bool, true, false, ◌||◌, List, [], ◌∷◌, ◌++◌, map, length, replicate, Option, None, Some, cond, refl, sym, ap, ◌∙◌, subst, arith, inl, inr}
 use Rattle.std.specs.Prelude.{codes, count_by, if◌then◌else◌, slice_get}
 use Rattle.std.specs.List.{AllByRecursion}
 use Rattle.std.specs.Str.{bytes_eq}
@@ -19,11 +19,11 @@ use Rattle.kheap_shelves.specs.declared.objects.Proc.{Proc}
 use Rattle.kheap_shelves.specs.declared.objects.QueueParts.{QueueParts}
 use Rattle.kheap_shelves.specs.declared.objects.Sock.{Sock}
 use Rattle.kheap_shelves.specs.declared.objects.Vnode.{Vnode}
-use Rattle.kheap_slabs.specs.Heap.{Heap, empty_heap}
+use Rattle.kheap_slabs.specs.Heap.{Heap, empty_heap, live_bytes}
 use Rattle.kheap_slabs.specs.Keys.{AreKeysOf}
 use Rattle.kheap_slabs.specs.Owners.{IsOwned, Owners, each_of, pipe_queues, sock_queues, spaces_of}
 use Rattle.kheap_slabs.specs.Queues.{OwnedQueue}
-use Rattle.kheap_shelves.proofs.ObjectLemmas.{count-none, count-put_new, object-none, object_of, put-within}
+use Rattle.kheap_shelves.proofs.ObjectLemmas.{count-none, count-put_new, object-none, object_of}
 use Rattle.kheap_laws.proofs.OwnerLemmas.{IsOwned-same, empty_heap-owned}
 use Rattle.kheap_laws.proofs.TableLemmas.{OwnsItsObjects-along}
 use Rattle.posix_defs.specs.Control.{settled}
@@ -39,7 +39,12 @@ use Rattle.posix_defs.specs.Account.{no_account}
 use Rattle.posix_defs.specs.Files.Bare.{IsBare}
 use Rattle.posix_defs.specs.Files.Descriptors.{none_open}
 use Rattle.posix_defs.specs.Files.State.{boot_files, descriptors_of}
-use Rattle.posix_defs.specs.World.{boot_world}
+use Rattle.posix_defs.specs.Tree.{Tree, new_tree, root as root_node}
+use Rattle.posix_defs.specs.World.{boot_kept as kept_at_boot, boot_world, is_in}
+use Rattle.kabi_values.specs.declared.inodes.Inode.{Inode}
+use Rattle.memfs_ops.specs.FileTree.{HasNoFiles, KeepsRoot, Stands as TreeStands, TreeView, root_alone}
+use Rattle.std.specs.Map.{keys_of as keys_in}
+use Rattle.std.proofs.lemmas.Map.Entries.{length-keys_of}
 use Rattle.kern_laws.specs.AtHome.{AllAtHome}
 use Rattle.kern_laws.proofs.Bareness.{boot_bare}
 use Rattle.kern_laws.proofs.Families.{reached_kept}
@@ -55,10 +60,13 @@ use Rattle.proc_table.proofs.LawLemmas.{on-account, on-moves, on-procs, on-table
 use Rattle.store_objects.specs.declared.objects.Objects.{Objects}
 use Rattle.store_objects.specs.Booting.{HasBooted}
 use Rattle.store_objects.specs.Files.{HaveFiles}
-use Rattle.store_objects.specs.Objects.{AreAtCalls, AreKept, CachesRootAlone, MovesOn, no_owners, procs_of, root_vnode}
+use Rattle.store_objects.specs.Objects.{AreAtCalls, AreKept, MovesOn, no_owners, procs_of}
+use Rattle.store_objects.specs.Trees.{CachesStay, HasTree, kept_by, name_in, pins_in}
 use Rattle.store_objects.specs.Standing.{StandsFor}
 use Rattle.store_objects.proofs.GoingOn.{some_same}
-use Rattle.store_objects.proofs.ClassesOn.{caches_on}
+use Rattle.store_objects.proofs.HeldNodes.{alone_pins, held_alone}
+use Rattle.store_objects.proofs.KeptNow.{held_kept}
+use Rattle.store_objects.proofs.TreesOn.{same_pins, stands_on}
 use Rattle.store_objects.proofs.Keeping.{all_on, listed_on, owners_on}
 use Rattle.store_objects.proofs.Namings.{names_in}
 use Rattle.store_objects.proofs.Opening.{none_by}
@@ -101,6 +109,10 @@ empty_owned heap =
     both : {xs ys : List QueueParts} → xs ≡ [] → ys ≡ [] → xs ++ ys ≡ []
     both {xs} {ys} one other = ap (λ zs. zs ++ ys) one ∙ other
 
+-- nothing of files is in an empty heap
+pub no_files : (heap : ℕ) (empty : Heap) → empty ≡ empty_heap heap → HasNoFiles empty
+no_files heap empty is = subst HasNoFiles (sym is) (record { names = refl; vnodes = refl; blocks = refl })
+
 -- A heap without anything open.
 pub record IsUnopened (heap : ℕ) (h : Heap) : Type 0 where
   pub descs : h.descs ≡ (empty_heap heap).descs
@@ -109,13 +121,11 @@ pub record IsUnopened (heap : ℕ) (h : Heap) : Type 0 where
   pub chunks : h.chunks ≡ (empty_heap heap).chunks
 
 -- The root is put in an empty heap.
-module _ (heap disk key : ℕ) (vnode : Vnode) (empty rooted : Heap) (is_empty : empty ≡ empty_heap heap) (none : object empty.vnodes key ≡ None)
-    (stored : object rooted.vnodes key ≡ Some vnode) (is_root : vnode ≡ root_vnode disk)
-    (kept : rooted ≡ record empty { vnodes = put empty.vnodes key vnode; high = rooted.high }) where
+module _ (heap : ℕ) (inode : Inode) (empty rooted : Heap) (is_empty : empty ≡ empty_heap heap) (root : KeepsRoot inode empty rooted) where
   -- what stands there but for the root
   same : {X : Type 0} (of : Heap → X) → ((h : Heap) (vnodes : List (Option Vnode)) (high : ℕ) → of (record h { vnodes = vnodes; high = high }) ≡ of h)
       → of rooted ≡ of (empty_heap heap)
-  same of other = ap of kept ∙ other empty (put empty.vnodes key vnode) rooted.high ∙ ap of is_empty
+  same of other = ap of root.heap ∙ other empty (put empty.vnodes root.slot (record { number = root_node; inode = inode; pins = 1 })) rooted.high ∙ ap of is_empty
 
   pub no_pages : (k : ℕ) → object rooted.pages k ≡ None
   no_pages k = ap (λ pages. object pages k) (same (λ h. h.pages) (λ h vnodes high. refl)) ∙ vacant (heap / size class.Page) k
@@ -128,13 +138,28 @@ module _ (heap disk key : ℕ) (vnode : Vnode) (empty rooted : Heap) (is_empty :
       IsOwned-same (empty_heap heap) rooted no_owners
       (same (λ h. h.nodes) (λ h vnodes high. refl)) (same (λ h. h.pages) (λ h vnodes high. refl)) (same (λ h. h.chunks) (λ h vnodes high. refl)) (empty_owned heap)
 
+  abbrev made_root : Vnode
+  made_root = record { number = root_node; inode = inode; pins = 1 }
+
+  -- it takes its bytes
+  pub rooted_live : live_bytes rooted ≡ live_bytes empty + 128
+  rooted_live =
+      ap live_bytes root.heap
+      ∙ one_more (count empty.procs) (count empty.nodes) (count empty.pages) (count empty.descs) (count empty.vnodes) (count empty.names) (count empty.blocks)
+      (count empty.pipes) (count empty.chunks) (count empty.socks) (count (put empty.vnodes root.slot made_root))
+      (count-put_new empty.vnodes root.slot made_root root.within root.vacant)
+    where
+      one_more : (p n g d v m b i k s v' : ℕ) → v' ≡ v + 1
+          → 512 * p + 512 * n + 4096 * g + 64 * d + 128 * v' + 64 * m + 1088 * b + 128 * i + 576 * k + 128 * s
+          ≡ 512 * p + 512 * n + 4096 * g + 64 * d + 128 * v + 64 * m + 1088 * b + 128 * i + 576 * k + 128 * s + 128
+      one_more p n g d v m b i k s v' e = omega arith
+
   one : count rooted.vnodes ≡ 1
   one =
-      let put_there : rooted.vnodes ≡ put empty.vnodes key vnode = ap (λ h. h.vnodes) kept in
+      let made : Vnode = made_root in
+      let put_there : rooted.vnodes ≡ put empty.vnodes root.slot made = ap (λ h. h.vnodes) root.heap in
       let nothing : count empty.vnodes ≡ 0 = ap (λ h. count h.vnodes) is_empty ∙ count-none _ (heap / size class.Vnode) refl in
-      ap count put_there
-      ∙ count-put_new empty.vnodes key vnode (put-within empty.vnodes key vnode (ap (λ vnodes. object vnodes key) (sym put_there) ∙ stored)) none
-      ∙ ap (λ n. n + 1) nothing
+      ap count put_there ∙ count-put_new empty.vnodes root.slot made root.within root.vacant ∙ ap (λ n. n + 1) nothing
 
   -- nothing is open, and nobody owns anything
   pub rooted_bare : IsUnopened heap rooted
@@ -156,22 +181,46 @@ module _ (heap disk key : ℕ) (vnode : Vnode) (empty rooted : Heap) (is_empty :
         held = held_open_on (empty_heap heap) rooted rooted_bare.descs rooted_bare.pipes rooted_bare.socks rooted_bare.chunks boots.held;
       }
 
-  pub rooted_caches : CachesRootAlone rooted disk
-  rooted_caches = record {
-    key = key;
-    root_is = stored ∙ ap Some is_root;
-    vnodes = one;
-    names = ap count (same (λ h. h.names) (λ h vnodes high. refl)) ∙ count-none _ (heap / size class.Name) refl;
-    blocks = ap count (same (λ h. h.blocks) (λ h vnodes high. refl)) ∙ count-none _ (heap / size class.Block) refl;
-  }
+  -- the root alone is kept of a tree whose caches stand over that heap
+  pub rooted_kept : (fs : TreeView) (tree : Tree) (pins : ℕ → ℕ) → TreeStands rooted fs tree pins → kept_by fs ≡ kept_at_boot
+  rooted_kept fs tree pins stands = λ i. record { names = no_names i; blocks = no_blocks i; vnodes = one_vnode i }
+    where
+      none_kept : {K : Type 0} (keys : List K) → length keys ≡ 0 → keys ≡ []
+      none_kept [] e = refl
+      none_kept (key ∷ keys) e = absurd (let more : suc (length keys) ≡ zero = e in omega (arith, more))
+
+      one_kept : (keys : List ℕ) → length keys ≡ 1 → is_in root_node keys ≡ true → keys ≡ root_node ∷ []
+      one_kept [] e there = absurd (let none : zero ≡ suc zero = e in omega (arith, none))
+      one_kept (key ∷ []) e there = elim (eqb_tells key root_node) [
+        | inl same ↦ ap (λ k. k ∷ []) same.1
+        | inr apart ↦ absurd (let never : false ≡ true = sym (ap (λ b. b || false) apart.0) ∙ there in cc)
+      ]
+      one_kept (key ∷ next ∷ keys) e there = absurd (let more : suc (suc (length keys)) ≡ suc zero = e in omega (arith, more))
+
+      names : count rooted.names ≡ 0
+      names = ap count (same (λ h. h.names) (λ h vnodes high. refl)) ∙ count-none _ (heap / size class.Name) refl
+
+      blocks : count rooted.blocks ≡ 0
+      blocks = ap count (same (λ h. h.blocks) (λ h vnodes high. refl)) ∙ count-none _ (heap / size class.Block) refl
+
+      no_names : (kept_by fs).names ≡ []
+      no_names = ap (map name_in) (none_kept (keys_in fs.names.pairs) (length-keys_of fs.names.pairs ∙ stands.names.many ∙ names))
+
+      no_blocks : (kept_by fs).blocks ≡ []
+      no_blocks = none_kept (kept_by fs).blocks (length-keys_of fs.blocks.pairs ∙ stands.blocks.many ∙ blocks)
+
+      one_vnode : (kept_by fs).vnodes ≡ root_node ∷ []
+      one_vnode = one_kept (kept_by fs).vnodes (length-keys_of fs.vnodes.order.pairs ∙ stands.nodes.kept.many ∙ one)
+          (held_kept rooted fs tree pins stands root_node stands.root)
 
   pub rooted_size : rooted.heap ≡ heap
   rooted_size = same (λ h. h.heap) (λ h vnodes high. refl)
 
 -- The first process is put in that heap, and goes on at a control.
-module _ (heap disk : ℕ) (control : Control) (rooted : Heap) (mid new : Objects)
+module _ (heap disk : ℕ) (control : Control) (rooted : Heap) (fs : TreeView) (mid new : Objects)
     (no_pages : (k : ℕ) → object rooted.pages k ≡ None) (no_procs : AreKeysOf rooted.procs []) (owned : IsOwned rooted no_owners)
-    (bare : IsUnopened heap rooted) (owners : HasItsOwners rooted []) (caches : CachesRootAlone rooted disk) (bytes : rooted.heap ≡ heap)
+    (bare : IsUnopened heap rooted) (owners : HasItsOwners rooted []) (stands : TreeStands rooted fs (new_tree disk) root_alone) (kept : kept_by fs ≡ kept_at_boot)
+    (unread : fs.disk.reads ≡ 0) (tree : mid.tree ≡ fs) (bytes : rooted.heap ≡ heap)
     (procs : procs_of mid ≡ first_proc ∷ []) (last : mid.procs.last ≡ 1)
     (moves : (others : Owners) → IsOwned rooted others → TableMoves rooted no_table mid.heap mid.procs)
     (table : IsTable mid.heap mid.procs (Some first_process ∷ []))
@@ -229,6 +278,17 @@ module _ (heap disk : ℕ) (control : Control) (rooted : Heap) (mid new : Object
     chunks = as_was (λ h. h.chunks) (λ h procs nodes pages high. refl) ∙ bare.chunks;
   }
 
+  same_tree : new.tree ≡ fs
+  same_tree = turned.tree ∙ tree
+
+  caches : CachesStay rooted new.heap
+  caches = record {
+    vnodes = as_was (λ h. h.vnodes) (λ h procs nodes pages high. refl);
+    names = as_was (λ h. h.names) (λ h procs nodes pages high. refl);
+    blocks = as_was (λ h. h.blocks) (λ h procs nodes pages high. refl);
+    size = as_was (λ h. h.heap) (λ h procs nodes pages high. refl);
+  }
+
   pub has_booted : HasBooted new heap disk control
   has_booted = record {
     holds = goes.holds;
@@ -238,8 +298,9 @@ module _ (heap disk : ℕ) (control : Control) (rooted : Heap) (mid new : Object
     nodes = λ key desc is. absurd (object-none (heap / size class.Desc) key desc (ap (λ objects. object objects key) (sym unopened.descs) ∙ is));
     opened = λ numbers files none. open_on numbers (empty_heap heap) new.heap [] files files unopened.descs unopened.pipes unopened.socks unopened.chunks refl refl refl
         (boot_open numbers heap files none);
-    caches = caches_on rooted new.heap disk (as_was (λ h. h.vnodes) (λ h procs nodes pages high. refl)) (as_was (λ h. h.names) (λ h procs nodes pages high. refl))
-        (as_was (λ h. h.blocks) (λ h procs nodes pages high. refl)) caches;
+    stands = subst (λ (t : TreeView). TreeStands new.heap t (new_tree disk) root_alone) (sym same_tree) (stands_on rooted new.heap fs (new_tree disk) root_alone caches stands);
+    kept = ap kept_by same_tree ∙ kept;
+    unread = ap (λ (t : TreeView). t.disk.reads) same_tree ∙ unread;
     size = as_was (λ h. h.heap) (λ h procs nodes pages high. refl) ∙ bytes;
     first = first;
     last = ap (λ t. t.last) turned.same ∙ last;
@@ -289,7 +350,7 @@ boot_kept script objects control booted stands rests = record {
   groups = subst (AllByRecursion (λ proc. length proc.nodes ≡ 4)) (sym booted.first) (refl, tt);
   calls = subst (AreAtCalls script) (sym booted.first) ((λ up. record { stands = stands; rests = rests }), tt);
   nodes = booted.nodes;
-  caches = booted.caches;
+  caches = (new_tree script.disk, root_alone, booted.stands);
   size = booted.size;
 }
 
@@ -317,7 +378,6 @@ boot_opens script objects control booted = record {
     socks = λ key sock is. absurd (let there = sock_there boot_numbers objects.heap [] opened.socketed key sock is in nothing_at (boot_numbers.socks key) there.socket there.there);
   };
   settled = record { pipes = refl; sockets = refl };
-  tree = refl;
   sockets = λ place description number is on. nothing_at place description is;
 }
   where
@@ -356,6 +416,16 @@ boot_controls script control leads pid proc is = elim (eqb_tells 1 pid) [
     nobody_else : None ≡ Some proc → ⊥
     nobody_else e = cc
 
+-- the tree is a new disk's, whose root alone is held
+boot_has_tree : (script : Script) (objects : Objects) → TreeStands objects.heap objects.tree (new_tree script.disk) root_alone → kept_by objects.tree ≡ kept_at_boot
+    → objects.tree.disk.reads ≡ 0 → HasTree objects (boot_world script)
+boot_has_tree script objects stands kept unread = record {
+  stands = same_pins objects.heap objects.tree (new_tree script.disk) root_alone (pins_in (boot_plain script))
+      (alone_pins (boot_plain script) (held_alone (boot_plain script) boot_home refl)) stands;
+  kept = sym kept;
+  reads = sym unread;
+}
+
 -- At boot the store stands for one process at the start of the program `init`.
 pub boot_stands_for : (script copy : Script) (objects : Objects) (place : ℕ) (control : Control) → can_run script ≡ true → copy ≡ script → place ≡ place_of (codes "init") copy.programs
     → control ≡ settled copy (at_start place) → Stands copy control → Rests copy control → HasBooted objects copy.heap copy.disk control
@@ -373,8 +443,7 @@ boot_stands_for script copy objects place control runs same named settles stands
       };
       memory = booted.account;
       files = boot_opens script objects control (subst (λ s. HasBooted objects s.heap s.disk control) same booted);
-      caches = refl;
-      reads = refl;
+      tree = boot_has_tree script objects (subst (λ s. TreeStands objects.heap objects.tree (new_tree s.disk) root_alone) same booted.stands) booted.kept booted.unread;
       family = (reached_kept {script = script} boots).family;
       home = boot_home;
     }

@@ -25,7 +25,8 @@ use Rattle.proc_table.proofs.TurnLemmas.{all_changed, all_kept}
 use Rattle.store_objects.specs.declared.objects.Objects.{Objects}
 use Rattle.store_objects.specs.Endings.{shut}
 use Rattle.store_objects.specs.Objects.{AreAtCalls, AreKept, IsAtCall, procs_of}
-use Rattle.store_objects.proofs.ClassesOn.{caches_on}
+use Rattle.store_objects.specs.Trees.{CachesStay}
+use Rattle.store_objects.proofs.TreesOn.{caches_on}
 use Rattle.store_objects.proofs.Peeling.{by_pid}
 use Rattle.store_objects.proofs.Shutting.{all_shut, found_shut, light_shut, shut_nodes, shut_other, shut_pid}
 
@@ -114,11 +115,20 @@ module _ (old new : Heap) (kept : TableView) (pid : ℕ) (holds : Holds old kept
         owned = (record { spaces = []; queues = by.queues }, by.owned);
       }
 
+-- what caches have in the heap stays
+pub shut_caches : (old new : Heap) (kept : TableView) (pid : ℕ) → ClosesAll old new kept pid → CachesStay old new
+shut_caches old new kept pid closes = record {
+  vnodes = ap (λ (h : Heap). h.vnodes) closes.beside;
+  names = ap (λ (h : Heap). h.names) closes.beside;
+  blocks = ap (λ (h : Heap). h.blocks) closes.beside;
+  size = ap (λ (h : Heap). h.heap) closes.beside;
+}
+
 -- What the objects keep they keep.
-pub kept_shut : (script : Script) (old mid : Objects) (pid : ℕ) → AreKept script old → mid.procs ≡ old.procs → (closes : ClosesAll old.heap mid.heap old.procs pid)
+pub kept_shut : (script : Script) (old mid : Objects) (pid : ℕ) → AreKept script old → mid.procs ≡ old.procs → mid.tree ≡ old.tree → (closes : ClosesAll old.heap mid.heap old.procs pid)
     → AreListed mid.heap old.procs → HasItsOwners mid.heap [] → OpensNoNode mid.heap.descs → AreKept script mid
-kept_shut script old mid pid kept same closes listed owners nodes =
-    subst (λ (procs : TableView). AreKept script (record { heap = mid.heap; procs = procs })) (sym same) (record {
+kept_shut script old mid pid kept same tree closes listed owners nodes =
+    subst (λ (procs : TableView). AreKept script (record { heap = mid.heap; procs = procs; tree = mid.tree })) (sym same) (record {
       holds = shut_holds old.heap mid.heap old.procs pid kept.holds closes listed owners.objects;
       all = listed.all;
       owners = owners;
@@ -127,7 +137,7 @@ kept_shut script old mid pid kept same closes listed owners nodes =
           (all_shut (λ proc. proc.status ≡ None → IsAtCall script proc) pid (procs_of old)
           (λ proc at up. let here : IsAtCall script proc = at up in record { stands = here.stands; rests = here.rests }) kept.calls);
       nodes = nodes;
-      caches = caches_on old.heap mid.heap script.disk (ap (λ (h : Heap). h.vnodes) closes.beside) (ap (λ (h : Heap). h.names) closes.beside) (ap (λ (h : Heap). h.blocks) closes.beside) kept.caches;
+      caches = caches_on old.heap mid.heap old.tree mid.tree tree (shut_caches old.heap mid.heap old.procs pid closes) kept.caches;
       size = ap (λ (h : Heap). h.heap) closes.beside ∙ kept.size;
     })
   where

@@ -72,10 +72,10 @@ all_found P (proc ∷ procs) before rising each = (
 )
 
 -- what the objects keep they keep when a process ends that has nothing open
-pub kept_ended : (script : Script) (old new : Objects) (pid status : ℕ) → AreKept script old → HasClosed (procs_of old) pid → TableMoves old.heap old.procs new.heap new.procs
+pub kept_ended : (script : Script) (old new : Objects) (pid status : ℕ) → AreKept script old → new.tree ≡ old.tree → HasClosed (procs_of old) pid → TableMoves old.heap old.procs new.heap new.procs
     → procs_of new ≡ ended pid status (procs_of old) → AreKept script new
-kept_ended script old new pid status kept closed moves is =
-    kept_on script old new kept moves
+kept_ended script old new pid status kept tree closed moves is =
+    kept_on script old new kept tree moves
     (subst (AllByRecursion (λ proc. length proc.nodes ≡ 4)) (sym is)
     (all_ended (λ proc. length proc.nodes ≡ 4) pid status (procs_of old) (record { cleared = λ proc four. refl; moved = λ proc four. four; over = λ proc four. four }) kept.groups))
     (subst (AreAtCalls script) (sym is)

@@ -30,7 +30,8 @@ use Rattle.proc_table.proofs.OwnLemmas.{AreRising, has_it, rising_procs}
 use Rattle.store_objects.specs.declared.objects.Objects.{Objects}
 use Rattle.store_objects.specs.Objects.{AreAtCalls, AreKept, IsAtCall, MovesOn, Runs, procs_of}
 use Rattle.store_objects.specs.Standing.{AreProcesses, StandsFor, answered_in}
-use Rattle.store_objects.proofs.Keeping.{kept_on}
+use Rattle.store_objects.proofs.Keeping.{kept_on, moved_caches}
+use Rattle.store_objects.proofs.TreesOn.{tree_on}
 use Rattle.store_objects.proofs.Namings.{names_in, names_replaced}
 use Rattle.store_objects.proofs.Opening.{by_pids, by_procs, files_moved}
 
@@ -122,7 +123,7 @@ pub kept_moved : (script : Script) (old new : Objects) (pid : ℕ) (control : Co
 kept_moved script old new pid control kept moves stands rests =
     let now : Proc = record moves.proc { control = control } in
     let procs = procs_then script old new pid control kept moves in
-    kept_on script old new kept (moves_then script old new pid control kept moves)
+    kept_on script old new kept moves.tree (moves_then script old new pid control kept moves)
     (subst (AllByRecursion (λ proc. length proc.nodes ≡ 4)) (sym procs) (all_replaced (λ proc. length proc.nodes ≡ 4) (procs_of old) pid now kept.groups (has_it (λ proc. length proc.nodes ≡ 4) (procs_of old) pid moves.proc kept.groups moves.found)))
     (subst (AreAtCalls script) (sym procs) (all_replaced (λ proc. proc.status ≡ None → IsAtCall script proc) (procs_of old) pid now kept.calls (λ up. record { stands = stands; rests = rests })))
     (λ key. ap (names_in key) procs
@@ -154,9 +155,10 @@ goes_to script old new world pid then control stands moves at rests leads = reco
   memory = subst (λ k. HasAccount new.heap k world.account.frames) (sym moves.same)
       (on-account old.heap new.heap old.procs pid moves.key moves.proc now stands.kept.holds moves.turns world.account.frames stands.memory);
   files = files_moved old new world.plain.files world.plain.files world.account world.account (moves_then script old new pid control stands.kept moves)
-      refl refl refl refl refl refl (descriptors_moved script old new pid control world.plain.files stands.kept moves at rests) stands.files;
-  caches = stands.caches;
-  reads = stands.reads;
+      refl refl refl refl refl (descriptors_moved script old new pid control world.plain.files stands.kept moves at rests) stands.files;
+  tree = tree_on old new world (record world { plain = with_control world.plain pid then })
+      (record { tree = moves.tree; caches = moved_caches old.heap new.heap old.procs new.procs (moves_then script old new pid control stands.kept moves) })
+      refl refl refl refl stands.tree;
   family = stands.family;
   home = stands.home;
 }

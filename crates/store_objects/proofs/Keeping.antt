@@ -18,8 +18,10 @@ use Rattle.proc_table.specs.Table.{AreBetween, AreStored, TableView, keys_of, pr
 use Rattle.proc_table.specs.declared.places.Listed.{Listed}
 use Rattle.proc_table.proofs.PlaceLemmas.{Contains-cases, IsAt, Misses, Misses-lower, stored_is}
 use Rattle.store_objects.specs.declared.objects.Objects.{Objects}
-use Rattle.store_objects.specs.Objects.{AreAtCalls, AreKept, CachesRootAlone, procs_of}
-use Rattle.store_objects.proofs.ClassesOn.{caches_on}
+use Rattle.store_objects.specs.Objects.{AreAtCalls, AreKept, procs_of}
+use Rattle.store_objects.specs.Trees.{CachesStay, KeepsTree}
+use Rattle.memfs_ops.specs.FileTree.{TreeView}
+use Rattle.store_objects.proofs.TreesOn.{caches_on}
 use Rattle.store_objects.proofs.Namings.{names_in, namings_are}
 use Rattle.store_objects.proofs.Peeling.{OwnedByPid, by_key, by_pid}
 
@@ -97,15 +99,24 @@ owners_on old new was now hand listed moves owners names = record {
         let nothing : count_by (λ (other : ℕ). other == key) [] ≡ 0 = refl in
         omega (arith, count, before, were, are, as_many, nothing)
 
--- What is kept of a heap and a table, with some Descs named in hand.
-pub record KeepsHeap (script : Script) (h : Heap) (kept : TableView) (hand : List ℕ) : Type 0 where
+-- a table that moves on leaves what caches have in the heap
+pub moved_caches : (old new : Heap) (was now : TableView) → TableMoves old was new now → CachesStay old new
+moved_caches old new was now moves = record {
+  vnodes = ap (λ (h : Heap). h.vnodes) moves.kept;
+  names = ap (λ (h : Heap). h.names) moves.kept;
+  blocks = ap (λ (h : Heap). h.blocks) moves.kept;
+  size = ap (λ (h : Heap). h.heap) moves.kept;
+}
+
+-- What is kept of a heap, a table and a tree of files, with some Descs named in hand.
+pub record KeepsHeap (script : Script) (h : Heap) (kept : TableView) (fs : TreeView) (hand : List ℕ) : Type 0 where
   pub listed : AreListed h kept
   pub owners : HasItsOwners h hand
   pub nodes : OpensNoNode h.descs
-  pub caches : CachesRootAlone h script.disk
+  pub caches : KeepsTree h fs
   pub size : h.heap ≡ script.heap
 
-pub keeps_heap : (script : Script) (objects : Objects) → AreKept script objects → KeepsHeap script objects.heap objects.procs []
+pub keeps_heap : (script : Script) (objects : Objects) → AreKept script objects → KeepsHeap script objects.heap objects.procs objects.tree []
 keeps_heap script objects kept = record {
   listed = listed_in script objects kept;
   owners = kept.owners;
@@ -116,23 +127,23 @@ keeps_heap script objects kept = record {
 
 -- The objects are kept where a table moves on, each process has four groups and stands at its call, and all Descs that were in
 -- hand are named by one.
-pub kept_with : (script : Script) (old : Heap) (was : TableView) (new : Objects) (hand : List ℕ) → KeepsHeap script old was hand → TableMoves old was new.heap new.procs
+pub kept_with : (script : Script) (old : Heap) (was : TableView) (fs : TreeView) (new : Objects) (hand : List ℕ) → KeepsHeap script old was fs hand → new.tree ≡ fs → TableMoves old was new.heap new.procs
     → AllByRecursion (λ proc. length proc.nodes ≡ 4) (procs_of new) → AreAtCalls script (procs_of new)
     → ((key : ℕ) → names_in key (procs_of new) ≡ names_in key (processes old was) + count_by (λ other. other == key) hand) → AreKept script new
-kept_with script old was new hand keeps moves groups calls names = record {
+kept_with script old was fs new hand keeps tree moves groups calls names = record {
   holds = moves.holds;
   all = all_on old new.heap was new.procs keeps.listed.all moves;
   owners = owners_on old new.heap was new.procs hand keeps.listed moves keeps.owners names;
   groups = groups;
   calls = calls;
   nodes = subst OpensNoNode (sym (ap (λ (h : Heap). h.descs) moves.kept)) keeps.nodes;
-  caches = caches_on old new.heap script.disk (ap (λ (h : Heap). h.vnodes) moves.kept) (ap (λ (h : Heap). h.names) moves.kept) (ap (λ (h : Heap). h.blocks) moves.kept) keeps.caches;
+  caches = caches_on old new.heap fs new.tree tree (moved_caches old new.heap was new.procs moves) keeps.caches;
   size = ap (λ (h : Heap). h.heap) moves.kept ∙ keeps.size;
 }
 
-pub kept_on : (script : Script) (old new : Objects) → AreKept script old → TableMoves old.heap old.procs new.heap new.procs
+pub kept_on : (script : Script) (old new : Objects) → AreKept script old → new.tree ≡ old.tree → TableMoves old.heap old.procs new.heap new.procs
     → AllByRecursion (λ proc. length proc.nodes ≡ 4) (procs_of new) → AreAtCalls script (procs_of new)
     → ((key : ℕ) → names_in key (procs_of new) ≡ names_in key (procs_of old)) → AreKept script new
-kept_on script old new kept moves groups calls names =
-    kept_with script old.heap old.procs new [] (keeps_heap script old kept) moves groups calls
+kept_on script old new kept tree moves groups calls names =
+    kept_with script old.heap old.procs old.tree new [] (keeps_heap script old kept) tree moves groups calls
     (λ key. let same = names key in let nothing : count_by (λ (other : ℕ). other == key) [] ≡ 0 = refl in omega (arith, same, nothing))

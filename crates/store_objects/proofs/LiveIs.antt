@@ -36,7 +36,7 @@ use Rattle.posix_defs.specs.Files.State.{Files}
 use Rattle.posix_defs.specs.Pipe.{Pipe}
 use Rattle.posix_defs.specs.QueuePlace.{chunks_of}
 use Rattle.posix_defs.specs.Socket.{Socket}
-use Rattle.posix_defs.specs.World.{World, cached, live_of}
+use Rattle.posix_defs.specs.World.{Kept, World, live_of}
 use Rattle.proc_table.specs.Accounting.{HasAccount, IsPlaced}
 use Rattle.proc_table.specs.Procs.{proc_of}
 use Rattle.proc_table.specs.Table.{keys_of}
@@ -50,6 +50,7 @@ use Rattle.store_objects.specs.declared.objects.Objects.{Objects}
 use Rattle.store_objects.specs.Objects.{AreKept, procs_of}
 use Rattle.store_objects.specs.Standing.{StandsFor}
 use Rattle.store_objects.proofs.Keeping.{listed_in}
+use Rattle.store_objects.proofs.KeptNow.{as_many_blocks, as_many_names, as_many_vnodes}
 use Rattle.store_objects.proofs.Peeling.{by_pid}
 use Rattle.store_objects.proofs.PidSums.{length-node_keys, sum_by_pids, value}
 use Rattle.store_objects.proofs.PlacedSums.{sum_from, sum_placed, sum_ranged, sum_there}
@@ -235,21 +236,20 @@ live_is script objects world stands whole =
     let nodes : count objects.heap.nodes ≡ nodes_named world.account.frames = nodes_all script objects world.account.frames kept whole has in
     let pages : count objects.heap.pages ≡ frames_named world.account.frames = frames_are_pages has.number objects.heap.pages world.account.frames has.numbers
     (λ key used. subst (λ n. 0 < n) (sym (has.numbers.counts key used)) (by.owned.pages.named key used)) in
-    let vnodes : count objects.heap.vnodes ≡ 1 = kept.caches.vnodes in
+    let vnodes : count objects.heap.vnodes ≡ length world.kept.vnodes = as_many_vnodes objects.heap objects.tree world.plain stands.tree.stands ∙ ap (λ (k : Kept). length k.vnodes) (sym stands.tree.kept) in
     let descs : count objects.heap.descs ≡ count_by is_some files.descriptions = descs_are stands.files.numbers objects.heap stands.files.opened.list files opened in
-    let names : count objects.heap.names ≡ 0 = kept.caches.names in
-    let blocks : count objects.heap.blocks ≡ 0 = kept.caches.blocks in
+    let names : count objects.heap.names ≡ length world.kept.names = as_many_names objects.heap objects.tree world.plain stands.tree.stands ∙ ap (λ (k : Kept). length k.names) (sym stands.tree.kept) in
+    let blocks : count objects.heap.blocks ≡ length world.kept.blocks = as_many_blocks objects.heap objects.tree world.plain stands.tree.stands ∙ ap (λ (k : Kept). length k.blocks) (sym stands.tree.kept) in
     let pipes : count objects.heap.pipes ≡ count_by is_some files.pipes = pipes_are stands.files.numbers objects.heap files opened.piped in
     let chunks = chunks_are stands.files.numbers objects.heap stands.files.opened.list files world.account kept.owners.objects opened stands.files.fronts in
     let socks : count objects.heap.socks ≡ count_by is_some files.sockets = socks_are stands.files.numbers objects.heap files opened.socketed in
-    let caches : cached world.kept ≡ 128 = ap cached stands.caches in
     sum_is (count objects.heap.procs) (count objects.heap.nodes) (count objects.heap.pages) (count objects.heap.descs) (count objects.heap.vnodes)
     (count objects.heap.names) (count objects.heap.blocks) (count objects.heap.pipes) (count objects.heap.chunks) (count objects.heap.socks)
     (how_many world.plain.table) (nodes_named world.account.frames) (frames_named world.account.frames) (count_by is_some files.descriptions) (count_by is_some files.pipes) (count_by is_some files.sockets)
-    (chunks_taken (pipe_lengths files) world.account.pipes) (chunks_taken (socket_lengths files) world.account.sockets) (cached world.kept)
-    procs nodes pages descs vnodes names blocks pipes chunks socks caches
+    (chunks_taken (pipe_lengths files) world.account.pipes) (chunks_taken (socket_lengths files) world.account.sockets) (length world.kept.vnodes) (length world.kept.names) (length world.kept.blocks)
+    procs nodes pages descs vnodes names blocks pipes chunks socks
   where
-    sum_is : (p n g d v m b i k s p' n' g' d' i' s' x y c : ℕ) → p ≡ p' → n ≡ n' → g ≡ g' → d ≡ d' → v ≡ 1 → m ≡ 0 → b ≡ 0 → i ≡ i' → k ≡ x + y → s ≡ s' → c ≡ 128
+    sum_is : (p n g d v m b i k s p' n' g' d' i' s' x y v' m' b' : ℕ) → p ≡ p' → n ≡ n' → g ≡ g' → d ≡ d' → v ≡ v' → m ≡ m' → b ≡ b' → i ≡ i' → k ≡ x + y → s ≡ s'
         → 512 * p + 512 * n + 4096 * g + 64 * d + 128 * v + 64 * m + 1088 * b + 128 * i + 576 * k + 128 * s
-        ≡ p' * 512 + n' * 512 + g' * 4096 + (d' * 64 + i' * 128 + s' * 128 + (x + y) * 576) + c
-    sum_is p n g d v m b i k s p' n' g' d' i' s' x y c e1 e2 e3 e4 e5 e6 e7 e8 e9 e10 e11 = omega arith
+        ≡ p' * 512 + n' * 512 + g' * 4096 + (d' * 64 + i' * 128 + s' * 128 + (x + y) * 576) + (m' * 64 + b' * 1088 + v' * 128)
+    sum_is p n g d v m b i k s p' n' g' d' i' s' x y v' m' b' e1 e2 e3 e4 e5 e6 e7 e8 e9 e10 = omega arith

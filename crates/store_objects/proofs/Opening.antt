@@ -11,7 +11,6 @@ use Rattle.posix_defs.specs.Files.Descriptors.{none_open}
 use Rattle.posix_defs.specs.Files.State.{Files, descriptors_of}
 use Rattle.posix_defs.specs.Pipe.{Pipe}
 use Rattle.posix_defs.specs.Sockets.{Sockets}
-use Rattle.posix_defs.specs.Tree.{Tree, new_tree}
 use Rattle.proc_descs.specs.Having.{HaveDescriptors, places_in}
 use Rattle.proc_table.specs.Moves.{TableMoves}
 use Rattle.proc_table.specs.Opening.{HaveOpen as TableOpen}
@@ -68,11 +67,11 @@ settled_on files now account next pipes sockets same_pipes same_sockets settled 
 -- of them, and where descriptors go on.
 pub files_on : (old new : Objects) (files now : Files) (account next : Account)
     → new.heap.descs ≡ old.heap.descs → new.heap.pipes ≡ old.heap.pipes → new.heap.socks ≡ old.heap.socks → new.heap.chunks ≡ old.heap.chunks
-    → now.descriptions ≡ files.descriptions → now.pipes ≡ files.pipes → now.sockets ≡ files.sockets → now.tree ≡ files.tree
+    → now.descriptions ≡ files.descriptions → now.pipes ≡ files.pipes → now.sockets ≡ files.sockets
     → next.pipes ≡ account.pipes → next.sockets ≡ account.sockets
     → ((number : ℕ → ℕ) → HaveDescriptors number (procs_of old) old.procs.last files → HaveDescriptors number (procs_of new) new.procs.last now)
     → HaveFiles old files account → HaveFiles new now next
-files_on old new files now account next descs pipes socks chunks descriptions plain_pipes sockets tree fronts_of_pipes fronts_of_sockets descriptors have =
+files_on old new files now account next descs pipes socks chunks descriptions plain_pipes sockets fronts_of_pipes fronts_of_sockets descriptors have =
     let opened = have.opened in record {
       numbers = have.numbers;
       opened = record {
@@ -87,16 +86,15 @@ files_on old new files now account next descs pipes socks chunks descriptions pl
             ∙ have.fronts.socks key sock (ap (λ objects. object objects key) (sym socks) ∙ is);
       };
       settled = settled_on files now account next plain_pipes sockets fronts_of_pipes fronts_of_sockets have.settled;
-      tree = tree ∙ have.tree ∙ ap (λ (t : Tree). new_tree t.blocks) (sym tree);
       sockets = subst OffSockets (sym descriptions) have.sockets;
     }
 
 -- and so where a table moves on
 pub files_moved : (old new : Objects) (files now : Files) (account next : Account) → TableMoves old.heap old.procs new.heap new.procs
-    → now.descriptions ≡ files.descriptions → now.pipes ≡ files.pipes → now.sockets ≡ files.sockets → now.tree ≡ files.tree
+    → now.descriptions ≡ files.descriptions → now.pipes ≡ files.pipes → now.sockets ≡ files.sockets
     → next.pipes ≡ account.pipes → next.sockets ≡ account.sockets
     → ((number : ℕ → ℕ) → HaveDescriptors number (procs_of old) old.procs.last files → HaveDescriptors number (procs_of new) new.procs.last now)
     → HaveFiles old files account → HaveFiles new now next
-files_moved old new files now account next moves descriptions pipes sockets tree fronts_of_pipes fronts_of_sockets descriptors =
+files_moved old new files now account next moves descriptions pipes sockets fronts_of_pipes fronts_of_sockets descriptors =
     files_on old new files now account next (ap (λ (h : Heap). h.descs) moves.kept) (ap (λ (h : Heap). h.pipes) moves.kept) (ap (λ (h : Heap). h.socks) moves.kept) (ap (λ (h : Heap). h.chunks) moves.kept)
-    descriptions pipes sockets tree fronts_of_pipes fronts_of_sockets descriptors
+    descriptions pipes sockets fronts_of_pipes fronts_of_sockets descriptors

@@ -16,16 +16,23 @@ use Rattle.proc_table.specs.Standing.{IsTable}
 use Rattle.proc_table.specs.Table.{Holds, keys_of}
 use Rattle.proc_descs.specs.Having.{OpensNoNode}
 use Rattle.store_objects.specs.declared.objects.Objects.{Objects}
-use Rattle.store_objects.specs.Objects.{CachesRootAlone, procs_of}
+use Rattle.store_objects.specs.Objects.{procs_of}
+use Rattle.store_objects.specs.Trees.{kept_by}
+use Rattle.memfs_ops.specs.FileTree.{Stands, root_alone}
+use Rattle.posix_defs.specs.Tree.{new_tree}
+use Rattle.posix_defs.specs.World.{boot_kept}
 
--- The first process alone stands at this control, in a heap of so many bytes that has the root of a new disk beside it.
+-- The first process alone stands at this control, in a heap of so many bytes beside the tree of a new disk, which was never
+-- read. The root alone is cached.
 pub record HasBooted (objects : Objects) (heap blocks : ℕ) (control : Control) : Type 0 where
   pub holds : Holds objects.heap objects.procs
   pub all : AreKeysOf objects.heap.procs (keys_of objects.procs.listed)
   pub owners : HasItsOwners objects.heap []
   pub nodes : OpensNoNode objects.heap.descs
   pub opened : (numbers : Numbers) (files : Files) → IsBare files → AreOpen numbers objects.heap [] files
-  pub caches : CachesRootAlone objects.heap blocks
+  pub stands : Stands objects.heap objects.tree (new_tree blocks) root_alone
+  pub kept : kept_by objects.tree ≡ boot_kept
+  pub unread : objects.tree.disk.reads ≡ 0
   pub size : objects.heap.heap ≡ heap
   pub first : procs_of objects ≡ record first_proc { control = control } ∷ []
   pub last : objects.procs.last ≡ 1

@@ -5,7 +5,6 @@ use Rattle.place_laws.specs.Placed.{Numbers}
 use Rattle.posix_defs.specs.Account.{Account, fronts_after, pipe_lengths, socket_lengths}
 use Rattle.posix_defs.specs.Files.Descriptions.{Description, Descriptions, OnSocket, description_at}
 use Rattle.posix_defs.specs.Files.State.{Files}
-use Rattle.posix_defs.specs.Tree.{new_tree}
 use Rattle.proc_descs.specs.Having.{HaveOpen}
 use Rattle.store_objects.specs.declared.objects.Objects.{Objects}
 
@@ -20,11 +19,10 @@ OffSockets descriptions =
     (place : ℕ) (description : Description) (number : ℕ) → description_at descriptions place ≡ Some description → description.target ≡ OnSocket number → ⊥
 
 -- Processes have open what the machine says, by one numbering of descriptions, pipes and sockets, by which the account has the
--- fronts of their queues too. No file was made, and nothing is open on a socket.
+-- fronts of their queues too. Nothing is open on a socket.
 pub record HaveFiles (objects : Objects) (files : Files) (account : Account) : Type 0 where
   pub numbers : Numbers
   pub opened : HaveOpen numbers objects.heap objects.procs files
   pub fronts : HaveFronts numbers objects.heap account
   pub settled : AreSettled files account
-  pub tree : files.tree ≡ new_tree files.tree.blocks
   pub sockets : OffSockets files.descriptions

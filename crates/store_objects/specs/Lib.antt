@@ -1,4 +1,5 @@
 pub mod Objects
+pub mod Trees
 pub mod Files
 pub mod Standing
 pub mod Uses

@@ -3,15 +3,10 @@ use Rattle.std.specs.Prelude.{ℕ, ◌≡◌, ◌==◌, Bool, false, not, if◌t
 use Rattle.std.specs.List.{AllByRecursion}
 use Rattle.kabi_types.specs.declared.scripts.Control.{Control}
 use Rattle.kabi_types.specs.declared.scripts.Script.{Script}
-use Rattle.kheap_shelves.specs.Objects.{count, object}
 use Rattle.kheap_shelves.specs.declared.objects.Proc.{Proc}
-use Rattle.kheap_shelves.specs.declared.objects.Vnode.{Vnode}
-use Rattle.kheap_slabs.specs.Heap.{Heap}
 use Rattle.kheap_slabs.specs.Keys.{AreKeysOf}
 use Rattle.kheap_slabs.specs.Owners.{Owners}
 use Rattle.open_laws.specs.Owned.{HasItsOwners}
-use Rattle.posix_defs.specs.DiskContents.{new_root}
-use Rattle.posix_defs.specs.Plain.{root}
 use Rattle.kheap_slabs.specs.Paid.{TakesNothing}
 use Rattle.proc_table.specs.Moves.{ProcTurns}
 use Rattle.proc_descs.specs.Having.{OpensNoNode}
@@ -20,6 +15,7 @@ use Rattle.proc_table.specs.Table.{Holds, keys_of, processes}
 use Rattle.prog_ctl.specs.Runnable.{Rests, Stands}
 use Rattle.store_objects.specs.declared.objects.Objects.{Objects}
 use Rattle.store_objects.specs.declared.objects.Caller.{Caller}
+use Rattle.store_objects.specs.Trees.{KeepsTree}
 
 -- the processes that are there, by rising pid
 abbrev pub procs_of : Objects → List Proc
@@ -44,6 +40,7 @@ pub record MovesOn (old : Objects) (pid : ℕ) (control : Control) (new : Object
   pub found : proc_of (procs_of old) pid ≡ Some proc
   pub turns : ProcTurns old.heap new.heap old.procs pid key proc (record proc { control = control })
   pub same : new.procs ≡ old.procs
+  pub tree : new.tree ≡ old.tree
   pub takes : TakesNothing old.heap new.heap
 
 -- who makes a call is the process of that pid, which runs
@@ -68,21 +65,9 @@ AreAtCalls script procs = AllByRecursion (λ proc. proc.status ≡ None → IsAt
 abbrev pub no_owners : Owners
 no_owners = record { spaces = []; queues = [] }
 
--- the root of a new disk with so many blocks, as it is kept: with its inode, and pinned by itself
-abbrev pub root_vnode : ℕ → Vnode
-root_vnode blocks = record { number = root; inode = new_root blocks; pins = 1 }
-
--- The caches have the root's vnode alone, of a disk with so many blocks.
-pub record CachesRootAlone (h : Heap) (disk : ℕ) : Type 0 where
-  pub key : ℕ
-  pub root_is : object h.vnodes key ≡ Some (root_vnode disk)
-  pub vnodes : count h.vnodes ≡ 1
-  pub names : count h.names ≡ 0
-  pub blocks : count h.blocks ≡ 0
-
 -- What the objects of a store keep, whatever they stand for: the table has every process that is in the heap, all nodes,
--- descriptions, pipes, sockets and chunks have their owners, no description is open on a node, and of the rest the root's vnode
--- alone is there. Who runs stands at its next call.
+-- descriptions, pipes, sockets and chunks have their owners, no description is open on a node, and the rest is what the tree of
+-- files keeps in its caches. Who runs stands at its next call.
 pub record AreKept (script : Script) (objects : Objects) : Type 0 where
   pub holds : Holds objects.heap objects.procs
   pub all : AreKeysOf objects.heap.procs (keys_of objects.procs.listed)
@@ -90,5 +75,5 @@ pub record AreKept (script : Script) (objects : Objects) : Type 0 where
   pub groups : AllByRecursion (λ proc. length proc.nodes ≡ 4) (procs_of objects)
   pub calls : AreAtCalls script (procs_of objects)
   pub nodes : OpensNoNode objects.heap.descs
-  pub caches : CachesRootAlone objects.heap script.disk
+  pub caches : KeepsTree objects.heap objects.tree
   pub size : objects.heap.heap ≡ script.heap

@@ -16,7 +16,7 @@ use Rattle.posix_defs.specs.MemoryCalls.{remembered}
 use Rattle.posix_defs.specs.Plain.{Plain, answered, control_of, last_pid}
 use Rattle.posix_defs.specs.Process.{is_alive}
 use Rattle.posix_defs.specs.Turn.{Tells, account_after}
-use Rattle.posix_defs.specs.World.{World, boot_kept}
+use Rattle.posix_defs.specs.World.{World}
 use Rattle.posix_defs.specs.declared.turner.Turned.{Turned}
 use Rattle.proc_table.specs.Accounting.{HasAccount}
 use Rattle.proc_table.specs.Procs.{proc_of}
@@ -24,6 +24,7 @@ use Rattle.proc_table.specs.Standing.{IsTable}
 use Rattle.store_objects.specs.declared.objects.Objects.{Objects}
 use Rattle.store_objects.specs.Files.{HaveFiles}
 use Rattle.store_objects.specs.Objects.{AreKept, procs_of}
+use Rattle.store_objects.specs.Trees.{HasTree}
 
 -- A store: its script, and its objects.
 pub record StoreView : Type 0 where
@@ -49,9 +50,8 @@ pub record StandsFor (script : Script) (objects : Objects) (world : World) : Typ
   pub memory : HasAccount objects.heap objects.procs world.account.frames
   -- one numbering of descriptions, pipes and sockets makes what is open the machine's, and the account of fronts true
   pub files : HaveFiles objects world.plain.files world.account
-  -- nothing is cached but the root's node
-  pub caches : world.kept ≡ boot_kept
-  pub reads : world.reads ≡ 0
+  -- the disk has the machine's tree, and the caches keep what is kept of it
+  pub tree : HasTree objects world
   -- of the machine alone: who is whose child, and who works where
   pub family : IsFamily world.plain.table
   pub home : AllAtHome world.plain.table

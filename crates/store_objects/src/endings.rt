@@ -22,6 +22,7 @@ ghost use Rattle.store_objects.specs.Endings.{ClearsSome, IsLowestBehind, shut};
 ghost use Rattle.proc_descs.specs.Queues.{QueuesStand};
 ghost use Rattle.store_objects.specs.Objects.{AreKept, Runs, is_running, procs_of};
 ghost use Rattle.store_objects.specs.Standing.{StandsFor, ended_in};
+ghost use Rattle.store_objects.specs.Trees.{TreeStays};
 ghost use Rattle.store_objects.specs.Uses.{UsesAtMost};
 
 use crate::objects::Objects;
@@ -61,6 +62,7 @@ fn end_one(objects: &mut Objects, pid: u32, status: u16)
     ensures opened { (numbers : Numbers) (files : Files) → HaveOpen numbers objects.old.heap objects.old.procs files
         → HaveOpen numbers objects.new.heap objects.new.procs (after_end_of files pid) }
     ensures queues { QueuesStand objects.old.heap objects.new.heap }
+    ensures tree { TreeStays objects.old objects.new }
     ensures takes { TakesNothing objects.old.heap objects.new.heap }
 {
     close_all(&mut objects.heap, &objects.procs, pid);
@@ -80,6 +82,7 @@ fn end_others(objects: &mut Objects)
     ensures opened { (numbers : Numbers) (files : Files) → HaveOpen numbers objects.old.heap objects.old.procs files
         → HaveOpen numbers objects.new.heap objects.new.procs (after_ends_of files (range_with_len 2 (objects.old.procs.last - 1))) }
     ensures queues { QueuesStand objects.old.heap objects.new.heap }
+    ensures tree { TreeStays objects.old objects.new }
 {
     let mut pid = INIT;
     while let Some(next) = live_behind(objects, pid) {

@@ -1,4 +1,4 @@
-//! The objects of a store: the heap, and the processes that stand in it.
+//! The objects of a store: the heap, the processes that stand in it, and the tree of files.
 
 ghost use Rattle.std.specs.Prelude.{◌≡◌, ◌<◌, IfSome, IsSome, false, None};
 ghost use Rattle.std.specs.Option.{option_copied};
@@ -10,15 +10,18 @@ ghost use Rattle.store_objects.specs.Objects.{IsCaller, MovesOn, is_running, pro
 use kabi_types::Control;
 use kheap_shelves::Proc;
 use kheap_slabs::KHeap;
+use memfs_ops::FileTree;
 use proc_table::ProcTable;
 
-/// The heap, and the table of the processes that stand in it.
+/// The heap, the table of the processes that stand in it, and the tree of files, whose caches stand in it too.
 #[derive(Drop)]
 pub struct Objects {
     /// The heap.
     pub heap: KHeap,
     /// Where in the heap each process stands.
     pub procs: ProcTable,
+    /// The disk, and what of it is cached in the heap.
+    pub tree: FileTree,
 }
 
 /// Who makes a call: a process that runs.

@@ -32,8 +32,8 @@ returns-then-pid-eq-INIT-clause-high c = λ script world stands.
 
 pub returns-then-pid-eq-INIT-clause-killed : goal.returns-then-pid-eq-INIT-clause-killed
 returns-then-pid-eq-INIT-clause-killed c = λ script world stands alive other.
-    let marked : StandsFor script (record { heap = c.mark.new.self; procs = c.args.objects.now.procs }) world = rw c.mark.ensures (stands_marked script c.args.objects.now _ _ world stands) in
-    let lives = alive_is script (record { heap = c.mark.new.self; procs = c.args.objects.now.procs }) world.plain c.args.pid marked.processes in
+    let marked : StandsFor script (record { heap = c.mark.new.self; procs = c.args.objects.now.procs; tree = c.args.objects.now.tree }) world = rw c.mark.ensures (stands_marked script c.args.objects.now _ _ world stands) in
+    let lives = alive_is script (record { heap = c.mark.new.self; procs = c.args.objects.now.procs; tree = c.args.objects.now.tree }) world.plain c.args.pid marked.processes in
     elim c.then-pid-eq-INIT.branch [
       | then-pid-eq-INIT-via-then-pid-eq-INIT w ↦ absurd (other w.if-pid-eq-INIT.true)
       | then-pid-eq-INIT-via-else-pid-eq-INIT+then-not-runs w ↦ never (sym alive ∙ lives ∙ sym w.runs.ensures ∙ w.if-not-runs.true)
@@ -42,22 +42,22 @@ returns-then-pid-eq-INIT-clause-killed c = λ script world stands alive other.
 pub end-requires-clause-kept : goal.end-requires-clause-kept
 end-requires-clause-kept c =
     let stood = c.requires in
-    let marked : AreKept stood.0 (record { heap = c.mark.new.self; procs = c.args.objects.now.procs }) = rw c.mark.ensures (kept_marked stood.0 c.args.objects.now _ _ stood.2.kept) in
+    let marked : AreKept stood.0 (record { heap = c.mark.new.self; procs = c.args.objects.now.procs; tree = c.args.objects.now.tree }) = rw c.mark.ensures (kept_marked stood.0 c.args.objects.now _ _ stood.2.kept) in
     (stood.0, marked)
 
 pub end-requires-clause-alive : goal.end-requires-clause-alive
 end-requires-clause-alive c =
-    running (procs_of (record { heap = c.mark.new.self; procs = c.args.objects.now.procs })) c.args.pid (sym c.runs.ensures ∙ c.if-not-runs.false)
+    running (procs_of (record { heap = c.mark.new.self; procs = c.args.objects.now.procs; tree = c.args.objects.now.tree })) c.args.pid (sym c.runs.ensures ∙ c.if-not-runs.false)
 
 pub returns-clause-kept : goal.returns-clause-kept
 returns-clause-kept c = λ script kept.
-    let marked : AreKept script (record { heap = c.mark.new.self; procs = c.args.objects.now.procs }) = rw c.mark.ensures (kept_marked script c.args.objects.now _ _ kept) in
+    let marked : AreKept script (record { heap = c.mark.new.self; procs = c.args.objects.now.procs; tree = c.args.objects.now.tree }) = rw c.mark.ensures (kept_marked script c.args.objects.now _ _ kept) in
     c.end.ensures.kept script marked
 
 pub returns-clause-killed : goal.returns-clause-killed
 returns-clause-killed c = λ script world stands _ _.
     let old = c.args.objects.now in
-    let mid : Objects = record { heap = c.mark.new.self; procs = old.procs } in
+    let mid : Objects = record { heap = c.mark.new.self; procs = old.procs; tree = old.tree } in
     let marked : StandsFor script mid world = rw c.mark.ensures (stands_marked script old _ _ world stands) in
     let after = c.end.ensures.dies script world marked in
     let less : live_bytes c.end.new.objects.heap ≤ live_bytes c.mark.new.self + 0 = c.end.ensures.uses.live in
@@ -66,9 +66,9 @@ returns-clause-killed c = λ script world stands _ _.
 
 pub returns-clause-gone : goal.returns-clause-gone
 returns-clause-gone c = λ script world stands dead.
-    let marked : StandsFor script (record { heap = c.mark.new.self; procs = c.args.objects.now.procs }) world = rw c.mark.ensures (stands_marked script c.args.objects.now _ _ world stands) in
+    let marked : StandsFor script (record { heap = c.mark.new.self; procs = c.args.objects.now.procs; tree = c.args.objects.now.tree }) world = rw c.mark.ensures (stands_marked script c.args.objects.now _ _ world stands) in
     never (sym c.if-not-runs.false ∙ c.runs.ensures
-    ∙ sym (alive_is script (record { heap = c.mark.new.self; procs = c.args.objects.now.procs }) world.plain c.args.pid marked.processes) ∙ dead)
+    ∙ sym (alive_is script (record { heap = c.mark.new.self; procs = c.args.objects.now.procs; tree = c.args.objects.now.tree }) world.plain c.args.pid marked.processes) ∙ dead)
 
 pub returns-clause-high : goal.returns-clause-high
 returns-clause-high c = λ script world stands.

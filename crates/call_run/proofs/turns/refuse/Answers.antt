@@ -29,7 +29,7 @@ returns-clause-refused c = λ world stands _.
 pub unreachable-requires : goal.unreachable-requires
 unreachable-requires c =
     let alive = c.requires in
-    let marked : StandsFor c.args.script.now (record { heap = c.mark.new.self; procs = c.args.objects.now.procs }) alive.0 =
+    let marked : StandsFor c.args.script.now (record { heap = c.mark.new.self; procs = c.args.objects.now.procs; tree = c.args.objects.now.tree }) alive.0 =
     rw c.mark.ensures (stands_marked c.args.script.now c.args.objects.now _ _ alive.0 alive.1) in
     never (sym alive.2 ∙ alive_is c.args.script.now _ alive.0.plain c.args.pid marked.processes ∙ c.caller.ensures.none c.in_default.is)
 

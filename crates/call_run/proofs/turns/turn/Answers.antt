@@ -22,13 +22,13 @@ pub run-turned-requires-clause-kept : goal.run-turned-requires-clause-kept
 run-turned-requires-clause-kept c = rw c.mark.ensures (kept_marked c.args.script.now c.args.objects.now _ _ c.requires.kept)
 
 pub run-turned-requires-clause-caller : goal.run-turned-requires-clause-caller
-run-turned-requires-clause-caller c = caller_of (record { heap = c.mark.new.self; procs = c.args.objects.now.procs }) c.args.pid c.in-Some.caller c.in-Some.ensures.some
+run-turned-requires-clause-caller c = caller_of (record { heap = c.mark.new.self; procs = c.args.objects.now.procs; tree = c.args.objects.now.tree }) c.args.pid c.in-Some.caller c.in-Some.ensures.some
 
 pub run-turned-requires-clause-built : goal.run-turned-requires-clause-built
 run-turned-requires-clause-built c =
     let may = c.requires.may in
     let world = may.0 in
-    let marked : Objects = record { heap = c.mark.new.self; procs = c.args.objects.now.procs } in
+    let marked : Objects = record { heap = c.mark.new.self; procs = c.args.objects.now.procs; tree = c.args.objects.now.tree } in
     let stands : StandsFor c.args.script.now marked world = rw c.mark.ensures (stands_marked c.args.script.now c.args.objects.now _ _ world may.1) in
     may.2 (alive_is c.args.script.now marked world.plain c.args.pid stands.processes ∙ caller_running marked c.args.pid c.in-Some.caller c.in-Some.ensures.some)
 
@@ -39,7 +39,7 @@ run-turned-requires-clause-stands c =
 
 pub run-turned-requires-clause-so_far : goal.run-turned-requires-clause-so_far
 run-turned-requires-clause-so_far c =
-    let caller : IsCaller (record { heap = c.mark.new.self; procs = c.args.objects.now.procs }) c.args.pid c.in-Some.caller = c.in-Some.ensures.some in
+    let caller : IsCaller (record { heap = c.mark.new.self; procs = c.args.objects.now.procs; tree = c.args.objects.now.tree }) c.args.pid c.in-Some.caller = c.in-Some.ensures.some in
     subst (λ (control : Control). HasDone c.args.call.now control.done) (sym caller.control)
     (c.requires.so_far caller.proc (subst (λ (h : Heap). proc_of (processes h c.args.objects.now.procs) c.args.pid ≡ Some caller.proc) c.mark.ensures caller.found) caller.up)
 
@@ -59,7 +59,7 @@ returns-in_default-clause-kept c = rw c.mark.ensures (kept_marked c.args.script.
 
 pub returns-in_default-clause-turned : goal.returns-in_default-clause-turned
 returns-in_default-clause-turned c = λ world stands.
-    let new : Objects = record { heap = c.mark.new.self; procs = c.args.objects.now.procs } in
+    let new : Objects = record { heap = c.mark.new.self; procs = c.args.objects.now.procs; tree = c.args.objects.now.tree } in
     let marked : StandsFor c.args.script.now new world = rw c.mark.ensures (stands_marked c.args.script.now c.args.objects.now _ _ world stands) in
     gone_on c.args.script.now new world c.args.pid c.args.call.now marked
     (alive_is c.args.script.now new world.plain c.args.pid marked.processes ∙ c.caller.ensures.none c.in_default.is)
@@ -79,7 +79,7 @@ returns-clause-turned c = λ world stands.
     let script = c.args.script.now in
     let pid = c.args.pid in
     let which = c.args.call.now in
-    let marked : Objects = record { heap = c.mark.new.self; procs = c.args.objects.now.procs } in
+    let marked : Objects = record { heap = c.mark.new.self; procs = c.args.objects.now.procs; tree = c.args.objects.now.tree } in
     let new = c.run-turned.new.objects in
     let stands_marked_too : StandsFor script marked world = rw c.mark.ensures (stands_marked script c.args.objects.now _ _ world stands) in
     let caller : IsCaller marked pid c.in-Some.caller = c.in-Some.ensures.some in

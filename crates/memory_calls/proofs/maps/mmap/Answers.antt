@@ -7,6 +7,7 @@ use Rattle.kabi_calls.specs.declared.calls.Call.TheVariants as call
 use Rattle.kabi_values.specs.declared.errnos.Errno.{Errno}
 use Rattle.kabi_values.specs.declared.errnos.Errno.TheVariants.{EMFILE}
 use Rattle.kabi_values.specs.declared.replies.Reply.TheVariants.{Fail, Val}
+use Rattle.kheap_laws.proofs.PaidLemmas.{IsPaid-nothing, IsPaid-trans}
 use Rattle.posix_defs.specs.declared.turner.Turned.TheVariants.{Done}
 use Rattle.posix_defs.specs.Account.{with_frames}
 use Rattle.posix_defs.specs.Answer.{failed}
@@ -93,3 +94,13 @@ returns-in-Err-clause-does c =
     err_means (lowest_run memory (pages_in c.cast_unsigned.result)) c.in-Err.errno (sym c.in-Err.is ∙ c.map.ensures.found script world stands) in
     ap (mapped_from script world.plain pid (pages_in (count_of c.args.length))) (sym (ap (λ n. lowest_run memory (pages_in n)) bytes) ∙ means.is)
     ∙ ap (failed script world.plain pid) (sym means.at))
+
+pub returns-in-Ok-clause-paid : goal.returns-in-Ok-clause-paid
+returns-in-Ok-clause-paid c =
+    IsPaid-trans c.args.objects.now.heap c.args.purse.now c.map.new.objects.heap c.map.new.purse c.go_on.new.objects.heap c.map.new.purse c.map.ensures.paid
+    (IsPaid-nothing c.map.new.objects.heap c.go_on.new.objects.heap c.map.new.purse c.map.new.purse c.go_on.ensures.takes refl refl)
+
+pub returns-in-Err-clause-paid : goal.returns-in-Err-clause-paid
+returns-in-Err-clause-paid c =
+    IsPaid-trans c.args.objects.now.heap c.args.purse.now c.map.new.objects.heap c.map.new.purse c.go_on-in-Err.new.objects.heap c.map.new.purse c.map.ensures.paid
+    (IsPaid-nothing c.map.new.objects.heap c.go_on-in-Err.new.objects.heap c.map.new.purse c.map.new.purse c.go_on-in-Err.ensures.takes refl refl)

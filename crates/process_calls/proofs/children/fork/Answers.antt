@@ -32,23 +32,23 @@ move_on-requires-clause-stored c = c.fork.ensures.moves.holds.stored
 
 pub move_on-requires-clause-there : goal.move_on-requires-clause-there
 move_on-requires-clause-there c =
-    child_there c.args.script.now c.args.objects.now (record { heap = c.fork.new.heap; procs = c.fork.new.self }) c.args.pid c.in-Ok.child c.args.control
-    c.requires.kept c.requires.runs c.fork.ensures.moves
+    child_there c.args.script.now c.args.objects.now (record { heap = c.fork.new.heap; procs = c.fork.new.self; tree = c.args.objects.now.tree }) c.args.pid c.in-Ok.child c.args.control
+    c.requires.kept c.requires.runs c.fork.ensures.moves refl
     (record { can = can_share c.args.script.now c.args.objects.now c.args.pid c.requires.runs.proc c.requires.kept c.heap_is_well_formed.ensures c.requires.runs.found; descs = c.in-Ok.ensures.shared c.requires.runs.proc c.requires.runs.found })
     c.in-Ok.ensures.child
 
 pub go_on-requires-clause-kept : goal.go_on-requires-clause-kept
 go_on-requires-clause-kept c =
-    kept_child c.args.script.now c.args.objects.now (record { heap = c.fork.new.heap; procs = c.fork.new.self }) c.move_on.new.self c.args.pid c.in-Ok.child c.args.control c.behind.result
-    c.requires.kept c.requires.runs c.fork.ensures.moves
+    kept_child c.args.script.now c.args.objects.now (record { heap = c.fork.new.heap; procs = c.fork.new.self; tree = c.args.objects.now.tree }) c.move_on.new.self c.args.pid c.in-Ok.child c.args.control c.behind.result
+    c.requires.kept c.requires.runs c.fork.ensures.moves refl
     (record { can = can_share c.args.script.now c.args.objects.now c.args.pid c.requires.runs.proc c.requires.kept c.heap_is_well_formed.ensures c.requires.runs.found; descs = c.in-Ok.ensures.shared c.requires.runs.proc c.requires.runs.found })
     c.in-Ok.ensures.child
     (number_of _ _ c.in-Ok.child (sym c.in-Ok.is ∙ c.fork.ensures.answer)) c.move_on.ensures c.behind.ensures.stands c.behind.ensures.rests
 
 pub go_on-requires-clause-runs : goal.go_on-requires-clause-runs
 go_on-requires-clause-runs c =
-    runs_still c.args.script.now c.args.objects.now (record { heap = c.fork.new.heap; procs = c.fork.new.self }) c.move_on.new.self c.args.pid c.in-Ok.child c.args.control c.behind.result
-    c.requires.kept c.requires.runs c.fork.ensures.moves
+    runs_still c.args.script.now c.args.objects.now (record { heap = c.fork.new.heap; procs = c.fork.new.self; tree = c.args.objects.now.tree }) c.move_on.new.self c.args.pid c.in-Ok.child c.args.control c.behind.result
+    c.requires.kept c.requires.runs c.fork.ensures.moves refl
     (record { can = can_share c.args.script.now c.args.objects.now c.args.pid c.requires.runs.proc c.requires.kept c.heap_is_well_formed.ensures c.requires.runs.found; descs = c.in-Ok.ensures.shared c.requires.runs.proc c.requires.runs.found })
     c.in-Ok.ensures.child
     (number_of _ _ c.in-Ok.child (sym c.in-Ok.is ∙ c.fork.ensures.answer)) c.move_on.ensures
@@ -77,11 +77,11 @@ returns-in-Err-clause-paid c =
 pub returns-in-Ok-clause-does : goal.returns-in-Ok-clause-does
 returns-in-Ok-clause-does c =
     let script = c.args.script.now in
-    let mid : Objects = record { heap = c.fork.new.heap; procs = c.fork.new.self } in
+    let mid : Objects = record { heap = c.fork.new.heap; procs = c.fork.new.self; tree = c.args.objects.now.tree } in
     let answer : Ok c.in-Ok.child ≡ forked_as _ c.args.objects.now.procs.last = sym c.in-Ok.is ∙ c.fork.ensures.answer in
     let value : _ ≡ pos c.in-Ok.child = to_z-of_z w64 c.from.result (record { sfits = c.from.type_inv }) ∙ c.from.ensures in
     does_fork script c.args.objects.now mid c.move_on.new.self c.args.pid c.in-Ok.child c.args.control c.behind.result
-    c.requires.kept c.requires.runs c.fork.ensures.moves
+    c.requires.kept c.requires.runs c.fork.ensures.moves refl
     (record { can = can_share c.args.script.now c.args.objects.now c.args.pid c.requires.runs.proc c.requires.kept c.heap_is_well_formed.ensures c.requires.runs.found; descs = c.in-Ok.ensures.shared c.requires.runs.proc c.requires.runs.found })
     c.in-Ok.ensures.child (number_of _ _ c.in-Ok.child answer) c.move_on.ensures
     c.go_on.new.objects c.go_on.result c.behind.ensures.stands c.behind.ensures.rests answer

@@ -91,7 +91,7 @@ leads : (script : Script) (old new : Objects) (heap : Heap) (pid : ℕ) (fd addr
     → (kept : IsKept heap old.procs) → (beside : heap ≡ record old.heap { pipes = heap.pipes; chunks = heap.chunks; high = heap.high })
     → ((numbers : Numbers) (plain : Plain) (account : Account) → QueuesStandFor numbers old.heap old.procs plain account
     → Leads script numbers heap old.procs plain account pid (call.Write as_fd as_addr as_n done) (write script plain pid as_fd as_addr as_n done) told)
-    → Follows script (record { heap = heap; procs = old.procs }) pid (λ moved. done + moved ≤ count_of n) told new
+    → Follows script (record { heap = heap; procs = old.procs; tree = old.tree }) pid (λ moved. done + moved ≤ count_of n) told new
     → Performs script old pid (call.Write fd addr n done) (λ plain. write script plain pid fd addr n done) told new
 leads script old new heap pid fd addr n as_fd as_addr as_n done told first second third kept beside each follows =
     performs script old heap kept (leaves_more old.heap heap beside) pid (call.Write fd addr n done) (λ moved. done + moved ≤ count_of n) new
@@ -113,7 +113,7 @@ returns-in-Part-clause-does c =
     (leads script old new c.write-told.new.heap pid c.args.fd c.args.addr c.args.n _ _ _ c.args.done c.write-told.result
     (to_z-of_z w64 c.args.fd c.ranges.fd) (to_z-of_z w64 c.args.addr c.ranges.addr) (to_z-of_z w64 c.args.n c.ranges.n) c.write-told.ensures.kept c.write-told.ensures.beside
     (c.write-told.ensures.leads script)
-    (follows_part script (record { heap = c.write-told.new.heap; procs = old.procs }) pid (λ moved. c.args.done + moved ≤ count_of c.args.n) c.write-told.result new c.in-Part.moved
+    (follows_part script (record { heap = c.write-told.new.heap; procs = old.procs; tree = old.tree }) pid (λ moved. c.args.done + moved ≤ count_of c.args.n) c.write-told.result new c.in-Part.moved
     c.in-Part.is (c.do_part.ensures.goes script)))
 
 pub returns-in_default-clause-does : goal.returns-in_default-clause-does
@@ -127,5 +127,5 @@ returns-in_default-clause-does c =
     (leads script old new c.write-told.new.heap pid c.args.fd c.args.addr c.args.n _ _ _ c.args.done c.write-told.result
     (to_z-of_z w64 c.args.fd c.ranges.fd) (to_z-of_z w64 c.args.addr c.ranges.addr) (to_z-of_z w64 c.args.n c.ranges.n) c.write-told.ensures.kept c.write-told.ensures.beside
     (c.write-told.ensures.leads script)
-    (follows_done script (record { heap = c.write-told.new.heap; procs = old.procs }) pid (λ moved. c.args.done + moved ≤ count_of c.args.n) c.write-told.result new
+    (follows_done script (record { heap = c.write-told.new.heap; procs = old.procs; tree = old.tree }) pid (λ moved. c.args.done + moved ≤ count_of c.args.n) c.write-told.result new
     c.go_on_done.ensures.goes (λ moved is some. c.in_default.not-Part moved is)))

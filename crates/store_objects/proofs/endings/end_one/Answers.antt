@@ -9,10 +9,11 @@ use Rattle.store_objects.specs.Endings.{shut}
 use Rattle.store_objects.specs.Objects.{procs_of}
 use Rattle.store_objects.proofs.Shutting.{has_shut}
 use Rattle.proc_descs.proofs.Fronts.{queues_same, queues_then}
-use Rattle.store_objects.proofs.Closing.{alive_shut, kept_shut, shut_account, shut_procs, shut_table}
+use Rattle.store_objects.proofs.Closing.{alive_shut, kept_shut, shut_account, shut_caches, shut_procs, shut_table}
 use Rattle.store_objects.proofs.EndingOne.{has_key, opens_ended}
 use Rattle.store_objects.proofs.EndingProcs.{kept_ended}
-use Rattle.store_objects.proofs.Keeping.{listed_in}
+use Rattle.store_objects.proofs.Keeping.{listed_in, moved_caches}
+use Rattle.store_objects.proofs.TreesOn.{caches_then}
 use Rattle.store_objects.proofs.endings.end_one.Goals as goal
 
 pub close_all-requires-clause-listed : goal.close_all-requires-clause-listed
@@ -32,14 +33,14 @@ pub end-requires-clause-holds : goal.end-requires-clause-holds
 end-requires-clause-holds c =
     let some = c.requires.kept in
     let old = c.args.objects.now in
-    let mid : Objects = record { heap = c.close_all.new.heap; procs = old.procs } in
-    (kept_shut some.0 old mid c.args.pid some.1 refl c.close_all.ensures.closes c.close_all.ensures.listed c.close_all.ensures.owners c.close_all.ensures.nodes).holds
+    let mid : Objects = record { heap = c.close_all.new.heap; procs = old.procs; tree = old.tree } in
+    (kept_shut some.0 old mid c.args.pid some.1 refl refl c.close_all.ensures.closes c.close_all.ensures.listed c.close_all.ensures.owners c.close_all.ensures.nodes).holds
 
 pub end-requires-clause-alive : goal.end-requires-clause-alive
 end-requires-clause-alive c =
     let some = c.requires.kept in
     let old = c.args.objects.now in
-    let mid : Objects = record { heap = c.close_all.new.heap; procs = old.procs } in
+    let mid : Objects = record { heap = c.close_all.new.heap; procs = old.procs; tree = old.tree } in
     alive_shut old mid c.args.pid (shut_procs old.heap mid.heap old.procs c.args.pid some.1.holds c.close_all.ensures.closes) c.requires.alive
 
 pub end-requires-clause-closed : goal.end-requires-clause-closed
@@ -52,11 +53,11 @@ pub returns-clause-kept : goal.returns-clause-kept
 returns-clause-kept c = λ script kept.
     let old = c.args.objects.now in
     let pid = c.args.pid in
-    let mid : Objects = record { heap = c.close_all.new.heap; procs = old.procs } in
-    let new : Objects = record { heap = c.end.new.heap; procs = c.end.new.self } in
+    let mid : Objects = record { heap = c.close_all.new.heap; procs = old.procs; tree = old.tree } in
+    let new : Objects = record { heap = c.end.new.heap; procs = c.end.new.self; tree = old.tree } in
     let is : procs_of mid ≡ map (shut pid) (procs_of old) = shut_procs old.heap mid.heap old.procs pid kept.holds c.close_all.ensures.closes in
     kept_ended script mid new pid c.args.status
-    (kept_shut script old mid pid kept refl c.close_all.ensures.closes c.close_all.ensures.listed c.close_all.ensures.owners c.close_all.ensures.nodes)
+    (kept_shut script old mid pid kept refl refl c.close_all.ensures.closes c.close_all.ensures.listed c.close_all.ensures.owners c.close_all.ensures.nodes) refl
     (subst (λ procs. HasClosed procs pid) (sym is) (has_shut pid (procs_of old))) c.end.ensures.moves c.end.ensures.ended
 
 pub returns-clause-ended : goal.returns-clause-ended
@@ -82,11 +83,11 @@ returns-clause-opened c = λ numbers files have.
     let some = c.requires.kept in
     let old = c.args.objects.now in
     let pid = c.args.pid in
-    let mid : Objects = record { heap = c.close_all.new.heap; procs = old.procs } in
-    let new : Objects = record { heap = c.end.new.heap; procs = c.end.new.self } in
+    let mid : Objects = record { heap = c.close_all.new.heap; procs = old.procs; tree = old.tree } in
+    let new : Objects = record { heap = c.end.new.heap; procs = c.end.new.self; tree = old.tree } in
     let is : procs_of mid ≡ map (shut pid) (procs_of old) = shut_procs old.heap mid.heap old.procs pid some.1.holds c.close_all.ensures.closes in
     opens_ended some.0 mid new pid c.args.status numbers (after_end_of files pid)
-    (kept_shut some.0 old mid pid some.1 refl c.close_all.ensures.closes c.close_all.ensures.listed c.close_all.ensures.owners c.close_all.ensures.nodes)
+    (kept_shut some.0 old mid pid some.1 refl refl c.close_all.ensures.closes c.close_all.ensures.listed c.close_all.ensures.owners c.close_all.ensures.nodes)
     (subst (λ procs. HasClosed procs pid) (sym is) (has_shut pid (procs_of old))) c.end.ensures.moves c.end.ensures.ended c.end.ensures.last
     (c.close_all.ensures.closed numbers files have)
 
@@ -96,3 +97,14 @@ returns-clause-queues c =
 
 pub returns-clause-takes : goal.returns-clause-takes
 returns-clause-takes c = TakesNothing-trans c.args.objects.now.heap c.close_all.new.heap c.end.new.heap c.close_all.ensures.takes c.end.ensures.takes
+
+pub returns-clause-tree : goal.returns-clause-tree
+returns-clause-tree c =
+    let old = c.args.objects.now in
+    let mid = c.close_all.new.heap in
+    let new = c.end.new.heap in
+    record {
+      tree = refl;
+      caches = caches_then old.heap mid new (shut_caches old.heap mid old.procs c.args.pid c.close_all.ensures.closes)
+          (moved_caches mid new old.procs c.end.new.self c.end.ensures.moves);
+    }

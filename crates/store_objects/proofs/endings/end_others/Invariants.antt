@@ -11,6 +11,7 @@ use Rattle.proc_table.specs.Standing.{IsTable}
 use Rattle.store_objects.specs.Endings.{ClearsSome}
 use Rattle.proc_descs.specs.Queues.{QueuesStand}
 use Rattle.store_objects.specs.Objects.{AreKept}
+use Rattle.store_objects.specs.Trees.{TreeStays}
 use Rattle.store_objects.specs.Uses.{UsesAtMost}
 use Rattle.store_objects.proofs.EndingOthers.{ClosesOn, EndsOn}
 use Rattle.store_objects.proofs.endings.end_others.Given as goal
@@ -27,6 +28,7 @@ invariant-loop-next l = record {
       → (after : Frames) × HasAccount l.objects.heap l.objects.procs after × ClearsSome frames after;
   opened : (numbers : Numbers) (files : Files) → HaveOpen numbers l.fn.objects.heap l.fn.objects.procs files → ClosesOn l.fn.objects l.objects l.pid numbers files;
   queues : QueuesStand l.fn.objects.heap l.objects.heap;
+  tree : TreeStays l.fn.objects l.objects;
 }
 
 abbrev pub decreases-loop-next : goal.decreases-loop-next

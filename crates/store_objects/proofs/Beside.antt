@@ -1,0 +1,81 @@
+-- Objects whose caches have become others, with their part of the heap, and all else of which is the same.
+use Rattle.std.proofs.Common.{◌≡◌, ℕ, List, Option, refl}
+use Rattle.kabi_types.specs.declared.scripts.Script.{Script}
+use Rattle.kheap_shelves.specs.declared.objects.Block.{Block}
+use Rattle.kheap_shelves.specs.declared.objects.Name.{Name}
+use Rattle.kheap_shelves.specs.declared.objects.Vnode.{Vnode}
+use Rattle.kheap_slabs.specs.Heap.{Heap}
+use Rattle.kheap_slabs.specs.Owners.{AreOwnersOf, IsOwned, Owners}
+use Rattle.open_laws.proofs.GoingLemmas.{held_open_on}
+use Rattle.memfs_ops.specs.FileTree.{TreeView}
+use Rattle.posix_defs.specs.Files.State.{with_tree}
+use Rattle.posix_defs.specs.Plain.{with_files}
+use Rattle.posix_defs.specs.Tree.{Tree}
+use Rattle.posix_defs.specs.World.{Kept, World}
+use Rattle.proc_table.specs.Table.{with_procs}
+use Rattle.store_objects.specs.declared.objects.Objects.{Objects}
+use Rattle.store_objects.specs.Objects.{AreKept, procs_of}
+use Rattle.store_objects.specs.Standing.{StandsFor}
+use Rattle.store_objects.specs.Trees.{HasTree, KeepsTree}
+use Rattle.store_objects.proofs.Opening.{files_on}
+use Rattle.store_objects.proofs.Families.{SameMemory, memory_on, processes_on}
+
+-- a heap with other objects of the three caches, and another mark
+abbrev pub beside_in : Heap → List (Option Vnode) → List (Option Name) → List (Option Block) → ℕ → ℕ → Heap
+beside_in h vnodes names blocks high marks = record h { vnodes = vnodes; names = names; blocks = blocks; high = high; marks = marks }
+
+-- the objects with that heap, and another tree of files
+abbrev pub beside_as : Objects → List (Option Vnode) → List (Option Name) → List (Option Block) → ℕ → ℕ → TreeView → Objects
+beside_as objects vnodes names blocks high marks fs =
+    record { heap = beside_in objects.heap vnodes names blocks high marks; procs = objects.procs; tree = fs }
+
+-- a world with another tree, in which other things are kept and more was read
+abbrev pub treed_in : World → Tree → Kept → ℕ → World
+treed_in world tree kept reads = record world { plain = with_files world.plain (with_tree world.plain.files tree); kept = kept; reads = reads }
+
+module _ (script : Script) (objects : Objects) (vnodes : List (Option Vnode)) (names : List (Option Name)) (blocks : List (Option Block)) (high marks : ℕ) (fs : TreeView) where
+  abbrev new : Objects
+  new = beside_as objects vnodes names blocks high marks fs
+
+  owned_beside : (owners : Owners) → IsOwned objects.heap owners → IsOwned new.heap owners
+  owned_beside owners owned = record { nodes = owned.nodes; mapped = owned.mapped; pages = owned.pages; chunks = owned.chunks; queues = owned.queues }
+
+  pub kept_beside : AreKept script objects → KeepsTree new.heap fs → AreKept script new
+  kept_beside kept keeps = record {
+    holds = record {
+      stored = kept.holds.stored;
+      rising = kept.holds.rising;
+      light = kept.holds.light;
+      owned = (kept.holds.owned.0, owned_beside (with_procs (procs_of objects) kept.holds.owned.0) kept.holds.owned.1);
+    };
+    all = kept.all;
+    owners = record {
+      objects = let own = kept.owners.objects in
+          (own.0, (let are : AreOwnersOf objects.heap own.0 = own.1 in record { spaces = are.spaces; queues = are.queues }), owned_beside own.0 own.2);
+      named = record { counts = kept.owners.named.counts; named = kept.owners.named.named };
+      held = held_open_on objects.heap new.heap refl refl refl refl kept.owners.held;
+    };
+    groups = kept.groups;
+    calls = kept.calls;
+    nodes = kept.nodes;
+    caches = keeps;
+    size = kept.size;
+  }
+
+  -- they stand for the world in which the tree, what is kept, and how much was read are others
+  pub stands_beside : (world : World) (tree : Tree) (kept : Kept) (reads : ℕ) → StandsFor script objects world → HasTree new (treed_in world tree kept reads)
+      → StandsFor script new (treed_in world tree kept reads)
+  stands_beside world tree kept reads stands has = record {
+    runs = stands.runs;
+    kept = kept_beside stands.kept (tree, _, has.stands);
+    processes = processes_on script objects new world.plain (treed_in world tree kept reads).plain refl same refl refl stands.processes;
+    memory = memory_on objects new world.account.frames world.account.frames refl same refl stands.memory;
+    files = files_on objects new world.plain.files (with_tree world.plain.files tree) world.account world.account
+        refl refl refl refl refl refl refl refl refl (λ number have. record { each = have.each; made = have.made }) stands.files;
+    tree = has;
+    family = stands.family;
+    home = stands.home;
+  }
+    where
+      same : SameMemory objects.heap new.heap
+      same = record { procs = refl; nodes = refl; pages = refl }
