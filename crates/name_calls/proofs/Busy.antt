@@ -1,5 +1,5 @@
 -- A node is busy where it is held: a description opens it, or a live process works in it. The root is held always.
-use Rattle.std.proofs.Common.{◌≡◌, ◌≢◌, ℕ, ◌<◌, ◌==◌, ◌&&◌, ◌||◌, Bool, true, false, cond, List, [], ◌∷◌, ◌++◌, Option, None, Some, refl, ap, sym, ◌∙◌, arith, inl, inr}
+use Rattle.std.proofs.Common.{◌≡◌, ◌≢◌, ℕ, ◌==◌, ◌&&◌, ◌||◌, Bool, true, false, cond, List, [], ◌∷◌, ◌++◌, Option, None, Some, refl, ap, sym, ◌∙◌, inl, inr}
 use Rattle.std.specs.Prelude.{count_by, nat_lt}
 use Rattle.std.specs.List.{list_any}
 use Rattle.std.proofs.lemmas.Bool.{lt-ltb, ltb-true}
@@ -8,11 +8,11 @@ use Rattle.std.proofs.lemmas.List.Folds.{list_any-append}
 use Rattle.kabi_types.specs.declared.scripts.Script.{Script}
 use Rattle.memfs_ops.specs.Removing.{HoldsNoSocket, TellsHeld, TellsOpened, is_held}
 use Rattle.posix_defs.specs.Calls.OnNames.{is_busy, works_in}
-use Rattle.posix_defs.specs.Files.Descriptions.{Description, Descriptions}
+use Rattle.posix_defs.specs.Files.Descriptions.{Descriptions}
 use Rattle.posix_defs.specs.Files.State.{Files, beside, is_number, nodes_among, opened_node, opened_nodes, opens}
 use Rattle.posix_defs.specs.Plain.{Plain, root}
-use Rattle.posix_defs.specs.Process.{Process, Table, runs}
-use Rattle.posix_defs.specs.Tree.{Tree, is_directory}
+use Rattle.posix_defs.specs.Process.{Table, runs}
+use Rattle.posix_defs.specs.Tree.{is_directory}
 use Rattle.posix_defs.specs.World.{World, directories_of, is_in}
 use Rattle.store_objects.specs.declared.objects.Objects.{Objects}
 use Rattle.store_objects.specs.Standing.{StandsFor}

@@ -20,8 +20,8 @@ use Rattle.memfs_ops.specs.FileTree.{Pays, Stands, TreeView}
 use Rattle.posix_defs.specs.Account.{account_on, with_frames}
 use Rattle.posix_defs.specs.Answer.{Answer, replied}
 use Rattle.posix_defs.specs.Calls.Opened.{opened_at}
-use Rattle.posix_defs.specs.Files.Descriptions.{Description, Descriptions, Target, OnNode, OnPipe, OnSocket}
-use Rattle.posix_defs.specs.Files.State.{Files, beside, nodes_among, node_of, opened_nodes, with_tree}
+use Rattle.posix_defs.specs.Files.Descriptions.{Descriptions, Target, OnNode, OnPipe, OnSocket}
+use Rattle.posix_defs.specs.Files.State.{Files, beside, nodes_among, node_of, with_tree}
 use Rattle.posix_defs.specs.Memory.{Frames}
 use Rattle.posix_defs.specs.MemoryCalls.{frames_after}
 use Rattle.posix_defs.specs.Needs.{need_of}

@@ -1,5 +1,5 @@
 -- What the calls on names leave of a tree that has no name of a socket: none either, and none is freed.
-use Rattle.std.proofs.Common.{◌≡◌, ℕ, zero, suc, ◌+◌, ◌-◌, ◌==◌, ◌&&◌, not, Bool, true, false, cond, List, [], ◌∷◌, Option, None, Some, Result, Ok, Err, refl, ap, sym, ◌∙◌, subst, slice_set}
+use Rattle.std.proofs.Common.{◌≡◌, ℕ, zero, suc, ◌+◌, ◌-◌, ◌==◌, ◌&&◌, not, Bool, true, false, cond, List, [], ◌∷◌, Option, None, Some, Result, Ok, Err, refl, ap, ◌∙◌, slice_set}
 use Rattle.std.specs.Prelude.{slice_index_or}
 use Rattle.std.specs.Option.{option_map}
 use Rattle.kabi_values.specs.declared.errnos.Errno.{Errno}
@@ -10,10 +10,10 @@ use Rattle.posix_defs.specs.DiskFormat.{blocks_of}
 use Rattle.posix_defs.specs.declared.walked.Walked.{Walked}
 use Rattle.posix_defs.specs.declared.walked.Walked.TheVariants as walked
 use Rattle.posix_defs.specs.Paths.{resolve}
-use Rattle.posix_defs.specs.PathCalls.{ends_in, freed_by, goes_below, is_empty, is_held, is_socket, is_socket_kind, kind_in, kind_of_content, link_from, link_path, link_to, mkdir_led, mkdir_path, node_led, rename_away, rename_led, rename_named, rename_onto, rename_path, rename_root, rmdir_led, rmdir_path, unless, unlink_led, unlink_path}
+use Rattle.posix_defs.specs.PathCalls.{ends_in, freed_by, goes_below, is_empty, is_held, is_socket_kind, kind_in, kind_of_content, link_from, link_path, link_to, mkdir_led, mkdir_path, node_led, rename_away, rename_led, rename_named, rename_onto, rename_path, rename_root, rmdir_led, rmdir_path, unless, unlink_led, unlink_path}
 use Rattle.posix_defs.specs.Tree.{Content, File, Directory, SocketName, Node, Tree, free_node, is_directory, links_at, node_at, size_of, with_node}
 use Rattle.store_objects.specs.Trees.{NamesNoSocket}
-use Rattle.posix_defs.specs.TreeChanges.{entry_aimed, entry_put, entry_renamed, entry_taken, hung, hung_if_directory, left_in, left_of, link, link_added, link_dropped, make, make_at, most_links, rename_over, rename_to, takes_entry, under, unlink, with_content, with_entries, with_entries_in, with_new}
+use Rattle.posix_defs.specs.TreeChanges.{entry_aimed, entry_put, entry_renamed, entry_taken, hung, hung_if_directory, left_in, link, link_added, link_dropped, make_at, most_links, rename_over, rename_to, takes_entry, under, unlink, with_content, with_entries, with_entries_in, with_new}
 
 -- what there is of a node is a socket's name
 abbrev names_socket : Option Node → Bool
