@@ -1,4 +1,4 @@
-use Rattle.std.proofs.Common.{◌≡◌, ◌∙◌, of_calls, rules}
+use Rattle.std.proofs.Common.{◌≡◌, ◌∙◌, rules}
 use Rattle.kabi_calls.specs.declared.calls.Call.TheVariants as call
 use Rattle.posix_defs.specs.Calls.OnNames.{rename}
 use Rattle.store_objects.specs.Trees.{pins_in}
@@ -21,7 +21,7 @@ rename_name-renamed-requires-clause-stands c =
       at_directory c.args.script.now c.args.objects.now c.args.pid c.directory_of-cwd.result c.requires.runs.proc c.requires.runs.found (c.directory_of-cwd.ensures c.requires.runs.proc c.requires.runs.found) some.0 some.1,
       holds_no_socket c.args.script.now c.args.objects.now some.0 some.1,
       λ number answer told other.
-          let said : answer ≡ has_node c.worked_in-held.result number = first_of (search rules, search of_calls, assumption told, cc) in
+          let said : answer ≡ has_node c.worked_in-held.result number = search rules in
           said ∙ c.worked_in-held.ensures number ∙ held_works c.args.script.now c.args.objects.now some.0 some.1 number other,
     )
 
