@@ -6,19 +6,18 @@ use Rattle.std.proofs.lemmas.Bool.{lt-ltb, ltb-true}
 use Rattle.std.proofs.lemmas.Bool.Decides.{eqb_tells}
 use Rattle.std.proofs.lemmas.List.Folds.{list_any-append}
 use Rattle.kabi_types.specs.declared.scripts.Script.{Script}
-use Rattle.memfs_ops.specs.Removing.{HoldsNoSocket, TellsHeld, TellsOpened, is_held}
+use Rattle.memfs_ops.specs.Removing.{HoldsNoSocket, TellsHeld, is_held}
 use Rattle.posix_defs.specs.Calls.OnNames.{is_busy, works_in}
 use Rattle.posix_defs.specs.Files.Descriptions.{Descriptions}
 use Rattle.posix_defs.specs.Files.State.{Files, beside, is_number, nodes_among, opened_node, opened_nodes, opens}
 use Rattle.posix_defs.specs.Plain.{Plain, root}
 use Rattle.posix_defs.specs.Process.{Table, runs}
-use Rattle.posix_defs.specs.Tree.{is_directory}
 use Rattle.posix_defs.specs.World.{World, directories_of, is_in}
 use Rattle.store_objects.specs.declared.objects.Objects.{Objects}
 use Rattle.store_objects.specs.Standing.{StandsFor}
 use Rattle.store_objects.specs.Trees.{held_nodes, pins_in}
 use Rattle.store_objects.proofs.HeldNodes.{counts_in, held_same, in_counts}
-use Rattle.store_objects.proofs.TreesOn.{held_today, none_opened}
+use Rattle.store_objects.proofs.TreesOn.{none_opened}
 
 -- a test holds where another does, and the other way round
 alike : (a b : Bool) → (a ≡ true → b ≡ true) → (b ≡ true → a ≡ true) → a ≡ b
@@ -72,27 +71,13 @@ held_busy plain n other =
 pub tells_held : (plain : Plain) → TellsHeld (pins_in plain) (is_busy plain)
 tells_held plain = λ n other. held_busy plain n other
 
--- ---- today no node is open, and all work in the root
+-- ---- today no node is open
 
 module _ (script : Script) (objects : Objects) (world : World) (stands : StandsFor script objects world) where
   pub opens_none : (n : ℕ) → opens world.plain.files n ≡ false
   opens_none n = opens_is world.plain.files n ∙ ap (is_in n) (none_opened objects world.plain.files world.account script stands.kept stands.files)
 
-  holds_none : (n : ℕ) → n ≢ root → is_held (pins_in world.plain) n ≡ false
-  holds_none n other =
-      counted n (held_nodes world.plain)
-      ∙ ap (is_in n) (held_today script objects world.plain world.account stands.kept stands.files stands.home)
-      ∙ ap (λ b. b || false) (other_than_root n other)
-
-  -- so of each file it is told whether it is opened
-  pub tells_opened : TellsOpened world.plain.files.tree (pins_in world.plain) (opens world.plain.files)
-  tells_opened = λ n file named. opens_none n ∙ sym (holds_none n (λ same. root_is_none n same file))
-    where
-      root_is_none : (n : ℕ) → n ≡ root → is_directory world.plain.files.tree n ≡ false → ⊥
-      root_is_none n same file =
-          let both : true ≡ false = sym stands.tree.stands.is_tree.root_directory ∙ ap (is_directory world.plain.files.tree) (sym same) ∙ file in cc
-
-  -- and who works in a node alone makes it busy
+  -- so who works in a node alone makes it busy
   pub busy_works : (n : ℕ) → is_busy world.plain n ≡ list_any (works_in n) world.plain.table
   busy_works n = ap (λ b. b || list_any (works_in n) world.plain.table) (opens_none n)
 

@@ -27,7 +27,8 @@ use Rattle.store_objects.specs.Standing.{StandsFor}
 use Rattle.store_objects.specs.Trees.{KeepsTree, NamesNoSocket, pins_in}
 use Rattle.path_calls.proofs.Walked.{works_in_directory, works_there}
 use Rattle.name_calls.specs.Replies.{done_reply, freed_reply}
-use Rattle.name_calls.proofs.Busy.{tells_held, tells_opened}
+use Rattle.name_calls.proofs.Busy.{tells_held}
+use Rattle.name_calls.proofs.Working.{tells_opened}
 use Rattle.name_calls.proofs.Changed.{ChangesNames, Led, retreed_as}
 use Rattle.name_calls.proofs.NoSocket.{FreesNone, LeftQuiet, MadeQuiet, link_quiet, mkdir_quiet, rename_frees_none, rmdir_quiet, unlink_frees_none}
 

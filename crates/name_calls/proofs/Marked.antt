@@ -7,13 +7,13 @@ use Rattle.kheap_shelves.specs.Objects.{object}
 use Rattle.kheap_shelves.specs.declared.objects.Proc.{Proc}
 use Rattle.proc_table.specs.Table.{AreStored, procs_at}
 use Rattle.proc_table.specs.declared.places.Listed.{Listed}
-use Rattle.name_calls.specs.Nodes.{has_node, most_nodes, some_works, works_at}
+use Rattle.name_calls.specs.Nodes.{WorksWithin, has_node, some_works, works_at}
 use Rattle.name_calls.specs.declared.node_set.NodeSet.{NodeSet}
 
 -- The places that are left have their processes, whose nodes fit; these and those that are marked are all in which someone works.
 pub record AreMarked (set : NodeSet) (objects : List (Option Proc)) (all left : List Listed) : Type 0 where
   pub stored : AreStored objects left
-  pub few : AllByRecursion (λ proc. proc.cwd < most_nodes) (procs_at objects left)
+  pub fit : AllByRecursion WorksWithin (procs_at objects left)
   pub same : (number : ℕ) → (has_node set number || some_works (procs_at objects left) number) ≡ some_works (procs_at objects all) number
 
 abbrev pub no_place : Listed
@@ -28,9 +28,9 @@ none_told (Some status) false e = refl
 
 -- nothing is marked
 pub none_marked : (set : NodeSet) (objects : List (Option Proc)) (all : List Listed) → ((number : ℕ) → has_node set number ≡ false) → AreStored objects all
-    → AllByRecursion (λ proc. proc.cwd < most_nodes) (procs_at objects all) → AreMarked set objects all all
-none_marked set objects all none stored few =
-    record { stored = stored; few = few; same = λ number. ap (λ b. b || some_works (procs_at objects all) number) (none number) }
+    → AllByRecursion WorksWithin (procs_at objects all) → AreMarked set objects all all
+none_marked set objects all none stored fit =
+    record { stored = stored; fit = fit; same = λ number. ap (λ b. b || some_works (procs_at objects all) number) (none number) }
 
 -- nobody is left
 pub all_marked : (set : NodeSet) (objects : List (Option Proc)) (all left : List Listed) → AreMarked set objects all left → left ≡ []
@@ -55,12 +55,12 @@ module _ (objects : List (Option Proc)) (all places : List Listed) (at : ℕ) (p
   stored_on stored =
       let both : AreStored objects (get_or places at no_place ∷ rest) = subst (AreStored objects) (drop_more places at no_place within) stored in both.1
 
-  few_here : AllByRecursion (λ p. p.cwd < most_nodes) (procs_at objects (drop at places)) → AllByRecursion (λ p. p.cwd < most_nodes) (proc ∷ procs_at objects rest)
-  few_here few = subst (AllByRecursion (λ (p : Proc). p.cwd < most_nodes)) first few
+  within_here : AllByRecursion WorksWithin (procs_at objects (drop at places)) → AllByRecursion WorksWithin (proc ∷ procs_at objects rest)
+  within_here fit = subst (AllByRecursion WorksWithin) first fit
 
   -- its node fits
-  pub fits : (set : NodeSet) → AreMarked set objects all (drop at places) → proc.cwd < most_nodes
-  fits set marked = (few_here marked.few).0
+  pub fits : (set : NodeSet) → AreMarked set objects all (drop at places) → WorksWithin proc
+  fits set marked = (within_here marked.fit).0
 
   -- what the invariant says of it
   says : (set : NodeSet) → AreMarked set objects all (drop at places) → (number : ℕ)
@@ -70,7 +70,7 @@ module _ (objects : List (Option Proc)) (all places : List Listed) (at : ℕ) (p
   -- it runs, and its node is marked
   pub added : (set now : NodeSet) → AreMarked set objects all (drop at places) → is_none proc.status ≡ true → has_node now proc.cwd ≡ true
       → ((number : ℕ) → number ≢ proc.cwd → has_node now number ≡ has_node set number) → AreMarked now objects all rest
-  added set now marked runs this others = record { stored = stored_on marked.stored; few = (few_here marked.few).1; same = same }
+  added set now marked runs this others = record { stored = stored_on marked.stored; fit = (within_here marked.fit).1; same = same }
     where
       told : (number : ℕ) (b : Bool) → (proc.cwd == number) ≡ b → works_at number proc ≡ b
       told number b e = ap (λ n. n && proc.cwd == number) runs ∙ e
@@ -96,7 +96,7 @@ module _ (objects : List (Option Proc)) (all places : List Listed) (at : ℕ) (p
   pub passed : (set : NodeSet) → AreMarked set objects all (drop at places) → is_none proc.status ≡ false → AreMarked set objects all rest
   passed set marked ended = record {
     stored = stored_on marked.stored;
-    few = (few_here marked.few).1;
+    fit = (within_here marked.fit).1;
     same = λ number.
         ap (λ b. has_node set number || ((b && proc.cwd == number) || some_works (procs_at objects rest) number)) (sym ended) ∙ says set marked number;
   }

@@ -1,5 +1,5 @@
 -- Sets of nodes, and which nodes processes work in.
-use Rattle.std.specs.Prelude.{ℕ, ◌==◌, ◌&&◌, Bool, List, nat_lt, is_none}
+use Rattle.std.specs.Prelude.{ℕ, ◌==◌, ◌≡◌, ◌&&◌, ◌<◌, Bool, List, None, nat_lt, is_none}
 use Rattle.std.specs.List.{list_any}
 use Rattle.kheap_shelves.specs.declared.objects.Proc.{Proc}
 use Rattle.posix_defs.specs.SoundDisk.{bit_of}
@@ -20,3 +20,7 @@ works_at number proc = is_none proc.status && proc.cwd == number
 -- some process of these does
 abbrev pub some_works : List Proc → ℕ → Bool
 some_works procs number = list_any (works_at number) procs
+
+-- a process that runs works in a node that a set may have
+abbrev pub WorksWithin : Proc → Type 0
+WorksWithin proc = proc.status ≡ None → proc.cwd < most_nodes

@@ -1,9 +1,9 @@
 //! Who works where, told while the heap is lent to the tree.
 
-ghost use Rattle.std.specs.Prelude.{◌≡◌, ℕ, ◌<◌};
+ghost use Rattle.std.specs.Prelude.{◌≡◌, ℕ};
 ghost use Rattle.std.specs.List.{AllByRecursion};
 ghost use Rattle.proc_table.specs.Table.{AreStored, processes};
-ghost use Rattle.name_calls.specs.Nodes.{has_node, most_nodes, some_works};
+ghost use Rattle.name_calls.specs.Nodes.{WorksWithin, has_node, some_works};
 
 use crate::node_set::NodeSet;
 use kheap_slabs::KHeap;
@@ -12,7 +12,7 @@ use proc_table::ProcTable;
 /// The nodes that live processes work in.
 pub(crate) fn worked_in(heap: &KHeap, procs: &ProcTable) -> NodeSet
     requires stored { AreStored heap.now.procs procs.now.listed }
-    requires few { AllByRecursion (λ proc. proc.cwd < most_nodes) (processes heap.now procs.now) }
+    requires within { AllByRecursion WorksWithin (processes heap.now procs.now) }
     ensures { (number : ℕ) → has_node result number ≡ some_works (processes heap.now procs.now) number }
 {
     let mut nodes = NodeSet::new();

@@ -5,11 +5,11 @@ use Rattle.store_objects.specs.Trees.{pins_in}
 use Rattle.name_calls.specs.Nodes.{has_node}
 use Rattle.name_calls.proofs.Changed.{kept_mid, leads, paid_on}
 use Rattle.name_calls.proofs.Led.{at_directory, led_keeps, rmdir_changes, rmdir_leads}
-use Rattle.name_calls.proofs.Working.{all_fit, held_works}
+use Rattle.name_calls.proofs.Working.{all_within, held_works}
 use Rattle.name_calls.proofs.directories.rmdir.Goals as goal
 
-pub worked_in-held-requires-clause-few : goal.worked_in-held-requires-clause-few
-worked_in-held-requires-clause-few c = all_fit c.args.script.now c.args.objects.now c.requires.stands.0 c.requires.stands.1
+pub worked_in-held-requires-clause-within : goal.worked_in-held-requires-clause-within
+worked_in-held-requires-clause-within c = all_within c.args.script.now c.args.objects.now c.requires.stands.0 c.requires.stands.1
 
 pub remove_dir-gone-requires-clause-stands : goal.remove_dir-gone-requires-clause-stands
 remove_dir-gone-requires-clause-stands c =
