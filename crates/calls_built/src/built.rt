@@ -41,7 +41,12 @@ pub fn is_built(kind: CallKind) -> bool
         | CallKind::Rmdir
         | CallKind::Unlink
         | CallKind::Link
-        | CallKind::Rename => true,
+        | CallKind::Rename
+        | CallKind::Socket
+        | CallKind::Socketpair
+        | CallKind::Listen
+        | CallKind::Accept
+        | CallKind::Shutdown => true,
         _ => false,
     }
 }
