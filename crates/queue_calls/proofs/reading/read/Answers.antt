@@ -6,6 +6,7 @@ use Rattle.posix_defs.specs.Calls.Reading.{read}
 use Rattle.proc_queues.specs.Standing.{Leads}
 use Rattle.store_objects.specs.Standing.{Performs}
 use Rattle.queue_calls.proofs.MovedNumbers.{of_three}
+use Rattle.proc_queues.proofs.Finding.{on_pipes}
 use Rattle.queue_calls.proofs.Queueing.{is_kept, kept_mid, leaves_rest, off_nodes, opens_pipes, runs_alive, runs_mid}
 use Rattle.queue_calls.proofs.Remaining.{read_leaves}
 use Rattle.queue_calls.proofs.Telling.{follows_done, performs}
@@ -17,8 +18,8 @@ read-told-requires-clause-kept c = let some = c.requires.stands in is_kept c.arg
 pub read-told-requires-clause-alive : goal.read-told-requires-clause-alive
 read-told-requires-clause-alive c = runs_alive c.args.objects.now c.args.pid c.args.control c.requires.runs
 
-pub read-told-requires-clause-pipes : goal.read-told-requires-clause-pipes
-read-told-requires-clause-pipes c = let some = c.requires.stands in opens_pipes c.args.script.now c.args.objects.now some.0 some.1
+pub read-told-requires-clause-on : goal.read-told-requires-clause-on
+read-told-requires-clause-on c = let some = c.requires.stands in on_pipes c.args.objects.now.heap c.args.objects.now.procs c.args.pid _ (opens_pipes c.args.script.now c.args.objects.now some.0 some.1)
 
 pub go_on_done-requires-clause-kept : goal.go_on_done-requires-clause-kept
 go_on_done-requires-clause-kept c =

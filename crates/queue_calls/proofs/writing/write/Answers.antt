@@ -15,6 +15,7 @@ use Rattle.proc_queues.specs.Standing.{IsKept, IsTold, Leads, StandsFor as Queue
 use Rattle.store_objects.specs.declared.objects.Objects.{Objects}
 use Rattle.store_objects.specs.Standing.{Performs}
 use Rattle.queue_calls.proofs.MovedNumbers.{count_few, of_three}
+use Rattle.proc_queues.proofs.Finding.{on_pipes}
 use Rattle.queue_calls.proofs.Queueing.{is_kept, kept_mid, leaves_more, off_nodes, opens_pipes, queues_stand, runs_alive, runs_mid}
 use Rattle.queue_calls.proofs.Remaining.{write_leaves}
 use Rattle.queue_calls.proofs.Telling.{Follows, follows_done, follows_part, part_told, performs}
@@ -26,8 +27,8 @@ write-told-requires-clause-kept c = let some = c.requires.stands in is_kept c.ar
 pub write-told-requires-clause-alive : goal.write-told-requires-clause-alive
 write-told-requires-clause-alive c = runs_alive c.args.objects.now c.args.pid c.args.control c.requires.runs
 
-pub write-told-requires-clause-pipes : goal.write-told-requires-clause-pipes
-write-told-requires-clause-pipes c = let some = c.requires.stands in opens_pipes c.args.script.now c.args.objects.now some.0 some.1
+pub write-told-requires-clause-on : goal.write-told-requires-clause-on
+write-told-requires-clause-on c = let some = c.requires.stands in on_pipes c.args.objects.now.heap c.args.objects.now.procs c.args.pid _ (opens_pipes c.args.script.now c.args.objects.now some.0 some.1)
 
 pub do_part-requires-clause-kept : goal.do_part-requires-clause-kept
 do_part-requires-clause-kept c =

@@ -7,6 +7,7 @@ use Rattle.posix_defs.specs.Machine.{blocks}
 use Rattle.store_objects.proofs.RunningProcs.{alive_runs}
 use Rattle.queue_calls.proofs.Blocking.{blocks_right, blocks_wrong, no_fault}
 use Rattle.queue_calls.proofs.MovedNumbers.{of_three}
+use Rattle.proc_queues.proofs.Finding.{on_pipes}
 use Rattle.queue_calls.proofs.Queueing.{is_kept, opens_pipes, queues_stand}
 use Rattle.queue_calls.proofs.writing.write_would_block.Goals as goal
 
@@ -16,8 +17,8 @@ write_waits-requires-clause-kept c = let some = c.requires in is_kept some.0 c.a
 pub write_waits-requires-clause-alive : goal.write_waits-requires-clause-alive
 write_waits-requires-clause-alive c = let some = c.requires in alive_runs some.0 c.args.objects.now some.1.plain c.args.pid some.2.processes some.3
 
-pub write_waits-requires-clause-pipes : goal.write_waits-requires-clause-pipes
-write_waits-requires-clause-pipes c = let some = c.requires in opens_pipes some.0 c.args.objects.now some.1 some.2
+pub write_waits-requires-clause-on : goal.write_waits-requires-clause-on
+write_waits-requires-clause-on c = let some = c.requires in on_pipes c.args.objects.now.heap c.args.objects.now.procs c.args.pid _ (opens_pipes some.0 c.args.objects.now some.1 some.2)
 
 pub write_waits-requires-clause-right : goal.write_waits-requires-clause-right
 write_waits-requires-clause-right c = no_fault _ (sym c.may_move.ensures ∙ c.if-may_move.true)
