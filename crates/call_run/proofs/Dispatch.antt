@@ -14,7 +14,7 @@ use Rattle.posix_defs.specs.Plain.{Plain}
 use Rattle.posix_defs.specs.declared.turner.Turned.{Turned}
 use Rattle.store_objects.specs.declared.objects.Objects.{Objects}
 use Rattle.store_objects.specs.Standing.{Performs}
-use Rattle.call_run.specs.Families.{HasDone, is_open, is_queued, is_refused, makes_memory}
+use Rattle.call_run.specs.Families.{HasDone, is_open, is_queued, is_refused, is_socketed, makes_memory}
 
 -- a wrong operand is told
 pub wrong_told : (script : Script) (plain : Plain) (pid : ℕ) (fault : Option Errno) (errno : Errno) (answer : Answer) → fault ≡ Some errno
@@ -82,22 +82,32 @@ queued_left (call.Read fd addr n) p r w = absurd (r fd addr n refl)
 queued_left (call.Write fd addr n done) p r w = absurd (w fd addr n done refl)
 queued_left _ p r w = refl
 
+-- one that is none of those on sockets which move no bytes
+pub socketed_left : (which : Call) → (which ≡ call.Socket → ⊥) → (which ≡ call.Socketpair → ⊥) → ((a : ℤ) → which ≡ call.Listen a → ⊥) → ((a : ℤ) → which ≡ call.Accept a → ⊥)
+    → ((a b : ℤ) → which ≡ call.Shutdown a b → ⊥) → is_socketed (kind_of which) ≡ false
+socketed_left call.Socket s p l a h = absurd (s refl)
+socketed_left call.Socketpair s p l a h = absurd (p refl)
+socketed_left (call.Listen fd) s p l a h = absurd (l fd refl)
+socketed_left (call.Accept fd) s p l a h = absurd (a fd refl)
+socketed_left (call.Shutdown fd how) s p l a h = absurd (h fd how refl)
+socketed_left _ s p l a h = refl
+
 -- one that can be run, makes no object, and is none of these is on descriptors
-pub open_left : (which : Call) → is_built (kind_of which) ≡ true → makes_memory (kind_of which) ≡ false → is_queued (kind_of which) ≡ false
+pub open_left : (which : Call) → is_built (kind_of which) ≡ true → makes_memory (kind_of which) ≡ false → is_queued (kind_of which) ≡ false → is_socketed (kind_of which) ≡ false
     → (which ≡ call.Getpid → ⊥) → (which ≡ call.Getppid → ⊥) → (which ≡ call.SchedYield → ⊥)
     → ((a : ℤ) → which ≡ call.Exit a → ⊥) → ((a b : ℤ) → which ≡ call.Waitpid a b → ⊥) → ((a b : ℤ) → which ≡ call.Kill a b → ⊥) → ((a b : ℤ) → which ≡ call.Munmap a b → ⊥)
     → ((a b : ℤ) → which ≡ call.Load a b → ⊥) → is_open (kind_of which) ≡ true
-open_left call.Getpid built other queued p q y e w k u l = absurd (p refl)
-open_left call.Getppid built other queued p q y e w k u l = absurd (q refl)
-open_left call.SchedYield built other queued p q y e w k u l = absurd (y refl)
-open_left (call.Exit a) built other queued p q y e w k u l = absurd (e a refl)
-open_left (call.Waitpid a b) built other queued p q y e w k u l = absurd (w a b refl)
-open_left (call.Kill a b) built other queued p q y e w k u l = absurd (k a b refl)
-open_left (call.Munmap a b) built other queued p q y e w k u l = absurd (u a b refl)
-open_left (call.Load a b) built other queued p q y e w k u l = absurd (l a b refl)
-open_left _ built other queued p q y e w k u l = cc
+open_left call.Getpid built other queued socketed p q y e w k u l = absurd (p refl)
+open_left call.Getppid built other queued socketed p q y e w k u l = absurd (q refl)
+open_left call.SchedYield built other queued socketed p q y e w k u l = absurd (y refl)
+open_left (call.Exit a) built other queued socketed p q y e w k u l = absurd (e a refl)
+open_left (call.Waitpid a b) built other queued socketed p q y e w k u l = absurd (w a b refl)
+open_left (call.Kill a b) built other queued socketed p q y e w k u l = absurd (k a b refl)
+open_left (call.Munmap a b) built other queued socketed p q y e w k u l = absurd (u a b refl)
+open_left (call.Load a b) built other queued socketed p q y e w k u l = absurd (l a b refl)
+open_left _ built other queued socketed p q y e w k u l = cc
 
--- one on descriptors that is none of these is refused by pipes
+-- one on descriptors that is none of these is refused by pipes and sockets
 pub refused_left : (which : Call) → is_open (kind_of which) ≡ true → ((a : ℤ) → which ≡ call.Close a → ⊥) → ((a : ℤ) → which ≡ call.Dup a → ⊥)
     → ((a b : ℤ) → which ≡ call.Dup2 a b → ⊥) → ((a b c : ℤ) → which ≡ call.Fcntl a b c → ⊥) → ((a : ℤ) → which ≡ call.Fstat a → ⊥)
     → ((a : ℤ) (entries : List PollEntry) → which ≡ call.Poll a entries → ⊥) → is_refused (kind_of which) ≡ true

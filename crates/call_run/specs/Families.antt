@@ -12,14 +12,23 @@ makes_memory kind.Mmap = true
 makes_memory kind.Store = true
 makes_memory _ = false
 
--- those that make a pipe, or move bytes through one
+-- those that make a pipe, or move bytes through one or a socket
 abbrev pub is_queued : CallKind → Bool
 is_queued kind.Pipe = true
 is_queued kind.Read = true
 is_queued kind.Write = true
 is_queued _ = false
 
--- those that want a file or a directory, which pipes refuse
+-- those that make sockets, take one that waits, or change how far one has come
+abbrev pub is_socketed : CallKind → Bool
+is_socketed kind.Socket = true
+is_socketed kind.Socketpair = true
+is_socketed kind.Listen = true
+is_socketed kind.Accept = true
+is_socketed kind.Shutdown = true
+is_socketed _ = false
+
+-- those that want a file or a directory, which pipes and sockets refuse
 abbrev pub is_refused : CallKind → Bool
 is_refused kind.Pread = true
 is_refused kind.Pwrite = true

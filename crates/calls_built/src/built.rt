@@ -35,7 +35,12 @@ pub fn is_built(kind: CallKind) -> bool
         | CallKind::Pwrite
         | CallKind::Lseek
         | CallKind::Readdir
-        | CallKind::Ftruncate => true,
+        | CallKind::Ftruncate
+        | CallKind::Socket
+        | CallKind::Socketpair
+        | CallKind::Listen
+        | CallKind::Accept
+        | CallKind::Shutdown => true,
         _ => false,
     }
 }

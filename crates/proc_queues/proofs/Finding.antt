@@ -7,8 +7,8 @@ use Rattle.kheap_shelves.specs.declared.objects.Desc.{Desc}
 use Rattle.kheap_shelves.specs.declared.objects.Target.{Target}
 use Rattle.kheap_shelves.specs.declared.objects.Target.TheVariants as target
 use Rattle.kheap_slabs.specs.Heap.{Heap}
-use Rattle.open_laws.specs.Described.{access_in, node_in}
-use Rattle.open_laws.specs.Owned.{HasItsOwners, IsThereFor, sock_of}
+use Rattle.open_laws.specs.Described.{access_in}
+use Rattle.open_laws.specs.Owned.{HasItsOwners, IsThereFor}
 use Rattle.pipe_ends.specs.Standing.{IsPipeAt}
 use Rattle.place_laws.specs.Placed.{Numbers}
 use Rattle.posix_defs.specs.Answer.{Answer, failed}
@@ -18,7 +18,7 @@ use Rattle.posix_defs.specs.Plain.{Plain}
 use Rattle.proc_table.specs.Procs.{IsAlive}
 use Rattle.proc_table.specs.Table.{AreStored, TableView, key_of, processes}
 use Rattle.proc_table.proofs.PlaceLemmas.{key_of-none, none_not_some}
-use Rattle.proc_queues.specs.Found.{IsNamed, IsOnPipe, OpensPipes, opened_in, pipe_in}
+use Rattle.proc_queues.specs.Found.{IsNamed, IsOnPipe, opened_in, pipe_in}
 use Rattle.proc_queues.specs.declared.lookups.Found.{Found}
 
 module _ (script : Script) (numbers : Numbers) (plain : Plain) (pid : ℕ) (fd : ℤ) (answer : Opened → Answer) where
@@ -42,15 +42,6 @@ pub pipe_of : (h : Heap) (key pipe : ℕ) (desc : Desc) → HasItsOwners h [] �
 pipe_of h key pipe desc owners is on =
     let there : IsThereFor h desc.access (target.Pipe pipe) = subst (IsThereFor h desc.access) on (owners.held.targets key desc is) in
     owners.held.stand pipe there.0
-
--- where pipes alone are open every number is open on one
-pub on_pipes : (h : Heap) (kept : TableView) (pid : ℕ) (fd : ℤ) → OpensPipes h.descs → IsOnPipe h kept pid fd
-on_pipes h kept pid fd opens held desc named is = by_target desc.target (opens.nodes held.desc desc is) (opens.sockets held.desc desc is)
-  where
-    by_target : (what : Target) → node_in what ≡ None → sock_of what ≡ None → IsSome (pipe_in what)
-    by_target (target.Pipe pipe) off_nodes off_sockets = refl
-    by_target (target.Inode number) off_nodes off_sockets = cc
-    by_target (target.Sock sock) off_nodes off_sockets = cc
 
 -- what a number names that is open on a pipe is a pipe
 pub only_pipe : (h : Heap) (kept : TableView) (pid : ℕ) (fd : ℤ) (found : Found) → IsOnPipe h kept pid fd → IsNamed h kept pid fd found → object h.descs found.key ≡ Some found.desc

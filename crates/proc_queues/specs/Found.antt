@@ -7,11 +7,9 @@ use Rattle.kheap_shelves.specs.declared.objects.Target.{Target}
 use Rattle.kheap_shelves.specs.declared.objects.Target.TheVariants as target
 use Rattle.kheap_slabs.specs.Heap.{Heap}
 use Rattle.open_laws.specs.Described.{counted_in}
-use Rattle.open_laws.specs.Owned.{sock_of}
 use Rattle.place_laws.specs.Placed.{Numbers}
 use Rattle.posix_defs.specs.Calls.Opened.{Opened}
 use Rattle.proc_table.specs.Table.{TableView}
-use Rattle.proc_descs.specs.Having.{OpensNoNode}
 use Rattle.proc_descs.specs.Naming.{named_by}
 use Rattle.proc_queues.specs.declared.lookups.Found.{Found}
 
@@ -23,15 +21,6 @@ held_at places (negsuc _) = None
 -- the description that was found, with its place
 abbrev pub opened_in : Numbers → Found → Opened
 opened_in numbers found = record { place = numbers.descs found.key; is = (counted_in numbers found.desc).is }
-
--- no description is open on a socket
-abbrev pub OpensNoSocket : List (Option Desc) → Type 0
-OpensNoSocket descs = (key : ℕ) (desc : Desc) → object descs key ≡ Some desc → sock_of desc.target ≡ None
-
--- what is open is open on pipes alone
-pub record OpensPipes (descs : List (Option Desc)) : Type 0 where
-  pub nodes : OpensNoNode descs
-  pub sockets : OpensNoSocket descs
 
 -- the pipe that a target is
 abbrev pub pipe_in : Target → Option ℕ
