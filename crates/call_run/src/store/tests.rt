@@ -67,6 +67,12 @@ enum Ask {
     /// A number, an address, and how many bytes.
     Read(i64, i64, i64),
     Write(i64, i64, i64),
+    Socket,
+    Socketpair,
+    Listen(i64),
+    Accept(i64),
+    /// A number, and what is shut.
+    Shutdown(i64, i64),
 }
 
 /// The call.
@@ -106,13 +112,18 @@ fn call_of(ask: &Ask) -> Call
             n: *n,
             done: 0,
         },
+        Ask::Socket => Call::Socket,
+        Ask::Socketpair => Call::Socketpair,
+        Ask::Listen(fd) => Call::Listen { fd: *fd },
+        Ask::Accept(fd) => Call::Accept { fd: *fd },
+        Ask::Shutdown(fd, how) => Call::Shutdown { fd: *fd, how: *how },
     }
 }
 
 /// What a turn tells, as the rows write it.
 enum Told {
     Val(i64),
-    /// The read end of a pipe, and its write end.
+    /// The read end of a pipe, and its write end; or two sockets.
     Pair(u32, u32),
     Fails(Errno),
     /// A child, and its wait status.
@@ -243,6 +254,54 @@ const QUEUES: &[Row] = &[
     (1, Ask::Close(0), Told::Fails(Errno::EBADF), 5248),
 ];
 
+/// Each of two sockets has the bytes that the other wrote. They go as they are read, with the side that is shut for reading, and
+/// both sockets with the last process that has them open.
+const PEERS: &[Row] = &[
+    (1, Ask::Socketpair, Told::Pair(0, 1), 1024),
+    (1, Ask::Mmap(8192), Told::Val(4096), 1536),
+    (1, Ask::Read(1, 8192, 512), Told::Sleeps, 1536),
+    (1, Ask::Write(0, 4096, 513), Told::Val(513), 2688),
+    (1, Ask::Write(1, 4096, 1), Told::Val(1), 3264),
+    (1, Ask::Read(1, 8192, 512), Told::Val(512), 6784),
+    (1, Ask::Fork, Told::Val(2), 7808),
+    (1, Ask::Shutdown(0, 1), Told::Val(0), 7808),
+    (2, Ask::Read(1, 8192, 512), Told::Val(1), 11328),
+    (2, Ask::Read(1, 8192, 512), Told::Val(0), 11328),
+    (2, Ask::Write(0, 4096, 1), Told::Fails(Errno::EPIPE), 11328),
+    (1, Ask::Shutdown(0, 0), Told::Val(0), 10752),
+    (1, Ask::Close(0), Told::Val(0), 10752),
+    (1, Ask::Close(1), Told::Val(0), 10752),
+    (2, Ask::Exit(0), Told::Ends(0), 5760),
+    (1, Ask::Wait(2, 0), Told::Child(2, 0), 5248),
+];
+
+/// A socket without a peer reads and writes nothing, and without a name it can't listen. It goes with whoever was killed last of
+/// those that had it open.
+const ALONE: &[Row] = &[
+    (1, Ask::Socket, Told::Val(0), 832),
+    (1, Ask::Listen(0), Told::Fails(Errno::EDESTADDRREQ), 832),
+    (1, Ask::Accept(0), Told::Fails(Errno::EINVAL), 832),
+    (1, Ask::Accept(1), Told::Fails(Errno::EBADF), 832),
+    (1, Ask::Shutdown(0, 1), Told::Fails(Errno::ENOTCONN), 832),
+    (1, Ask::Shutdown(0, 3), Told::Fails(Errno::EINVAL), 832),
+    (1, Ask::Mmap(4096), Told::Val(4096), 1344),
+    (1, Ask::Read(0, 4096, 1), Told::Fails(Errno::ENOTCONN), 1344),
+    (1, Ask::Read(0, 8192, 1), Told::Fails(Errno::EFAULT), 1344),
+    (
+        1,
+        Ask::Write(0, 4096, 1),
+        Told::Fails(Errno::ENOTCONN),
+        1344,
+    ),
+    (1, Ask::Write(0, 4096, 0), Told::Val(0), 1344),
+    (1, Ask::Pipe, Told::Pair(1, 2), 1600),
+    (1, Ask::Listen(1), Told::Fails(Errno::ENOTSOCK), 1600),
+    (1, Ask::Fork, Told::Val(2), 2624),
+    (1, Ask::Close(0), Told::Val(0), 2624),
+    (1, Ask::Kill(2, 9), Told::Val(0), 1920),
+    (1, Ask::Wait(2, 0), Told::Child(2, 9), 1408),
+];
+
 /// What is tried with a store at boot.
 enum Trial {
     Turns(&'static [Row]),
@@ -313,11 +372,13 @@ fn try_it(
 }
 
 #[test]
-fn calls_of_processes_memory_and_pipes(rt: HostRuntime) -> Result<(), Fail> {
+fn calls_of_processes_memory_pipes_and_sockets(rt: HostRuntime) -> Result<(), Fail> {
     try_it(&rt, 65536, Policy::Heaviest, &Trial::Turns(WHOLE))?;
     try_it(&rt, 65536, Policy::Heaviest, &Trial::Turns(SHARED))?;
     try_it(&rt, 65536, Policy::Heaviest, &Trial::Turns(KILLS))?;
-    try_it(&rt, 65536, Policy::Heaviest, &Trial::Turns(QUEUES))
+    try_it(&rt, 65536, Policy::Heaviest, &Trial::Turns(QUEUES))?;
+    try_it(&rt, 65536, Policy::Heaviest, &Trial::Turns(PEERS))?;
+    try_it(&rt, 65536, Policy::Heaviest, &Trial::Turns(ALONE))
 }
 
 /// The bytes lie on two pages that aren't mapped; the bound of the store is all the room that there is.
