@@ -14,11 +14,11 @@ socket-requires-clause-room c =
 
 pub socket-requires-clause-left_sock : goal.socket-requires-clause-left_sock
 socket-requires-clause-left_sock c =
-    subst (λ (n : Need). 0 < n.sock) (sym (left_is c.purse_for-purse.result Queue c.args.need c.args.call.now (call.Socket) c.purse_for-purse.ensures.left c.requires.needed c.requires.right c.in-Socket.is)) (omega arith)
+    subst (λ (n : Need). 0 < n.sock) (sym (left_is c.purse_for-purse.result Queue c.args.need c.args.call.now (call.Socket) c.purse_for-purse.ensures.value c.requires.needed c.requires.right c.in-Socket.is)) (omega arith)
 
 pub socket-requires-clause-left_desc : goal.socket-requires-clause-left_desc
 socket-requires-clause-left_desc c =
-    subst (λ (n : Need). 0 < n.desc) (sym (left_is c.purse_for-purse.result Queue c.args.need c.args.call.now (call.Socket) c.purse_for-purse.ensures.left c.requires.needed c.requires.right c.in-Socket.is)) (omega arith)
+    subst (λ (n : Need). 0 < n.desc) (sym (left_is c.purse_for-purse.result Queue c.args.need c.args.call.now (call.Socket) c.purse_for-purse.ensures.value c.requires.needed c.requires.right c.in-Socket.is)) (omega arith)
 
 pub returns-in-Socket-clause-uses : goal.returns-in-Socket-clause-uses
 returns-in-Socket-clause-uses c =
@@ -35,11 +35,11 @@ socketpair-requires-clause-room c =
 
 pub socketpair-requires-clause-left_socks : goal.socketpair-requires-clause-left_socks
 socketpair-requires-clause-left_socks c =
-    subst (λ (n : Need). 2 ≤ n.sock) (sym (left_is c.purse_for-purse.result Queue c.args.need c.args.call.now (call.Socketpair) c.purse_for-purse.ensures.left c.requires.needed c.requires.right c.in-Socketpair.is)) (omega arith)
+    subst (λ (n : Need). 2 ≤ n.sock) (sym (left_is c.purse_for-purse.result Queue c.args.need c.args.call.now (call.Socketpair) c.purse_for-purse.ensures.value c.requires.needed c.requires.right c.in-Socketpair.is)) (omega arith)
 
 pub socketpair-requires-clause-left_descs : goal.socketpair-requires-clause-left_descs
 socketpair-requires-clause-left_descs c =
-    subst (λ (n : Need). 2 ≤ n.desc) (sym (left_is c.purse_for-purse.result Queue c.args.need c.args.call.now (call.Socketpair) c.purse_for-purse.ensures.left c.requires.needed c.requires.right c.in-Socketpair.is)) (omega arith)
+    subst (λ (n : Need). 2 ≤ n.desc) (sym (left_is c.purse_for-purse.result Queue c.args.need c.args.call.now (call.Socketpair) c.purse_for-purse.ensures.value c.requires.needed c.requires.right c.in-Socketpair.is)) (omega arith)
 
 pub returns-in-Socketpair-clause-uses : goal.returns-in-Socketpair-clause-uses
 returns-in-Socketpair-clause-uses c =
@@ -64,7 +64,7 @@ accept-requires-clause-room c =
 
 pub accept-requires-clause-left_desc : goal.accept-requires-clause-left_desc
 accept-requires-clause-left_desc c =
-    subst (λ (n : Need). 0 < n.desc) (sym (left_is c.purse_for-purse.result Queue c.args.need c.args.call.now (call.Accept c.in-Accept.fd) c.purse_for-purse.ensures.left c.requires.needed c.requires.right c.in-Accept.is)) (omega arith)
+    subst (λ (n : Need). 0 < n.desc) (sym (left_is c.purse_for-purse.result Queue c.args.need c.args.call.now (call.Accept c.in-Accept.fd) c.purse_for-purse.ensures.value c.requires.needed c.requires.right c.in-Accept.is)) (omega arith)
 
 pub returns-in-Accept-clause-uses : goal.returns-in-Accept-clause-uses
 returns-in-Accept-clause-uses c =
