@@ -36,6 +36,12 @@ pub fn is_built(kind: CallKind) -> bool
         | CallKind::Lseek
         | CallKind::Readdir
         | CallKind::Ftruncate
+        | CallKind::Stat
+        | CallKind::Mkdir
+        | CallKind::Rmdir
+        | CallKind::Unlink
+        | CallKind::Link
+        | CallKind::Rename
         | CallKind::Socket
         | CallKind::Socketpair
         | CallKind::Listen

@@ -47,7 +47,7 @@ fn script(alloc: Global, first: CallKind, second: CallKind) -> Result<Script, Fa
     })
 }
 
-/// The calls of processes, of memory, on pipes, and on sockets without a name.
+/// The calls of processes, of memory, on pipes, on names of the tree of files, and on sockets without a name.
 const BUILT: &[CallKind] = &[
     CallKind::Getpid,
     CallKind::Getppid,
@@ -74,6 +74,12 @@ const BUILT: &[CallKind] = &[
     CallKind::Lseek,
     CallKind::Readdir,
     CallKind::Ftruncate,
+    CallKind::Stat,
+    CallKind::Mkdir,
+    CallKind::Rmdir,
+    CallKind::Unlink,
+    CallKind::Link,
+    CallKind::Rename,
     CallKind::Socket,
     CallKind::Socketpair,
     CallKind::Listen,
@@ -82,12 +88,12 @@ const BUILT: &[CallKind] = &[
 ];
 
 #[test]
-fn thirty_of_the_calls_can_be_run(rt: HostRuntime) {
+fn thirty_six_of_the_calls_can_be_run(rt: HostRuntime) {
     for kind in BUILT {
         assert!(rt; is_built(*kind), "{kind:?}");
     }
     let count = CallKind::ALL.iter().filter(|kind| is_built(**kind)).count();
-    assert!(rt; count == 30);
+    assert!(rt; count == 36);
 }
 
 #[test]
