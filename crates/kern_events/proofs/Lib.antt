@@ -1,3 +1,4 @@
+mod AtRest
 mod Known
 mod Places
 mod ReliefSteps

@@ -1,7 +1,8 @@
 //! A run of a script: its events, what each does, and when it ends.
 
-ghost use Rattle.std.specs.Prelude.{◌≡◌, ℕ, ◌+◌, ◌-◌, ◌≤◌, ◌<◌, [], length, filter, Some, None, IfOk, IfSome, IsSome, IsNone, slice_get, true, not};
-ghost use Rattle.std.specs.Option.{option_to_list};
+ghost use Rattle.std.specs.Prelude.{◌≡◌, ◌==◌, if◌then◌else◌, ℕ, ◌+◌, ◌-◌, ◌≤◌, ◌<◌, [], length, filter, Some, None, IfOk, IfSome, IsSome, IsNone, slice_get, true, not};
+ghost use Rattle.std.specs.Option.{option_or, option_to_list};
+ghost use Rattle.kabi_types.specs.declared.entries.End.TheVariants.{Spent};
 ghost use Rattle.std.specs.List.{list_any, list_all};
 ghost use Rattle.kabi_types.specs.declared.entries.Event.TheVariants.{Ask, Admit, Turn, Wake, Abandon, Kill, Evict};
 ghost use Rattle.kabi_calls.specs.Call.{kind_of};
@@ -272,6 +273,21 @@ impl<T: Turner + Drop> Core<T> {
         ensures end { (s : CoreState) → IsAt T.stands self.now s → IsSound (T.script self.now.store) s → result ≡ end_of (T.script self.now.store) self.now.steps (length self.now.run) s }
         ensures goes_on { IsNone result → GoesOn T.stands (T.script self.now.store) self.now }
     {
+        // While a call holds bytes in reserve it is admitted, so no end stands but that of the steps.
+        if self.reserved != 0 {
+            return self.spent();
+        }
+        match self.ended_at_rest() {
+            Some(end) => Some(end),
+            None => self.spent(),
+        }
+    }
+
+    /// The end that stands whatever number of events may still be taken, the first that holds.
+    fn ended_at_rest(&self) -> Option<End>
+        ensures { (s : CoreState) → IsAt T.stands self.now s → IsSound (T.script self.now.store) s → (steps taken : ℕ)
+            → end_of (T.script self.now.store) steps taken s ≡ option_or result (if taken == steps then Some Spent else None) }
+    {
         if !self.store.alive(1) && !self.admits_any() {
             return Some(End::Finished);
         }
@@ -281,10 +297,18 @@ impl<T: Turner + Drop> Core<T> {
         if self.all_asleep() {
             return Some(End::AllAsleep);
         }
-        if self.run.len() == self.steps as usize {
-            return Some(End::Spent);
-        }
         None
+    }
+
+    /// The end of a run that has taken as many events as it may.
+    fn spent(&self) -> Option<End>
+        ensures { result ≡ (if length self.now.run == self.now.steps then Some Spent else None) }
+    {
+        if self.run.len() == self.steps as usize {
+            Some(End::Spent)
+        } else {
+            None
+        }
     }
 
     /// The event of the task at this place, if it may be taken.

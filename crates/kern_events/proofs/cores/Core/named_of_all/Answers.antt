@@ -30,7 +30,7 @@ overflow_add-place g c =
     omega (arith, c.len-tasks.ensures)
 
 pub event_of-requires : goal.event_of-requires
-event_of-requires g c = 
+event_of-requires g c =
     ap (λ tasks. slice_get tasks (c.args.number % (c.len-tasks.result + c.count_present.result))) (sym (c.as_slice.ensures.value ∙ ap (λ core. core.tasks) c.self.view_is)) ∙ sym c.task_at.ensures ∙ c.in-Some.is
 
 pub returns-in-Some-clause-named : goal.returns-in-Some-clause-named

@@ -36,22 +36,22 @@ loop-place-preserved g c =
     let more : c.loop-place.left ≤ c.args.i = c.loop-place.invariant.more in
     elim c.match-event_of.branch [
       | in-Some+else-left-eq0 w ↦
-        let some : c.loop-place.left ≢ 0 = w.if-left-eq0.false in
-        let is : c.match-event_of.left ≡ c.loop-place.left - 1 = w.left-is in
-        record {
-          items = c.loop-place.invariant.items;
-          more = omega arith;
-          passed = λ s at sound.
-              subst (Passed _ s _ _) (let next : c.args.i - c.loop-place.left + 1 ≡ c.args.i - c.match-event_of.left = omega arith in next)
-              (passed_more _ s _ _ _ (Some w.in-Some.event) _ c.loop-place-test.true (w.in-Some.ensures s at sound) (c.loop-place.invariant.passed s at sound));
-        }
+          let some : c.loop-place.left ≢ 0 = w.if-left-eq0.false in
+          let is : c.match-event_of.left ≡ c.loop-place.left - 1 = w.left-is in
+          record {
+            items = c.loop-place.invariant.items;
+            more = omega arith;
+            passed = λ s at sound.
+                subst (Passed _ s _ _) (let next : c.args.i - c.loop-place.left + 1 ≡ c.args.i - c.match-event_of.left = omega arith in next)
+                (passed_more _ s _ _ _ (Some w.in-Some.event) _ c.loop-place-test.true (w.in-Some.ensures s at sound) (c.loop-place.invariant.passed s at sound));
+          }
       | in_default w ↦
-        let is : c.match-event_of.left ≡ c.loop-place.left = w.left-is in
-        record {
-          items = c.loop-place.invariant.items;
-          more = omega arith;
-          passed = λ s at sound.
-              subst (Passed _ s _ _) (let same : c.args.i - c.loop-place.left + 0 ≡ c.args.i - c.match-event_of.left = omega arith in same)
-              (passed_more _ s _ _ _ None _ c.loop-place-test.true (w.in_default.ensures s at sound) (c.loop-place.invariant.passed s at sound));
-        }
+          let is : c.match-event_of.left ≡ c.loop-place.left = w.left-is in
+          record {
+            items = c.loop-place.invariant.items;
+            more = omega arith;
+            passed = λ s at sound.
+                subst (Passed _ s _ _) (let same : c.args.i - c.loop-place.left + 0 ≡ c.args.i - c.match-event_of.left = omega arith in same)
+                (passed_more _ s _ _ _ None _ c.loop-place-test.true (w.in_default.ensures s at sound) (c.loop-place.invariant.passed s at sound));
+          }
     ]
