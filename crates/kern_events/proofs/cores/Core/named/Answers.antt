@@ -1,4 +1,4 @@
-use Rattle.std.proofs.Common.{◌≡◌, ◌+◌, ◌%◌, ◌≤◌, ◌<◌, length, slice_get, sym, ap, ◌∙◌, arith}
+use Rattle.std.proofs.Common.{◌≡◌, ◌+◌, ◌%◌, ◌≤◌, ◌<◌, length, slice_get, ap, ◌∙◌, arith}
 use Rattle.posix_defs.specs.Choice.{enabled_in, others_in}
 use Rattle.kern_laws.proofs.Sounds.{is_sound}
 use Rattle.kern_tasks.proofs.Defaults.{has_some}

@@ -1,4 +1,4 @@
-use Rattle.std.proofs.Common.{◌≡◌, ◌≢◌, ◌≤◌, ◌+◌, ◌-◌, slice_get, Some, None, length, sym, ap, ◌∙◌, subst, arith}
+use Rattle.std.proofs.Common.{◌≡◌, ◌≢◌, ◌≤◌, ◌+◌, ◌-◌, slice_get, Some, None, sym, ap, ◌∙◌, subst, arith}
 use Rattle.posix_defs.specs.Choice.{enabled_in, others_in}
 use Rattle.kern_tasks.proofs.TaskLoops.{Passed, passed_more, passed_none, event_at, other_at}
 use Rattle.kern_events.proofs.Places.{found_there}
