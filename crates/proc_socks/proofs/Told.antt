@@ -40,7 +40,8 @@ use Rattle.proc_descs.specs.Queues.{QueuesStand}
 use Rattle.proc_pipes.specs.Answering.{Answers, zero_of}
 use Rattle.proc_pipes.proofs.Answered.{named_there, on_it, on_nothing, refused}
 use Rattle.proc_socks.specs.Finding.{FindsSocket, FindsToMove, IsOnSocket, if_movable, may_move}
-use Rattle.proc_socks.specs.Opening.{KeepsNumbers, with_both, with_desc, with_sock, with_socks}
+use Rattle.proc_pipes.specs.Opening.{KeepsNumbers}
+use Rattle.proc_socks.specs.Opening.{with_both, with_desc, with_sock, with_socks}
 use Rattle.proc_socks.specs.Owning.{SocketsChange}
 use Rattle.proc_socks.specs.declared.finding.Found.{Found}
 use Rattle.proc_socks.proofs.Opens.{have_changed}
@@ -228,7 +229,7 @@ module _ (script : Script) (plain : Plain) (pid : ℕ) where
 -- ---- numbers
 
 pub keeps_same : (old : Heap) (numbers : Numbers) → KeepsNumbers old numbers numbers
-keeps_same old numbers = record { descs = λ key used. refl; pipes = refl; socks = λ key used. refl; frames = refl }
+keeps_same old numbers = record { descs = λ key used. refl; pipes = λ key used. refl; socks = λ key used. refl; frames = refl }
 
 unused : {X : Type 0} (objects : List (Option X)) (key other : ℕ) → object objects key ≡ None → InUse objects other → other ≢ key
 unused objects key other vacant used same = none (object objects other) (ap (object objects) same ∙ vacant) used
@@ -248,7 +249,7 @@ keeps_desc old before after files key vacant keeps = record {
 pub keeps_sock : (old : Heap) (numbers : Numbers) (files : Files) (key : ℕ) → object old.socks key ≡ None → KeepsNumbers old numbers (with_sock numbers files key)
 keeps_sock old numbers files key vacant = record {
   descs = λ other used. refl;
-  pipes = refl;
+  pipes = λ other used. refl;
   socks = λ other used. stays numbers.socks key (length files.sockets) other (unused old.socks key other vacant used);
   frames = refl;
 }
@@ -256,7 +257,7 @@ keeps_sock old numbers files key vacant = record {
 pub keeps_socks : (old : Heap) (numbers : Numbers) (files : Files) (one other : ℕ) → object old.socks one ≡ None → object old.socks other ≡ None → KeepsNumbers old numbers (with_socks numbers files one other)
 keeps_socks old numbers files one other vacant also_vacant = record {
   descs = λ key used. refl;
-  pipes = refl;
+  pipes = λ key used. refl;
   socks = λ key used.
       stays (numbered numbers.socks one (length files.sockets)) other (length files.sockets + 1) key (unused old.socks other key also_vacant used)
       ∙ stays numbers.socks one (length files.sockets) key (unused old.socks one key vacant used);
