@@ -381,7 +381,6 @@ boot_opens script objects control booted = record {
     socks = λ key sock is. absurd (let there = sock_there boot_numbers objects.heap [] opened.socketed key sock is in nothing_at (boot_numbers.socks key) there.socket there.there);
   };
   settled = record { pipes = refl; sockets = refl };
-  sockets = λ place description number is on. nothing_at place description is;
 }
   where
     opened : AreOpen boot_numbers objects.heap [] (boot_files script.disk)

@@ -9,7 +9,7 @@ turn-requires-clause-may g c =
     let at : StandsFor c.store.inside.script c.store.inside.objects world = subst (λ store. StandsFor store.script store.objects world) (sym c.store.view_is) c.requires.stands.1 in
     let live = live_is c.store.inside.script c.store.inside.objects world at c.heap-heap.ensures.well_formed in
     let size : c.store.inside.objects.heap.heap ≡ c.store.inside.script.heap = c.store.invariant.size in
-    (world, at, (λ alive. c.requires.built), omega arith)
+    (world, at, (λ alive. (c.requires.built, c.requires.paths)), omega arith)
 
 pub turn-requires-clause-so_far : goal.turn-requires-clause-so_far
 turn-requires-clause-so_far g c = λ proc found up.
