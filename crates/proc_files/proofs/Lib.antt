@@ -1,0 +1,17 @@
+pub mod Openings
+pub mod Moved
+pub mod Holding
+pub mod SeekAnswers
+pub mod Beside
+pub mod Leading
+pub mod ReadAnswers
+pub mod WriteAnswers
+pub mod Puts
+pub mod Closings
+pub mod Closed
+pub mod Makes
+pub mod Written
+pub mod Lengths
+pub mod WriteLeads
+pub mod OpenFiles
+pub mod Ranges
