@@ -116,16 +116,16 @@ right_so : (least : ℕ) (addr n : ℤ) → moved_fault least addr n ≡ None �
 right_so least addr n fault = right_of least addr n true (ap (λ b. option_or (invalid_unless b) (range_fault addr (count_of n))) (and_true (is_within least 32767 n)) ∙ fault)
 
 pub right_moved : (addr n : ℤ) → moved_fault 0 addr n ≡ None → (count_of n ≤ 32767) × (range_fault addr (count_of n) ≡ None)
-right_moved addr n fault = let it = right_so 0 addr n fault in (it.0, it.1.0)
+right_moved addr n fault = let it = right_so 0 addr n fault in (it.0, it.1)
 
 pub right_placed : (addr n at : ℤ) → placed_fault addr n at ≡ None → (count_of n ≤ 32767) × (range_fault addr (count_of n) ≡ None)
-right_placed addr n at fault = let it = right_of 0 addr n (is_from 0 at) fault in (it.0, it.1.0)
+right_placed addr n at fault = let it = right_of 0 addr n (is_from 0 at) fault in (it.0, it.1)
 
 pub right_listed : (addr n : ℤ) → moved_fault 32 addr n ≡ None → (count_of n ≤ 32767) × (range_fault addr (count_of n) ≡ None)
-right_listed addr n fault = let it = right_so 32 addr n fault in (it.0, it.1.0)
+right_listed addr n fault = let it = right_so 32 addr n fault in (it.0, it.1)
 
 pub least_listed : (addr n : ℤ) → moved_fault 32 addr n ≡ None → 32 ≤ count_of n
-least_listed addr n fault = (right_so 32 addr n fault).1.1
+least_listed addr n fault = (right_so 32 addr n fault).2
 
 -- ---- bytes that are written
 

@@ -111,12 +111,12 @@ list_into-count-requires-clause-whole c =
     (open_node some.numbers some.others c.args.heap.now c.args.procs.now c.args.tree.now some.files some.hold c.in-Some.found.key c.in-Inode.node c.in-Some.found.desc c.in-Some.ensures.there c.in-Inode.is).between
     (sym (c.is_directory.ensures some.files.tree c.in-Inode.node (c.stat_node-info.ensures.value some.files.tree (holders some.others some.files) some.hold.tree)) ∙ c.if-not-is_directory.false)
 
-pub overflow_add-move_to : goal.overflow_add-move_to
-overflow_add-move_to c =
+pub overflow_add-at : goal.overflow_add-at
+overflow_add-at c =
     let some = c.requires.hold in
     let count = c.list_into-count.ensures.count some.files.tree (holders some.others some.files) (c.stat_node-info.ensures.stands some.files.tree (holders some.others some.files) some.hold.tree) in
     let ends = list_ends some.files.tree c.in-Inode.node c.in-Some.found.desc.offset c.in-Some-range_of.range.count some.hold.tree.is_tree (sym (c.is_directory.ensures some.files.tree c.in-Inode.node (c.stat_node-info.ensures.value some.files.tree (holders some.others some.files) some.hold.tree)) ∙ c.if-not-is_directory.false) (omega arith) in
-    omega (arith, count, ends)
+    let from = c.from.ensures in omega (arith, count, ends, from)
 
 pub move_to-requires : goal.move_to-requires
 move_to-requires c =
@@ -129,10 +129,10 @@ returns-clause-leads c = λ script numbers others plain account stands hold.
     let range = (as_range c.args.heap.now c.args.procs.now c.args.pid _ c.args.addr _ c.args.n _ _ _ (to_z-of_z w64 c.args.addr c.ranges.addr) (to_z-of_z w64 c.args.n c.ranges.n) c.in-Some-range_of.ensures.range) in
     leads_moved c.args.heap.now c.args.purse.now c.list_into-count.new.heap c.list_into-count.new.purse c.stat_node-info.new.self c.list_into-count.new.tree c.in-Some-range_of.range.space c.in-Some-range_of.range.start (list_node plain.files.tree c.in-Inode.node c.in-Some.found.desc.offset c.in-Some-range_of.range.count) (c.list_into-count.ensures.reads plain.files.tree (holders others plain.files) held.tree) c.args.procs.now c.args.pid c.requires.kept range.space numbers others plain account stands held c.args.addr (range.begins (let least = least_listed c.args.addr c.args.n c.requires.right in let same = range.counted in omega (arith, least, same)))
     script (call.Readdir c.args.fd c.args.addr c.args.n) _ c.list_into-count.result (c.list_into-count.ensures.count plain.files.tree (holders others plain.files) held.tree) refl c.move_to.new.heap c.in-Some.found.key c.in-Inode.node c.in-Some.found.desc _ c.in-Some.ensures.there c.in-Inode.is c.move_to.ensures.moved
-    (λ directory. subst (λ k. (c.in-Some.found.desc.offset + k) % 32 ≡ 0) (sym (c.list_into-count.ensures.count plain.files.tree (holders others plain.files) held.tree)) (list_between plain.files.tree c.in-Inode.node c.in-Some.found.desc.offset c.in-Some-range_of.range.count hold.tree.is_tree directory ((open_node numbers others c.args.heap.now c.args.procs.now c.args.tree.now plain.files hold c.in-Some.found.key c.in-Inode.node c.in-Some.found.desc c.in-Some.ensures.there c.in-Inode.is).between directory)))
+    (λ directory. subst (λ k. (c.in-Some.found.desc.offset + k) % 32 ≡ 0) (sym (c.from.ensures ∙ (c.list_into-count.ensures.count plain.files.tree (holders others plain.files) held.tree))) (list_between plain.files.tree c.in-Inode.node c.in-Some.found.desc.offset c.in-Some-range_of.range.count hold.tree.is_tree directory ((open_node numbers others c.args.heap.now c.args.procs.now c.args.tree.now plain.files hold c.in-Some.found.key c.in-Inode.node c.in-Some.found.desc c.in-Some.ensures.there c.in-Inode.is).between directory)))
     (readdir_goes script numbers plain c.args.pid c.args.fd c.args.addr c.args.n c.in-Some.found (as_found numbers plain.files c.args.pid _ c.args.fd _ (Some c.in-Some.found) (to_z-of_z w64 c.args.fd c.ranges.fd) (c.opened.ensures.found numbers plain.files hold.opened) c.in-Some.is) c.in-Inode.node c.in-Inode.is (sym (c.is_directory.ensures plain.files.tree c.in-Inode.node (c.stat_node-info.ensures.value plain.files.tree (holders others plain.files) hold.tree)) ∙ c.if-not-is_directory.false) (as_mapped c.args.heap.now c.args.procs.now plain.table c.args.pid _ c.args.addr _ c.args.n _ true (to_z-of_z w64 c.args.addr c.ranges.addr) (to_z-of_z w64 c.args.n c.ranges.n) c.range_of.ensures.tells stands.table (ap is_some c.in-Some-range_of.is))
     ∙ ap (λ m. list_directory script plain c.args.pid (opened_in numbers c.in-Some.found) c.in-Inode.node c.args.addr m) (sym range.counted)
-    ∙ ap (λ k. put script (moved_to plain (opened_in numbers c.in-Some.found) (c.in-Some.found.desc.offset + k)) c.args.pid c.args.addr (list_node plain.files.tree c.in-Inode.node c.in-Some.found.desc.offset c.in-Some-range_of.range.count)) (sym (c.list_into-count.ensures.count plain.files.tree (holders others plain.files) held.tree)))
+    ∙ ap (λ k. put script (moved_to plain (opened_in numbers c.in-Some.found) (c.in-Some.found.desc.offset + k)) c.args.pid c.args.addr (list_node plain.files.tree c.in-Inode.node c.in-Some.found.desc.offset c.in-Some-range_of.range.count)) (sym (c.from.ensures ∙ (c.list_into-count.ensures.count plain.files.tree (holders others plain.files) held.tree))))
 
 pub returns-clause-kept : goal.returns-clause-kept
 returns-clause-kept c =

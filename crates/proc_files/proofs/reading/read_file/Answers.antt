@@ -21,7 +21,7 @@ use Rattle.proc_files.proofs.Moved.{moved_kept}
 use Rattle.proc_files.proofs.OpenFiles.{holds_file, used_reads}
 use Rattle.proc_files.proofs.Puts.{leads_moved, moved_beside, read_descs, read_kept, read_paid}
 use Rattle.proc_files.proofs.Ranges.{as_mapped, as_range, no_count, right_moved, some_count}
-use Rattle.proc_files.proofs.ReadAnswers.{read_closed, read_denied, read_directory, read_file, read_goes, read_nothing, read_unmapped}
+use Rattle.proc_files.proofs.ReadAnswers.{read_closed, read_denied, read_directory, read_goes, read_nothing, read_unmapped}
 use Rattle.kabi_calls.specs.declared.calls.Call.TheVariants as call
 use Rattle.proc_files.proofs.reading.read_file.Goals as goal
 
@@ -124,12 +124,12 @@ read_into-count-requires-clause-left c =
     subst (λ n. n ≤ c.args.purse.now.left.page) (sym (touched_at c.in-Some-range_of.range.start (count_of c.args.addr) c.in-Some-range_of.range.count range.begins))
     (subst (λ n. pages_touched (count_of c.args.addr) n ≤ c.args.purse.now.left.page) (sym range.counted) left)
 
-pub overflow_add-move_to : goal.overflow_add-move_to
-overflow_add-move_to c =
+pub overflow_add-at : goal.overflow_add-at
+overflow_add-at c =
     let some = c.requires.hold in
     let count = c.read_into-count.ensures.count some.files.tree (holders some.others some.files) (c.stat_node-info.ensures.stands some.files.tree (holders some.others some.files) some.hold.tree) in
     let ends = read_ends some.files.tree c.in-Inode.node c.in-Some.found.desc.offset c.in-Some-range_of.range.count some.hold.tree.is_tree (omega arith) in
-    omega (arith, count, ends)
+    let from = c.from.ensures in omega (arith, count, ends, from)
 
 pub move_to-requires : goal.move_to-requires
 move_to-requires c =
@@ -145,7 +145,7 @@ returns-clause-leads c = λ script numbers others plain account stands hold.
     (λ directory. absurd (let both : true ≡ false = sym directory ∙ (sym (c.is_directory.ensures plain.files.tree c.in-Inode.node (c.stat_node-info.ensures.value plain.files.tree (holders others plain.files) hold.tree)) ∙ c.if-is_directory.false) in cc))
     (read_goes script numbers plain c.args.pid c.args.fd c.args.addr c.args.n c.in-Some.found (as_found numbers plain.files c.args.pid _ c.args.fd _ (Some c.in-Some.found) (to_z-of_z w64 c.args.fd c.ranges.fd) (c.opened.ensures.found numbers plain.files hold.opened) c.in-Some.is) c.in-Inode.node c.in-Inode.is (sym c.may_read.ensures ∙ c.if-not-may_read.false) (sym (c.is_directory.ensures plain.files.tree c.in-Inode.node (c.stat_node-info.ensures.value plain.files.tree (holders others plain.files) hold.tree)) ∙ c.if-is_directory.false) (as_mapped c.args.heap.now c.args.procs.now plain.table c.args.pid _ c.args.addr _ c.args.n _ true (to_z-of_z w64 c.args.addr c.ranges.addr) (to_z-of_z w64 c.args.n c.ranges.n) c.range_of.ensures.tells stands.table (ap is_some c.in-Some-range_of.is)) (λ none. (some_count _ (sym c.is_empty.ensures ∙ c.if-is_empty.false)).0 (range.counted ∙ none))
     ∙ ap (λ m. read_file script plain c.args.pid (opened_in numbers c.in-Some.found) c.in-Inode.node c.args.addr m) (sym range.counted)
-    ∙ ap (λ k. put script (moved_to plain (opened_in numbers c.in-Some.found) (c.in-Some.found.desc.offset + k)) c.args.pid c.args.addr (read_node plain.files.tree c.in-Inode.node c.in-Some.found.desc.offset c.in-Some-range_of.range.count)) (sym (c.read_into-count.ensures.count plain.files.tree (holders others plain.files) held.tree)))
+    ∙ ap (λ k. put script (moved_to plain (opened_in numbers c.in-Some.found) (c.in-Some.found.desc.offset + k)) c.args.pid c.args.addr (read_node plain.files.tree c.in-Inode.node c.in-Some.found.desc.offset c.in-Some-range_of.range.count)) (sym (c.from.ensures ∙ (c.read_into-count.ensures.count plain.files.tree (holders others plain.files) held.tree))))
 
 pub returns-clause-kept : goal.returns-clause-kept
 returns-clause-kept c =

@@ -1,4 +1,4 @@
-use Rattle.std.proofs.Common.{◌≡◌, ◌∙◌, ◌≤◌, ap, List, None, of_z, Option, pos, refl, Some, sym, subst, to_z, w64, arith, is_some}
+use Rattle.std.proofs.Common.{◌≡◌, ◌∙◌, ◌≤◌, ◌+◌, ap, false, true, List, None, of_z, Option, pos, refl, Some, sym, subst, to_z, w64, arith, is_some}
 use Rattle.std.proofs.lemmas.Int.{to_z-of_z}
 use Rattle.kabi_calls.specs.Arguments.{count_of, range_fault}
 use Rattle.kabi_values.specs.declared.errnos.Errno.TheVariants.{EBADF, EFAULT}
@@ -15,6 +15,7 @@ use Rattle.proc_table.proofs.MemoryLemmas.{memory_at-stands}
 use Rattle.proc_queues.specs.Found.{opened_in}
 use Rattle.proc_queues.proofs.Finding.{alive_listed}
 use Rattle.proc_files.specs.Holding.{holders}
+use Rattle.proc_files.specs.Seeking.{MovesDesc}
 use Rattle.proc_files.proofs.Beside.{kept_beside, same_descs}
 use Rattle.proc_files.proofs.Holding.{as_found, held_some, hold_on, on_node, only_node, open_node}
 use Rattle.proc_files.proofs.Leading.{leads_nowhere}
@@ -96,14 +97,14 @@ write_from-requires-clause-few c =
     let range = (as_range c.args.heap.now c.args.procs.now c.args.pid _ c.args.addr _ c.args.n _ _ _ (to_z-of_z w64 c.args.addr c.ranges.addr) (to_z-of_z w64 c.args.n c.ranges.n) c.in-Some-range_of.ensures.range) in
     let few = right.0 in let same = range.counted in omega (arith, few, same)
 
-pub overflow_add-move_to : goal.overflow_add-move_to
-overflow_add-move_to c =
+pub overflow_add-at : goal.overflow_add-at
+overflow_add-at c =
     let some = c.requires.hold in
     let below = write_below c.write_from.new.heap c.write_from.new.tree some.files.tree c.in-Inode.node c.place_of_write-at.result (loaded (memory_at c.args.heap.now c.in-Some-range_of.range.space) c.in-Some-range_of.range.start c.in-Some-range_of.range.count) (holders some.others some.files) c.in-Ok.count
     (subst (λ r. LedTo c.write_from.new.heap c.write_from.new.tree some.files.tree (tree_write some.files.tree c.in-Inode.node c.place_of_write-at.result (loaded (memory_at c.args.heap.now c.in-Some-range_of.range.space) c.in-Some-range_of.range.start c.in-Some-range_of.range.count)) (holders some.others some.files) r) c.in-Ok.is
     (c.write_from.ensures.answer some.files.tree (holders some.others some.files) (memory_at c.args.heap.now c.in-Some-range_of.range.space)
     (c.place_of_write-at.ensures.stands some.files.tree (holders some.others some.files) some.hold.tree) (memory_at-stands c.args.heap.now c.in-Some-range_of.range.space))) in
-    omega (arith, below)
+    let from = c.from.ensures in omega (arith, below, from)
 
 pub move_to-requires : goal.move_to-requires
 move_to-requires c = ap (λ (d : List (Option Desc)). object d c.in-Some.found.key) (same_descs c.args.heap.now c.write_from.new.heap c.write_from.ensures.pays.only) ∙ c.in-Some.ensures.there
@@ -113,7 +114,7 @@ returns-in-Ok-clause-leads c = λ script numbers others plain account stands hol
     let held = (hold_on numbers others c.args.heap.now c.args.procs.now c.args.tree.now c.place_of_write-at.new.tree plain.files c.place_of_write-at.ensures.stands hold) in
     let range = (as_range c.args.heap.now c.args.procs.now c.args.pid _ c.args.addr _ c.args.n _ _ _ (to_z-of_z w64 c.args.addr c.ranges.addr) (to_z-of_z w64 c.args.n c.ranges.n) c.in-Some-range_of.ensures.range) in
     writes_some script numbers others c.args.heap.now c.write_from.new.heap c.args.procs.now c.place_of_write-at.new.tree c.write_from.new.tree plain account c.args.pid (call.Write c.args.fd c.args.addr c.args.n 0) c.requires.kept stands held c.write_from.ensures.pays.only _ c.in-Inode.node c.place_of_write-at.result (loaded (memory_of plain.table c.args.pid) c.in-Some-range_of.range.start c.in-Some-range_of.range.count)
-    c.move_to.new.heap c.in-Some.found.key c.in-Some.found.desc c.in-Ok.count c.in-Some.ensures.there c.in-Inode.is (writes_file plain.files.tree _ c.in-Inode.node (open_node numbers others c.args.heap.now c.args.procs.now c.args.tree.now plain.files hold c.in-Some.found.key c.in-Inode.node c.in-Some.found.desc c.in-Some.ensures.there c.in-Inode.is) (sym c.may_write.ensures ∙ c.if-not-may_write.false)) c.move_to.ensures.moved
+    c.move_to.new.heap c.in-Some.found.key c.in-Some.found.desc c.in-Ok.count c.in-Some.ensures.there c.in-Inode.is (writes_file plain.files.tree _ c.in-Inode.node (open_node numbers others c.args.heap.now c.args.procs.now c.args.tree.now plain.files hold c.in-Some.found.key c.in-Inode.node c.in-Some.found.desc c.in-Some.ensures.there c.in-Inode.is) (sym c.may_write.ensures ∙ c.if-not-may_write.false)) (subst (λ k. MovesDesc c.write_from.new.heap c.move_to.new.heap c.in-Some.found.key c.in-Some.found.desc (c.place_of_write-at.result + k)) c.from.ensures c.move_to.ensures.moved)
     (subst (λ r. LedTo c.write_from.new.heap c.write_from.new.tree plain.files.tree (tree_write plain.files.tree c.in-Inode.node c.place_of_write-at.result (loaded (memory_of plain.table c.args.pid) c.in-Some-range_of.range.start c.in-Some-range_of.range.count)) (holders others plain.files) r) c.in-Ok.is (c.write_from.ensures.answer plain.files.tree (holders others plain.files) (memory_of plain.table c.args.pid) held.tree
     (memory_here c.args.heap.now c.args.procs.now plain.table c.args.pid c.in-Some-range_of.range.space range.space stands.table)))
     (write_goes script numbers plain c.args.pid c.args.fd c.args.addr c.args.n c.in-Some.found (as_found numbers plain.files c.args.pid _ c.args.fd _ (Some c.in-Some.found) (to_z-of_z w64 c.args.fd c.ranges.fd) (c.opened.ensures.found numbers plain.files hold.opened) c.in-Some.is) c.in-Inode.node c.in-Inode.is (sym c.may_write.ensures ∙ c.if-not-may_write.false) (as_mapped c.args.heap.now c.args.procs.now plain.table c.args.pid _ c.args.addr _ c.args.n _ true (to_z-of_z w64 c.args.addr c.ranges.addr) (to_z-of_z w64 c.args.n c.ranges.n) c.range_of.ensures.tells stands.table (ap is_some c.in-Some-range_of.is)) (λ none. (some_count _ (sym c.is_empty.ensures ∙ c.if-is_empty.false)).0 (range.counted ∙ none))
