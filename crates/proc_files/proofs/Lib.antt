@@ -9,7 +9,6 @@ pub mod WriteAnswers
 pub mod Puts
 pub mod Closings
 pub mod Closed
-pub mod Makes
 pub mod Written
 pub mod Lengths
 pub mod WriteLeads

@@ -6,7 +6,6 @@
 
 mod closing;
 mod nodes;
-mod opening;
 mod reading;
 mod seeking;
 mod sizing;
@@ -15,7 +14,6 @@ mod telling;
 mod writing;
 
 pub use closing::{close_number, close_open};
-pub use opening::open_path;
 pub use reading::{pread_file, read_entries, read_file};
 pub use seeking::seek_number;
 pub use sizing::size_number;
