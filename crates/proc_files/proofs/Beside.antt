@@ -1,5 +1,5 @@
 -- What heap and table stand for goes on where the heap has other objects of the three caches alone.
-use Rattle.std.proofs.Common.{◌≡◌, ℕ, List, [], Option, Some, refl, ap, sym, ◌∙◌}
+use Rattle.std.proofs.Common.{◌≡◌, ℕ, List, [], Option, ap, sym, ◌∙◌}
 use Rattle.kheap_laws.proofs.OwnerLemmas.{IsOwned-same}
 use Rattle.kheap_laws.proofs.TableLemmas.{OwnsItsObjects-along}
 use Rattle.kheap_shelves.specs.Objects.{object}

@@ -12,9 +12,9 @@ use Rattle.kheap_slabs.specs.Paid.{AreFills, HasFills, TakesNothing}
 use Rattle.memfs_ops.specs.Closing.{HeldToClose, left_tree, one_less}
 use Rattle.memfs_ops.specs.FileTree.{Pays, Stands, TreeView}
 use Rattle.place_laws.specs.Placed.{Numbers}
-use Rattle.posix_defs.specs.Files.Descriptions.{Description, OnNode, description_at}
+use Rattle.posix_defs.specs.Files.Descriptions.{Description, OnNode}
 use Rattle.posix_defs.specs.Files.Closing.{after_close}
-use Rattle.posix_defs.specs.Files.State.{Files, beside, opens}
+use Rattle.posix_defs.specs.Files.State.{Files, opens}
 use Rattle.posix_defs.specs.IsTree.{IsTree}
 use Rattle.posix_defs.specs.PathCalls.{is_socket_kind, kind_in}
 use Rattle.posix_defs.specs.Tree.{Node, Tree, is_directory, is_directory_in, links_at, links_in, node_at, root, with_node}

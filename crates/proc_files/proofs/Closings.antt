@@ -21,8 +21,8 @@ use Rattle.open_laws.specs.Owned.{HasItsOwners, desc_count, names_desc, namings_
 use Rattle.place_laws.specs.Placed.{Numbers}
 use Rattle.posix_defs.specs.Files.Closing.{after_close, close_in, description_gone, gone_in, released, target_closed}
 use Rattle.posix_defs.specs.Files.Descriptions.{Access, Description, Descriptions, OnNode, OnPipe, OnSocket, Target, description_at, with_description}
-use Rattle.posix_defs.specs.Files.Descriptors.{Descriptors, descriptor_at, is_named}
-use Rattle.posix_defs.specs.Files.State.{Files, beside, descriptors_of, is_number, node_of, nodes_among, opened_node, opens, with_descriptions, with_open, with_tree}
+use Rattle.posix_defs.specs.Files.Descriptors.{Descriptors, is_named}
+use Rattle.posix_defs.specs.Files.State.{Files, beside, is_number, node_of, nodes_among, opened_node, opens, with_descriptions, with_open, with_tree}
 use Rattle.posix_defs.specs.Tree.{Tree}
 use Rattle.posix_defs.specs.TreeChanges.{closed}
 use Rattle.proc_table.specs.Procs.{proc_of}
@@ -33,7 +33,7 @@ use Rattle.proc_descs.specs.Naming.{named_at}
 use Rattle.proc_descs.proofs.Listing.{found_before}
 use Rattle.proc_descs.proofs.Named.{named_by_none, named_by_some}
 use Rattle.proc_descs.proofs.NumberNames.{desc_named, descriptor_at_is}
-use Rattle.proc_descs.proofs.Sums.{count_cons, one_if}
+use Rattle.proc_descs.proofs.Sums.{one_if}
 use Rattle.proc_queues.proofs.Opening.{described_so}
 use Rattle.proc_files.specs.Holding.{openings, times}
 use Rattle.proc_files.proofs.Openings.{nodes_gone, same_nodes, times_apart, times_cons}

@@ -7,7 +7,6 @@ use Rattle.kheap_shelves.specs.Purse.{Purse}
 use Rattle.kheap_slabs.specs.Heap.{Heap}
 use Rattle.memfs_ops.specs.Fetching.{IsFile}
 use Rattle.memfs_ops.specs.FileTree.{IsUsed, Pays, Stands, TreeView}
-use Rattle.open_laws.specs.Described.{counted_in}
 use Rattle.posix_defs.specs.Files.Descriptions.{Description, may_write}
 use Rattle.posix_defs.specs.PathCalls.{is_socket, is_socket_kind, kind_in}
 use Rattle.posix_defs.specs.Tree.{Content, Directory, File, Node, SocketName, Tree, is_directory, is_directory_in, is_in_use, node_at}

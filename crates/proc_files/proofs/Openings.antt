@@ -1,5 +1,5 @@
 -- The nodes that descriptions open, as often as they do.
-use Rattle.std.proofs.Common.{◌≡◌, ◌≢◌, ℕ, zero, suc, ◌+◌, ◌<◌, ◌==◌, Bool, true, false, cond, List, [], ◌∷◌, ◌++◌, set, Option, None, Some, refl, ap, sym, ◌∙◌, arith, eq-eqb, ne_eqb}
+use Rattle.std.proofs.Common.{◌≡◌, ◌≢◌, ℕ, zero, suc, ◌+◌, ◌<◌, ◌==◌, Bool, cond, List, [], ◌∷◌, ◌++◌, set, Option, None, Some, refl, ap, sym, ◌∙◌, arith, eq-eqb, ne_eqb}
 use Rattle.std.proofs.lemmas.List.Sums.{sum_by-cons}
 use Rattle.posix_defs.specs.Files.Descriptions.{Description, Descriptions, OnNode, OnPipe, OnSocket, Target, description_at}
 use Rattle.posix_defs.specs.Files.State.{Files, beside, node_of, nodes_among, opened_node}

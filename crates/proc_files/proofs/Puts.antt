@@ -1,5 +1,5 @@
 -- Bytes of a node are put in a process's memory, and then maybe the offset moves.
-use Rattle.std.proofs.Common.{◌≡◌, ℕ, ◌+◌, ◌%◌, ℤ, pos, true, List, length, Option, Some, refl, ap, sym, subst, ◌∙◌}
+use Rattle.std.proofs.Common.{◌≡◌, ℕ, ◌%◌, ℤ, pos, true, List, length, Option, Some, refl, ap, sym, subst, ◌∙◌}
 use Rattle.kabi_calls.specs.Arguments.{count_of}
 use Rattle.kabi_calls.specs.declared.calls.Call.{Call}
 use Rattle.kabi_values.specs.declared.replies.Reply.TheVariants.{Val}
@@ -20,12 +20,11 @@ use Rattle.posix_defs.specs.Answer.{Answer, replied}
 use Rattle.posix_defs.specs.Calls.Reading.{put}
 use Rattle.posix_defs.specs.Files.Descriptions.{at_offset}
 use Rattle.posix_defs.specs.Files.State.{Files, described_as}
-use Rattle.posix_defs.specs.Memory.{Frames, Memory, after_put, stored}
+use Rattle.posix_defs.specs.Memory.{after_put, stored}
 use Rattle.posix_defs.specs.MemoryCalls.{frames_after, remembered}
 use Rattle.posix_defs.specs.Plain.{Plain, with_files}
 use Rattle.posix_defs.specs.Process.{memory_of, with_memory}
 use Rattle.posix_defs.specs.Tree.{is_directory}
-use Rattle.proc_descs.specs.Having.{HaveOpen}
 use Rattle.proc_table.specs.Accounting.{HasAccount}
 use Rattle.proc_table.specs.Standing.{IsTable}
 use Rattle.proc_table.specs.Table.{TableView}
@@ -36,7 +35,7 @@ use Rattle.proc_files.specs.Holding.{CachesStay, HoldFiles, holders}
 use Rattle.proc_files.specs.Reading.{LeadsHolding, ReadsNode}
 use Rattle.proc_files.specs.Seeking.{MovesDesc, moved}
 use Rattle.proc_files.specs.Closing.{CachesChange}
-use Rattle.proc_files.proofs.Beside.{account_beside, fronts_beside, have_beside, kept_beside, same_descs, space_beside, table_beside}
+use Rattle.proc_files.proofs.Beside.{account_beside, fronts_beside, have_beside, kept_beside, space_beside, table_beside}
 use Rattle.proc_files.proofs.Holding.{hold_moved, stands_on}
 use Rattle.proc_files.proofs.Leading.{leads_so}
 use Rattle.proc_files.proofs.Moved.{moved_account, moved_fronts, moved_kept, moved_table}

@@ -1,5 +1,5 @@
 -- Ranges of memory, and bytes of a node that go there.
-use Rattle.std.proofs.Common.{◌≡◌, ◌≢◌, ℕ, zero, suc, ◌+◌, ◌-◌, ◌<◌, ◌≤◌, ◌==◌, ◌&&◌, ℤ, pos, negsuc, Bool, true, false, inl, inr, None, Some, List, [], ◌∷◌, ◌++◌, take, drop, length, Option, refl, ap, sym, subst, ◌∙◌, arith, length-append, length-take}
+use Rattle.std.proofs.Common.{◌≡◌, ◌≢◌, ℕ, zero, suc, ◌+◌, ◌-◌, ◌<◌, ◌≤◌, ◌==◌, ◌&&◌, ℤ, pos, negsuc, Bool, true, false, inl, inr, None, Some, List, [], ◌∷◌, ◌++◌, take, drop, length, Option, refl, ap, sym, subst, ◌∙◌, arith, length-append}
 use Rattle.std.proofs.lemmas.Bool.Decides.{eqb_tells, leb_tells}
 use Rattle.std.specs.Prelude.{nat_le}
 use Rattle.std.specs.Option.{option_or}
@@ -14,7 +14,6 @@ use Rattle.memfs_ops.specs.FileTree.{TreeView}
 use Rattle.page_space.specs.Contents.{IsOwnedWith, StandsFor as IsMemory}
 use Rattle.page_space.specs.Putting.{Puts}
 use Rattle.posix_defs.specs.Memory.{Memory, is_mapped_range, loaded}
-use Rattle.posix_defs.specs.Needs.{pages_touched}
 use Rattle.posix_defs.specs.Process.{Table, memory_of}
 use Rattle.proc_table.proofs.MemoryLemmas.{memory_at-stands}
 use Rattle.proc_table.specs.Standing.{IsTable}

@@ -1,5 +1,5 @@
 -- What a call that reads a node is answered, by what its number names.
-use Rattle.std.proofs.Common.{◌≡◌, ◌≢◌, ℕ, ◌+◌, ◌==◌, ℤ, pos, Bool, true, false, cond, length, Option, None, Some, refl, ap, sym, ◌∙◌, eq-eqb, ne_eqb}
+use Rattle.std.proofs.Common.{◌≡◌, ◌≢◌, ℕ, ◌==◌, ℤ, pos, Bool, true, false, cond, None, Some, refl, ap, ◌∙◌, eq-eqb, ne_eqb}
 use Rattle.kabi_calls.specs.Arguments.{count_of}
 use Rattle.kabi_values.specs.declared.errnos.Errno.{Errno}
 use Rattle.kabi_values.specs.declared.errnos.Errno.TheVariants.{EBADF, EFAULT, EISDIR, ENOTDIR, ESPIPE}

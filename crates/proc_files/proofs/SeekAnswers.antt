@@ -1,5 +1,5 @@
 -- What the machine answers to a call on a number, by what the number names in the heap; and where a seek leads.
-use Rattle.std.proofs.Common.{◌≡◌, ◌≢◌, ◌⊎◌, ℕ, zero, suc, ◌%◌, ◌==◌, ◌&&◌, ◌+ℤ◌, ℤ, pos, negsuc, not, Bool, true, false, cond, List, Option, None, Some, refl, ap, sym, subst, ◌∙◌, inl, inr}
+use Rattle.std.proofs.Common.{◌≡◌, ◌≢◌, ◌⊎◌, ℕ, zero, suc, ◌%◌, ◌==◌, ◌&&◌, ◌+ℤ◌, ℤ, pos, negsuc, not, Bool, true, false, cond, List, None, Some, refl, ap, sym, subst, ◌∙◌, inl, inr}
 use Rattle.std.specs.Prelude.{IfOk, OnErr, nat_lt, Result, Ok, Err}
 use Rattle.std.proofs.lemmas.Bool.Decides.{eqb_tells}
 use Rattle.kabi_calls.specs.Arguments.{count_of}

@@ -1,6 +1,5 @@
 -- What a call that writes a node is answered, by what its number names.
-use Rattle.std.proofs.Common.{◌≡◌, ◌≢◌, ℕ, ◌+◌, ◌-◌, ◌==◌, ℤ, pos, Bool, true, false, cond, List, Option, None, Some, refl, ap, sym, ◌∙◌, eq-eqb, ne_eqb}
-use Rattle.std.specs.Prelude.{Result}
+use Rattle.std.proofs.Common.{◌≡◌, ◌≢◌, ℕ, ◌==◌, ℤ, pos, Bool, true, false, cond, None, Some, refl, ap, ◌∙◌, eq-eqb, ne_eqb}
 use Rattle.kabi_calls.specs.Arguments.{count_of}
 use Rattle.kabi_values.specs.declared.errnos.Errno.TheVariants.{EBADF, EFAULT, EINVAL, EISDIR, ESPIPE}
 use Rattle.kabi_values.specs.declared.replies.Reply.TheVariants.{Val}
@@ -15,9 +14,7 @@ use Rattle.posix_defs.specs.Calls.Opened.{Opened, answer_on, if_writable, opened
 use Rattle.posix_defs.specs.Calls.Reading.{of_bytes}
 use Rattle.posix_defs.specs.Calls.Writing.{bytes_left, pwrite, pwrite_target, write, write_file, write_target, wrote_at}
 use Rattle.posix_defs.specs.Files.Descriptions.{may_write}
-use Rattle.posix_defs.specs.Memory.{is_mapped_range}
 use Rattle.posix_defs.specs.Plain.{Plain}
-use Rattle.posix_defs.specs.Process.{memory_of}
 use Rattle.posix_defs.specs.Tree.{is_directory}
 use Rattle.posix_defs.specs.TreeChanges.{resize, write as tree_write}
 use Rattle.proc_queues.specs.Found.{opened_in}

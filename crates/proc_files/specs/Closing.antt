@@ -1,5 +1,5 @@
 -- What a close leaves of heap and table where a description of a node may go with it.
-use Rattle.std.specs.Prelude.{ℕ, ◌≡◌, [], List}
+use Rattle.std.specs.Prelude.{ℕ, ◌≡◌, []}
 use Rattle.kheap_shelves.specs.Purse.{Purse}
 use Rattle.kheap_slabs.specs.Heap.{Heap}
 use Rattle.memfs_ops.specs.Closing.{MayFree}

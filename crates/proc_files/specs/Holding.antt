@@ -1,5 +1,5 @@
 -- Descriptions that are open on nodes of the tree of files, and who holds these nodes.
-use Rattle.std.specs.Prelude.{ℕ, ◌+◌, ◌%◌, ◌==◌, ◌<◌, ◌≤◌, ◌≡◌, Bool, true, false, List, Some, count_by}
+use Rattle.std.specs.Prelude.{ℕ, ◌+◌, ◌%◌, ◌==◌, ◌<◌, ◌≤◌, ◌≡◌, true, false, List, Some, count_by}
 use Rattle.kheap_slabs.specs.Heap.{Heap}
 use Rattle.kheap_shelves.specs.declared.objects.Target.{Target}
 use Rattle.kheap_shelves.specs.declared.objects.Target.TheVariants as target

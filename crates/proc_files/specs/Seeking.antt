@@ -1,5 +1,5 @@
 -- Where a seek leads.
-use Rattle.std.specs.Prelude.{ℕ, zero, suc, ◌%◌, ◌==◌, ◌&&◌, not, nat_lt, ◌≡◌, ℤ, pos, negsuc, ◌+ℤ◌, Bool, if◌then◌else◌, List, Option, Result, Ok, Err}
+use Rattle.std.specs.Prelude.{ℕ, zero, suc, ◌%◌, ◌==◌, ◌&&◌, not, nat_lt, ◌≡◌, ℤ, pos, negsuc, ◌+ℤ◌, Bool, if◌then◌else◌, Result, Ok, Err}
 use Rattle.kabi_calls.specs.Arguments.{count_of}
 use Rattle.kabi_values.specs.declared.errnos.Errno.{Errno}
 use Rattle.kabi_values.specs.declared.errnos.Errno.TheVariants.{EINVAL, EOVERFLOW}

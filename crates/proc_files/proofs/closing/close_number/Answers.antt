@@ -1,4 +1,4 @@
-use Rattle.std.proofs.Common.{◌≡◌, ◌<◌, ◌∙◌, None, ap, is_some, refl, subst, sym, w64, arith}
+use Rattle.std.proofs.Common.{◌≡◌, ◌<◌, ◌∙◌, ap, is_some, refl, subst, sym, w64, arith}
 use Rattle.std.proofs.lemmas.Int.{to_z-of_z}
 use Rattle.kabi_calls.specs.Arguments.{count_of}
 use Rattle.posix_defs.specs.Calls.OnDescriptors.{close}

@@ -1,6 +1,5 @@
-use Rattle.std.proofs.Common.{◌≡◌, ◌∙◌, [], ap, None, Some, refl, sym, subst}
+use Rattle.std.proofs.Common.{◌≡◌, ◌∙◌, [], None, Some, refl, sym, subst}
 use Rattle.kheap_laws.proofs.PaidLemmas.{IsPaid-nothing, IsPaid-trans}
-use Rattle.kheap_slabs.specs.Heap.{Heap}
 use Rattle.posix_defs.specs.Files.Closing.{after_close}
 use Rattle.proc_descs.proofs.Fronts.{queues_same, queues_then}
 use Rattle.proc_pipes.proofs.Changes.{node_of_number}

@@ -1,4 +1,4 @@
-use Rattle.std.proofs.Common.{◌≡◌, ◌∙◌, ◌+◌, ◌%◌, ◌<◌, ◌≤◌, ap, false, true, List, None, of_z, Option, refl, Some, sym, subst, to_z, w64, arith, is_some}
+use Rattle.std.proofs.Common.{◌≡◌, ◌∙◌, ◌+◌, ◌%◌, ◌≤◌, ap, false, true, List, None, of_z, Option, refl, Some, sym, subst, to_z, w64, arith, is_some}
 use Rattle.std.proofs.lemmas.Int.{to_z-of_z}
 use Rattle.kabi_calls.specs.Arguments.{count_of, range_fault}
 use Rattle.kabi_values.specs.declared.errnos.Errno.TheVariants.{EBADF, EFAULT, ENOTDIR}

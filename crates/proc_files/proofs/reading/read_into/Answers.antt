@@ -1,6 +1,5 @@
-use Rattle.std.proofs.Common.{◌≡◌, ◌≤◌, ◌++◌, ◌∙◌, ap, drop, length, subst, sym, take, arith}
+use Rattle.std.proofs.Common.{◌≤◌, ◌++◌, ◌∙◌, ap, drop, length, subst, sym, take, arith}
 use Rattle.std.proofs.lemmas.List.{length-take-le}
-use Rattle.kheap_slabs.specs.Paid.{CanPay}
 use Rattle.posix_defs.specs.Needs.{pages_touched}
 use Rattle.posix_defs.specs.PathCalls.{read_node}
 use Rattle.proc_queues.proofs.Capped.{touched_fewer}

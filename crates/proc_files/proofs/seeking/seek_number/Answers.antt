@@ -1,6 +1,5 @@
-use Rattle.std.proofs.Common.{◌≡◌, ◌∙◌, [], ap, None, Some, refl, sym, subst, of_z, to_z, w64}
+use Rattle.std.proofs.Common.{◌≡◌, ◌∙◌, [], ap, None, Some, subst, of_z, to_z, w64}
 use Rattle.std.specs.Option.{option_map}
-use Rattle.std.specs.Prelude.{IfOk, OnErr}
 use Rattle.std.proofs.lemmas.Int.{to_z-of_z}
 use Rattle.posix_defs.specs.Calls.Opened.{opened_at}
 use Rattle.proc_queues.specs.Found.{opened_in}

@@ -1,4 +1,4 @@
-use Rattle.std.proofs.Common.{◌≡◌, ◌∙◌, ap, None, Some, refl, sym, subst, w64}
+use Rattle.std.proofs.Common.{◌≡◌, ◌∙◌, ap, None, Some, subst, w64}
 use Rattle.std.specs.Option.{option_map}
 use Rattle.std.proofs.lemmas.Int.{to_z-of_z}
 use Rattle.kabi_values.specs.declared.replies.Reply.TheVariants.{Stat}

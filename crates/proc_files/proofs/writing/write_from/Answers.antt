@@ -1,6 +1,5 @@
-use Rattle.std.proofs.Common.{◌≡◌, ◌≤◌, ◌<◌, ◌+◌, ◌∙◌, ap, length, subst, sym, arith}
+use Rattle.std.proofs.Common.{◌∙◌, ap, subst, arith}
 use Rattle.std.proofs.lemmas.List.{length-take-le}
-use Rattle.page_space.specs.Entries.{IsMappedRange}
 use Rattle.memfs_ops.specs.Changing.{LedTo}
 use Rattle.posix_defs.specs.Memory.{loaded}
 use Rattle.posix_defs.specs.TreeChanges.{write as tree_write}
