@@ -1,15 +1,13 @@
 -- Which calls block.
-use Rattle.std.proofs.Common.{◌≡◌, ℕ, ℤ, Bool, true, false, Option, None, Some, refl, ap, sym, ◌∙◌}
+use Rattle.std.proofs.Common.{◌≡◌, ℕ, ℤ, Bool, true, false, Option, None, Some, refl, ap, ◌∙◌}
 use Rattle.std.specs.Prelude.{is_none}
 use Rattle.kabi_calls.specs.Arguments.{argument_fault}
-use Rattle.kabi_calls.specs.Call.{kind_of}
 use Rattle.kabi_calls.specs.declared.calls.Call.{Call}
 use Rattle.kabi_calls.specs.declared.calls.Call.TheVariants as call
 use Rattle.kabi_values.specs.declared.errnos.Errno.{Errno}
 use Rattle.kabi_types.specs.declared.scripts.Script.{Script}
 use Rattle.answer_laws.specs.Shapes.{may_block}
 use Rattle.answer_laws.proofs.Blocking.{blocked_may}
-use Rattle.calls_built.specs.Built.{is_built}
 use Rattle.posix_defs.specs.Answer.{Answer, Blocked}
 use Rattle.posix_defs.specs.Machine.{blocks, machine, unless_wrong}
 use Rattle.posix_defs.specs.Plain.{Plain}
@@ -22,6 +20,15 @@ use Rattle.prog_ctl.specs.declared.waits.Awaited.TheVariants.{Child, Bytes, Room
 pub blocks_as : (script : Script) (plain : Plain) (pid : ℕ) (which options : ℤ) → argument_fault (call.Waitpid which options) ≡ None
     → blocks (machine script plain pid (call.Waitpid which options)) ≡ blocks (waitpid script plain pid which options)
 blocks_as script plain pid which options right = ap (λ fault. blocks (unless_wrong script plain pid fault (waitpid script plain pid which options))) right
+
+-- one with a wrong operand doesn't
+pub wrong_goes_on : (script : Script) (plain : Plain) (pid : ℕ) (which options : ℤ) → is_none (argument_fault (call.Waitpid which options)) ≡ false
+    → blocks (machine script plain pid (call.Waitpid which options)) ≡ false
+wrong_goes_on script plain pid which options wrong = go (argument_fault (call.Waitpid which options)) wrong
+  where
+    go : (fault : Option Errno) → is_none fault ≡ false → blocks (unless_wrong script plain pid fault (waitpid script plain pid which options)) ≡ false
+    go None e = cc
+    go (Some errno) e = refl
 
 -- what is right has no fault
 pub no_fault : (fault : Option Errno) → is_none fault ≡ true → fault ≡ None
@@ -46,21 +53,6 @@ is_waiting (call.Write fd addr n done) wait e = ap waiting_call e
 is_waiting (call.Accept fd) wait e = ap waiting_call e
 is_waiting (call.Poll timeout entries) wait e = ap waiting_call e
 is_waiting _ wait e = cc
-
-abbrev pub waits_for_peer : Option Awaited → Bool
-waits_for_peer (Some (Peer fd)) = true
-waits_for_peer _ = false
-
--- none that can be run waits for a peer
-pub no_peer : (which : Call) (wait : Option Awaited) → is_built (kind_of which) ≡ true → wait ≡ wait_of which → waits_for_peer wait ≡ true → ⊥
-no_peer which wait built is peer = go which built (ap waits_for_peer (sym is) ∙ peer)
-  where
-    never : false ≡ true → ⊥
-    never e = cc
-
-    go : (which : Call) → is_built (kind_of which) ≡ true → waits_for_peer (wait_of which) ≡ true → ⊥
-    go (call.Accept fd) built peer = never built
-    go _ built peer = never peer
 
 -- a call that waits for nothing never blocks
 waits_not : (which : Call) → None ≡ wait_of which → may_block which ≡ false

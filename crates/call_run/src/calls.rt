@@ -15,10 +15,13 @@ ghost use Rattle.prog_ctl.specs.Waits.{wait_of};
 ghost use Rattle.store_objects.specs.Objects.{AreKept, IsCaller};
 ghost use Rattle.store_objects.specs.Standing.{Performs, StandsFor};
 ghost use Rattle.store_objects.specs.Uses.{UsesAtMost};
-ghost use Rattle.call_run.specs.Families.{HasDone, is_open, is_queued, is_refused, makes_memory};
+ghost use Rattle.path_calls.specs.Walking.{Reaches};
+ghost use Rattle.call_run.specs.Families.{HasDone, HasPaths, is_named, is_open, is_queued, is_refused, is_socketed, makes_memory};
 
 use kabi_types::{Call, Need, Reply, Script, may_wait};
 use memory_calls::{load, mmap, munmap, store};
+use name_calls::{link, mkdir, rename, rmdir, unlink};
+use path_calls::stat;
 use pipe_calls::{close, dup, dup2, fcntl, fstat, pipe};
 use posix_defs::Turned;
 use process_calls::{exit, fork, signal_process, wait, would_sleep};
@@ -27,7 +30,75 @@ use queue_calls::{
     Buffer, ftruncate, lseek, poll, poll_would_block, pread, pwrite, read, read_would_block,
     readdir, write, write_would_block,
 };
+use sock_calls::{accept, accept_would_block, listen, shutdown, socket, socketpair};
 use store_objects::{Caller, Objects, Target, go_on, purse_for};
+
+/// Whether a call names a node by its path.
+fn is_named(call: &Call) -> bool
+    ensures { result ≡ is_named (kind_of call.now) }
+{
+    matches!(
+        call,
+        Call::Stat { .. }
+            | Call::Mkdir { .. }
+            | Call::Rmdir { .. }
+            | Call::Unlink { .. }
+            | Call::Link { .. }
+            | Call::Rename { .. }
+    )
+}
+
+/// Runs a call that names nodes by their paths, whose operands are right, and pays for what it caches. It stands by itself, since
+/// a function pays for the room of all its locals whenever it is entered.
+#[inline(never)]
+fn run_named(
+    script: &Script,
+    objects: &mut Objects,
+    caller: &Caller,
+    call: &Call,
+    need: Need,
+) -> Turned
+    requires stands { (world : World) × StandsFor script.now objects.old world }
+    requires kept { AreKept script.now objects.old }
+    requires caller { IsCaller objects.old caller.now.pid caller.now }
+    requires right { argument_fault call.now ≡ None }
+    requires among { is_named (kind_of call.now) ≡ true }
+    requires paths { HasPaths call.now }
+    requires needed { need ≡ need_of call.now }
+    requires room { live_bytes objects.old.heap + bound call.now ≤ objects.old.heap.heap }
+    ensures kept { AreKept script.now objects.new }
+    ensures uses { UsesAtMost objects.old.heap objects.new.heap (bound call.now) (slack call.now) }
+    ensures does { Reaches script.now objects.old caller.now.pid call.now (λ plain. answer_to script.now plain caller.now.pid call.now) result objects.new }
+{
+    let pid = caller.pid;
+    let control = caller.control;
+    let mut purse = purse_for(need, Target::File);
+    match call {
+        Call::Stat { path } => stat(script, objects, &mut purse, pid, control, path.items()),
+        Call::Mkdir { path } => mkdir(script, objects, &mut purse, pid, control, path.items()),
+        Call::Rmdir { path } => rmdir(script, objects, &mut purse, pid, control, path.items()),
+        Call::Unlink { path } => unlink(script, objects, &mut purse, pid, control, path.items()),
+        Call::Link { old, new } => link(
+            script,
+            objects,
+            &mut purse,
+            pid,
+            control,
+            old.items(),
+            new.items(),
+        ),
+        Call::Rename { old, new } => rename(
+            script,
+            objects,
+            &mut purse,
+            pid,
+            control,
+            old.items(),
+            new.items(),
+        ),
+        _ => unreachable!(),
+    }
+}
 
 /// Runs a call that makes objects of a process or of its memory, whose operands are right, and pays for them; all others go to
 /// `run_others`.
@@ -44,6 +115,7 @@ fn run_right(
     requires caller { IsCaller objects.old caller.now.pid caller.now }
     requires right { argument_fault call.now ≡ None }
     requires built { is_built (kind_of call.now) ≡ true }
+    requires unnamed { is_named (kind_of call.now) ≡ false }
     requires so_far { HasDone call.now caller.now.control.done }
     requires needed { need ≡ need_of call.now }
     requires room { live_bytes objects.old.heap + bound call.now ≤ objects.old.heap.heap }
@@ -78,6 +150,7 @@ fn run_others(
     requires caller { IsCaller objects.old caller.now.pid caller.now }
     requires right { argument_fault call.now ≡ None }
     requires built { is_built (kind_of call.now) ≡ true }
+    requires unnamed { is_named (kind_of call.now) ≡ false }
     requires other { makes_memory (kind_of call.now) ≡ false }
     requires so_far { HasDone call.now caller.now.control.done }
     requires needed { need ≡ need_of call.now }
@@ -88,20 +161,36 @@ fn run_others(
 {
     if is_queued(call) {
         run_queued(script, objects, buffer, caller, call, need)
+    } else if is_socketed(call) {
+        run_socketed(script, objects, caller, call, need)
     } else {
         run_free(script, objects, caller, call)
     }
 }
 
-/// Whether a call makes a pipe, or moves bytes through one.
+/// Whether a call makes a pipe, or moves bytes through one or a socket.
 fn is_queued(call: &Call) -> bool
     ensures { result ≡ is_queued (kind_of call.now) }
 {
     matches!(call, Call::Pipe | Call::Read { .. } | Call::Write { .. })
 }
 
-/// Runs a call that makes a pipe or moves bytes through one, whose operands are right, and pays for its objects. It stands by
-/// itself, since a function pays for the room of all its locals whenever it is entered.
+/// Whether a call makes sockets, takes one that waits, or changes how far one has come.
+fn is_socketed(call: &Call) -> bool
+    ensures { result ≡ is_socketed (kind_of call.now) }
+{
+    matches!(
+        call,
+        Call::Socket
+            | Call::Socketpair
+            | Call::Listen { .. }
+            | Call::Accept { .. }
+            | Call::Shutdown { .. }
+    )
+}
+
+/// Runs a call that makes a pipe or moves bytes through one or a socket, whose operands are right, and pays for its objects. It
+/// stands by itself, since a function pays for the room of all its locals whenever it is entered.
 #[inline(never)]
 fn run_queued(
     script: &Script,
@@ -125,7 +214,7 @@ fn run_queued(
 {
     let pid = caller.pid;
     let control = caller.control;
-    // All descriptions are open on pipes, so a write needs chunks and no blocks.
+    // All descriptions are open on pipes and sockets, so a write needs chunks and no blocks.
     let mut purse = purse_for(need, Target::Queue);
     match call {
         Call::Pipe => pipe(script, objects, &mut purse, pid, control),
@@ -143,14 +232,49 @@ fn run_queued(
     }
 }
 
+/// Runs a call on sockets that moves no bytes, whose operands are right, and pays for its objects. It stands by itself, as
+/// `run_queued` does.
+#[inline(never)]
+fn run_socketed(
+    script: &Script,
+    objects: &mut Objects,
+    caller: &Caller,
+    call: &Call,
+    need: Need,
+) -> Turned
+    requires kept { AreKept script.now objects.old }
+    requires caller { IsCaller objects.old caller.now.pid caller.now }
+    requires right { argument_fault call.now ≡ None }
+    requires among { is_socketed (kind_of call.now) ≡ true }
+    requires needed { need ≡ need_of call.now }
+    requires room { live_bytes objects.old.heap + bound call.now ≤ objects.old.heap.heap }
+    ensures kept { AreKept script.now objects.new }
+    ensures uses { UsesAtMost objects.old.heap objects.new.heap (bound call.now) (slack call.now) }
+    ensures does { Performs script.now objects.old caller.now.pid call.now (λ plain. answer_to script.now plain caller.now.pid call.now) result objects.new }
+{
+    let pid = caller.pid;
+    let control = caller.control;
+    let mut purse = purse_for(need, Target::Queue);
+    match call {
+        Call::Socket => socket(script, objects, &mut purse, pid, control),
+        Call::Socketpair => socketpair(script, objects, &mut purse, pid, control),
+        Call::Listen { fd } => listen(script, objects, pid, control, *fd),
+        Call::Accept { fd } => accept(script, objects, &mut purse, pid, control, *fd),
+        Call::Shutdown { fd, how } => shutdown(script, objects, pid, control, *fd, *how),
+        _ => unreachable!(),
+    }
+}
+
 /// Runs a call on processes or memory that makes no object, whose operands are right; all others go to `run_open`.
 fn run_free(script: &Script, objects: &mut Objects, caller: &Caller, call: &Call) -> Turned
     requires kept { AreKept script.now objects.old }
     requires caller { IsCaller objects.old caller.now.pid caller.now }
     requires right { argument_fault call.now ≡ None }
     requires built { is_built (kind_of call.now) ≡ true }
+    requires unnamed { is_named (kind_of call.now) ≡ false }
     requires other { makes_memory (kind_of call.now) ≡ false }
     requires queued { is_queued (kind_of call.now) ≡ false }
+    requires socketed { is_socketed (kind_of call.now) ≡ false }
     ensures kept { AreKept script.now objects.new }
     ensures uses { UsesAtMost objects.old.heap objects.new.heap 0 (slack call.now) }
     ensures does { Performs script.now objects.old caller.now.pid call.now (λ plain. answer_to script.now plain caller.now.pid call.now) result objects.new }
@@ -205,7 +329,7 @@ fn run_open(script: &Script, objects: &mut Objects, caller: &Caller, call: &Call
     }
 }
 
-/// Runs a call on descriptors that pipes refuse, whose operands are right.
+/// Runs a call on descriptors that pipes and sockets refuse, whose operands are right.
 fn run_refused(script: &Script, objects: &mut Objects, caller: &Caller, call: &Call) -> Turned
     requires kept { AreKept script.now objects.old }
     requires caller { IsCaller objects.old caller.now.pid caller.now }
@@ -247,15 +371,22 @@ pub fn run(
     requires kept { AreKept script.now objects.old }
     requires caller { IsCaller objects.old caller.now.pid caller.now }
     requires built { is_built (kind_of call.now) ≡ true }
+    requires paths { HasPaths call.now }
     requires so_far { HasDone call.now caller.now.control.done }
     requires needed { need ≡ need_of call.now }
     requires room { live_bytes objects.old.heap + bound call.now ≤ objects.old.heap.heap }
     ensures kept { AreKept script.now objects.new }
     ensures uses { UsesAtMost objects.old.heap objects.new.heap (bound call.now) (slack call.now) }
-    ensures does { Performs script.now objects.old caller.now.pid call.now (λ plain. machine script.now plain caller.now.pid call.now) result objects.new }
+    ensures does { Reaches script.now objects.old caller.now.pid call.now (λ plain. machine script.now plain caller.now.pid call.now) result objects.new }
 {
     match call.checked() {
-        Ok(()) => run_right(script, objects, buffer, caller, call, need),
+        Ok(()) => {
+            if is_named(call) {
+                run_named(script, objects, caller, call, need)
+            } else {
+                run_right(script, objects, buffer, caller, call, need)
+            }
+        }
         Err(errno) => go_on(
             script,
             objects,
@@ -266,12 +397,12 @@ pub fn run(
     }
 }
 
-/// Whether a live process's call that can be run would block now. Of the call it asks only for what that waits for: a call that
-/// waits for nothing never blocks, and none that can be run waits for a peer.
+/// Whether a live process's call would block now. Of the call it asks only for what that waits for: a call that waits for nothing
+/// never blocks.
 pub fn would_block(objects: &Objects, pid: u32, wait: Option<Awaited>) -> bool
     requires { (script : Script) × (world : World) × StandsFor script objects.now world × (is_alive world.plain.table pid ≡ true) }
     ensures { (script : Script) (world : World) → StandsFor script objects.now world
-        → (call : Call) → is_built (kind_of call) ≡ true → wait ≡ wait_of call → result ≡ blocks (machine script world.plain pid call) }
+        → (call : Call) → wait ≡ wait_of call → result ≡ blocks (machine script world.plain pid call) }
 {
     match wait {
         Some(
@@ -284,7 +415,7 @@ pub fn would_block(objects: &Objects, pid: u32, wait: Option<Awaited>) -> bool
         Some(Awaited::Room { fd, addr, n, done }) => {
             write_would_block(objects, pid, fd, addr, n, done)
         }
-        Some(Awaited::Peer { .. }) => false,
+        Some(Awaited::Peer { fd }) => accept_would_block(objects, pid, fd),
         Some(Awaited::Events { timeout, entries }) => {
             poll_would_block(objects, pid, timeout, &entries)
         }

@@ -35,7 +35,18 @@ pub fn is_built(kind: CallKind) -> bool
         | CallKind::Pwrite
         | CallKind::Lseek
         | CallKind::Readdir
-        | CallKind::Ftruncate => true,
+        | CallKind::Ftruncate
+        | CallKind::Stat
+        | CallKind::Mkdir
+        | CallKind::Rmdir
+        | CallKind::Unlink
+        | CallKind::Link
+        | CallKind::Rename
+        | CallKind::Socket
+        | CallKind::Socketpair
+        | CallKind::Listen
+        | CallKind::Accept
+        | CallKind::Shutdown => true,
         _ => false,
     }
 }

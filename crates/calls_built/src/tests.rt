@@ -47,7 +47,7 @@ fn script(alloc: Global, first: CallKind, second: CallKind) -> Result<Script, Fa
     })
 }
 
-/// The calls of processes, of memory, and on pipes.
+/// The calls of processes, of memory, on pipes, on names of the tree of files, and on sockets without a name.
 const BUILT: &[CallKind] = &[
     CallKind::Getpid,
     CallKind::Getppid,
@@ -74,15 +74,26 @@ const BUILT: &[CallKind] = &[
     CallKind::Lseek,
     CallKind::Readdir,
     CallKind::Ftruncate,
+    CallKind::Stat,
+    CallKind::Mkdir,
+    CallKind::Rmdir,
+    CallKind::Unlink,
+    CallKind::Link,
+    CallKind::Rename,
+    CallKind::Socket,
+    CallKind::Socketpair,
+    CallKind::Listen,
+    CallKind::Accept,
+    CallKind::Shutdown,
 ];
 
 #[test]
-fn twenty_five_of_the_calls_can_be_run(rt: HostRuntime) {
+fn thirty_six_of_the_calls_can_be_run(rt: HostRuntime) {
     for kind in BUILT {
         assert!(rt; is_built(*kind), "{kind:?}");
     }
     let count = CallKind::ALL.iter().filter(|kind| is_built(**kind)).count();
-    assert!(rt; count == 25);
+    assert!(rt; count == 36);
 }
 
 #[test]
@@ -99,13 +110,14 @@ fn scripts_of_such_calls_can_be_run(rt: HostRuntime) -> Result<(), Fail> {
     assert!(rt; can_run(&none));
     assert!(rt; can_run(&script(alloc, CallKind::Getpid, CallKind::Fork)?));
     assert!(rt; can_run(&script(alloc, CallKind::Pipe, CallKind::Poll)?));
+    assert!(rt; can_run(&script(alloc, CallKind::Socketpair, CallKind::Accept)?));
     Ok(())
 }
 
 #[test]
 fn one_call_of_any_program_is_enough(rt: HostRuntime) -> Result<(), Fail> {
     let alloc = rt.alloc();
-    assert!(rt; !can_run(&script(alloc, CallKind::Socket, CallKind::Fork)?));
+    assert!(rt; !can_run(&script(alloc, CallKind::Bind, CallKind::Fork)?));
     assert!(rt; !can_run(&script(alloc, CallKind::Fork, CallKind::Exec)?));
     assert!(rt; !can_run(&script(alloc, CallKind::Pipe, CallKind::OpenFile)?));
     Ok(())

@@ -1,1 +1,4 @@
+mod AtRest
+mod Known
+mod Places
 mod ReliefSteps

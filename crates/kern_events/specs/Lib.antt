@@ -17,4 +17,6 @@ pub use Rattle.kern_tasks.specs.Calm
 pub use Rattle.kern_tasks.specs.Places
 pub use Rattle.kern_tasks.specs.View
 pub use Rattle.kern_tasks.specs.Others
+pub mod Found
+pub mod Sleepers
 pub mod Reliefs

@@ -1,7 +1,8 @@
 //! A run of a script: its events, what each does, and when it ends.
 
-ghost use Rattle.std.specs.Prelude.{◌≡◌, ℕ, ◌+◌, ◌-◌, ◌≤◌, ◌<◌, [], length, filter, Some, None, IfOk, IfSome, IsSome, IsNone, slice_get, true};
-ghost use Rattle.std.specs.Option.{option_to_list};
+ghost use Rattle.std.specs.Prelude.{◌≡◌, ◌==◌, if◌then◌else◌, ℕ, ◌+◌, ◌-◌, ◌≤◌, ◌<◌, [], length, filter, Some, None, IfOk, IfSome, IsSome, IsNone, slice_get, true, not};
+ghost use Rattle.std.specs.Option.{option_or, option_to_list};
+ghost use Rattle.kabi_types.specs.declared.entries.End.TheVariants.{Spent};
 ghost use Rattle.std.specs.List.{list_any, list_all};
 ghost use Rattle.kabi_types.specs.declared.entries.Event.TheVariants.{Ask, Admit, Turn, Wake, Abandon, Kill, Evict};
 ghost use Rattle.kabi_calls.specs.Call.{kind_of};
@@ -16,11 +17,16 @@ ghost use Rattle.posix_defs.specs.declared.turner.Turned.TheVariants.{Sleep};
 ghost use Rattle.posix_defs.specs.Licence.{can_evict_any, is_licensed};
 ghost use Rattle.posix_defs.specs.Ends.{all_asleep, end_of, starves_for, sleeps_on};
 ghost use Rattle.posix_defs.specs.Choice.{asks_nothing, default_of, events_of, enabled_in, default_in, kills_in, named_by, others_in};
-ghost use Rattle.kern_tasks.specs.View.{IsAt, IsAskedFor, IsSleep, HasRun, HasBooted, Has, CanTake, GoesOn, IsInside, MayTake, StaysInside, Takes, Took};
+ghost use Rattle.posix_defs.specs.Machine.{would_block};
+ghost use Rattle.kern_tasks.specs.Room.{is_asleep};
+ghost use Rattle.kern_tasks.specs.View.{IsAt, IsAskedFor, IsSleep, HasRun, HasBooted, CanTake, GoesOn, IsInside, MayTake, StaysInside, Takes, Took};
 ghost use Rattle.kern_tasks.specs.Others.{eviction, present};
+ghost use Rattle.kern_events.specs.Found.{IsFoundAt};
+ghost use Rattle.kern_events.specs.Sleepers.{AllFit, HaveEvents, WaitsForAtMost};
 ghost use Rattle.kern_events.specs.Reliefs.{NeverStarves, Relieves, first_evictable, relief_of};
 
 use crate::reliefs::Relief;
+use crate::sleepers::{Sleepers, ask_of_sleepers, known_after};
 use kabi_types::{Cached, Call, End, Entry, Event, Memory, Noted};
 use kern_tasks::{
     add_born, all_have_events, all_sleep, bury, bury_ended, count_present, entry_of, first_going,
@@ -38,6 +44,10 @@ const RESERVE: u64 = 2176;
 /// What is charged at boot, in bytes.
 const FIXED: u64 = 2816;
 
+/// Of how many tasks it is kept whether their calls would go on: as many as there may be processes. Only where more are there,
+/// since some have ended with their calls admitted still, the store is asked at each event.
+const MOST_TOLD: usize = 64;
+
 /// A run of a script: the store of its processes, how far each is with its call, and what happened so far.
 #[derive(Drop)]
 pub struct Core<T: Turner + Drop> {
@@ -49,11 +59,17 @@ pub struct Core<T: Turner + Drop> {
     reserved: u64,
     charged: u64,
     peak: u64,
+    sleepers: Sleepers,
+    // At the place of each task whether its call would go on, where it sleeps and that is told.
+    ready: [bool; MOST_TOLD],
+    // No call that waits may use more, in bytes.
+    most_asked: u64,
 }
 
 impl<T: Turner + Drop> Model for Core<T> {
     ghost use Rattle.std.specs.Prelude.{vec_capacity};
-    ghost use Rattle.kern_tasks.specs.View.{CoreView, IsKept};
+    ghost use Rattle.kern_tasks.specs.View.{CoreView};
+    ghost use Rattle.kern_events.specs.Sleepers.{Knows};
 
     ghost Value = { CoreView T };
 
@@ -67,7 +83,7 @@ impl<T: Turner + Drop> Model for Core<T> {
       peak = core.peak;
     } };
 
-    ghost invariant = { λ core. IsKept T.stands (T.script core.store) (record {
+    ghost invariant = { λ core. Knows T.stands (T.script core.store) (record {
       store = core.store;
       steps = core.steps;
       run = core.run.items;
@@ -75,7 +91,7 @@ impl<T: Turner + Drop> Model for Core<T> {
       reserved = core.reserved;
       charged = core.charged;
       peak = core.peak;
-    }) core.heap (vec_capacity core.run) (vec_capacity core.tasks) };
+    }) core.heap (vec_capacity core.run) (vec_capacity core.tasks) core.sleepers core.ready core.most_asked };
 }
 
 impl<T: Turner + Drop> Core<T> {
@@ -106,6 +122,9 @@ impl<T: Turner + Drop> Core<T> {
             reserved: 0,
             charged: FIXED,
             peak: FIXED,
+            sleepers: Sleepers::Nobody,
+            ready: [false; MOST_TOLD],
+            most_asked: 0,
         })
     }
 
@@ -152,11 +171,18 @@ impl<T: Turner + Drop> Core<T> {
         self.tasks.iter().any(|task| is_admitted(task.phase))
     }
 
+    /// Whether the greatest bound that a call waited with fits, so that no call waits in vain. It looks at no task.
+    fn all_fit(&self) -> bool
+        ensures { result ≡ true → AllFit (T.script self.now.store).heap self.now.charged self.now.tasks }
+    {
+        self.most_asked <= self.room()
+    }
+
     /// Whether some call waits for which there is no room now.
     fn some_wait_in_vain(&self) -> bool
         ensures { (s : CoreState) → IsAt T.stands self.now s → result ≡ some_wait_in_vain (T.script self.now.store) s }
     {
-        some_without(self.tasks.as_slice(), self.room())
+        !self.all_fit() && some_without(self.tasks.as_slice(), self.room())
     }
 
     /// Whether some call waits for which there is room now.
@@ -178,6 +204,16 @@ impl<T: Turner + Drop> Core<T> {
     fn starves_for(&self) -> Option<u64>
         ensures { (s : CoreState) → IsAt T.stands self.now s → result ≡ starves_for (T.script self.now.store) s }
     {
+        if self.all_fit() {
+            return None;
+        }
+        self.starves_alone()
+    }
+
+    /// The same, where the tasks are looked at.
+    fn starves_alone(&self) -> Option<u64>
+        ensures { (s : CoreState) → IsAt T.stands self.now s → result ≡ starves_for (T.script self.now.store) s }
+    {
         if !is_alone(self.tasks.as_slice()) || self.admits_any() || self.can_evict_any() {
             return None;
         }
@@ -187,14 +223,27 @@ impl<T: Turner + Drop> Core<T> {
         }
     }
 
-    /// Whether a process sleeps on a call that would still block.
-    fn sleeps_on(&self, task: Task) -> bool
-        requires { Has self.now.tasks task }
+    /// Whether the call of the task at this place, which sleeps, would go on now.
+    fn goes_on(&self, place: usize, task: Task) -> bool
+        requires at { slice_get self.now.tasks place ≡ Some task }
+        requires asleep { is_asleep task.phase ≡ true }
+        ensures { (s : CoreState) → IsAt T.stands self.now s → IsSound (T.script self.now.store) s
+            → result ≡ not (would_block (T.script self.now.store) s.world.plain task.pid) }
+    {
+        match self.sleepers {
+            Sleepers::Told => self.ready[place],
+            Sleepers::Nobody | Sleepers::Untold => self.store.ready(task.pid),
+        }
+    }
+
+    /// Whether a process sleeps on a call that would still block: that of the task at this place.
+    fn sleeps_on(&self, place: usize, task: Task) -> bool
+        requires { slice_get self.now.tasks place ≡ Some task }
         ensures { (s : CoreState) → IsAt T.stands self.now s → IsSound (T.script self.now.store) s
             → result ≡ sleeps_on (T.script self.now.store) s task.pid task.phase }
     {
         match task.phase {
-            Phase::Asleep(_) => !self.store.ready(task.pid),
+            Phase::Asleep(_) => !self.goes_on(place, task),
             _ => false,
         }
     }
@@ -211,8 +260,8 @@ impl<T: Turner + Drop> Core<T> {
     fn all_block(&self) -> bool
         ensures { (s : CoreState) → IsAt T.stands self.now s → IsSound (T.script self.now.store) s → result ≡ all_asleep (T.script self.now.store) s }
     {
-        for task in self.tasks.iter() {
-            if !self.sleeps_on(*task) {
+        for (place, task) in self.tasks.iter().enumerate() {
+            if !self.sleeps_on(place, *task) {
                 return false;
             }
         }
@@ -224,6 +273,21 @@ impl<T: Turner + Drop> Core<T> {
         ensures end { (s : CoreState) → IsAt T.stands self.now s → IsSound (T.script self.now.store) s → result ≡ end_of (T.script self.now.store) self.now.steps (length self.now.run) s }
         ensures goes_on { IsNone result → GoesOn T.stands (T.script self.now.store) self.now }
     {
+        // While a call holds bytes in reserve it is admitted, so no end stands but that of the steps.
+        if self.reserved != 0 {
+            return self.spent();
+        }
+        match self.ended_at_rest() {
+            Some(end) => Some(end),
+            None => self.spent(),
+        }
+    }
+
+    /// The end that stands whatever number of events may still be taken, the first that holds.
+    fn ended_at_rest(&self) -> Option<End>
+        ensures { (s : CoreState) → IsAt T.stands self.now s → IsSound (T.script self.now.store) s → (steps taken : ℕ)
+            → end_of (T.script self.now.store) steps taken s ≡ option_or result (if taken == steps then Some Spent else None) }
+    {
         if !self.store.alive(1) && !self.admits_any() {
             return Some(End::Finished);
         }
@@ -233,15 +297,23 @@ impl<T: Turner + Drop> Core<T> {
         if self.all_asleep() {
             return Some(End::AllAsleep);
         }
-        if self.run.len() == self.steps as usize {
-            return Some(End::Spent);
-        }
         None
     }
 
-    /// The event of a task, if it may be taken.
-    fn event_of(&self, task: Task) -> Option<Event>
-        requires { Has self.now.tasks task }
+    /// The end of a run that has taken as many events as it may.
+    fn spent(&self) -> Option<End>
+        ensures { result ≡ (if length self.now.run == self.now.steps then Some Spent else None) }
+    {
+        if self.run.len() == self.steps as usize {
+            Some(End::Spent)
+        } else {
+            None
+        }
+    }
+
+    /// The event of the task at this place, if it may be taken.
+    fn event_of(&self, place: usize, task: Task) -> Option<Event>
+        requires { slice_get self.now.tasks place ≡ Some task }
         ensures { (s : CoreState) → IsAt T.stands self.now s → IsSound (T.script self.now.store) s
             → option_to_list result ≡ events_of (T.script self.now.store) s task.pid task.phase }
     {
@@ -257,7 +329,7 @@ impl<T: Turner + Drop> Core<T> {
             }
             Phase::Admitted(_) => Some(Event::Turn(pid)),
             Phase::Asleep(_) => {
-                if self.store.ready(pid) {
+                if self.goes_on(place, task) {
                     Some(Event::Wake(pid))
                 } else {
                     None
@@ -272,8 +344,8 @@ impl<T: Turner + Drop> Core<T> {
     fn is_licensed(&self) -> bool
         ensures { (s : CoreState) → IsAt T.stands self.now s → result ≡ is_licensed (T.script self.now.store) s }
     {
-        !self.admits_any()
-            && self.some_wait_in_vain()
+        self.some_wait_in_vain()
+            && !self.admits_any()
             && !self.can_evict_any()
             && !self.some_fit()
             && self.store.victim().is_some()
@@ -316,17 +388,44 @@ impl<T: Turner + Drop> Core<T> {
         ]
     }
 
+    /// How many of the events that may be taken now are of tasks.
+    fn task_events(&self) -> u32
+        ensures few { result ≤ 100001 }
+        ensures counted { (s : CoreState) → IsAt T.stands self.now s → IsSound (T.script self.now.store) s
+            → result + length (others_in (T.script self.now.store) s) ≡ length (enabled_in (T.script self.now.store) s) }
+    {
+        let mut count = 0;
+        for (place, task) in self.tasks.iter().enumerate() {
+            if self.event_of(place, *task).is_some() {
+                count += 1;
+            }
+        }
+        count
+    }
+
+    /// The event at place `i`, from 0, among those of tasks that may be taken now; where there are no more than `i`, how far
+    /// behind them the place is.
+    fn task_event(&self, i: u32) -> Result<Event, u32>
+        ensures found { (s : CoreState) → IsAt T.stands self.now s → IsSound (T.script self.now.store) s → IsFoundAt (T.script self.now.store) s i result }
+        ensures runs { HasRun T.stands (T.script self.now.store) self.now }
+    {
+        let mut left = i;
+        for (place, task) in self.tasks.iter().enumerate() {
+            if let Some(event) = self.event_of(place, *task) {
+                if left == 0 {
+                    return Ok(event);
+                }
+                left -= 1;
+            }
+        }
+        Err(left)
+    }
+
     /// How many events may be taken now, whether or not an end stands.
     pub fn count(&self) -> u32
         ensures { (s : CoreState) → IsAt T.stands self.now s → IsSound (T.script self.now.store) s → result ≡ length (enabled_in (T.script self.now.store) s) }
     {
-        let mut count = 0;
-        for task in self.tasks.iter() {
-            if self.event_of(*task).is_some() {
-                count += 1;
-            }
-        }
-        count + count_present(&self.others())
+        self.task_events() + count_present(&self.others())
     }
 
     /// The event at place `i`, from 0, among those that may be taken now: those of processes by rising pid, evictions, and
@@ -335,34 +434,56 @@ impl<T: Turner + Drop> Core<T> {
         ensures listed { (s : CoreState) → IsAt T.stands self.now s → IsSound (T.script self.now.store) s → result ≡ slice_get (enabled_in (T.script self.now.store) s) i }
         ensures may { IfSome result (λ event. CanTake T.stands (T.script self.now.store) self.now event) }
     {
-        let mut before = 0;
-        for task in self.tasks.iter() {
-            if let Some(event) = self.event_of(*task) {
-                if before == i {
-                    return Some(event);
-                }
-                before += 1;
-            }
+        match self.task_event(i) {
+            Ok(event) => Some(event),
+            Err(left) => present_at(&self.others(), left),
         }
-        present_at(&self.others(), i - before)
     }
 
-    /// The event that a number names: it counts round those that may be taken now. Mostly each task has an event, which
-    /// stands at the task's own place among them.
+    /// Whether each task has an event, whatever its process's call would do.
+    fn all_go(&self) -> bool
+        ensures { result ≡ true → HaveEvents (T.script self.now.store).heap self.now.charged self.now.tasks }
+    {
+        match self.sleepers {
+            Sleepers::Nobody => {
+                self.all_fit() || all_have_events(self.tasks.as_slice(), self.room())
+            }
+            Sleepers::Told | Sleepers::Untold => false,
+        }
+    }
+
+    /// The event that a number names: it counts round those that may be taken now.
     pub fn named(&self, number: u32) -> Option<Event>
         requires { GoesOn T.stands (T.script self.now.store) self.now }
         ensures named { (s : CoreState) → IsAt T.stands self.now s → IsSound (T.script self.now.store) s → result ≡ named_by (Some number) (T.script self.now.store) s }
         ensures may { IfSome result (λ event. CanTake T.stands (T.script self.now.store) self.now event) }
     {
-        if !all_have_events(self.tasks.as_slice(), self.room()) {
-            return self.enabled(number % self.count());
-        }
         let others = self.others();
+        if self.all_go() {
+            return self.named_of_all(number, &others);
+        }
+        let count = self.task_events() + count_present(&others);
+        match self.task_event(number % count) {
+            Ok(event) => Some(event),
+            Err(left) => present_at(&others, left),
+        }
+    }
+
+    /// The same where each task has an event, which then stands at the task's own place among them, and the events of no
+    /// process are these.
+    fn named_of_all(&self, number: u32, others: &[Option<Event>]) -> Option<Event>
+        requires goes_on { GoesOn T.stands (T.script self.now.store) self.now }
+        requires all { HaveEvents (T.script self.now.store).heap self.now.charged self.now.tasks }
+        requires others { (s : CoreState) → IsAt T.stands self.now s → present others.now ≡ others_in (T.script self.now.store) s }
+        requires few { length others.now ≤ 4 }
+        ensures named { (s : CoreState) → IsAt T.stands self.now s → IsSound (T.script self.now.store) s → result ≡ named_by (Some number) (T.script self.now.store) s }
+        ensures may { IfSome result (λ event. CanTake T.stands (T.script self.now.store) self.now event) }
+    {
         let tasks = self.tasks.len() as u32;
-        let place = number % (tasks + count_present(&others));
+        let place = number % (tasks + count_present(others));
         match task_at(self.tasks.as_slice(), place) {
-            Some(task) => self.event_of(task),
-            None => present_at(&others, place - tasks),
+            Some(task) => self.event_of(place as usize, task),
+            None => present_at(others, place - tasks),
         }
     }
 
@@ -371,8 +492,8 @@ impl<T: Turner + Drop> Core<T> {
         ensures { (s : CoreState) → IsAt T.stands self.now s → IsSound (T.script self.now.store) s
             → result ≡ slice_get (filter asks_nothing (enabled_in (T.script self.now.store) s)) 0 }
     {
-        for task in self.tasks.iter() {
-            if let Some(event) = self.event_of(*task) {
+        for (place, task) in self.tasks.iter().enumerate() {
+            if let Some(event) = self.event_of(place, *task) {
                 if asks_nothing(event) {
                     return Some(event);
                 }
@@ -427,6 +548,31 @@ impl<T: Turner + Drop> Core<T> {
         ensures took { Takes T.stands (T.script self.old.store) self.old event self.new }
         ensures inside { StaysInside T.marks T.high (T.script self.old.store).heap self.old self.new }
     {
+        self.go_through(event);
+        self.ask_of_sleepers();
+    }
+
+    /// Asks the store of the calls that sleep, where it has not been asked since it last changed.
+    fn ask_of_sleepers(&mut self)
+        ensures { self.new ≡ self.old }
+    {
+        if matches!(self.sleepers, Sleepers::Untold) && self.tasks.len() <= MOST_TOLD {
+            let some = ask_of_sleepers(&self.store, self.tasks.as_slice(), &mut self.ready);
+            self.sleepers = if some {
+                Sleepers::Told
+            } else {
+                Sleepers::Nobody
+            };
+        }
+    }
+
+    /// Does what an event does.
+    fn go_through(&mut self, event: Event)
+        requires { MayTake T.stands (T.script self.old.store) self.old event }
+        ensures script { T.script self.new.store ≡ T.script self.old.store }
+        ensures took { Takes T.stands (T.script self.old.store) self.old event self.new }
+        ensures inside { StaysInside T.marks T.high (T.script self.old.store).heap self.old self.new }
+    {
         match event {
             Event::Ask(pid) => self.ask(pid),
             Event::Admit(pid) => self.admit(pid),
@@ -462,6 +608,7 @@ impl<T: Turner + Drop> Core<T> {
         ensures inside { IsInside T.marks T.high (T.script self.old.store).heap self.old self.new }
     {
         self.store.refuse(pid);
+        self.sleepers = Sleepers::Untold;
         set_phase(&mut self.tasks, pid, Phase::User);
         let entry = Entry::Refused {
             pid,
@@ -482,6 +629,7 @@ impl<T: Turner + Drop> Core<T> {
         ensures same { self.new.store ≡ self.old.store }
     {
         set_phase(&mut self.tasks, pid, Phase::Waiting(asked));
+        self.most_asked = self.most_asked.max(asked.bound);
         let noted = noted_of(Event::Ask(pid), asked, None, self.charged);
         note(&mut self.run, &mut self.peak, noted);
     }
@@ -516,6 +664,7 @@ impl<T: Turner + Drop> Core<T> {
         let turned = self.store.turn(pid, &call, need(&call));
         let phase = phase_after(&self.store, pid, asked, &turned);
         set_phase(&mut self.tasks, pid, phase);
+        self.sleepers = known_after(self.sleepers, phase);
         let ends = may_end(asked.kind, &turned);
         bury_ended(&self.store, &mut self.tasks, ends);
         add_born(&mut self.tasks, before, self.store.last_pid());
@@ -536,6 +685,7 @@ impl<T: Turner + Drop> Core<T> {
             unreachable!()
         };
         set_phase(&mut self.tasks, pid, Phase::Waiting(asked));
+        self.most_asked = self.most_asked.max(asked.bound);
         let noted = noted_of(Event::Wake(pid), asked, None, self.charged);
         note(&mut self.run, &mut self.peak, noted);
     }
@@ -550,6 +700,7 @@ impl<T: Turner + Drop> Core<T> {
             unreachable!()
         };
         remove(&mut self.tasks, pid);
+        self.sleepers = Sleepers::Untold;
         let held = asked.bound;
         self.reserved -= held;
         self.charged -= held;
@@ -571,6 +722,7 @@ impl<T: Turner + Drop> Core<T> {
         };
         let live = self.store.live();
         self.store.kill(pid);
+        self.sleepers = Sleepers::Untold;
         bury(&self.store, &mut self.tasks);
         self.charged = self.store.live() + RESERVE + self.reserved;
         let noted = Noted {
@@ -595,6 +747,7 @@ impl<T: Turner + Drop> Core<T> {
         ensures inside { IsInside T.marks T.high (T.script self.old.store).heap self.old self.new }
     {
         self.store.evict(what);
+        self.sleepers = Sleepers::Untold;
         self.charged = self.store.live() + RESERVE + self.reserved;
         let noted = Noted {
             event: Event::Evict(what),
@@ -717,9 +870,10 @@ fn noted_of(event: Event, asked: Asked, entry: Option<Entry>, charged: u64) -> N
 /// where a part is done the rest of the call is asked for anew.
 fn phase_after<T: Turner>(store: &T, pid: u32, asked: Asked, turned: &Turned) -> Phase
     requires { IsSleep turned.now → (world : World) × T.stands store.now world × (is_alive world.plain.table pid ≡ true) }
-    ensures { (world : World) → T.stands store.now world → (IsSleep turned.now → is_alive world.plain.table pid ≡ true)
+    ensures phase { (world : World) → T.stands store.now world → (IsSleep turned.now → is_alive world.plain.table pid ≡ true)
         → (turned.now ≡ Sleep → asked ≡ asked_by (T.script store.now) world.plain pid)
         → result ≡ phase_after (asked_by (T.script store.now) world.plain pid) turned.now }
+    ensures waits { (most : ℕ) → WaitsForAtMost most result }
 {
     match turned {
         Turned::Done(_) => Phase::User,

@@ -3,6 +3,7 @@
 
 mod cores;
 mod reliefs;
+mod sleepers;
 
 pub use cores::Core;
 pub use reliefs::Relief;

@@ -250,11 +250,11 @@ const STORES: &[(&str, &str, Left)] = &[
     ("sim", PID_SCRIPT, Some((128, 0))),
     ("sim", LOOP_SCRIPT, Some((640, 0))),
     ("sim", "", None),
-    ("sim", "program init\nsocket\nend\n", None),
+    ("sim", "program init\nbind 0 \"a\"\nend\n", None),
     ("print", PID_SCRIPT, None),
     ("threads 1", PID_SCRIPT, Some((128, 0))),
     ("threads 2", LOOP_SCRIPT, Some((640, 0))),
-    ("threads 2", "program init\nsocket\nend\n", None),
+    ("threads 2", "program init\nbind 0 \"a\"\nend\n", None),
 ];
 
 fn expect_left(
@@ -281,7 +281,7 @@ const REFUSALS: &[(&str, &str, Status, &str)] = &[
     ("threads 2", PID_SCRIPT, Status::Finished, PID_HISTORY),
     (
         "sim",
-        "program init\nr1 = socket\nend\n",
+        "program init\nr1 = bind 0 \"a\"\nend\n",
         Status::BadScript,
         "bad script: line 2: not built\n",
     ),
@@ -333,18 +333,18 @@ const FAULTS: &[(&str, Status, &str)] = &[
         "bad script: line 3: unknown word\n",
     ),
     (
-        "program init\nr1 = socket\nend\n",
+        "program init\nr1 = bind 0 \"a\"\nend\n",
         Status::BadScript,
         "bad script: line 2: not built\n",
     ),
     (
-        "program init\nr1 = getpid\nend\nprogram other\nopen \"a\" O_RDONLY\nsocket\nend\n",
+        "program init\nr1 = getpid\nend\nprogram other\nopen \"a\" O_RDONLY\nbind 0 \"a\"\nend\n",
         Status::BadScript,
         "bad script: line 5: not built\n",
     ),
     // What is no script is told before.
     (
-        "program init\nr1 = socket\njmp a\nend\n",
+        "program init\nr1 = bind 0 \"a\"\njmp a\nend\n",
         Status::BadScript,
         "bad script: line 3: unknown word\n",
     ),

@@ -75,9 +75,9 @@ const PRINTS: &[(&str, Status, &str)] = &[
     ),
     // What can't be run is printed.
     (
-        "program init\nr1 = socket\nend\n",
+        "program init\nr1 = bind 0 \"a\"\nend\n",
         Status::Finished,
-        "heap 65536\ndisk 64\nsteps 1000\npolicy heaviest\nprogram init\nr1 = socket\nend\n",
+        "heap 65536\ndisk 64\nsteps 1000\npolicy heaviest\nprogram init\nr1 = bind 0 \"a\"\nend\n",
     ),
 ];
 

@@ -42,7 +42,7 @@ const HISTORIES: &[(&str, Status, &str)] = &[
     (STARVING_SCRIPT, Status::Starved, STARVING_HISTORY),
     ("", Status::BadScript, "bad script: line 0: no init\n"),
     (
-        "program init\nr1 = socket\nend\n",
+        "program init\nr1 = bind 0 \"a\"\nend\n",
         Status::BadScript,
         "bad script: line 2: not built\n",
     ),

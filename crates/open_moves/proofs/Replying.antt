@@ -32,7 +32,7 @@ use Rattle.store_objects.proofs.Fronts.{settled_after}
 use Rattle.store_objects.proofs.Leading.{led_done}
 use Rattle.store_objects.proofs.Replies.{GoesOn}
 use Rattle.open_moves.specs.Moves.{OpenMoves}
-use Rattle.open_moves.specs.Worlds.{HasReached, HaveBecome, RepliesOn, StayOnPipes, opened_in}
+use Rattle.open_moves.specs.Worlds.{HasReached, HaveBecome, RepliesOn, opened_in}
 use Rattle.open_moves.proofs.Moving.{stands_opened}
 use Rattle.open_moves.proofs.Numbers.{account_opened, table_opened}
 
@@ -45,25 +45,24 @@ settled_files files now account plain =
     record { pipes = settled.pipes; sockets = settled.sockets }
 
 -- Files have become others, of which the objects have all.
-pub files_become : (old new : Objects) (plain : Plain) (now : Files) (account : Account) → HaveFiles old plain.files account → HaveBecome new plain.files now account
+pub files_become : (new : Objects) (plain : Plain) (now : Files) (account : Account) → HaveBecome new plain.files now account
     → HaveFiles new now (fronts_on plain.files now account)
-files_become old new plain now account have become = record {
+files_become new plain now account become = record {
   numbers = become.numbers;
   opened = become.opened;
   fronts = become.fronts;
   settled = settled_files plain.files now account plain;
-  sockets = become.stay.sockets have.sockets;
 }
 
 -- Where queues stand where they stood, and what was there keeps its numbers, the account goes on with the fronts.
 pub become_where_queues_stand : (old new : Objects) (files now : Files) (account : Account) (numbers : Numbers) → (have : HaveFiles old files account) → QueuesStand old.heap new.heap
     → ((key : ℕ) → InUse old.heap.pipes key → numbers.pipes key ≡ have.numbers.pipes key) → ((key : ℕ) → InUse old.heap.socks key → numbers.socks key ≡ have.numbers.socks key)
-    → HaveOpen numbers new.heap new.procs now → StayOnPipes files now → HaveBecome new files now account
-become_where_queues_stand old new files now account numbers have stand pipes socks opened stay = record {
+    → HaveOpen numbers new.heap new.procs now → now.tree ≡ files.tree → HaveBecome new files now account
+become_where_queues_stand old new files now account numbers have stand pipes socks opened tree = record {
   numbers = numbers;
   opened = opened;
   fronts = fronts_follow have.numbers numbers old.heap new.heap have.opened.list opened.list files now account have.opened.opened opened.opened stand pipes socks have.fronts;
-  stay = stay;
+  tree = tree;
 }
 
 -- ---- worlds
@@ -76,8 +75,8 @@ reached_opened script old new world pid files stands same changes become = recor
       (table_opened old.heap new.heap old.procs pid stands.kept.holds changes world.plain.table stands.processes.table);
   memory = subst (λ (view : TableView). HasAccount new.heap view world.account.frames) (sym same)
       (account_opened old.heap new.heap old.procs pid stands.kept.holds changes world.account.frames stands.memory);
-  files = files_become old new world.plain files world.account stands.files become;
-  tree = become.stay.tree;
+  files = files_become new world.plain files world.account become;
+  tree = become.tree;
   family = stands.family;
   home = stands.home;
   controls = refl;

@@ -16,7 +16,7 @@ use Rattle.proc_descs.specs.Queues.{fronts_on}
 use Rattle.proc_table.specs.Accounting.{HasAccount}
 use Rattle.proc_table.specs.Standing.{IsTable}
 use Rattle.store_objects.specs.declared.objects.Objects.{Objects}
-use Rattle.store_objects.specs.Files.{HaveFiles, OffSockets}
+use Rattle.store_objects.specs.Files.{HaveFiles}
 
 -- files have become others, and the account has gone on with their queues
 abbrev pub opened_in : World → Files → World
@@ -35,18 +35,13 @@ pub record HasReached (new : Objects) (world next : World) : Type 0 where
   pub kept : next.kept ≡ world.kept
   pub reads : next.reads ≡ world.reads
 
--- The tree is the same, and nothing is open on a socket where nothing was.
-pub record StayOnPipes (files now : Files) : Type 0 where
-  pub tree : now.tree ≡ files.tree
-  pub sockets : OffSockets files.descriptions → OffSockets now.descriptions
-
 -- The objects have these files open, which others have become, and the account that has gone on with them has the fronts of their
--- queues.
+-- queues. The tree is the same.
 pub record HaveBecome (new : Objects) (files now : Files) (account : Account) : Type 0 where
   pub numbers : Numbers
   pub opened : HaveOpen numbers new.heap new.procs now
   pub fronts : HaveFronts numbers new.heap (fronts_on files now account)
-  pub stay : StayOnPipes files now
+  pub tree : now.tree ≡ files.tree
 
 -- The machine's answer is this reply, where its files have become others, which the objects have.
 pub record RepliesOn (new : Objects) (script : Script) (plain : Plain) (account : Account) (pid : ℕ) (answer : Answer) (said : Reply) : Type 0 where

@@ -1,5 +1,5 @@
 -- A call on what a process has open changes that as the machine's does, and then its caller goes on.
-use Rattle.std.proofs.Common.{◌≡◌, ℕ, [], IsSome, refl, ap, subst}
+use Rattle.std.proofs.Common.{◌≡◌, ℕ, [], IsSome, refl, ap, sym, ◌∙◌}
 use Rattle.kabi_calls.specs.declared.calls.Call.{Call}
 use Rattle.kabi_values.specs.declared.replies.Reply.{Reply}
 use Rattle.kabi_types.specs.declared.scripts.Control.{Control}
@@ -29,7 +29,7 @@ use Rattle.store_objects.proofs.EndingOne.{has_key}
 use Rattle.store_objects.proofs.Replies.{GoesOn}
 use Rattle.store_objects.proofs.TreeStays.{OffNodes, off_by_heap}
 use Rattle.open_moves.specs.Moves.{OpenMoves}
-use Rattle.open_moves.specs.Worlds.{RepliesOn, StayOnPipes}
+use Rattle.open_moves.specs.Worlds.{RepliesOn}
 use Rattle.open_moves.proofs.Moving.{kept_opened, runs_opened}
 use Rattle.open_moves.proofs.Numbers.{moves_opened}
 use Rattle.open_moves.proofs.Replying.{become_where_queues_stand, performs_opened}
@@ -45,8 +45,8 @@ key_who_runs script objects pid control kept runs = has_key script objects pid k
 
 -- the files of a reply are those that it leads to
 files_told : (script : Script) (plain : Plain) (files : Files) (pid : ℕ) (answer : Answer) (said : Reply) → answer ≡ replied script (with_files plain files) pid said
-    → Stay plain answer → StayOnPipes plain.files files
-files_told script plain files pid answer said is stay = subst (StayOnPipes plain.files) (ap (files_in plain.files) is) stay
+    → Stay plain answer → files.tree ≡ plain.files.tree
+files_told script plain files pid answer said is stay = ap (λ a. (files_in plain.files a).tree) (sym is) ∙ stay
 
 -- A call has changed what the process of a pid, which runs, has open in a heap.
 module _ (script : Script) (objects : Objects) (heap : Heap) (pid : ℕ) (control : Control) (kept : AreKept script objects) (runs : Runs objects pid control)
@@ -102,7 +102,6 @@ module _ (script : Script) (objects : Objects) (heap : Heap) (pid : ℕ) (contro
             record {
               files = it.files;
               replies = it.replies;
-              become = become_where_queues_stand objects mid world.plain.files it.files world.account anew.now have stand anew.keeps.pipes
-                  (λ key used. ap (λ (number : ℕ → ℕ). number key) anew.keeps.socks) it.stands
+              become = become_where_queues_stand objects mid world.plain.files it.files world.account anew.now have stand anew.keeps.pipes anew.keeps.socks it.stands
                   (files_told script world.plain it.files pid (answer world.plain) said it.replies (leaves world.plain (off_in world stands)));
             }

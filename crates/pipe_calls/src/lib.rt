@@ -8,3 +8,4 @@ mod replies;
 
 pub use descriptors::{close, dup, dup2, fcntl, fstat};
 pub use pipes::pipe;
+pub use replies::{pair, value};

@@ -16,7 +16,7 @@ pub(crate) fn zero(closed: Result<Option<u32>, Errno>) -> Reply
 }
 
 /// A number, or why there is none.
-pub(crate) fn value(told: Result<u32, Errno>) -> Reply
+pub fn value(told: Result<u32, Errno>) -> Reply
     ensures { result ≡ value_of told }
 {
     match told {
@@ -36,7 +36,7 @@ pub(crate) fn first(made: Result<(u32, Option<u32>), Errno>) -> Reply
 }
 
 /// Two numbers, or why there aren't any.
-pub(crate) fn pair(made: Result<(u32, u32), Errno>) -> Reply
+pub fn pair(made: Result<(u32, u32), Errno>) -> Reply
     ensures { result ≡ pair_of made }
 {
     match made {

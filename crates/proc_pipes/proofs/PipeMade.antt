@@ -278,7 +278,7 @@ module _ (old new : Heap) (pipe reading writing : ℕ) (opens : PipeOpens old ne
             (λ same. used_apart mid writing second opens.also_free mid_within key (still key used) same)
             ∙ kept_by numbers.descs reading (length files.descriptions) key (used_apart old.descs reading first opens.free opens.within key used);
         pipes = λ key used. kept_by numbers.pipes pipe (length files.pipes) key (pipe_apart key used);
-        socks = refl;
+        socks = λ key used. refl;
         frames = refl;
       }
         where

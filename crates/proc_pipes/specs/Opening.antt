@@ -54,7 +54,7 @@ with_ends numbers files pipe reading writing = record numbers {
 pub record KeepsNumbers (old : Heap) (before after : Numbers) : Type 0 where
   pub descs : (key : ℕ) → InUse old.descs key → after.descs key ≡ before.descs key
   pub pipes : (key : ℕ) → InUse old.pipes key → after.pipes key ≡ before.pipes key
-  pub socks : after.socks ≡ before.socks
+  pub socks : (key : ℕ) → InUse old.socks key → after.socks key ≡ before.socks key
   pub frames : after.frames ≡ before.frames
 
 -- The machine's answer is this reply, and heap and table have open what it says then, where what is new has numbers.

@@ -1,5 +1,5 @@
 -- Who may read, who may write, and that a pipe is there for who has it open.
-use Rattle.std.proofs.Common.{◌≡◌, ℕ, ℤ, Bool, cond, [], Option, None, Some, IsSome, refl, ap, sym, subst, ◌∙◌}
+use Rattle.std.proofs.Common.{◌≡◌, ℕ, ℤ, Bool, cond, [], Option, None, Some, IsSome, refl, ap, subst, ◌∙◌}
 use Rattle.kabi_values.specs.declared.errnos.Errno.TheVariants.{EBADF}
 use Rattle.kabi_types.specs.declared.scripts.Script.{Script}
 use Rattle.kheap_shelves.specs.Objects.{object}
@@ -7,8 +7,8 @@ use Rattle.kheap_shelves.specs.declared.objects.Desc.{Desc}
 use Rattle.kheap_shelves.specs.declared.objects.Target.{Target}
 use Rattle.kheap_shelves.specs.declared.objects.Target.TheVariants as target
 use Rattle.kheap_slabs.specs.Heap.{Heap}
-use Rattle.open_laws.specs.Described.{access_in, node_in}
-use Rattle.open_laws.specs.Owned.{HasItsOwners, IsThereFor, sock_of}
+use Rattle.open_laws.specs.Described.{access_in}
+use Rattle.open_laws.specs.Owned.{HasItsOwners, IsThereFor}
 use Rattle.pipe_ends.specs.Standing.{IsPipeAt}
 use Rattle.place_laws.specs.Placed.{Numbers}
 use Rattle.posix_defs.specs.Answer.{Answer, failed}
@@ -18,7 +18,7 @@ use Rattle.posix_defs.specs.Plain.{Plain}
 use Rattle.proc_table.specs.Procs.{IsAlive}
 use Rattle.proc_table.specs.Table.{AreStored, TableView, key_of, processes}
 use Rattle.proc_table.proofs.PlaceLemmas.{key_of-none, none_not_some}
-use Rattle.proc_queues.specs.Found.{OpensPipes, opened_in}
+use Rattle.proc_queues.specs.Found.{IsNamed, IsOnPipe, opened_in, pipe_in}
 use Rattle.proc_queues.specs.declared.lookups.Found.{Found}
 
 module _ (script : Script) (numbers : Numbers) (plain : Plain) (pid : ℕ) (fd : ℤ) (answer : Opened → Answer) where
@@ -43,14 +43,16 @@ pipe_of h key pipe desc owners is on =
     let there : IsThereFor h desc.access (target.Pipe pipe) = subst (IsThereFor h desc.access) on (owners.held.targets key desc is) in
     owners.held.stand pipe there.0
 
--- what is open on pipes alone is open on nothing else
-pub only_pipe : (descs : _) (key : ℕ) (desc : Desc) → OpensPipes descs → object descs key ≡ Some desc → ((pipe : ℕ) → desc.target ≡ target.Pipe pipe → ⊥) → ⊥
-only_pipe descs key desc opens is never = by_target desc.target refl
+-- what a number names that is open on a pipe is a pipe
+pub only_pipe : (h : Heap) (kept : TableView) (pid : ℕ) (fd : ℤ) (found : Found) → IsOnPipe h kept pid fd → IsNamed h kept pid fd found → object h.descs found.key ≡ Some found.desc
+    → ((pipe : ℕ) → found.desc.target ≡ target.Pipe pipe → ⊥) → ⊥
+only_pipe h kept pid fd found on named is never =
+    by_target found.desc.target refl (on named.held found.desc named.is (ap (object h.descs) named.same ∙ is))
   where
-    by_target : (what : Target) → desc.target ≡ what → ⊥
-    by_target (target.Pipe pipe) on = never pipe on
-    by_target (target.Inode number) on = let none : Some number ≡ None = sym (ap node_in on) ∙ opens.nodes key desc is in cc
-    by_target (target.Sock sock) on = let none : Some sock ≡ None = sym (ap sock_of on) ∙ opens.sockets key desc is in cc
+    by_target : (what : Target) → found.desc.target ≡ what → IsSome (pipe_in what) → ⊥
+    by_target (target.Pipe pipe) at some = never pipe at
+    by_target (target.Inode number) at some = cc
+    by_target (target.Sock sock) at some = cc
 
 -- who runs is in the table
 pub alive_listed : (h : Heap) (kept : TableView) (pid : ℕ) → AreStored h.procs kept.listed → IsAlive (processes h kept) pid → IsSome (key_of kept.listed pid)

@@ -1,6 +1,6 @@
 -- What a number of a process names in the heap is what it names in the machine.
 use Rattle.std.proofs.Common.{◌≡◌, ℕ, ◌<◌, ℤ, pos, negsuc, List, [], Option, None, Some, refl, ap, ◌∙◌, arith}
-use Rattle.std.specs.Prelude.{count_by}
+use Rattle.std.specs.Prelude.{count_by, slice_index_or}
 use Rattle.std.specs.Option.{option_map}
 use Rattle.std.proofs.Math.ListN.{get_or-map}
 use Rattle.kheap_shelves.specs.Objects.{object}
@@ -21,9 +21,11 @@ use Rattle.posix_defs.specs.Files.Descriptions.{Description, Descriptions, descr
 use Rattle.posix_defs.specs.Files.Descriptors.{Descriptors, descriptor_of}
 use Rattle.posix_defs.specs.Files.State.{Files, descriptors_of}
 use Rattle.proc_descs.specs.Having.{AreListed, HaveOpen, places_in}
+use Rattle.proc_descs.specs.Naming.{named_by}
 use Rattle.proc_descs.proofs.Listing.{found_before}
 use Rattle.proc_descs.proofs.Sums.{one_if, part_of_sum}
-use Rattle.proc_table.specs.Table.{TableView, key_of}
+use Rattle.proc_table.specs.Procs.{proc_of}
+use Rattle.proc_table.specs.Table.{TableView, key_of, processes}
 use Rattle.proc_table.proofs.PlaceLemmas.{eqb_same}
 use Rattle.proc_queues.specs.Found.{held_at, opened_in}
 
@@ -31,6 +33,11 @@ use Rattle.proc_queues.specs.Found.{held_at, opened_in}
 pub held_by : (number : ℕ → ℕ) (places : List (Option HeldDescriptor)) (fd : ℤ) → descriptor_of (descriptors_by number places) fd ≡ option_map (descriptor_by number) (held_at places fd)
 held_by number places (pos fd) = get_or-map (option_map (descriptor_by number)) places fd None
 held_by number places (negsuc n) = refl
+
+-- what a number names of a process that is there
+pub named_held : (h : Heap) (kept : TableView) (pid : ℕ) (proc : Proc) (fd : ℤ) → proc_of (processes h kept) pid ≡ Some proc → named_by h kept pid fd ≡ held_at proc.descriptors fd
+named_held h kept pid proc (pos fd) is = ap (λ o. slice_index_or (places_in o) fd None) is
+named_held h kept pid proc (negsuc n) is = refl
 
 names_some : (places : List (Option HeldDescriptor)) (fd : ℤ) (held : HeldDescriptor) → held_at places fd ≡ Some held → 0 < count_by (names_desc held.desc) places
 names_some places (pos fd) held is =

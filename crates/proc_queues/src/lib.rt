@@ -1,4 +1,4 @@
-//! What processes read, write and poll by their descriptors, where what is open is open on pipes.
+//! What processes read and write by numbers that are open on pipes, poll by any, and what pipes and sockets refuse.
 //!
 //! Each call is told what the machine answers it, and the heap stands for what the machine is then. Where the machine's answer
 //! blocks the call is told to sleep and nothing changes; whether it would is told without making it.

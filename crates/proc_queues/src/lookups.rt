@@ -14,7 +14,7 @@ ghost use Rattle.posix_defs.specs.Files.State.{Files};
 ghost use Rattle.posix_defs.specs.Plain.{Plain};
 ghost use Rattle.proc_descs.specs.Having.{AreListed, HaveOpen};
 ghost use Rattle.proc_table.specs.Table.{key_of};
-ghost use Rattle.proc_queues.specs.Found.{held_at, opened_in};
+ghost use Rattle.proc_queues.specs.Found.{IsNamed, held_at, opened_in};
 
 use kabi_types::MOST_DESCRIPTORS;
 use kheap_shelves::{Access, Desc, Descriptor};
@@ -38,6 +38,7 @@ pub fn opened(heap: &KHeap, procs: &ProcTable, pid: u32, fd: i64) -> Option<Foun
     ensures found { (numbers : Numbers) (files : Files) → HaveOpen numbers heap.now procs.now files
         → opened_at files pid fd ≡ option_map (opened_in numbers) result }
     ensures there { IfSome result (λ found. object heap.now.descs found.key ≡ Some found.desc) }
+    ensures named { IfSome result (IsNamed heap.now procs.now pid fd) }
 {
     let Some(key) = procs.key_of(pid) else {
         unreachable!();
@@ -61,6 +62,7 @@ pub fn readable(heap: &KHeap, procs: &ProcTable, pid: u32, fd: i64) -> Option<Fo
         → on_open script plain pid fd (λ opened. if_readable script plain pid opened (answer opened))
         ≡ answer_on script plain pid answer (option_map (opened_in numbers) result) }
     ensures there { IfSome result (λ found. object heap.now.descs found.key ≡ Some found.desc) }
+    ensures named { IfSome result (IsNamed heap.now procs.now pid fd) }
 {
     match opened(heap, procs, pid, fd) {
         Some(found) if may_read(found.desc.access) => Some(found),
@@ -78,6 +80,7 @@ pub fn writable(heap: &KHeap, procs: &ProcTable, pid: u32, fd: i64) -> Option<Fo
         → on_open script plain pid fd (λ opened. if_writable script plain pid opened (answer opened))
         ≡ answer_on script plain pid answer (option_map (opened_in numbers) result) }
     ensures there { IfSome result (λ found. object heap.now.descs found.key ≡ Some found.desc) }
+    ensures named { IfSome result (IsNamed heap.now procs.now pid fd) }
 {
     match opened(heap, procs, pid, fd) {
         Some(found) if may_write(found.desc.access) => Some(found),

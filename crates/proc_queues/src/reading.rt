@@ -18,7 +18,7 @@ ghost use Rattle.posix_defs.specs.Pipe.{Pipe as PlainPipe, Moves, pipe_read as r
 ghost use Rattle.posix_defs.specs.Plain.{Plain};
 ghost use Rattle.proc_table.specs.Procs.{IsAlive};
 ghost use Rattle.proc_table.specs.Table.{processes};
-ghost use Rattle.proc_queues.specs.Found.{OpensPipes};
+ghost use Rattle.proc_queues.specs.Found.{IsOnPipe};
 ghost use Rattle.proc_queues.specs.Moving.{ReadsPipe, UnlessMoves, told_read};
 ghost use Rattle.proc_queues.specs.Standing.{IsKept, Leads, StandsFor};
 
@@ -51,7 +51,7 @@ pub fn read(
 ) -> Turned
     requires kept { IsKept heap.old procs.now }
     requires alive { IsAlive (processes heap.old procs.now) pid }
-    requires pipes { OpensPipes heap.old.descs }
+    requires on { IsOnPipe heap.old procs.now pid fd }
     requires right { argument_fault (Call.Read fd addr n) ≡ None }
     requires room { CanPay heap.old purse.old }
     requires left { pages_touched (count_of addr) (count_of n) ≤ purse.old.left.page }
@@ -100,7 +100,7 @@ pub fn read(
 pub fn read_waits(heap: &KHeap, procs: &ProcTable, pid: u32, fd: i64, addr: i64, n: i64) -> bool
     requires kept { IsKept heap.now procs.now }
     requires alive { IsAlive (processes heap.now procs.now) pid }
-    requires pipes { OpensPipes heap.now.descs }
+    requires on { IsOnPipe heap.now procs.now pid fd }
     requires right { argument_fault (Call.Read fd addr n) ≡ None }
     ensures { (script : Script) (numbers : Numbers) (plain : Plain) (account : Account)
         → StandsFor numbers heap.now procs.now plain account

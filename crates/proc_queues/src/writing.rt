@@ -21,7 +21,7 @@ ghost use Rattle.posix_defs.specs.Pipe.{Pipe as PlainPipe, after_write, pipe_wri
 ghost use Rattle.posix_defs.specs.Plain.{Plain};
 ghost use Rattle.proc_table.specs.Procs.{IsAlive};
 ghost use Rattle.proc_table.specs.Table.{processes};
-ghost use Rattle.proc_queues.specs.Found.{OpensPipes};
+ghost use Rattle.proc_queues.specs.Found.{IsOnPipe};
 ghost use Rattle.proc_queues.specs.Moving.{UnlessMoves, moved_in, told_write};
 ghost use Rattle.proc_queues.specs.Standing.{IsKept, Leads, StandsFor};
 
@@ -89,7 +89,7 @@ pub fn write(
 ) -> Turned
     requires kept { IsKept heap.old procs.now }
     requires alive { IsAlive (processes heap.old procs.now) pid }
-    requires pipes { OpensPipes heap.old.descs }
+    requires on { IsOnPipe heap.old procs.now pid fd }
     requires right { argument_fault (Call.Write fd addr n done) ≡ None }
     requires room { CanPay heap.old purse.old }
     requires left { chunks_for (count_of n - done) ≤ purse.old.left.chunk }
@@ -141,7 +141,7 @@ pub fn write_waits(
 ) -> bool
     requires kept { IsKept heap.now procs.now }
     requires alive { IsAlive (processes heap.now procs.now) pid }
-    requires pipes { OpensPipes heap.now.descs }
+    requires on { IsOnPipe heap.now procs.now pid fd }
     requires right { argument_fault (Call.Write fd addr n done) ≡ None }
     ensures { (script : Script) (numbers : Numbers) (plain : Plain) (account : Account)
         → StandsFor numbers heap.now procs.now plain account

@@ -2,9 +2,8 @@
 use Rattle.std.specs.Prelude.{ℕ, ◌≡◌, ◌+◌, ◌++◌, [], ◌∷◌, length, Option, None, Some, Result, Ok, Err, pos}
 use Rattle.kabi_types.specs.declared.scripts.Script.{Script}
 use Rattle.kabi_values.specs.declared.errnos.Errno.{Errno}
-use Rattle.kabi_values.specs.declared.replies.Reply.{Reply}
 use Rattle.kabi_values.specs.declared.replies.Reply.TheVariants.{Fail, Val}
-use Rattle.kheap_shelves.specs.Objects.{InUse, object}
+use Rattle.kheap_shelves.specs.Objects.{object}
 use Rattle.kheap_slabs.specs.Heap.{Heap}
 use Rattle.place_laws.specs.Placed.{Numbers, numbered}
 use Rattle.posix_defs.specs.Answer.{Answer, Blocked}
@@ -14,7 +13,7 @@ use Rattle.posix_defs.specs.Plain.{Plain}
 use Rattle.posix_defs.specs.Sockets.{with_pair}
 use Rattle.proc_table.specs.Table.{TableView}
 use Rattle.proc_descs.specs.Having.{HaveOpen}
-use Rattle.proc_pipes.specs.Answering.{Answers}
+use Rattle.proc_pipes.specs.Opening.{AnswersAnew, KeepsNumbers}
 
 -- ---- numbers
 
@@ -31,13 +30,6 @@ abbrev pub with_socks : Numbers → Files → ℕ → ℕ → Numbers
 with_socks numbers files one other = record numbers {
   socks = numbered (numbered numbers.socks one (length files.sockets)) other (length files.sockets + 1);
 }
-
--- Each object that was in use has the number that it had.
-pub record KeepsNumbers (old : Heap) (before after : Numbers) : Type 0 where
-  pub descs : (key : ℕ) → InUse old.descs key → after.descs key ≡ before.descs key
-  pub pipes : after.pipes ≡ before.pipes
-  pub socks : (key : ℕ) → InUse old.socks key → after.socks key ≡ before.socks key
-  pub frames : after.frames ≡ before.frames
 
 -- ---- descriptions
 
@@ -65,12 +57,6 @@ pub record OpensBoth (numbers : Numbers) (old new : Heap) (kept : TableView) (fi
   pub at_other : now.descs other ≡ length files.descriptions + 1
 
 -- ---- answers
-
--- The machine's answer is this reply, and heap and table have open what it says then, where what is new has numbers.
-pub record AnswersAnew (numbers : Numbers) (old new : Heap) (kept : TableView) (script : Script) (plain : Plain) (pid : ℕ) (answer : Answer) (reply : Reply) : Type 0 where
-  pub now : Numbers
-  pub keeps : KeepsNumbers old numbers now
-  pub answers : Answers now new kept script plain pid answer reply
 
 -- An accept has this answer of the machine: the number by which a socket was taken, that it would have to wait, or a fault.
 abbrev pub Accepts : Numbers → Heap → Heap → TableView → Script → Plain → ℕ → Answer → Result (Option ℕ) Errno → Type 0

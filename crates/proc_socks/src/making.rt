@@ -15,7 +15,8 @@ ghost use Rattle.proc_descs.specs.Having.{AreListed, HaveOpen, OpensNoNode};
 ghost use Rattle.proc_descs.specs.Naming.{ChangesNumbers};
 ghost use Rattle.proc_descs.specs.Queues.{QueuesStand};
 ghost use Rattle.proc_pipes.specs.Answering.{pair_of, value_of};
-ghost use Rattle.proc_socks.specs.Opening.{AnswersAnew, OpensBoth};
+ghost use Rattle.proc_pipes.specs.Opening.{AnswersAnew};
+ghost use Rattle.proc_socks.specs.Opening.{OpensBoth};
 
 use crate::describing::{describe, open_on};
 use crate::finding::lowest_from;

@@ -32,11 +32,9 @@ use kheap_shelves::Purse;
 use kheap_slabs::KHeap;
 use page_space::Space;
 use posix_defs::Turned;
+use proc_queues::{Buffer, CAPACITY};
 use proc_table::ProcTable;
 use usock_core::{sock_read, sock_read_waits};
-
-/// How many bytes a socket has to read at most.
-const CAPACITY: u32 = 4096;
 
 /// Reads at most n bytes from the socket that a number is open on into a process's memory, as many as are there. None are the
 /// end of the file: the socket was shut for reading, or its peer has closed or was shut for writing.
@@ -47,6 +45,7 @@ pub fn read_socket(
     heap: &mut KHeap,
     purse: &mut Purse,
     procs: &ProcTable,
+    buffer: &mut Buffer,
     pid: u32,
     fd: i64,
     addr: i64,
@@ -84,7 +83,16 @@ pub fn read_socket(
     if n == 0 {
         return Turned::Done(Reply::Val(0));
     }
-    take_from_socket(heap, purse, &mut space, found.key, found.nonblock, start, n)
+    take_from_socket(
+        heap,
+        purse,
+        &mut space,
+        buffer,
+        found.key,
+        found.nonblock,
+        start,
+        n,
+    )
 }
 
 /// Whether a `read` of a socket would sleep.
@@ -124,6 +132,7 @@ fn take_from_socket(
     heap: &mut KHeap,
     purse: &mut Purse,
     space: &mut Space,
+    buffer: &mut Buffer,
     key: u32,
     nonblock: bool,
     start: u32,
@@ -153,8 +162,7 @@ fn take_from_socket(
     } }
     ensures paid { IsPaid heap.old purse.old heap.new purse.new }
 {
-    let mut room = [0; CAPACITY as usize];
-    let out = &mut room[..n.min(CAPACITY) as usize];
+    let out = &mut buffer[..(n as usize).min(CAPACITY)];
     match sock_read(heap, key, nonblock, out) {
         Moved::Bytes(count) => {
             space.copy_in(heap, purse, start, &out[..count as usize]);

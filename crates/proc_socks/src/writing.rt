@@ -36,11 +36,9 @@ use kheap_shelves::{Purse, SockState};
 use kheap_slabs::KHeap;
 use page_space::Space;
 use posix_defs::Turned;
+use proc_queues::{Buffer, CAPACITY};
 use proc_table::ProcTable;
 use usock_core::{sock_write, sock_write_waits};
-
-/// How many bytes a socket takes at most.
-const CAPACITY: u32 = 4096;
 
 // The bytes of a write, from an address on, of which some were moved before.
 #[derive(Clone, Copy)]
@@ -86,6 +84,7 @@ pub fn write_socket(
     heap: &mut KHeap,
     purse: &mut Purse,
     procs: &ProcTable,
+    buffer: &mut Buffer,
     pid: u32,
     fd: i64,
     addr: i64,
@@ -123,7 +122,15 @@ pub fn write_socket(
         return Turned::Done(Reply::Fail(Errno::ENOTCONN));
     }
     let written = Written { start, n, done };
-    put_in_socket(heap, purse, &space, found.key, found.nonblock, &written)
+    put_in_socket(
+        heap,
+        purse,
+        &space,
+        buffer,
+        found.key,
+        found.nonblock,
+        &written,
+    )
 }
 
 /// Whether a `write` to a socket would sleep.
@@ -165,6 +172,7 @@ fn put_in_socket(
     heap: &mut KHeap,
     purse: &mut Purse,
     space: &Space,
+    buffer: &mut Buffer,
     key: u32,
     nonblock: bool,
     written: &Written,
@@ -189,8 +197,7 @@ fn put_in_socket(
     ensures refused { (sockets : Sockets) → SocketsStandFor heap.old sockets
         → UnlessMoves (write_answer sockets key nonblock (written.now.n - written.now.done)) (heap.new ≡ heap.old) }
 {
-    let mut room = [0; CAPACITY as usize];
-    let bytes = &mut room[..written.left().min(CAPACITY) as usize];
+    let bytes = &mut buffer[..(written.left() as usize).min(CAPACITY)];
     space.copy_out(heap, written.rest(), bytes);
     let moved = sock_write(heap, purse, key, nonblock, bytes);
     told(moved, nonblock, written)

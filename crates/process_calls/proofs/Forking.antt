@@ -263,7 +263,6 @@ module _ (script : Script) (old mid moved : Objects) (pid child : ℕ) (control 
               ∙ have.fronts.socks key sock (sym (ap (λ (h : Heap). object h.socks key) moves.kept) ∙ is);
         };
         settled = settled_on files (with_heir files pid) account next refl refl pipes sockets have.settled;
-        sockets = have.sockets;
       }
 
   -- the tree of files is the same

@@ -3,3 +3,4 @@ pub mod Remaining
 pub mod Queueing
 pub mod Telling
 pub mod Blocking
+pub mod Choosing

@@ -12,19 +12,17 @@ use Rattle.posix_defs.specs.Control.{settled}
 use Rattle.posix_defs.specs.Plain.{Plain, at_start}
 use Rattle.posix_defs.specs.World.{World}
 use Rattle.proc_descs.specs.Having.{OpensNoNode}
-use Rattle.proc_queues.specs.Found.{OpensPipes}
 use Rattle.proc_queues.specs.Standing.{IsKept, StandsFor as QueuesStandFor}
 use Rattle.proc_queues.proofs.Finding.{alive_listed}
 use Rattle.proc_table.specs.Procs.{IsAlive, proc_of}
 use Rattle.proc_table.specs.Table.{key_of, procs_at}
 use Rattle.store_objects.specs.declared.objects.Objects.{Objects}
-use Rattle.store_objects.specs.Files.{AreSettled, HaveFiles, OffSockets}
+use Rattle.store_objects.specs.Files.{AreSettled, HaveFiles}
 use Rattle.store_objects.specs.Objects.{AreAtCalls, AreKept, Runs, procs_of}
 use Rattle.store_objects.specs.Standing.{StandsFor}
 use Rattle.store_objects.proofs.TreesOn.{caches_on, tree_goes_on}
 use Rattle.store_objects.specs.Trees.{CachesStay}
 use Rattle.store_objects.proofs.Keeping.{listed_in}
-use Rattle.store_objects.proofs.OnPipes.{opens_no_socket}
 use Rattle.store_objects.proofs.TreeStays.{OffNodes, off_by_heap}
 use Rattle.queue_calls.proofs.Remaining.{Remains}
 
@@ -40,10 +38,6 @@ runs_alive objects pid control runs = record { proc = runs.proc; there = runs.fo
 
 pub has_key : (script : Script) (objects : Objects) (pid : ℕ) → AreKept script objects → IsAlive (procs_of objects) pid → IsSome (key_of objects.procs.listed pid)
 has_key script objects pid kept alive = alive_listed objects.heap objects.procs pid kept.holds.stored alive
-
--- what is open is open on pipes
-pub opens_pipes : (script : Script) (objects : Objects) (world : World) → StandsFor script objects world → OpensPipes objects.heap.descs
-opens_pipes script objects world stands = record { nodes = stands.kept.nodes; sockets = opens_no_socket script objects world stands }
 
 pub off_nodes : (script : Script) (objects : Objects) (world : World) → StandsFor script objects world → OffNodes world.plain.files.descriptions
 off_nodes script objects world stands =
@@ -61,7 +55,7 @@ queues_stand script objects world stands = record {
 
 -- ---- what they leave
 
--- A heap but for nodes, pages, pipes, chunks, and how high it was.
+-- A heap but for nodes, pages, pipes, sockets, chunks, and how high it was.
 pub record LeavesRest (old new : Heap) : Type 0 where
   pub procs : new.procs ≡ old.procs
   pub descs : new.descs ≡ old.descs
@@ -70,7 +64,7 @@ pub record LeavesRest (old new : Heap) : Type 0 where
   pub blocks : new.blocks ≡ old.blocks
   pub size : new.heap ≡ old.heap
 
-pub leaves_rest : (old new : Heap) → new ≡ record old { nodes = new.nodes; pages = new.pages; pipes = new.pipes; chunks = new.chunks; high = new.high } → LeavesRest old new
+pub leaves_rest : (old new : Heap) → new ≡ record old { nodes = new.nodes; pages = new.pages; pipes = new.pipes; chunks = new.chunks; socks = new.socks; high = new.high } → LeavesRest old new
 leaves_rest old new beside = record {
   procs = ap (λ (h : Heap). h.procs) beside;
   descs = ap (λ (h : Heap). h.descs) beside;
@@ -80,7 +74,7 @@ leaves_rest old new beside = record {
   size = ap (λ (h : Heap). h.heap) beside;
 }
 
-pub leaves_more : (old new : Heap) → new ≡ record old { pipes = new.pipes; chunks = new.chunks; high = new.high } → LeavesRest old new
+pub leaves_more : (old new : Heap) → new ≡ record old { pipes = new.pipes; chunks = new.chunks; socks = new.socks; high = new.high } → LeavesRest old new
 leaves_more old new beside = record {
   procs = ap (λ (h : Heap). h.procs) beside;
   descs = ap (λ (h : Heap). h.descs) beside;
@@ -144,5 +138,4 @@ module _ (script : Script) (old : Objects) (new : Heap) (is : IsKept new old.pro
         opened = leads.opened;
         fronts = leads.fronts;
         settled = settles;
-        sockets = subst OffSockets (sym remains.descriptions) stands.files.sockets;
       }

@@ -1,10 +1,10 @@
--- What an answer of a call that goes by what is open leaves of the machine, where nothing is open on a node or a socket.
+-- What an answer of a call that goes by what is open leaves of the machine, where nothing is open on a node.
 use Rattle.std.proofs.Common.{◌≡◌, ℕ, ◌+◌, ◌-◌, ◌≤◌, ◌==◌, ◌&&◌, ℤ, pos, Bool, true, false, cond, List, take, Option, None, Some, refl, sym, subst, ◌∙◌, arith, inl, inr}
 use Rattle.std.specs.Prelude.{nat_le}
 use Rattle.std.specs.Option.{option_map}
 use Rattle.std.proofs.lemmas.Bool.Decides.{eqb_tells, leb_tells}
 use Rattle.kabi_calls.specs.Arguments.{count_of, is_minus_one}
-use Rattle.kabi_values.specs.declared.errnos.Errno.TheVariants.{EAGAIN, EBADF, EFAULT, EISDIR, EPIPE}
+use Rattle.kabi_values.specs.declared.errnos.Errno.TheVariants.{EAGAIN, EBADF, EFAULT, EISDIR, ENOTCONN, EPIPE}
 use Rattle.kabi_values.specs.declared.replies.Reply.{Reply}
 use Rattle.kabi_values.specs.declared.replies.Reply.TheVariants.{Fail, Polled, Val}
 use Rattle.kabi_values.specs.declared.short_lists.PollEntry.{PollEntry}
@@ -14,17 +14,18 @@ use Rattle.kern_laws.proofs.Remembering.{found_before, remembers_family}
 use Rattle.posix_defs.specs.Answer.{Answer, Blocked, Done, Ended, Part, replied}
 use Rattle.posix_defs.specs.Calls.Opened.{Opened, answer_on, if_readable, if_writable, opened_at, opened_by}
 use Rattle.posix_defs.specs.Calls.Polling.{hits_of, poll, revents_of}
-use Rattle.posix_defs.specs.Calls.Reading.{is_directory_target, of_bytes, put, read, read_from_pipe, read_target, unless_directory}
-use Rattle.posix_defs.specs.Calls.Writing.{bytes_left, did_part, put_in_pipe, write, write_queue, write_target}
+use Rattle.posix_defs.specs.Calls.Reading.{is_directory_target, of_bytes, put, read, read_from_pipe, read_from_socket, read_target, unless_directory}
+use Rattle.posix_defs.specs.Calls.Writing.{bytes_left, did_part, put_in_pipe, put_in_socket, write, write_queue, write_target}
 use Rattle.posix_defs.specs.Family.{IsFamily}
 use Rattle.posix_defs.specs.Files.Descriptions.{Target, OnNode, OnPipe, OnSocket, Description, description_at, may_read, may_write}
 use Rattle.posix_defs.specs.Files.Descriptors.{Descriptor, descriptor_of}
-use Rattle.posix_defs.specs.Files.State.{Files, descriptors_of, pipe_at, with_pipe}
+use Rattle.posix_defs.specs.Files.State.{Files, descriptors_of, pipe_at, with_pipe, with_sockets}
 use Rattle.posix_defs.specs.Memory.{Memory, is_mapped_range, stored}
 use Rattle.posix_defs.specs.Pipe.{Moving, Moves, Blocks, Fails, Pipe, after_read, free_in, not_now, pipe_read, pipe_write, whole}
 use Rattle.posix_defs.specs.Plain.{Plain, with_files}
 use Rattle.posix_defs.specs.Process.{memory_of}
-use Rattle.store_objects.specs.Files.{OffSockets}
+use Rattle.posix_defs.specs.Socket.{Stage, Idle, Listening, Connected, is_connected, is_shut_read}
+use Rattle.posix_defs.specs.Sockets.{Sockets, after_read as socket_after_read, free_at, sock_read, sock_write, socket_at, stage_at, write_in_stage, write_to, write_within}
 use Rattle.store_objects.proofs.TreeStays.{OffNodes}
 
 -- The machine becomes another: who is whose child, who works where, on what descriptions are open, and the tree are what they were.
@@ -59,28 +60,35 @@ opened_there files (Some descriptor) opened e = by_description (description_at f
     by_description (Some description) is e =
         subst (λ (one : Opened). description_at files.descriptions one.place ≡ Some one.is) (same description e) is
 
--- a write of a pipe moves no more than is left
-moves_within : (pipe : Pipe) (nonblock : Bool) (n m k : ℕ) → pipe_write pipe nonblock n m ≡ Moves k → k ≤ m
-moves_within pipe nonblock n m k = by_readers (pipe.readers == 0)
+-- of bytes that go as far as there is room none is more than are left
+fits_within : (free m k : ℕ) (nonblock : Bool) → cond (nat_le m free) (Moves m) (cond (free == 0) (not_now nonblock) (Moves free)) ≡ Moves k → k ≤ m
+fits_within free m k nonblock = by_room (nat_le m free) refl (free == 0)
   where
     same : (a : ℕ) → Moves a ≡ Moves k → a ≡ k
     same a e = cc
-
-    all : Moves m ≡ Moves k → k ≤ m
-    all e = let s : m ≡ k = same m e in omega arith
 
     not_yet : (b : Bool) → cond b (Fails EAGAIN) Blocks ≡ Moves k → k ≤ m
     not_yet true e = cc
     not_yet false e = cc
 
-    by_room : (fits : Bool) → nat_le m (free_in pipe) ≡ fits → (none : Bool)
-        → cond fits (Moves m) (cond none (not_now nonblock) (Moves (free_in pipe))) ≡ Moves k → k ≤ m
-    by_room true is none e = all e
+    by_room : (fits : Bool) → nat_le m free ≡ fits → (none : Bool) → cond fits (Moves m) (cond none (not_now nonblock) (Moves free)) ≡ Moves k → k ≤ m
+    by_room true is none e = let s : m ≡ k = same m e in omega arith
     by_room false is true e = not_yet nonblock e
-    by_room false is false e = elim (leb_tells m (free_in pipe)) [
+    by_room false is false e = elim (leb_tells m free) [
       | inl less ↦ absurd (let g : true ≡ false = sym less.0 ∙ is in cc)
-      | inr more ↦ (let s : free_in pipe ≡ k = same (free_in pipe) e in let l = more.1 in omega arith)
+      | inr more ↦ (let s : free ≡ k = same free e in let l = more.1 in omega arith)
     ]
+
+-- a write of a pipe moves no more than is left
+pipe_within : (pipe : Pipe) (nonblock : Bool) (n m k : ℕ) → pipe_write pipe nonblock n m ≡ Moves k → k ≤ m
+pipe_within pipe nonblock n m k = by_readers (pipe.readers == 0)
+  where
+    all : Moves m ≡ Moves k → k ≤ m
+    all e = let s : m ≡ k = cc in omega arith
+
+    not_yet : (b : Bool) → cond b (Fails EAGAIN) Blocks ≡ Moves k → k ≤ m
+    not_yet true e = cc
+    not_yet false e = cc
 
     by_fit : (fits : Bool) → cond fits (Moves m) (not_now nonblock) ≡ Moves k → k ≤ m
     by_fit true e = all e
@@ -90,7 +98,7 @@ moves_within pipe nonblock n m k = by_readers (pipe.readers == 0)
         → cond small (cond (nat_le n (free_in pipe)) (Moves m) (not_now nonblock))
         (cond (nat_le m (free_in pipe)) (Moves m) (cond (free_in pipe == 0) (not_now nonblock) (Moves (free_in pipe)))) ≡ Moves k → k ≤ m
     by_size true e = by_fit (nat_le n (free_in pipe)) e
-    by_size false e = by_room (nat_le m (free_in pipe)) refl (free_in pipe == 0) e
+    by_size false e = fits_within (free_in pipe) m k nonblock e
 
     by_readers : (gone : Bool)
         → cond gone (Fails EPIPE)
@@ -98,6 +106,24 @@ moves_within pipe nonblock n m k = by_readers (pipe.readers == 0)
         (cond (nat_le m (free_in pipe)) (Moves m) (cond (free_in pipe == 0) (not_now nonblock) (Moves (free_in pipe))))) ≡ Moves k → k ≤ m
     by_readers true e = cc
     by_readers false e = by_size (nat_le n whole) e
+
+-- nor does one of a socket
+socket_within : (sockets : Sockets) (place : ℕ) (nonblock : Bool) (m k : ℕ) → sock_write sockets place nonblock m ≡ Moves k → k ≤ m
+socket_within sockets place nonblock m k = by_stage (stage_at sockets place)
+  where
+    by_peer : (deaf : Bool) (peer : ℕ) → cond deaf (Fails EPIPE) (write_within (free_at sockets peer) nonblock m) ≡ Moves k → k ≤ m
+    by_peer true peer e = cc
+    by_peer false peer e = fits_within (free_at sockets peer) m k nonblock e
+
+    by_shut : (shut : Bool) (peer : Option ℕ) → cond shut (Fails EPIPE) (write_to sockets peer nonblock m) ≡ Moves k → k ≤ m
+    by_shut true peer e = cc
+    by_shut false None e = cc
+    by_shut false (Some peer) e = by_peer (is_shut_read (stage_at sockets peer)) peer e
+
+    by_stage : (stage : Stage) → write_in_stage sockets stage nonblock m ≡ Moves k → k ≤ m
+    by_stage Idle e = cc
+    by_stage (Listening waiting) e = cc
+    by_stage (Connected peer shut_read shut_write) e = by_shut shut_write peer e
 
 module _ (Parts : ℕ → Type 0) (script : Script) (plain : Plain) (pid : ℕ) where
   abbrev Left : Answer → Type 0
@@ -111,7 +137,7 @@ module _ (Parts : ℕ → Type 0) (script : Script) (plain : Plain) (pid : ℕ) 
   tells : (reply : Reply) → Left (replied script plain pid reply)
   tells reply = record { family = λ is. is; home = λ is. is; descriptions = refl; tree = refl }
 
-  -- and what changes pipes
+  -- and what changes pipes or sockets
   tells_with : (files : Files) (reply : Reply) → files.descriptions ≡ plain.files.descriptions → files.tree ≡ plain.files.tree
       → Left (replied script (with_files plain files) pid reply)
   tells_with files reply descriptions tree = record { family = λ is. is; home = λ is. is; descriptions = descriptions; tree = tree }
@@ -135,15 +161,14 @@ module _ (Parts : ℕ → Type 0) (script : Script) (plain : Plain) (pid : ℕ) 
       let revents = revents_of plain.files pid entries in
       choose ((hits_of revents == 0) && is_minus_one timeout) Blocked _ tt (tells (Polled (record { hits = hits_of revents; revents = revents })))
 
-  module _ (nodes : OffNodes plain.files.descriptions) (sockets : OffSockets plain.files.descriptions) where
-    -- what is open is open on a pipe
-    on_pipe : (fd : ℤ) (opened : Opened) (on : Target) (X : Target → Type 0) → opened_at plain.files pid fd ≡ Some opened → opened.is.target ≡ on
-        → ((place : ℕ) → X (OnPipe place)) → X on
-    on_pipe fd opened (OnNode number) X is at by_place =
+  module _ (nodes : OffNodes plain.files.descriptions) where
+    -- what is open is open on a pipe or a socket
+    on_queue : (fd : ℤ) (opened : Opened) (on : Target) (X : Target → Type 0) → opened_at plain.files pid fd ≡ Some opened → opened.is.target ≡ on
+        → ((place : ℕ) → X (OnPipe place)) → ((place : ℕ) → X (OnSocket place)) → X on
+    on_queue fd opened (OnNode number) X is at by_pipe by_socket =
         absurd (nodes opened.place opened.is number (opened_there plain.files (descriptor_of (descriptors_of plain.files pid) fd) opened is) at)
-    on_pipe fd opened (OnPipe place) X is at by_place = by_place place
-    on_pipe fd opened (OnSocket number) X is at by_place =
-        absurd (sockets opened.place opened.is number (opened_there plain.files (descriptor_of (descriptors_of plain.files pid) fd) opened is) at)
+    on_queue fd opened (OnPipe place) X is at by_pipe by_socket = by_pipe place
+    on_queue fd opened (OnSocket place) X is at by_pipe by_socket = by_socket place
 
     -- ---- read
 
@@ -153,6 +178,12 @@ module _ (Parts : ℕ → Type 0) (script : Script) (plain : Plain) (pid : ℕ) 
         puts (with_pipe plain.files place (Some (after_read pipe k))) addr (take k pipe.bytes) refl refl
     from_pipe place addr Blocks = tt
     from_pipe place addr (Fails errno) = tells (Fail errno)
+
+    from_socket : (place : ℕ) (addr : ℤ) (moving : Moving) → Left (read_from_socket script plain pid place addr moving)
+    from_socket place addr (Moves k) =
+        puts (with_sockets plain.files (socket_after_read plain.files.sockets place k)) addr (take k (socket_at plain.files.sockets place).bytes) refl refl
+    from_socket place addr Blocks = tt
+    from_socket place addr (Fails errno) = tells (Fail errno)
 
     pub read_leaves : (fd addr n : ℤ) → Left (read script plain pid fd addr n)
     unfolding read
@@ -169,14 +200,15 @@ module _ (Parts : ℕ → Type 0) (script : Script) (plain : Plain) (pid : ℕ) 
             (choose (is_directory_target plain.files.tree opened.is.target) _ _ (tells (Fail EISDIR))
             (choose (is_mapped_range (memory_of plain.table pid) (count_of addr) (count_of n)) _ _
             (choose (count_of n == 0) _ _ (tells (Val (pos 0)))
-            (on_pipe fd opened opened.is.target (λ on. Left (read_target script plain pid opened addr (count_of n) on)) is refl
-            (λ place. from_pipe place addr (pipe_read (pipe_at plain.files place) opened.is.nonblock (count_of n)))))
+            (on_queue fd opened opened.is.target (λ on. Left (read_target script plain pid opened addr (count_of n) on)) is refl
+            (λ place. from_pipe place addr (pipe_read (pipe_at plain.files place) opened.is.nonblock (count_of n)))
+            (λ place. from_socket place addr (sock_read plain.files.sockets place opened.is.nonblock (count_of n)))))
             (tells (Fail EFAULT))))
             (tells (Fail EBADF))
 
     -- ---- write
 
-    -- k of the bytes that are left were put in the pipe
+    -- k of the bytes that are left were put in a queue
     put_k : (files : Files) (n done k : ℕ) (nonblock : Bool) → files.descriptions ≡ plain.files.descriptions → files.tree ≡ plain.files.tree
         → ((moved : ℕ) → done + moved ≤ n → Parts moved) → k ≤ n - done → (all : Bool) → (k == n - done) ≡ all
         → Left (cond all (replied script (with_files plain files) pid (Val (pos n)))
@@ -195,9 +227,17 @@ module _ (Parts : ℕ → Type 0) (script : Script) (plain : Plain) (pid : ℕ) 
         → (moving : Moving) → pipe_write (pipe_at plain.files place) nonblock n (n - done) ≡ moving
         → Left (write_queue script plain pid nonblock n done (put_in_pipe plain.files place bytes) moving)
     to_pipe place n done nonblock bytes parts (Moves k) is =
-        put_k (put_in_pipe plain.files place bytes k) n done k nonblock refl refl parts (moves_within (pipe_at plain.files place) nonblock n (n - done) k is) (k == n - done) refl
+        put_k (put_in_pipe plain.files place bytes k) n done k nonblock refl refl parts (pipe_within (pipe_at plain.files place) nonblock n (n - done) k is) (k == n - done) refl
     to_pipe place n done nonblock bytes parts Blocks is = tt
     to_pipe place n done nonblock bytes parts (Fails errno) is = choose (done == 0) _ _ (tells (Fail errno)) (tells (Val (pos done)))
+
+    to_socket : (place : ℕ) (n done : ℕ) (nonblock : Bool) (bytes : List ℕ) → ((moved : ℕ) → done + moved ≤ n → Parts moved)
+        → (moving : Moving) → sock_write plain.files.sockets place nonblock (n - done) ≡ moving
+        → Left (write_queue script plain pid nonblock n done (put_in_socket plain.files place bytes) moving)
+    to_socket place n done nonblock bytes parts (Moves k) is =
+        put_k (put_in_socket plain.files place bytes k) n done k nonblock refl refl parts (socket_within plain.files.sockets place nonblock (n - done) k is) (k == n - done) refl
+    to_socket place n done nonblock bytes parts Blocks is = tt
+    to_socket place n done nonblock bytes parts (Fails errno) is = choose (done == 0) _ _ (tells (Fail errno)) (tells (Val (pos done)))
 
     pub write_leaves : (fd addr n : ℤ) (done : ℕ) → ((moved : ℕ) → done + moved ≤ count_of n → Parts moved) → Left (write script plain pid fd addr n done)
     unfolding write
@@ -212,8 +252,12 @@ module _ (Parts : ℕ → Type 0) (script : Script) (plain : Plain) (pid : ℕ) 
             choose (may_write opened.is.access) _ _
             (choose (is_mapped_range (memory_of plain.table pid) (count_of addr) (count_of n)) _ _
             (choose (count_of n == 0) _ _ (tells (Val (pos 0)))
-            (on_pipe fd opened opened.is.target (λ on. Left (write_target script plain pid opened addr (count_of n) done on)) is refl
+            (on_queue fd opened opened.is.target (λ on. Left (write_target script plain pid opened addr (count_of n) done on)) is refl
             (λ place. to_pipe place (count_of n) done opened.is.nonblock (bytes_left plain pid addr (count_of n) done) parts
-            (pipe_write (pipe_at plain.files place) opened.is.nonblock (count_of n) (count_of n - done)) refl)))
+            (pipe_write (pipe_at plain.files place) opened.is.nonblock (count_of n) (count_of n - done)) refl)
+            (λ place. choose (is_connected (stage_at plain.files.sockets place)) _ _
+            (to_socket place (count_of n) done opened.is.nonblock (bytes_left plain pid addr (count_of n) done) parts
+            (sock_write plain.files.sockets place opened.is.nonblock (count_of n - done)) refl)
+            (tells (Fail ENOTCONN)))))
             (tells (Fail EFAULT)))
             (tells (Fail EBADF))

@@ -1,10 +1,11 @@
-//! A turn of each call that goes by what a descriptor is open on, where that is a pipe: `read`, `write` and `poll`, and those
-//! that want a file or a directory, which pipes refuse, lead the objects of a store to what the call's definition says. Whether
-//! one of the three that may block would is told without making the call.
+//! A turn of each call that goes by what a descriptor is open on, where that is a pipe or a socket: `read`, `write` and `poll`, and
+//! those that want a file or a directory, which pipes and sockets refuse, lead the objects of a store to what the call's definition
+//! says. Whether one of the three that may block would is told without making the call.
 #![tactic(auto)]
 
 mod operands;
 mod polling;
+mod queues;
 mod reading;
 mod refusals;
 mod told;

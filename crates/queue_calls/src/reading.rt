@@ -14,6 +14,7 @@ ghost use Rattle.store_objects.specs.Objects.{AreKept, Runs};
 ghost use Rattle.store_objects.specs.Standing.{Performs, StandsFor};
 
 use crate::operands::may_move;
+use crate::queues::{read_queue, read_queue_waits};
 use crate::told::go_on_done;
 use kabi_types::{Control, Script};
 use kheap_shelves::Purse;
@@ -21,11 +22,11 @@ use posix_defs::Turned;
 use proc_queues::Buffer;
 use store_objects::Objects;
 
-/// Reads at most n bytes from the pipe that a number is open on into memory, as many as are there; none are the end of the file.
-/// It sleeps where nothing is there and somebody can write (POSIX read).
+/// Reads at most n bytes from the pipe or the socket that a number is open on into memory, as many as are there; none are the end
+/// of the file. It sleeps where nothing is there and something can come (POSIX read).
 ///
-/// EBADF where the number isn't open for reading, EFAULT where a page that n bytes would touch isn't mapped, EAGAIN in place of
-/// a sleep where the description has O_NONBLOCK.
+/// EBADF where the number isn't open for reading, EFAULT where a page that n bytes would touch isn't mapped, ENOTCONN of a socket
+/// that isn't connected, EAGAIN in place of a sleep where the description has O_NONBLOCK.
 pub fn read(
     script: &Script,
     objects: &mut Objects,
@@ -46,7 +47,7 @@ pub fn read(
     ensures paid { IsPaid objects.old.heap purse.old objects.new.heap purse.new }
     ensures does { Performs script.now objects.old pid (Call.Read fd addr n) (λ plain. read script.now plain pid fd addr n) result objects.new }
 {
-    let told = proc_queues::read(
+    let told = read_queue(
         &mut objects.heap,
         purse,
         &objects.procs,
@@ -65,5 +66,5 @@ pub fn read_would_block(objects: &Objects, pid: u32, fd: i64, addr: i64, n: i64)
     ensures { (script : Script) (world : World) → StandsFor script objects.now world
         → result ≡ blocks (machine script world.plain pid (Call.Read fd addr n)) }
 {
-    may_move(addr, n) && proc_queues::read_waits(&objects.heap, &objects.procs, pid, fd, addr, n)
+    may_move(addr, n) && read_queue_waits(&objects.heap, &objects.procs, pid, fd, addr, n)
 }

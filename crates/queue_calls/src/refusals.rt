@@ -1,4 +1,4 @@
-//! Calls that want a file or a directory, which pipes refuse.
+//! Calls that want a file or a directory, which pipes and sockets refuse.
 
 ghost use Rattle.kabi_calls.specs.declared.calls.Call.{Call};
 ghost use Rattle.kheap_slabs.specs.Paid.{TakesNothing};
@@ -12,7 +12,7 @@ use kabi_types::{Control, Reply, Script};
 use posix_defs::Turned;
 use store_objects::{Objects, go_on};
 
-/// ESPIPE where the number is open for reading, since a pipe has no places; EBADF where it isn't (POSIX pread).
+/// ESPIPE where the number is open for reading, since pipes and sockets have no places; EBADF where it isn't (POSIX pread).
 pub fn pread(
     script: &Script,
     objects: &mut Objects,

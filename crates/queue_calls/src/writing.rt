@@ -14,6 +14,7 @@ ghost use Rattle.store_objects.specs.Objects.{AreKept, Runs};
 ghost use Rattle.store_objects.specs.Standing.{Performs, StandsFor};
 
 use crate::operands::may_move;
+use crate::queues::{write_queue, write_queue_waits};
 use crate::told::{do_part, go_on_done};
 use kabi_types::{Control, Script};
 use kheap_shelves::Purse;
@@ -21,12 +22,13 @@ use posix_defs::Turned;
 use proc_queues::Buffer;
 use store_objects::Objects;
 
-/// Writes n bytes of memory, of which so many were moved before, to the pipe that a number is open on: up to 512 whole or not at
-/// all, of more as many as there is room for. It sleeps where there is no room, and is told a part where some bytes are left
-/// (POSIX write).
+/// Writes n bytes of memory, of which so many were moved before, to the pipe or the socket that a number is open on: up to 512 go
+/// into a pipe whole or not at all; of more, and to a socket always, as many as there is room for. It sleeps where there is no room,
+/// and is told a part where some bytes are left (POSIX write).
 ///
-/// EBADF where the number isn't open for writing, EFAULT where a page of the bytes isn't mapped, EPIPE where nobody can read,
-/// EAGAIN in place of a sleep where the description has O_NONBLOCK; where bytes were moved their number in place of the last two.
+/// EBADF where the number isn't open for writing, EFAULT where a page of the bytes isn't mapped, ENOTCONN of a socket that isn't
+/// connected, EPIPE where nobody can read, EAGAIN in place of a sleep where the description has O_NONBLOCK; where bytes were moved
+/// their number in place of the last two.
 pub fn write(
     script: &Script,
     objects: &mut Objects,
@@ -49,7 +51,7 @@ pub fn write(
     ensures paid { IsPaid objects.old.heap purse.old objects.new.heap purse.new }
     ensures does { Performs script.now objects.old pid (Call.Write fd addr n done) (λ plain. write script.now plain pid fd addr n done) result objects.new }
 {
-    let told = proc_queues::write(
+    let told = write_queue(
         &mut objects.heap,
         purse,
         &objects.procs,
@@ -72,6 +74,5 @@ pub fn write_would_block(objects: &Objects, pid: u32, fd: i64, addr: i64, n: i64
     ensures { (script : Script) (world : World) → StandsFor script objects.now world
         → result ≡ blocks (machine script world.plain pid (Call.Write fd addr n done)) }
 {
-    may_move(addr, n)
-        && proc_queues::write_waits(&objects.heap, &objects.procs, pid, fd, addr, n, done)
+    may_move(addr, n) && write_queue_waits(&objects.heap, &objects.procs, pid, fd, addr, n, done)
 }

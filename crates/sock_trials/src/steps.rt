@@ -8,7 +8,7 @@ use kheap_shelves::SockState;
 use kheap_slabs::KHeap;
 use posix_defs::Turned;
 use proc_pipes::{close_number, control, dup_one, make_pipe};
-use proc_queues::poll;
+use proc_queues::{CAPACITY, poll};
 use proc_socks::{
     accept_number, accept_waits, is_on_socket, listen_number, make_pair, make_socket, read_socket,
     read_socket_waits, shut_number, socket_of, write_socket, write_socket_waits,
@@ -148,7 +148,7 @@ fn read(rt: &impl Abort, heap: &mut KHeap, table: &ProcTable, fd: i64, addr: i64
     }
     let mut pay = purse(rt, heap);
     let waits = read_socket_waits(heap, table, 1, fd, addr, n);
-    let told = turned(&read_socket(heap, &mut pay, table, 1, fd, addr, n));
+    let told = turned(&read_socket(heap, &mut pay, table, &mut [0; CAPACITY], 1, fd, addr, n));
     assert!(rt; waits == (told == Told::Sleep));
     told
 }
@@ -174,7 +174,17 @@ fn write(
     }
     let mut pay = purse(rt, heap);
     let waits = write_socket_waits(heap, table, 1, fd, addr, n, done);
-    let told = turned(&write_socket(heap, &mut pay, table, 1, fd, addr, n, done));
+    let told = turned(&write_socket(
+        heap,
+        &mut pay,
+        table,
+        &mut [0; CAPACITY],
+        1,
+        fd,
+        addr,
+        n,
+        done,
+    ));
     assert!(rt; waits == (told == Told::Sleep));
     told
 }

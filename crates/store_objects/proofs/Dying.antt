@@ -138,7 +138,6 @@ module _ (script : Script) (old : Objects) (world : World) (stands : StandsFor s
             before.opened.opened.piped (closes.opened before.numbers before.opened).opened.piped
             before.opened.opened.socketed (closes.opened before.numbers before.opened).opened.socketed;
         settled = settled_after plain (die plain pid status) world.account;
-        sockets = stays.sockets before.sockets;
       }
 
   -- another than the first

@@ -4,7 +4,6 @@ pub mod PlacedSums
 pub mod SocketPlaces
 pub mod Fronts
 pub mod TreeStays
-pub mod OnPipes
 pub mod HeldNodes
 pub mod OnceKept
 pub mod KeptNow

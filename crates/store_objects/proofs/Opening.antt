@@ -1,5 +1,5 @@
 -- What is open goes on in heap and machine, whatever becomes of the processes.
-use Rattle.std.proofs.Common.{◌≡◌, ℕ, List, map, Option, None, Some, refl, ap, sym, ◌∙◌, subst}
+use Rattle.std.proofs.Common.{◌≡◌, ℕ, List, map, Option, None, Some, refl, ap, sym, ◌∙◌}
 use Rattle.std.specs.Prelude.{slice_index}
 use Rattle.kheap_shelves.specs.Objects.{object}
 use Rattle.kheap_shelves.specs.declared.objects.Proc.{Proc}
@@ -18,7 +18,7 @@ use Rattle.proc_table.specs.Procs.{no_descriptors, proc_of}
 use Rattle.proc_table.proofs.FamilyLemmas.{proc_has_pid}
 use Rattle.proc_table.proofs.OwnLemmas.{AreRising, has_it}
 use Rattle.store_objects.specs.declared.objects.Objects.{Objects}
-use Rattle.store_objects.specs.Files.{AreSettled, HaveFiles, OffSockets}
+use Rattle.store_objects.specs.Files.{AreSettled, HaveFiles}
 use Rattle.store_objects.specs.Objects.{procs_of}
 use Rattle.store_objects.proofs.EndingProcs.{all_found}
 
@@ -86,7 +86,6 @@ files_on old new files now account next descs pipes socks chunks descriptions pl
             ∙ have.fronts.socks key sock (ap (λ objects. object objects key) (sym socks) ∙ is);
       };
       settled = settled_on files now account next plain_pipes sockets fronts_of_pipes fronts_of_sockets have.settled;
-      sockets = subst OffSockets (sym descriptions) have.sockets;
     }
 
 -- and so where a table moves on

@@ -1,4 +1,4 @@
--- The tree of files stays while descriptions are closed that are open on no node, and who is open on no socket stays so.
+-- The tree of files stays while descriptions are closed that are open on no node.
 use Rattle.std.proofs.Common.{◌≡◌, ℕ, zero, suc, Bool, true, false, cond, List, [], ◌∷◌, length, Option, None, Some, refl, ap, sym, ◌∙◌, slice_set}
 use Rattle.std.specs.Prelude.{slice_index_or}
 use Rattle.std.specs.List.{range_with_len}
@@ -18,7 +18,6 @@ use Rattle.posix_defs.specs.Files.Descriptions.{Target, OnNode, OnPipe, OnSocket
 use Rattle.posix_defs.specs.Files.Descriptors.{Descriptor, descriptor_at, is_named}
 use Rattle.posix_defs.specs.Files.State.{Files, beside, descriptors_of, nodes_among, node_of, opened_nodes, with_descriptions, with_open}
 use Rattle.proc_descs.specs.Having.{OpensNoNode}
-use Rattle.store_objects.specs.Files.{OffSockets}
 
 -- no description of these is open on a node, wherever it stands
 abbrev pub OffNodes : Descriptions → Type 0
@@ -69,10 +68,9 @@ off_by_heap numbers h list files are none place description number is on = by_co
 
 -- ---- closing
 
--- The tree is the same, and still no description is open on a node, or on a socket where none was.
+-- The tree is the same, and still no description is open on a node.
 pub record Stays (old new : Files) : Type 0 where
   pub off : OffNodes new.descriptions
-  pub sockets : OffSockets old.descriptions → OffSockets new.descriptions
   pub tree : new.tree ≡ old.tree
 
 set_none : (descriptions : Descriptions) (i j : ℕ) (description : Description) → slice_index_or (slice_set descriptions i None) j None ≡ Some description
@@ -86,9 +84,6 @@ set_none (first ∷ rest) (suc i) (suc j) description is = set_none rest i j des
 off_without : (descriptions : Descriptions) (place : ℕ) → OffNodes descriptions → OffNodes (with_description descriptions place None)
 off_without descriptions place off other description number is on = off other description number (set_none descriptions place other description is) on
 
-sockets_without : (descriptions : Descriptions) (place : ℕ) → OffSockets descriptions → OffSockets (with_description descriptions place None)
-sockets_without descriptions place off other description number is on = off other description number (set_none descriptions place other description is) on
-
 gone_stays : (files : Files) (place : ℕ) → OffNodes files.descriptions → Stays files (description_gone files place)
 gone_stays files place off = by_description (description_at files.descriptions place) refl
   where
@@ -97,45 +92,43 @@ gone_stays files place off = by_description (description_at files.descriptions p
     by_target description (OnNode number) none = absurd (none number refl)
     by_target description (OnPipe pipe) none = record {
       off = off_without files.descriptions place off;
-      sockets = sockets_without files.descriptions place;
       tree = refl;
     }
     by_target description (OnSocket socket) none = record {
       off = off_without files.descriptions place off;
-      sockets = sockets_without files.descriptions place;
       tree = refl;
     }
 
     by_description : (o : Option Description) → description_at files.descriptions place ≡ o → Stays files (gone_in files place o)
-    by_description None is = record { off = off; sockets = λ none. none; tree = refl }
+    by_description None is = record { off = off; tree = refl }
     by_description (Some description) is = by_target description description.target (λ number on. off place description number is on)
 
 pub close_stays : (files : Files) (pid fd : ℕ) → OffNodes files.descriptions → Stays files (after_close files pid fd)
 close_stays files pid fd off = by_descriptor (descriptor_at (descriptors_of files pid) fd)
   where
     by_name : (place : ℕ) (b : Bool) → Stays files (cond b (with_open files pid fd None) (description_gone (with_open files pid fd None) place))
-    by_name place true = record { off = off; sockets = λ none. none; tree = refl }
-    by_name place false = let gone = gone_stays (with_open files pid fd None) place off in record { off = gone.off; sockets = gone.sockets; tree = gone.tree }
+    by_name place true = record { off = off; tree = refl }
+    by_name place false = let gone = gone_stays (with_open files pid fd None) place off in record { off = gone.off; tree = gone.tree }
 
     by_descriptor : (o : Option Descriptor) → Stays files (close_in files pid fd o)
-    by_descriptor None = record { off = off; sockets = λ none. none; tree = refl }
+    by_descriptor None = record { off = off; tree = refl }
     by_descriptor (Some descriptor) = by_name descriptor.description (is_named (with_open files pid fd None).descriptors descriptor.description)
 
 closes_stay : (files : Files) (pid : ℕ) (fds : List ℕ) → OffNodes files.descriptions → Stays files (after_closes files pid fds)
-closes_stay files pid [] off = record { off = off; sockets = λ none. none; tree = refl }
+closes_stay files pid [] off = record { off = off; tree = refl }
 closes_stay files pid (fd ∷ fds) off =
     let one = close_stays files pid fd off in let rest = closes_stay (after_close files pid fd) pid fds one.off in
-    record { off = rest.off; sockets = λ none. rest.sockets (one.sockets none); tree = rest.tree ∙ one.tree }
+    record { off = rest.off; tree = rest.tree ∙ one.tree }
 
 pub end_stays : (files : Files) (pid : ℕ) → OffNodes files.descriptions → Stays files (after_end_of files pid)
 unfolding after_end_of
 end_stays files pid off = closes_stay files pid all_numbers off
 
 pub ends_stay : (files : Files) (pids : List ℕ) → OffNodes files.descriptions → Stays files (after_ends_of files pids)
-ends_stay files [] off = record { off = off; sockets = λ none. none; tree = refl }
+ends_stay files [] off = record { off = off; tree = refl }
 ends_stay files (pid ∷ pids) off =
     let one = end_stays files pid off in let rest = ends_stay (after_end_of files pid) pids one.off in
-    record { off = rest.off; sockets = λ none. rest.sockets (one.sockets none); tree = rest.tree ∙ one.tree }
+    record { off = rest.off; tree = rest.tree ∙ one.tree }
 
 -- a process that ends closes what it has open, the first process what all have
 pub closed_by_stays : (files : Files) (pid : ℕ) → OffNodes files.descriptions → Stays files (closed_by files pid)

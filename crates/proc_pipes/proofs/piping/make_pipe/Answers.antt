@@ -28,7 +28,7 @@ use Rattle.proc_pipes.proofs.piping.make_pipe.Goals as goal
 pub returns-in_default-clause-answers : goal.returns-in_default-clause-answers
 returns-in_default-clause-answers c = λ numbers script plain have. record {
   now = numbers;
-  keeps = record { descs = λ key used. refl; pipes = λ key used. refl; socks = refl; frames = refl };
+  keeps = record { descs = λ key used. refl; pipes = λ key used. refl; socks = λ key used. refl; frames = refl };
   answers =
       let none = no_some c.lowest_from-lowest.result c.in_default.not-Some in
       refused numbers c.args.heap.now c.args.procs.now script plain c.args.pid (pipe script plain c.args.pid) EMFILE
@@ -41,7 +41,7 @@ returns-in_default-clause-changes c = changes_nothing c.args.heap.now c.args.pro
 pub returns-in_default-next-clause-answers : goal.returns-in_default-next-clause-answers
 returns-in_default-next-clause-answers c = λ numbers script plain have. record {
   now = numbers;
-  keeps = record { descs = λ key used. refl; pipes = λ key used. refl; socks = refl; frames = refl };
+  keeps = record { descs = λ key used. refl; pipes = λ key used. refl; socks = λ key used. refl; frames = refl };
   answers =
       let none = no_some c.lowest_from-next.result c.in_default-next.not-Some in
       refused numbers c.args.heap.now c.args.procs.now script plain c.args.pid (pipe script plain c.args.pid) EMFILE

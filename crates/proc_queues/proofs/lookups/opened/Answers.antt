@@ -1,8 +1,10 @@
-use Rattle.std.proofs.Common.{◌∙◌, ap, is_some, sym, w64}
+use Rattle.std.proofs.Common.{◌∙◌, ◌≡◌, Some, ap, is_some, refl, sym, w64}
 use Rattle.std.proofs.lemmas.Int.{to_z-of_z}
 use Rattle.proc_table.proofs.PlaceLemmas.{key_of-proc}
 use Rattle.proc_queues.specs.Found.{held_at}
-use Rattle.proc_queues.proofs.Opening.{none_opened, some_opened}
+use Rattle.proc_table.specs.Procs.{proc_of}
+use Rattle.proc_table.specs.Table.{processes}
+use Rattle.proc_queues.proofs.Opening.{named_held, none_opened, some_opened}
 use Rattle.proc_queues.proofs.lookups.opened.Goals as goal
 
 pub get_proc-requires : goal.get_proc-requires
@@ -21,3 +23,14 @@ returns-in-None-clause-found c = λ numbers files have.
     none_opened c.args.heap.now c.args.procs.now c.args.pid c.in-Some.key c.get_proc.result.now c.requires.listed (sym c.key_of.ensures ∙ c.in-Some.is) c.get_proc.ensures numbers files have
     c.args.fd
     (sym (c.held_at.ensures ∙ ap (held_at c.get_proc.result.now.descriptors) (to_z-of_z w64 c.args.fd c.ranges.fd)) ∙ c.in-None.is)
+
+pub returns-in-Some-held_at-clause-named : goal.returns-in-Some-held_at-clause-named
+returns-in-Some-held_at-clause-named c =
+    let it = key_of-proc c.args.heap.now.procs c.args.procs.now.listed c.args.pid c.in-Some.key c.requires.listed.stored (sym c.key_of.ensures ∙ c.in-Some.is) in
+    let found : proc_of (processes c.args.heap.now c.args.procs.now) c.args.pid ≡ Some c.get_proc.result.now = it.3 ∙ sym it.1 ∙ c.get_proc.ensures in
+    record {
+      held = c.in-Some-held_at.descriptor;
+      is = named_held c.args.heap.now c.args.procs.now c.args.pid c.get_proc.result.now c.args.fd found
+          ∙ (sym (c.held_at.ensures ∙ ap (held_at c.get_proc.result.now.descriptors) (to_z-of_z w64 c.args.fd c.ranges.fd)) ∙ c.in-Some-held_at.is);
+      same = refl;
+    }

@@ -2,7 +2,7 @@ use Rattle.std.proofs.Common.{◌≡◌, ◌∙◌, ap, false, true, None, Some,
 use Rattle.std.specs.Option.{option_map}
 use Rattle.std.proofs.lemmas.Int.{to_z-of_z}
 use Rattle.posix_defs.specs.Calls.Opened.{if_writable, opened_at}
-use Rattle.proc_queues.specs.Found.{opened_in}
+use Rattle.proc_queues.specs.Found.{IsNamed, opened_in}
 use Rattle.proc_queues.proofs.Finding.{isnt_open, may_be_written}
 use Rattle.proc_queues.proofs.lookups.writable.Goals as goal
 
@@ -25,3 +25,7 @@ returns-in_default-2-clause-found c = λ numbers script plain answer have.
     isnt_open script numbers plain c.args.pid c.args.fd answer (λ opened. if_writable script plain c.args.pid opened (answer opened))
     (subst (λ z. opened_at plain.files c.args.pid z ≡ None) (to_z-of_z w64 c.args.fd c.ranges.fd)
     (c.opened.ensures.found numbers plain.files have ∙ ap (option_map (opened_in numbers)) c.in_default.is))
+
+pub returns-in-Some-clause-named : goal.returns-in-Some-clause-named
+returns-in-Some-clause-named c =
+    subst (λ z. IsNamed c.args.heap.now c.args.procs.now c.args.pid z c.in-Some.found) (to_z-of_z w64 c.args.fd c.ranges.fd) c.in-Some.ensures.named

@@ -6,6 +6,7 @@ use Rattle.kabi_calls.specs.declared.calls.Call.TheVariants as call
 use Rattle.kabi_values.specs.declared.errnos.Errno.TheVariants.{EBADF, EFAULT}
 use Rattle.kabi_values.specs.declared.replies.Reply.TheVariants.{Fail, Val}
 use Rattle.posix_defs.specs.Pipe.{pipe_read}
+use Rattle.proc_queues.specs.Found.{IsNamed}
 use Rattle.proc_queues.proofs.Finding.{alive_listed, only_pipe, pipe_of}
 use Rattle.proc_queues.proofs.Leading.{leads_over}
 use Rattle.proc_queues.proofs.ReadCall.{asks_with, of_opened, read_asks, read_leads, read_nothing, read_unmapped}
@@ -25,7 +26,9 @@ returns-in_default-clause-leads c = λ script numbers plain account stands.
     (c.readable.ensures.found numbers script plain (of_opened script numbers plain c.args.pid c.args.fd c.args.addr c.args.n) stands.opened) c.in_default.is) refl
 
 pub unreachable-requires : goal.unreachable-requires
-unreachable-requires c = only_pipe c.args.heap.now.descs c.in-Some.found.key c.in-Some.found.desc c.requires.pipes c.in-Some.ensures.there c.in_default-target.not-Pipe
+unreachable-requires c =
+    only_pipe c.args.heap.now c.args.procs.now c.args.pid c.args.fd c.in-Some.found c.requires.on
+    (subst (λ z. IsNamed c.args.heap.now c.args.procs.now c.args.pid z c.in-Some.found) (to_z-of_z w64 c.args.fd c.ranges.fd) c.in-Some.ensures.named) c.in-Some.ensures.there c.in_default-target.not-Pipe
 
 pub returns-then-not-mapped-clause-leads : goal.returns-then-not-mapped-clause-leads
 returns-then-not-mapped-clause-leads c = λ script numbers plain account stands.

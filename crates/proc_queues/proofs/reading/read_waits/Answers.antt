@@ -4,6 +4,7 @@ use Rattle.std.specs.Int.{cast_unsigned}
 use Rattle.std.proofs.lemmas.Int.{to_z-of_z}
 use Rattle.kabi_calls.specs.Arguments.{count_of}
 use Rattle.posix_defs.specs.Machine.{blocks}
+use Rattle.proc_queues.specs.Found.{IsNamed}
 use Rattle.proc_queues.proofs.Finding.{alive_listed, only_pipe, pipe_of}
 use Rattle.proc_queues.proofs.ReadCall.{asks_with, of_opened, read_asks, read_flows, read_nothing, read_sleeps, read_unmapped}
 use Rattle.proc_queues.proofs.Remembering.{mapped_so}
@@ -20,7 +21,9 @@ returns-in_default c = λ script numbers plain account stands.
     (c.readable.ensures.found numbers script plain (of_opened script numbers plain c.args.pid c.args.fd c.args.addr c.args.n) stands.opened) c.in_default.is))
 
 pub unreachable-requires : goal.unreachable-requires
-unreachable-requires c = only_pipe c.args.heap.now.descs c.in-Some.found.key c.in-Some.found.desc c.requires.pipes c.in-Some.ensures.there c.in_default-target.not-Pipe
+unreachable-requires c =
+    only_pipe c.args.heap.now c.args.procs.now c.args.pid c.args.fd c.in-Some.found c.requires.on
+    (subst (λ z. IsNamed c.args.heap.now c.args.procs.now c.args.pid z c.in-Some.found) (to_z-of_z w64 c.args.fd c.ranges.fd) c.in-Some.ensures.named) c.in-Some.ensures.there c.in_default-target.not-Pipe
 
 pub returns-then-not-mapped : goal.returns-then-not-mapped
 returns-then-not-mapped c = λ script numbers plain account stands.

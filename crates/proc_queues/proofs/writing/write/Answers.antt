@@ -11,6 +11,7 @@ use Rattle.posix_defs.specs.Pipe.{after_write, pipe_write}
 use Rattle.proc_table.specs.Procs.{memory_at}
 use Rattle.proc_table.proofs.MemoryLemmas.{memory_at-stands}
 use Rattle.proc_queues.specs.Moving.{moved_in}
+use Rattle.proc_queues.specs.Found.{IsNamed}
 use Rattle.proc_queues.proofs.Finding.{alive_listed, only_pipe, pipe_of}
 use Rattle.proc_queues.proofs.Leading.{leads_over}
 use Rattle.proc_queues.proofs.WriteCall.{asks_with, of_opened, write_asks, write_leads, write_nothing, write_unmapped}
@@ -30,7 +31,9 @@ returns-in_default-clause-leads c = λ script numbers plain account stands.
     (c.writable.ensures.found numbers script plain (of_opened script numbers plain c.args.pid c.args.fd c.args.addr c.args.n c.args.done) stands.opened) c.in_default.is) refl
 
 pub unreachable-requires : goal.unreachable-requires
-unreachable-requires c = only_pipe c.args.heap.now.descs c.in-Some.found.key c.in-Some.found.desc c.requires.pipes c.in-Some.ensures.there c.in_default-target.not-Pipe
+unreachable-requires c =
+    only_pipe c.args.heap.now c.args.procs.now c.args.pid c.args.fd c.in-Some.found c.requires.on
+    (subst (λ z. IsNamed c.args.heap.now c.args.procs.now c.args.pid z c.in-Some.found) (to_z-of_z w64 c.args.fd c.ranges.fd) c.in-Some.ensures.named) c.in-Some.ensures.there c.in_default-target.not-Pipe
 
 pub returns-then-not-mapped-clause-leads : goal.returns-then-not-mapped-clause-leads
 returns-then-not-mapped-clause-leads c = λ script numbers plain account stands.

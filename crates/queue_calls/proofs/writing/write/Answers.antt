@@ -15,28 +15,28 @@ use Rattle.proc_queues.specs.Standing.{IsKept, IsTold, Leads, StandsFor as Queue
 use Rattle.store_objects.specs.declared.objects.Objects.{Objects}
 use Rattle.store_objects.specs.Standing.{Performs}
 use Rattle.queue_calls.proofs.MovedNumbers.{count_few, of_three}
-use Rattle.queue_calls.proofs.Queueing.{is_kept, kept_mid, leaves_more, off_nodes, opens_pipes, queues_stand, runs_alive, runs_mid}
+use Rattle.queue_calls.proofs.Queueing.{is_kept, kept_mid, leaves_more, off_nodes, queues_stand, runs_alive, runs_mid}
 use Rattle.queue_calls.proofs.Remaining.{write_leaves}
 use Rattle.queue_calls.proofs.Telling.{Follows, follows_done, follows_part, part_told, performs}
 use Rattle.queue_calls.proofs.writing.write.Goals as goal
 
-pub write-told-requires-clause-kept : goal.write-told-requires-clause-kept
-write-told-requires-clause-kept c = let some = c.requires.stands in is_kept c.args.script.now c.args.objects.now some.1.kept
+pub write_queue-told-requires-clause-kept : goal.write_queue-told-requires-clause-kept
+write_queue-told-requires-clause-kept c = let some = c.requires.stands in is_kept c.args.script.now c.args.objects.now some.1.kept
 
-pub write-told-requires-clause-alive : goal.write-told-requires-clause-alive
-write-told-requires-clause-alive c = runs_alive c.args.objects.now c.args.pid c.args.control c.requires.runs
+pub write_queue-told-requires-clause-alive : goal.write_queue-told-requires-clause-alive
+write_queue-told-requires-clause-alive c = runs_alive c.args.objects.now c.args.pid c.args.control c.requires.runs
 
-pub write-told-requires-clause-pipes : goal.write-told-requires-clause-pipes
-write-told-requires-clause-pipes c = let some = c.requires.stands in opens_pipes c.args.script.now c.args.objects.now some.0 some.1
+pub write_queue-told-requires-clause-nodes : goal.write_queue-told-requires-clause-nodes
+write_queue-told-requires-clause-nodes c = let some = c.requires.stands in some.1.kept.nodes
 
 pub do_part-requires-clause-kept : goal.do_part-requires-clause-kept
 do_part-requires-clause-kept c =
     let some = c.requires.stands in
-    (c.args.script.now, kept_mid c.args.script.now c.args.objects.now c.write-told.new.heap c.write-told.ensures.kept (leaves_more c.args.objects.now.heap c.write-told.new.heap c.write-told.ensures.beside) some.1.kept)
+    (c.args.script.now, kept_mid c.args.script.now c.args.objects.now c.write_queue-told.new.heap c.write_queue-told.ensures.kept (leaves_more c.args.objects.now.heap c.write_queue-told.new.heap c.write_queue-told.ensures.beside) some.1.kept)
 
 pub do_part-requires-clause-runs : goal.do_part-requires-clause-runs
 do_part-requires-clause-runs c =
-    runs_mid c.args.script.now c.args.objects.now c.write-told.new.heap c.write-told.ensures.kept (leaves_more c.args.objects.now.heap c.write-told.new.heap c.write-told.ensures.beside)
+    runs_mid c.args.script.now c.args.objects.now c.write_queue-told.new.heap c.write_queue-told.ensures.kept (leaves_more c.args.objects.now.heap c.write_queue-told.new.heap c.write_queue-told.ensures.beside)
     c.args.pid c.args.control c.requires.runs
 
 -- a part is less than the bytes that are left
@@ -48,14 +48,14 @@ do_part-requires-clause-fits c =
     let plain = some.0.plain in
     let pid = c.args.pid in
     let within : ℕ → Type 0 = λ moved. c.args.done + moved ≤ count_of c.args.n in
-    let led = of_three (λ fd addr n. Leads script some.1.files.numbers c.write-told.new.heap old.procs plain some.0.account pid (call.Write fd addr n c.args.done) (write script plain pid fd addr n c.args.done) c.write-told.result)
+    let led = of_three (λ fd addr n. Leads script some.1.files.numbers c.write_queue-told.new.heap old.procs plain some.0.account pid (call.Write fd addr n c.args.done) (write script plain pid fd addr n c.args.done) c.write_queue-told.result)
     _ _ _ c.args.fd c.args.addr c.args.n (to_z-of_z w64 c.args.fd c.ranges.fd) (to_z-of_z w64 c.args.addr c.ranges.addr) (to_z-of_z w64 c.args.n c.ranges.n)
-    (c.write-told.ensures.leads script some.1.files.numbers plain some.0.account (queues_stand script old some.0 some.1)) in
+    (c.write_queue-told.ensures.leads script some.1.files.numbers plain some.0.account (queues_stand script old some.0 some.1)) in
     let told : IsTold script plain pid (write script plain pid c.args.fd c.args.addr c.args.n c.args.done) (turned.Part c.in-Part.moved) led.next =
     subst (λ t. IsTold script plain pid (write script plain pid c.args.fd c.args.addr c.args.n c.args.done) t led.next) c.in-Part.is led.told_so in
     let more : c.args.done + c.in-Part.moved ≤ count_of c.args.n =
     part_told script plain pid within _ c.in-Part.moved led.next told
-    (write_leaves within script plain pid (off_nodes script old some.0 some.1) some.1.files.sockets c.args.fd c.args.addr c.args.n c.args.done (λ moved less. less)) in
+    (write_leaves within script plain pid (off_nodes script old some.0 some.1) c.args.fd c.args.addr c.args.n c.args.done (λ moved less. less)) in
     let few = count_few c.args.addr c.args.n c.requires.right in
     let same = c.requires.so_far in
     omega arith
@@ -63,32 +63,32 @@ do_part-requires-clause-fits c =
 pub go_on_done-requires-clause-kept : goal.go_on_done-requires-clause-kept
 go_on_done-requires-clause-kept c =
     let some = c.requires.stands in
-    kept_mid c.args.script.now c.args.objects.now c.write-told.new.heap c.write-told.ensures.kept (leaves_more c.args.objects.now.heap c.write-told.new.heap c.write-told.ensures.beside) some.1.kept
+    kept_mid c.args.script.now c.args.objects.now c.write_queue-told.new.heap c.write_queue-told.ensures.kept (leaves_more c.args.objects.now.heap c.write_queue-told.new.heap c.write_queue-told.ensures.beside) some.1.kept
 
 pub go_on_done-requires-clause-runs : goal.go_on_done-requires-clause-runs
 go_on_done-requires-clause-runs c =
-    runs_mid c.args.script.now c.args.objects.now c.write-told.new.heap c.write-told.ensures.kept (leaves_more c.args.objects.now.heap c.write-told.new.heap c.write-told.ensures.beside)
+    runs_mid c.args.script.now c.args.objects.now c.write_queue-told.new.heap c.write_queue-told.ensures.kept (leaves_more c.args.objects.now.heap c.write_queue-told.new.heap c.write_queue-told.ensures.beside)
     c.args.pid c.args.control c.requires.runs
 
 pub returns-in-Part-clause-kept : goal.returns-in-Part-clause-kept
 returns-in-Part-clause-kept c =
     let some = c.requires.stands in
     c.do_part.ensures.kept c.args.script.now
-    (kept_mid c.args.script.now c.args.objects.now c.write-told.new.heap c.write-told.ensures.kept (leaves_more c.args.objects.now.heap c.write-told.new.heap c.write-told.ensures.beside) some.1.kept)
+    (kept_mid c.args.script.now c.args.objects.now c.write_queue-told.new.heap c.write_queue-told.ensures.kept (leaves_more c.args.objects.now.heap c.write_queue-told.new.heap c.write_queue-told.ensures.beside) some.1.kept)
 
 pub returns-in-Part-clause-paid : goal.returns-in-Part-clause-paid
 returns-in-Part-clause-paid c =
-    IsPaid-trans c.args.objects.now.heap c.args.purse.now c.write-told.new.heap c.write-told.new.purse c.do_part.new.objects.heap c.write-told.new.purse c.write-told.ensures.paid
-    (IsPaid-nothing c.write-told.new.heap c.do_part.new.objects.heap c.write-told.new.purse c.write-told.new.purse c.do_part.ensures.takes refl refl)
+    IsPaid-trans c.args.objects.now.heap c.args.purse.now c.write_queue-told.new.heap c.write_queue-told.new.purse c.do_part.new.objects.heap c.write_queue-told.new.purse c.write_queue-told.ensures.paid
+    (IsPaid-nothing c.write_queue-told.new.heap c.do_part.new.objects.heap c.write_queue-told.new.purse c.write_queue-told.new.purse c.do_part.ensures.takes refl refl)
 
 pub returns-in_default-clause-paid : goal.returns-in_default-clause-paid
 returns-in_default-clause-paid c =
-    IsPaid-trans c.args.objects.now.heap c.args.purse.now c.write-told.new.heap c.write-told.new.purse c.go_on_done.new.objects.heap c.write-told.new.purse c.write-told.ensures.paid
-    (IsPaid-nothing c.write-told.new.heap c.go_on_done.new.objects.heap c.write-told.new.purse c.write-told.new.purse c.go_on_done.ensures.takes refl refl)
+    IsPaid-trans c.args.objects.now.heap c.args.purse.now c.write_queue-told.new.heap c.write_queue-told.new.purse c.go_on_done.new.objects.heap c.write_queue-told.new.purse c.write_queue-told.ensures.paid
+    (IsPaid-nothing c.write_queue-told.new.heap c.go_on_done.new.objects.heap c.write_queue-told.new.purse c.write_queue-told.new.purse c.go_on_done.ensures.takes refl refl)
 
 -- what it leads to, whatever was told
 leads : (script : Script) (old new : Objects) (heap : Heap) (pid : ℕ) (fd addr n as_fd as_addr as_n : ℤ) (done : ℕ) (told : Turned) → as_fd ≡ fd → as_addr ≡ addr → as_n ≡ n
-    → (kept : IsKept heap old.procs) → (beside : heap ≡ record old.heap { pipes = heap.pipes; chunks = heap.chunks; high = heap.high })
+    → (kept : IsKept heap old.procs) → (beside : heap ≡ record old.heap { pipes = heap.pipes; chunks = heap.chunks; socks = heap.socks; high = heap.high })
     → ((numbers : Numbers) (plain : Plain) (account : Account) → QueuesStandFor numbers old.heap old.procs plain account
     → Leads script numbers heap old.procs plain account pid (call.Write as_fd as_addr as_n done) (write script plain pid as_fd as_addr as_n done) told)
     → Follows script (record { heap = heap; procs = old.procs; tree = old.tree }) pid (λ moved. done + moved ≤ count_of n) told new
@@ -99,7 +99,7 @@ leads script old new heap pid fd addr n as_fd as_addr as_n done told first secon
     (λ numbers plain account stands.
     of_three (λ x y z. Leads script numbers heap old.procs plain account pid (call.Write x y z done) (write script plain pid x y z done) told) as_fd as_addr as_n fd addr n
     first second third (each numbers plain account stands))
-    (λ world stands. write_leaves (λ moved. done + moved ≤ count_of n) script world.plain pid (off_nodes script old world stands) stands.files.sockets fd addr n done (λ moved less. less))
+    (λ world stands. write_leaves (λ moved. done + moved ≤ count_of n) script world.plain pid (off_nodes script old world stands) fd addr n done (λ moved less. less))
     follows
 
 pub returns-in-Part-clause-does : goal.returns-in-Part-clause-does
@@ -110,10 +110,10 @@ returns-in-Part-clause-does c =
     let new = c.do_part.new.objects in
     subst (λ t. Performs script old pid (call.Write c.args.fd c.args.addr c.args.n c.args.done) (λ plain. write script plain pid c.args.fd c.args.addr c.args.n c.args.done) t new)
     (c.in-Part.is ∙ sym c.do_part.ensures.told)
-    (leads script old new c.write-told.new.heap pid c.args.fd c.args.addr c.args.n _ _ _ c.args.done c.write-told.result
-    (to_z-of_z w64 c.args.fd c.ranges.fd) (to_z-of_z w64 c.args.addr c.ranges.addr) (to_z-of_z w64 c.args.n c.ranges.n) c.write-told.ensures.kept c.write-told.ensures.beside
-    (c.write-told.ensures.leads script)
-    (follows_part script (record { heap = c.write-told.new.heap; procs = old.procs; tree = old.tree }) pid (λ moved. c.args.done + moved ≤ count_of c.args.n) c.write-told.result new c.in-Part.moved
+    (leads script old new c.write_queue-told.new.heap pid c.args.fd c.args.addr c.args.n _ _ _ c.args.done c.write_queue-told.result
+    (to_z-of_z w64 c.args.fd c.ranges.fd) (to_z-of_z w64 c.args.addr c.ranges.addr) (to_z-of_z w64 c.args.n c.ranges.n) c.write_queue-told.ensures.kept c.write_queue-told.ensures.beside
+    (c.write_queue-told.ensures.leads script)
+    (follows_part script (record { heap = c.write_queue-told.new.heap; procs = old.procs; tree = old.tree }) pid (λ moved. c.args.done + moved ≤ count_of c.args.n) c.write_queue-told.result new c.in-Part.moved
     c.in-Part.is (c.do_part.ensures.goes script)))
 
 pub returns-in_default-clause-does : goal.returns-in_default-clause-does
@@ -124,8 +124,8 @@ returns-in_default-clause-does c =
     let new = c.go_on_done.new.objects in
     subst (λ t. Performs script old pid (call.Write c.args.fd c.args.addr c.args.n c.args.done) (λ plain. write script plain pid c.args.fd c.args.addr c.args.n c.args.done) t new)
     (sym c.go_on_done.ensures.told)
-    (leads script old new c.write-told.new.heap pid c.args.fd c.args.addr c.args.n _ _ _ c.args.done c.write-told.result
-    (to_z-of_z w64 c.args.fd c.ranges.fd) (to_z-of_z w64 c.args.addr c.ranges.addr) (to_z-of_z w64 c.args.n c.ranges.n) c.write-told.ensures.kept c.write-told.ensures.beside
-    (c.write-told.ensures.leads script)
-    (follows_done script (record { heap = c.write-told.new.heap; procs = old.procs; tree = old.tree }) pid (λ moved. c.args.done + moved ≤ count_of c.args.n) c.write-told.result new
+    (leads script old new c.write_queue-told.new.heap pid c.args.fd c.args.addr c.args.n _ _ _ c.args.done c.write_queue-told.result
+    (to_z-of_z w64 c.args.fd c.ranges.fd) (to_z-of_z w64 c.args.addr c.ranges.addr) (to_z-of_z w64 c.args.n c.ranges.n) c.write_queue-told.ensures.kept c.write_queue-told.ensures.beside
+    (c.write_queue-told.ensures.leads script)
+    (follows_done script (record { heap = c.write_queue-told.new.heap; procs = old.procs; tree = old.tree }) pid (λ moved. c.args.done + moved ≤ count_of c.args.n) c.write_queue-told.result new
     c.go_on_done.ensures.goes (λ moved is some. c.in_default.not-Part moved is)))

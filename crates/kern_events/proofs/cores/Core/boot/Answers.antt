@@ -4,6 +4,8 @@ use Rattle.posix_defs.specs.declared.phases.Task.{Task}
 use Rattle.posix_defs.specs.CoreState.{boot_state}
 use Rattle.posix_defs.specs.Memory.{no_places}
 use Rattle.posix_defs.specs.CoreRun.{IsCoreRun, boots, peak_of}
+use Rattle.std.specs.List.{AllByRecursion}
+use Rattle.kern_events.specs.Sleepers.{IsAwake, WaitsForAtMost}
 use Rattle.kern_events.proofs.cores.Core.boot.Goals as goal
 
 pub invariant_of-result : goal.invariant_of-result
@@ -15,23 +17,27 @@ invariant_of-result g c =
     let none : length c.in_ok-run.run'.items ≡ 0 = ap length c.in_ok-run.ensures.items in
     let one : length c.push_reserved.new.self.items ≡ 1 = ap length tasks in
     record {
-      has_run = record {
-        state = boot_state script;
-        is_at = record { stands = c.requires.booted; tasks = sym tasks; reserved = refl; charged = refl };
-        runs = subst (λ run. IsCoreRun script c.args.steps run (boot_state script)) (sym c.in_ok-run.ensures.items) boots;
-        peak = sym (ap peak_of c.in_ok-run.ensures.items);
-        within = omega arith;
+      kept = record {
+        has_run = record {
+          state = boot_state script;
+          is_at = record { stands = c.requires.booted; tasks = sym tasks; reserved = refl; charged = refl };
+          runs = subst (λ run. IsCoreRun script c.args.steps run (boot_state script)) (sym c.in_ok-run.ensures.items) boots;
+          peak = sym (ap peak_of c.in_ok-run.ensures.items);
+          within = omega arith;
+        };
+        same_heap = c.requires.heap;
+        least_heap = omega arith;
+        most_heap = c.requires.most_heap;
+        room = c.in_ok-run.ensures.capacity;
+        most_steps = c.requires.most_steps;
+        few = omega arith;
+        tasks_fit =
+            let enough : c.args.steps + 1 ≤ vec_capacity c.in_ok-tasks.tasks = c.in_ok-tasks.ensures.capacity in
+            let same : vec_capacity c.push_reserved.new.self ≡ vec_capacity c.in_ok-tasks.tasks = c.push_reserved.ensures.capacity in
+            omega arith;
       };
-      same_heap = c.requires.heap;
-      least_heap = omega arith;
-      most_heap = c.requires.most_heap;
-      room = c.in_ok-run.ensures.capacity;
-      most_steps = c.requires.most_steps;
-      few = omega arith;
-      tasks_fit =
-          let enough : c.args.steps + 1 ≤ vec_capacity c.in_ok-tasks.tasks = c.in_ok-tasks.ensures.capacity in
-          let same : vec_capacity c.push_reserved.new.self ≡ vec_capacity c.in_ok-tasks.tasks = c.push_reserved.ensures.capacity in
-          omega arith;
+      sleeping = subst (AllByRecursion (λ task. IsAwake task.phase)) (sym tasks) (tt, tt);
+      waiting = subst (AllByRecursion (λ task. WaitsForAtMost 0 task.phase)) (sym tasks) (tt, tt);
     }
 
 pub returns-clause-booted : goal.returns-clause-booted

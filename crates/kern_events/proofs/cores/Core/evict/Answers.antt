@@ -13,7 +13,7 @@ evict-requires g c =
 pub note-requires : goal.note-requires
 note-requires g c =
     let may = subst (λ core. MayTake g.T.Turner.stands (g.T.Turner.script core.store) core (Evict c.args.what)) (sym c.self.view_is) c.requires in
-    let room : length c.self.inside.run.items < vec_capacity c.self.inside.run = has_room g.T.Turner.stands _ _ _ _ _ may.state c.self.invariant may.no_end in
+    let room : length c.self.inside.run.items < vec_capacity c.self.inside.run = has_room g.T.Turner.stands _ _ _ _ _ may.state c.self.invariant.kept may.no_end in
     omega (arith, c.self.inside.run.ok.0)
 
 pub overflow_add-self : goal.overflow_add-self
@@ -21,9 +21,9 @@ overflow_add-self g c =
     let may = subst (λ core. MayTake g.T.Turner.stands (g.T.Turner.script core.store) core (Evict c.args.what)) (sym c.self.view_is) c.requires in
     let after = c.evict.ensures.evicted may.state.world may.is_at.stands may.enabled.unpinned in
     let fits : c.live.result + 2176 + c.self.inside.reserved ≤ (g.T.Turner.script c.self.inside.store).heap =
-    evicted_charged g.T.Turner.stands _ _ _ _ _ may.state c.args.what c.live.result after.0 c.self.invariant may.is_at after.2 (c.live.ensures.bytes after.0 after.1) in
-    let same : c.self.inside.heap ≡ (g.T.Turner.script c.self.inside.store).heap = c.self.invariant.same_heap in
-    let most : c.self.inside.heap ≤ 8388608 = c.self.invariant.most_heap in
+    evicted_charged g.T.Turner.stands _ _ _ _ _ may.state c.args.what c.live.result after.0 c.self.invariant.kept may.is_at after.2 (c.live.ensures.bytes after.0 after.1) in
+    let same : c.self.inside.heap ≡ (g.T.Turner.script c.self.inside.store).heap = c.self.invariant.kept.same_heap in
+    let most : c.self.inside.heap ≤ 8388608 = c.self.invariant.kept.most_heap in
     omega arith
 
 pub overflow_add-self-2 : goal.overflow_add-self-2
@@ -31,18 +31,23 @@ overflow_add-self-2 g c =
     let may = subst (λ core. MayTake g.T.Turner.stands (g.T.Turner.script core.store) core (Evict c.args.what)) (sym c.self.view_is) c.requires in
     let after = c.evict.ensures.evicted may.state.world may.is_at.stands may.enabled.unpinned in
     let fits : c.live.result + 2176 + c.self.inside.reserved ≤ (g.T.Turner.script c.self.inside.store).heap =
-    evicted_charged g.T.Turner.stands _ _ _ _ _ may.state c.args.what c.live.result after.0 c.self.invariant may.is_at after.2 (c.live.ensures.bytes after.0 after.1) in
-    let same : c.self.inside.heap ≡ (g.T.Turner.script c.self.inside.store).heap = c.self.invariant.same_heap in
-    let most : c.self.inside.heap ≤ 8388608 = c.self.invariant.most_heap in
+    evicted_charged g.T.Turner.stands _ _ _ _ _ may.state c.args.what c.live.result after.0 c.self.invariant.kept may.is_at after.2 (c.live.ensures.bytes after.0 after.1) in
+    let same : c.self.inside.heap ≡ (g.T.Turner.script c.self.inside.store).heap = c.self.invariant.kept.same_heap in
+    let most : c.self.inside.heap ≤ 8388608 = c.self.invariant.kept.most_heap in
     omega arith
 
 pub invariant_of-self : goal.invariant_of-self
 invariant_of-self g c =
-    let may = subst (λ core. MayTake g.T.Turner.stands (g.T.Turner.script core.store) core (Evict c.args.what)) (sym c.self.view_is) c.requires in
-    let after = c.evict.ensures.evicted may.state.world may.is_at.stands may.enabled.unpinned in
-    kept_next g.T.Turner.stands _ _ _ _ (Evict c.args.what) _ _ _ _ _ _ c.self.invariant may
-    (evicts g.T.Turner.stands _ _ may.state c.args.what _ after.0 c.live.result _ _ may.is_at may.enabled after.1 after.2 (c.live.ensures.bytes after.0 after.1))
-    c.note.ensures.run refl c.note.ensures.peak c.note.ensures.room refl (omega arith) c.evict.ensures.script
+    record {
+      kept =
+          let may = subst (λ core. MayTake g.T.Turner.stands (g.T.Turner.script core.store) core (Evict c.args.what)) (sym c.self.view_is) c.requires in
+          let after = c.evict.ensures.evicted may.state.world may.is_at.stands may.enabled.unpinned in
+          kept_next g.T.Turner.stands _ _ _ _ (Evict c.args.what) _ _ _ _ _ _ c.self.invariant.kept may
+          (evicts g.T.Turner.stands _ _ may.state c.args.what _ after.0 c.live.result _ _ may.is_at may.enabled after.1 after.2 (c.live.ensures.bytes after.0 after.1))
+          c.note.ensures.run refl c.note.ensures.peak c.note.ensures.room refl (omega arith) c.evict.ensures.script;
+      sleeping = tt;
+      waiting = c.self.invariant.waiting;
+    }
 
 pub returns-clause-took : goal.returns-clause-took
 returns-clause-took g c =
@@ -54,6 +59,6 @@ returns-clause-took g c =
 pub returns-clause-inside : goal.returns-clause-inside
 returns-clause-inside g c =
     let may = subst (λ core. MayTake g.T.Turner.stands (g.T.Turner.script core.store) core (Evict c.args.what)) (sym c.self.view_is) c.requires in
-    let fits = inside g.T.Turner.stands _ _ _ _ _ may.state c.self.invariant may.is_at in
+    let fits = inside g.T.Turner.stands _ _ _ _ _ may.state c.self.invariant.kept may.is_at in
     let high = c.evict.ensures.high may.state.world may.is_at.stands in
     rw (← c.self.view_is) (record { marked = c.evict.ensures.marked; within = omega arith })

@@ -8,6 +8,7 @@ use Rattle.kern_tasks.specs.View.{IsAskedFor, MayTake}
 use Rattle.kern_tasks.proofs.HeapBounds.{inside}
 use Rattle.kern_tasks.proofs.NextRun.{refuses, has_room, kept_next, takes_all, rising_now}
 use Rattle.kern_events.proofs.cores.Core.refuse.Goals as goal
+use Rattle.kern_events.proofs.Known.{waits_with}
 
 pub refuse-requires : goal.refuse-requires
 refuse-requires g c =
@@ -19,25 +20,30 @@ refuse-requires g c =
 pub note-requires : goal.note-requires
 note-requires g c =
     let may = subst (λ core. MayTake g.T.Turner.stands (g.T.Turner.script core.store) core (Ask c.args.pid)) (sym c.self.view_is) c.requires.may in
-    let room : length c.self.inside.run.items < vec_capacity c.self.inside.run = has_room g.T.Turner.stands _ _ _ _ _ may.state c.self.invariant may.no_end in
+    let room : length c.self.inside.run.items < vec_capacity c.self.inside.run = has_room g.T.Turner.stands _ _ _ _ _ may.state c.self.invariant.kept may.no_end in
     omega (arith, c.self.inside.run.ok.0)
 
 pub invariant_of-self : goal.invariant_of-self
 invariant_of-self g c =
-    let stands = g.T.Turner.stands in
-    let script = g.T.Turner.script in
-    let may = subst (λ core. MayTake stands (script core.store) core (Ask c.args.pid)) (sym c.self.view_is) c.requires.may in
-    let asked = subst (λ core. IsAskedFor stands (script core.store) core c.args.pid c.args.asked) (sym c.self.view_is) c.requires.asked in
-    let sound = is_sound may.runs in
-    let fits = found_fits _ _ may.state.tasks c.args.pid User sound.each may.enabled (λ e. (cc)) in
-    kept_next stands _ _ _ _ (Ask c.args.pid) _ _ _ _ _ _ c.self.invariant may
-    (refuses stands _ _ may.state c.args.pid c.args.asked _ _ _ _ may.is_at may.enabled (asked may.state may.is_at fits.phase)
-    (subst (λ core. room (script core.store).heap < c.args.asked.bound) (sym c.self.view_is) c.requires.never) c.set_phase.ensures.items
-    (c.refuse.ensures.refused may.state.world may.is_at.stands fits.phase))
-    (c.note.ensures.run ∙ ap (λ n. c.self.inside.run.items ++ n ∷ []) c.noted_of-noted.ensures) refl
-    (c.note.ensures.peak ∙ ap (λ n. max c.self.inside.peak n.charged) c.noted_of-noted.ensures) c.note.ensures.room c.set_phase.ensures.room
-    (let few : length c.set_phase.new.tasks.items ≡ length c.self.inside.tasks.items = ap length c.set_phase.ensures.items ∙ length-with c.self.inside.tasks.items c.args.pid User in omega arith)
-    c.refuse.ensures.script
+    record {
+      kept =
+          let stands = g.T.Turner.stands in
+          let script = g.T.Turner.script in
+          let may = subst (λ core. MayTake stands (script core.store) core (Ask c.args.pid)) (sym c.self.view_is) c.requires.may in
+          let asked = subst (λ core. IsAskedFor stands (script core.store) core c.args.pid c.args.asked) (sym c.self.view_is) c.requires.asked in
+          let sound = is_sound may.runs in
+          let fits = found_fits _ _ may.state.tasks c.args.pid User sound.each may.enabled (λ e. (cc)) in
+          kept_next stands _ _ _ _ (Ask c.args.pid) _ _ _ _ _ _ c.self.invariant.kept may
+          (refuses stands _ _ may.state c.args.pid c.args.asked _ _ _ _ may.is_at may.enabled (asked may.state may.is_at fits.phase)
+          (subst (λ core. room (script core.store).heap < c.args.asked.bound) (sym c.self.view_is) c.requires.never) c.set_phase.ensures.items
+          (c.refuse.ensures.refused may.state.world may.is_at.stands fits.phase))
+          (c.note.ensures.run ∙ ap (λ n. c.self.inside.run.items ++ n ∷ []) c.noted_of-noted.ensures) refl
+          (c.note.ensures.peak ∙ ap (λ n. max c.self.inside.peak n.charged) c.noted_of-noted.ensures) c.note.ensures.room c.set_phase.ensures.room
+          (let few : length c.set_phase.new.tasks.items ≡ length c.self.inside.tasks.items = ap length c.set_phase.ensures.items ∙ length-with c.self.inside.tasks.items c.args.pid User in omega arith)
+          c.refuse.ensures.script;
+      sleeping = tt;
+      waiting = waits_with _ _ _ c.args.pid User tt c.set_phase.ensures.items c.self.invariant.waiting;
+    }
 
 pub returns-clause-took : goal.returns-clause-took
 returns-clause-took g c =
@@ -53,11 +59,11 @@ returns-clause-took g c =
     (c.refuse.ensures.refused s.world at.stands fits.phase))
 
 pub set_phase-requires : goal.set_phase-requires
-set_phase-requires g c = rising_now g.T.Turner.stands _ _ c.self.invariant.has_run
+set_phase-requires g c = rising_now g.T.Turner.stands _ _ c.self.invariant.kept.has_run
 
 pub returns-clause-inside : goal.returns-clause-inside
 returns-clause-inside g c =
     let may = subst (λ core. MayTake g.T.Turner.stands (g.T.Turner.script core.store) core (Ask c.args.pid)) (sym c.self.view_is) c.requires.may in
-    let fits = inside g.T.Turner.stands _ _ _ _ _ may.state c.self.invariant may.is_at in
+    let fits = inside g.T.Turner.stands _ _ _ _ _ may.state c.self.invariant.kept may.is_at in
     let high = c.refuse.ensures.high may.state.world may.is_at.stands in
     rw (← c.self.view_is) (record { marked = c.refuse.ensures.marked; within = omega arith })

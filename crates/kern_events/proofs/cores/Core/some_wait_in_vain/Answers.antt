@@ -1,7 +1,8 @@
-use Rattle.std.proofs.Common.{sym, ap, ◌∙◌}
-use Rattle.kern_tasks.proofs.RoomFits.{some_in_vain}
+use Rattle.std.proofs.Common.{not, ap, ◌∙◌}
+use Rattle.kern_events.proofs.Known.{none_in_vain}
 use Rattle.kern_events.proofs.cores.Core.some_wait_in_vain.Goals as goal
 
-pub returns : goal.returns
-returns g c = λ s at.
-    c.some_without.ensures ∙ some_in_vain (g.T.Turner.script c.args.self.now.store) s _ _ _ (at.tasks ∙ sym (c.as_slice.ensures.value ∙ ap (λ core. core.tasks) c.self.view_is)) at.charged c.room.ensures
+pub returns-else-not-all_fit : goal.returns-else-not-all_fit
+returns-else-not-all_fit g c = λ s at.
+    let fit = c.all_fit.ensures c.if-not-all_fit.false in
+    ap not c.if-not-all_fit.false ∙ none_in_vain (g.T.Turner.script c.args.self.now.store) s fit.room _ _ at.tasks at.charged fit.whole fit.each

@@ -1,7 +1,6 @@
+use Rattle.kern_events.proofs.Known.{none_starves}
 use Rattle.kern_events.proofs.cores.Core.starves_for.Goals as goal
-use Rattle.kern_tasks.proofs.NextRun.{rising_now}
-use Rattle.std.proofs.Common.{sym, subst}
-use Rattle.posix_defs.specs.SoundTasks.{AreRising}
 
-pub phase_of-requires : goal.phase_of-requires
-phase_of-requires g c = subst (AreRising 0) (sym c.as_slice-2.ensures.value) (rising_now g.T.Turner.stands _ _ c.self.invariant.has_run)
+pub returns-then-all_fit : goal.returns-then-all_fit
+returns-then-all_fit g c = λ s at.
+    let fit = c.all_fit.ensures c.if-all_fit.true in none_starves (g.T.Turner.script c.args.self.now.store) s fit.room _ _ at.tasks at.charged fit.whole fit.each

@@ -1,0 +1,180 @@
+-- The objects of a store once a call has changed the tree of files: the caches and the disk are others, and the rest is as it was.
+use Rattle.std.proofs.Common.{◌≡◌, ℕ, ◌+◌, ◌≤◌, ◌==◌, ◌&&◌, ◌||◌, not, Bool, true, false, List, [], ◌∷◌, ◌++◌, length, Option, None, Some, is_none, refl, ap, sym, ◌∙◌, subst, arith}
+use Rattle.std.specs.Prelude.{count_by}
+use Rattle.std.specs.List.{list_any}
+use Rattle.std.specs.Option.{option_and_then, option_map_or}
+use Rattle.kabi_calls.specs.Arguments.{argument_fault}
+use Rattle.kabi_calls.specs.PathParts.{components}
+use Rattle.kabi_calls.specs.declared.calls.Call.{Call}
+use Rattle.kabi_types.specs.declared.scripts.Control.{Control}
+use Rattle.kabi_types.specs.declared.scripts.Script.{Script}
+use Rattle.kabi_values.specs.declared.classes.Class.TheVariants as class
+use Rattle.kabi_values.specs.declared.errnos.Errno.{Errno}
+use Rattle.kabi_values.specs.declared.replies.Reply.{Reply}
+use Rattle.kheap_shelves.specs.Objects.{count}
+use Rattle.kheap_shelves.specs.Purse.{Purse}
+use Rattle.kheap_slabs.specs.Heap.{Heap}
+use Rattle.kheap_slabs.specs.Paid.{IsPaid, TakesNothing}
+use Rattle.kheap_laws.proofs.PaidLemmas.{IsPaid-nothing, IsPaid-trans}
+use Rattle.memfs_ops.specs.FileTree.{Pays, Stands, TreeView}
+use Rattle.posix_defs.specs.Account.{account_on, with_frames}
+use Rattle.posix_defs.specs.Answer.{Answer, replied}
+use Rattle.posix_defs.specs.Calls.Opened.{opened_at}
+use Rattle.posix_defs.specs.Files.Descriptions.{Descriptions, Target, OnNode, OnPipe, OnSocket}
+use Rattle.posix_defs.specs.Files.State.{Files, beside, nodes_among, node_of, with_tree}
+use Rattle.posix_defs.specs.Memory.{Frames}
+use Rattle.posix_defs.specs.MemoryCalls.{frames_after}
+use Rattle.posix_defs.specs.Needs.{need_of}
+use Rattle.posix_defs.specs.Paths.{begins_at, resolve}
+use Rattle.posix_defs.specs.Plain.{Plain, root, with_files}
+use Rattle.posix_defs.specs.Process.{directory_of}
+use Rattle.posix_defs.specs.Reaching.{IsLeft, descriptors_in, ends_node, is_on_node, knows, last_of, path_to_leave, path_to_walk, paths_of, reaches_node}
+use Rattle.posix_defs.specs.Tree.{Tree}
+use Rattle.posix_defs.specs.World.{World, directories_of}
+use Rattle.posix_defs.specs.declared.turner.Turned.{Turned}
+use Rattle.posix_defs.specs.declared.turner.Turned.TheVariants as turned
+use Rattle.store_objects.specs.declared.objects.Objects.{Objects}
+use Rattle.store_objects.specs.Objects.{AreKept, Runs}
+use Rattle.store_objects.specs.Standing.{StandsFor, answered_in}
+use Rattle.store_objects.specs.Trees.{HasTree, KeepsTree, NamesNoSocket, but_root, held_nodes, kept_by, pins_in}
+use Rattle.store_objects.proofs.Beside.{kept_beside, stands_beside, treed_in}
+use Rattle.store_objects.proofs.KeptNow.{as_many_blocks, as_many_names, as_many_vnodes}
+use Rattle.store_objects.proofs.Leading.{settled_account}
+use Rattle.store_objects.proofs.Replies.{GoesOn}
+use Rattle.store_objects.proofs.TreesOn.{same_pins}
+use Rattle.path_calls.specs.Walking.{KeepsOn, Reaches, WorldReached}
+
+-- ---- what the calls on names have in common
+
+-- A call names a path, leaves no name of it in the caches, walks none that it knows, and leaves memory.
+pub record ChangesNames (which : Call) : Type 0 where
+  pub named : not (length (paths_of which) == 0) ≡ true
+  pub leaves : path_to_leave which ≡ None
+  pub walks : path_to_walk which ≡ None
+  pub frames : (frames : Frames) (pid : ℕ) (said : Reply) → frames_after frames pid which said ≡ frames
+
+-- ---- another tree opens the same nodes
+
+-- the machine with another tree
+abbrev pub retreed_as : Plain → Tree → Plain
+retreed_as plain tree = with_files plain (with_tree plain.files tree)
+
+same_node : (files now : Files) (target : Target) → node_of now target ≡ node_of files target
+same_node files now (OnNode number) = refl
+same_node files now (OnPipe place) = refl
+same_node files now (OnSocket place) = refl
+
+same_opened : (files now : Files) (descriptions : Descriptions) → nodes_among now descriptions ≡ nodes_among files descriptions
+same_opened files now [] = refl
+same_opened files now (None ∷ descriptions) = same_opened files now descriptions
+same_opened files now (Some description ∷ descriptions) =
+    ap (λ o. beside o (nodes_among now descriptions)) (same_node files now description.target) ∙ ap (beside (node_of files description.target)) (same_opened files now descriptions)
+
+held_still : (plain : Plain) (tree : Tree) → held_nodes (retreed_as plain tree) ≡ held_nodes plain
+held_still plain tree =
+    ap (λ opened. root ∷ opened ++ but_root (directories_of plain.table)) (same_opened plain.files (with_tree plain.files tree) plain.files.descriptions)
+
+pub stands_still : (h : Heap) (fs : TreeView) (plain : Plain) (tree : Tree) → Stands h fs tree (pins_in plain) → Stands h fs tree (pins_in (retreed_as plain tree))
+stands_still h fs plain tree =
+    same_pins h fs tree (pins_in plain) (pins_in (retreed_as plain tree)) (λ number. ap (counted number) (sym (held_still plain tree)))
+  where
+    counted : ℕ → List ℕ → ℕ
+    counted number nodes = count_by (λ node. node == number) nodes
+
+-- ---- once the tree has changed
+
+-- With this heap and this tree of files the store stands for a tree without a name of a socket, by which a call of a process is
+-- answered so.
+pub record Led (script : Script) (h : Heap) (fs : TreeView) (plain : Plain) (pid : ℕ) (said : Reply) (answer : Answer) : Type 0 where
+  pub tree : Tree
+  pub stands : Stands h fs tree (pins_in plain)
+  pub sockets : NamesNoSocket tree
+  pub answers : answer ≡ replied script (retreed_as plain tree) pid said
+
+never : {X : Type 0} → true ≡ false → X
+never e = cc
+
+-- a call without a fault that names a path reaches a node
+reached : (fault : Option Errno) (paths more ends : Bool) → fault ≡ None → paths ≡ true → ((is_none fault && (paths || more)) || ends) ≡ true
+reached fault paths more ends right named = ap (λ f. (is_none f && (paths || more)) || ends) right ∙ ap (λ p. (p || more) || ends) named
+
+module _ (script : Script) (old : Objects) (heap : Heap) (fs : TreeView) (before after : Purse) (pays : Pays old.heap heap before after old.tree fs) where
+  abbrev pub mid : Objects
+  mid = record { heap = heap; procs = old.procs; tree = fs }
+
+  pub kept_mid : KeepsTree heap fs → AreKept script old → AreKept script mid
+  kept_mid keeps kept =
+      subst (λ (h : Heap). AreKept script (record { heap = h; procs = old.procs; tree = fs })) (sym pays.only)
+      (kept_beside script old heap.vnodes heap.names heap.blocks heap.high old.heap.marks fs kept (subst (λ (h : Heap). KeepsTree h fs) pays.only keeps))
+
+  pub runs_mid : (pid : ℕ) (control : Control) → Runs old pid control → Runs mid pid control
+  runs_mid pid control runs =
+      subst (λ (h : Heap). Runs (record { heap = h; procs = old.procs; tree = fs }) pid control) (sym pays.only)
+      (record { proc = runs.proc; found = runs.found; up = runs.up; at_call = runs.at_call })
+
+  -- the world with that tree, what is kept now, and the reads
+  abbrev pub changed : World → Tree → World
+  changed world tree = treed_in world tree (kept_by fs) fs.disk.reads
+
+  pub stands_mid : (world : World) (tree : Tree) → StandsFor script old world → Stands heap fs tree (pins_in world.plain) → NamesNoSocket tree
+      → StandsFor script mid (changed world tree)
+  stands_mid world tree was stands sockets =
+      let has : HasTree mid (changed world tree) =
+      record { stands = stands_still heap fs world.plain tree stands; sockets = sockets; kept = refl; reads = refl } in
+      subst (λ (h : Heap). StandsFor script (record { heap = h; procs = old.procs; tree = fs }) (changed world tree)) (sym pays.only)
+      (stands_beside script old heap.vnodes heap.names heap.blocks heap.high old.heap.marks fs world tree (kept_by fs) fs.disk.reads was
+      (subst (λ (h : Heap). HasTree (record { heap = h; procs = old.procs; tree = fs }) (changed world tree)) pays.only has))
+
+  -- it is paid for, and the step behind the call takes nothing more
+  pub paid_on : (new : Heap) → TakesNothing heap new → IsPaid old.heap before new after
+  paid_on new takes = IsPaid-trans old.heap before heap after new after pays.paid (IsPaid-nothing heap new after after takes refl refl)
+
+  module _ (pid : ℕ) (which : Call) (changes : ChangesNames which) (right : argument_fault which ≡ None) (needed : before.left ≡ need_of which) where
+    -- what is kept and read goes on as it may
+    keeps_on : (world : World) (tree : Tree) (said : Reply) (told : Turned) → StandsFor script old world → Stands heap fs tree (pins_in world.plain)
+        → KeepsOn world pid which told (answered_in script (changed world tree) pid said)
+    keeps_on world tree said told was stands = record {
+      names = few (count heap.names) after.left.name (count old.heap.names) before.left.name (need_of which).name _ _ (pays.paid.counts class.Name) (ap (λ n. n.name) needed)
+          (as_many_names heap fs now (stands_still heap fs world.plain tree stands)) (as_many_names old.heap old.tree world.plain was.tree.stands ∙ ap (λ k. length k.names) (sym was.tree.kept));
+      blocks = few (count heap.blocks) after.left.block (count old.heap.blocks) before.left.block (need_of which).block _ _ (pays.paid.counts class.Block) (ap (λ n. n.block) needed)
+          (as_many_blocks heap fs now (stands_still heap fs world.plain tree stands)) (as_many_blocks old.heap old.tree world.plain was.tree.stands ∙ ap (λ k. length k.blocks) (sym was.tree.kept));
+      vnodes = few (count heap.vnodes) after.left.vnode (count old.heap.vnodes) before.left.vnode (need_of which).vnode _ _ (pays.paid.counts class.Vnode) (ap (λ n. n.vnode) needed)
+          (as_many_vnodes heap fs now (stands_still heap fs world.plain tree stands)) (as_many_vnodes old.heap old.tree world.plain was.tree.stands ∙ ap (λ k. length k.vnodes) (sym was.tree.kept));
+      reads = rises world.reads old.tree.disk.reads fs.disk.reads was.tree.reads pays.reads;
+      untouched = λ none. never (sym reaches ∙ none);
+      left = λ ok.
+          subst (λ path. IsLeft tree (kept_by fs) (option_and_then (λ p. last_of (resolve world.plain.files.tree (directory_of world.plain.table pid) p)) path)) (sym changes.leaves) tt;
+      known = λ known.
+          never (sym known
+          ∙ ap (λ o. option_map_or (λ path. knows world.plain.files.tree world.kept (begins_at (directory_of world.plain.table pid) path) (components path)) o false) changes.walks);
+    }
+      where
+        now : Plain
+        now = retreed_as world.plain tree
+
+        reaches : reaches_node world.plain pid which (answered_in script (changed world tree) pid said).plain ≡ true
+        reaches =
+            reached (argument_fault which) (not (length (paths_of which) == 0)) (list_any (λ fd. is_on_node world.plain.files (opened_at world.plain.files pid fd)) (descriptors_in which))
+            (ends_node world.plain.files (with_tree world.plain.files tree)) right changes.named
+
+        few : (new left old had need kept was : ℕ) → new + left ≤ old + had → had ≡ need → new ≡ kept → old ≡ was → kept ≤ was + need
+        few new left old had need kept was paid same is before = omega arith
+
+        rises : (world was now : ℕ) → world ≡ was → was ≤ now → world ≤ now
+        rises world was now same more = omega arith
+
+    -- so the world is reached to which the answer leads
+    pub leads : (said : Reply) (told : Turned) (new : Objects) (answer : Plain → Answer) → told ≡ turned.Done said → GoesOn script mid pid said new
+        → ((world : World) → StandsFor script old world → Led script heap fs world.plain pid said (answer world.plain)) → Reaches script old pid which answer told new
+    leads said told new answer tells goes led = λ world was alive.
+        let at = led world was in
+        let next = changed world at.tree in
+        subst (λ a. WorldReached script new world pid which a told) (sym at.answers)
+        (record {
+          next = answered_in script next pid said;
+          stands = goes next (stands_mid world at.tree was at.stands at.sockets);
+          tells = (tells, refl);
+          account = sym (settled_account script old world was)
+              ∙ ap (λ frames. account_on world.plain world.plain (with_frames world.account frames)) (sym (changes.frames world.account.frames pid said));
+          keeps = keeps_on world at.tree said told was at.stands;
+        })

@@ -1,0 +1,6 @@
+pub mod NoSocket
+pub mod Busy
+pub mod Working
+pub mod Marked
+pub mod Changed
+pub mod Led

@@ -1,0 +1,116 @@
+//! Names that go, and that nodes get: `unlink`, `link` and `rename`.
+
+ghost use Rattle.std.specs.Prelude.{◌≡◌, ◌≤◌, ◌<◌, ◌^◌, None};
+ghost use Rattle.std.specs.List.{All};
+ghost use Rattle.kabi_calls.specs.Arguments.{argument_fault};
+ghost use Rattle.kabi_calls.specs.declared.calls.Call.{Call};
+ghost use Rattle.kheap_slabs.specs.Paid.{IsPaid};
+ghost use Rattle.memfs_ops.specs.FileTree.{MayWalk};
+ghost use Rattle.posix_defs.specs.Calls.OnNames.{link, rename, unlink};
+ghost use Rattle.posix_defs.specs.Needs.{need_of};
+ghost use Rattle.posix_defs.specs.World.{World};
+ghost use Rattle.store_objects.specs.Objects.{AreKept, Runs};
+ghost use Rattle.store_objects.specs.Standing.{StandsFor};
+ghost use Rattle.path_calls.specs.Walking.{Reaches};
+
+use crate::held::worked_in;
+use crate::replies::{done, freed};
+use kabi_types::{Control, Script};
+use kheap_shelves::Purse;
+use path_calls::directory_of;
+use posix_defs::Turned;
+use store_objects::{Objects, go_on};
+
+/// Takes a name away, and with the last one its node, but for a file that a description opens. EPERM where it is a directory,
+/// ENOENT where the name is free, else the faults of its path.
+///
+/// <https://pubs.opengroup.org/onlinepubs/9699919799/functions/unlink.html>
+pub fn unlink(
+    script: &Script,
+    objects: &mut Objects,
+    purse: &mut Purse,
+    pid: u32,
+    control: Control,
+    path: &[u8],
+) -> Turned
+    requires stands { (world : World) × StandsFor script.now objects.old world }
+    requires runs { Runs objects.old pid control }
+    requires right { argument_fault (Call.Unlink path.now) ≡ None }
+    requires may { MayWalk objects.old.heap purse.old }
+    requires needed { purse.old.left ≡ need_of (Call.Unlink path.now) }
+    ensures kept { AreKept script.now objects.new }
+    ensures paid { IsPaid objects.old.heap purse.old objects.new.heap purse.new }
+    ensures does { Reaches script.now objects.old pid (Call.Unlink path.now) (λ plain. unlink script.now plain pid path.now) result objects.new }
+{
+    let cwd = directory_of(objects, pid);
+    let gone = objects
+        .tree
+        .remove_name(&mut objects.heap, purse, cwd, path);
+    go_on(script, objects, pid, control, freed(gone))
+}
+
+/// Gives a node that is no directory a further name. EPERM where it is one, EEXIST where something is under the new name, ENOENT
+/// where a slash stands behind it, EMLINK where the node has 127 names, ENOSPC where there is no room, else the faults of both
+/// paths.
+///
+/// <https://pubs.opengroup.org/onlinepubs/9699919799/functions/link.html>
+pub fn link(
+    script: &Script,
+    objects: &mut Objects,
+    purse: &mut Purse,
+    pid: u32,
+    control: Control,
+    old: &[u8],
+    new: &[u8],
+) -> Turned
+    requires stands { (world : World) × StandsFor script.now objects.old world }
+    requires runs { Runs objects.old pid control }
+    requires right { argument_fault (Call.Link old.now new.now) ≡ None }
+    requires bytes { All (λ byte. (0 < byte) × (byte < 2 ^ 8)) new.now }
+    requires may { MayWalk objects.old.heap purse.old }
+    requires needed { purse.old.left ≡ need_of (Call.Link old.now new.now) }
+    ensures kept { AreKept script.now objects.new }
+    ensures paid { IsPaid objects.old.heap purse.old objects.new.heap purse.new }
+    ensures does { Reaches script.now objects.old pid (Call.Link old.now new.now) (λ plain. link script.now plain pid old.now new.now) result objects.new }
+{
+    let cwd = directory_of(objects, pid);
+    let linked = objects
+        .tree
+        .link_name(&mut objects.heap, purse, cwd, old, new);
+    go_on(script, objects, pid, control, done(linked))
+}
+
+/// Gives the node of one path the name of another, which loses the node that it had. ENOENT where the old name is free, EBUSY where
+/// a path leads to the root or to a directory that goes, in which somebody works or which is open, EINVAL where a directory would go
+/// below itself, EISDIR and ENOTDIR where one of two nodes alone is a directory or a slash stands behind a free name, ENOTEMPTY where
+/// a directory that goes has entries, ENOSPC where there is no room, else the faults of both paths.
+///
+/// <https://pubs.opengroup.org/onlinepubs/9699919799/functions/rename.html>
+#[inline(never)]
+pub fn rename(
+    script: &Script,
+    objects: &mut Objects,
+    purse: &mut Purse,
+    pid: u32,
+    control: Control,
+    old: &[u8],
+    new: &[u8],
+) -> Turned
+    requires stands { (world : World) × StandsFor script.now objects.old world }
+    requires runs { Runs objects.old pid control }
+    requires right { argument_fault (Call.Rename old.now new.now) ≡ None }
+    requires bytes { All (λ byte. (0 < byte) × (byte < 2 ^ 8)) new.now }
+    requires may { MayWalk objects.old.heap purse.old }
+    requires needed { purse.old.left ≡ need_of (Call.Rename old.now new.now) }
+    ensures kept { AreKept script.now objects.new }
+    ensures paid { IsPaid objects.old.heap purse.old objects.new.heap purse.new }
+    ensures does { Reaches script.now objects.old pid (Call.Rename old.now new.now) (λ plain. rename script.now plain pid old.now new.now) result objects.new }
+{
+    let cwd = directory_of(objects, pid);
+    let held = worked_in(&objects.heap, &objects.procs);
+    let busy = |node: u32| held.has(node);
+    let renamed = objects
+        .tree
+        .rename_name(&mut objects.heap, purse, cwd, old, new, &busy);
+    go_on(script, objects, pid, control, freed(renamed))
+}

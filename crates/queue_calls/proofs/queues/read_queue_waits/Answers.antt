@@ -1,0 +1,31 @@
+use Rattle.std.proofs.Common.{◌≡◌, w64}
+use Rattle.std.proofs.lemmas.Int.{to_z-of_z}
+use Rattle.posix_defs.specs.Calls.Reading.{read}
+use Rattle.posix_defs.specs.Machine.{blocks}
+use Rattle.proc_queues.proofs.Finding.{alive_listed}
+use Rattle.queue_calls.proofs.Choosing.{on_pipe_else}
+use Rattle.queue_calls.proofs.MovedNumbers.{of_three}
+use Rattle.queue_calls.proofs.queues.read_queue_waits.Goals as goal
+
+pub is_on_socket-requires-clause-there : goal.is_on_socket-requires-clause-there
+is_on_socket-requires-clause-there c = alive_listed c.args.heap.now c.args.procs.now c.args.pid c.requires.kept.holds.stored c.requires.alive
+
+pub read_socket_waits-requires-clause-on : goal.read_socket_waits-requires-clause-on
+read_socket_waits-requires-clause-on c = c.is_on_socket.ensures.on c.if-is_on_socket.true
+
+pub read_waits-requires-clause-on : goal.read_waits-requires-clause-on
+read_waits-requires-clause-on c = on_pipe_else c.args.heap.now c.args.procs.now c.args.pid _ c.is_on_socket.result c.requires.nodes c.is_on_socket.ensures.tells c.if-is_on_socket.false
+
+pub returns-then-is_on_socket : goal.returns-then-is_on_socket
+returns-then-is_on_socket c = λ script numbers plain account stands.
+    let pid = c.args.pid in
+    of_three (λ fd addr n. c.read_socket_waits.result ≡ blocks (read script plain pid fd addr n)) _ _ _ c.args.fd c.args.addr c.args.n
+    (to_z-of_z w64 c.args.fd c.ranges.fd) (to_z-of_z w64 c.args.addr c.ranges.addr) (to_z-of_z w64 c.args.n c.ranges.n)
+    (c.read_socket_waits.ensures script numbers plain account stands)
+
+pub returns-else-is_on_socket : goal.returns-else-is_on_socket
+returns-else-is_on_socket c = λ script numbers plain account stands.
+    let pid = c.args.pid in
+    of_three (λ fd addr n. c.read_waits.result ≡ blocks (read script plain pid fd addr n)) _ _ _ c.args.fd c.args.addr c.args.n
+    (to_z-of_z w64 c.args.fd c.ranges.fd) (to_z-of_z w64 c.args.addr c.ranges.addr) (to_z-of_z w64 c.args.n c.ranges.n)
+    (c.read_waits.ensures script numbers plain account stands)

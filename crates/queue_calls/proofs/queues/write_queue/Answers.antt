@@ -1,0 +1,38 @@
+use Rattle.std.proofs.Common.{w64}
+use Rattle.std.proofs.lemmas.Int.{to_z-of_z}
+use Rattle.kabi_calls.specs.declared.calls.Call.TheVariants as call
+use Rattle.posix_defs.specs.Calls.Writing.{write}
+use Rattle.proc_queues.specs.Standing.{Leads}
+use Rattle.proc_queues.proofs.Finding.{alive_listed}
+use Rattle.queue_calls.proofs.Choosing.{beside_sent, beside_put, on_pipe_else}
+use Rattle.queue_calls.proofs.MovedNumbers.{of_three}
+use Rattle.queue_calls.proofs.queues.write_queue.Goals as goal
+
+pub is_on_socket-requires-clause-there : goal.is_on_socket-requires-clause-there
+is_on_socket-requires-clause-there c = alive_listed c.args.heap.now c.args.procs.now c.args.pid c.requires.kept.holds.stored c.requires.alive
+
+pub write_socket-requires-clause-on : goal.write_socket-requires-clause-on
+write_socket-requires-clause-on c = c.is_on_socket.ensures.on c.if-is_on_socket.true
+
+pub write-requires-clause-on : goal.write-requires-clause-on
+write-requires-clause-on c = on_pipe_else c.args.heap.now c.args.procs.now c.args.pid _ c.is_on_socket.result c.requires.nodes c.is_on_socket.ensures.tells c.if-is_on_socket.false
+
+pub returns-then-is_on_socket-clause-leads : goal.returns-then-is_on_socket-clause-leads
+returns-then-is_on_socket-clause-leads c = λ script numbers plain account stands.
+    let pid = c.args.pid in
+    of_three (λ fd addr n. Leads script numbers c.write_socket.new.heap c.args.procs.now plain account pid (call.Write fd addr n c.args.done) (write script plain pid fd addr n c.args.done) c.write_socket.result) _ _ _ c.args.fd c.args.addr c.args.n
+    (to_z-of_z w64 c.args.fd c.ranges.fd) (to_z-of_z w64 c.args.addr c.ranges.addr) (to_z-of_z w64 c.args.n c.ranges.n)
+    (c.write_socket.ensures.leads script numbers plain account stands)
+
+pub returns-then-is_on_socket-clause-beside : goal.returns-then-is_on_socket-clause-beside
+returns-then-is_on_socket-clause-beside c = beside_sent c.args.heap.now c.write_socket.new.heap c.write_socket.ensures.beside
+
+pub returns-else-is_on_socket-clause-leads : goal.returns-else-is_on_socket-clause-leads
+returns-else-is_on_socket-clause-leads c = λ script numbers plain account stands.
+    let pid = c.args.pid in
+    of_three (λ fd addr n. Leads script numbers c.write.new.heap c.args.procs.now plain account pid (call.Write fd addr n c.args.done) (write script plain pid fd addr n c.args.done) c.write.result) _ _ _ c.args.fd c.args.addr c.args.n
+    (to_z-of_z w64 c.args.fd c.ranges.fd) (to_z-of_z w64 c.args.addr c.ranges.addr) (to_z-of_z w64 c.args.n c.ranges.n)
+    (c.write.ensures.leads script numbers plain account stands)
+
+pub returns-else-is_on_socket-clause-beside : goal.returns-else-is_on_socket-clause-beside
+returns-else-is_on_socket-clause-beside c = beside_put c.args.heap.now c.write.new.heap c.write.ensures.beside

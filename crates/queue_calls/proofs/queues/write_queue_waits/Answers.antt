@@ -1,0 +1,31 @@
+use Rattle.std.proofs.Common.{◌≡◌, w64}
+use Rattle.std.proofs.lemmas.Int.{to_z-of_z}
+use Rattle.posix_defs.specs.Calls.Writing.{write}
+use Rattle.posix_defs.specs.Machine.{blocks}
+use Rattle.proc_queues.proofs.Finding.{alive_listed}
+use Rattle.queue_calls.proofs.Choosing.{on_pipe_else}
+use Rattle.queue_calls.proofs.MovedNumbers.{of_three}
+use Rattle.queue_calls.proofs.queues.write_queue_waits.Goals as goal
+
+pub is_on_socket-requires-clause-there : goal.is_on_socket-requires-clause-there
+is_on_socket-requires-clause-there c = alive_listed c.args.heap.now c.args.procs.now c.args.pid c.requires.kept.holds.stored c.requires.alive
+
+pub write_socket_waits-requires-clause-on : goal.write_socket_waits-requires-clause-on
+write_socket_waits-requires-clause-on c = c.is_on_socket.ensures.on c.if-is_on_socket.true
+
+pub write_waits-requires-clause-on : goal.write_waits-requires-clause-on
+write_waits-requires-clause-on c = on_pipe_else c.args.heap.now c.args.procs.now c.args.pid _ c.is_on_socket.result c.requires.nodes c.is_on_socket.ensures.tells c.if-is_on_socket.false
+
+pub returns-then-is_on_socket : goal.returns-then-is_on_socket
+returns-then-is_on_socket c = λ script numbers plain account stands.
+    let pid = c.args.pid in
+    of_three (λ fd addr n. c.write_socket_waits.result ≡ blocks (write script plain pid fd addr n c.args.done)) _ _ _ c.args.fd c.args.addr c.args.n
+    (to_z-of_z w64 c.args.fd c.ranges.fd) (to_z-of_z w64 c.args.addr c.ranges.addr) (to_z-of_z w64 c.args.n c.ranges.n)
+    (c.write_socket_waits.ensures script numbers plain account stands)
+
+pub returns-else-is_on_socket : goal.returns-else-is_on_socket
+returns-else-is_on_socket c = λ script numbers plain account stands.
+    let pid = c.args.pid in
+    of_three (λ fd addr n. c.write_waits.result ≡ blocks (write script plain pid fd addr n c.args.done)) _ _ _ c.args.fd c.args.addr c.args.n
+    (to_z-of_z w64 c.args.fd c.ranges.fd) (to_z-of_z w64 c.args.addr c.ranges.addr) (to_z-of_z w64 c.args.n c.ranges.n)
+    (c.write_waits.ensures script numbers plain account stands)

@@ -1,0 +1,4 @@
+pub mod Holding
+pub mod Staying
+pub mod Taking
+pub mod Waiting
