@@ -14,3 +14,4 @@ pub mod Lengths
 pub mod WriteLeads
 pub mod OpenFiles
 pub mod Ranges
+pub mod Finding

@@ -1,5 +1,5 @@
 -- Bytes of a node that are put in a process's memory, and which machine a call leads to.
-use Rattle.std.specs.Prelude.{ℕ, ◌+◌, ◌<◌, ◌≤◌, ◌≡◌, ℤ, Bool, true, List, Option, Some, IsSome}
+use Rattle.std.specs.Prelude.{ℕ, ◌+◌, ◌<◌, ◌≤◌, ◌≡◌, ℤ, Bool, true, List, Option, None, Some, IsSome}
 use Rattle.kabi_calls.specs.Arguments.{count_of}
 use Rattle.kabi_calls.specs.declared.calls.Call.{Call}
 use Rattle.kabi_values.specs.declared.replies.Reply.{Reply}
@@ -33,6 +33,11 @@ use Rattle.proc_files.specs.Holding.{HoldFiles}
 abbrev pub IsOnNode : Heap → TableView → ℕ → ℤ → Type 0
 IsOnNode h kept pid fd =
     (held : HeldDescriptor) (desc : Desc) → named_by h kept pid fd ≡ Some held → object h.descs held.desc ≡ Some desc → IsSome (node_in desc.target)
+
+-- it is open on a pipe or a socket
+abbrev pub IsOffNodes : Heap → TableView → ℕ → ℤ → Type 0
+IsOffNodes h kept pid fd =
+    (held : HeldDescriptor) (desc : Desc) → named_by h kept pid fd ≡ Some held → object h.descs held.desc ≡ Some desc → node_in desc.target ≡ None
 
 -- ---- ranges of memory
 

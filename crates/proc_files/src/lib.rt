@@ -6,6 +6,7 @@
 
 mod closing;
 mod nodes;
+mod numbers;
 mod reading;
 mod seeking;
 mod sizing;
@@ -14,6 +15,7 @@ mod telling;
 mod writing;
 
 pub use closing::{close_number, close_open};
+pub use numbers::is_on_node;
 pub use reading::{pread_file, read_entries, read_file};
 pub use seeking::seek_number;
 pub use sizing::size_number;
