@@ -18,11 +18,6 @@ use Rattle.proc_files.proofs.ReadAnswers.{pread_closed, pread_denied, pread_dire
 use Rattle.kabi_calls.specs.declared.calls.Call.TheVariants as call
 use Rattle.proc_files.proofs.Saves.{saves_read, saves_used}
 use Rattle.proc_queues.specs.Found.{IsNamed}
-use Rattle.std.specs.List.{AllByRecursion}
-use Rattle.kabi_values.specs.declared.inodes.Inode.{Inode}
-use Rattle.memfs_file.specs.Ranges.{asked_to_read}
-use Rattle.cached_disk.specs.Lent.{IsCached}
-use Rattle.posix_defs.specs.SoundDisk.{HasNode}
 use Rattle.kheap_shelves.specs.declared.objects.Desc.{Desc}
 use Rattle.proc_files.proofs.reading.pread_file.Goals as goal
 
@@ -179,7 +174,6 @@ pub returns-clause-saved : goal.returns-clause-saved
 returns-clause-saved c =
     saves_read c.args.heap.now c.args.procs.now c.args.pid c.args.fd c.args.tree.now c.stat_node-info.new.self c.stat_node-info.ensures.used c.read_into.new.tree c.in-Some.found c.in-Inode.node
     (subst (λ z. IsNamed c.args.heap.now c.args.procs.now c.args.pid z c.in-Some.found) (to_z-of_z w64 c.args.fd c.ranges.fd) c.in-Some.ensures.named)
-    c.in-Some.ensures.there c.in-Inode.is (λ (desc : Desc). count_of c.args.at) c.read_into.result
-    (let at : c.count_of.result ≡ count_of c.args.at = subst (λ z. c.count_of.result ≡ count_of z) (to_z-of_z w64 c.args.at c.ranges.at) c.count_of.ensures in
-    subst (λ k. (inode : Inode) → HasNode c.stat_node-info.new.self.disk.blocks c.in-Inode.node inode
-    → AllByRecursion (IsCached c.stat_node-info.new.self.blocks) (asked_to_read c.stat_node-info.new.self.disk.blocks inode k c.read_into.result) → c.read_into.new.tree.disk ≡ c.stat_node-info.new.self.disk) at c.read_into.ensures.saved)
+    c.in-Some.ensures.there c.in-Inode.is (λ (desc : Desc). count_of c.args.at) c.count_of.result c.read_into.result
+    (subst (λ z. c.count_of.result ≡ count_of z) (to_z-of_z w64 c.args.at c.ranges.at) c.count_of.ensures)
+    c.read_into.ensures.saved

@@ -180,5 +180,5 @@ pub returns-clause-saved : goal.returns-clause-saved
 returns-clause-saved c =
     saves_read c.args.heap.now c.args.procs.now c.args.pid c.args.fd c.args.tree.now c.stat_node-info.new.self c.stat_node-info.ensures.used c.list_into-count.new.tree c.in-Some.found c.in-Inode.node
     (subst (λ z. IsNamed c.args.heap.now c.args.procs.now c.args.pid z c.in-Some.found) (to_z-of_z w64 c.args.fd c.ranges.fd) c.in-Some.ensures.named)
-    c.in-Some.ensures.there c.in-Inode.is (λ (desc : Desc). desc.offset) c.list_into-count.result
+    c.in-Some.ensures.there c.in-Inode.is (λ (desc : Desc). desc.offset) c.in-Some.found.desc.offset c.list_into-count.result refl
     c.list_into-count.ensures.saved
