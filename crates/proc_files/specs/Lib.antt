@@ -1,0 +1,5 @@
+pub mod Holding
+pub mod Answering
+pub mod Seeking
+pub mod Reading
+pub mod Closing

@@ -1,0 +1,60 @@
+//! What is open on a node, and where.
+
+ghost use Rattle.std.specs.Prelude.{◌≡◌, ℕ, Some};
+ghost use Rattle.kheap_shelves.specs.Objects.{object};
+ghost use Rattle.kheap_slabs.specs.Paid.{TakesNothing};
+ghost use Rattle.open_laws.specs.Described.{access_in};
+ghost use Rattle.posix_defs.specs.Files.Descriptions.{may_read as plain_may_read, may_write as plain_may_write};
+ghost use Rattle.posix_defs.specs.PathCalls.{stat_info};
+ghost use Rattle.posix_defs.specs.Tree.{Tree, is_directory};
+ghost use Rattle.proc_files.specs.Seeking.{MovesDesc};
+
+use kabi_types::{NodeKind, StatInfo};
+use kheap_shelves::{Access, Desc};
+use kheap_slabs::KHeap;
+use proc_queues::Found;
+
+/// Whether what is told of a node is told of a directory.
+pub(crate) fn is_directory(info: &StatInfo) -> bool
+    ensures { (tree : Tree) (number : ℕ) → info.now ≡ stat_info tree number → result ≡ is_directory tree number }
+{
+    match info.kind {
+        NodeKind::Dir => true,
+        NodeKind::File | NodeKind::Sock | NodeKind::Pipe => false,
+    }
+}
+
+/// Whether what is opened so may be read.
+pub(crate) fn may_read(access: Access) -> bool
+    ensures { result ≡ plain_may_read (access_in access) }
+{
+    match access {
+        Access::Read | Access::Both => true,
+        Access::Write => false,
+    }
+}
+
+/// Whether what is opened so may be written.
+pub(crate) fn may_write(access: Access) -> bool
+    ensures { result ≡ plain_may_write (access_in access) }
+{
+    match access {
+        Access::Read => false,
+        Access::Write | Access::Both => true,
+    }
+}
+
+/// A description is at another offset from now on, for all numbers that name it.
+pub(crate) fn move_to(heap: &mut KHeap, found: &Found, offset: u64)
+    requires { object heap.old.descs found.now.key ≡ Some found.now.desc }
+    ensures moved { MovesDesc heap.old heap.new found.now.key found.now.desc offset }
+    ensures takes { TakesNothing heap.old heap.new }
+{
+    heap.set_desc(
+        found.key,
+        Desc {
+            offset,
+            ..found.desc
+        },
+    );
+}

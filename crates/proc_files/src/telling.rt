@@ -1,0 +1,80 @@
+//! `fstat`.
+
+ghost use Rattle.std.specs.Prelude.{◌≡◌, ℕ, [], IsSome, None};
+ghost use Rattle.kabi_types.specs.declared.scripts.Script.{Script};
+ghost use Rattle.memfs_ops.specs.FileTree.{IsUsed, Stands};
+ghost use Rattle.open_laws.specs.Described.{node_in, target_in};
+ghost use Rattle.open_laws.specs.Owned.{HasItsOwners};
+ghost use Rattle.place_laws.specs.Placed.{Numbers};
+ghost use Rattle.posix_defs.specs.Calls.OnFiles.{fstat, info_of, without_node};
+ghost use Rattle.posix_defs.specs.Plain.{Plain};
+ghost use Rattle.posix_defs.specs.Tree.{Tree};
+ghost use Rattle.proc_table.specs.Table.{key_of};
+ghost use Rattle.proc_descs.specs.Having.{AreListed};
+ghost use Rattle.proc_pipes.specs.Answering.{stat_of};
+ghost use Rattle.proc_files.specs.Answering.{AnswersHolding, StaysOffNodes};
+ghost use Rattle.proc_files.specs.Holding.{HoldFiles, HoldSome, IsHeldIn};
+
+use kabi_types::{Errno, NodeKind, StatInfo};
+use kheap_shelves::Target;
+use kheap_slabs::KHeap;
+use memfs_ops::FileTree;
+use proc_queues::opened;
+use proc_table::ProcTable;
+
+/// What a number of a process is open on: all of a file or a directory, and of a pipe or a socket only that it is one.
+///
+/// EBADF where the number isn't open.
+///
+/// <https://pubs.opengroup.org/onlinepubs/9699919799/functions/fstat.html>
+pub fn stat_number(
+    heap: &KHeap,
+    procs: &ProcTable,
+    tree: &mut FileTree,
+    pid: u32,
+    fd: i64,
+) -> Result<StatInfo, Errno>
+    requires listed { AreListed heap.now procs.now }
+    requires owners { HasItsOwners heap.now [] }
+    requires there { IsSome (key_of procs.now.listed pid) }
+    requires hold { HoldSome heap.now procs.now tree.old }
+    ensures answers { (numbers : Numbers) (others : ℕ → ℕ) (script : Script) (plain : Plain)
+        → HoldFiles numbers others heap.now procs.now tree.old plain.files
+        → AnswersHolding numbers others heap.now procs.now tree.new script plain pid (fstat script plain pid fd) (stat_of result) }
+    ensures hold { HoldSome heap.now procs.now tree.new }
+    ensures used { IsUsed tree.old tree.new }
+    ensures stays { StaysOffNodes heap.now procs.now pid fd tree.old tree.new }
+{
+    let Some(found) = opened(heap, procs, pid, fd) else {
+        return Err(Errno::EBADF);
+    };
+    Ok(info_of(heap, tree, found.desc.target))
+}
+
+// What is told of a target.
+fn info_of(heap: &KHeap, tree: &mut FileTree, target: Target) -> StatInfo
+    requires held { IsHeldIn heap.now tree.old target }
+    ensures value { (numbers : Numbers) (plain : Tree) (pins : ℕ → ℕ) → Stands heap.now tree.old plain pins
+        → info_of plain (target_in numbers target) ≡ result }
+    ensures stands { (plain : Tree) (pins : ℕ → ℕ) → Stands heap.now tree.old plain pins → Stands heap.now tree.new plain pins }
+    ensures used { IsUsed tree.old tree.new }
+    ensures stays { node_in target ≡ None → tree.new ≡ tree.old }
+{
+    match target {
+        Target::Inode(node) => tree.stat_node(heap, node),
+        Target::Pipe(_) => without_node(NodeKind::Pipe),
+        Target::Sock(_) => without_node(NodeKind::Sock),
+    }
+}
+
+// No number, no links and no size.
+fn without_node(kind: NodeKind) -> StatInfo
+    ensures { result ≡ without_node kind }
+{
+    StatInfo {
+        kind,
+        number: 0,
+        nlink: 0,
+        size: 0,
+    }
+}
