@@ -1,5 +1,5 @@
 -- Which calls block.
-use Rattle.std.proofs.Common.{◌≡◌, ℕ, ℤ, Bool, true, false, Option, None, Some, refl, ap, sym, ◌∙◌}
+use Rattle.std.proofs.Common.{◌≡◌, ℕ, ℤ, Bool, true, false, Option, None, Some, refl, ap, ◌∙◌}
 use Rattle.std.specs.Prelude.{is_none}
 use Rattle.kabi_calls.specs.Arguments.{argument_fault}
 use Rattle.kabi_calls.specs.declared.calls.Call.{Call}

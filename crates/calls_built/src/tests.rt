@@ -47,7 +47,7 @@ fn script(alloc: Global, first: CallKind, second: CallKind) -> Result<Script, Fa
     })
 }
 
-/// The calls of processes, of memory, on pipes, on sockets without a name, and on names of the tree of files.
+/// The calls of processes, of memory, on pipes, on names of the tree of files, and on sockets without a name.
 const BUILT: &[CallKind] = &[
     CallKind::Getpid,
     CallKind::Getppid,

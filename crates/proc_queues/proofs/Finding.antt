@@ -1,5 +1,5 @@
 -- Who may read, who may write, and that a pipe is there for who has it open.
-use Rattle.std.proofs.Common.{◌≡◌, ℕ, ℤ, Bool, cond, [], Option, None, Some, IsSome, refl, ap, sym, subst, ◌∙◌}
+use Rattle.std.proofs.Common.{◌≡◌, ℕ, ℤ, Bool, cond, [], Option, None, Some, IsSome, refl, ap, subst, ◌∙◌}
 use Rattle.kabi_values.specs.declared.errnos.Errno.TheVariants.{EBADF}
 use Rattle.kabi_types.specs.declared.scripts.Script.{Script}
 use Rattle.kheap_shelves.specs.Objects.{object}

@@ -1,12 +1,11 @@
 -- The heap goes on where the queue of a socket has turned: what it keeps, and the fronts of its queues.
-use Rattle.std.proofs.Common.{◌≡◌, ◌≢◌, ℕ, ◌<◌, List, [], map, length, Option, None, Some, IsSome, is_some, refl, ap, sym, subst, ◌∙◌, arith}
+use Rattle.std.proofs.Common.{◌≡◌, ℕ, ◌<◌, List, [], length, Option, Some, IsSome, is_some, refl, ap, sym, subst, ◌∙◌, arith}
 use Rattle.std.specs.Prelude.{slice_index}
 use Rattle.std.proofs.lemmas.List.{length-map}
 use Rattle.std.proofs.lemmas.List.FromFn.{get_or-map-range_with_len}
-use Rattle.kheap_shelves.specs.Objects.{InUse, object}
+use Rattle.kheap_shelves.specs.Objects.{object}
 use Rattle.kheap_shelves.specs.declared.objects.Node.{Node}
 use Rattle.kheap_shelves.specs.declared.objects.Page.{Page}
-use Rattle.kheap_shelves.specs.declared.objects.Pipe.{Pipe as HeldPipe}
 use Rattle.kheap_shelves.specs.declared.objects.Sock.{Sock}
 use Rattle.kheap_shelves.proofs.ObjectLemmas.{InUse-within, object_of}
 use Rattle.kheap_slabs.specs.Heap.{Heap}
@@ -14,15 +13,14 @@ use Rattle.kheap_slabs.specs.Keys.{AreKeysOf}
 use Rattle.kheap_slabs.specs.Owners.{Owners, IsOwned, OwnsItsObjects, node_keys}
 use Rattle.kheap_slabs.specs.Spaces.{IsCounted}
 use Rattle.open_laws.specs.Open.{HaveFronts}
-use Rattle.open_laws.specs.Socketed.{AreRenamed, AreSocketed, socket_by}
+use Rattle.open_laws.specs.Socketed.{AreRenamed}
 use Rattle.open_laws.proofs.SocketLemmas.{placed_there}
 use Rattle.place_laws.specs.Placed.{Numbers}
 use Rattle.posix_defs.specs.Account.{Account, front_after, fronts_after, pipe_lengths, socket_lengths, unread_in_socket}
 use Rattle.posix_defs.specs.Files.State.{Files, with_sockets}
 use Rattle.posix_defs.specs.QueuePlace.{QueuePlace}
-use Rattle.posix_defs.specs.Socket.{Socket}
-use Rattle.posix_defs.specs.Sockets.{Sockets, sock_at, socket_at}
-use Rattle.usock_core.specs.Standing.{LeavesOthers, StandsFor as SocketsStandFor, queue_at, queue_in}
+use Rattle.posix_defs.specs.Sockets.{Sockets, sock_at}
+use Rattle.usock_core.specs.Standing.{StandsFor as SocketsStandFor, queue_at, queue_in}
 use Rattle.usock_core.proofs.StandingLemmas.{found, used_from}
 use Rattle.proc_descs.specs.Having.{HaveOpen}
 use Rattle.proc_descs.proofs.NumberCloses.{listed_on}

@@ -1,5 +1,5 @@
 -- What heap and table have open, once sockets change and once a Desc is open on one.
-use Rattle.std.proofs.Common.{◌≡◌, ◌≢◌, ℕ, zero, suc, ◌+◌, ◌<◌, ◌==◌, ◌++◌, false, List, [], ◌∷◌, length, Option, None, Some, IsSome, is_some, refl, sym, ap, subst, ◌∙◌, arith}
+use Rattle.std.proofs.Common.{◌≡◌, ℕ, zero, suc, ◌<◌, ◌++◌, false, List, [], ◌∷◌, length, Option, None, Some, IsSome, refl, sym, ap, subst, ◌∙◌, arith}
 use Rattle.std.specs.Prelude.{replicate, slice_index_or}
 use Rattle.chunk_queue.proofs.HeldLemmas.{HasBytes-same}
 use Rattle.kheap_shelves.specs.Objects.{InUse, object, put}
@@ -10,7 +10,7 @@ use Rattle.kheap_shelves.specs.declared.objects.Proc.{Proc}
 use Rattle.kheap_shelves.specs.declared.objects.Target.{Target}
 use Rattle.kheap_shelves.specs.declared.objects.Target.TheVariants as target
 use Rattle.kheap_slabs.specs.Heap.{Heap}
-use Rattle.open_laws.specs.Described.{AreDescribed, Counted, CountedList, counted_in, target_in, uncounted}
+use Rattle.open_laws.specs.Described.{AreDescribed, CountedList, counted_in, target_in}
 use Rattle.open_laws.specs.Open.{AreOpen, descriptor_by, descriptors_by}
 use Rattle.open_laws.specs.Owned.{CountsItsNames, IsThereFor, desc_count, names_desc, namings_in}
 use Rattle.open_laws.specs.Socketed.{AreSocketed}
@@ -23,7 +23,7 @@ use Rattle.posix_defs.specs.Files.Descriptors.{Descriptors}
 use Rattle.posix_defs.specs.Files.State.{Files, opened_as, with_open, with_sockets}
 use Rattle.posix_defs.specs.Sockets.{Sockets}
 use Rattle.proc_table.specs.Procs.{proc_of}
-use Rattle.proc_table.specs.Table.{TableView, processes, procs_at}
+use Rattle.proc_table.specs.Table.{TableView, processes}
 use Rattle.proc_table.proofs.PlaceLemmas.{eqb_same}
 use Rattle.proc_descs.specs.Having.{AreListed, HaveOpen, places_in}
 use Rattle.proc_descs.specs.Naming.{named_at, places_of}

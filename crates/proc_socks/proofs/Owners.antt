@@ -1,5 +1,5 @@
 -- Who owns what, while sockets are made or taken, and once a Desc is open on one.
-use Rattle.std.proofs.Common.{◌≡◌, ◌≢◌, ◌⊎◌, ℕ, ◌+◌, ◌<◌, ◌==◌, ◌++◌, Bool, false, List, [], ◌∷◌, length, cond, eqb, count_by, Option, None, Some, IsSome, is_some, refl, sym, ap, subst, ◌∙◌, arith, inl, inr, Contains}
+use Rattle.std.proofs.Common.{◌≡◌, ◌≢◌, ℕ, ◌<◌, ◌==◌, ◌++◌, Bool, false, List, [], ◌∷◌, length, count_by, Option, None, Some, IsSome, is_some, refl, sym, ap, subst, ◌∙◌, arith, inl, inr, Contains}
 use Rattle.std.proofs.lemmas.Bool.{cases_eq}
 use Rattle.std.proofs.lemmas.List.{length-set}
 use Rattle.std.proofs.lemmas.List.Elements.{Contains-append_left, Contains-append_right, Contains-append_cases}
@@ -14,11 +14,10 @@ use Rattle.kheap_shelves.specs.declared.objects.Target.{Target}
 use Rattle.kheap_shelves.specs.declared.objects.Target.TheVariants as target
 use Rattle.kheap_shelves.proofs.ObjectLemmas.{InUse-within}
 use Rattle.kheap_slabs.specs.Heap.{Heap}
-use Rattle.kheap_slabs.specs.Owners.{OwnsItsObjects, pipe_queues, sock_queues, spaces_of}
+use Rattle.kheap_slabs.specs.Owners.{pipe_queues, sock_queues, spaces_of}
 use Rattle.open_laws.specs.Described.{node_in}
 use Rattle.open_laws.specs.Owned.{CountsItsNames, HasItsEnds, HasItsOwners, IsThereFor, desc_count, desc_count_at, has_read_end, has_write_end, namings_of, sock_in, socks_named}
 use Rattle.open_laws.proofs.OwnerLemmas.{named_by, names}
-use Rattle.pipe_ends.specs.Standing.{IsPipeAt}
 use Rattle.pipe_ends.proofs.StandingLemmas.{stands_on as pipe_stands_on, stands_same as pipe_stands_same}
 use Rattle.posix_defs.specs.SocketLinks.{NoneTwice}
 use Rattle.usock_core.specs.Standing.{IsHeldIn}

@@ -1,5 +1,5 @@
 -- Two sockets are made, and then a Desc for each of them.
-use Rattle.std.proofs.Common.{◌≡◌, ◌≢◌, ℕ, ◌+◌, ◌-◌, ◌==◌, ◌++◌, List, [], ◌∷◌, count_by, Option, None, Some, length, refl, sym, ap, subst, ◌∙◌, arith, length-append}
+use Rattle.std.proofs.Common.{◌≡◌, ◌≢◌, ℕ, ◌+◌, ◌-◌, ◌==◌, List, [], ◌∷◌, count_by, Option, None, Some, length, refl, sym, ap, subst, ◌∙◌, arith, length-append}
 use Rattle.kabi_values.specs.declared.classes.Class.TheVariants as class
 use Rattle.kheap_shelves.specs.Counts.{with_count}
 use Rattle.kheap_shelves.specs.Objects.{InUse, object, put}
@@ -22,8 +22,8 @@ use Rattle.proc_descs.proofs.Fronts.{queues_same, queues_then}
 use Rattle.proc_descs.proofs.NumberCloses.{listed_on}
 use Rattle.proc_descs.proofs.Sums.{count_cons, one_if}
 use Rattle.proc_table.proofs.PlaceLemmas.{eqb_same}
-use Rattle.proc_socks.specs.Opening.{OpensBoth, described_more, with_both, with_desc, with_socks}
-use Rattle.proc_socks.specs.Owning.{HasOwnersBut, SocketsChange, desc_on}
+use Rattle.proc_socks.specs.Opening.{OpensBoth, described_more, with_desc, with_socks}
+use Rattle.proc_socks.specs.Owning.{HasOwnersBut, desc_on}
 use Rattle.proc_socks.proofs.Owners.{held_turned, owners_all, owners_two}
 use Rattle.proc_socks.proofs.Renaming.{given, stays}
 use Rattle.proc_socks.proofs.Told.{free_before, have_pair, keeps_desc, keeps_socks, queues_changed, vacant_changed}

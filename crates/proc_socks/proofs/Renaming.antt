@@ -1,14 +1,13 @@
 -- A table of sockets by key and the same one by place, while a call changes one socket or makes some, and what calls on them are
 -- told.
-use Rattle.std.proofs.Common.{◌≡◌, ◌≢◌, ◌⊎◌, ℕ, zero, suc, ℤ, ◌+◌, ◌<◌, ◌≤◌, Bool, true, false, cond, eqb, List, [], ◌∷◌, ◌++◌, map, length, Option, None, Some, IsSome, is_none, is_some, unwrap_or, refl, sym, ap, subst, ◌∙◌, arith, inl, inr, eq-eqb, ne_eqb, length-append, Contains}
-use Rattle.std.specs.Option.{option_map}
+use Rattle.std.proofs.Common.{◌≡◌, ◌≢◌, ◌⊎◌, ℕ, zero, suc, ℤ, ◌+◌, ◌<◌, ◌≤◌, Bool, true, false, cond, List, [], ◌∷◌, map, length, Option, None, Some, IsSome, is_none, unwrap_or, refl, sym, ap, subst, ◌∙◌, arith, inl, inr, eq-eqb, ne_eqb, length-append, Contains}
 use Rattle.std.proofs.lemmas.Bool.{cases_lt}
 use Rattle.std.proofs.lemmas.List.{get_or_past}
 use Rattle.chunk_queue.proofs.JoinedLemmas.{Contains-cons}
 use Rattle.kheap_shelves.specs.Objects.{object}
 use Rattle.kabi_values.specs.declared.errnos.Errno.TheVariants.{EDESTADDRREQ, EINVAL}
 use Rattle.open_laws.specs.Socketed.{AreRenamed, socket_by, stage_by}
-use Rattle.open_laws.proofs.SocketLemmas.{placed_at, placed_stage, placed_there, renamed_changed}
+use Rattle.open_laws.proofs.SocketLemmas.{placed_at, placed_stage, renamed_changed}
 use Rattle.place_laws.specs.Placed.{ArePlaced, numbered}
 use Rattle.place_laws.proofs.PlaceLemmas.{placed_made}
 use Rattle.posix_defs.specs.Socket.{Accepting, Takes, Waits, Refuses, Connected, Idle, Listening, Socket, Stage, accept, after_shutdown, behind_first, connected_to, first_waiting, is_connected, listen_fault, listening, new_socket, peer_of, shut_further, shutdown_fault, shuts_reading, shuts_writing, waiting_of, without_first}

@@ -1,10 +1,10 @@
 -- What a read of a socket leads to.
-use Rattle.std.proofs.Common.{◌≡◌, ◌≢◌, ◌⊎◌, ℕ, zero, suc, ◌+◌, ◌-◌, ◌%◌, ◌<◌, ◌≤◌, ◌==◌, ◌++◌, Bool, true, false, cond, min, leb, ltb, ℤ, pos, List, [], ◌∷◌, take, drop, length, length-append, length-drop, Option, None, Some, IsSome, refl, ap, sym, subst, ◌∙◌, arith, eq-eqb, ne_eqb, inl, inr}
+use Rattle.std.proofs.Common.{◌≡◌, ◌≢◌, ◌⊎◌, ℕ, zero, suc, ◌+◌, ◌-◌, ◌%◌, ◌<◌, ◌≤◌, ◌==◌, ◌++◌, Bool, true, false, cond, min, leb, ltb, ℤ, pos, List, [], ◌∷◌, take, drop, length, length-append, Option, None, Some, IsSome, refl, ap, sym, subst, ◌∙◌, arith, eq-eqb, ne_eqb, inl, inr}
 use Rattle.std.proofs.lemmas.Bool.{cases_eq, ltb-true, ltb-false}
 use Rattle.std.proofs.lemmas.Bool.Decides.{leb_tells}
 use Rattle.std.proofs.lemmas.List.{length-take-le}
 use Rattle.std.specs.Option.{option_map}
-use Rattle.kabi_values.specs.declared.errnos.Errno.TheVariants.{EAGAIN, EBADF, EFAULT, ENOTCONN}
+use Rattle.kabi_values.specs.declared.errnos.Errno.TheVariants.{EBADF, EFAULT}
 use Rattle.kabi_calls.specs.Arguments.{count_of}
 use Rattle.kabi_calls.specs.declared.calls.Call.{Call}
 use Rattle.kabi_calls.specs.declared.calls.Call.TheVariants as call
@@ -16,10 +16,10 @@ use Rattle.kheap_shelves.specs.declared.objects.Chunk.{Chunk}
 use Rattle.kheap_shelves.specs.declared.objects.Sock.{Sock}
 use Rattle.kheap_shelves.proofs.ObjectLemmas.{object_of}
 use Rattle.kheap_slabs.specs.Heap.{Heap}
-use Rattle.kheap_slabs.specs.Owners.{OwnsItsObjects, with_space}
+use Rattle.kheap_slabs.specs.Owners.{with_space}
 use Rattle.kheap_slabs.specs.Paid.{TakesNothing}
 use Rattle.chunk_queue.specs.Moving.{would_wait}
-use Rattle.open_laws.specs.Socketed.{AreRenamed, socket_by, stage_by}
+use Rattle.open_laws.specs.Socketed.{AreRenamed, stage_by}
 use Rattle.open_laws.proofs.SocketLemmas.{placed_at}
 use Rattle.page_space.specs.Contents.{IsOwnedWith, SpaceMoves}
 use Rattle.page_space.specs.Putting.{Puts}
@@ -29,7 +29,7 @@ use Rattle.posix_defs.specs.Answer.{Answer, Blocked, failed, replied}
 use Rattle.posix_defs.specs.Calls.Reading.{of_bytes, put, read, read_from_socket, read_target, unless_directory}
 use Rattle.posix_defs.specs.Calls.Opened.{Opened, if_readable, on_open}
 use Rattle.posix_defs.specs.Files.Descriptions.{Target, OnSocket}
-use Rattle.posix_defs.specs.Files.State.{Files, with_sockets}
+use Rattle.posix_defs.specs.Files.State.{with_sockets}
 use Rattle.posix_defs.specs.Machine.{blocks}
 use Rattle.posix_defs.specs.Memory.{after_put, is_mapped_range, stored}
 use Rattle.posix_defs.specs.MemoryCalls.{remembered}
@@ -39,12 +39,11 @@ use Rattle.posix_defs.specs.Process.{memory_of, with_memory}
 use Rattle.posix_defs.specs.QueuePlace.{QueuePlace, after_take, at_front}
 use Rattle.posix_defs.specs.Socket.{Connected, Idle, Listening, Socket, Stage, is_shut_write, peer_of}
 use Rattle.posix_defs.specs.SocketLinks.{AreLinked, room_of}
-use Rattle.posix_defs.specs.Sockets.{Sockets, after_read, read_connected, read_in_stage, sock_at, sock_read, socket_at, stage_at, with_bytes, writes_no_more}
+use Rattle.posix_defs.specs.Sockets.{Sockets, after_read, read_in_stage, sock_at, sock_read, socket_at, stage_at, writes_no_more}
 use Rattle.posix_defs.specs.declared.turner.Turned.{Turned}
 use Rattle.posix_defs.specs.declared.turner.Turned.TheVariants as turned
 use Rattle.socket_laws.proofs.SocketLaws.{peer_there}
 use Rattle.socket_laws.proofs.SocketTable.{sock_at-with_other, there_within}
-use Rattle.proc_descs.specs.Having.{HaveOpen}
 use Rattle.proc_table.specs.Accounting.{HasAccount}
 use Rattle.proc_table.specs.Standing.{IsTable}
 use Rattle.proc_table.specs.Table.{TableView}
@@ -55,7 +54,7 @@ use Rattle.proc_queues.specs.Moving.{UnlessMoves, told_read}
 use Rattle.proc_queues.specs.Spaces.{HasSpace}
 use Rattle.proc_queues.specs.Standing.{IsKept, Leads, StandsFor}
 use Rattle.proc_queues.proofs.Fronts.{front_moves, front_stays}
-use Rattle.proc_queues.proofs.Leading.{leads_nowhere, leads_over, leads_to_sleep}
+use Rattle.proc_queues.proofs.Leading.{leads_nowhere, leads_to_sleep}
 use Rattle.proc_queues.proofs.Remembering.{account_put, fronts_put, kept_put, open_put, space_on, table_put}
 use Rattle.proc_queues.proofs.RightBytes.{mapped_at}
 use Rattle.proc_queues.proofs.Settled.{forgotten}

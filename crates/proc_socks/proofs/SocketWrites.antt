@@ -1,7 +1,6 @@
 -- What a write to a socket leads to.
-use Rattle.std.proofs.Common.{◌≡◌, ◌≢◌, ◌⊎◌, ℕ, zero, suc, ◌+◌, ◌-◌, ◌<◌, ◌≤◌, ◌==◌, ◌++◌, Bool, true, false, cond, min, leb, ℤ, pos, List, [], ◌∷◌, take, length, Option, None, Some, IsSome, refl, ap, sym, subst, ◌∙◌, arith, eq-eqb, ne_eqb, inl, inr}
+use Rattle.std.proofs.Common.{◌≡◌, ◌≢◌, ◌⊎◌, ℕ, zero, suc, ◌+◌, ◌-◌, ◌<◌, ◌≤◌, ◌==◌, ◌++◌, Bool, true, false, cond, min, leb, ℤ, pos, List, [], take, length, Option, None, Some, IsSome, refl, ap, sym, subst, ◌∙◌, arith, eq-eqb, ne_eqb, inl, inr}
 use Rattle.std.specs.Option.{option_map}
-use Rattle.std.specs.Prelude.{nat_le}
 use Rattle.std.proofs.lemmas.Bool.{cases_eq}
 use Rattle.std.proofs.lemmas.Bool.Decides.{leb_tells}
 use Rattle.std.proofs.lemmas.List.FromFn.{length-map-range_with_len}
@@ -9,21 +8,21 @@ use Rattle.kabi_calls.specs.Arguments.{count_of}
 use Rattle.kabi_calls.specs.declared.calls.Call.{Call}
 use Rattle.kabi_calls.specs.declared.calls.Call.TheVariants as call
 use Rattle.kabi_values.specs.declared.errnos.Errno.{Errno}
-use Rattle.kabi_values.specs.declared.errnos.Errno.TheVariants.{EAGAIN, EBADF, EFAULT, ENOTCONN, EPIPE}
+use Rattle.kabi_values.specs.declared.errnos.Errno.TheVariants.{EBADF, EFAULT, ENOTCONN, EPIPE}
 use Rattle.kabi_values.specs.declared.replies.Reply.TheVariants.{Fail, Val}
 use Rattle.kabi_types.specs.declared.scripts.Script.{Script}
 use Rattle.kheap_shelves.specs.Purse.{Purse}
 use Rattle.kheap_slabs.specs.Heap.{Heap}
 use Rattle.chunk_queue.specs.Moving.{moved_by, moving_of, would_wait}
 use Rattle.chunk_queue.specs.declared.moved.Moved.{Moved}
-use Rattle.open_laws.specs.Socketed.{AreRenamed, socket_by, stage_by}
+use Rattle.open_laws.specs.Socketed.{AreRenamed, stage_by}
 use Rattle.open_laws.proofs.SocketLemmas.{placed_at, placed_stage}
 use Rattle.place_laws.specs.Placed.{Numbers}
-use Rattle.posix_defs.specs.Account.{Account, account_on, front_after}
+use Rattle.posix_defs.specs.Account.{Account, account_on}
 use Rattle.posix_defs.specs.Answer.{Answer, Blocked, failed, replied}
 use Rattle.posix_defs.specs.Calls.Opened.{Opened, if_writable, on_open}
 use Rattle.posix_defs.specs.Calls.Reading.{of_bytes}
-use Rattle.posix_defs.specs.Calls.Writing.{bytes_left, did_part, put_in_queue, put_in_socket, stopped, write, write_queue, write_target}
+use Rattle.posix_defs.specs.Calls.Writing.{did_part, put_in_queue, put_in_socket, stopped, write, write_queue, write_target}
 use Rattle.posix_defs.specs.Files.Descriptions.{Target, OnSocket}
 use Rattle.posix_defs.specs.Files.State.{Files, with_sockets}
 use Rattle.posix_defs.specs.Machine.{blocks}
@@ -43,7 +42,7 @@ use Rattle.socket_laws.proofs.SocketTable.{sock_at-with_other, there_within}
 use Rattle.proc_table.specs.Accounting.{HasAccount}
 use Rattle.proc_table.specs.Table.{TableView}
 use Rattle.proc_table.proofs.LawLemmas.{elsewhere_account, elsewhere_table}
-use Rattle.usock_core.specs.Standing.{StandsFor as SocketsStandFor, queue_at}
+use Rattle.usock_core.specs.Standing.{queue_at}
 use Rattle.usock_core.specs.Steps.{Sends}
 use Rattle.proc_queues.specs.Moving.{UnlessMoves, moved_in, told_write}
 use Rattle.proc_queues.specs.Standing.{IsKept, IsTold, Leads, StandsFor}

@@ -1,12 +1,11 @@
 -- What the machine answers to a call on sockets, and what heap and table have open once one has changed.
-use Rattle.std.proofs.Common.{◌≡◌, ◌≢◌, ◌⊎◌, ℕ, ℤ, pos, ◌+◌, ◌<◌, ◌≤◌, ◌++◌, Bool, true, false, cond, List, [], ◌∷◌, length, Option, None, Some, IsSome, is_some, refl, sym, ap, subst, ◌∙◌, arith, inl, inr, length-append, Contains}
+use Rattle.std.proofs.Common.{◌≡◌, ◌≢◌, ℕ, ℤ, pos, ◌+◌, ◌<◌, ◌++◌, Bool, true, false, cond, List, [], ◌∷◌, length, Option, None, Some, IsSome, is_some, refl, sym, ap, subst, ◌∙◌, arith, inl, inr, length-append, Contains}
 use Rattle.std.proofs.lemmas.Bool.{cases_eq}
 use Rattle.std.proofs.lemmas.List.{get_or-set_other}
 use Rattle.std.specs.Prelude.{MatchResult, Result, Ok, Err, IsOk, is_ok}
 use Rattle.kabi_values.specs.declared.errnos.Errno.{Errno}
 use Rattle.kabi_values.specs.declared.errnos.Errno.TheVariants.{EBADF, EMFILE, ENOTSOCK}
-use Rattle.kabi_values.specs.declared.replies.Reply.{Reply}
-use Rattle.kabi_values.specs.declared.replies.Reply.TheVariants.{Fail, Pair, Val}
+use Rattle.kabi_values.specs.declared.replies.Reply.TheVariants.{Pair, Val}
 use Rattle.kabi_types.specs.declared.scripts.Script.{Script}
 use Rattle.kheap_shelves.specs.Objects.{InUse, object, put}
 use Rattle.kheap_shelves.specs.declared.objects.Desc.{Desc}
@@ -17,18 +16,18 @@ use Rattle.kheap_shelves.proofs.ObjectLemmas.{InUse-within, object_of}
 use Rattle.kheap_slabs.specs.Heap.{Heap}
 use Rattle.open_laws.specs.Described.{access_in, counted_in, target_in}
 use Rattle.open_laws.specs.Owned.{HasItsOwners, sock_in, sock_of, socks_named}
-use Rattle.open_laws.specs.Socketed.{AreRenamed, AreSocketed}
+use Rattle.open_laws.specs.Socketed.{AreRenamed}
 use Rattle.open_laws.proofs.OwnerLemmas.{named_by as sock_named_by}
 use Rattle.place_laws.specs.Placed.{Numbers, numbered}
 use Rattle.posix_defs.specs.Answer.{Answer, Blocked, failed, replied}
-use Rattle.posix_defs.specs.Calls.OnSockets.{accept as call_accept, accept_at, accepted, accepted_under, description_of, listen as call_listen, listen_at, on_socket, paired, paired_under, resocketed, shutdown as call_shutdown, shutdown_at, socket, socket_target, socketed, socketed_under, socketpair, unless_fault}
+use Rattle.posix_defs.specs.Calls.OnSockets.{accept as call_accept, accept_at, accepted_under, description_of, listen as call_listen, listen_at, on_socket, paired, paired_under, resocketed, shutdown as call_shutdown, shutdown_at, socket, socket_target, socketed, socketed_under, socketpair, unless_fault}
 use Rattle.posix_defs.specs.Calls.Opened.{Opened, on_open}
-use Rattle.posix_defs.specs.Files.Descriptors.{Two, lowest_free_from, two_lowest_free}
+use Rattle.posix_defs.specs.Files.Descriptors.{lowest_free_from, two_lowest_free}
 use Rattle.posix_defs.specs.Files.State.{Files, descriptors_of, with_open, with_sockets}
 use Rattle.posix_defs.specs.Machine.{blocks}
 use Rattle.posix_defs.specs.Plain.{Plain, with_files}
 use Rattle.posix_defs.specs.Socket.{Accepting, Takes, Waits, Refuses, Connected, Idle, Listening, Stage, accept as accept_in, listen_fault, shutdown_fault, waiting_of}
-use Rattle.posix_defs.specs.Sockets.{Sockets, sock_at, socket_at, stage_at, after_accept, after_listen, after_shut, with_new, with_pair}
+use Rattle.posix_defs.specs.Sockets.{Sockets, sock_at, socket_at, stage_at, after_listen, after_shut, with_new, with_pair}
 use Rattle.usock_core.specs.Answers.{Answers as IsFault, accept_would_wait}
 use Rattle.usock_core.specs.Standing.{IsSocketIn, LeavesOthers, QueuesStay, StandsFor as SocketsStandFor}
 use Rattle.usock_core.proofs.HeldLemmas.{socket_held}
@@ -38,14 +37,14 @@ use Rattle.proc_descs.specs.Having.{HaveOpen}
 use Rattle.proc_descs.specs.Naming.{named_by}
 use Rattle.proc_descs.specs.Queues.{QueuesStand}
 use Rattle.proc_pipes.specs.Answering.{Answers, zero_of}
-use Rattle.proc_pipes.proofs.Answered.{named_there, on_it, on_nothing, refused}
+use Rattle.proc_pipes.proofs.Answered.{on_it, on_nothing, refused}
 use Rattle.proc_socks.specs.Finding.{FindsSocket, FindsToMove, IsOnSocket, if_movable, may_move}
 use Rattle.proc_pipes.specs.Opening.{KeepsNumbers}
 use Rattle.proc_socks.specs.Opening.{with_both, with_desc, with_sock, with_socks}
 use Rattle.proc_socks.specs.Owning.{SocketsChange}
 use Rattle.proc_socks.specs.declared.finding.Found.{Found}
 use Rattle.proc_socks.proofs.Opens.{have_changed}
-use Rattle.proc_socks.proofs.Renaming.{accept_renamed, accept_told, accepting_by, listen_renamed, listen_told, new_renamed, new_within, pair_renamed, pair_within, shut_renamed, shut_told, stays}
+use Rattle.proc_socks.proofs.Renaming.{accept_told, accepting_by, listen_renamed, listen_told, new_renamed, new_within, pair_renamed, pair_within, shut_renamed, shut_told, stays}
 
 -- ---- the socket that a number is open on
 

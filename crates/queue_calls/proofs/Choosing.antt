@@ -1,7 +1,5 @@
 -- A read or a write goes by what its number is open on.
-use Rattle.std.proofs.Common.{◌≡◌, ℕ, ℤ, Bool, false, None, Some, IsSome, is_some, refl, ap, sym, ◌∙◌}
-use Rattle.kheap_shelves.specs.Objects.{object}
-use Rattle.kheap_shelves.specs.declared.objects.Desc.{Desc}
+use Rattle.std.proofs.Common.{◌≡◌, ℕ, ℤ, Bool, false, None, IsSome, is_some, refl, ap, sym, ◌∙◌}
 use Rattle.kheap_shelves.specs.declared.objects.Target.{Target}
 use Rattle.kheap_shelves.specs.declared.objects.Target.TheVariants as target
 use Rattle.kheap_slabs.specs.Heap.{Heap}

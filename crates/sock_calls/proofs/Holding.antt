@@ -1,5 +1,5 @@
 -- Each socket is open or waits.
-use Rattle.std.proofs.Common.{◌≡◌, ℕ, ◌+◌, ◌<◌, ◌⊎◌, [], Option, None, Some, inl, inr, refl, ap, sym, ◌∙◌, subst, arith, unwrap_or}
+use Rattle.std.proofs.Common.{◌≡◌, ℕ, ◌+◌, ◌<◌, ◌⊎◌, [], Option, None, Some, inl, inr, refl, ap, sym, subst, arith, unwrap_or}
 use Rattle.std.specs.List.{Contains}
 use Rattle.kabi_types.specs.declared.scripts.Script.{Script}
 use Rattle.kheap_shelves.specs.Objects.{InUse, object}

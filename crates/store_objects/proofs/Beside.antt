@@ -1,5 +1,5 @@
 -- Objects whose caches have become others, with their part of the heap, and all else of which is the same.
-use Rattle.std.proofs.Common.{◌≡◌, ℕ, List, Option, refl}
+use Rattle.std.proofs.Common.{ℕ, List, Option, refl}
 use Rattle.kabi_types.specs.declared.scripts.Script.{Script}
 use Rattle.kheap_shelves.specs.declared.objects.Block.{Block}
 use Rattle.kheap_shelves.specs.declared.objects.Name.{Name}

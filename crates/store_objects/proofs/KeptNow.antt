@@ -1,7 +1,6 @@
 -- What a tree of files keeps in its caches may be kept in the world for which it stands, and is what the heap has of them.
-use Rattle.std.proofs.Common.{◌≡◌, ◌≢◌, ℕ, ◌+◌, ◌<◌, ◌==◌, ◌||◌, Bool, true, false, cond, List, [], ◌∷◌, map, length, nat_eq, eqb-true, Option, None, Some, is_some, refl, ap, sym, ◌∙◌, subst, inl, inr, arith}
-use Rattle.std.specs.Prelude.{codes, get_or, slice_get, take}
-use Rattle.std.specs.List.{All, AllByRecursion}
+use Rattle.std.proofs.Common.{◌≡◌, ◌≢◌, ℕ, ◌<◌, ◌==◌, ◌||◌, Bool, true, false, cond, List, [], ◌∷◌, map, length, nat_eq, eqb-true, Option, None, Some, is_some, refl, ap, sym, ◌∙◌, subst, inl, inr}
+use Rattle.std.specs.List.{AllByRecursion}
 use Rattle.std.specs.Map.{keys_of, lookup}
 use Rattle.std.specs.Option.{option_map}
 use Rattle.std.specs.Str.{bytes_eq}
@@ -13,7 +12,7 @@ use Rattle.std.proofs.lemmas.Map.Entries.{length-keys_of}
 use Rattle.std.proofs.lemmas.Option.{slice_get_within}
 use Rattle.std.proofs.lemmas.Slice.Eq.{bytes_eq-Decides}
 use Rattle.kabi_calls.specs.PathParts.{is_dots}
-use Rattle.kheap_shelves.specs.Objects.{count, object}
+use Rattle.kheap_shelves.specs.Objects.{count}
 use Rattle.kheap_shelves.specs.declared.objects.Block.{Block}
 use Rattle.kheap_shelves.specs.declared.objects.Name.{Name}
 use Rattle.kheap_shelves.specs.declared.objects.Vnode.{Vnode}
@@ -21,7 +20,7 @@ use Rattle.kheap_slabs.specs.Heap.{Heap}
 use Rattle.lru_index.specs.Keys.{same_name}
 use Rattle.lru_index.specs.declared.keys.NameKey.{NameKey}
 use Rattle.lru_index.specs.NameKeys.{name_key}
-use Rattle.name_cache.specs.Names.{IsNameKey, key_of, same_key}
+use Rattle.name_cache.specs.Names.{IsNameKey, key_of}
 use Rattle.name_cache.proofs.KeyLemmas.{made_is_key, name_read, same_key_laws}
 use Rattle.disk_laws.proofs.DiskNodes.{node_of_inode}
 use Rattle.tree_laws.proofs.EntryLists.{stands_at}

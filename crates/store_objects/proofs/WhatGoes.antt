@@ -1,5 +1,5 @@
 -- What of the caches may go is what the machine doesn't pin, and once it has gone the objects stand for the world without it.
-use Rattle.std.proofs.Common.{◌≡◌, ◌≢◌, ℕ, zero, suc, ◌+◌, ◌<◌, ◌==◌, ◌||◌, not, Bool, true, false, cond, List, [], ◌∷◌, ◌++◌, map, length, nat_eq, eqb-true, Option, None, Some, refl, ap, sym, ◌∙◌, subst, inl, inr, arith}
+use Rattle.std.proofs.Common.{◌≡◌, ℕ, zero, suc, ◌+◌, ◌<◌, ◌==◌, ◌||◌, not, Bool, true, false, cond, List, [], ◌∷◌, ◌++◌, map, length, nat_eq, eqb-true, Option, None, Some, refl, ap, sym, ◌∙◌, subst, inl, inr, arith}
 use Rattle.std.specs.Prelude.{count_by}
 use Rattle.std.specs.List.{AllByRecursion, list_any}
 use Rattle.std.specs.Map.{keys_of, remove_entry}
@@ -10,7 +10,7 @@ use Rattle.std.proofs.lemmas.List.Sums.{sum_by-cons}
 use Rattle.kabi_types.specs.declared.entries.Cached.{Cached}
 use Rattle.kabi_types.specs.declared.entries.Cached.TheVariants.{Name, Block, Vnode}
 use Rattle.kabi_types.specs.declared.scripts.Script.{Script}
-use Rattle.kheap_shelves.specs.Objects.{count, object}
+use Rattle.kheap_shelves.specs.Objects.{object}
 use Rattle.kheap_shelves.specs.declared.objects.Vnode.{Vnode as HeldVnode}
 use Rattle.kheap_slabs.specs.Heap.{Heap}
 use Rattle.lru_index.specs.Order.{Order}
@@ -19,14 +19,14 @@ use Rattle.vnode_cache.specs.Calls as nodes
 use Rattle.memfs_ops.specs.Evicting.{HasGone, MayGo}
 use Rattle.memfs_ops.specs.FileTree.{Stands, TreeView}
 use Rattle.posix_defs.specs.Plain.{Plain}
-use Rattle.posix_defs.specs.Relief.{Evicts, LosesFrom, LosesOne}
+use Rattle.posix_defs.specs.Relief.{Evicts, LosesFrom}
 use Rattle.posix_defs.specs.Tree.{Tree}
 use Rattle.posix_defs.specs.World.{Kept, World, can_evict, is_in, pinned_nodes}
 use Rattle.store_objects.specs.declared.objects.Objects.{Objects}
 use Rattle.store_objects.specs.Objects.{AreKept}
 use Rattle.store_objects.specs.Standing.{StandsFor}
 use Rattle.store_objects.specs.Trees.{HasTree, KeepsTree, kept_by, name_in, pins_in}
-use Rattle.store_objects.proofs.Beside.{beside_as, kept_beside, stands_beside}
+use Rattle.store_objects.proofs.Beside.{kept_beside, stands_beside}
 use Rattle.store_objects.proofs.HeldNodes.{held_pinned, pinned_held}
 use Rattle.store_objects.proofs.KeptNow.{as_many_blocks, as_many_names, is_kept}
 use Rattle.store_objects.proofs.OnceKept.{each_kept}

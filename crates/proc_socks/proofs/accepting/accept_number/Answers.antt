@@ -1,6 +1,5 @@
-use Rattle.std.proofs.Common.{◌≡◌, ◌∙◌, [], refl, subst, w64}
+use Rattle.std.proofs.Common.{◌∙◌, refl, subst, w64}
 use Rattle.std.proofs.lemmas.Int.{to_z-of_z}
-use Rattle.kheap_laws.proofs.PaidLemmas.{IsPaid-refl}
 use Rattle.posix_defs.specs.Calls.OnSockets.{accept}
 use Rattle.proc_descs.proofs.Fronts.{queues_same}
 use Rattle.proc_pipes.proofs.Answered.{refused}

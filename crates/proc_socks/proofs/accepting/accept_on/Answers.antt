@@ -1,4 +1,4 @@
-use Rattle.std.proofs.Common.{◌≡◌, ◌∙◌, false, [], ◌∷◌, Some, ap, pos, refl, subst, sym}
+use Rattle.std.proofs.Common.{◌∙◌, false, [], ◌∷◌, Some, ap, refl, subst, sym}
 use Rattle.std.specs.Prelude.{IfSome, is_some}
 use Rattle.kheap_slabs.specs.Heap.{Heap}
 use Rattle.kheap_laws.proofs.PaidLemmas.{CanPay-kept, IsPaid-nothing, IsPaid-trans}

@@ -1,11 +1,10 @@
-use Rattle.std.proofs.Common.{◌≡◌, ◌∙◌, [], ap, refl, subst, sym, w64}
+use Rattle.std.proofs.Common.{◌∙◌, [], ap, subst, w64}
 use Rattle.std.proofs.lemmas.Int.{to_z-of_z}
-use Rattle.posix_defs.specs.Machine.{blocks}
 use Rattle.posix_defs.specs.Socket.{accept as accept_in}
 use Rattle.posix_defs.specs.Sockets.{stage_at}
 use Rattle.usock_core.specs.Answers.{accept_would_wait}
 use Rattle.proc_socks.specs.Finding.{FindsSocket}
-use Rattle.proc_socks.proofs.Told.{accept_as, accept_asks, accept_sleeps, socket_there, wont_wait}
+use Rattle.proc_socks.proofs.Told.{accept_as, accept_sleeps, socket_there, wont_wait}
 use Rattle.proc_socks.proofs.accepting.accept_waits.Goals as goal
 
 pub returns-in_default : goal.returns-in_default

@@ -1,10 +1,10 @@
-use Rattle.std.proofs.Common.{◌≡◌, ◌∙◌, [], ap, is_some, refl, subst, sym, true, Some, w64}
+use Rattle.std.proofs.Common.{◌≡◌, ◌∙◌, [], ap, is_some, subst, sym, w64}
 use Rattle.std.proofs.lemmas.Int.{to_z-of_z}
 use Rattle.open_laws.specs.Owned.{sock_in}
 use Rattle.proc_descs.specs.Naming.{named_by}
 use Rattle.proc_descs.proofs.NumberCloses.{no_some}
 use Rattle.proc_descs.proofs.NumberNames.{desc_named_by}
-use Rattle.proc_socks.specs.Finding.{IsOnSocket, socket_in, socket_named}
+use Rattle.proc_socks.specs.Finding.{socket_in}
 use Rattle.proc_socks.proofs.Told.{on_named_socket}
 use Rattle.proc_socks.proofs.finding.is_on_socket.Goals as goal
 

@@ -1,4 +1,4 @@
-use Rattle.std.proofs.Common.{◌∙◌, ◌≡◌, ◌+◌, false, [], ◌∷◌, None, Some, ap, arith, refl, subst, sym}
+use Rattle.std.proofs.Common.{◌∙◌, ◌≡◌, ◌+◌, false, [], ◌∷◌, Some, ap, arith, refl, subst, sym}
 use Rattle.std.specs.Prelude.{IfSome}
 use Rattle.kabi_values.specs.declared.replies.Reply.TheVariants.{Pair}
 use Rattle.kabi_values.specs.declared.errnos.Errno.TheVariants.{EMFILE}

@@ -1,4 +1,4 @@
-use Rattle.std.proofs.Common.{◌∙◌, ◌≡◌, false, [], ◌∷◌, Some, ap, pos, refl, subst, sym, length}
+use Rattle.std.proofs.Common.{◌∙◌, false, [], ap, pos, refl, subst, sym, length}
 use Rattle.std.specs.Prelude.{IfSome}
 use Rattle.kabi_values.specs.declared.replies.Reply.TheVariants.{Val}
 use Rattle.kabi_values.specs.declared.errnos.Errno.TheVariants.{EMFILE}

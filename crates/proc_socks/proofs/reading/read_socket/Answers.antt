@@ -1,23 +1,16 @@
-use Rattle.std.proofs.Common.{◌≡◌, ◌∙◌, ◌+◌, ◌-◌, ◌<◌, false, [], ap, pos, refl, subst, sym, true, None, Some, w64}
+use Rattle.std.proofs.Common.{◌≡◌, ◌<◌, false, [], pos, refl, subst, true, w64}
 use Rattle.std.specs.Int.{cast_unsigned}
 use Rattle.std.proofs.lemmas.Int.{to_z-of_z}
 use Rattle.kabi_calls.specs.Arguments.{count_of}
 use Rattle.kabi_calls.specs.declared.calls.Call.TheVariants as call
-use Rattle.kabi_values.specs.declared.errnos.Errno.TheVariants.{EBADF, EFAULT, ENOTCONN}
+use Rattle.kabi_values.specs.declared.errnos.Errno.TheVariants.{EBADF, EFAULT}
 use Rattle.kabi_values.specs.declared.replies.Reply.TheVariants.{Fail, Val}
-use Rattle.posix_defs.specs.Machine.{blocks}
-use Rattle.posix_defs.specs.Memory.{loaded}
-use Rattle.posix_defs.specs.Sockets.{sock_read, sock_write, stage_at}
+use Rattle.posix_defs.specs.Sockets.{sock_read}
 use Rattle.proc_queues.proofs.Finding.{alive_listed}
 use Rattle.proc_queues.proofs.Leading.{leads_over}
-use Rattle.proc_queues.proofs.Remembering.{mapped_so, memory_is}
+use Rattle.proc_queues.proofs.Remembering.{mapped_so}
 use Rattle.proc_queues.proofs.RightBytes.{moved_bytes}
-use Rattle.proc_queues.specs.Moving.{moved_in}
-use Rattle.proc_table.specs.Procs.{memory_at}
-use Rattle.proc_table.proofs.MemoryLemmas.{memory_at-stands}
 use Rattle.proc_socks.specs.Finding.{FindsToMove}
-use Rattle.proc_socks.specs.Moving.{WritesSocket}
-use Rattle.proc_socks.proofs.Moved.{kept_changed}
 use Rattle.proc_socks.proofs.SocketReads.{kept_taken, read_leads, read_nothing, read_refused, read_unmapped}
 use Rattle.proc_socks.proofs.Told.{keyed_there, socket_there}
 use Rattle.proc_socks.proofs.reading.read_socket.Goals as goal

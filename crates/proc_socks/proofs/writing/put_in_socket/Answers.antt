@@ -1,7 +1,7 @@
-use Rattle.std.proofs.Common.{◌≡◌, ◌-◌, ◌+◌, ◌∙◌, ap, arith, min, subst}
+use Rattle.std.proofs.Common.{◌≡◌, ◌-◌, ◌∙◌, ap, arith, min, subst}
 use Rattle.std.proofs.lemmas.List.{length-take-le}
 use Rattle.posix_defs.specs.Memory.{loaded}
-use Rattle.posix_defs.specs.Sockets.{Sockets, sock_write}
+use Rattle.posix_defs.specs.Sockets.{sock_write}
 use Rattle.usock_core.specs.Standing.{StandsFor as SocketsStandFor}
 use Rattle.proc_table.specs.Procs.{memory_at}
 use Rattle.proc_table.proofs.MemoryLemmas.{memory_at-stands}

@@ -1,5 +1,4 @@
 use Rattle.std.proofs.Common.{◌≡◌, true, false, sym, ◌∙◌}
-use Rattle.kheap_laws.proofs.PaidLemmas.{TakesNothing-refl}
 use Rattle.store_objects.proofs.WhatGoes.{can_where, kept_evicted, may_where, stands_evicted}
 use Rattle.store_objects.proofs.evicting.evict.Goals as goal
 
