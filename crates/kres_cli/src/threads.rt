@@ -27,6 +27,7 @@ use std::alloc::Global;
 use std::marker::Brand;
 use std::sync::Wait;
 use std::thread::Threads;
+use thread_laws::a_tree_of_files_crosses_threads;
 use victim_core::{Score, Scorer};
 use work_crew::{Door, run_workers};
 
@@ -121,6 +122,7 @@ fn run_threads<R: Threads + Wait + Sync, D: Door + Sync, F: Scorer + Send, G: Sc
 {
     let (charge, seat) = Charge::boot(alloc, script.heap)?;
     let store = Store::boot(alloc, script, score)?;
+    a_tree_of_files_crosses_threads();
     let closed = run_workers::<Store<F, G>, Brand, D, R>(
         rt,
         alloc,

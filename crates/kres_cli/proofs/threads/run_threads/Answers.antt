@@ -1,5 +1,16 @@
+use denote.Param.Send.{sendable}
+use Rattle.std.proofs.Crossing.{crosses}
+use Rattle.kabi_types.proofs.scripts.Script.TheSendSync as script
+use Rattle.kheap_slabs.proofs.kheap.KHeap.TheSendSync as kheap
+use Rattle.proc_table.proofs.tables.ProcTable.TheSendSync as procs
+use Rattle.victim_core.proofs.scores.Score.TheSendSync as score
 use Rattle.kres_cli.proofs.Histories.{few_entries, has_end, ran_by_threads}
 use Rattle.kres_cli.proofs.threads.run_threads.Goals as goal
+
+-- the store is made of what may cross threads by itself, and of the tree of files
+pub run_workers-requires-send-T : goal.run_workers-requires-send-T
+run_workers-requires-send-T g c κs within =
+    search (sendable, crosses, c.a_tree_of_files_crosses_threads.ensures, kheap.the_send, procs.the_send, script.the_field_send, score.the_field_send, c.type_bounds.send-F, c.type_bounds.send-G) depth 16 fits 20000
 
 pub report_closed-reported-requires-clause-ended : goal.report_closed-reported-requires-clause-ended
 report_closed-reported-requires-clause-ended g c =
