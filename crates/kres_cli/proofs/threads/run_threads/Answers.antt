@@ -1,16 +1,28 @@
-use denote.Param.Send.{sendable}
+use denote.Exit.{no}
+use denote.Param.{param}
+use denote.Param.Send.{IsSend, arg_send, param_send, recorded_send, sendable, struct_send, view_send}
+use denote.Struct.Declared as declared
 use Rattle.std.proofs.Crossing.{crosses}
+use Rattle.call_run.specs.contracts.store.Store.{the_row as store_row}
+use Rattle.call_run.specs.contracts.store.Store.TheInside as inside
 use Rattle.kabi_types.proofs.scripts.Script.TheSendSync as script
 use Rattle.kheap_slabs.proofs.kheap.KHeap.TheSendSync as kheap
 use Rattle.proc_table.proofs.tables.ProcTable.TheSendSync as procs
+use Rattle.store_objects.specs.contracts.objects.Objects as held
 use Rattle.victim_core.proofs.scores.Score.TheSendSync as score
 use Rattle.kres_cli.proofs.Histories.{few_entries, has_end, ran_by_threads}
 use Rattle.kres_cli.proofs.threads.run_threads.Goals as goal
 
--- the store is made of what may cross threads by itself, and of the tree of files
+-- the store may cross threads, since each of its fields may
 pub run_workers-requires-send-T : goal.run_workers-requires-send-T
 run_workers-requires-send-T g c κs within =
-    search (sendable, crosses, c.a_tree_of_files_crosses_threads.ensures, kheap.the_send, procs.the_send, script.the_field_send, score.the_field_send, c.type_bounds.send-F, c.type_bounds.send-G) depth 16 fits 20000
+    let objects : IsSend held.the_field.row = struct_send (declared.shape held.the_type) (kheap.the_send, (procs.the_send, (c.a_tree_of_files_crosses_threads.ensures, tt))) in
+    let fields : IsSend (inside.the_field (param 2 g.row.F) (param 3 g.row.G) g.F.Scorer g.G.Scorer).row =
+    struct_send (declared.shape (inside.the_type (param 2 g.row.F) (param 3 g.row.G) g.F.Scorer g.G.Scorer))
+    (script.the_field_send, (objects, (search (sendable, crosses) depth 20, (score.the_field_send (param 2 g.row.F) (param 3 g.row.G) g.F.Scorer g.G.Scorer c.type_bounds.send-F c.type_bounds.send-G, tt)))) in
+    let whole : IsSend (store_row (param 2 g.row.F) (param 3 g.row.G) g.F.Scorer g.G.Scorer) =
+    view_send _ _ _ _ _ (recorded_send (inside.the_field (param 2 g.row.F) (param 3 g.row.G) g.F.Scorer g.G.Scorer).row _ _ (inside.the_type (param 2 g.row.F) (param 3 g.row.G) g.F.Scorer g.G.Scorer).to_one fields) in
+    param_send _ _ (arg_send _ no _ whole)
 
 pub report_closed-reported-requires-clause-ended : goal.report_closed-reported-requires-clause-ended
 report_closed-reported-requires-clause-ended g c =

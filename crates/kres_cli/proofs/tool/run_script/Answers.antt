@@ -1,9 +1,13 @@
-use Rattle.std.proofs.Common.{Some, ap, ◌∙◌}
+use Rattle.std.proofs.Common.{Some, ap, subst, sym, ◌∙◌}
+use Rattle.kern_tasks.specs.View.{HasBooted}
+use Rattle.store_objects.specs.Standing.{StoreView}
+use Rattle.kres_cli.specs.Run.{stands}
 use Rattle.kres_cli.proofs.Outcomes.{run_handed}
 use Rattle.kres_cli.proofs.tool.run_script.Goals as goal
 
 pub run_core-reported-requires-clause-booted : goal.run_core-reported-requires-clause-booted
-run_core-reported-requires-clause-booted g c = rw c.in_ok-core.ensures.store c.in_ok-core.ensures.booted
+run_core-reported-requires-clause-booted g c =
+    subst (λ (store : StoreView). HasBooted stands store.script c.in_ok-core.core) (sym c.in_ok-core.ensures.store) c.in_ok-core.ensures.booted
 
 pub returns : goal.returns
 returns g c =
