@@ -1,5 +1,5 @@
 -- At boot the first process stands at the start of the program `init`, in a heap that has the root beside it.
-use Rattle.std.proofs.Common.{◌≡◌, ℕ, zero, suc, ◌+◌, ◌*◌, ◌/◌, ◌<◌, ◌==◌, Bool, true, false, ◌||◌, List, [], ◌∷◌, ◌++◌, map, length, replicate, Option, None, Some, cond, refl, sym, ap, ◌∙◌, subst, arith, inl, inr}
+use Rattle.std.proofs.Common.{◌≡◌, ℕ, zero, suc, ◌+◌, ◌-◌, ◌*◌, ◌/◌, ◌<◌, ◌==◌, Bool, true, false, ◌||◌, List, [], ◌∷◌, ◌++◌, map, length, replicate, Option, None, Some, cond, refl, sym, ap, ◌∙◌, subst, arith, inl, inr}
 use Rattle.std.specs.Prelude.{codes, count_by, if◌then◌else◌, slice_get}
 use Rattle.std.specs.List.{AllByRecursion}
 use Rattle.std.specs.Str.{bytes_eq}
@@ -39,6 +39,9 @@ use Rattle.posix_defs.specs.Account.{no_account}
 use Rattle.posix_defs.specs.Files.Bare.{IsBare}
 use Rattle.posix_defs.specs.Files.Descriptors.{none_open}
 use Rattle.posix_defs.specs.Files.State.{boot_files, descriptors_of}
+use Rattle.posix_defs.proofs.TreeNodes.{none_in}
+use Rattle.posix_defs.specs.DiskFormat.{table_nodes}
+use Rattle.posix_defs.specs.PathCalls.{is_socket_kind, kind_in}
 use Rattle.posix_defs.specs.Tree.{Tree, new_tree, root as root_node}
 use Rattle.posix_defs.specs.World.{boot_kept as kept_at_boot, boot_world, is_in}
 use Rattle.kabi_values.specs.declared.inodes.Inode.{Inode}
@@ -61,7 +64,7 @@ use Rattle.store_objects.specs.declared.objects.Objects.{Objects}
 use Rattle.store_objects.specs.Booting.{HasBooted}
 use Rattle.store_objects.specs.Files.{HaveFiles}
 use Rattle.store_objects.specs.Objects.{AreAtCalls, AreKept, MovesOn, no_owners, procs_of}
-use Rattle.store_objects.specs.Trees.{CachesStay, HasTree, kept_by, name_in, pins_in}
+use Rattle.store_objects.specs.Trees.{CachesStay, HasTree, NamesNoSocket, kept_by, name_in, pins_in}
 use Rattle.store_objects.specs.Standing.{StandsFor}
 use Rattle.store_objects.proofs.GoingOn.{some_same}
 use Rattle.store_objects.proofs.HeldNodes.{alone_pins, held_alone}
@@ -416,12 +419,19 @@ boot_controls script control leads pid proc is = elim (eqb_tells 1 pid) [
     nobody_else : None ≡ Some proc → ⊥
     nobody_else e = cc
 
+-- a new disk has no name of a socket
+unnamed : (blocks : ℕ) → NamesNoSocket (new_tree blocks)
+unnamed blocks zero = refl
+unnamed blocks (suc zero) = refl
+unnamed blocks (suc (suc place)) = ap (λ there. is_socket_kind (kind_in there)) (none_in (table_nodes blocks - 1) place)
+
 -- the tree is a new disk's, whose root alone is held
 boot_has_tree : (script : Script) (objects : Objects) → TreeStands objects.heap objects.tree (new_tree script.disk) root_alone → kept_by objects.tree ≡ kept_at_boot
     → objects.tree.disk.reads ≡ 0 → HasTree objects (boot_world script)
 boot_has_tree script objects stands kept unread = record {
   stands = same_pins objects.heap objects.tree (new_tree script.disk) root_alone (pins_in (boot_plain script))
       (alone_pins (boot_plain script) (held_alone (boot_plain script) boot_home refl)) stands;
+  sockets = unnamed script.disk;
   kept = sym kept;
   reads = sym unread;
 }

@@ -69,7 +69,7 @@ but_root_same n (m ∷ ms) other = go (m == root) refl (but_root_same n ms other
     ]
     go false apart rest = ap (λ b. (m == n) || b) rest
 
-held_same : (plain : Plain) (n : ℕ) → is_in n (held_nodes plain) ≡ is_in n (root ∷ opened_nodes plain.files ++ directories_of plain.table)
+pub held_same : (plain : Plain) (n : ℕ) → is_in n (held_nodes plain) ≡ is_in n (root ∷ opened_nodes plain.files ++ directories_of plain.table)
 held_same plain n = go (root == n) refl
   where
     opened : List ℕ

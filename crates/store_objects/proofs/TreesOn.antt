@@ -20,7 +20,7 @@ use Rattle.store_objects.specs.declared.objects.Objects.{Objects}
 use Rattle.store_objects.specs.Files.{HaveFiles}
 use Rattle.store_objects.specs.Objects.{AreKept}
 use Rattle.store_objects.specs.Standing.{StandsFor}
-use Rattle.store_objects.specs.Trees.{CachesStay, HasTree, KeepsTree, TreeStays, held_nodes, kept_by, pins_in}
+use Rattle.store_objects.specs.Trees.{CachesStay, HasTree, KeepsTree, NamesNoSocket, TreeStays, held_nodes, kept_by, pins_in}
 use Rattle.store_objects.proofs.HeldNodes.{held_alone}
 use Rattle.store_objects.proofs.TreeStays.{off_by_heap, off_nodes}
 
@@ -79,6 +79,7 @@ tree_on old new world next stays tree held kept reads has = record {
       (subst (λ (t : Tree). Stands new.heap old.tree t (pins_in next.plain)) (sym tree)
       (same_pins new.heap old.tree world.plain.files.tree (pins_in world.plain) (pins_in next.plain) (λ number. ap (counted number) (sym held))
       (stands_on old.heap new.heap old.tree world.plain.files.tree (pins_in world.plain) stays.caches has.stands)));
+  sockets = subst (λ (t : Tree). NamesNoSocket t) (sym tree) has.sockets;
   kept = kept ∙ has.kept ∙ ap kept_by (sym stays.tree);
   reads = reads ∙ has.reads ∙ ap (λ (fs : TreeView). fs.disk.reads) (sym stays.tree);
 }

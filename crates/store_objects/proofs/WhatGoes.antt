@@ -252,6 +252,7 @@ module _ (script : Script) (objects : Objects) (what : Cached) (heap : Heap) (fs
       let next : World = record world { kept = kept_by fs; reads = world.reads } in
       let has : HasTree after next = record {
         stands = on world.plain.files.tree (pins_in world.plain) stands.tree.stands;
+        sockets = stands.tree.sockets;
         kept = refl;
         reads = stands.tree.reads ∙ sym (gone_reads what objects.heap heap objects.tree fs gone);
       } in (

@@ -1,10 +1,11 @@
 -- The tree of files beside the heap: who holds its nodes, what its caches keep, and for which part of a world it stands.
-use Rattle.std.specs.Prelude.{ℕ, ◌≡◌, ◌==◌, if◌then◌else◌, List, [], ◌∷◌, ◌++◌, count_by, map, take}
+use Rattle.std.specs.Prelude.{ℕ, ◌≡◌, ◌==◌, false, if◌then◌else◌, List, [], ◌∷◌, ◌++◌, count_by, map, take}
 use Rattle.std.specs.Map.{keys_of}
 use Rattle.kheap_slabs.specs.Heap.{Heap}
 use Rattle.lru_index.specs.declared.keys.NameKey.{NameKey}
 use Rattle.memfs_ops.specs.FileTree.{TreeView, Stands}
 use Rattle.posix_defs.specs.Files.State.{opened_nodes}
+use Rattle.posix_defs.specs.PathCalls.{is_socket}
 use Rattle.posix_defs.specs.Plain.{Plain, root}
 use Rattle.posix_defs.specs.Tree.{Tree}
 use Rattle.posix_defs.specs.World.{Kept, World, directories_of}
@@ -46,10 +47,15 @@ kept_by fs = record {
 abbrev pub KeepsTree : Heap → TreeView → Type 0
 KeepsTree h fs = (tree : Tree) × (pins : ℕ → ℕ) × Stands h fs tree pins
 
--- It stands for a world's tree, whose nodes are held as the machine holds them; its caches keep what is kept in the world, and
--- its disk was read as often as the world says.
+-- no node of a tree is a socket's name, as none is until a call that can be run makes one
+abbrev pub NamesNoSocket : Tree → Type 0
+NamesNoSocket tree = (number : ℕ) → is_socket tree number ≡ false
+
+-- It stands for a world's tree, whose nodes are held as the machine holds them, and none of which is a socket's name; its caches
+-- keep what is kept in the world, and its disk was read as often as the world says.
 pub record HasTree (objects : Objects) (world : World) : Type 0 where
   pub stands : Stands objects.heap objects.tree world.plain.files.tree (pins_in world.plain)
+  pub sockets : NamesNoSocket world.plain.files.tree
   pub kept : world.kept ≡ kept_by objects.tree
   pub reads : world.reads ≡ objects.tree.disk.reads
 
