@@ -23,6 +23,15 @@ pub blocks_as : (script : Script) (plain : Plain) (pid : ℕ) (which options : �
     → blocks (machine script plain pid (call.Waitpid which options)) ≡ blocks (waitpid script plain pid which options)
 blocks_as script plain pid which options right = ap (λ fault. blocks (unless_wrong script plain pid fault (waitpid script plain pid which options))) right
 
+-- one with a wrong operand doesn't
+pub wrong_goes_on : (script : Script) (plain : Plain) (pid : ℕ) (which options : ℤ) → is_none (argument_fault (call.Waitpid which options)) ≡ false
+    → blocks (machine script plain pid (call.Waitpid which options)) ≡ false
+wrong_goes_on script plain pid which options wrong = go (argument_fault (call.Waitpid which options)) wrong
+  where
+    go : (fault : Option Errno) → is_none fault ≡ false → blocks (unless_wrong script plain pid fault (waitpid script plain pid which options)) ≡ false
+    go None e = cc
+    go (Some errno) e = refl
+
 -- what is right has no fault
 pub no_fault : (fault : Option Errno) → is_none fault ≡ true → fault ≡ None
 no_fault None e = refl

@@ -20,7 +20,7 @@ use Rattle.store_objects.proofs.Forgetting.{forgotten}
 
 -- An account that the objects stand for stays as it is where the machine stays: it has forgotten the dead, and its fronts follow
 -- from lengths.
-settled_account : (script : Script) (objects : Objects) (world : World) → StandsFor script objects world → account_on world.plain world.plain world.account ≡ world.account
+pub settled_account : (script : Script) (objects : Objects) (world : World) → StandsFor script objects world → account_on world.plain world.plain world.account ≡ world.account
 settled_account script objects world stands =
     let fronts = stands.files.settled in
     ap (λ (frames : Frames). record {

@@ -15,7 +15,7 @@ use Rattle.kheap_laws.proofs.PaidLemmas.{IsPaid-bytes, TakesNothing-bytes}
 use Rattle.posix_defs.specs.Needs.{bound, chunks_for, is_write, need_of, objects_of, write_need}
 use Rattle.posix_defs.specs.Sizes.{bytes_of, no_need}
 use Rattle.posix_defs.proofs.PriceLemmas.{greater, right_needs, sums}
-use Rattle.store_objects.specs.Purses.{need_for}
+use Rattle.store_objects.specs.Purses.{need_for, unspent}
 use Rattle.store_objects.specs.Uses.{UsesAtMost}
 use Rattle.store_objects.specs.declared.purses.Target.{Target}
 use Rattle.store_objects.specs.declared.purses.Target.TheVariants.{File, Queue}
@@ -132,6 +132,6 @@ can_pay heap purse which has room = fits (live_bytes heap) (bound which) (left_b
     fits live bytes left size same room = omega arith
 
 -- the objects that it may make
-pub left_is : (purse : Purse) (target : Target) (need : Need) (which that : Call) → purse.left ≡ need_for target need → need ≡ need_of which → argument_fault which ≡ None → which ≡ that
+pub left_is : (purse : Purse) (target : Target) (need : Need) (which that : Call) → purse ≡ unspent (need_for target need) → need ≡ need_of which → argument_fault which ≡ None → which ≡ that
     → purse.left ≡ need_for target (objects_of that)
-left_is purse target need which that left needed right is = left ∙ ap (need_for target) (needed ∙ right_needs which right ∙ ap objects_of is)
+left_is purse target need which that is_of needed right is = ap (λ (p : Purse). p.left) is_of ∙ ap (need_for target) (needed ∙ right_needs which right ∙ ap objects_of is)

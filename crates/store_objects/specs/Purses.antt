@@ -1,5 +1,7 @@
 -- What a purse has, by what its call moves bytes of.
+use Rattle.std.specs.Prelude.{[]}
 use Rattle.kabi_values.specs.declared.classes.Need.{Need}
+use Rattle.kheap_shelves.specs.Purse.{Purse}
 use Rattle.store_objects.specs.declared.purses.Target.{Target}
 use Rattle.store_objects.specs.declared.purses.Target.TheVariants.{File, Queue}
 
@@ -8,3 +10,7 @@ use Rattle.store_objects.specs.declared.purses.Target.TheVariants.{File, Queue}
 abbrev pub need_for : Target → Need → Need
 need_for File need = record need { chunk = 0 }
 need_for Queue need = record need { block = 0 }
+
+-- a purse of this need of which nothing is spent, and through which nothing was filled
+abbrev pub unspent : Need → Purse
+unspent need = record { need = need; left = need; vnodes = []; names = []; blocks = [] }

@@ -16,6 +16,7 @@ use Rattle.posix_defs.specs.MemoryCalls.{remembered}
 use Rattle.posix_defs.specs.Plain.{Plain, answered, control_of, last_pid}
 use Rattle.posix_defs.specs.Process.{is_alive}
 use Rattle.posix_defs.specs.Turn.{Tells, account_after}
+use Rattle.posix_defs.specs.ValidScript.{IsValid}
 use Rattle.posix_defs.specs.World.{World}
 use Rattle.posix_defs.specs.declared.turner.Turned.{Turned}
 use Rattle.proc_table.specs.Accounting.{HasAccount}
@@ -40,10 +41,14 @@ pub record AreProcesses (script : Script) (objects : Objects) (plain : Plain) : 
   pub last : objects.procs.last ≡ last_pid plain
   pub controls : (pid : ℕ) (proc : Proc) → proc_of (procs_of objects) pid ≡ Some proc → proc.status ≡ None → settled script (control_of plain pid) ≡ proc.control
 
+-- A script is valid, and no program of it makes a call that can't be run.
+pub record MayRun (script : Script) : Type 0 where
+  pub valid : IsValid script
+  pub built : can_run script ≡ true
+
 -- A store stands for a world: each family of its objects for its part of the world.
 pub record StandsFor (script : Script) (objects : Objects) (world : World) : Type 0 where
-  -- no program makes a call that can't be run
-  pub runs : can_run script ≡ true
+  pub runs : MayRun script
   pub kept : AreKept script objects
   pub processes : AreProcesses script objects world.plain
   -- one numbering of the heap's pages makes the account of frames true

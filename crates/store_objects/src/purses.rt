@@ -4,7 +4,7 @@ ghost use Rattle.std.specs.Prelude.{◌≡◌, ◌≤◌};
 ghost use Rattle.kabi_calls.specs.declared.calls.Call.{Call};
 ghost use Rattle.kheap_shelves.specs.Purse.{left_bytes};
 ghost use Rattle.posix_defs.specs.Needs.{bound, need_of};
-ghost use Rattle.store_objects.specs.Purses.{need_for};
+ghost use Rattle.store_objects.specs.Purses.{need_for, unspent};
 
 use kabi_types::Need;
 use kheap_shelves::Purse;
@@ -21,7 +21,7 @@ pub enum Target {
 /// The purse of a call with this need and this target. It never has more than the call's bound, which is below what blocks and
 /// chunks of a write come to together.
 pub fn purse_for(need: Need, target: Target) -> Purse
-    ensures left { result.left ≡ need_for target need }
+    ensures value { result ≡ unspent (need_for target need) }
     ensures within { (call : Call) → need ≡ need_of call → left_bytes result ≤ bound call }
 {
     match target {

@@ -39,11 +39,11 @@ returns-in-Write-clause-uses c =
 
 pub pipe-requires-clause-left_pipe : goal.pipe-requires-clause-left_pipe
 pipe-requires-clause-left_pipe c =
-    subst (λ (n : Need). 0 < n.pipe) (sym (left_is c.purse_for-purse.result Queue c.args.need c.args.call.now (call.Pipe) c.purse_for-purse.ensures.left c.requires.needed c.requires.right c.in-Pipe.is)) (omega arith)
+    subst (λ (n : Need). 0 < n.pipe) (sym (left_is c.purse_for-purse.result Queue c.args.need c.args.call.now (call.Pipe) c.purse_for-purse.ensures.value c.requires.needed c.requires.right c.in-Pipe.is)) (omega arith)
 
 pub pipe-requires-clause-left_descs : goal.pipe-requires-clause-left_descs
 pipe-requires-clause-left_descs c =
-    subst (λ (n : Need). 2 ≤ n.desc) (sym (left_is c.purse_for-purse.result Queue c.args.need c.args.call.now (call.Pipe) c.purse_for-purse.ensures.left c.requires.needed c.requires.right c.in-Pipe.is)) (omega arith)
+    subst (λ (n : Need). 2 ≤ n.desc) (sym (left_is c.purse_for-purse.result Queue c.args.need c.args.call.now (call.Pipe) c.purse_for-purse.ensures.value c.requires.needed c.requires.right c.in-Pipe.is)) (omega arith)
 
 pub returns-in-Pipe-clause-does : goal.returns-in-Pipe-clause-does
 returns-in-Pipe-clause-does c =
@@ -56,7 +56,7 @@ read-requires-clause-left c =
     subst (λ z. pages_touched (count_of z) (count_of (to_z w64 (of_z w64 c.in-Read.n))) ≤ c.purse_for-purse.result.left.page) (sym addr)
     (subst (λ z. pages_touched (count_of c.in-Read.addr) (count_of z) ≤ c.purse_for-purse.result.left.page) (sym n)
     (subst (λ (need : Need). pages_touched (count_of c.in-Read.addr) (count_of c.in-Read.n) ≤ need.page)
-    (sym (left_is c.purse_for-purse.result Queue c.args.need c.args.call.now (call.Read c.in-Read.fd c.in-Read.addr c.in-Read.n) c.purse_for-purse.ensures.left c.requires.needed c.requires.right c.in-Read.is)) (le_refl _)))
+    (sym (left_is c.purse_for-purse.result Queue c.args.need c.args.call.now (call.Read c.in-Read.fd c.in-Read.addr c.in-Read.n) c.purse_for-purse.ensures.value c.requires.needed c.requires.right c.in-Read.is)) (le_refl _)))
 
 pub returns-in-Read-clause-does : goal.returns-in-Read-clause-does
 returns-in-Read-clause-does c =
@@ -71,7 +71,7 @@ write-requires-clause-left c =
     let n : to_z w64 (of_z w64 c.in-Write.n) ≡ c.in-Write.n = search (rules, to_z-of_z) in
     subst (λ z. chunks_for (count_of z - c.in-Write.done) ≤ c.purse_for-purse.result.left.chunk) (sym n)
     (subst (λ (need : Need). chunks_for (count_of c.in-Write.n - c.in-Write.done) ≤ need.chunk)
-    (sym (left_is c.purse_for-purse.result Queue c.args.need c.args.call.now (call.Write c.in-Write.fd c.in-Write.addr c.in-Write.n c.in-Write.done) c.purse_for-purse.ensures.left c.requires.needed c.requires.right c.in-Write.is)) (le_refl _))
+    (sym (left_is c.purse_for-purse.result Queue c.args.need c.args.call.now (call.Write c.in-Write.fd c.in-Write.addr c.in-Write.n c.in-Write.done) c.purse_for-purse.ensures.value c.requires.needed c.requires.right c.in-Write.is)) (le_refl _))
 
 pub returns-in-Write-clause-does : goal.returns-in-Write-clause-does
 returns-in-Write-clause-does c =

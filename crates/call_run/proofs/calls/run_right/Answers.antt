@@ -40,12 +40,12 @@ returns-in-Store-clause-uses c =
 pub fork-requires-clause-left_proc : goal.fork-requires-clause-left_proc
 fork-requires-clause-left_proc c =
     subst (λ (n : Need). 0 < n.proc)
-    (sym (left_is c.purse_for-purse.result File c.args.need c.args.call.now call.Fork c.purse_for-purse.ensures.left c.requires.needed c.requires.right c.in-Fork.is)) (omega arith)
+    (sym (left_is c.purse_for-purse.result File c.args.need c.args.call.now call.Fork c.purse_for-purse.ensures.value c.requires.needed c.requires.right c.in-Fork.is)) (omega arith)
 
 pub fork-requires-clause-left_nodes : goal.fork-requires-clause-left_nodes
 fork-requires-clause-left_nodes c =
     subst (λ (n : Need). 4 ≤ n.node)
-    (sym (left_is c.purse_for-purse.result File c.args.need c.args.call.now call.Fork c.purse_for-purse.ensures.left c.requires.needed c.requires.right c.in-Fork.is)) (omega arith)
+    (sym (left_is c.purse_for-purse.result File c.args.need c.args.call.now call.Fork c.purse_for-purse.ensures.value c.requires.needed c.requires.right c.in-Fork.is)) (omega arith)
 
 pub returns-in-Fork-clause-does : goal.returns-in-Fork-clause-does
 returns-in-Fork-clause-does c =
@@ -57,7 +57,7 @@ mmap-requires-clause-left c =
     let length : to_z w64 (of_z w64 c.in-Mmap.length) ≡ c.in-Mmap.length = search (rules, to_z-of_z) in
     subst (λ z. nodes_for (pages_in (count_of z)) ≤ c.purse_for-purse.result.left.node) (sym length)
     (subst (λ (n : Need). nodes_for (pages_in (count_of c.in-Mmap.length)) ≤ n.node)
-    (sym (left_is c.purse_for-purse.result File c.args.need c.args.call.now (call.Mmap c.in-Mmap.length) c.purse_for-purse.ensures.left c.requires.needed c.requires.right c.in-Mmap.is)) (le_refl _))
+    (sym (left_is c.purse_for-purse.result File c.args.need c.args.call.now (call.Mmap c.in-Mmap.length) c.purse_for-purse.ensures.value c.requires.needed c.requires.right c.in-Mmap.is)) (le_refl _))
 
 pub returns-in-Mmap-clause-does : goal.returns-in-Mmap-clause-does
 returns-in-Mmap-clause-does c =
@@ -69,7 +69,7 @@ store-requires-clause-left c =
     let addr : to_z w64 (of_z w64 c.in-Store.addr) ≡ c.in-Store.addr = search (rules, to_z-of_z) in
     subst (λ z. pages_touched (count_of z) (length c.in-Store.bytes) ≤ c.purse_for-purse.result.left.page) (sym addr)
     (subst (λ (n : Need). pages_touched (count_of c.in-Store.addr) (length c.in-Store.bytes) ≤ n.page)
-    (sym (left_is c.purse_for-purse.result File c.args.need c.args.call.now (call.Store c.in-Store.addr c.in-Store.bytes) c.purse_for-purse.ensures.left c.requires.needed c.requires.right c.in-Store.is)) (le_refl _))
+    (sym (left_is c.purse_for-purse.result File c.args.need c.args.call.now (call.Store c.in-Store.addr c.in-Store.bytes) c.purse_for-purse.ensures.value c.requires.needed c.requires.right c.in-Store.is)) (le_refl _))
 
 pub returns-in-Store-clause-does : goal.returns-in-Store-clause-does
 returns-in-Store-clause-does c =

@@ -3,7 +3,7 @@ use Rattle.std.proofs.lemmas.Int.{to_z-of_z}
 use mir.Val.{of_z, to_z}
 use Rattle.kabi_calls.specs.declared.calls.Call.TheVariants.{Poll, Read, Waitpid, Write}
 use Rattle.prog_ctl.specs.declared.waits.Awaited.TheVariants.{Bytes, Child, Events, Room}
-use Rattle.call_run.proofs.Sleeping.{blocks_as, goes_on, is_waiting, no_fault, no_peer, told_one, told_three, told_two, waits_for_peer}
+use Rattle.call_run.proofs.Sleeping.{blocks_as, goes_on, is_waiting, no_fault, no_peer, told_one, told_three, told_two, waits_for_peer, wrong_goes_on}
 use Rattle.call_run.proofs.calls.would_block.Goals as goal
 
 pub would_sleep-requires : goal.would_sleep-requires
@@ -18,6 +18,17 @@ returns-then-may_wait c = λ script world stands call built e.
     let none = no_fault _ (sym c.may_wait.ensures.checked ∙ c.if-may_wait.true) in
     told_two script world.plain c.args.pid call c.would_sleep.result Waitpid _ _ c.in-Some-Child.child c.in-Some-Child.options child options it
     (c.would_sleep.ensures script world stands ∙ sym (blocks_as script world.plain c.args.pid (to_z w64 (of_z w64 c.in-Some-Child.child)) (to_z w64 (of_z w64 c.in-Some-Child.options)) none))
+
+pub returns-else-may_wait : goal.returns-else-may_wait
+returns-else-may_wait c = λ script world stands call built e.
+    let child : to_z w64 (of_z w64 c.in-Some-Child.child) ≡ c.in-Some-Child.child = search (rules, to_z-of_z) in
+    let options : to_z w64 (of_z w64 c.in-Some-Child.options) ≡ c.in-Some-Child.options = search (rules, to_z-of_z) in
+    let seen : c.args.wait ≡ Some (Child c.in-Some-Child.child c.in-Some-Child.options) = search rules in
+    told_two script world.plain c.args.pid call c.may_wait.result Waitpid _ _ c.in-Some-Child.child c.in-Some-Child.options child options
+    (is_waiting call (Child c.in-Some-Child.child c.in-Some-Child.options) (sym seen ∙ e))
+    (c.if-may_wait.false
+    ∙ sym (wrong_goes_on script world.plain c.args.pid (to_z w64 (of_z w64 c.in-Some-Child.child)) (to_z w64 (of_z w64 c.in-Some-Child.options))
+    (sym c.may_wait.ensures.checked ∙ c.if-may_wait.false)))
 
 pub returns-in-Some-Bytes : goal.returns-in-Some-Bytes
 returns-in-Some-Bytes c = λ script world stands call built e.

@@ -11,6 +11,6 @@ go_to_call-requires g c =
 
 pub returns-clause-booted : goal.returns-clause-booted
 returns-clause-booted g c =
-    boot_stands_for c.args.script.now c.in_ok-script.script c.in_ok-objects.objects c.place_of.result c.go_to_call.new.control c.requires.can c.in_ok-script.ensures
+    boot_stands_for c.args.script.now c.in_ok-script.script c.in_ok-objects.objects c.place_of.result c.go_to_call.new.control c.requires.valid c.requires.can c.in_ok-script.ensures
     (c.place_of.ensures ∙ ap (place_of (codes "init")) c.items.ensures) c.go_to_call.ensures.settled
     c.go_to_call.ensures.stands c.go_to_call.ensures.rests c.in_ok-objects.ensures

@@ -9,7 +9,7 @@ pub returns : goal.returns
 returns g c = λ world stands alive.
     let at : StandsFor c.self.inside.script c.self.inside.objects world = subst (λ store. StandsFor store.script store.objects world) (sym c.self.view_is) stands in
     ap not (c.would_block.ensures c.self.inside.script world at (call_of c.self.inside.script world.plain c.args.pid)
-    (next_built c.self.inside.script world.plain c.args.pid at.runs)
+    (next_built c.self.inside.script world.plain c.args.pid at.runs.built)
     (c.waits_for-wait.ensures world at alive))
     ∙ ap (λ store. not (would_block store.script world.plain c.args.pid)) c.self.view_is
 

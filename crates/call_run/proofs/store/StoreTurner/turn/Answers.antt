@@ -22,7 +22,7 @@ turn-requires-clause-may g c =
       at,
       (λ alive. ap (λ call. is_built (kind_of call)) (may.2 alive)
           ∙ ap (λ store. is_built (kind_of (call_of store.script may.0.plain c.args.pid))) (sym c.self.view_is)
-          ∙ next_built script may.0.plain c.args.pid at.runs),
+          ∙ next_built script may.0.plain c.args.pid at.runs.built),
       subst (λ store. live_of may.0 + bound c.args.call.now + reserve ≤ store.script.heap) (sym c.self.view_is) may.3,
     )
 
@@ -44,3 +44,11 @@ returns-clause-turned g c = λ world stands.
       turned.1,
       subst (λ store. TurnsTo store.script world c.args.pid c.args.call.now c.turn.result turned.0) c.self.view_is turned.2,
     )
+
+pub returns-clause-since : goal.returns-clause-since
+returns-clause-since g c = λ world stands.
+    c.turn.ensures.since world (subst (λ store. StandsFor store.script store.objects world) (sym c.self.view_is) stands)
+
+pub returns-clause-high : goal.returns-clause-high
+returns-clause-high g c = λ world stands.
+    c.turn.ensures.high world (subst (λ store. StandsFor store.script store.objects world) (sym c.self.view_is) stands)

@@ -30,4 +30,4 @@ take-turned-requires-clause-built g c =
     let stands : StandsFor c.refuse.new.self.script c.refuse.new.self.objects after =
     c.refuse.ensures.refused before.0 before.1 (sym (c.alive.ensures before.0 before.1) ∙ lived) in
     ap (λ call. is_built (kind_of call)) (c.next-call.ensures after stands (sym (c.alive-2.ensures after stands) ∙ lives))
-    ∙ next_built c.refuse.new.self.script after.plain 1 stands.runs
+    ∙ next_built c.refuse.new.self.script after.plain 1 stands.runs.built

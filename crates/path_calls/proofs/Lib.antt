@@ -1,0 +1,4 @@
+pub mod NamesKept
+pub mod WaysKnown
+pub mod Walked
+pub mod Stated

@@ -1,0 +1,113 @@
+-- The objects of a store once a call has looked along a path: the caches are others, and the rest is as it was.
+use Rattle.std.proofs.Common.{◌≡◌, ℕ, ◌+◌, ◌≤◌, ◌&&◌, ◌||◌, Bool, true, false, length, Option, None, Some, is_none, IsSome, Ok, Err, Result, refl, ap, sym, ◌∙◌, subst, arith}
+use Rattle.std.specs.Prelude.{IsOk}
+use Rattle.std.specs.Map.{keys_of}
+use Rattle.std.specs.List.{AllByRecursion}
+use Rattle.kabi_calls.specs.Arguments.{argument_fault}
+use Rattle.kabi_calls.specs.PathParts.{components}
+use Rattle.kabi_calls.specs.declared.calls.Call.{Call}
+use Rattle.kabi_types.specs.declared.scripts.Control.{Control}
+use Rattle.kabi_types.specs.declared.scripts.Script.{Script}
+use Rattle.kabi_values.specs.declared.classes.Class.TheVariants as class
+use Rattle.kabi_values.specs.declared.errnos.Errno.{Errno}
+use Rattle.kabi_values.specs.declared.replies.Reply.{Reply}
+use Rattle.kheap_shelves.specs.Objects.{count}
+use Rattle.kheap_shelves.specs.Purse.{Purse}
+use Rattle.kheap_slabs.specs.Heap.{Heap}
+use Rattle.kheap_slabs.specs.Paid.{IsPaid}
+use Rattle.memfs_ops.specs.FileTree.{Looks, Stands, TreeView}
+use Rattle.posix_defs.specs.Needs.{need_of}
+use Rattle.posix_defs.specs.Plain.{Plain, root}
+use Rattle.posix_defs.specs.Process.{directory_in, directory_of, process_at}
+use Rattle.posix_defs.specs.Tree.{Tree, is_directory}
+use Rattle.posix_defs.specs.World.{World}
+use Rattle.proc_table.specs.Procs.{proc_of, process_of}
+use Rattle.proc_table.proofs.FamilyLemmas.{process_is}
+use Rattle.kheap_shelves.specs.declared.objects.Proc.{Proc}
+use Rattle.std.specs.Option.{option_map}
+use Rattle.store_objects.specs.declared.objects.Objects.{Objects}
+use Rattle.store_objects.specs.Objects.{AreKept, Runs, procs_of}
+use Rattle.store_objects.specs.Standing.{StandsFor}
+use Rattle.store_objects.specs.Trees.{HasTree, KeepsTree, kept_by, pins_in}
+use Rattle.store_objects.proofs.Beside.{kept_beside, stands_beside}
+use Rattle.store_objects.proofs.KeptNow.{as_many_blocks, as_many_names, as_many_vnodes}
+
+-- ---- where a process works
+
+-- the directory of who is found is the machine's
+pub works_there : (script : Script) (objects : Objects) (world : World) (pid : ℕ) (proc : Proc) → StandsFor script objects world → proc_of (procs_of objects) pid ≡ Some proc
+    → directory_of world.plain.table pid ≡ proc.cwd
+works_there script objects world pid proc stands found =
+    ap directory_in (process_is objects.heap world.plain.table (procs_of objects) pid stands.processes.table.present ∙ ap (option_map (process_of objects.heap)) found)
+
+-- which today is the root
+pub works_at_root : (script : Script) (objects : Objects) (world : World) (pid : ℕ) (proc : Proc) → StandsFor script objects world → proc_of (procs_of objects) pid ≡ Some proc
+    → proc.cwd ≡ root
+works_at_root script objects world pid proc stands found =
+    stands.home pid (process_of objects.heap proc)
+    (process_is objects.heap world.plain.table (procs_of objects) pid stands.processes.table.present ∙ ap (option_map (process_of objects.heap)) found)
+
+-- and so a directory of the tree
+pub works_in_directory : (script : Script) (objects : Objects) (world : World) (pid : ℕ) (proc : Proc) → StandsFor script objects world → proc_of (procs_of objects) pid ≡ Some proc
+    → is_directory world.plain.files.tree proc.cwd ≡ true
+works_in_directory script objects world pid proc stands found =
+    ap (is_directory world.plain.files.tree) (works_at_root script objects world pid proc stands found) ∙ stands.tree.stands.is_tree.root_directory
+
+-- ---- once it has looked
+
+module _ (script : Script) (old : Objects) (heap : Heap) (fs : TreeView) (before after : Purse) (looks : Looks old.heap heap before after old.tree fs) where
+  abbrev pub mid : Objects
+  mid = record { heap = heap; procs = old.procs; tree = fs }
+
+  beside : heap ≡ record old.heap { vnodes = heap.vnodes; names = heap.names; blocks = heap.blocks; high = heap.high }
+  beside = looks.on.heap
+
+  pub kept_mid : AreKept script old → AreKept script mid
+  kept_mid kept =
+      let keeps : KeepsTree heap fs = (kept.caches.0, kept.caches.1, looks.stands kept.caches.0 kept.caches.1 kept.caches.2) in
+      subst (λ (h : Heap). AreKept script (record { heap = h; procs = old.procs; tree = fs })) (sym beside)
+      (kept_beside script old heap.vnodes heap.names heap.blocks heap.high old.heap.marks fs kept (subst (λ (h : Heap). KeepsTree h fs) beside keeps))
+
+  pub runs_mid : (pid : ℕ) (control : Control) → Runs old pid control → Runs mid pid control
+  runs_mid pid control runs =
+      subst (λ (h : Heap). Runs (record { heap = h; procs = old.procs; tree = fs }) pid control) (sym beside)
+      (record { proc = runs.proc; found = runs.found; up = runs.up; at_call = runs.at_call })
+
+  -- the world with what is kept now, and the reads
+  abbrev pub looked : World → World
+  looked world = record world { kept = kept_by fs; reads = fs.disk.reads }
+
+  pub stands_mid : (world : World) → StandsFor script old world → StandsFor script mid (looked world)
+  stands_mid world stands =
+      let has : HasTree mid (looked world) = record { stands = looks.stands world.plain.files.tree (pins_in world.plain) stands.tree.stands; sockets = stands.tree.sockets; kept = refl; reads = refl } in
+      subst (λ (h : Heap). StandsFor script (record { heap = h; procs = old.procs; tree = fs }) (looked world)) (sym beside)
+      (stands_beside script old heap.vnodes heap.names heap.blocks heap.high old.heap.marks fs world world.plain.files.tree (kept_by fs) fs.disk.reads stands
+      (subst (λ (h : Heap). HasTree (record { heap = h; procs = old.procs; tree = fs }) (looked world)) beside has))
+
+  -- no more is kept than the call needs
+  pub record KeepsFew (world : World) (which : Call) : Type 0 where
+    pub names : length (kept_by fs).names ≤ length world.kept.names + (need_of which).name
+    pub blocks : length (kept_by fs).blocks ≤ length world.kept.blocks + (need_of which).block
+    pub vnodes : length (kept_by fs).vnodes ≤ length world.kept.vnodes + (need_of which).vnode
+    pub reads : world.reads ≤ fs.disk.reads
+
+  pub keeps_few : (world : World) (which : Call) → StandsFor script old world → before.left ≡ need_of which → KeepsFew world which
+  keeps_few world which stands needed =
+      let now = looks.stands world.plain.files.tree (pins_in world.plain) stands.tree.stands in
+      let was = stands.tree.stands in
+      let paid : IsPaid old.heap before heap after = looks.on.paid in
+      record {
+        names = few (count heap.names) after.left.name (count old.heap.names) before.left.name (need_of which).name _ _ (paid.counts class.Name) (ap (λ n. n.name) needed)
+            (as_many_names heap fs world.plain now) (as_many_names old.heap old.tree world.plain was ∙ ap (λ k. length k.names) (sym stands.tree.kept));
+        blocks = few (count heap.blocks) after.left.block (count old.heap.blocks) before.left.block (need_of which).block _ _ (paid.counts class.Block) (ap (λ n. n.block) needed)
+            (as_many_blocks heap fs world.plain now) (as_many_blocks old.heap old.tree world.plain was ∙ ap (λ k. length k.blocks) (sym stands.tree.kept));
+        vnodes = few (count heap.vnodes) after.left.vnode (count old.heap.vnodes) before.left.vnode (need_of which).vnode _ _ (paid.counts class.Vnode) (ap (λ n. n.vnode) needed)
+            (as_many_vnodes heap fs world.plain now) (as_many_vnodes old.heap old.tree world.plain was ∙ ap (λ k. length k.vnodes) (sym stands.tree.kept));
+        reads = rises world.reads old.tree.disk.reads fs.disk.reads stands.tree.reads looks.on.reads;
+      }
+    where
+      few : (new left old had need kept was : ℕ) → new + left ≤ old + had → had ≡ need → new ≡ kept → old ≡ was → kept ≤ was + need
+      few new left old had need kept was paid same is before = omega arith
+
+      rises : (world was now : ℕ) → world ≡ was → was ≤ now → world ≤ now
+      rises world was now same more = omega arith

@@ -1,0 +1,44 @@
+//! What is told of a node: `stat`.
+
+ghost use Rattle.std.specs.Prelude.{◌≡◌, ◌≤◌, None};
+ghost use Rattle.kabi_calls.specs.Arguments.{argument_fault};
+ghost use Rattle.kabi_calls.specs.declared.calls.Call.{Call};
+ghost use Rattle.kheap_slabs.specs.Paid.{IsPaid};
+ghost use Rattle.memfs_ops.specs.FileTree.{MayWalk};
+ghost use Rattle.posix_defs.specs.Calls.OnNames.{stat};
+ghost use Rattle.posix_defs.specs.Needs.{need_of};
+ghost use Rattle.posix_defs.specs.World.{World};
+ghost use Rattle.store_objects.specs.Objects.{AreKept, Runs};
+ghost use Rattle.store_objects.specs.Standing.{StandsFor};
+ghost use Rattle.path_calls.specs.Walking.{Reaches};
+
+use crate::directories::directory_of;
+use kabi_types::{Control, Reply, Script};
+use kheap_shelves::Purse;
+use posix_defs::Turned;
+use store_objects::{Objects, go_on};
+
+/// Tells what there is of the node that a path leads to, or the fault of its path.
+pub fn stat(
+    script: &Script,
+    objects: &mut Objects,
+    purse: &mut Purse,
+    pid: u32,
+    control: Control,
+    path: &[u8],
+) -> Turned
+    requires stands { (world : World) × StandsFor script.now objects.old world }
+    requires runs { Runs objects.old pid control }
+    requires right { argument_fault (Call.Stat path.now) ≡ None }
+    requires may { MayWalk objects.old.heap purse.old }
+    requires needed { purse.old.left ≡ need_of (Call.Stat path.now) }
+    ensures kept { AreKept script.now objects.new }
+    ensures paid { IsPaid objects.old.heap purse.old objects.new.heap purse.new }
+    ensures does { Reaches script.now objects.old pid (Call.Stat path.now) (λ plain. stat script.now plain pid path.now) result objects.new }
+{
+    let cwd = directory_of(objects, pid);
+    match objects.tree.stat_path(&mut objects.heap, purse, cwd, path) {
+        Ok(info) => go_on(script, objects, pid, control, Reply::Stat(info)),
+        Err(errno) => go_on(script, objects, pid, control, Reply::Fail(errno)),
+    }
+}
