@@ -6,7 +6,5 @@
 
 mod cache;
 pub mod laws;
-#[cfg(test)]
-mod tests;
 
 pub use cache::BlockCache;

@@ -9,8 +9,6 @@ mod moved;
 mod polled;
 mod queue;
 mod room;
-#[cfg(test)]
-mod tests;
 
 pub use moved::Moved;
 pub use polled::{POLLERR, POLLHUP, POLLIN, POLLOUT, event_if};

@@ -9,6 +9,3 @@ pub use kheap_shelves::{
     Access, Block, Chunk, Desc, DescFlags, Descriptor, Name, Node, Page, PageEntry, Pipe, Proc,
     Purse, QueueParts, Sock, SockState, Target, Vnode,
 };
-
-#[cfg(test)]
-mod tests;

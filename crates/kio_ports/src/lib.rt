@@ -22,6 +22,3 @@ pub use mem_source::MemSource;
 pub use sink::Sink;
 pub use source::Source;
 pub use standard::{ReadSource, StdSink, StdSource, WriteSink};
-
-#[cfg(test)]
-mod tests;

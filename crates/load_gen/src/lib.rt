@@ -4,7 +4,5 @@
 mod rounds;
 mod scripts;
 mod statements;
-#[cfg(test)]
-mod tests;
 
 pub use scripts::generate;

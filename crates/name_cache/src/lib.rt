@@ -7,7 +7,5 @@
 
 mod cache;
 pub mod laws;
-#[cfg(test)]
-mod tests;
 
 pub use cache::NameCache;

@@ -12,6 +12,3 @@ pub use bounds::bound;
 pub use needs::need;
 pub use prices::price;
 pub use tables::table;
-
-#[cfg(test)]
-mod tests;

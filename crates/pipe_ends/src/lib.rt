@@ -8,8 +8,6 @@ pub mod laws;
 mod making;
 mod polling;
 mod reading;
-#[cfg(test)]
-mod tests;
 mod writing;
 
 pub use closing::close_end;

@@ -5,8 +5,6 @@
 
 mod fields;
 mod lines;
-#[cfg(test)]
-mod tests;
 mod words;
 
 pub use lines::{

@@ -83,7 +83,8 @@ module _ {T : Type 0} (stands_for : T → World → Type 0) (marks high : T → 
     | inl found ↦ subst (λ earlier. EventKeeps stands_for marks high script earlier noted) (sym found.1) (event_keeps run old before runs i noted found.0)
     | inr found ↦
         let charge = noted_charge script old last.event last new step in
-        let ran = is_picked (goes_on run old new before after last runs no_end chosen step stands within) in
+        let more = goes_on run old new before after last runs no_end chosen step stands within in
+        let ran = is_picked more in
         subst (λ earlier. EventKeeps stands_for marks high script earlier noted) (sym found.1)
         (subst (EventKeeps stands_for marks high script run) found.0 record {
           old = old;
@@ -91,6 +92,7 @@ module _ {T : Type 0} (stands_for : T → World → Type 0) (marks high : T → 
           led = runs;
           new = new;
           store' = after;
+          leads = more;
           steps = step;
           charged = charge;
           within = subst (λ n. n ≤ script.heap) (sym charge) (charged_within ran enough);

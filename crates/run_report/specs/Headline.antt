@@ -1,5 +1,5 @@
 -- What is so of a run that is reported: it stays within the heap, and its replies are those of a machine with unlimited memory.
-use Rattle.std.specs.Prelude.{ℕ, ◌≡◌, ◌≢◌, ◌<◌, ◌≤◌, true, false, List, length, take, Some, slice_get}
+use Rattle.std.specs.Prelude.{ℕ, ◌≡◌, ◌≢◌, ◌<◌, ◌≤◌, true, false, List, [], ◌∷◌, ◌++◌, length, take, Some, slice_get}
 use Rattle.kabi_values.specs.declared.errnos.Errno.TheVariants.{ENOMEM}
 use Rattle.kabi_values.specs.declared.replies.Reply.TheVariants.{Fail}
 use Rattle.kabi_types.specs.declared.entries.End.{End}
@@ -34,15 +34,16 @@ pub record IsLastResort (script : Script) (s : CoreState) (pid : ℕ) : Type 0 w
   pub other : pid ≢ 1
   pub alive : is_alive s.world.plain.table pid ≡ true
 
--- An event of a run, from the state and the store that the events before it led to. What is told as charged is what is
--- charged behind it, at most the heap. It left the store as it was, or marked it once, and from then on what was in use and
--- what is reserved for all other calls stayed within the heap. A process that it kills was the last resort.
+-- An event of a run, from the state and the store that the events before it led to, to those that it led to. What is told as
+-- charged is what is charged behind it, at most the heap. It left the store as it was, or marked it once, and from then on what was
+-- in use and what is reserved for all other calls stayed within the heap. A process that it kills was the last resort.
 pub record EventKeeps {T : Type 0} (stands_for : T → World → Type 0) (marks high : T → ℕ) (script : Script) (before : List Noted) (noted : Noted) : Type 0 where
   pub old : CoreState
   pub store : T
   pub led : IsRunOver stands_for marks high script script.steps before old store
   pub new : CoreState
   pub store' : T
+  pub leads : IsRunOver stands_for marks high script script.steps (before ++ noted ∷ []) new store'
   pub steps : Steps script old noted new
   pub charged : noted.charged ≡ charged_in new
   pub within : noted.charged ≤ script.heap

@@ -15,8 +15,6 @@ mod naming;
 mod polling;
 mod reading;
 mod steps;
-#[cfg(test)]
-mod tests;
 mod writing;
 
 pub use accepted::Accepted;

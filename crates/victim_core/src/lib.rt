@@ -5,8 +5,6 @@ mod best;
 mod laws;
 mod scorers;
 mod scores;
-#[cfg(test)]
-mod tests;
 
 pub use laws::{victim_is_the_machines, victims_are_one};
 pub use scorers::Scorer;

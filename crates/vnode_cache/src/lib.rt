@@ -10,7 +10,5 @@
 
 mod cache;
 pub mod laws;
-#[cfg(test)]
-mod tests;
 
 pub use cache::VnodeCache;

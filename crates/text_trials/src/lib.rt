@@ -1,0 +1,13 @@
+//! Prices, victims, generated scripts, lines of reports, and the streams that they go through, by hand. Tests alone.
+#![tactic(auto)]
+
+#[cfg(test)]
+mod generated;
+#[cfg(test)]
+mod lines;
+#[cfg(test)]
+mod prices;
+#[cfg(test)]
+mod streams;
+#[cfg(test)]
+mod victims;

@@ -1,0 +1,269 @@
+ghost use Rattle.std.specs.Prelude.{◌≡◌, ◌≢◌, ◌<◌, ◌≤◌, length, vec_len, IfOk, IfErr, OnOk, OnErr, IsErrOf, take};
+ghost use Rattle.std.specs.Io.KnownBytes.{Appends, Consumes, IsAtEnd};
+ghost use Rattle.kio_ports.specs.Faults.{HasRisen};
+
+use kabi_types::Memory;
+use kio_ports::{
+    CleanSink, CleanSource, Failed, MemSink, MemSource, ReadSource, Sink, Source, StdSink,
+    StdSource, WriteSink,
+};
+use std::alloc::Global;
+use std::process::Abort;
+use std::test::Fail;
+
+/// Why a source wasn't read to its end.
+#[derive(Debug, Drop, PartialEq, Eq)]
+enum ReadError {
+    Fault,
+    Memory,
+}
+
+/// What a source gives up to its end, or its first `limit` bytes.
+fn read_to_end<S: Source>(alloc: Global, source: &mut S, limit: usize) -> Result<Vec<u8>, ReadError>
+    ensures bytes { IfOk result (λ text. Consumes (S.left source.old) (S.left source.new) text.items) }
+    ensures within { IfOk result (λ text. vec_len text ≤ limit) }
+    ensures end { IfOk result (λ text. vec_len text < limit → IsAtEnd (S.left source.new)) }
+    ensures no_fault { OnOk result (S.faults source.new ≡ S.faults source.old) }
+    ensures fault { IsErrOf result ReadError.Fault → HasRisen (S.faults source.old) (S.faults source.new) }
+    ensures never_falls { S.faults source.old ≤ S.faults source.new }
+{
+    let mut text = Vec::new(alloc);
+    let mut buf = [0u8; 512];
+    while text.len() < limit {
+        let room = (limit - text.len()).min(512);
+        let count = match source.take(&mut buf[..room]) {
+            Ok(count) => count,
+            Err(Failed) => return Err(ReadError::Fault),
+        };
+        if count == 0 {
+            return Ok(text);
+        }
+        match text.extend_from_slice(&buf[..count]) {
+            Ok(()) => {}
+            Err(_) => return Err(ReadError::Memory),
+        }
+    }
+    Ok(text)
+}
+
+/// Puts a whole text, and answers how many of its bytes went out where a put failed.
+fn write_whole<K: Sink>(sink: &mut K, text: &[u8]) -> Result<(), usize>
+    ensures whole { OnOk result (Appends (K.held sink.old) (K.held sink.new) text.now) }
+    ensures part { IfErr result (λ at. (at < length text.now) × Appends (K.held sink.old) (K.held sink.new) (take at text.now)) }
+    ensures no_fault { OnOk result (K.faults sink.new ≡ K.faults sink.old) }
+    ensures fault { OnErr result (HasRisen (K.faults sink.old) (K.faults sink.new)) }
+    ensures never_falls { K.faults sink.old ≤ K.faults sink.new }
+{
+    let mut done = 0;
+    while done < text.len() {
+        match sink.put(&text[done..]) {
+            Ok(count) => done += count,
+            Err(Failed) => return Err(done),
+        }
+    }
+    Ok(())
+}
+
+/// Takes once into a buffer of `room` bytes, and compares what comes; nothing is a fault. What is behind them stays.
+fn expect_take(rt: &impl Abort, source: &mut MemSource, room: usize, want: Option<&[u8]>)
+    requires { room < 8 }
+{
+    let mut buf = [b'.'; 8];
+    let given = match source.take(&mut buf[..room]) {
+        Ok(count) => Some(&buf[..count]),
+        Err(Failed) => None,
+    };
+    assert!(rt; given == want && buf[7] == b'.', "where {want:?} is wanted");
+}
+
+/// Takes from `abcde` into buffers of `room` bytes, and compares what comes.
+fn expect_takes(
+    rt: &(impl Abort + AllocGlobal),
+    fails: &[u64],
+    most: usize,
+    room: usize,
+    wanted: &[Option<&[u8]>],
+) -> Result<(), Memory>
+    requires most { most ≢ 0 }
+    requires room { room < 8 }
+{
+    let fails = fails.to_vec(rt.alloc())?;
+    let bytes = b"abcde".to_vec(rt.alloc())?;
+    let mut source = MemSource::new(bytes, fails, most);
+    for want in wanted {
+        expect_take(rt, &mut source, room, *want);
+    }
+    assert!(rt; source.calls() == wanted.len() as u64);
+    drop(source);
+    Ok(())
+}
+
+const BY_TWO: &[Option<&[u8]>] = &[Some(b"ab"), Some(b"cd"), Some(b"e"), Some(b"")];
+
+const AFTER_TWO_FAULTS: &[Option<&[u8]>] = &[None, None, Some(b"abcd"), Some(b"e"), Some(b"")];
+
+const ONE_BY_ONE: &[Option<&[u8]>] = &[Some(b"a"), None, Some(b"b"), Some(b"c")];
+
+const INTO_NOTHING: &[Option<&[u8]>] = &[Some(b""), Some(b"")];
+
+#[test]
+fn source_gives_and_fails(rt: HostRuntime) -> Result<(), Fail> {
+    expect_takes(&rt, &[], 9, 2, BY_TWO)?;
+    expect_takes(&rt, &[1, 2], 9, 4, AFTER_TWO_FAULTS)?;
+    expect_takes(&rt, &[2, 7], 1, 4, ONE_BY_ONE)?;
+    expect_takes(&rt, &[], 3, 0, INTO_NOTHING)?;
+    Ok(())
+}
+
+#[test]
+fn source_without_bytes_is_at_its_end(rt: HostRuntime) -> Result<(), Fail> {
+    let mut source = MemSource::new(Vec::new(rt.alloc()), Vec::new(rt.alloc()), 1);
+    let mut buf = [b'.'; 4];
+    let given = source.take(&mut buf);
+    assert!(rt; given == Ok(0) && buf == [b'.'; 4] && source.faults() == 0);
+    drop(source);
+    Ok(())
+}
+
+/// A piece, and how many of its bytes are taken.
+type Put = (&'static [u8], Result<usize, Failed>);
+
+/// Puts each piece, and compares how many of its bytes are taken and what the sink holds in the end.
+fn expect_puts(rt: &impl Abort, sink: &mut MemSink, puts: &[Put], held: &[u8]) {
+    let mut faults = sink.faults();
+    for put in puts {
+        let (piece, want) = *put;
+        let answer = sink.put(piece);
+        faults = faults.saturating_add(u64::from(want.is_err()));
+        assert!(rt; answer == want && sink.faults() == faults, "at {piece:?}");
+    }
+    assert!(rt; sink.bytes() == held && sink.calls() == puts.len() as u64);
+}
+
+const BY_FOUR: &[Put] = &[(b"abcdef", Ok(4)), (b"ef", Ok(2)), (b"", Ok(0))];
+
+const UNTIL_FULL: &[Put] = &[(b"abcd", Ok(3)), (b"d", Err(Failed)), (b"", Ok(0))];
+
+const WITH_FAULTS: &[Put] = &[
+    (b"a", Err(Failed)),
+    (b"b", Ok(1)),
+    (b"c", Err(Failed)),
+    (b"d", Ok(1)),
+];
+
+const SHUT: &[Put] = &[(b"a", Err(Failed)), (b"", Ok(0))];
+
+/// Puts each piece into a new sink of so much room, and compares as above.
+fn expect_sink(
+    rt: &(impl Abort + AllocGlobal),
+    room: usize,
+    fails: &[u64],
+    most: usize,
+    puts: &[Put],
+    held: &[u8],
+) -> Result<(), Memory> {
+    let fails = fails.to_vec(rt.alloc())?;
+    let mut sink = MemSink::new(rt.alloc(), room, fails, most)?;
+    expect_puts(rt, &mut sink, puts, held);
+    drop(sink);
+    Ok(())
+}
+
+#[test]
+fn sink_takes_and_fails(rt: HostRuntime) -> Result<(), Fail> {
+    expect_sink(&rt, 10, &[], 4, BY_FOUR, b"abcdef")?;
+    expect_sink(&rt, 3, &[], 9, UNTIL_FULL, b"abc")?;
+    expect_sink(&rt, 9, &[1, 3], 9, WITH_FAULTS, b"bd")?;
+    expect_sink(&rt, 9, &[], 0, SHUT, b"")?;
+    Ok(())
+}
+
+#[test]
+fn clean_streams_never_fail(rt: HostRuntime) -> Result<(), Fail> {
+    let bytes = b"abc".to_vec(rt.alloc())?;
+    let mut source = CleanSource::new(bytes);
+    let mut buf = [b'.'; 2];
+    let first = source.take(&mut buf);
+    assert!(rt; first == Ok(2) && buf == *b"ab");
+    let second = source.take(&mut buf);
+    assert!(rt; second == Ok(1) && buf == *b"cb");
+    assert!(rt; source.take(&mut buf) == Ok(0));
+    drop(source);
+    let mut sink = CleanSink::new();
+    assert!(rt; sink.put(b"hello") == Ok(5));
+    assert!(rt; sink.put(b"") == Ok(0));
+    Ok(())
+}
+
+const LINE: &[u8] = b"1 p1 ask getpid bound 0 charged 2816\n";
+
+const FAILING_TAKES: &[(u64, Option<&[u8]>)] = &[(1, None), (4, None), (5, Some(LINE))];
+
+fn is_read(read: &Result<Vec<u8>, ReadError>, want: Option<&[u8]>) -> bool {
+    match (read, want) {
+        (Ok(read), Some(bytes)) => read.as_slice() == bytes,
+        (Err(ReadError::Fault), None) => true,
+        _ => false,
+    }
+}
+
+/// Reads the line to its end where one take fails, and compares what comes; nothing is a fault.
+fn expect_read(
+    rt: &(impl Abort + AllocGlobal),
+    fail: u64,
+    want: Option<&[u8]>,
+) -> Result<(), Memory> {
+    let fails = vec![in rt.alloc(); fail]?;
+    let line = LINE.to_vec(rt.alloc())?;
+    let mut source = MemSource::new(line, fails, 16);
+    let read = read_to_end(rt.alloc(), &mut source, 100);
+    assert!(rt; is_read(&read, want), "where take {fail} fails");
+    drop(read);
+    drop(source);
+    Ok(())
+}
+
+#[test]
+fn loops_over_sources(rt: HostRuntime) -> Result<(), Fail> {
+    for (fail, want) in FAILING_TAKES {
+        expect_read(&rt, *fail, *want)?;
+    }
+    Ok(())
+}
+
+#[test]
+fn loops_over_sinks(rt: HostRuntime) -> Result<(), Fail> {
+    let fails = vec![in rt.alloc(); 2]?;
+    let mut sink = MemSink::new(rt.alloc(), 100, fails, 10)?;
+    let first = write_whole(&mut sink, LINE);
+    assert!(rt; first == Err(10) && sink.bytes() == b"1 p1 ask g".as_slice());
+    let rest = write_whole(&mut sink, &LINE[10..]);
+    assert!(rt; rest == Ok(()) && sink.bytes() == LINE);
+    drop(sink);
+    Ok(())
+}
+
+#[test]
+fn standard_streams_are_streams(rt: HostRuntime) {
+    let mut source = StdSource::new(rt.stdin());
+    assert!(rt; source.take(&mut []) == Ok(0));
+    assert!(rt; source.faults() == 0);
+    let mut sink = StdSink::new(rt.stdout());
+    assert!(rt; sink.put(b"") == Ok(0));
+    assert!(rt; sink.put(b"\n") == Ok(1));
+    assert!(rt; sink.faults() == 0);
+}
+
+/// A reader and a writer of std in the place of the standard streams: what is read and written is known.
+#[test]
+fn readers_and_writers_are_streams(rt: HostRuntime) -> Result<(), Fail> {
+    let mut source = ReadSource::new(LINE);
+    let read = read_to_end(rt.alloc(), &mut source, 100)?;
+    assert!(rt; read.as_slice() == LINE && source.faults() == 0);
+    drop(read);
+    let mut sink = WriteSink::new(Vec::new(rt.alloc()));
+    assert!(rt; write_whole(&mut sink, LINE) == Ok(()));
+    assert!(rt; sink.faults() == 0);
+    drop(sink);
+    Ok(())
+}
