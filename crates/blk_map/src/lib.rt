@@ -12,8 +12,6 @@ mod locating;
 mod naming;
 mod settling;
 mod shrinking;
-#[cfg(test)]
-mod tests;
 
 pub use counts::{DIRECT_POINTERS, block_count, data_count};
 pub use growing::grow;

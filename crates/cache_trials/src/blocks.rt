@@ -16,8 +16,8 @@ use std::test::Fail;
 fn booted(alloc: Global) -> Result<(KHeap, BlockCache), Memory>
     ensures { IfOk result (λ made. KeepsBlocks made.0.blocks made.1) }
 {
-    let heap = KHeap::boot(alloc, 16384)?;
     let cache = BlockCache::boot(alloc, 5)?;
+    let heap = KHeap::boot(alloc, 16384)?;
     Ok((heap, cache))
 }
 

@@ -15,8 +15,8 @@ use std::test::Fail;
 fn booted(alloc: Global, capacity: u32) -> Result<(KHeap, BlockCache), Memory>
     ensures { IfOk result (λ made. KeepsBlocks made.0.blocks made.1) }
 {
-    let heap = KHeap::boot(alloc, 65536)?;
     let cache = BlockCache::boot(alloc, capacity)?;
+    let heap = KHeap::boot(alloc, 65536)?;
     Ok((heap, cache))
 }
 

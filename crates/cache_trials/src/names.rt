@@ -17,8 +17,8 @@ use std::test::Fail;
 fn booted(alloc: Global) -> Result<(KHeap, NameCache), Memory>
     ensures { IfOk result (λ made. KeepsNames made.0.names made.1) }
 {
-    let heap = KHeap::boot(alloc, 16384)?;
     let cache = NameCache::boot(alloc, 5)?;
+    let heap = KHeap::boot(alloc, 16384)?;
     Ok((heap, cache))
 }
 

@@ -16,8 +16,8 @@ use std::test::Fail;
 fn booted(alloc: Global, capacity: u32) -> Result<(KHeap, NameCache), Memory>
     ensures { IfOk result (λ made. KeepsNames made.0.names made.1) }
 {
-    let heap = KHeap::boot(alloc, 65536)?;
     let cache = NameCache::boot(alloc, capacity)?;
+    let heap = KHeap::boot(alloc, 65536)?;
     Ok((heap, cache))
 }
 

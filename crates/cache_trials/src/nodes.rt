@@ -17,8 +17,8 @@ use vnode_cache::VnodeCache;
 fn booted(alloc: Global) -> Result<(KHeap, VnodeCache), Memory>
     ensures { IfOk result (λ made. KeepsNodes made.0.vnodes made.1) }
 {
-    let heap = KHeap::boot(alloc, 16384)?;
     let cache = VnodeCache::boot(alloc, 5)?;
+    let heap = KHeap::boot(alloc, 16384)?;
     Ok((heap, cache))
 }
 

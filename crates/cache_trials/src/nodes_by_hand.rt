@@ -18,8 +18,8 @@ use vnode_cache::VnodeCache;
 fn booted(alloc: Global, capacity: u32) -> Result<(KHeap, VnodeCache), Memory>
     ensures { IfOk result (λ made. KeepsNodes made.0.vnodes made.1) }
 {
-    let heap = KHeap::boot(alloc, 65536)?;
     let cache = VnodeCache::boot(alloc, capacity)?;
+    let heap = KHeap::boot(alloc, 65536)?;
     Ok((heap, cache))
 }
 

@@ -8,8 +8,6 @@
 mod descriptions;
 mod descriptors;
 mod laws;
-#[cfg(test)]
-mod tests;
 
 pub use descriptions::{drop_desc, share_desc, share_descs};
 pub use descriptors::Descs;

@@ -8,8 +8,6 @@ mod inodes;
 mod maps;
 mod pointers;
 mod slots;
-#[cfg(test)]
-mod tests;
 mod words;
 
 pub use disks::RamDisk;

@@ -12,8 +12,6 @@ mod making;
 mod naming;
 mod retagging;
 mod room;
-#[cfg(test)]
-mod tests;
 
 pub use freeing::free_node;
 pub use inodes::{inode_at, lowest_node};

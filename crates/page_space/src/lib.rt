@@ -6,7 +6,5 @@ mod frames;
 pub mod laws;
 mod rows;
 mod spaces;
-#[cfg(test)]
-mod tests;
 
 pub use spaces::Space;

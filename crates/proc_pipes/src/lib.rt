@@ -9,8 +9,6 @@ mod controlling;
 mod piping;
 mod sharing;
 mod telling;
-#[cfg(test)]
-mod tests;
 
 pub use closing::close_number;
 pub use controlling::control;

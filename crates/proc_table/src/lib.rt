@@ -6,8 +6,6 @@ pub mod laws;
 mod places;
 mod reaped;
 mod tables;
-#[cfg(test)]
-mod tests;
 
 pub use places::Listed;
 pub use reaped::Reaped;

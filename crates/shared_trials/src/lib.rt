@@ -1,11 +1,13 @@
-//! The shared kernel over stores of its own: one of two processes, and one of a process that sleeps. Tests alone, and what there is of
-//! the processes.
+//! Turns by tickets, the shared kernel over stores of its own (one of two processes, and one of a process that sleeps), and workers over it.
+//! Tests alone, and what there is of the processes.
 #![tactic(auto)]
 
 #[cfg(test)]
 mod asleep;
 #[cfg(test)]
 mod beside;
+#[cfg(test)]
+mod crew;
 #[cfg(test)]
 mod one_thread;
 #[cfg(test)]
@@ -16,6 +18,8 @@ mod scenes;
 #[cfg(test)]
 mod sleeper;
 mod stages;
+#[cfg(test)]
+mod turns;
 #[cfg(test)]
 mod two_threads;
 #[cfg(test)]

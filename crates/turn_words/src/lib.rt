@@ -12,8 +12,6 @@ mod laws;
 mod rule;
 mod seats;
 mod steps;
-#[cfg(test)]
-mod tests;
 mod turns;
 mod worked;
 

@@ -1,4 +1,3 @@
 mod Ending
 mod Places
-mod SampleSteps
 mod Working

@@ -1,3 +1,2 @@
-pub mod Sample
 pub mod Whole
 pub mod Working

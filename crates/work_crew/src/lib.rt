@@ -3,8 +3,6 @@
 
 mod doors;
 mod runs;
-#[cfg(test)]
-mod tests;
 mod workers;
 
 pub use doors::{Door, OpenDoor, Point};

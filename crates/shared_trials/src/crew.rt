@@ -1,0 +1,255 @@
+ghost use Rattle.std.specs.Prelude.{◌≡◌, ℕ, ◌+◌, ◌%◌, ◌^◌, ◌≤◌, ◌<◌, false, true};
+ghost use Rattle.posix_defs.specs.World.{boot_kept};
+ghost use Rattle.shared_trials.specs.Sample.{live_at, sample, world_at};
+
+use charge_words::Charge;
+use kabi_types::{Cached, Call, CallKind, End, Entry, Memory, Need, Reply};
+use kern_shared::Closed;
+use posix_defs::{Turned, Turner};
+use std::alloc::Global;
+use std::marker::Brand;
+use std::sync::Wait;
+use std::sync::atomic::{AtomicU32, Ordering};
+use std::test::Fail;
+use std::thread::Threads;
+use work_crew::{Door, OpenDoor, Point, run_workers};
+
+/// A store of one process, which asks for its pid and exits: how many calls are behind it, whether it lives, and of its heap how
+/// often that was marked, and the most that was taken since.
+#[derive(Drop)]
+struct OnePid {
+    place: u32,
+    lives: bool,
+    marks: u64,
+    high: u64,
+    ghost few: { place ≤ 2 },
+    ghost above: { live_at lives ≤ high },
+}
+
+/// What the process takes of the heap.
+fn taken(lives: bool) -> u64
+    ensures { result ≡ live_at lives }
+{
+    if lives { 640 } else { 128 }
+}
+
+impl OnePid {
+    /// A call begins.
+    fn mark(&mut self)
+        ensures place { self.new.place ≡ self.old.place }
+        ensures lives { self.new.lives ≡ self.old.lives }
+        ensures high { self.new.high ≡ live_at self.old.lives }
+        ensures marks { self.new.marks ≡ (self.old.marks + 1) % 2 ^ 64 }
+    {
+        self.marks = self.marks.wrapping_add(1);
+        self.high = taken(self.lives);
+    }
+
+    /// The process ends.
+    fn end(&mut self)
+        requires { self.old.lives ≡ true }
+        ensures place { self.new.place ≡ self.old.place }
+        ensures lives { self.new.lives ≡ false }
+        ensures high { self.new.high ≡ self.old.high }
+        ensures marks { self.new.marks ≡ self.old.marks }
+    {
+        self.lives = false;
+    }
+}
+
+impl Turner for OnePid {
+    ghost script = { λ _. sample };
+
+    ghost stands = { λ store world. world ≡ world_at store.place store.lives boot_kept };
+
+    ghost marks = { λ store. store.marks };
+
+    ghost high = { λ store. store.high };
+
+    fn next(&self, _pid: u32) -> Call {
+        if self.place == 0 {
+            Call::Getpid
+        } else {
+            Call::Exit { status: 0 }
+        }
+    }
+
+    fn turn(&mut self, pid: u32, _call: &Call, _need: Need) -> Turned {
+        self.mark();
+        if !self.alive(pid) {
+            return Turned::Gone;
+        }
+        if self.place == 0 {
+            self.place = 1;
+            Turned::Done(Reply::Val(1))
+        } else {
+            self.end();
+            Turned::Ended(0)
+        }
+    }
+
+    fn refuse(&mut self, _pid: u32) {
+        self.mark();
+        if self.place < 2 {
+            self.place += 1;
+        }
+    }
+
+    fn ready(&self, _pid: u32) -> bool {
+        true
+    }
+
+    fn evictable(&self, _what: Cached) -> bool {
+        false
+    }
+
+    fn evict(&mut self, _what: Cached) {
+        self.mark();
+    }
+
+    fn victim(&self) -> Option<u32> {
+        None
+    }
+
+    fn kill(&mut self, _pid: u32) {
+        self.mark();
+    }
+
+    fn alive(&self, pid: u32) -> bool {
+        pid == 1 && self.lives
+    }
+
+    fn last_pid(&self) -> u32 {
+        1
+    }
+
+    fn live(&self) -> u64 {
+        taken(self.lives)
+    }
+
+    fn reads(&self) -> u64 {
+        0
+    }
+}
+
+/// The process at its start.
+fn at_boot() -> OnePid
+    ensures { (result.place ≡ 0) × (result.lives ≡ true) }
+{
+    OnePid {
+        place: 0,
+        lives: true,
+        marks: 0,
+        high: 640,
+    }
+}
+
+/// A run of the process by so many workers, of at most so many entries.
+fn run_by<R: Threads + Wait + Sync, D: Door + Sync>(
+    rt: &R,
+    alloc: Global,
+    steps: u32,
+    workers: u32,
+    door: &D,
+) -> Result<Closed<OnePid>, Memory>
+    requires { 0 < workers }
+{
+    let (charge, seat) = Charge::boot(alloc, 8192)?;
+    run_workers::<OnePid, Brand, D, R>(
+        rt,
+        alloc,
+        at_boot(),
+        steps,
+        8192,
+        workers,
+        charge,
+        seat,
+        door,
+    )
+}
+
+/// Whether the process was told that its pid is 1.
+fn is_asked(entry: &Entry) -> bool {
+    *entry
+        == Entry::Done {
+            pid: 1,
+            kind: CallKind::Getpid,
+            reply: Reply::Val(1),
+        }
+}
+
+/// Whether the process ended with status 0.
+fn is_ended(entry: &Entry) -> bool {
+    *entry
+        == Entry::Ended {
+            pid: 1,
+            kind: CallKind::Exit,
+            status: 0,
+        }
+}
+
+/// Whether a run was closed with the process's two entries, as one that has ended: 128 bytes are live, the root's node, and 2176 stay
+/// in reserve.
+fn is_finished(closed: &Closed<OnePid>) -> bool {
+    let entries = closed.history.items();
+    entries.len() == 2
+        && is_asked(&entries[0])
+        && is_ended(&entries[1])
+        && closed.end == Some(End::Finished)
+        && closed.charged == 2304
+}
+
+/// Whether a run was closed behind the process's first entry, when one step was all: the process's 512 bytes are live too.
+fn is_spent(closed: &Closed<OnePid>) -> bool {
+    let entries = closed.history.items();
+    entries.len() == 1
+        && is_asked(&entries[0])
+        && closed.end == Some(End::Spent)
+        && closed.charged == 2816
+}
+
+#[test]
+fn one_two_and_four_workers_run_to_the_end(rt: HostRuntime) -> Result<(), Fail> {
+    for workers in [1, 2, 4] {
+        let closed = run_by(&rt, rt.alloc(), 100, workers, &OpenDoor)?;
+        assert!(rt; is_finished(&closed), "by {workers}");
+    }
+    Ok(())
+}
+
+#[test]
+fn workers_stop_where_all_steps_are_used_up(rt: HostRuntime) -> Result<(), Fail> {
+    let closed = run_by(&rt, rt.alloc(), 1, 2, &OpenDoor)?;
+    assert!(rt; is_spent(&closed));
+    Ok(())
+}
+
+/// A door that adds up the pids that were picked, and those whose calls were answered.
+#[derive(Drop)]
+struct Counter {
+    picked: AtomicU32,
+    answered: AtomicU32,
+}
+
+impl Door for Counter {
+    fn at(&self, _worker: u32, pid: u32, point: Point) {
+        let word = match point {
+            Point::Picked => &self.picked,
+            Point::Answered => &self.answered,
+        };
+        word.fetch_add(pid, Ordering::SeqCst);
+    }
+}
+
+#[test]
+fn the_door_is_told_of_each_pick_and_answer(rt: HostRuntime) -> Result<(), Fail> {
+    let door = Counter {
+        picked: AtomicU32::new(0),
+        answered: AtomicU32::new(0),
+    };
+    let closed = run_by(&rt, rt.alloc(), 100, 2, &door)?;
+    assert!(rt; is_finished(&closed));
+    assert!(rt; door.picked.load(Ordering::SeqCst) == 2);
+    assert!(rt; door.answered.load(Ordering::SeqCst) == 2);
+    Ok(())
+}

@@ -1,5 +1,0 @@
-use Rattle.std.proofs.Common.{◌≡◌, false}
-use Rattle.turn_words.proofs.tests.work.Given as goal
-
-abbrev pub invariant-loop-number : goal.invariant-loop-number
-invariant-loop-number g l = (l.seat.turns ≡ l.turns) × (l.seat.known.has_ticket ≡ false)

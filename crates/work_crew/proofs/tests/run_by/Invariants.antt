@@ -1,6 +1,0 @@
-use Rattle.work_crew.specs.Sample.{sample}
-use Rattle.work_crew.proofs.tests.run_by.Given as goal
-
--- the names of the run
-abbrev pub ghosts-run_workers : goal.ghosts-run_workers
-ghosts-run_workers g a = record { script = sample; steps = a.steps; charge = a.charge }
