@@ -1,5 +1,5 @@
 -- A call that names nodes by their paths: its purse, and what it does.
-use Rattle.std.proofs.Common.{◌≡◌, ℕ, ◌+◌, ◌<◌, ◌≤◌, List, [], ◌∷◌, None, refl, ap, sym, ◌∙◌, subst, le_trans, arith, Contains}
+use Rattle.std.proofs.Common.{◌≡◌, ℕ, ◌+◌, ◌<◌, ◌≤◌, None, ap, sym, ◌∙◌, subst, arith}
 use Rattle.kabi_calls.specs.Arguments.{argument_fault}
 use Rattle.kabi_calls.specs.declared.calls.Call.{Call}
 use Rattle.kabi_values.specs.declared.classes.Need.{Need}
@@ -7,12 +7,10 @@ use Rattle.kabi_types.specs.declared.scripts.Script.{Script}
 use Rattle.kheap_shelves.specs.Counts.{need_bytes}
 use Rattle.kheap_shelves.specs.Purse.{Purse}
 use Rattle.kheap_slabs.specs.Heap.{Heap, live_bytes}
-use Rattle.machine_keeps.specs.Texts.{ArePathBytes}
 use Rattle.memfs_ops.specs.FileTree.{MayWalk}
 use Rattle.memfs_ops.proofs.PurseLemmas.{may_walk}
 use Rattle.posix_defs.specs.Machine.{answer_to}
 use Rattle.posix_defs.specs.Needs.{bound, need_of, objects_of, two_walks_need, walk_need}
-use Rattle.posix_defs.specs.Reaching.{paths_of}
 use Rattle.posix_defs.specs.declared.turner.Turned.{Turned}
 use Rattle.posix_defs.proofs.PriceLemmas.{right_needs}
 use Rattle.store_objects.specs.Purses.{need_for, unspent}
@@ -29,8 +27,8 @@ reaches_that script old new pid which that told is does =
     subst (λ w. Reaches script old pid w (λ plain. answer_to script plain pid w) told new) (sym is) does
 
 -- the paths of a call are bytes
-pub path_of : (which that : Call) (path : List ℕ) → which ≡ that → HasPaths which → Contains (paths_of that) path → ArePathBytes path
-path_of which that path is paths there = paths path (subst (λ w. Contains (paths_of w) path) (sym is) there)
+pub paths_of_it : (which that : Call) → which ≡ that → HasPaths which → HasPaths that
+paths_of_it which that is paths = subst HasPaths is paths
 
 -- its operands are right
 pub right_that : (which that : Call) → argument_fault which ≡ None → which ≡ that → argument_fault that ≡ None

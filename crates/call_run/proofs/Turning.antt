@@ -1,5 +1,6 @@
 -- What a process does next.
-use Rattle.std.proofs.Common.{◌≡◌, ℕ, ℤ, true, List, Option, None, Some, map, refl, ap, sym, ◌∙◌, subst}
+use Rattle.std.proofs.Common.{◌≡◌, ℕ, suc, ◌<◌, ℤ, true, List, [], ◌∷◌, length, Option, None, Some, map, refl, ap, sym, ◌∙◌, subst, arith, Contains}
+use Rattle.std.specs.List.{AllByRecursion}
 use Rattle.kabi_calls.specs.declared.calls.Call.{Call}
 use Rattle.kabi_calls.specs.declared.calls.CallKind.{CallKind}
 use Rattle.kabi_calls.specs.declared.calls.CallKind.TheVariants as kind
@@ -11,7 +12,11 @@ use Rattle.kheap_shelves.specs.declared.objects.Proc.{Proc}
 use Rattle.posix_defs.specs.Control as program
 use Rattle.posix_defs.specs.Control.{call_at, settled, statement_of, value_of}
 use Rattle.posix_defs.specs.Made.{made}
-use Rattle.posix_defs.specs.Plain.{call_of}
+use Rattle.machine_keeps.specs.Texts.{ArePathBytes}
+use Rattle.machine_keeps.proofs.Texting.{valid_texts}
+use Rattle.posix_defs.specs.Plain.{Plain, call_of, control_of}
+use Rattle.posix_defs.specs.Reaching.{paths_of}
+use Rattle.posix_defs.specs.ValidScript.{IsValid}
 use Rattle.posix_defs.specs.Process.{is_alive}
 use Rattle.posix_defs.specs.World.{World}
 use Rattle.prog_ctl.proofs.Settling.{rests_settled}
@@ -22,7 +27,7 @@ use Rattle.store_objects.specs.Objects.{IsAtCall, procs_of}
 use Rattle.store_objects.specs.Standing.{StandsFor}
 use Rattle.store_objects.proofs.GoingOn.{some_same}
 use Rattle.store_objects.proofs.RunningProcs.{alive_runs}
-use Rattle.call_run.specs.Families.{HasDone}
+use Rattle.call_run.specs.Families.{HasDone, HasPaths}
 
 -- who is found isn't missing
 pub missing : (o : Option Proc) (proc : Proc) → o ≡ None → o ≡ Some proc → ⊥
@@ -67,3 +72,13 @@ next_done script objects world pid proc which stands alive found is =
     subst (λ w. HasDone w proc.control.done) (next_is script objects world pid proc stands alive found ∙ sym is)
     (subst (λ (c : Control). HasDone (program.call_of script proc.control) c.done) (rests_settled script proc.control (up_at_call script objects world pid proc stands alive found).rests)
     (at_done (settled script proc.control) (statement_of script (settled script proc.control))))
+
+-- ---- what it names
+
+all_among : {X : Type 0} (P : X → Type 0) (xs : List X) → ((x : X) → Contains xs x → P x) → AllByRecursion P xs
+all_among P [] all = tt
+all_among P (x ∷ xs) all = (all x (0, omega arith, refl), all_among P xs (λ y there. all y (suc there.0, omega (arith, there.1), there.2)))
+
+-- the next call of a script that is valid names no path with a zero byte
+pub next_paths : (script : Script) (plain : Plain) (pid : ℕ) → IsValid script → HasPaths (call_of script plain pid)
+next_paths script plain pid valid = all_among ArePathBytes (paths_of (call_of script plain pid)) ((valid_texts script valid).paths (control_of plain pid))

@@ -1,6 +1,6 @@
 -- The calls that can be run, by what a turn of them asks for.
-use Rattle.std.specs.Prelude.{ℕ, ◌≡◌, Bool, true, false, List}
-use Rattle.std.specs.List.{Contains}
+use Rattle.std.specs.Prelude.{ℕ, ◌≡◌, Bool, true, false}
+use Rattle.std.specs.List.{AllByRecursion}
 use Rattle.kabi_calls.specs.declared.calls.Call.{Call}
 use Rattle.kabi_calls.specs.declared.calls.Call.TheVariants as call
 use Rattle.kabi_calls.specs.declared.calls.CallKind.{CallKind}
@@ -20,7 +20,7 @@ is_named _ = false
 
 -- no path that a call names has a zero byte
 abbrev pub HasPaths : Call → Type 0
-HasPaths which = (path : List ℕ) → Contains (paths_of which) path → ArePathBytes path
+HasPaths which = AllByRecursion ArePathBytes (paths_of which)
 
 -- the calls that make objects of a process or of its memory
 abbrev pub makes_memory : CallKind → Bool

@@ -15,3 +15,4 @@ pub mod WriteLeads
 pub mod OpenFiles
 pub mod Ranges
 pub mod Finding
+pub mod Saves

@@ -1,14 +1,20 @@
 -- Bytes of a node that are put in a process's memory, and which machine a call leads to.
-use Rattle.std.specs.Prelude.{ℕ, ◌+◌, ◌<◌, ◌≤◌, ◌≡◌, ℤ, Bool, true, List, Option, None, Some, IsSome}
+use Rattle.std.specs.Prelude.{ℕ, ◌+◌, ◌<◌, ◌≤◌, ◌≡◌, ℤ, Bool, true, List, Option, None, Some, IsSome, Result, Ok, Err}
+use Rattle.std.specs.List.{AllByRecursion}
 use Rattle.kabi_calls.specs.Arguments.{count_of}
 use Rattle.kabi_calls.specs.declared.calls.Call.{Call}
+use Rattle.kabi_values.specs.declared.errnos.Errno.{Errno}
+use Rattle.kabi_values.specs.declared.inodes.Inode.{Inode}
 use Rattle.kabi_values.specs.declared.replies.Reply.{Reply}
 use Rattle.kabi_types.specs.declared.scripts.Script.{Script}
 use Rattle.kheap_shelves.specs.Objects.{object}
 use Rattle.kheap_shelves.specs.Purse.{Purse}
 use Rattle.kheap_shelves.specs.declared.objects.Desc.{Desc}
 use Rattle.kheap_shelves.specs.declared.objects.Descriptor.{Descriptor as HeldDescriptor}
+use Rattle.kheap_shelves.specs.declared.objects.Target.TheVariants as target
 use Rattle.kheap_slabs.specs.Heap.{Heap}
+use Rattle.memfs_file.specs.Ranges.{asked_to_read}
+use Rattle.cached_disk.specs.Lent.{IsCached}
 use Rattle.memfs_ops.specs.Fetching.{Fetches, IsFile}
 use Rattle.memfs_ops.specs.FileTree.{Stands, TreeView}
 use Rattle.open_laws.specs.Described.{node_in}
@@ -19,6 +25,7 @@ use Rattle.posix_defs.specs.Account.{Account}
 use Rattle.posix_defs.specs.Answer.{Answer, replied}
 use Rattle.posix_defs.specs.Memory.{is_mapped_range}
 use Rattle.posix_defs.specs.Plain.{Plain}
+use Rattle.posix_defs.specs.SoundDisk.{HasNode}
 use Rattle.posix_defs.specs.Process.{Table, memory_of}
 use Rattle.posix_defs.specs.Tree.{Tree, is_directory}
 use Rattle.posix_defs.specs.Turn.{account_after}
@@ -91,3 +98,18 @@ pub record LeadsHolding (script : Script) (numbers : Numbers) (others : ℕ → 
   pub stands : StandsFor numbers h kept next (account_after account plain pid call answer)
   pub holds : HoldFiles numbers others h kept fs next.files
   pub controls : next.controls ≡ plain.controls
+
+-- ---- what is read of the disk
+
+-- how many bytes were moved
+abbrev pub moved_by : Result ℕ Errno → ℕ
+moved_by (Ok count) = count
+moved_by (Err errno) = 0
+
+-- Where the blocks are cached by which these bytes of its node are reached, the disk is as it was: the bytes begin at a place that
+-- the description tells.
+abbrev pub SavesRead : Heap → TableView → ℕ → ℤ → TreeView → TreeView → (Desc → ℕ) → ℕ → Type 0
+SavesRead h kept pid fd was is at count =
+    (held : HeldDescriptor) (desc : Desc) (number : ℕ) (inode : Inode) → named_by h kept pid fd ≡ Some held → object h.descs held.desc ≡ Some desc
+    → desc.target ≡ target.Inode number → HasNode was.disk.blocks number inode
+    → AllByRecursion (IsCached was.blocks) (asked_to_read was.disk.blocks inode (at desc) count) → is.disk ≡ was.disk

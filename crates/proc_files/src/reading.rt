@@ -1,12 +1,17 @@
 //! `read` and `pread` of files, and `readdir`.
 
 ghost use Rattle.std.specs.Prelude.{◌≡◌, ◌+◌, ◌%◌, ◌≤◌, ◌<◌, ℕ, None, Some, IsSome, length};
+ghost use Rattle.std.specs.List.{AllByRecursion};
 ghost use Rattle.kabi_calls.specs.Arguments.{argument_fault, count_of};
 ghost use Rattle.kabi_calls.specs.declared.calls.Call.{Call};
 ghost use Rattle.kabi_types.specs.declared.scripts.Script.{Script};
+ghost use Rattle.kabi_values.specs.declared.inodes.Inode.{Inode};
+ghost use Rattle.kheap_shelves.specs.declared.objects.Desc.{Desc as HeldDesc};
 ghost use Rattle.kheap_slabs.specs.Paid.{IsPaid};
 ghost use Rattle.memfs_ops.specs.Fetching.{MayFetch};
 ghost use Rattle.memfs_ops.specs.FileTree.{Stands};
+ghost use Rattle.memfs_file.specs.Ranges.{asked_to_read};
+ghost use Rattle.cached_disk.specs.Lent.{IsCached};
 ghost use Rattle.page_space.specs.Contents.{IsOwnedWith};
 ghost use Rattle.page_space.specs.Entries.{IsMappedRange};
 ghost use Rattle.place_laws.specs.Placed.{Numbers};
@@ -15,6 +20,7 @@ ghost use Rattle.posix_defs.specs.Calls.Reading.{pread, read, readdir};
 ghost use Rattle.posix_defs.specs.Needs.{pages_touched};
 ghost use Rattle.posix_defs.specs.PathCalls as calls;
 ghost use Rattle.posix_defs.specs.Plain.{Plain};
+ghost use Rattle.posix_defs.specs.SoundDisk.{HasNode};
 ghost use Rattle.posix_defs.specs.Tree.{Tree};
 ghost use Rattle.proc_pipes.specs.Answering.{value_of};
 ghost use Rattle.proc_table.specs.Procs.{IsAlive};
@@ -22,7 +28,7 @@ ghost use Rattle.proc_table.specs.Table.{processes};
 ghost use Rattle.proc_queues.specs.Standing.{IsKept, StandsFor};
 ghost use Rattle.proc_files.specs.Answering.{StaysOffNodes};
 ghost use Rattle.proc_files.specs.Holding.{HoldFiles, HoldSome};
-ghost use Rattle.proc_files.specs.Reading.{HoldsDirectory, HoldsFile, IsOnNode, LeadsHolding, ReadsNode};
+ghost use Rattle.proc_files.specs.Reading.{HoldsDirectory, HoldsFile, IsOnNode, LeadsHolding, ReadsNode, SavesRead, moved_by};
 
 use crate::nodes::{is_directory, may_read, move_to};
 use crate::spaces::{FileBuffer, Range, range_of};
@@ -73,6 +79,7 @@ pub fn read_file(
     ensures paid { IsPaid heap.old purse.old heap.new purse.new }
     ensures reads { tree.old.disk.reads ≤ tree.new.disk.reads }
     ensures stays { StaysOffNodes heap.old procs.now pid fd tree.old tree.new }
+    ensures saved { SavesRead heap.old procs.now pid fd tree.old tree.new (λ (desc : HeldDesc). desc.offset) (moved_by result) }
 {
     let Some(found) = opened(heap, procs, pid, fd) else {
         return Err(Errno::EBADF);
@@ -121,6 +128,9 @@ fn read_into(
         (calls.read_node plain node at range.old.count) }
     ensures count { (plain : Tree) (pins : ℕ → ℕ) → Stands heap.old tree.old plain pins
         → result ≡ length (calls.read_node plain node at range.old.count) }
+    ensures saved { (inode : Inode) → HasNode tree.old.disk.blocks node inode
+        → AllByRecursion (IsCached tree.old.blocks) (asked_to_read tree.old.disk.blocks inode at result)
+        → tree.new.disk ≡ tree.old.disk }
 {
     let out = &mut buffer[..range.count as usize];
     let count = tree.read_node(heap, purse, node, at, out);
@@ -168,6 +178,7 @@ pub fn pread_file(
     ensures paid { IsPaid heap.old purse.old heap.new purse.new }
     ensures reads { tree.old.disk.reads ≤ tree.new.disk.reads }
     ensures stays { StaysOffNodes heap.old procs.now pid fd tree.old tree.new }
+    ensures saved { SavesRead heap.old procs.now pid fd tree.old tree.new (λ (desc : HeldDesc). count_of at) (moved_by result) }
 {
     let Some(found) = opened(heap, procs, pid, fd) else {
         return Err(Errno::EBADF);
@@ -229,6 +240,7 @@ pub fn read_entries(
     ensures paid { IsPaid heap.old purse.old heap.new purse.new }
     ensures reads { tree.old.disk.reads ≤ tree.new.disk.reads }
     ensures stays { StaysOffNodes heap.old procs.now pid fd tree.old tree.new }
+    ensures saved { SavesRead heap.old procs.now pid fd tree.old tree.new (λ (desc : HeldDesc). desc.offset) (moved_by result) }
 {
     let Some(found) = opened(heap, procs, pid, fd) else {
         return Err(Errno::EBADF);
@@ -272,6 +284,9 @@ fn list_into(
         (calls.list_node plain node at range.old.count) }
     ensures count { (plain : Tree) (pins : ℕ → ℕ) → Stands heap.old tree.old plain pins
         → result ≡ length (calls.list_node plain node at range.old.count) }
+    ensures saved { (inode : Inode) → HasNode tree.old.disk.blocks node inode
+        → AllByRecursion (IsCached tree.old.blocks) (asked_to_read tree.old.disk.blocks inode at result)
+        → tree.new.disk ≡ tree.old.disk }
 {
     let out = &mut buffer[..range.count as usize];
     let count = tree.list_node(heap, purse, node, at, out);

@@ -1,6 +1,6 @@
 //! Stores by hand, with the heap's bytes at each step.
 
-ghost use Rattle.std.specs.Prelude.{◌≤◌, ◌≡◌, IfOk, Some, true};
+ghost use Rattle.std.specs.Prelude.{◌≤◌, ◌≡◌, IfOk, IfSome, Some, true};
 ghost use Rattle.calls_built.specs.Built.{can_run, is_built};
 ghost use Rattle.kabi_calls.specs.Call.{kind_of};
 ghost use Rattle.kabi_types.specs.declared.scripts.Policy.TheVariants.{Heaviest, Youngest};
@@ -81,9 +81,20 @@ enum Ask {
     Shutdown(i64, i64),
 }
 
+/// A path, which has no zero byte.
+fn path_of(path: &[u8]) -> Option<Path>
+    ensures { IfSome result (λ path. ArePathBytes path) }
+{
+    if path.contains(&0) {
+        return None;
+    }
+    Path::of(path)
+}
+
 /// The call.
 fn call_of(ask: &Ask) -> Call
-    ensures { is_built (kind_of result) ≡ true }
+    ensures built { is_built (kind_of result) ≡ true }
+    ensures paths { HasPaths result }
 {
     match ask {
         Ask::Fork => Call::Fork,
@@ -118,11 +129,23 @@ fn call_of(ask: &Ask) -> Call
             n: *n,
             done: 0,
         },
-        Ask::Stat(path) => Path::of(path).map_or(Call::SchedYield, |path| Call::Stat { path }),
-        Ask::Mkdir(path) => Path::of(path).map_or(Call::SchedYield, |path| Call::Mkdir { path }),
-        Ask::Rmdir(path) => Path::of(path).map_or(Call::SchedYield, |path| Call::Rmdir { path }),
-        Ask::Unlink(path) => Path::of(path).map_or(Call::SchedYield, |path| Call::Unlink { path }),
-        Ask::Rename(old, new) => match (Path::of(old), Path::of(new)) {
+        Ask::Stat(path) => match path_of(path) {
+            Some(path) => Call::Stat { path },
+            None => Call::SchedYield,
+        },
+        Ask::Mkdir(path) => match path_of(path) {
+            Some(path) => Call::Mkdir { path },
+            None => Call::SchedYield,
+        },
+        Ask::Rmdir(path) => match path_of(path) {
+            Some(path) => Call::Rmdir { path },
+            None => Call::SchedYield,
+        },
+        Ask::Unlink(path) => match path_of(path) {
+            Some(path) => Call::Unlink { path },
+            None => Call::SchedYield,
+        },
+        Ask::Rename(old, new) => match (path_of(old), path_of(new)) {
             (Some(old), Some(new)) => Call::Rename { old, new },
             _ => Call::SchedYield,
         },
@@ -184,31 +207,6 @@ fn is_so_far(objects: &Objects, pid: u32, call: &Call) -> bool
     }
 }
 
-/// Whether a path has no zero byte.
-fn has_no_zero(path: &Path) -> bool
-    ensures { result ≡ true → ArePathBytes path.now }
-{
-    path.items().iter().all(|byte| *byte != 0)
-}
-
-/// Whether a call that is made here names no path with a zero byte.
-fn has_paths(call: &Call) -> bool
-    ensures { result ≡ true → HasPaths call.now }
-{
-    match call {
-        Call::Stat { path } | Call::Mkdir { path } | Call::Rmdir { path } | Call::Unlink { path } =>
-            has_no_zero(path),
-        Call::Rename { old, new } => has_no_zero(old) && has_no_zero(new),
-        Call::OpenFile { .. }
-        | Call::Exec { .. }
-        | Call::Chdir { .. }
-        | Call::Link { .. }
-        | Call::Bind { .. }
-        | Call::Connect { .. } => false,
-        _ => true,
-    }
-}
-
 /// A turn of a call, for which there has to be room.
 fn take<F: Scorer, G: Scorer>(
     rt: &impl Abort,
@@ -218,12 +216,13 @@ fn take<F: Scorer, G: Scorer>(
 ) -> Turned
     requires stands { (world : World) × StandsFor store.old.script store.old.objects world }
     requires built { is_built (kind_of call.now) ≡ true }
+    requires paths { HasPaths call.now }
     ensures { (world : World) × StandsFor store.new.script store.new.objects world }
 {
     let heap = store.objects.heap.heap();
     let live = store.objects.heap.live();
     assert!(rt; need_table::bound(call) + 2176 <= heap - live);
-    assert!(rt; is_so_far(&store.objects, pid, call) && has_paths(call));
+    assert!(rt; is_so_far(&store.objects, pid, call));
     turn(
         &store.script,
         &mut store.objects,

@@ -4,7 +4,7 @@ use Rattle.posix_defs.specs.Needs.{bound}
 use Rattle.store_objects.proofs.Callers.{caller_runs}
 use Rattle.store_objects.proofs.Paying.{uses_paid}
 use Rattle.call_run.proofs.Dispatch.{none_named}
-use Rattle.call_run.proofs.Naming.{has_need, path_of, reaches_that, right_that, walks_one, walks_two}
+use Rattle.call_run.proofs.Naming.{has_need, paths_of_it, reaches_that, right_that, walks_one, walks_two}
 use Rattle.call_run.proofs.calls.run_named.Goals as goal
 
 pub stat-requires-clause-runs : goal.stat-requires-clause-runs
@@ -56,7 +56,7 @@ returns-in-Mkdir-clause-does c =
     (c.in-Mkdir.is ∙ ap call.Mkdir (sym c.items-in-Mkdir.ensures.same)) c.mkdir.ensures.does
 
 pub mkdir-requires-clause-bytes : goal.mkdir-requires-clause-bytes
-mkdir-requires-clause-bytes c = path_of c.args.call.now (call.Mkdir c.items-in-Mkdir.result.now) c.items-in-Mkdir.result.now (c.in-Mkdir.is ∙ ap call.Mkdir (sym c.items-in-Mkdir.ensures.same)) c.requires.paths (0, omega arith, refl)
+mkdir-requires-clause-bytes c = let paths = paths_of_it c.args.call.now (call.Mkdir c.items-in-Mkdir.result.now) (c.in-Mkdir.is ∙ ap call.Mkdir (sym c.items-in-Mkdir.ensures.same)) c.requires.paths in paths.0
 
 pub rmdir-requires-clause-runs : goal.rmdir-requires-clause-runs
 rmdir-requires-clause-runs c = caller_runs c.args.objects.now c.args.caller.now.pid c.args.caller.now c.requires.caller
@@ -131,7 +131,7 @@ returns-in-Link-clause-does c =
     (c.in-Link.is ∙ ap (λ p. call.Link p c.in-Link.new) (sym c.items-in-Link.ensures.same) ∙ ap (call.Link c.items-in-Link.result.now) (sym c.items-in-Link-2.ensures.same)) c.link.ensures.does
 
 pub link-requires-clause-bytes : goal.link-requires-clause-bytes
-link-requires-clause-bytes c = path_of c.args.call.now (call.Link c.items-in-Link.result.now c.items-in-Link-2.result.now) c.items-in-Link-2.result.now (c.in-Link.is ∙ ap (λ p. call.Link p c.in-Link.new) (sym c.items-in-Link.ensures.same) ∙ ap (call.Link c.items-in-Link.result.now) (sym c.items-in-Link-2.ensures.same)) c.requires.paths (1, omega arith, refl)
+link-requires-clause-bytes c = let paths = paths_of_it c.args.call.now (call.Link c.items-in-Link.result.now c.items-in-Link-2.result.now) (c.in-Link.is ∙ ap (λ p. call.Link p c.in-Link.new) (sym c.items-in-Link.ensures.same) ∙ ap (call.Link c.items-in-Link.result.now) (sym c.items-in-Link-2.ensures.same)) c.requires.paths in paths.1.0
 
 pub rename-requires-clause-runs : goal.rename-requires-clause-runs
 rename-requires-clause-runs c = caller_runs c.args.objects.now c.args.caller.now.pid c.args.caller.now c.requires.caller
@@ -158,7 +158,7 @@ returns-in-Rename-clause-does c =
     (c.in-Rename.is ∙ ap (λ p. call.Rename p c.in-Rename.new) (sym c.items-in-Rename.ensures.same) ∙ ap (call.Rename c.items-in-Rename.result.now) (sym c.items-in-Rename-2.ensures.same)) c.rename.ensures.does
 
 pub rename-requires-clause-bytes : goal.rename-requires-clause-bytes
-rename-requires-clause-bytes c = path_of c.args.call.now (call.Rename c.items-in-Rename.result.now c.items-in-Rename-2.result.now) c.items-in-Rename-2.result.now (c.in-Rename.is ∙ ap (λ p. call.Rename p c.in-Rename.new) (sym c.items-in-Rename.ensures.same) ∙ ap (call.Rename c.items-in-Rename.result.now) (sym c.items-in-Rename-2.ensures.same)) c.requires.paths (1, omega arith, refl)
+rename-requires-clause-bytes c = let paths = paths_of_it c.args.call.now (call.Rename c.items-in-Rename.result.now c.items-in-Rename-2.result.now) (c.in-Rename.is ∙ ap (λ p. call.Rename p c.in-Rename.new) (sym c.items-in-Rename.ensures.same) ∙ ap (call.Rename c.items-in-Rename.result.now) (sym c.items-in-Rename-2.ensures.same)) c.requires.paths in paths.1.0
 
 pub unreachable-requires : goal.unreachable-requires
 unreachable-requires c = none_named c.args.call.now c.requires.among c.in_default.not-Stat c.in_default.not-Mkdir c.in_default.not-Rmdir c.in_default.not-Unlink c.in_default.not-Link c.in_default.not-Rename

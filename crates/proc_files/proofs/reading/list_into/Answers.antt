@@ -60,3 +60,6 @@ pub returns-clause-count : goal.returns-clause-count
 returns-clause-count c = λ plain pins stands.
     let room = length-take-le c.args.range.now.count c.args.buffer.now (let few = c.requires.few in omega (arith, few)) in
     c.list_node-count.ensures.count plain pins stands ∙ ap (λ n. length (list_node plain c.args.node c.args.at n)) room
+
+pub returns-clause-saved : goal.returns-clause-saved
+returns-clause-saved c = c.list_node-count.ensures.saved

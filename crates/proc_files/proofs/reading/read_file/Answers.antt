@@ -10,7 +10,7 @@ use Rattle.posix_defs.specs.Calls.Opened.{moved_to}
 use Rattle.posix_defs.specs.Calls.Reading.{put, read_file}
 use Rattle.posix_defs.specs.Needs.{pages_touched}
 use Rattle.posix_defs.specs.PathCalls.{read_node}
-use Rattle.proc_queues.specs.Found.{opened_in}
+use Rattle.proc_queues.specs.Found.{IsNamed, opened_in}
 use Rattle.proc_queues.proofs.Finding.{alive_listed}
 use Rattle.proc_queues.proofs.RightBytes.{touched_at}
 use Rattle.proc_files.specs.Holding.{holders}
@@ -23,6 +23,7 @@ use Rattle.proc_files.proofs.Puts.{leads_moved, moved_beside, read_descs, read_k
 use Rattle.proc_files.proofs.Ranges.{as_mapped, as_range, no_count, right_moved, some_count}
 use Rattle.proc_files.proofs.ReadAnswers.{read_closed, read_denied, read_directory, read_goes, read_nothing, read_unmapped}
 use Rattle.kabi_calls.specs.declared.calls.Call.TheVariants as call
+use Rattle.proc_files.proofs.Saves.{saves_read, saves_used}
 use Rattle.proc_files.proofs.reading.read_file.Goals as goal
 
 pub opened-requires-clause-there : goal.opened-requires-clause-there
@@ -175,3 +176,25 @@ returns-clause-reads c =
 pub returns-clause-stays : goal.returns-clause-stays
 returns-clause-stays c = λ numbers files have off.
     absurd (on_node numbers files c.args.pid c.args.fd c.in-Some.found c.in-Inode.node (as_found numbers files c.args.pid _ c.args.fd _ (Some c.in-Some.found) (to_z-of_z w64 c.args.fd c.ranges.fd) (c.opened.ensures.found numbers files have) c.in-Some.is) c.in-Inode.is off)
+
+pub returns-in_default-clause-saved : goal.returns-in_default-clause-saved
+returns-in_default-clause-saved c = λ held desc number inode named there on has cached. refl
+
+pub returns-then-not-may_read-clause-saved : goal.returns-then-not-may_read-clause-saved
+returns-then-not-may_read-clause-saved c = λ held desc number inode named there on has cached. refl
+
+pub returns-then-is_directory-clause-saved : goal.returns-then-is_directory-clause-saved
+returns-then-is_directory-clause-saved c = saves_used c.args.heap.now c.args.procs.now c.args.pid c.args.fd c.args.tree.now c.stat_node-info.new.self c.stat_node-info.ensures.used (λ (desc : Desc). desc.offset) 0
+
+pub returns-in_default-range_of-clause-saved : goal.returns-in_default-range_of-clause-saved
+returns-in_default-range_of-clause-saved c = saves_used c.args.heap.now c.args.procs.now c.args.pid c.args.fd c.args.tree.now c.stat_node-info.new.self c.stat_node-info.ensures.used (λ (desc : Desc). desc.offset) 0
+
+pub returns-then-is_empty-clause-saved : goal.returns-then-is_empty-clause-saved
+returns-then-is_empty-clause-saved c = saves_used c.args.heap.now c.args.procs.now c.args.pid c.args.fd c.args.tree.now c.stat_node-info.new.self c.stat_node-info.ensures.used (λ (desc : Desc). desc.offset) 0
+
+pub returns-clause-saved : goal.returns-clause-saved
+returns-clause-saved c =
+    saves_read c.args.heap.now c.args.procs.now c.args.pid c.args.fd c.args.tree.now c.stat_node-info.new.self c.stat_node-info.ensures.used c.read_into-count.new.tree c.in-Some.found c.in-Inode.node
+    (subst (λ z. IsNamed c.args.heap.now c.args.procs.now c.args.pid z c.in-Some.found) (to_z-of_z w64 c.args.fd c.ranges.fd) c.in-Some.ensures.named)
+    c.in-Some.ensures.there c.in-Inode.is (λ (desc : Desc). desc.offset) c.in-Some.found.desc.offset c.read_into-count.result refl
+    c.read_into-count.ensures.saved
