@@ -1,19 +1,23 @@
 -- Who holds a node, from one call to the next.
-use Rattle.std.proofs.Common.{◌≡◌, ℕ, ◌+◌, ◌<◌, ◌≤◌, Bool, true, false, cond, if◌then◌else◌, List, [], ◌∷◌, ◌++◌, length, Option, Some, None, Result, Ok, Err, nat_eq, refl, sym, ap, ◌∙◌, subst, arith}
-use Rattle.std.proofs.lemmas.Bool.{eq-eqb}
+use Rattle.std.proofs.Common.{◌≡◌, ◌≢◌, ℕ, zero, suc, ◌+◌, ◌-◌, ◌<◌, ◌≤◌, ◌||◌, Bool, true, false, cond, nat_lt, if◌then◌else◌, List, [], ◌∷◌, ◌++◌, length, get_or, Option, Some, None, Result, Ok, Err, nat_eq, refl, sym, ap, ◌∙◌, subst, arith}
+use Rattle.std.specs.List.{list_any}
+use Rattle.std.proofs.lemmas.Bool.{eq-eqb, ne_eqb, lt-ltb, false≢true}
 use Rattle.kabi_values.specs.declared.errnos.Errno.{Errno}
 use Rattle.kabi_values.specs.declared.inodes.Inode.{Inode}
 use Rattle.kabi_values.specs.declared.replies.NodeKind.TheVariants as kinds
+use Rattle.kheap_shelves.specs.Purse.{Purse}
 use Rattle.kheap_slabs.specs.Heap.{Heap, empty_heap}
-use Rattle.posix_defs.specs.PathCalls.{kind_in, kind_of_content}
+use Rattle.posix_defs.specs.PathCalls.{is_socket, is_socket_kind, kind_in, kind_of_content}
 use Rattle.posix_defs.specs.SoundDisk.{HasNode}
 use Rattle.posix_defs.specs.Tree.{Content, File, Directory, SocketName, Node, Tree, root, IsInodeAt, IsInodeIn, node_at, is_directory, is_directory_in, is_directory_content}
 use Rattle.memfs_node.proofs.Looking.{shown}
 use Rattle.memfs_ops.specs.Changing.{ChangedTo}
+use Rattle.memfs_ops.specs.Closing.{one_less, MayFree, HeldToClose}
 use Rattle.memfs_ops.specs.FileTree.{TreeView, Stands, HasNoFiles, one_more, root_alone}
 use Rattle.memfs_ops.specs.Fetching.{IsFile}
 use Rattle.memfs_ops.specs.Opening.{OpenedAs}
-use Rattle.tree_trials.specs.Trials.{times, holders, StandsHeld, HasFile, HasDirectory}
+use Rattle.memfs_ops.specs.Removing.{ToldTo, HoldsNoSocket, is_held}
+use Rattle.tree_trials.specs.Trials.{times, holders, StandsHeld, HasFile, HasDirectory, AreNoSockets}
 
 -- a heap at boot has no object of the tree of files
 pub no_files : (heap : ℕ) → HasNoFiles (empty_heap heap)
@@ -64,6 +68,17 @@ more_held held node number = one_counted (nat_eq node number) (root_alone number
 pub stands_noted : (heap : Heap) (fs : TreeView) (tree : Tree) (held next : List ℕ) (node : ℕ) → next ≡ held ++ node ∷ [] → Stands heap fs tree (one_more (holders held) node) → StandsHeld heap fs next
 stands_noted heap fs tree held next node is stands = subst (λ (l : List ℕ). StandsHeld heap fs l) (sym is) (tree, alike heap fs tree (one_more (holders held) node) (holders (held ++ node ∷ [])) (more_held held node) stands)
 
+one_uncounted : (b : Bool) (alone there more : ℕ) → more ≡ there + cond b 1 0 → cond b (alone + more - 1) (alone + more) ≡ alone + there
+one_uncounted true alone there more is = omega (arith, is)
+one_uncounted false alone there more is = omega (arith, is)
+
+-- who lets a node go is taken from the list
+pub less_held : (rest : List ℕ) (node number : ℕ) → one_less (holders (rest ++ node ∷ [])) node number ≡ holders rest number
+less_held rest node number = one_uncounted (nat_eq node number) (root_alone number) (times number rest) (times number (rest ++ node ∷ [])) (times_last rest node number)
+
+pub stands_closed : (heap : Heap) (fs : TreeView) (tree : Tree) (rest : List ℕ) (node : ℕ) → Stands heap fs tree (one_less (holders (rest ++ node ∷ [])) node) → StandsHeld heap fs rest
+stands_closed heap fs tree rest node stands = (tree, alike heap fs tree (one_less (holders (rest ++ node ∷ [])) node) (holders rest) (less_held rest node) stands)
+
 same_counts : (node : ℕ) → nat_eq node node ≡ true
 same_counts node = eq-eqb node node refl
 
@@ -102,6 +117,94 @@ opened_err heap fs tree (Err _) pins errno is = is.1
 pub some_changed : (heap : Heap) (fs : TreeView) (tree : Tree) (led : Result Tree Errno) (pins : ℕ → ℕ) (answer : Result (Unit {0}) Errno) → ChangedTo heap fs tree led pins answer → (next : Tree) × Stands heap fs next pins
 some_changed heap fs tree (Ok next) pins answer is = (next, is.1)
 some_changed heap fs tree (Err errno) pins answer is = (tree, is.1)
+
+pub some_told : (heap : Heap) (fs : TreeView) (tree : Tree) (led : Result (Option ℕ × Tree) Errno) (pins : ℕ → ℕ) (answer : Result (Option ℕ) Errno) → ToldTo heap fs tree led pins answer → (next : Tree) × Stands heap fs next pins
+some_told heap fs tree (Ok (freed, next)) pins answer is = (next, is.1)
+some_told heap fs tree (Err errno) pins answer is = (tree, is.1)
+
+-- ---- whether someone holds a node
+
+counted : (b : Bool) (others : Bool) (there : ℕ) → others ≡ nat_lt 0 there → (b || others) ≡ nat_lt 0 (cond b 1 0 + there)
+counted true others there is = sym (lt-ltb 0 (1 + there) (omega arith))
+counted false others there is = let same : there ≡ 0 + there = omega arith in is ∙ ap (λ n. nat_lt 0 n) same
+
+among : (held : List ℕ) (node : ℕ) → list_any (λ other. nat_eq other node) held ≡ nat_lt 0 (times node held)
+unfolding times
+among [] node = refl
+among (first ∷ rest) node = counted (nat_eq first node) (list_any (λ other. nat_eq other node) rest) (times node rest) (among rest node)
+
+pub root_is_held : (held : List ℕ) (node : ℕ) → node ≡ root → true ≡ is_held (holders held) node
+root_is_held held node is =
+    let one = ap (λ (b : Bool). cond {A = ℕ} b 1 0) (eq-eqb root node (sym is)) in
+    sym (lt-ltb 0 (holders held node) (omega (arith, one)))
+
+pub other_is_held : (held : List ℕ) (node : ℕ) → node ≢ root → list_any (λ other. nat_eq other node) held ≡ is_held (holders held) node
+other_is_held held node other =
+    let none : root_alone node ≡ 0 = ap (λ (b : Bool). cond {A = ℕ} b 1 0) (ne_eqb root node (λ same. other (sym same))) in
+    let same : times node held ≡ root_alone node + times node held = omega (arith, none) in
+    among held node ∙ ap (λ n. nat_lt 0 n) same
+
+-- who stands in the list holds
+times_at : (held : List ℕ) (at node : ℕ) → at < length held → node ≡ get_or held at node → 0 < times node held
+unfolding times
+times_at [] at node less is = absurd (omega (arith, less))
+times_at (first ∷ rest) zero node less is = let one = ap (λ (b : Bool). cond {A = ℕ} b 1 0) (eq-eqb first node (sym is)) in omega (arith, one)
+times_at (first ∷ rest) (suc at) node less is = let there = times_at rest at node (omega (arith, less)) is in omega (arith, there)
+
+pub held_at : (held : List ℕ) (at node : ℕ) → at < length held → node ≡ get_or held at node → 0 < holders held node
+held_at held at node less is = let there = times_at held at node less is in omega (arith, there)
+
+same_there : (held : List ℕ) (at one other : ℕ) → at < length held → get_or held at one ≡ get_or held at other
+same_there [] at one other less = absurd (omega (arith, less))
+same_there (first ∷ rest) zero one other less = refl
+same_there (first ∷ rest) (suc at) one other less = same_there rest at one other (omega (arith, less))
+
+pub held_there : (held : List ℕ) (at : ℕ) → at < length held → 0 < holders held (get_or held at 0)
+held_there held at less = held_at held at (get_or held at 0) less (same_there held at 0 (get_or held at 0) less)
+
+none_times : (number : ℕ) (held : List ℕ) → ((at : ℕ) → at < length held → get_or held at 0 ≢ number) → times number held ≡ 0
+unfolding times
+none_times number [] others = refl
+none_times number (first ∷ rest) others =
+    let here = ap (λ (b : Bool). cond {A = ℕ} b 1 0) (ne_eqb first number (others 0 (omega arith))) in
+    let there = none_times number rest (λ at less. others (suc at) (omega (arith, less))) in
+    omega (arith, here, there)
+
+content_plain : (content : Content) → is_directory_content content ≡ true → is_socket_kind (kind_of_content content) ≡ false
+content_plain (File bytes) is = absurd (cc)
+content_plain (Directory parent entries) is = refl
+content_plain SocketName is = absurd (cc)
+
+there_plain : (there : Option Node) → is_directory_in there ≡ true → is_socket_kind (kind_in there) ≡ false
+there_plain None is = absurd (cc)
+there_plain (Some node) is = content_plain node.content is
+
+-- where none of the list is the name of a socket, no one holds one
+pub no_sockets : (heap : Heap) (fs : TreeView) (tree : Tree) (held : List ℕ) → Stands heap fs tree (holders held) → AreNoSockets tree (length held) held → HoldsNoSocket tree (holders held)
+no_sockets heap fs tree held stands none number is =
+    let root_plain : is_socket tree root ≡ false = there_plain (node_at tree root) stands.is_tree.root_directory in
+    let other : root ≢ number = λ same. false≢true (sym root_plain ∙ ap (is_socket tree) same ∙ is) in
+    let alone = ap (λ (b : Bool). cond {A = ℕ} b 1 0) (ne_eqb root number other) in
+    let there = none_times number held (λ at less same. false≢true (sym (none at less) ∙ ap (is_socket tree) same ∙ is)) in
+    omega (arith, alone, there)
+
+-- ---- a node that is let go
+
+pub may_close : (heap : Heap) (purse : Purse) (fs : TreeView) (tree : Tree) (held rest : List ℕ) (node : ℕ) → held ≡ rest ++ node ∷ [] → Stands heap fs tree (holders held) → MayFree heap purse → HeldToClose heap purse fs node
+may_close heap purse fs tree held rest node is stands may =
+    let there = noted_held rest held node is in
+    let left : one_less (holders held) node root ≡ holders rest root = ap (λ (l : List ℕ). one_less (holders l) node root) is ∙ less_held rest node root in
+    record {
+      tree = tree;
+      pins = holders held;
+      stands = stands;
+      held = omega (arith, there);
+      root_stays = subst (λ (n : ℕ). 0 < n) (sym left) (omega arith);
+      may = λ goes. may;
+    }
+
+pub let_go : (heap : Heap) (fs : TreeView) (tree : Tree) (held rest : List ℕ) (node : ℕ) → held ≡ rest ++ node ∷ [] → Stands heap fs tree (one_less (holders held) node) → StandsHeld heap fs rest
+let_go heap fs tree held rest node is stands = stands_closed heap fs tree rest node (subst (λ (l : List ℕ). Stands heap fs tree (one_less (holders l) node)) is stands)
 
 -- ---- a node that is held has an inode, which says its kind
 

@@ -1,6 +1,7 @@
 -- What a tree of files stands for in the midst of a test.
-use Rattle.std.specs.Prelude.{◌≡◌, ℕ, ◌+◌, true, cond, nat_eq, List, [], ◌∷◌}
+use Rattle.std.specs.Prelude.{◌≡◌, ℕ, ◌+◌, ◌<◌, true, false, cond, nat_eq, slice_index, List, [], ◌∷◌}
 use Rattle.kheap_slabs.specs.Heap.{Heap}
+use Rattle.posix_defs.specs.PathCalls.{is_socket}
 use Rattle.posix_defs.specs.Tree.{Tree, is_directory}
 use Rattle.memfs_ops.specs.Fetching.{IsFile}
 use Rattle.memfs_ops.specs.FileTree.{TreeView, Stands, root_alone}
@@ -25,3 +26,7 @@ HasFile heap fs held node = (tree : Tree) × Stands heap fs tree (holders held) 
 -- the same, and a node is a directory
 abbrev pub HasDirectory : Heap → TreeView → List ℕ → ℕ → Type 0
 HasDirectory heap fs held node = (tree : Tree) × Stands heap fs tree (holders held) × (is_directory tree node ≡ true)
+
+-- the first so many nodes of a list are no names of sockets
+abbrev pub AreNoSockets : Tree → ℕ → List ℕ → Type 0
+AreNoSockets tree count held = (at : ℕ) → at < count → is_socket tree (slice_index held at) ≡ false

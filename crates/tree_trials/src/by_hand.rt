@@ -3,9 +3,13 @@
 ghost use Rattle.std.specs.Prelude.{◌≡◌, ◌<◌, ◌≤◌};
 ghost use Rattle.tree_trials.specs.Trials.{StandsHeld, holders};
 
-use crate::calls::{Answer, bind, connect, enter, fstat, mkdir, stat, told};
+use crate::calls::{
+    Answer, bind, close_last, connect, enter, fstat, link, mkdir, number_of, open_path, rename,
+    rmdir, stat, told, unlink,
+};
 use crate::world::{World, booted, evict};
 use kabi_types::{Cached, Errno, NodeKind};
+use memfs_ops::Opening;
 use std::alloc::Global;
 use std::process::Abort;
 use std::test::Fail;
@@ -17,6 +21,17 @@ pub enum Step {
     Mkdir(&'static str),
     Bind(&'static str),
     Connect(&'static str),
+    Unlink(&'static str),
+    Rmdir(&'static str),
+    Link(&'static str, &'static str),
+    Rename(&'static str, &'static str),
+    /// A file is made and stays open.
+    Make(&'static str),
+    Enter(&'static str),
+    /// What is held last is told of.
+    Fstat,
+    /// What is held last is let go.
+    Close,
 }
 
 /// A call and its answer; how often the disk was read then; and how many names, nodes and blocks are cached.
@@ -31,7 +46,38 @@ pub fn take(rt: &impl Abort, world: &mut World, step: Step) -> Answer
         Step::Mkdir(path) => mkdir(rt, world, path.as_bytes()),
         Step::Bind(path) => bind(rt, world, path.as_bytes()),
         Step::Connect(path) => connect(rt, world, path.as_bytes()),
+        Step::Unlink(path) => unlink(rt, world, path.as_bytes()),
+        Step::Rmdir(path) => rmdir(rt, world, path.as_bytes()),
+        Step::Link(old, new) => link(rt, world, old.as_bytes(), new.as_bytes()),
+        Step::Rename(old, new) => rename(rt, world, old.as_bytes(), new.as_bytes()),
+        Step::Make(path) => number_of(open_path(rt, world, path.as_bytes(), CREATES)),
+        Step::Enter(path) => number_of(enter(rt, world, path.as_bytes())),
+        Step::Fstat => fstat_last(world),
+        Step::Close => {
+            close_last(rt, world);
+            Answer::Done
+        }
     }
+}
+
+const CREATES: Opening = Opening {
+    writes: true,
+    creates: true,
+    excludes: false,
+    truncates: false,
+};
+
+// What is told of the node that is held last.
+fn fstat_last(world: &mut World) -> Answer
+    requires { StandsHeld world.old.heap world.old.files world.old.held.items }
+    ensures stands { StandsHeld world.new.heap world.new.files world.new.held.items }
+{
+    let count = world.held.len();
+    if count == 0 {
+        return Answer::Nothing;
+    }
+    let node = world.held[count - 1];
+    told(fstat(world, node))
 }
 
 /// The bytes of so many names, nodes and blocks.

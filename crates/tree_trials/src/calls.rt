@@ -1,15 +1,18 @@
 //! The calls of a tree of files, each with a purse of its own.
-ghost use Rattle.std.specs.Prelude.{◌≡◌, ℕ, ◌<◌, ◌^◌, ◌%◌, None, IsTrue, IfOk};
+ghost use Rattle.std.specs.Prelude.{◌≡◌, ℕ, ◌<◌, ◌^◌, ◌%◌, false, None, IsTrue, IfOk};
 ghost use Rattle.std.specs.List.{All};
 ghost use Rattle.kabi_calls.specs.Arguments.{path_fault};
-ghost use Rattle.posix_defs.specs.PathCalls.{stat_info};
+ghost use Rattle.posix_defs.specs.PathCalls.{is_socket_kind, stat_info};
 ghost use Rattle.posix_defs.specs.Tree.{Tree};
 ghost use Rattle.memfs_ops.specs.FileTree.{Stands};
+ghost use Rattle.memfs_ops.specs.Removing.{HoldsNoSocket, is_held as has_holder};
+ghost use Rattle.memfs_ops.specs.Starting.{ArePrograms};
 ghost use Rattle.tree_trials.specs.Trials.{StandsHeld, HasFile, HasDirectory, holders};
 
-use crate::world::{World, expect_few, note, purse};
-use kabi_types::{Call, Errno, NodeKind, Path, StatInfo};
-use memfs_ops::Opening;
+use crate::world::{World, closing_purse, double_purse, expect_few, note, purse};
+use kabi_types::{Call, Errno, NodeKind, Path, Script, StatInfo};
+use kheap_slabs::KHeap;
+use memfs_ops::{FileTree, Opening};
 use std::process::Abort;
 
 /// What a call answers.
@@ -118,6 +121,22 @@ pub fn connect(rt: &impl Abort, world: &mut World, path: &[u8]) -> Answer
     assert!(rt; passes(path));
     let mut paid = purse(rt, &world.heap);
     name_of(world.files.find_name(&mut world.heap, &mut paid, 1, path))
+}
+
+/// The program that a file names.
+pub fn exec(rt: &impl Abort, world: &mut World, script: &Script, path: &[u8]) -> Answer
+    requires stands { StandsHeld world.old.heap world.old.files world.old.held.items }
+    requires programs { ArePrograms script.now.programs }
+    ensures stands { StandsHeld world.new.heap world.new.files world.new.held.items }
+    ensures held { world.new.held.items ≡ world.old.held.items }
+{
+    assert!(rt; passes(path));
+    let mut paid = purse(rt, &world.heap);
+    number_of(
+        world
+            .files
+            .program_of(&mut world.heap, &mut paid, 1, path, script),
+    )
 }
 
 /// The directory that a path leads to, which is held then.
@@ -277,4 +296,109 @@ pub fn resize(rt: &impl Abort, world: &mut World, node: u32, size: u64) -> Answe
             .files
             .size_node(&mut world.heap, &mut paid, node, size),
     )
+}
+
+fn freed_of(answer: Result<Option<u32>, Errno>) -> Answer {
+    match answer {
+        Ok(Some(number)) => Answer::Number(number),
+        Ok(None) => Answer::Done,
+        Err(errno) => Answer::Fault(errno),
+    }
+}
+
+// The kind isn't that of a socket's name.
+fn expect_no_name(rt: &impl Abort, kind: NodeKind)
+    ensures { is_socket_kind kind ≡ false }
+{
+    assert!(rt; kind != NodeKind::Sock);
+}
+
+// No node that is held is the name of a socket.
+fn expect_no_socket(rt: &impl Abort, heap: &KHeap, files: &mut FileTree, held: &[u32])
+    requires { (tree : Tree) × Stands heap.now files.old tree (holders held.now) }
+    ensures { (tree : Tree) × Stands heap.now files.new tree (holders held.now)
+        × HoldsNoSocket tree (holders held.now) }
+{
+    for k in 0..held.len() {
+        let info = files.stat_node(heap, held[k]);
+        expect_no_name(rt, info.kind);
+    }
+}
+
+// Whether someone holds a node.
+fn is_held(held: &[u32], node: u32) -> bool
+    ensures { result ≡ has_holder (holders held.now) node }
+{
+    node == 1 || held.contains(&node)
+}
+
+pub fn unlink(rt: &impl Abort, world: &mut World, path: &[u8]) -> Answer
+    requires { StandsHeld world.old.heap world.old.files world.old.held.items }
+    ensures stands { StandsHeld world.new.heap world.new.files world.new.held.items }
+    ensures held { world.new.held.items ≡ world.old.held.items }
+{
+    assert!(rt; passes(path));
+    expect_no_socket(rt, &world.heap, &mut world.files, world.held.as_slice());
+    let mut paid = purse(rt, &world.heap);
+    freed_of(world.files.remove_name(&mut world.heap, &mut paid, 1, path))
+}
+
+pub fn rmdir(rt: &impl Abort, world: &mut World, path: &[u8]) -> Answer
+    requires { StandsHeld world.old.heap world.old.files world.old.held.items }
+    ensures stands { StandsHeld world.new.heap world.new.files world.new.held.items }
+    ensures held { world.new.held.items ≡ world.old.held.items }
+{
+    assert!(rt; passes(path));
+    let mut paid = purse(rt, &world.heap);
+    let held = world.held.as_slice();
+    let busy = |node: u32| is_held(held, node);
+    done_of(
+        world
+            .files
+            .remove_dir(&mut world.heap, &mut paid, 1, path, &busy),
+    )
+}
+
+pub fn link(rt: &impl Abort, world: &mut World, old: &[u8], new: &[u8]) -> Answer
+    requires { StandsHeld world.old.heap world.old.files world.old.held.items }
+    ensures stands { StandsHeld world.new.heap world.new.files world.new.held.items }
+    ensures held { world.new.held.items ≡ world.old.held.items }
+{
+    assert!(rt; passes(old));
+    assert!(rt; passes(new));
+    let mut paid = double_purse(rt, &world.heap);
+    done_of(
+        world
+            .files
+            .link_name(&mut world.heap, &mut paid, 1, old, new),
+    )
+}
+
+pub fn rename(rt: &impl Abort, world: &mut World, old: &[u8], new: &[u8]) -> Answer
+    requires { StandsHeld world.old.heap world.old.files world.old.held.items }
+    ensures stands { StandsHeld world.new.heap world.new.files world.new.held.items }
+    ensures held { world.new.held.items ≡ world.old.held.items }
+{
+    assert!(rt; passes(old));
+    assert!(rt; passes(new));
+    expect_no_socket(rt, &world.heap, &mut world.files, world.held.as_slice());
+    let mut paid = double_purse(rt, &world.heap);
+    let held = world.held.as_slice();
+    let busy = |node: u32| is_held(held, node);
+    freed_of(
+        world
+            .files
+            .rename_name(&mut world.heap, &mut paid, 1, old, new, &busy),
+    )
+}
+
+/// Who held a node last lets it go.
+pub fn close_last(rt: &impl Abort, world: &mut World)
+    requires { StandsHeld world.old.heap world.old.files world.old.held.items }
+    ensures stands { StandsHeld world.new.heap world.new.files world.new.held.items }
+{
+    let mut paid = closing_purse(rt, &world.heap);
+    if let Some(node) = world.held.pop() {
+        world.files.close_node(&mut world.heap, &mut paid, node);
+    }
 }

@@ -10,6 +10,10 @@ mod held;
 #[cfg(test)]
 mod mixed;
 #[cfg(test)]
+mod named;
+#[cfg(test)]
 mod plain;
+#[cfg(test)]
+mod programs;
 #[cfg(test)]
 mod world;

@@ -3,10 +3,10 @@ ghost use Rattle.std.specs.Prelude.{◌≡◌, ◌<◌, ◌≤◌};
 ghost use Rattle.tree_trials.specs.Trials.{StandsHeld, holders};
 
 use crate::calls::{
-    Answer, bind, connect, enter, expect_directory, expect_file, fstat, list, mkdir, open_path,
-    pin, read, resize, stat, stat_from, told, write,
+    Answer, bind, close_last, connect, enter, expect_directory, expect_file, fstat, link, list,
+    mkdir, open_path, pin, read, rename, resize, rmdir, stat, stat_from, told, unlink, write,
 };
-use crate::plain::{Dice, Plain};
+use crate::plain::{Dice, Plain, ends_in_dots};
 use crate::world::{World, booted, evict};
 use kabi_types::{Cached, Memory, NodeKind};
 use memfs_ops::Opening;
@@ -154,6 +154,7 @@ fn use_node(rt: &impl Abort, world: &mut World, plain: &mut Plain, node: u32, di
         6 => resize_both(rt, world, plain, node, dice),
         _ => {
             pin(rt, world, node);
+            plain.hold(rt, node);
         }
     }
 }
@@ -167,6 +168,7 @@ fn open_both(rt: &impl Abort, world: &mut World, plain: &mut Plain, path: &[u8],
     match open_path(rt, world, path, how) {
         Ok(node) => {
             assert!(rt; want == Answer::Number(node));
+            plain.hold(rt, node);
             use_node(rt, world, plain, node, dice);
         }
         Err(errno) => assert!(rt; want == Answer::Fault(errno)),
@@ -181,25 +183,102 @@ fn enter_both(rt: &impl Abort, world: &mut World, plain: &mut Plain, path: &[u8]
     match enter(rt, world, path) {
         Ok(node) => {
             assert!(rt; want == Answer::Number(node));
+            plain.hold(rt, node);
             list_both(rt, world, plain, node, dice);
         }
         Err(errno) => assert!(rt; want == Answer::Fault(errno)),
     }
 }
 
-// Both make one call by a path.
-fn call_both(rt: &impl Abort, world: &mut World, plain: &mut Plain, path: &[u8], dice: &mut Dice)
+// Both give a name of one path to another.
+fn rename_both(rt: &impl Abort, world: &mut World, plain: &mut Plain, old: &[u8], new: &[u8])
     requires { StandsHeld world.old.heap world.old.files world.old.held.items }
     ensures stands { StandsHeld world.new.heap world.new.files world.new.held.items }
 {
-    match dice.roll() % 16 {
-        0..=2 => assert!(rt; stat(rt, world, path) == plain.stat(1, path)),
-        3 => assert!(rt; connect(rt, world, path) == plain.connect(path)),
-        4 | 5 => assert!(rt; mkdir(rt, world, path) == plain.mkdir(rt, path)),
-        6 => assert!(rt; bind(rt, world, path) == plain.bind(rt, path)),
-        7 | 8 => enter_both(rt, world, plain, path, dice),
-        _ => open_both(rt, world, plain, path, dice),
+    if ends_in_dots(old) || ends_in_dots(new) {
+        return;
     }
+    assert!(rt; rename(rt, world, old, new) == plain.rename(rt, old, new));
+}
+
+// Both use a node that is held already, if there is one.
+fn use_held(rt: &impl Abort, world: &mut World, plain: &mut Plain, dice: &mut Dice)
+    requires { StandsHeld world.old.heap world.old.files world.old.held.items }
+    ensures stands { StandsHeld world.new.heap world.new.files world.new.held.items }
+{
+    let place = dice.roll() as usize % 8;
+    if place < world.held.len() {
+        let node = world.held[place];
+        use_node(rt, world, plain, node, dice);
+    }
+}
+
+// Both close the node that was opened last.
+fn close_both(rt: &impl Abort, world: &mut World, plain: &mut Plain)
+    requires { StandsHeld world.old.heap world.old.files world.old.held.items }
+    ensures stands { StandsHeld world.new.heap world.new.files world.new.held.items }
+{
+    close_last(rt, world);
+    plain.close();
+}
+
+// Both make one call by a path.
+fn call_both(
+    rt: &impl Abort,
+    world: &mut World,
+    plain: &mut Plain,
+    path: &[u8],
+    wide: bool,
+    dice: &mut Dice,
+)
+    requires { StandsHeld world.old.heap world.old.files world.old.held.items }
+    ensures stands { StandsHeld world.new.heap world.new.files world.new.held.items }
+{
+    match dice.roll() % 32 {
+        0..=3 => assert!(rt; stat(rt, world, path) == plain.stat(1, path)),
+        4 => assert!(rt; connect(rt, world, path) == plain.connect(path)),
+        5..=7 => assert!(rt; mkdir(rt, world, path) == plain.mkdir(rt, path)),
+        8 => assert!(rt; bind(rt, world, path) == plain.bind(rt, path)),
+        9 | 10 => enter_both(rt, world, plain, path, dice),
+        11..=17 => open_both(rt, world, plain, path, dice),
+        18 | 19 => assert!(rt; unlink(rt, world, path) == plain.unlink(path)),
+        20 | 21 => assert!(rt; rmdir(rt, world, path) == plain.rmdir(path)),
+        _ => call_both_further(rt, world, plain, path, wide, dice),
+    }
+}
+
+// Both make one call by two paths, or by none.
+fn call_both_further(
+    rt: &impl Abort,
+    world: &mut World,
+    plain: &mut Plain,
+    path: &[u8],
+    wide: bool,
+    dice: &mut Dice,
+)
+    requires { StandsHeld world.old.heap world.old.files world.old.held.items }
+    ensures stands { StandsHeld world.new.heap world.new.files world.new.held.items }
+{
+    let other = path_of(wide, dice.roll());
+    match dice.roll() % 8 {
+        0 | 1 => assert!(rt; link(rt, world, path, other) == plain.link(rt, path, other)),
+        2..=4 => rename_both(rt, world, plain, path, other),
+        5 => use_held(rt, world, plain, dice),
+        _ => close_both(rt, world, plain),
+    }
+}
+
+// Both list the same of the root.
+fn same_root(rt: &impl Abort, world: &mut World, plain: &Plain)
+    requires { StandsHeld world.old.heap world.old.files world.old.held.items }
+    ensures stands { StandsHeld world.new.heap world.new.files world.new.held.items }
+{
+    let mut ours = [7; 2048];
+    let mut theirs = [7; 2048];
+    expect_directory(rt, world, 1);
+    let listed = list(rt, world, 1, 0, &mut ours);
+    assert!(rt; listed == plain.list(1, 0, &mut theirs));
+    assert!(rt; ours == theirs);
 }
 
 fn evict_some(world: &mut World, k: u32)
@@ -230,7 +309,8 @@ fn run(
     let mut dice = Dice::new(seed);
     for _ in 0..calls {
         let path = path_of(wide, dice.roll());
-        call_both(rt, &mut world, &mut plain, path, &mut dice);
+        call_both(rt, &mut world, &mut plain, path, wide, &mut dice);
+        same_root(rt, &mut world, &plain);
         evict_some(&mut world, dice.roll());
     }
     drop(plain);

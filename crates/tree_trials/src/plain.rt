@@ -1,5 +1,7 @@
 //! A tree of files as one would write it down on paper, by the rules of POSIX and the room that a disk has, and the numbers
 //! that a run takes its steps from. Names have one letter.
+ghost use Rattle.std.specs.Prelude.{◌<◌, IfSome, length};
+
 use crate::calls::Answer;
 use kabi_types::{Errno, NodeKind};
 use memfs_ops::Opening;
@@ -16,9 +18,17 @@ const ROOT: u32 = 1;
 #[derive(Clone, Copy)]
 struct Node {
     kind: Option<NodeKind>,
+    links: u32,
     parent: u32,
     size: u32,
 }
+
+const FREE: Node = Node {
+    kind: None,
+    links: 0,
+    parent: 0,
+    size: 0,
+};
 
 // A name of a directory, in the order in which they were made.
 #[derive(Clone, Copy)]
@@ -41,6 +51,7 @@ struct Change {
 #[derive(Clone, Copy)]
 enum Led {
     Node(u32),
+    Named { dir: u32, letter: u8, node: u32 },
     Free { dir: u32, letter: u8, slashed: bool },
     Fail(Errno),
 }
@@ -54,13 +65,15 @@ enum Part {
     Letter(u8),
 }
 
-/// A tree by lists: of nodes, of entries, and of all that was ever done to the bytes of files.
+/// A tree by lists: of nodes, of entries, of all that was ever done to the bytes of files, and of the nodes that are held, each
+/// as often as it is.
 #[derive(Drop)]
 pub struct Plain {
     blocks: u32,
     nodes: Vec<Node>,
     entries: Vec<Entry>,
     changes: Vec<Change>,
+    held: Vec<u32>,
 }
 
 // How many blocks a size takes, that of the pointers behind the first ten among them.
@@ -82,25 +95,22 @@ fn most_bytes(blocks: u32) -> u32 {
 impl Plain {
     /// An empty root on so many blocks.
     pub fn new(rt: &impl Abort, alloc: Global, blocks: u32) -> Plain {
-        let free = Node {
-            kind: None,
-            parent: 0,
-            size: 0,
-        };
         let mut nodes = Vec::new(alloc);
         for _ in 0..blocks / 16 * 16 {
-            nodes.push(free).expect(rt, "memory");
+            nodes.push(FREE).expect(rt, "memory");
         }
         let mut plain = Plain {
             blocks,
             nodes,
             entries: Vec::new(alloc),
             changes: Vec::new(alloc),
+            held: Vec::new(alloc),
         };
         plain.set(
             ROOT,
             Node {
                 kind: Some(NodeKind::Dir),
+                links: 1,
                 parent: ROOT,
                 size: 64,
             },
@@ -134,6 +144,25 @@ impl Plain {
     fn set_size(&mut self, number: u32, size: u32) {
         if let Some(node) = self.node(number) {
             self.set(number, Node { size, ..node });
+        }
+    }
+
+    fn links(&self, number: u32) -> u32 {
+        match self.node(number) {
+            Some(node) => node.links,
+            None => 0,
+        }
+    }
+
+    fn set_links(&mut self, number: u32, links: u32) {
+        if let Some(node) = self.node(number) {
+            self.set(number, Node { links, ..node });
+        }
+    }
+
+    fn set_parent(&mut self, number: u32, parent: u32) {
+        if let Some(node) = self.node(number) {
+            self.set(number, Node { parent, ..node });
         }
     }
 
@@ -212,7 +241,7 @@ impl Plain {
                 slashed,
             },
             Some(node) if slashed && !self.is_directory(node) => Led::Fail(Errno::ENOTDIR),
-            Some(node) => Led::Node(node),
+            Some(node) => Led::Named { dir, letter, node },
         }
     }
 
@@ -240,7 +269,7 @@ impl Plain {
 
     fn led(&self, cwd: u32, path: &[u8]) -> Result<u32, Errno> {
         match self.walk(cwd, path) {
-            Led::Node(node) => Ok(node),
+            Led::Node(node) | Led::Named { node, .. } => Ok(node),
             Led::Free { .. } => Err(Errno::ENOENT),
             Led::Fail(errno) => Err(errno),
         }
@@ -248,7 +277,7 @@ impl Plain {
 
     pub fn told(&self, number: u32) -> Answer {
         match self.kind(number) {
-            Some(kind) => Answer::Told(kind, number, 1, self.size(number)),
+            Some(kind) => Answer::Told(kind, number, self.links(number), self.size(number)),
             None => Answer::Nothing,
         }
     }
@@ -278,28 +307,298 @@ impl Plain {
 
     // A new node under a free name: its number, or that there is no room for the entry, the node and its block.
     fn make(&mut self, rt: &impl Abort, dir: u32, letter: u8, kind: NodeKind) -> Answer {
-        let grown = self.size(dir).wrapping_add(32);
-        let growth = blocks_of(grown).wrapping_sub(blocks_of(self.size(dir)));
         let size = if kind == NodeKind::Dir { 64 } else { 0 };
         let Some(node) = self.free_node() else {
             return Answer::Fault(Errno::ENOSPC);
         };
-        if growth.wrapping_add(blocks_of(size)) > self.free_blocks() {
+        if !self.has_room(dir, blocks_of(size)) {
             return Answer::Fault(Errno::ENOSPC);
         }
-        self.set_size(dir, grown);
-        let kind = Some(kind);
-        let parent = dir;
-        self.set(node, Node { kind, parent, size });
+        self.set(
+            node,
+            Node {
+                kind: Some(kind),
+                links: 1,
+                parent: dir,
+                size,
+            },
+        );
+        self.change(rt, node, 0, u32::MAX, 0);
+        self.put(rt, dir, letter, node);
+        Answer::Number(node)
+    }
+
+    // Whether a directory has room for one entry more, and so many blocks stay free.
+    fn has_room(&self, dir: u32, beside: u32) -> bool {
+        let size = self.size(dir);
+        let growth = blocks_of(size.wrapping_add(32)).wrapping_sub(blocks_of(size));
+        growth.wrapping_add(beside) <= self.free_blocks()
+    }
+
+    // A further entry, which is the last of its directory.
+    fn put(&mut self, rt: &impl Abort, dir: u32, letter: u8, node: u32) {
+        self.set_size(dir, self.size(dir).wrapping_add(32));
         self.entries
             .push(Entry { dir, letter, node })
             .expect(rt, "memory");
-        Answer::Number(node)
+    }
+
+    // Where an entry stands among all.
+    fn place(&self, dir: u32, letter: u8) -> Option<usize>
+        ensures { IfSome result (λ place. place < length self.now.entries.items) }
+    {
+        self.entries
+            .iter()
+            .position(|entry| entry.dir == dir && entry.letter == letter)
+    }
+
+    // Where the last entry of a directory stands among all.
+    fn last_place(&self, dir: u32) -> Option<usize>
+        ensures { IfSome result (λ place. place < length self.now.entries.items) }
+    {
+        self.entries.iter().rposition(|entry| entry.dir == dir)
+    }
+
+    // An entry has another name and another node, in its place.
+    fn aim(&mut self, dir: u32, letter: u8, new: u8, node: u32) {
+        if let Some(place) = self.place(dir, letter) {
+            self.entries[place] = Entry {
+                dir,
+                letter: new,
+                node,
+            };
+        }
+    }
+
+    // An entry goes: the last one of its directory takes its place.
+    fn take(&mut self, dir: u32, letter: u8) {
+        let Some(last) = self.last_place(dir) else {
+            return;
+        };
+        let moved = self.entries.remove(last);
+        if moved.letter != letter {
+            self.aim(dir, letter, moved.letter, moved.node);
+        }
+        self.set_size(dir, self.size(dir).wrapping_sub(32));
+    }
+
+    fn is_held(&self, node: u32) -> bool {
+        self.held.contains(&node)
+    }
+
+    // A link goes, and with the last one its node, but for a file that someone holds; the number of a socket's name that went
+    // is told.
+    fn drop_link(&mut self, node: u32) -> Answer {
+        let kind = self.kind(node);
+        self.set_links(node, self.links(node).wrapping_sub(1));
+        if self.links(node) != 0 || (kind == Some(NodeKind::File) && self.is_held(node)) {
+            return Answer::Done;
+        }
+        self.set(node, FREE);
+        if kind == Some(NodeKind::Sock) {
+            Answer::Number(node)
+        } else {
+            Answer::Done
+        }
+    }
+
+    /// Someone holds a node, once more.
+    pub fn hold(&mut self, rt: &impl Abort, node: u32) {
+        self.held.push(node).expect(rt, "memory");
+    }
+
+    /// Who held a node last lets it go: a file without links goes with the last that holds it.
+    pub fn close(&mut self) {
+        let Some(node) = self.held.pop() else {
+            return;
+        };
+        if self.links(node) == 0 && !self.is_held(node) {
+            self.set(node, FREE);
+        }
+    }
+
+    pub fn unlink(&mut self, path: &[u8]) -> Answer {
+        match self.walk(ROOT, path) {
+            Led::Named { node, .. } if self.is_directory(node) => Answer::Fault(Errno::EPERM),
+            Led::Named { dir, letter, node } => {
+                self.take(dir, letter);
+                self.drop_link(node)
+            }
+            Led::Node(_) => Answer::Fault(Errno::EPERM),
+            Led::Free { .. } => Answer::Fault(Errno::ENOENT),
+            Led::Fail(errno) => Answer::Fault(errno),
+        }
+    }
+
+    pub fn rmdir(&mut self, path: &[u8]) -> Answer {
+        match last_part(path) {
+            Part::Dot => return Answer::Fault(Errno::EINVAL),
+            Part::DotDot => return Answer::Fault(Errno::ENOTEMPTY),
+            _ => {}
+        }
+        match self.walk(ROOT, path) {
+            Led::Named { dir, letter, node } => self.rmdir_named(dir, letter, node),
+            Led::Node(_) => Answer::Fault(Errno::EBUSY),
+            Led::Free { .. } => Answer::Fault(Errno::ENOENT),
+            Led::Fail(errno) => Answer::Fault(errno),
+        }
+    }
+
+    fn rmdir_named(&mut self, dir: u32, letter: u8, node: u32) -> Answer {
+        if !self.is_directory(node) {
+            return Answer::Fault(Errno::ENOTDIR);
+        }
+        if self.size(node) != 64 {
+            return Answer::Fault(Errno::ENOTEMPTY);
+        }
+        if self.is_held(node) {
+            return Answer::Fault(Errno::EBUSY);
+        }
+        self.take(dir, letter);
+        self.drop_link(node)
+    }
+
+    pub fn link(&mut self, rt: &impl Abort, old: &[u8], new: &[u8]) -> Answer {
+        let node = match self.led(ROOT, old) {
+            Ok(node) => node,
+            Err(errno) => return Answer::Fault(errno),
+        };
+        if self.is_directory(node) {
+            return Answer::Fault(Errno::EPERM);
+        }
+        match self.walk(ROOT, new) {
+            Led::Node(_) | Led::Named { .. } => Answer::Fault(Errno::EEXIST),
+            Led::Free { slashed: true, .. } => Answer::Fault(Errno::ENOENT),
+            Led::Free { dir, letter, .. } => self.link_free(rt, dir, letter, node),
+            Led::Fail(errno) => Answer::Fault(errno),
+        }
+    }
+
+    fn link_free(&mut self, rt: &impl Abort, dir: u32, letter: u8, node: u32) -> Answer {
+        if self.links(node) == 127 {
+            return Answer::Fault(Errno::EMLINK);
+        }
+        if !self.has_room(dir, 0) {
+            return Answer::Fault(Errno::ENOSPC);
+        }
+        self.put(rt, dir, letter, node);
+        self.set_links(node, self.links(node).wrapping_add(1));
+        Answer::Done
+    }
+
+    pub fn rename(&mut self, rt: &impl Abort, old: &[u8], new: &[u8]) -> Answer {
+        let into = self.walk(ROOT, new);
+        match self.walk(ROOT, old) {
+            Led::Fail(errno) => Answer::Fault(errno),
+            Led::Free { .. } => Answer::Fault(Errno::ENOENT),
+            Led::Node(_) => match into {
+                Led::Fail(errno) => Answer::Fault(errno),
+                _ => Answer::Fault(Errno::EBUSY),
+            },
+            Led::Named { dir, letter, node } => self.move_into(rt, dir, letter, node, into),
+        }
+    }
+
+    fn move_into(&mut self, rt: &impl Abort, dir: u32, letter: u8, node: u32, into: Led) -> Answer {
+        match into {
+            Led::Fail(errno) => Answer::Fault(errno),
+            Led::Node(_) => Answer::Fault(Errno::EBUSY),
+            Led::Named {
+                dir: to,
+                letter: new,
+                node: other,
+            } => {
+                if self.is_above(node, to) {
+                    return Answer::Fault(Errno::EINVAL);
+                }
+                self.move_over(dir, letter, node, to, new, other)
+            }
+            Led::Free {
+                dir: to,
+                letter: new,
+                slashed,
+            } => {
+                if self.is_above(node, to) {
+                    return Answer::Fault(Errno::EINVAL);
+                }
+                self.move_to(rt, dir, letter, node, to, new, slashed)
+            }
+        }
+    }
+
+    // Whether a directory is another one or stands above it.
+    fn is_above(&self, node: u32, other: u32) -> bool {
+        let mut at = other;
+        for _ in 0..self.nodes.len() {
+            if at == node {
+                return true;
+            }
+            at = self.parent(at);
+        }
+        false
+    }
+
+    fn move_over(
+        &mut self,
+        dir: u32,
+        letter: u8,
+        node: u32,
+        to: u32,
+        new: u8,
+        other: u32,
+    ) -> Answer {
+        let moves = self.is_directory(node);
+        let goes = self.is_directory(other);
+        if node == other {
+            return Answer::Done;
+        }
+        if goes && !moves {
+            return Answer::Fault(Errno::EISDIR);
+        }
+        if moves && !goes {
+            return Answer::Fault(Errno::ENOTDIR);
+        }
+        if goes && self.size(other) != 64 {
+            return Answer::Fault(Errno::ENOTEMPTY);
+        }
+        if goes && self.is_held(other) {
+            return Answer::Fault(Errno::EBUSY);
+        }
+        self.aim(to, new, new, node);
+        self.take(dir, letter);
+        self.set_parent(node, to);
+        self.drop_link(other)
+    }
+
+    fn move_to(
+        &mut self,
+        rt: &impl Abort,
+        dir: u32,
+        letter: u8,
+        node: u32,
+        to: u32,
+        new: u8,
+        slashed: bool,
+    ) -> Answer {
+        if slashed && !self.is_directory(node) {
+            return Answer::Fault(Errno::ENOTDIR);
+        }
+        if dir == to {
+            self.aim(dir, letter, new, node);
+            return Answer::Done;
+        }
+        if !self.has_room(to, 0) {
+            return Answer::Fault(Errno::ENOSPC);
+        }
+        self.put(rt, to, new, node);
+        self.take(dir, letter);
+        self.set_parent(node, to);
+        Answer::Done
     }
 
     pub fn mkdir(&mut self, rt: &impl Abort, path: &[u8]) -> Answer {
         match self.walk(ROOT, path) {
-            Led::Node(_) => Answer::Fault(Errno::EEXIST),
+            Led::Node(_) | Led::Named { .. } => Answer::Fault(Errno::EEXIST),
             Led::Free { dir, letter, .. } => done(self.make(rt, dir, letter, NodeKind::Dir)),
             Led::Fail(errno) => Answer::Fault(errno),
         }
@@ -307,7 +606,7 @@ impl Plain {
 
     pub fn bind(&mut self, rt: &impl Abort, path: &[u8]) -> Answer {
         match self.walk(ROOT, path) {
-            Led::Node(_) => Answer::Fault(Errno::EADDRINUSE),
+            Led::Node(_) | Led::Named { .. } => Answer::Fault(Errno::EADDRINUSE),
             Led::Free { slashed: true, .. } => Answer::Fault(Errno::ENOENT),
             Led::Free { dir, letter, .. } => self.make(rt, dir, letter, NodeKind::Sock),
             Led::Fail(errno) => Answer::Fault(errno),
@@ -316,7 +615,7 @@ impl Plain {
 
     pub fn open(&mut self, rt: &impl Abort, path: &[u8], how: Opening) -> Answer {
         match self.walk(ROOT, path) {
-            Led::Node(node) => self.open_node(rt, node, how),
+            Led::Node(node) | Led::Named { node, .. } => self.open_node(rt, node, how),
             Led::Free { slashed: true, .. } => Answer::Fault(Errno::ENOENT),
             Led::Free { dir, letter, .. } if how.creates => {
                 self.make(rt, dir, letter, NodeKind::File)
@@ -463,6 +762,22 @@ impl Plain {
         }
         count
     }
+}
+
+// The last component of a path.
+fn last_part(path: &[u8]) -> Part {
+    let mut part = Part::Start;
+    let mut before = b'/';
+    for byte in path {
+        part = with_byte(part, before, *byte);
+        before = *byte;
+    }
+    part
+}
+
+/// Whether the last component of a path is `.` or `..`.
+pub fn ends_in_dots(path: &[u8]) -> bool {
+    matches!(last_part(path), Part::Dot | Part::DotDot)
 }
 
 // The component that a byte belongs to.

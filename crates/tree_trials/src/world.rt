@@ -1,5 +1,7 @@
 //! A tree of files with the heap that it is in.
 ghost use Rattle.std.specs.Prelude.{◌≡◌, ℕ, ◌<◌, ◌≤◌, IfOk, length};
+ghost use Rattle.kheap_slabs.specs.Paid.{HasFills};
+ghost use Rattle.memfs_ops.specs.Closing.{MayFree};
 ghost use Rattle.memfs_ops.specs.FileTree.{MayWalk, Stands, one_more};
 ghost use Rattle.posix_defs.specs.Tree.{Tree};
 ghost use Rattle.tree_trials.specs.Trials.{StandsHeld, holders, times};
@@ -33,25 +35,59 @@ pub fn booted(alloc: Global, blocks: u32) -> Result<World, Memory>
     })
 }
 
-/// What a call may fill: two of each class.
+/// What a call by one path may fill: two of each class.
 pub fn purse(rt: &impl Abort, heap: &KHeap) -> Purse
     ensures { MayWalk heap.now result }
 {
     assert!(rt; heap.heap() >= 2560);
     assert!(rt; heap.live() <= heap.heap() - 2560);
     Purse::of(Need {
-        proc: 0,
-        node: 0,
-        page: 0,
-        desc: 0,
         vnode: 2,
         name: 2,
         block: 2,
-        pipe: 0,
-        chunk: 0,
-        sock: 0,
+        ..NOTHING
     })
 }
+
+/// What a call by two paths may fill: four nodes, four names and two blocks.
+pub fn double_purse(rt: &impl Abort, heap: &KHeap) -> Purse
+    ensures { MayWalk heap.now result }
+{
+    assert!(rt; heap.heap() >= 2944);
+    assert!(rt; heap.live() <= heap.heap() - 2944);
+    Purse::of(Need {
+        vnode: 4,
+        name: 4,
+        block: 2,
+        ..NOTHING
+    })
+}
+
+/// What a close may fill: two blocks.
+pub fn closing_purse(rt: &impl Abort, heap: &KHeap) -> Purse
+    ensures fills { HasFills heap.now result }
+    ensures may { MayFree heap.now result }
+{
+    assert!(rt; heap.heap() >= 2176);
+    assert!(rt; heap.live() <= heap.heap() - 2176);
+    Purse::of(Need {
+        block: 2,
+        ..NOTHING
+    })
+}
+
+const NOTHING: Need = Need {
+    proc: 0,
+    node: 0,
+    page: 0,
+    desc: 0,
+    vnode: 0,
+    name: 0,
+    block: 0,
+    pipe: 0,
+    chunk: 0,
+    sock: 0,
+};
 
 /// One more may hold a node: fewer than a million nodes are held.
 pub fn expect_few(rt: &impl Abort, held: &[u32])
