@@ -1,3 +1,4 @@
+pub mod KnownLemmas
 pub mod LookLemmas
 pub mod PinLemmas
 pub mod FetchLemmas

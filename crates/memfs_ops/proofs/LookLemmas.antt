@@ -16,7 +16,7 @@ use Rattle.posix_defs.specs.PathCalls.{node_led}
 use Rattle.posix_defs.specs.declared.walked.Walked.{Walked}
 use Rattle.posix_defs.specs.declared.walked.Walked.TheVariants as walked
 use Rattle.tree_laws.proofs.TreeKeeps.{same_Ok}
-use Rattle.memfs_ops.specs.FileTree.{TreeView, in_call, Stands, MayWalk, Looks, Pays, KeepsLed}
+use Rattle.memfs_ops.specs.FileTree.{TreeView, in_call, Stands, MayWalk, Looks, Pays, KeepsLed, KeepsLast}
 
 pub lent_of : (heap : Heap) (purse : Purse) (fs : TreeView) (tree : Tree) (pins : ℕ → ℕ) → Stands heap fs tree pins → MayWalk heap purse → AllLent heap purse fs.names fs.vnodes fs.blocks fs.disk
 lent_of heap purse fs tree pins stands may = record {
@@ -87,6 +87,13 @@ keeps_none fs (walked.Node node) errno is = tt
 keeps_none fs (walked.Named parent name node slashed) errno is = absurd (cc)
 keeps_none fs (walked.Free parent name slashed) errno is = tt
 keeps_none fs (walked.Fail _) errno is = tt
+
+-- the last name of what a path led to, where it led to a node
+pub keeps_last : (fs : TreeView) (led : Walked) (number : ℕ) → ((parent : ℕ) (name : List ℕ) (node : ℕ) (slashed : Bool) → led ≡ walked.Named parent name node slashed → IsSome (name_slot fs.names (name_key parent name))) → node_led led ≡ Ok number → KeepsLast fs led
+keeps_last fs (walked.Node node) number named is = tt
+keeps_last fs (walked.Named parent name node slashed) number named is = named parent name node slashed refl
+keeps_last fs (walked.Free parent name slashed) number named is = absurd (cc)
+keeps_last fs (walked.Fail errno) number named is = absurd (cc)
 
 pub pays_trans : (first second third : Heap) (one two three : Purse) (a b c : TreeView) → Looks first second one two a b → Pays second third two three b c → Pays first third one three a c
 pays_trans first second third one two three a b c former latter = record {

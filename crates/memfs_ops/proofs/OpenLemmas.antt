@@ -12,10 +12,12 @@ use Rattle.posix_defs.specs.FileBytes.{resized}
 use Rattle.posix_defs.specs.PathCalls.{is_socket, is_socket_kind, kind_of_content, kind_in}
 use Rattle.posix_defs.specs.Tree.{Content, File, Directory, SocketName, Node, Tree, node_at, with_node, is_directory, is_directory_in, is_directory_content, IsInodeAt, IsInodeIn, found}
 use Rattle.posix_defs.specs.TreeChanges.{blocks_for, make, resize, with_bytes, with_bytes_in}
-use Rattle.memfs_ops.specs.FileTree.{TreeView, Stands}
+use Rattle.posix_defs.specs.declared.walked.Walked.{Walked}
+use Rattle.vnode_cache.specs.Nodes.{node_slot}
+use Rattle.memfs_ops.specs.FileTree.{TreeView, Stands, KeepsLast}
 use Rattle.memfs_ops.specs.Fetching.{IsFile}
 use Rattle.memfs_ops.specs.Changing.{ChangedTo, LedTo}
-use Rattle.memfs_ops.specs.Opening.{OpenedAs}
+use Rattle.memfs_ops.specs.Opening.{OpenedAs, KeepsOpened}
 use Rattle.posix_defs.specs.IsTree.{IsNewContent}
 use Rattle.posix_defs.proofs.TreeNodes.{found_in_directory}
 use Rattle.tree_laws.proofs.FoundAfter.{made_found}
@@ -96,3 +98,9 @@ is_made heap fs tree parent name content pins number is_dir free new is = made_n
 pub not_made : (heap : Heap) (fs : TreeView) (tree : Tree) (led : Result (ℕ × Tree) Errno) (pins : ℕ → ℕ) (errno : Errno) → LedTo heap fs tree led pins (Err errno) → OpenedAs heap fs tree led pins (Err errno)
 not_made heap fs tree (Ok (made, next)) pins errno is = absurd (cc)
 not_made heap fs tree (Err other) pins errno is = is
+
+-- ---- what an open leaves cached
+
+pub keeps_opened : (fs : TreeView) (led : Walked) (answer : Result ℕ Errno) → KeepsLast fs led → ((number : ℕ) → answer ≡ Ok number → IsSome (node_slot fs.vnodes number)) → KeepsOpened fs led answer
+keeps_opened fs led (Ok number) last there = (last, there number refl)
+keeps_opened fs led (Err errno) last there = tt

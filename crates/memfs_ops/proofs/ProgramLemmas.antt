@@ -1,17 +1,27 @@
 -- The program that the first bytes of a file name.
-use Rattle.std.proofs.Common.{◌≡◌, ℕ, ◌+◌, ◌≤◌, ◌++◌, Bool, true, false, not, ◌&&◌, ◌||◌, cond, List, [], ◌∷◌, length, take, drop, nat_eq, Some, refl, sym, ap, ◌∙◌, inl, inr, arith}
+use Rattle.std.proofs.Common.{◌≡◌, ℕ, ◌+◌, ◌≤◌, ◌++◌, Bool, true, false, not, ◌&&◌, ◌||◌, cond, List, [], ◌∷◌, length, take, drop, min, nat_eq, Option, Some, IsSome, refl, sym, ap, ◌∙◌, subst, inl, inr, arith}
 use Rattle.std.specs.Prelude.{codes}
-use Rattle.std.specs.List.{All, position_from, starts_with}
+use Rattle.std.specs.List.{All, AllByRecursion, position_from, starts_with}
 use lib.Pointwise.{pointwise}
 use Rattle.std.specs.Option.{ok_or}
-use Rattle.std.proofs.lemmas.Bool.{cases_eq, eq-eqb, ne_eqb, false≢true}
+use Rattle.std.proofs.lemmas.Bool.{cases_eq, eq-eqb, eqb-true, ne_eqb, false≢true}
 use Rattle.std.proofs.lemmas.List.{take-take, length-append}
 use Rattle.std.proofs.lemmas.List.Elements.{All-head, All-tail}
 use Rattle.std.proofs.Math.Seq.{take-append_seam}
 use Rattle.kabi_types.specs.declared.scripts.Program.{Program}
 use Rattle.kabi_values.specs.declared.errnos.Errno.TheVariants.{ENOEXEC}
 use Rattle.posix_defs.specs.PathCalls.{program_of, first_line}
-use Rattle.memfs_ops.specs.Starting.{line_of}
+use Rattle.posix_defs.specs.DiskContents.{data_block}
+use Rattle.posix_defs.specs.SoundDisk.{HasNode}
+use Rattle.kabi_values.specs.declared.inodes.Inode.{Inode}
+use Rattle.disk_laws.proofs.FormattedDisk.{one_inode}
+use Rattle.memfs_file.specs.Ranges.{asked_to_read}
+use Rattle.block_cache.specs.Blocks.{block_slot}
+use Rattle.disk_layout.specs.Disk.{Disk}
+use Rattle.lru_index.specs.Order.{Order}
+use Rattle.cached_disk.specs.Lent.{IsCached}
+use Rattle.memfs_ops.specs.FileTree.{TreeView}
+use Rattle.memfs_ops.specs.Starting.{line_of, file, KnowsLine, KeepsLine}
 
 same_position : {K : Type 0} (one other : K → Bool) (P : K → Type 0) → ((x : K) → P x → one x ≡ other x) → (i : ℕ) (xs : List K) → All P xs → position_from one i xs ≡ position_from other i xs
 same_position one other P same i [] all = refl
@@ -85,3 +95,31 @@ no_file false is = absurd (false≢true (sym is))
 pub no_test : (test : Bool) → not test ≡ true → test ≡ false
 no_test true is = absurd (false≢true is)
 no_test false is = refl
+
+-- ---- the block that a line stands in
+
+all_cached : (was is : Order ℕ) (numbers : List ℕ) → ((number : ℕ) → block_slot is number ≡ block_slot was number) → AllByRecursion (IsCached was) numbers → AllByRecursion (IsCached is) numbers
+all_cached was is [] same all = all
+all_cached was is (number ∷ numbers) same all = (subst (λ (o : Option ℕ). IsSome o) (sym (same number)) all.0, all_cached was is numbers same all.1)
+
+-- what was cached of a line is cached still, where at most the order of use is other
+pub still_line : (was is : TreeView) (number : ℕ) → is.disk ≡ was.disk → ((block : ℕ) → block_slot is.blocks block ≡ block_slot was.blocks block) → KnowsLine was number → KnowsLine is number
+still_line was is number disk same line inode has kind =
+    subst (λ (d : Disk). AllByRecursion (IsCached is.blocks) (asked_to_read d.blocks inode 0 (min 30 inode.size))) (sym disk)
+    (all_cached was.blocks is.blocks (asked_to_read was.disk.blocks inode 0 (min 30 inode.size)) same (line inode (subst (λ (d : Disk). HasNode d.blocks number inode) disk has) kind))
+
+-- what is kept of a line, from where nothing on the disk was other
+pub keeps_line : (was between is : TreeView) (number : ℕ) → between.disk.blocks ≡ was.disk.blocks → KeepsLine between is number → KeepsLine was is number
+keeps_line was between is number same line inode has kind some =
+    subst (λ (d : List (List ℕ)). IsCached is.blocks (data_block d inode 0)) same (line inode (subst (λ (d : List (List ℕ)). HasNode d number inode) (sym same) has) kind some)
+
+-- the test of a file, by its inode
+pub is_kind : (test : Bool) (inode : Inode) → test ≡ nat_eq inode.kind file → test ≡ true → inode.kind ≡ file
+is_kind test inode is plain = eqb-true inode.kind file (sym is ∙ plain)
+
+-- what isn't a file by one inode isn't by another
+pub other_kind : (disk : List (List ℕ)) (number : ℕ) (inode held : Inode) → HasNode disk number inode → HasNode disk number held → inode.kind ≡ file → (test : Bool) → test ≡ nat_eq held.kind file → test ≡ false → ⊥
+other_kind disk number inode held has also kind test is other =
+    let same : held ≡ inode = one_inode disk number held inode also.0 has.0 in
+    let there : nat_eq held.kind file ≡ true = eq-eqb held.kind file (ap (λ (i : Inode). i.kind) same ∙ kind) in
+    false≢true (sym other ∙ is ∙ there)

@@ -89,6 +89,12 @@ abbrev pub KeepsLed : TreeView → Walked → Type 0
 KeepsLed fs (walked.Named parent name node slashed) = IsSome (name_slot fs.names (name_key parent name)) × IsSome (node_slot fs.vnodes node)
 KeepsLed fs _ = Unit {0}
 
+-- the last name of what a path led to is cached, also one that was free
+abbrev pub KeepsLast : TreeView → Walked → Type 0
+KeepsLast fs (walked.Named parent name node slashed) = IsSome (name_slot fs.names (name_key parent name))
+KeepsLast fs (walked.Free parent name slashed) = IsSome (name_slot fs.names (name_key parent name))
+KeepsLast fs _ = Unit {0}
+
 -- What a call of a tree of files leaves of all else: of the heap the three classes alone are other, of the purse its counts
 -- and fills of them; what was made is paid for, what was filled is there, and no read is taken back.
 pub record Pays (old new : Heap) (before after : Purse) (was is : TreeView) : Type 0 where

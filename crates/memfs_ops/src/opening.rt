@@ -10,14 +10,15 @@ ghost use Rattle.posix_defs.specs.Calls.OnFiles.{opening_of};
 ghost use Rattle.posix_defs.specs.Files.Descriptions as descriptions;
 ghost use Rattle.posix_defs.specs.IsTree.{IsEntryName};
 ghost use Rattle.posix_defs.specs.PathCalls as calls;
+ghost use Rattle.posix_defs.specs.Paths.{resolve};
 ghost use Rattle.posix_defs.specs.SoundDisk.{HasNode};
 ghost use Rattle.posix_defs.specs.Tree.{Tree, IsInodeAt, found, is_directory as directory_in, is_in_use};
 ghost use Rattle.posix_defs.specs.declared.walked.Walked.TheVariants as walked;
 ghost use Rattle.name_cache.specs.Names.{name_slot};
 ghost use Rattle.vnode_cache.specs.Nodes.{node_slot};
-ghost use Rattle.memfs_ops.specs.FileTree.{Stands, MayWalk, Pays, one_more};
+ghost use Rattle.memfs_ops.specs.FileTree.{Stands, MayWalk, Pays, KnowsWay, in_call, one_more};
 ghost use Rattle.memfs_ops.specs.Fetching.{MayFetch};
-ghost use Rattle.memfs_ops.specs.Opening.{asks_of, cut_tree, unless_fault, OpenedAs};
+ghost use Rattle.memfs_ops.specs.Opening.{asks_of, cut_tree, unless_fault, OpenedAs, KeepsOpened};
 
 use crate::FileTree;
 use crate::telling::{is_directory, is_socket};
@@ -77,7 +78,8 @@ impl FileTree {
     /// EOPNOTSUPP where it is the name of a socket, ENOENT and ENOSPC where nothing is there and nothing is made, else the
     /// faults of the walk.
     ///
-    /// See [open](https://pubs.opengroup.org/onlinepubs/9699919799/functions/open.html).
+    /// Where all that it asks for on the way is cached, and no bytes are to go, nothing is read. The last name of the path and
+    /// the node that was opened are cached afterwards. See [open](https://pubs.opengroup.org/onlinepubs/9699919799/functions/open.html).
     pub fn open_node(
         &mut self,
         heap: &mut KHeap,
@@ -94,6 +96,11 @@ impl FileTree {
         ensures answer { (tree : Tree) (pins : ℕ → ℕ) → Stands heap.old self.old tree pins
             → OpenedAs heap.new self.new tree (calls.open_path tree cwd path.now (asks_of how)) pins result }
         ensures pays { Pays heap.old heap.new purse.old purse.new self.old self.new }
+        ensures saved { (tree : Tree) (pins : ℕ → ℕ) → Stands heap.old self.old tree pins
+            → KnowsWay (in_call heap.old purse.old self.old) tree cwd path.now → how.truncates ≡ false
+            → self.new.disk ≡ self.old.disk }
+        ensures kept { (tree : Tree) (pins : ℕ → ℕ) → Stands heap.old self.old tree pins
+            → KeepsOpened self.new (resolve tree cwd path.now) result }
     {
         match self.walk(heap, purse, cwd, path) {
             Walked::Node(node) => self.open_there(heap, purse, node, how),
@@ -121,6 +128,9 @@ impl FileTree {
         ensures answer { (tree : Tree) (pins : ℕ → ℕ) → Stands heap.old self.old tree pins
             → OpenedAs heap.new self.new tree (calls.open_there tree (asks_of how) node) pins result }
         ensures pays { Pays heap.old heap.new purse.old purse.new self.old self.new }
+        ensures saved { IsSome (node_slot self.old.vnodes node) → how.truncates ≡ false → self.new.disk ≡ self.old.disk }
+        ensures kept { (number : ℕ) → result ≡ Ok number → IsSome (node_slot self.new.vnodes number) }
+        ensures names { self.new.names ≡ self.old.names }
     {
         let inode = self.inode(heap, purse, node);
         match open_fault(&inode, how) {
@@ -150,6 +160,9 @@ impl FileTree {
         ensures stands { (tree : Tree) (pins : ℕ → ℕ) → Stands heap.old self.old tree pins
             → Stands heap.new self.new (cut_tree tree node asked) (one_more pins node) }
         ensures pays { Pays heap.old heap.new purse.old purse.new self.old self.new }
+        ensures saved { asked ≡ false → self.new.disk ≡ self.old.disk }
+        ensures kept { IsSome (node_slot self.new.vnodes node) }
+        ensures names { self.new.names ≡ self.old.names }
     {
         self.cut(heap, purse, node, inode, asked);
         self.hold(heap, node);
@@ -165,6 +178,8 @@ impl FileTree {
             → Stands heap.new self.new (cut_tree tree node asked) pins }
         ensures pays { Pays heap.old heap.new purse.old purse.new self.old self.new }
         ensures nodes { self.new.vnodes ≡ self.old.vnodes }
+        ensures saved { asked ≡ false → self.new.disk ≡ self.old.disk }
+        ensures names { self.new.names ≡ self.old.names }
     {
         if !asked {
             return;
@@ -195,6 +210,7 @@ impl FileTree {
         ensures answer { (tree : Tree) (pins : ℕ → ℕ) → Stands heap.old self.old tree pins
             → OpenedAs heap.new self.new tree (calls.open_led tree (asks_of how) (walked.Free parent name slash)) pins result }
         ensures pays { Pays heap.old heap.new purse.old purse.new self.old self.new }
+        ensures kept { KeepsOpened self.new (walked.Free parent name slash) result }
     {
         if !how.creates {
             return Err(Errno::ENOENT);

@@ -56,7 +56,8 @@ impl FileTree {
     /// Reads the entries of a directory that is held, `.` and `..` first, from byte `at` on, each of 32 bytes, as many whole
     /// ones as are there and have room, and answers how many bytes.
     ///
-    /// See [readdir](https://pubs.opengroup.org/onlinepubs/9699919799/functions/readdir.html).
+    /// Nothing is read of the disk where all blocks that it asks for are cached. The block of the last byte is cached
+    /// afterwards. See [readdir](https://pubs.opengroup.org/onlinepubs/9699919799/functions/readdir.html).
     pub fn list_node(
         &mut self,
         heap: &mut KHeap,
@@ -74,6 +75,11 @@ impl FileTree {
         ensures bytes { (tree : Tree) (pins : ℕ → ℕ) → Stands heap.old self.old tree pins
             → out.new ≡ calls.list_node tree node at (length out.old) ++ drop result out.old }
         ensures fetches { Fetches heap.old heap.new purse.old purse.new self.old self.new }
+        ensures saved { (inode : InodeOf) → HasNode self.old.disk.blocks node inode
+            → AllByRecursion (IsCached self.old.blocks) (asked_to_read self.old.disk.blocks inode at result)
+            → self.new.disk ≡ self.old.disk }
+        ensures last { (inode : InodeOf) → HasNode self.old.disk.blocks node inode → 0 < result
+            → IsCached self.new.blocks (data_block self.old.disk.blocks inode ((at + result - 1) / block_size)) }
     {
         let inode = self.held_inode(heap, node);
         let whole = out.len() / ENTRY_SIZE * ENTRY_SIZE;

@@ -6,8 +6,8 @@ ghost use Rattle.posix_defs.specs.PathCalls as calls;
 ghost use Rattle.posix_defs.specs.Paths.{resolve};
 ghost use Rattle.posix_defs.specs.Tree.{Tree, is_directory as directory_in, is_in_use};
 ghost use Rattle.vnode_cache.specs.Nodes.{node_slot};
-ghost use Rattle.memfs_ops.specs.FileTree.{Stands, MayWalk, Pays, KeepsLed};
-ghost use Rattle.memfs_ops.specs.Starting.{line_of, ArePrograms};
+ghost use Rattle.memfs_ops.specs.FileTree.{Stands, MayWalk, Pays, KnowsWay, KeepsLed, in_call};
+ghost use Rattle.memfs_ops.specs.Starting.{line_of, ArePrograms, KnowsLine, KeepsLine};
 
 use crate::FileTree;
 use crate::telling::{is_file, node_led};
@@ -19,7 +19,9 @@ impl FileTree {
     /// The program that a file names, by its place in the script: the file begins with `#!`, its name and a newline. EACCES
     /// where the path leads to a directory or a socket's name, ENOEXEC where the file names none, else the faults of the walk.
     ///
-    /// See [exec](https://pubs.opengroup.org/onlinepubs/9699919799/functions/exec.html).
+    /// Where all that is asked for on the way is cached, and what the first 30 bytes of the file are reached by, nothing is read.
+    /// What was found is cached afterwards, by its name and its inode, and so is its first block. See
+    /// [exec](https://pubs.opengroup.org/onlinepubs/9699919799/functions/exec.html).
     pub fn program_of(
         &mut self,
         heap: &mut KHeap,
@@ -38,8 +40,14 @@ impl FileTree {
         ensures stands { (tree : Tree) (pins : ℕ → ℕ) → Stands heap.old self.old tree pins
             → Stands heap.new self.new tree pins }
         ensures pays { Pays heap.old heap.new purse.old purse.new self.old self.new }
+        ensures saved { (tree : Tree) (pins : ℕ → ℕ) → Stands heap.old self.old tree pins
+            → KnowsWay (in_call heap.old purse.old self.old) tree cwd path.now
+            → ((number : ℕ) → calls.node_led (resolve tree cwd path.now) ≡ Ok number → KnowsLine self.old number)
+            → self.new.disk ≡ self.old.disk }
         ensures kept { (tree : Tree) (pins : ℕ → ℕ) → Stands heap.old self.old tree pins
             → KeepsLed self.new (resolve tree cwd path.now) }
+        ensures line { (tree : Tree) (pins : ℕ → ℕ) (number : ℕ) → Stands heap.old self.old tree pins
+            → calls.node_led (resolve tree cwd path.now) ≡ Ok number → KeepsLine self.old self.new number }
     {
         match node_led(self.walk(heap, purse, cwd, path)) {
             Ok(number) => self.program_at(heap, purse, number, script),
@@ -64,7 +72,10 @@ impl FileTree {
         ensures stands { (tree : Tree) (pins : ℕ → ℕ) → Stands heap.old self.old tree pins
             → Stands heap.new self.new tree pins }
         ensures pays { Pays heap.old heap.new purse.old purse.new self.old self.new }
+        ensures saved { IsSome (node_slot self.old.vnodes number) → KnowsLine self.old number
+            → self.new.disk ≡ self.old.disk }
         ensures kept { IsSome (node_slot self.new.vnodes number) }
+        ensures line { KeepsLine self.old self.new number }
         ensures names { self.new.names ≡ self.old.names }
     {
         let inode = self.inode(heap, purse, number);

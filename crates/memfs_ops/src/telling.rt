@@ -1,5 +1,5 @@
 //! Calls that look at the tree and change nothing of it.
-ghost use Rattle.std.specs.Prelude.{◌≡◌, ◌||◌, ℕ, true, not, Bool, List, None, Some, IsSome, if◌then◌else◌};
+ghost use Rattle.std.specs.Prelude.{◌≡◌, ◌==◌, ◌||◌, ℕ, true, not, Bool, List, None, Some, IsSome, if◌then◌else◌};
 ghost use Rattle.std.specs.List.{AllByRecursion};
 ghost use Rattle.kabi_calls.specs.Arguments.{path_fault};
 ghost use Rattle.lru_index.specs.NameKeys.{name_key};
@@ -13,6 +13,7 @@ ghost use Rattle.name_cache.specs.Names.{name_slot};
 ghost use Rattle.vnode_cache.specs.Nodes.{node_slot};
 ghost use Rattle.cached_disk.specs.TreeLent.{AreReordered, IsKnown};
 ghost use Rattle.memfs_ops.specs.FileTree.{Stands, MayWalk, Looks, KnowsWay, KeepsLed, in_call};
+ghost use Rattle.memfs_ops.specs.Starting.{file};
 
 use crate::FileTree;
 use cached_disk::{find_inode, find_name, walk_through};
@@ -153,6 +154,8 @@ impl FileTree {
     }
 
     /// The name of a socket that a path leads to; None exactly where the node is something else.
+    ///
+    /// Where all that is asked for is cached nothing is read. What was found is cached afterwards, by its name and its inode.
     pub fn find_name(
         &mut self,
         heap: &mut KHeap,
@@ -167,6 +170,11 @@ impl FileTree {
         ensures value { (tree : Tree) (pins : ℕ → ℕ) → Stands heap.old self.old tree pins
             → result ≡ calls.find_socket tree cwd path.now }
         ensures looks { Looks heap.old heap.new purse.old purse.new self.old self.new }
+        ensures saved { (tree : Tree) (pins : ℕ → ℕ) → Stands heap.old self.old tree pins
+            → KnowsWay (in_call heap.old purse.old self.old) tree cwd path.now
+            → AreReordered (in_call heap.old purse.old self.old) (in_call heap.new purse.new self.new) }
+        ensures kept { (tree : Tree) (pins : ℕ → ℕ) → Stands heap.old self.old tree pins
+            → KeepsLed self.new (resolve tree cwd path.now) }
     {
         match node_led(self.walk(heap, purse, cwd, path)) {
             Ok(number) => {
@@ -208,8 +216,9 @@ pub(crate) fn told(number: u32, inode: &Inode) -> StatInfo
 
 /// Whether a node is a file, by its inode.
 pub(crate) fn is_file(inode: &Inode) -> bool
-    ensures { (tree : Tree) (number : ℕ) → IsInodeAt tree number inode.now
+    ensures value { (tree : Tree) (number : ℕ) → IsInodeAt tree number inode.now
         → result ≡ not (directory_in tree number || calls.is_socket tree number) }
+    ensures kind { result ≡ (inode.now.kind == file) }
 {
     inode.kind == FILE
 }

@@ -122,6 +122,7 @@ impl FileTree {
             (parts heap.new purse.new self.new.blocks self.new.disk) }
         ensures may { MayFetch heap.new purse.new }
         ensures nodes { self.new.vnodes ≡ self.old.vnodes }
+        ensures names { self.new.names ≡ self.old.names }
     {
         size_through(
             heap,

@@ -1,4 +1,4 @@
-use Rattle.std.proofs.Common.{Bool, sym, ap, ◌∙◌, subst}
+use Rattle.std.proofs.Common.{◌≡◌, Bool, true, false, sym, ap, ◌∙◌, subst}
 use Rattle.posix_defs.specs.Tree.{Tree}
 use Rattle.posix_defs.specs.TreeChanges.{resize}
 use Rattle.memfs_node.proofs.Looking.{shown}
@@ -51,3 +51,9 @@ returns-clause-pays c =
 
 pub returns-clause-nodes : goal.returns-clause-nodes
 returns-clause-nodes c = ap (λ (v : TreeView). v.vnodes) c.renew.ensures.same ∙ c.size_in-done.ensures.nodes
+
+pub returns-clause-saved : goal.returns-clause-saved
+returns-clause-saved c = λ none. let both : true ≡ false = sym c.if-not-asked.false ∙ none in absurd (cc)
+
+pub returns-clause-names : goal.returns-clause-names
+returns-clause-names c = ap (λ (v : TreeView). v.names) c.renew.ensures.same ∙ c.size_in-done.ensures.names

@@ -1,4 +1,4 @@
-use Rattle.std.proofs.Common.{ℕ, Bool, false, ◌||◌, List, [], Result, Ok, Err, refl, sym, ap, ◌∙◌, subst}
+use Rattle.std.proofs.Common.{ℕ, Bool, false, ◌||◌, IsSome, List, [], Result, Ok, Err, refl, sym, ap, ◌∙◌, subst}
 use Rattle.kabi_values.specs.declared.errnos.Errno.{Errno}
 use Rattle.kabi_values.specs.declared.errnos.Errno.TheVariants.{ENOENT}
 use Rattle.posix_defs.specs.PathCalls as calls
@@ -7,6 +7,8 @@ use Rattle.posix_defs.specs.TreeChanges.{make}
 use Rattle.memfs_node.proofs.Looking.{same_directory}
 use Rattle.disk_laws.proofs.DiskNodes.{one_tree}
 use Rattle.posix_defs.specs.Tree.{found}
+use Rattle.lru_index.specs.NameKeys.{name_key}
+use Rattle.name_cache.specs.Names.{name_slot}
 use Rattle.memfs_ops.specs.Opening.{OpenedAs}
 use Rattle.memfs_ops.proofs.OpenLemmas.{is_made, not_made}
 use Rattle.memfs_ops.proofs.PaysLemmas.{pays_nothing, pays_on}
@@ -68,3 +70,8 @@ returns-in-Err-clause-answer c = λ tree pins stands.
     subst (λ (b : Bool). OpenedAs m.new.heap m.new.self tree (asked tree c.args.parent c.args.name b c.args.slash) pins (Err c.in-Err.errno)) (sym c.if-not-how.false)
     (subst (λ (s : Bool). OpenedAs m.new.heap m.new.self tree (asked tree c.args.parent c.args.name false s) pins (Err c.in-Err.errno)) (sym c.if-slash.false)
     (not_made m.new.heap m.new.self tree (make tree c.args.parent c.args.name (File [])) pins c.in-Err.errno (c.in-Err.ensures.answer tree pins stands)))
+
+pub returns-in-Ok-clause-kept : goal.returns-in-Ok-clause-kept
+returns-in-Ok-clause-kept c =
+    let h = c.hold_named in
+    (subst (λ (n : List ℕ). IsSome (name_slot h.new.self.names (name_key c.args.parent n))) c.copy-called.ensures h.ensures.named, h.ensures.kept)

@@ -1,7 +1,9 @@
-use Rattle.std.proofs.Common.{ℕ, Result, Ok, Err, refl, sym, subst}
+use Rattle.std.proofs.Common.{◌≡◌, ℕ, IsSome, Result, Ok, Err, refl, sym, ◌∙◌, subst}
 use Rattle.kabi_values.specs.declared.errnos.Errno.{Errno}
 use Rattle.posix_defs.specs.SoundDisk.{HasNode}
 use Rattle.posix_defs.specs.Tree.{Tree}
+use Rattle.tree_laws.proofs.TreeKeeps.{same_Ok}
+use Rattle.vnode_cache.specs.Nodes.{node_slot}
 use Rattle.memfs_ops.specs.Opening.{OpenedAs}
 use Rattle.memfs_ops.proofs.ChangeLemmas.{fetch_of}
 use Rattle.memfs_ops.proofs.LookLemmas.{pays_of, pays_trans}
@@ -52,3 +54,19 @@ pub returns-in-Some-clause-pays : goal.returns-in-Some-clause-pays
 returns-in-Some-clause-pays c =
     let i = c.inode-inode in
     pays_of c.args.heap.now i.new.heap c.args.purse.now i.new.purse c.args.self.now i.new.self i.ensures.looks
+
+pub returns-in-None-clause-saved : goal.returns-in-None-clause-saved
+returns-in-None-clause-saved c = λ some none. c.hold_cut.ensures.saved none ∙ (c.inode-inode.ensures.saved some).disk
+
+pub returns-in-None-clause-kept : goal.returns-in-None-clause-kept
+returns-in-None-clause-kept c = λ number is.
+    subst (λ (n : ℕ). IsSome (node_slot c.hold_cut.new.self.vnodes n)) (same_Ok c.args.node number is) c.hold_cut.ensures.kept
+
+pub returns-in-None-clause-names : goal.returns-in-None-clause-names
+returns-in-None-clause-names c = c.hold_cut.ensures.names ∙ c.inode-inode.ensures.names
+
+pub returns-in-Some-clause-saved : goal.returns-in-Some-clause-saved
+returns-in-Some-clause-saved c = λ some none. (c.inode-inode.ensures.saved some).disk
+
+pub returns-in-Some-clause-kept : goal.returns-in-Some-clause-kept
+returns-in-Some-clause-kept c = λ number is. let both : ◌≡◌ {A = Result ℕ Errno} (Err c.in-Some.errno) (Ok number) = is in absurd (cc)

@@ -58,3 +58,6 @@ returns-clause-may c =
 
 pub returns-clause-nodes : goal.returns-clause-nodes
 returns-clause-nodes c = ap (λ (v : TreeView). v.vnodes) c.self.view_is
+
+pub returns-clause-names : goal.returns-clause-names
+returns-clause-names c = ap (λ (v : TreeView). v.names) c.self.view_is
