@@ -1,5 +1,6 @@
 -- The dispatch over all calls.
 use Rattle.std.proofs.Common.{◌≡◌, ℕ, ℤ, true, false, List, Option, None, Some, refl, ap, sym, ◌∙◌, subst, w64}
+use Rattle.kabi_calls.specs.Arguments.{argument_fault}
 use Rattle.kabi_calls.specs.Call.{kind_of}
 use Rattle.kabi_calls.specs.declared.calls.Call.{Call}
 use Rattle.kabi_calls.specs.declared.calls.Call.TheVariants as call
@@ -9,12 +10,13 @@ use Rattle.kabi_values.specs.declared.short_lists.PollEntry.{PollEntry}
 use Rattle.kabi_types.specs.declared.scripts.Script.{Script}
 use Rattle.calls_built.specs.Built.{is_built}
 use Rattle.posix_defs.specs.Answer.{Answer, failed}
-use Rattle.posix_defs.specs.Machine.{answer_to, unless_wrong}
+use Rattle.posix_defs.specs.Machine.{answer_to, machine, unless_wrong}
 use Rattle.posix_defs.specs.Plain.{Plain}
 use Rattle.posix_defs.specs.declared.turner.Turned.{Turned}
 use Rattle.store_objects.specs.declared.objects.Objects.{Objects}
 use Rattle.store_objects.specs.Standing.{Performs}
-use Rattle.call_run.specs.Families.{HasDone, is_open, is_queued, is_refused, makes_memory}
+use Rattle.path_calls.specs.Walking.{Reaches}
+use Rattle.call_run.specs.Families.{HasDone, is_named, is_open, is_queued, is_refused, makes_memory}
 
 -- a wrong operand is told
 pub wrong_told : (script : Script) (plain : Plain) (pid : ℕ) (fault : Option Errno) (errno : Errno) (answer : Answer) → fault ≡ Some errno
@@ -83,19 +85,19 @@ queued_left (call.Write fd addr n done) p r w = absurd (w fd addr n done refl)
 queued_left _ p r w = refl
 
 -- one that can be run, makes no object, and is none of these is on descriptors
-pub open_left : (which : Call) → is_built (kind_of which) ≡ true → makes_memory (kind_of which) ≡ false → is_queued (kind_of which) ≡ false
+pub open_left : (which : Call) → is_built (kind_of which) ≡ true → is_named (kind_of which) ≡ false → makes_memory (kind_of which) ≡ false → is_queued (kind_of which) ≡ false
     → (which ≡ call.Getpid → ⊥) → (which ≡ call.Getppid → ⊥) → (which ≡ call.SchedYield → ⊥)
     → ((a : ℤ) → which ≡ call.Exit a → ⊥) → ((a b : ℤ) → which ≡ call.Waitpid a b → ⊥) → ((a b : ℤ) → which ≡ call.Kill a b → ⊥) → ((a b : ℤ) → which ≡ call.Munmap a b → ⊥)
     → ((a b : ℤ) → which ≡ call.Load a b → ⊥) → is_open (kind_of which) ≡ true
-open_left call.Getpid built other queued p q y e w k u l = absurd (p refl)
-open_left call.Getppid built other queued p q y e w k u l = absurd (q refl)
-open_left call.SchedYield built other queued p q y e w k u l = absurd (y refl)
-open_left (call.Exit a) built other queued p q y e w k u l = absurd (e a refl)
-open_left (call.Waitpid a b) built other queued p q y e w k u l = absurd (w a b refl)
-open_left (call.Kill a b) built other queued p q y e w k u l = absurd (k a b refl)
-open_left (call.Munmap a b) built other queued p q y e w k u l = absurd (u a b refl)
-open_left (call.Load a b) built other queued p q y e w k u l = absurd (l a b refl)
-open_left _ built other queued p q y e w k u l = cc
+open_left call.Getpid built unnamed other queued p q y e w k u l = absurd (p refl)
+open_left call.Getppid built unnamed other queued p q y e w k u l = absurd (q refl)
+open_left call.SchedYield built unnamed other queued p q y e w k u l = absurd (y refl)
+open_left (call.Exit a) built unnamed other queued p q y e w k u l = absurd (e a refl)
+open_left (call.Waitpid a b) built unnamed other queued p q y e w k u l = absurd (w a b refl)
+open_left (call.Kill a b) built unnamed other queued p q y e w k u l = absurd (k a b refl)
+open_left (call.Munmap a b) built unnamed other queued p q y e w k u l = absurd (u a b refl)
+open_left (call.Load a b) built unnamed other queued p q y e w k u l = absurd (l a b refl)
+open_left _ built unnamed other queued p q y e w k u l = cc
 
 -- one on descriptors that is none of these is refused by pipes
 pub refused_left : (which : Call) → is_open (kind_of which) ≡ true → ((a : ℤ) → which ≡ call.Close a → ⊥) → ((a : ℤ) → which ≡ call.Dup a → ⊥)
@@ -124,3 +126,27 @@ none_left _ refused r w l e t = cc
 -- as much is moved before as the write says
 pub done_is : (which : Call) (fd addr n : ℤ) (done moved : ℕ) → which ≡ call.Write fd addr n done → HasDone which moved → moved ≡ done
 done_is which fd addr n done moved is has = subst (λ w. HasDone w moved) is has
+
+-- ---- calls that name nodes
+
+-- a right call is answered as the machine answers it
+pub reaches_right : (script : Script) (old new : Objects) (pid : ℕ) (which : Call) (told : Turned) → argument_fault which ≡ None
+    → Reaches script old pid which (λ plain. answer_to script plain pid which) told new → Reaches script old pid which (λ plain. machine script plain pid which) told new
+reaches_right script old new pid which told right does =
+    subst (λ fault. Reaches script old pid which (λ plain. unless_wrong script plain pid fault (answer_to script plain pid which)) told new) (sym right) does
+
+-- the calls that name nodes are these
+pub none_named : (which : Call) → is_named (kind_of which) ≡ true → ((path : List ℕ) → which ≡ call.Stat path → ⊥)
+    → ((path : List ℕ) → which ≡ call.Mkdir path → ⊥)
+    → ((path : List ℕ) → which ≡ call.Rmdir path → ⊥)
+    → ((path : List ℕ) → which ≡ call.Unlink path → ⊥)
+    → ((old new : List ℕ) → which ≡ call.Link old new → ⊥)
+    → ((old new : List ℕ) → which ≡ call.Rename old new → ⊥)
+    → ⊥
+none_named (call.Stat path) named a b d e f g = a path refl
+none_named (call.Mkdir path) named a b d e f g = b path refl
+none_named (call.Rmdir path) named a b d e f g = d path refl
+none_named (call.Unlink path) named a b d e f g = e path refl
+none_named (call.Link old new) named a b d e f g = f old new refl
+none_named (call.Rename old new) named a b d e f g = g old new refl
+none_named _ named a b d e f g = cc

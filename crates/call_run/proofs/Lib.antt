@@ -3,9 +3,10 @@ pub mod Worlds
 pub mod Turning
 pub mod Sleeping
 pub mod FrameCounts
-pub mod LeavingNothing
+pub mod Reaching
 pub mod Owning
 pub mod Weighing
 pub mod Choosing
 pub mod Killing
 pub mod Ends
+pub mod Naming

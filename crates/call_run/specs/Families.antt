@@ -1,9 +1,26 @@
 -- The calls that can be run, by what a turn of them asks for.
-use Rattle.std.specs.Prelude.{ℕ, ◌≡◌, Bool, true, false}
+use Rattle.std.specs.Prelude.{ℕ, ◌≡◌, Bool, true, false, List}
+use Rattle.std.specs.List.{Contains}
 use Rattle.kabi_calls.specs.declared.calls.Call.{Call}
 use Rattle.kabi_calls.specs.declared.calls.Call.TheVariants as call
 use Rattle.kabi_calls.specs.declared.calls.CallKind.{CallKind}
 use Rattle.kabi_calls.specs.declared.calls.CallKind.TheVariants as kind
+use Rattle.machine_keeps.specs.Texts.{ArePathBytes}
+use Rattle.posix_defs.specs.Reaching.{paths_of}
+
+-- the calls that name nodes of the tree by their paths
+abbrev pub is_named : CallKind → Bool
+is_named kind.Stat = true
+is_named kind.Mkdir = true
+is_named kind.Rmdir = true
+is_named kind.Unlink = true
+is_named kind.Link = true
+is_named kind.Rename = true
+is_named _ = false
+
+-- no path that a call names has a zero byte
+abbrev pub HasPaths : Call → Type 0
+HasPaths which = (path : List ℕ) → Contains (paths_of which) path → ArePathBytes path
 
 -- the calls that make objects of a process or of its memory
 abbrev pub makes_memory : CallKind → Bool

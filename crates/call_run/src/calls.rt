@@ -15,10 +15,13 @@ ghost use Rattle.prog_ctl.specs.Waits.{wait_of};
 ghost use Rattle.store_objects.specs.Objects.{AreKept, IsCaller};
 ghost use Rattle.store_objects.specs.Standing.{Performs, StandsFor};
 ghost use Rattle.store_objects.specs.Uses.{UsesAtMost};
-ghost use Rattle.call_run.specs.Families.{HasDone, is_open, is_queued, is_refused, makes_memory};
+ghost use Rattle.path_calls.specs.Walking.{Reaches};
+ghost use Rattle.call_run.specs.Families.{HasDone, HasPaths, is_named, is_open, is_queued, is_refused, makes_memory};
 
 use kabi_types::{Call, Need, Reply, Script, may_wait};
 use memory_calls::{load, mmap, munmap, store};
+use name_calls::{link, mkdir, rename, rmdir, unlink};
+use path_calls::stat;
 use pipe_calls::{close, dup, dup2, fcntl, fstat, pipe};
 use posix_defs::Turned;
 use process_calls::{exit, fork, signal_process, wait, would_sleep};
@@ -28,6 +31,73 @@ use queue_calls::{
     readdir, write, write_would_block,
 };
 use store_objects::{Caller, Objects, Target, go_on, purse_for};
+
+/// Whether a call names a node by its path.
+fn is_named(call: &Call) -> bool
+    ensures { result ≡ is_named (kind_of call.now) }
+{
+    matches!(
+        call,
+        Call::Stat { .. }
+            | Call::Mkdir { .. }
+            | Call::Rmdir { .. }
+            | Call::Unlink { .. }
+            | Call::Link { .. }
+            | Call::Rename { .. }
+    )
+}
+
+/// Runs a call that names nodes by their paths, whose operands are right, and pays for what it caches. It stands by itself, since
+/// a function pays for the room of all its locals whenever it is entered.
+#[inline(never)]
+fn run_named(
+    script: &Script,
+    objects: &mut Objects,
+    caller: &Caller,
+    call: &Call,
+    need: Need,
+) -> Turned
+    requires stands { (world : World) × StandsFor script.now objects.old world }
+    requires kept { AreKept script.now objects.old }
+    requires caller { IsCaller objects.old caller.now.pid caller.now }
+    requires right { argument_fault call.now ≡ None }
+    requires among { is_named (kind_of call.now) ≡ true }
+    requires paths { HasPaths call.now }
+    requires needed { need ≡ need_of call.now }
+    requires room { live_bytes objects.old.heap + bound call.now ≤ objects.old.heap.heap }
+    ensures kept { AreKept script.now objects.new }
+    ensures uses { UsesAtMost objects.old.heap objects.new.heap (bound call.now) (slack call.now) }
+    ensures does { Reaches script.now objects.old caller.now.pid call.now (λ plain. answer_to script.now plain caller.now.pid call.now) result objects.new }
+{
+    let pid = caller.pid;
+    let control = caller.control;
+    let mut purse = purse_for(need, Target::File);
+    match call {
+        Call::Stat { path } => stat(script, objects, &mut purse, pid, control, path.items()),
+        Call::Mkdir { path } => mkdir(script, objects, &mut purse, pid, control, path.items()),
+        Call::Rmdir { path } => rmdir(script, objects, &mut purse, pid, control, path.items()),
+        Call::Unlink { path } => unlink(script, objects, &mut purse, pid, control, path.items()),
+        Call::Link { old, new } => link(
+            script,
+            objects,
+            &mut purse,
+            pid,
+            control,
+            old.items(),
+            new.items(),
+        ),
+        Call::Rename { old, new } => rename(
+            script,
+            objects,
+            &mut purse,
+            pid,
+            control,
+            old.items(),
+            new.items(),
+        ),
+        _ => unreachable!(),
+    }
+}
 
 /// Runs a call that makes objects of a process or of its memory, whose operands are right, and pays for them; all others go to
 /// `run_others`.
@@ -44,6 +114,7 @@ fn run_right(
     requires caller { IsCaller objects.old caller.now.pid caller.now }
     requires right { argument_fault call.now ≡ None }
     requires built { is_built (kind_of call.now) ≡ true }
+    requires unnamed { is_named (kind_of call.now) ≡ false }
     requires so_far { HasDone call.now caller.now.control.done }
     requires needed { need ≡ need_of call.now }
     requires room { live_bytes objects.old.heap + bound call.now ≤ objects.old.heap.heap }
@@ -78,6 +149,7 @@ fn run_others(
     requires caller { IsCaller objects.old caller.now.pid caller.now }
     requires right { argument_fault call.now ≡ None }
     requires built { is_built (kind_of call.now) ≡ true }
+    requires unnamed { is_named (kind_of call.now) ≡ false }
     requires other { makes_memory (kind_of call.now) ≡ false }
     requires so_far { HasDone call.now caller.now.control.done }
     requires needed { need ≡ need_of call.now }
@@ -149,6 +221,7 @@ fn run_free(script: &Script, objects: &mut Objects, caller: &Caller, call: &Call
     requires caller { IsCaller objects.old caller.now.pid caller.now }
     requires right { argument_fault call.now ≡ None }
     requires built { is_built (kind_of call.now) ≡ true }
+    requires unnamed { is_named (kind_of call.now) ≡ false }
     requires other { makes_memory (kind_of call.now) ≡ false }
     requires queued { is_queued (kind_of call.now) ≡ false }
     ensures kept { AreKept script.now objects.new }
@@ -247,15 +320,22 @@ pub fn run(
     requires kept { AreKept script.now objects.old }
     requires caller { IsCaller objects.old caller.now.pid caller.now }
     requires built { is_built (kind_of call.now) ≡ true }
+    requires paths { HasPaths call.now }
     requires so_far { HasDone call.now caller.now.control.done }
     requires needed { need ≡ need_of call.now }
     requires room { live_bytes objects.old.heap + bound call.now ≤ objects.old.heap.heap }
     ensures kept { AreKept script.now objects.new }
     ensures uses { UsesAtMost objects.old.heap objects.new.heap (bound call.now) (slack call.now) }
-    ensures does { Performs script.now objects.old caller.now.pid call.now (λ plain. machine script.now plain caller.now.pid call.now) result objects.new }
+    ensures does { Reaches script.now objects.old caller.now.pid call.now (λ plain. machine script.now plain caller.now.pid call.now) result objects.new }
 {
     match call.checked() {
-        Ok(()) => run_right(script, objects, buffer, caller, call, need),
+        Ok(()) => {
+            if is_named(call) {
+                run_named(script, objects, caller, call, need)
+            } else {
+                run_right(script, objects, buffer, caller, call, need)
+            }
+        }
         Err(errno) => go_on(
             script,
             objects,

@@ -16,7 +16,7 @@ ghost use Rattle.proc_table.specs.Procs.{proc_of};
 ghost use Rattle.prog_ctl.specs.Waits.{wait_of};
 ghost use Rattle.store_objects.specs.Objects.{AreKept, procs_of};
 ghost use Rattle.store_objects.specs.Standing.{StandsFor};
-ghost use Rattle.call_run.specs.Families.{HasDone};
+ghost use Rattle.call_run.specs.Families.{HasDone, HasPaths};
 
 use crate::calls;
 use kabi_types::{Cached, Call, Errno, Need, Reply, Script};
@@ -63,7 +63,7 @@ pub fn turn(
     requires needed { need ≡ need_of call.now }
     requires so_far { (proc : Proc) → proc_of (procs_of objects.old) pid ≡ Some proc → proc.status ≡ None → HasDone call.now proc.control.done }
     requires may { (world : World) × StandsFor script.now objects.old world
-        × (is_alive world.plain.table pid ≡ true → is_built (kind_of call.now) ≡ true)
+        × (is_alive world.plain.table pid ≡ true → (is_built (kind_of call.now) ≡ true) × HasPaths call.now)
         × (live_of world + bound call.now + reserve ≤ script.now.heap) }
     ensures kept { AreKept script.now objects.new }
     ensures turned { (world : World) → StandsFor script.now objects.old world

@@ -35,6 +35,12 @@ is_built kind.Pwrite = true
 is_built kind.Lseek = true
 is_built kind.Readdir = true
 is_built kind.Ftruncate = true
+is_built kind.Stat = true
+is_built kind.Mkdir = true
+is_built kind.Rmdir = true
+is_built kind.Unlink = true
+is_built kind.Link = true
+is_built kind.Rename = true
 is_built _ = false
 
 -- a statement makes no call but one that can be run

@@ -35,7 +35,13 @@ pub fn is_built(kind: CallKind) -> bool
         | CallKind::Pwrite
         | CallKind::Lseek
         | CallKind::Readdir
-        | CallKind::Ftruncate => true,
+        | CallKind::Ftruncate
+        | CallKind::Stat
+        | CallKind::Mkdir
+        | CallKind::Rmdir
+        | CallKind::Unlink
+        | CallKind::Link
+        | CallKind::Rename => true,
         _ => false,
     }
 }

@@ -47,7 +47,7 @@ fn script(alloc: Global, first: CallKind, second: CallKind) -> Result<Script, Fa
     })
 }
 
-/// The calls of processes, of memory, and on pipes.
+/// The calls of processes, of memory, on pipes, and on names of the tree of files.
 const BUILT: &[CallKind] = &[
     CallKind::Getpid,
     CallKind::Getppid,
@@ -74,15 +74,21 @@ const BUILT: &[CallKind] = &[
     CallKind::Lseek,
     CallKind::Readdir,
     CallKind::Ftruncate,
+    CallKind::Stat,
+    CallKind::Mkdir,
+    CallKind::Rmdir,
+    CallKind::Unlink,
+    CallKind::Link,
+    CallKind::Rename,
 ];
 
 #[test]
-fn twenty_five_of_the_calls_can_be_run(rt: HostRuntime) {
+fn thirty_one_of_the_calls_can_be_run(rt: HostRuntime) {
     for kind in BUILT {
         assert!(rt; is_built(*kind), "{kind:?}");
     }
     let count = CallKind::ALL.iter().filter(|kind| is_built(**kind)).count();
-    assert!(rt; count == 25);
+    assert!(rt; count == 31);
 }
 
 #[test]

@@ -5,6 +5,7 @@ ghost use Rattle.calls_built.specs.Built.{can_run, is_built};
 ghost use Rattle.kabi_calls.specs.Call.{kind_of};
 ghost use Rattle.kabi_types.specs.declared.scripts.Policy.TheVariants.{Heaviest, Youngest};
 ghost use Rattle.kheap_shelves.specs.declared.objects.Proc.{Proc};
+ghost use Rattle.machine_keeps.specs.Texts.{ArePathBytes};
 ghost use Rattle.posix_defs.specs.ValidScript.{IsValid};
 ghost use Rattle.posix_defs.specs.Victim.{score_of};
 ghost use Rattle.posix_defs.specs.World.{World};
@@ -12,14 +13,14 @@ ghost use Rattle.proc_table.specs.Procs.{proc_of};
 ghost use Rattle.proc_table.specs.Table.{AreStored};
 ghost use Rattle.store_objects.specs.Objects.{procs_of};
 ghost use Rattle.store_objects.specs.Standing.{StandsFor};
-ghost use Rattle.call_run.specs.Families.{HasDone};
+ghost use Rattle.call_run.specs.Families.{HasDone, HasPaths};
 
 use super::Store;
 use crate::calls::would_block;
 use crate::turns::turn;
 use kabi_types::{
-    Bytes64, Cached, Call, Chooser, Errno, Name27, Policy, Program, Programs, Reply, Script,
-    Statements, Weight,
+    Bytes64, Cached, Call, Chooser, Errno, Name27, NodeKind, Path, Policy, Program, Programs,
+    Reply, Script, Statements, Weight,
 };
 use posix_defs::{Turned, Turner};
 use prog_ctl::Awaited;
@@ -67,6 +68,11 @@ enum Ask {
     /// A number, an address, and how many bytes.
     Read(i64, i64, i64),
     Write(i64, i64, i64),
+    Stat(&'static [u8]),
+    Mkdir(&'static [u8]),
+    Rmdir(&'static [u8]),
+    Unlink(&'static [u8]),
+    Rename(&'static [u8], &'static [u8]),
 }
 
 /// The call.
@@ -106,6 +112,14 @@ fn call_of(ask: &Ask) -> Call
             n: *n,
             done: 0,
         },
+        Ask::Stat(path) => Path::of(path).map_or(Call::SchedYield, |path| Call::Stat { path }),
+        Ask::Mkdir(path) => Path::of(path).map_or(Call::SchedYield, |path| Call::Mkdir { path }),
+        Ask::Rmdir(path) => Path::of(path).map_or(Call::SchedYield, |path| Call::Rmdir { path }),
+        Ask::Unlink(path) => Path::of(path).map_or(Call::SchedYield, |path| Call::Unlink { path }),
+        Ask::Rename(old, new) => match (Path::of(old), Path::of(new)) {
+            (Some(old), Some(new)) => Call::Rename { old, new },
+            _ => Call::SchedYield,
+        },
     }
 }
 
@@ -118,6 +132,8 @@ enum Told {
     /// A child, and its wait status.
     Child(u32, u16),
     Byte(u8),
+    /// The number of a directory, and its bytes.
+    Directory(u32, u32),
     Ends(u16),
     Sleeps,
     Gone,
@@ -136,6 +152,9 @@ fn tells(turned: &Turned, told: &Told) -> bool {
         }
         (Turned::Done(Reply::Bytes(bytes)), Told::Byte(wanted)) => bytes.items()
             == [*wanted].as_slice(),
+        (Turned::Done(Reply::Stat(info)), Told::Directory(number, size)) => {
+            info.kind == NodeKind::Dir && info.number == *number && info.size == *size
+        }
         (Turned::Ended(status), Told::Ends(wanted)) => status == wanted,
         (Turned::Sleep, Told::Sleeps) => true,
         (Turned::Gone, Told::Gone) => true,
@@ -154,6 +173,31 @@ fn is_so_far(objects: &Objects, pid: u32, call: &Call) -> bool
     }
 }
 
+/// Whether a path has no zero byte.
+fn has_no_zero(path: &Path) -> bool
+    ensures { result ≡ true → ArePathBytes path.now }
+{
+    path.items().iter().all(|byte| *byte != 0)
+}
+
+/// Whether a call that is made here names no path with a zero byte.
+fn has_paths(call: &Call) -> bool
+    ensures { result ≡ true → HasPaths call.now }
+{
+    match call {
+        Call::Stat { path } | Call::Mkdir { path } | Call::Rmdir { path } | Call::Unlink { path } =>
+            has_no_zero(path),
+        Call::Rename { old, new } => has_no_zero(old) && has_no_zero(new),
+        Call::OpenFile { .. }
+        | Call::Exec { .. }
+        | Call::Chdir { .. }
+        | Call::Link { .. }
+        | Call::Bind { .. }
+        | Call::Connect { .. } => false,
+        _ => true,
+    }
+}
+
 /// A turn of a call, for which there has to be room.
 fn take<F: Scorer, G: Scorer>(
     rt: &impl Abort,
@@ -168,7 +212,7 @@ fn take<F: Scorer, G: Scorer>(
     let heap = store.objects.heap.heap();
     let live = store.objects.heap.live();
     assert!(rt; need_table::bound(call) + 2176 <= heap - live);
-    assert!(rt; is_so_far(&store.objects, pid, call));
+    assert!(rt; is_so_far(&store.objects, pid, call) && has_paths(call));
     turn(
         &store.script,
         &mut store.objects,
@@ -253,6 +297,8 @@ enum Trial {
     Blocking,
     Closing,
     Heights,
+    Evictions,
+    Directories,
 }
 
 /// Boots a store that is told these scores, and tries this with it.
@@ -283,6 +329,8 @@ fn try_with<F: Scorer, G: Scorer>(
         Trial::Blocking => only_what_waits_blocks(rt, &mut store),
         Trial::Closing => closes_in_all_orders(rt, &mut store),
         Trial::Heights => high_begins(rt, &mut store),
+        Trial::Evictions => what_is_cached_goes(rt, &mut store),
+        Trial::Directories => directories_are_found_again(rt, &mut store),
     }
     drop(store);
     Ok(())
@@ -606,4 +654,90 @@ fn closes_in_all_orders<F: Scorer, G: Scorer>(rt: &impl Abort, store: &mut Store
 #[test]
 fn a_pipe_goes_with_its_last_end(rt: HostRuntime) -> Result<(), Fail> {
     try_it(&rt, 65536, Policy::Heaviest, &Trial::Closing)
+}
+
+/// The root's inode is cached from the beginning. A name that isn't there costs the root's block, which is read once.
+const LOOKED: &[Row] = &[
+    (1, Ask::Stat(b"/"), Told::Directory(1, 64), 640),
+    (1, Ask::Stat(b"/a"), Told::Fails(Errno::ENOENT), 1728),
+    (1, Ask::Stat(b"/a"), Told::Fails(Errno::ENOENT), 1728),
+];
+
+/// Two directories fill the smallest heap: no further walk fits beside what is cached of them.
+const MADE: &[Row] = &[
+    (1, Ask::Mkdir(b"/a"), Told::Val(0), 2816),
+    (1, Ask::Mkdir(b"/a/b"), Told::Val(0), 5184),
+];
+
+/// They are found when all that was cached of them has gone; a call fills two names, two inodes and two blocks at most. A second
+/// look fills nothing.
+const FOUND: &[Row] = &[
+    (1, Ask::Stat(b"/a/b"), Told::Directory(3, 64), 3200),
+    (1, Ask::Stat(b"/a/b"), Told::Directory(3, 64), 3200),
+    (1, Ask::Stat(b"/a"), Told::Directory(2, 96), 3200),
+    (1, Ask::Rmdir(b"/a"), Told::Fails(Errno::ENOTEMPTY), 3200),
+    (1, Ask::Unlink(b"/a/b"), Told::Fails(Errno::EPERM), 3200),
+];
+
+/// What goes and what gets another name is told so from then on: the old name isn't cached any more, and nothing of a directory that
+/// has gone.
+const MOVED: &[Row] = &[
+    (1, Ask::Rename(b"/a/b", b"/c"), Told::Val(0), 3136),
+    (1, Ask::Rmdir(b"/a"), Told::Val(0), 2944),
+    (1, Ask::Stat(b"/a"), Told::Fails(Errno::ENOENT), 2944),
+    (1, Ask::Stat(b"/c"), Told::Directory(3, 64), 3008),
+];
+
+/// Whatever may go of a cache goes, which is no more than four objects.
+fn empties<F: Scorer, G: Scorer>(store: &mut Store<F, G>, what: Cached)
+    requires { (world : World) × StandsFor store.old.script store.old.objects world }
+    ensures { (world : World) × StandsFor store.new.script store.new.objects world }
+{
+    for _ in 0..4 {
+        store.evict(what);
+    }
+}
+
+/// Nothing is left but the root's inode, and nothing of that may go.
+fn empties_all<F: Scorer, G: Scorer>(rt: &impl Abort, store: &mut Store<F, G>)
+    requires { (world : World) × StandsFor store.old.script store.old.objects world }
+    ensures { (world : World) × StandsFor store.new.script store.new.objects world }
+{
+    empties(store, Cached::Name);
+    empties(store, Cached::Block);
+    empties(store, Cached::Vnode);
+    let some = store.evictable(Cached::Name)
+        || store.evictable(Cached::Block)
+        || store.evictable(Cached::Vnode);
+    assert!(rt; !some && store.live() == 640);
+}
+
+fn what_is_cached_goes<F: Scorer, G: Scorer>(rt: &impl Abort, store: &mut Store<F, G>)
+    requires { (world : World) × StandsFor store.old.script store.old.objects world }
+{
+    go_through(rt, store, LOOKED);
+    assert!(rt; store.reads() == 1);
+    empties_all(rt, store);
+    go_through(rt, store, LOOKED);
+    assert!(rt; store.reads() == 2);
+}
+
+#[test]
+fn what_is_cached_is_read_once_until_it_goes(rt: HostRuntime) -> Result<(), Fail> {
+    try_it(&rt, 8192, Policy::Heaviest, &Trial::Evictions)
+}
+
+fn directories_are_found_again<F: Scorer, G: Scorer>(rt: &impl Abort, store: &mut Store<F, G>)
+    requires { (world : World) × StandsFor store.old.script store.old.objects world }
+{
+    go_through(rt, store, MADE);
+    empties_all(rt, store);
+    go_through(rt, store, FOUND);
+    empties_all(rt, store);
+    go_through(rt, store, MOVED);
+}
+
+#[test]
+fn directories_outlive_what_is_cached_of_them(rt: HostRuntime) -> Result<(), Fail> {
+    try_it(&rt, 8192, Policy::Heaviest, &Trial::Directories)
 }

@@ -68,7 +68,7 @@ returns-in-Load-clause-does c =
 
 pub run_open-requires-clause-among : goal.run_open-requires-clause-among
 run_open-requires-clause-among c =
-    open_left c.args.call.now c.requires.built c.requires.other c.requires.queued
+    open_left c.args.call.now c.requires.built c.requires.unnamed c.requires.other c.requires.queued
     c.in_default.not-Getpid c.in_default.not-Getppid c.in_default.not-SchedYield
     c.in_default.not-Exit c.in_default.not-Waitpid c.in_default.not-Kill c.in_default.not-Munmap c.in_default.not-Load
 

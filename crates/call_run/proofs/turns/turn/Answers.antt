@@ -9,7 +9,8 @@ use Rattle.proc_table.specs.Procs.{proc_of}
 use Rattle.proc_table.specs.Table.{processes}
 use Rattle.store_objects.specs.declared.objects.Objects.{Objects}
 use Rattle.store_objects.specs.Objects.{IsCaller}
-use Rattle.store_objects.specs.Standing.{Performs, StandsFor}
+use Rattle.store_objects.specs.Standing.{StandsFor}
+use Rattle.path_calls.specs.Walking.{Reaches}
 use Rattle.store_objects.proofs.Callers.{caller_of, caller_running}
 use Rattle.store_objects.proofs.LiveIs.{live_is}
 use Rattle.store_objects.proofs.Marking.{kept_marked, since_mark, stands_marked}
@@ -30,7 +31,17 @@ run-turned-requires-clause-built c =
     let world = may.0 in
     let marked : Objects = record { heap = c.mark.new.self; procs = c.args.objects.now.procs; tree = c.args.objects.now.tree } in
     let stands : StandsFor c.args.script.now marked world = rw c.mark.ensures (stands_marked c.args.script.now c.args.objects.now _ _ world may.1) in
-    may.2 (alive_is c.args.script.now marked world.plain c.args.pid stands.processes ∙ caller_running marked c.args.pid c.in-Some.caller c.in-Some.ensures.some)
+    let both = may.2 (alive_is c.args.script.now marked world.plain c.args.pid stands.processes ∙ caller_running marked c.args.pid c.in-Some.caller c.in-Some.ensures.some) in
+    both.0
+
+pub run-turned-requires-clause-paths : goal.run-turned-requires-clause-paths
+run-turned-requires-clause-paths c =
+    let may = c.requires.may in
+    let world = may.0 in
+    let marked : Objects = record { heap = c.mark.new.self; procs = c.args.objects.now.procs; tree = c.args.objects.now.tree } in
+    let stands : StandsFor c.args.script.now marked world = rw c.mark.ensures (stands_marked c.args.script.now c.args.objects.now _ _ world may.1) in
+    let both = may.2 (alive_is c.args.script.now marked world.plain c.args.pid stands.processes ∙ caller_running marked c.args.pid c.in-Some.caller c.in-Some.ensures.some) in
+    both.1
 
 pub run-turned-requires-clause-stands : goal.run-turned-requires-clause-stands
 run-turned-requires-clause-stands c =
@@ -85,12 +96,9 @@ returns-clause-turned c = λ world stands.
     let caller : IsCaller marked pid c.in-Some.caller = c.in-Some.ensures.some in
     let alive = alive_is script marked world.plain pid stands_marked_too.processes ∙ caller_running marked pid c.in-Some.caller caller in
     let live : live_bytes marked.heap ≡ live_of world = ap live_bytes c.mark.ensures ∙ live_is script c.args.objects.now world stands c.heap_is_well_formed.ensures in
-    let does : Performs script marked pid which (λ plain. machine script plain pid which) c.run-turned.result new =
-    subst (λ p. Performs script marked p which (λ plain. machine script plain p which) c.run-turned.result new) caller.same c.run-turned.ensures.does in
-    let may = c.requires.may in
-    let first : StandsFor script marked may.0 = rw c.mark.ensures (stands_marked script c.args.objects.now _ _ may.0 may.1) in
-    let built = may.2 (alive_is script marked may.0.plain pid first.processes ∙ caller_running marked pid c.in-Some.caller caller) in
-    turns_on script marked new world pid which c.run-turned.result alive built live c.heap_is_well_formed-2.ensures c.run-turned.ensures.uses.live
+    let does : Reaches script marked pid which (λ plain. machine script plain pid which) c.run-turned.result new =
+    subst (λ p. Reaches script marked p which (λ plain. machine script plain p which) c.run-turned.result new) caller.same c.run-turned.ensures.does in
+    turns_on script marked new world pid which c.run-turned.result alive live c.heap_is_well_formed-2.ensures c.run-turned.ensures.uses.live
     (does world stands_marked_too alive)
 
 pub returns-clause-high : goal.returns-clause-high

@@ -2,6 +2,9 @@ use Rattle.std.proofs.Common.{Some, ap, ◌∙◌}
 use Rattle.kres_cli.proofs.Outcomes.{run_handed}
 use Rattle.kres_cli.proofs.tool.run_script.Goals as goal
 
+pub run_core-reported-requires-clause-booted : goal.run_core-reported-requires-clause-booted
+run_core-reported-requires-clause-booted g c = rw c.in_ok-core.ensures.store c.in_ok-core.ensures.booted
+
 pub returns : goal.returns
 returns g c =
     run_handed c.args.script.now c.run_core-reported.new.core.store c.hand_out.new.store_out c.run_core-reported.result

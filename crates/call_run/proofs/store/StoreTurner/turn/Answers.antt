@@ -1,15 +1,17 @@
-use Rattle.std.proofs.Common.{◌+◌, ◌≤◌, is_some, ap, subst, sym, ◌∙◌}
+use Rattle.std.proofs.Common.{◌≡◌, ◌+◌, ◌≤◌, is_some, ap, subst, sym, ◌∙◌}
 use Rattle.calls_built.specs.Built.{is_built}
 use Rattle.calls_built.proofs.NextCalls.{next_built}
 use Rattle.kabi_calls.specs.Call.{kind_of}
 use Rattle.posix_defs.specs.Needs.{bound}
-use Rattle.posix_defs.specs.Plain.{call_of}
+use Rattle.machine_keeps.proofs.Texting.{valid_texts}
+use Rattle.posix_defs.specs.Plain.{call_of, control_of}
 use Rattle.posix_defs.specs.Sizes.{reserve}
 use Rattle.posix_defs.specs.World.{live_of}
 use Rattle.posix_defs.specs.Turn.{TurnsTo}
 use Rattle.store_objects.specs.Objects.{procs_of}
 use Rattle.store_objects.specs.Standing.{StandsFor}
 use Rattle.store_objects.proofs.RunningProcs.{alive_is, running_as}
+use Rattle.call_run.specs.Families.{HasPaths}
 use Rattle.call_run.proofs.Turning.{next_done}
 use Rattle.call_run.proofs.store.StoreTurner.turn.Goals as goal
 
@@ -20,9 +22,11 @@ turn-requires-clause-may g c =
     let at : StandsFor script c.self.inside.objects may.0 = subst (λ store. StandsFor store.script store.objects may.0) (sym c.self.view_is) may.1 in (
       may.0,
       at,
-      (λ alive. ap (λ call. is_built (kind_of call)) (may.2 alive)
-          ∙ ap (λ store. is_built (kind_of (call_of store.script may.0.plain c.args.pid))) (sym c.self.view_is)
-          ∙ next_built script may.0.plain c.args.pid at.runs.built),
+      (λ alive.
+          let is : c.args.call.now ≡ call_of script may.0.plain c.args.pid = may.2 alive ∙ ap (λ store. call_of store.script may.0.plain c.args.pid) (sym c.self.view_is) in (
+            ap (λ call. is_built (kind_of call)) is ∙ next_built script may.0.plain c.args.pid at.runs.built,
+            subst HasPaths (sym is) ((valid_texts script at.runs.valid).paths (control_of may.0.plain c.args.pid)),
+          )),
       subst (λ store. live_of may.0 + bound c.args.call.now + reserve ≤ store.script.heap) (sym c.self.view_is) may.3,
     )
 

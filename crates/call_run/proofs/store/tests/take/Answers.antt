@@ -8,8 +8,10 @@ turn-requires-clause-may g c =
     let world = c.requires.stands.0 in
     let at : StandsFor c.store.inside.script c.store.inside.objects world = subst (λ store. StandsFor store.script store.objects world) (sym c.store.view_is) c.requires.stands.1 in
     let live = live_is c.store.inside.script c.store.inside.objects world at c.heap-heap.ensures.well_formed in
+    let named : c.has_paths.result ≡ true = cc in
+    let paths = c.has_paths.ensures named in
     let size : c.store.inside.objects.heap.heap ≡ c.store.inside.script.heap = c.store.invariant.size in
-    (world, at, (λ alive. c.requires.built), omega arith)
+    (world, at, (λ alive. (c.requires.built, paths)), omega arith)
 
 pub turn-requires-clause-so_far : goal.turn-requires-clause-so_far
 turn-requires-clause-so_far g c = λ proc found up.
