@@ -14,7 +14,7 @@ use Rattle.store_objects.proofs.EndingOne.{has_key, opens_ended}
 use Rattle.store_objects.proofs.EndingProcs.{kept_ended}
 use Rattle.store_objects.proofs.Keeping.{listed_in, moved_caches}
 use Rattle.store_objects.proofs.TreesOn.{caches_then}
-use Rattle.store_objects.proofs.endings.end_one.Goals as goal
+use Rattle.store_objects.proofs.endings.shut_down.Goals as goal
 
 pub close_all-requires-clause-listed : goal.close_all-requires-clause-listed
 close_all-requires-clause-listed c = let some = c.requires.kept in listed_in some.0 c.args.objects.now some.1
