@@ -45,7 +45,7 @@ use Rattle.store_objects.proofs.KeptNow.{named}
 use Rattle.store_objects.proofs.Leading.{settled_account}
 use Rattle.store_objects.proofs.Replies.{GoesOn}
 use Rattle.path_calls.proofs.NamesKept.{walk_left}
-use Rattle.path_calls.proofs.Walked.{KeepsFew, keeps_few, looked, mid, stands_mid, works_in_directory, works_there}
+use Rattle.path_calls.proofs.Walked.{KeepsFew, holds_directory, keeps_few, looked, mid, stands_mid, works_in_directory, works_there}
 use Rattle.path_calls.proofs.WaysKnown.{way}
 
 never : {X : Type 0} → true ≡ false → X
