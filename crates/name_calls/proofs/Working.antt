@@ -46,15 +46,15 @@ WorksInDirectory tree proc = proc.status ≡ None → is_directory tree proc.cwd
 
 in_directories : (tree : Tree) (procs : List Proc) → AreDirectories tree (directories_in procs) → AllByRecursion (WorksInDirectory tree) procs
 in_directories tree [] all = tt
-in_directories tree (proc ∷ procs) all = by_status proc.status refl all
+in_directories tree (proc ∷ procs) all = by_status proc.status refl all (in_directories tree procs)
   where
     never : {X : Type 0} (over : ℕ) → Some over ≡ None → X
     never over e = cc
 
     by_status : (o : Option ℕ) → proc.status ≡ o → AreDirectories tree (cond (is_none o) (proc.cwd ∷ directories_in procs) (directories_in procs))
-        → AllByRecursion (WorksInDirectory tree) (proc ∷ procs)
-    by_status None e all = ((λ runs. all.0), in_directories tree procs all.1)
-    by_status (Some over) e all = ((λ runs. never over (sym e ∙ runs)), in_directories tree procs all)
+        → (AreDirectories tree (directories_in procs) → AllByRecursion (WorksInDirectory tree) procs) → AllByRecursion (WorksInDirectory tree) (proc ∷ procs)
+    by_status None e all rest = ((λ runs. all.0), rest all.1)
+    by_status (Some over) e all rest = ((λ runs. never over (sym e ∙ runs)), rest all)
 
 -- a set may have it
 within : (tree : Tree) (procs : List Proc) → IsTree tree → AllByRecursion (WorksInDirectory tree) procs → AllByRecursion WorksWithin procs
