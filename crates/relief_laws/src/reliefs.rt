@@ -2,7 +2,6 @@
 
 ghost use Rattle.std.specs.Prelude.{◌≡◌, ℕ};
 ghost use Rattle.kabi_types.specs.declared.entries.Cached.{Cached};
-ghost use Rattle.kabi_types.specs.declared.entries.Event.TheVariants.{Evict, Kill};
 ghost use Rattle.kabi_types.specs.declared.entries.Noted.{Noted};
 ghost use Rattle.kabi_types.specs.declared.scripts.Script.{Script};
 ghost use Rattle.posix_defs.specs.CoreEvent.{EvictsOne, KillsOne};
@@ -21,9 +20,9 @@ pub fn a_kill_lowers_the_measure()
         → IsLess (measure_of new) (measure_of old) }
 {}
 
-/// From every state each chain of evictions and kills is finite, whichever are chosen. So where a call waits and none is
-/// admitted, finitely many of them lead to a state in which one that waits fits, none waits, or nobody but the first process
-/// is left to be killed.
+/// From every state each chain of evictions and kills is finite, whichever are chosen. What holds where such a chain can't go
+/// on, `kern_laws` says: where a call waits and no end stands, one is admitted, one that waits fits, something can be evicted,
+/// or a kill is licensed.
 pub fn reliefs_come_to_an_end()
     ensures { (script : Script) (s : CoreState) → ComesToAnEnd script s }
 {}
