@@ -16,4 +16,3 @@ pub mod OpenFiles
 pub mod Ranges
 pub mod Finding
 pub mod Saves
-pub mod Makes

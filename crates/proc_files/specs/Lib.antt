@@ -3,4 +3,3 @@ pub mod Answering
 pub mod Seeking
 pub mod Reading
 pub mod Closing
-pub mod Opening
