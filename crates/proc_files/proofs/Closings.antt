@@ -201,7 +201,7 @@ module _ (old mid : Heap) (kept : TableView) (pid fd : ℕ) (listed : AreListed 
     abbrev without_it : Files
     without_it = with_open files pid fd None
 
-    closes_so : after_close files pid fd ≡ released without_it place
+    pub closes_so : after_close files pid fd ≡ released without_it place
     closes_so = ap (close_in files pid fd) (descriptor_at_is numbers old kept files pid have fd ∙ ap (option_map (descriptor_by numbers.descs)) is)
 
     described : description_at files.descriptions place ≡ Some (counted_in numbers desc).is
@@ -243,26 +243,33 @@ module _ (old mid : Heap) (kept : TableView) (pid fd : ℕ) (listed : AreListed 
         by_named true = refl
         by_named false = gone_leaves without_it place
 
-    still_named : (b : Bool) → is_named (after_close files pid fd).descriptors place ≡ b → is_named without_it.descriptors place ≡ b
-    still_named b named = ap (λ (d : List Descriptors). is_named d place) (sym same_descriptors) ∙ named
+    named_same : (b : Bool) → is_named (after_close files pid fd).descriptors place ≡ b → is_named without_it.descriptors place ≡ b
+    named_same b named = ap (λ (d : List Descriptors). is_named d place) (sym same_descriptors) ∙ named
 
     -- another descriptor names the description
-    pub closes_one : desc.count ≢ 1 → Goes files (after_close files pid fd) None
-    closes_one more =
-        let named = named_by_some numbers.descs mid kept (after_close files pid fd) held.desc then.descriptors listed_then
-        (positive (namings_of mid.procs held.desc) (λ none. more (let left = counts_left in omega (arith, left, none)))) in
-        let so : after_close files pid fd ≡ without_it = closes_so ∙ ap (λ b. cond b without_it (description_gone without_it place)) (still_named true named) in
-        goes_none files (after_close files pid fd) (ap (λ (f : Files). f.tree) so) (ap (λ (f : Files). f.descriptions) so)
+    pub still_named : desc.count ≢ 1 → is_named without_it.descriptors place ≡ true
+    still_named more =
+        named_same true
+        (named_by_some numbers.descs mid kept (after_close files pid fd) held.desc then.descriptors listed_then
+        (positive (namings_of mid.procs held.desc) (λ none. more (let left = counts_left in omega (arith, left, none)))))
       where
         positive : (n : ℕ) → (n ≡ 0 → ⊥) → 0 < n
         positive zero some = absurd (some refl)
         positive (suc n) some = omega arith
 
+    pub closes_one : desc.count ≢ 1 → Goes files (after_close files pid fd) None
+    closes_one more =
+        let so : after_close files pid fd ≡ without_it = closes_so ∙ ap (λ b. cond b without_it (description_gone without_it place)) (still_named more) in
+        goes_none files (after_close files pid fd) (ap (λ (f : Files). f.tree) so) (ap (λ (f : Files). f.descriptions) so)
+
     -- or it was the last
+    pub none_names : desc.count ≡ 1 → is_named without_it.descriptors place ≡ false
+    none_names last =
+        named_same false (named_by_none numbers.descs mid kept (after_close files pid fd) held.desc then.descriptors listed_then apart (let left = counts_left in omega (arith, left, last)))
+
     pub closes_last : desc.count ≡ 1 → Goes files (after_close files pid fd) (node_of files (counted_in numbers desc).is.target)
     closes_last last =
-        let none = named_by_none numbers.descs mid kept (after_close files pid fd) held.desc then.descriptors listed_then apart (let left = counts_left in omega (arith, left, last)) in
-        let so : after_close files pid fd ≡ description_gone without_it place = closes_so ∙ ap (λ b. cond b without_it (description_gone without_it place)) (still_named false none) in
+        let so : after_close files pid fd ≡ description_gone without_it place = closes_so ∙ ap (λ b. cond b without_it (description_gone without_it place)) (none_names last) in
         subst (λ next. Goes files next (node_of files (counted_in numbers desc).is.target)) (sym so) (goes_at files without_it.descriptors place (counted_in numbers desc).is described)
 
 -- ---- whatever the number names

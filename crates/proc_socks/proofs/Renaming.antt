@@ -135,7 +135,7 @@ pub there_apart : (keyed : Sockets) (key other : ℕ) → sock_at keyed key ≡ 
 there_apart keyed key other vacant there same = none_there (sock_at keyed other) (ap (sock_at keyed) same ∙ vacant) there
 
 -- a socket says the same by other numbers, where those that it names have the same
-socket_same : (number now : ℕ → ℕ) (keyed : Sockets) → AreLinked keyed → ((key : ℕ) → IsSome (sock_at keyed key) → now key ≡ number key)
+pub socket_same : (number now : ℕ → ℕ) (keyed : Sockets) → AreLinked keyed → ((key : ℕ) → IsSome (sock_at keyed key) → now key ≡ number key)
     → (key : ℕ) (socket : Socket) → sock_at keyed key ≡ Some socket → socket_by number socket ≡ socket_by now socket
 socket_same number now keyed linked same key socket is =
     ap (λ stage. record socket { stage = stage })

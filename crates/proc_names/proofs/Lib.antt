@@ -1,0 +1,14 @@
+pub mod Ties
+pub mod Tables
+pub mod Placed
+pub mod Connected
+pub mod Made
+pub mod Named
+pub mod Steps
+pub mod BindAnswers
+pub mod Listening
+pub mod ConnectAnswers
+pub mod Freed
+pub mod Gone
+pub mod GoesOn
+pub mod Closed
