@@ -1,5 +1,5 @@
 -- What the machine answers to a bind, and what stands once one is done.
-use Rattle.std.proofs.Common.{◌≡◌, ◌≢◌, ℕ, ℤ, pos, ◌<◌, Bool, true, false, cond, List, [], length, Option, None, Some, Result, Ok, Err, IsSome, is_some, is_ok, refl, sym, ap, subst, ◌∙◌, arith, Contains}
+use Rattle.std.proofs.Common.{◌≡◌, ◌≢◌, ℕ, ℤ, pos, ◌<◌, ◌≤◌, Bool, true, false, cond, List, [], length, Option, None, Some, Result, Ok, Err, IsSome, is_some, is_ok, refl, sym, ap, subst, ◌∙◌, arith, Contains}
 use Rattle.std.specs.Prelude.{IsOk}
 use Rattle.std.proofs.lemmas.Bool.{false≢true}
 use Rattle.std.proofs.lemmas.List.{length-set}
@@ -14,7 +14,8 @@ use Rattle.kheap_shelves.specs.declared.objects.Sock.{Sock}
 use Rattle.kheap_slabs.specs.Heap.{Heap}
 use Rattle.kheap_slabs.specs.Paid.{HasFills}
 use Rattle.memfs_ops.specs.Changing.{LedTo}
-use Rattle.memfs_ops.specs.FileTree.{TreeView}
+use Rattle.disk_laws.proofs.DiskNodes.{one_tree}
+use Rattle.memfs_ops.specs.FileTree.{Stands, TreeView}
 use Rattle.open_laws.specs.Owned.{HasItsOwners, socks_named}
 use Rattle.place_laws.specs.Placed.{Numbers}
 use Rattle.posix_defs.specs.Answer.{Answer, failed, replied}
@@ -22,6 +23,7 @@ use Rattle.posix_defs.specs.Calls.OnSockets.{bind as call_bind, bind_at, bound_t
 use Rattle.posix_defs.specs.Calls.Opened.{Opened}
 use Rattle.posix_defs.specs.DiskFormat.{table_nodes}
 use Rattle.posix_defs.specs.Files.State.{Files, with_sockets, with_tree}
+use Rattle.posix_defs.specs.IsTree.{IsTree}
 use Rattle.posix_defs.specs.PathCalls.{bind_path, is_socket}
 use Rattle.posix_defs.specs.Plain.{Plain, with_files}
 use Rattle.posix_defs.specs.Process.{directory_of}
@@ -54,12 +56,12 @@ use Rattle.proc_names.proofs.Ties.{none_is}
 -- ---- faults
 
 -- what was done had no fault
-pub no_fault : {X : Type 0} (done : X) (fault : Option Errno) → IsFault {X} (Ok done) fault → fault ≡ None
+pub no_fault : {X : Type 0} (done : X) (fault : Option Errno) → IsFault {X = X} (Ok done) fault → fault ≡ None
 no_fault done None told = refl
 no_fault done (Some errno) told = cc
 
 -- what wasn't had this one
-pub one_fault : {X : Type 0} (errno : Errno) (fault : Option Errno) → IsFault {X} (Err errno) fault → fault ≡ Some errno
+pub one_fault : {X : Type 0} (errno : Errno) (fault : Option Errno) → IsFault {X = X} (Err errno) fault → fault ≡ Some errno
 one_fault errno None told = cc
 one_fault errno (Some other) told = cc
 
@@ -71,6 +73,10 @@ may_bind socket fine = by_parts socket.node (is_connected socket.stage) fine
     by_parts (Some node) b e = cc
     by_parts None true e = cc
     by_parts None false e = (refl, refl)
+
+-- the trees that one disk stands for are one
+pub directory_there : (h : Heap) (fs : TreeView) (one other : Tree) (pins also : ℕ → ℕ) (number : ℕ) → Stands h fs one pins → Stands h fs other also → is_directory one number ≡ true → is_directory other number ≡ true
+directory_there h fs one other pins also number stands beside is = subst (λ t. is_directory t number ≡ true) (one_tree fs.disk.blocks one other stands.behind beside.behind) is
 
 -- ---- what is other in the heap
 
@@ -93,6 +99,17 @@ bound_beside old mid names caches are = subst (λ (socks : List (Option Sock)). 
 
 pub named_beside : (old mid : Heap) (key : ℕ) → CachesChange old mid → Contains (socks_named old.descs) key → Contains (socks_named mid.descs) key
 named_beside old mid key caches named = subst (λ (descs : List (Option Desc)). Contains (socks_named descs) key) (sym (same_descs old mid caches)) named
+
+-- ---- no socket
+
+abbrev pub bind_as : Script → Plain → ℕ → List ℕ → Opened → ℕ → Answer
+bind_as script plain pid path opened = bind_at script plain pid path
+
+pub bind_lost : (numbers : Numbers) (others : ℕ → ℕ) (old : Heap) (kept : TableView) (fs : TreeView) (names : List (Option ℕ)) (script : Script) (plain : Plain) (pid : ℕ) (fd : ℤ) (path : List ℕ) (errno : Errno)
+    → HoldNames numbers others old kept fs names plain.files → FindsSocket numbers script plain pid fd (bind_as script plain pid path) (Err errno)
+    → AnswersNaming numbers others old kept fs names script plain pid (call_bind script plain pid fd path) (Fail errno)
+unfolding call_bind
+bind_lost numbers others old kept fs names script plain pid fd path errno hold finds = record { files = plain.files; replies = finds; holds = hold }
 
 -- ---- a socket that a number is open on
 
@@ -208,6 +225,20 @@ module _ (numbers : Numbers) (others : ℕ → ℕ) (old : Heap) (kept : TableVi
             }
 
 -- ---- the node that is made has a place, and is free
+
+pub led_makes : (mid : Heap) (now : TreeView) (tree : Tree) (cwd : ℕ) (path : List ℕ) (pins : ℕ → ℕ) (made : ℕ) → IsTree tree → is_directory tree cwd ≡ true → LedTo mid now tree (bind_path tree cwd path) pins (Ok made)
+    → (next : Tree) × MakesName tree next made
+led_makes mid now tree cwd path pins made is is_dir led = by_led (bind_path tree cwd path) refl led
+  where
+    same : (one other : ℕ) → ◌≡◌ {A = Result ℕ Errno} (Ok one) (Ok other) → other ≡ one
+    same one other e = cc
+
+    wrong : (errno : Errno) → ◌≡◌ {A = Result ℕ Errno} (Ok made) (Err errno) → ⊥
+    wrong errno e = cc
+
+    by_led : (o : Result (ℕ × Tree) Errno) → bind_path tree cwd path ≡ o → LedTo mid now tree o pins (Ok made) → (next : Tree) × MakesName tree next made
+    by_led (Err errno) at leads = absurd (wrong errno leads.0)
+    by_led (Ok (other, next)) at leads = (next, subst (MakesName tree next) (same made other leads.0) (bind_makes tree cwd path other next is is_dir at))
 
 module _ (numbers : Numbers) (others : ℕ → ℕ) (old : Heap) (kept : TableView) (fs : TreeView) (names : List (Option ℕ)) (files : Files) (hold : HoldNames numbers others old kept fs names files) (next : Tree) (made : ℕ)
     (makes : MakesName files.tree next made) where

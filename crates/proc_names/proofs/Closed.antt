@@ -1,6 +1,7 @@
 -- The machine once a number is closed whose socket, where that goes, has lost its name before.
 use Rattle.std.proofs.Common.{◌≡◌, ◌≢◌, ◌⊎◌, ℕ, ◌<◌, ◌≤◌, ◌==◌, Bool, true, false, cond, List, [], length, Option, None, Some, IsSome, is_some, refl, sym, ap, subst, ◌∙◌, arith, inl, inr, Contains}
 use Rattle.std.specs.Option.{option_map}
+use Rattle.std.specs.Prelude.{IfSome}
 use Rattle.std.proofs.lemmas.Bool.{cases_eq}
 use Rattle.std.proofs.lemmas.Bool.Decides.{eqb_tells}
 use Rattle.kheap_shelves.specs.Objects.{object}
@@ -13,7 +14,8 @@ use Rattle.kheap_slabs.specs.Heap.{Heap}
 use Rattle.memfs_ops.specs.FileTree.{TreeView}
 use Rattle.open_laws.specs.Described.{counted_in, node_in, target_in}
 use Rattle.open_laws.specs.Open.{descriptor_by}
-use Rattle.open_laws.specs.Owned.{HasItsOwners, sock_of, socks_named}
+use Rattle.open_laws.specs.Owned.{HasItsOwners, sock_in, sock_of, socks_named}
+use Rattle.open_laws.proofs.OwnerLemmas.{named_by as sock_named_by}
 use Rattle.open_laws.specs.Socketed.{AreRenamed}
 use Rattle.open_laws.proofs.SocketLemmas.{closed_renamed}
 use Rattle.place_laws.specs.Placed.{Numbers}
@@ -122,6 +124,11 @@ gone_elsewhere files place description is off = ap (λ (f : Files). f.sockets) (
     by_target (OnNode number) never = by_opens number (opens (rest files place) number)
     by_target (OnPipe pipe) never = refl
     by_target (OnSocket socket) never = absurd (never socket refl)
+
+-- the socket that a Desc is open on is named
+pub going_named : (h : Heap) (at : ℕ) (desc : Desc) → object h.descs at ≡ Some desc → (o : Option ℕ) → o ≡ sock_of desc.target → IfSome o (Contains (socks_named h.descs))
+going_named h at desc there None is = tt
+going_named h at desc there (Some key) is = sock_named_by h.descs at key (ap sock_in there ∙ sym is)
 
 -- ---- a number is closed
 

@@ -1,16 +1,20 @@
 -- What the machine answers to a connect, and what stands once one is done.
 use Rattle.std.proofs.Common.{◌≡◌, ◌≢◌, ℕ, ℤ, pos, ◌<◌, ◌≤◌, Bool, true, false, cond, List, [], ◌∷◌, ◌++◌, length, Option, None, Some, Result, Ok, Err, IsSome, is_some, unwrap_or, refl, sym, ap, subst, ◌∙◌, arith, zero, suc, Contains}
-use Rattle.std.specs.Prelude.{IsOk, OnErr, MatchBool, MatchOption, MatchResult}
+use Rattle.std.specs.Prelude.{IsOk, OnErr, OnOk, MatchBool, MatchOption, MatchResult}
 use Rattle.std.specs.Option.{option_map}
 use Rattle.std.proofs.lemmas.List.{get_or_past}
 use Rattle.kabi_values.specs.declared.errnos.Errno.{Errno}
 use Rattle.kabi_values.specs.declared.errnos.Errno.TheVariants.{ECONNREFUSED}
 use Rattle.kabi_values.specs.declared.replies.Reply.TheVariants.{Fail, Val}
 use Rattle.kabi_types.specs.declared.scripts.Script.{Script}
+use Rattle.kabi_values.specs.declared.classes.Class.TheVariants as class
+use Rattle.kheap_shelves.specs.Counts.{with_count}
 use Rattle.kheap_shelves.specs.Objects.{InUse, object}
+use Rattle.kheap_shelves.specs.Purse.{Purse}
 use Rattle.kheap_shelves.specs.declared.objects.Sock.{Sock}
 use Rattle.kheap_shelves.proofs.ObjectLemmas.{InUse-within}
 use Rattle.kheap_slabs.specs.Heap.{Heap}
+use Rattle.kheap_slabs.specs.Paid.{HasFills}
 use Rattle.memfs_ops.specs.FileTree.{Stands, TreeView}
 use Rattle.open_laws.specs.Owned.{HasItsOwners, socks_named}
 use Rattle.open_laws.specs.Socketed.{AreRenamed}
@@ -29,12 +33,14 @@ use Rattle.socket_laws.proofs.SocketCalls.{listening_there}
 use Rattle.socket_laws.proofs.SocketTable.{length-with, length-with_there, sock_at-with_other, there_within}
 use Rattle.usock_core.specs.Answers.{IsConnectedBy}
 use Rattle.usock_core.specs.Standing.{IsListeningIn, LeavesOthers, StandsFor as SocketsStandFor}
+use Rattle.usock_core.proofs.OneTable.{one_table}
 use Rattle.usock_core.proofs.StandingLemmas.{free_from}
 use Rattle.proc_table.specs.Table.{TableView}
 use Rattle.proc_descs.specs.Having.{HaveOpen}
 use Rattle.proc_files.specs.Closing.{CachesChange}
 use Rattle.proc_files.specs.Holding.{HoldFiles, holders}
 use Rattle.proc_files.proofs.Beside.{owners_beside, same_socks}
+use Rattle.proc_pipes.specs.Answering.{zero_of}
 use Rattle.proc_socks.specs.Finding.{FindsSocket}
 use Rattle.proc_socks.specs.Opening.{with_sock}
 use Rattle.proc_socks.specs.declared.finding.Found.{Found}
@@ -78,6 +84,49 @@ idle : (stage : Stage) → connect_fault stage ≡ None → stage ≡ Idle
 idle Idle fine = refl
 idle (Listening waiting) fine = cc
 idle (Connected peer shut_read shut_write) fine = cc
+
+-- ---- no socket
+
+abbrev pub connect_as : Script → Plain → ℕ → List ℕ → Opened → ℕ → Answer
+connect_as script plain pid path opened = connect_at script plain pid path
+
+pub connect_lost : (numbers : Numbers) (others : ℕ → ℕ) (old : Heap) (kept : TableView) (fs : TreeView) (names : List (Option ℕ)) (script : Script) (plain : Plain) (pid : ℕ) (fd : ℤ) (path : List ℕ) (errno : Errno)
+    → HoldNames numbers others old kept fs names plain.files → FindsSocket numbers script plain pid fd (connect_as script plain pid path) (Err errno)
+    → AnswersConnecting numbers others old old kept fs names script plain pid (call_connect script plain pid fd path) (Fail errno)
+unfolding call_connect
+connect_lost numbers others old kept fs names script plain pid fd path errno hold finds =
+    record { now = numbers; keeps = keeps_same old numbers; answers = record { files = plain.files; replies = finds; holds = hold } }
+
+-- ---- by what a call on sockets answers
+
+wrong_ok : (errno : Errno) → IsOk {T = Unit {0}} (Err errno) → ⊥
+wrong_ok errno ok = cc
+
+wrong_err : (errno : Errno) → ◌≡◌ {A = Result (Unit {0}) Errno} (Ok tt) (Err errno) → ⊥
+wrong_err errno e = cc
+
+done : (Y Z : Type 0) (result : Result (Unit {0}) Errno) → IsOk result → MatchResult result (λ _. Y) (λ _. Z) → Y
+done Y Z (Ok it) ok match = match
+done Y Z (Err errno) ok match = absurd (wrong_ok errno ok)
+
+not_done : (Y Z : Type 0) (result : Result (Unit {0}) Errno) (errno : Errno) → result ≡ Err errno → MatchResult result (λ _. Y) (λ _. Z) → Z
+not_done Y Z (Ok it) errno is match = absurd (let same : ◌≡◌ {A = Result (Unit {0}) Errno} (Ok it) (Err errno) = is in cc)
+not_done Y Z (Err other) errno is match = match
+
+pub on_done : (P : Type 0) (result : Result (Unit {0}) Errno) → P → OnOk result P
+on_done P (Ok it) holds = holds
+on_done P (Err errno) holds = tt
+
+pub same_socks_unless : (Y : Type 0) (old mid new : Heap) (result : Result (Unit {0}) Errno) → CachesChange old mid → MatchResult result (λ _. Y) (λ _. new ≡ mid) → OnErr result (new.socks ≡ old.socks)
+same_socks_unless Y old mid new (Ok it) caches match = tt
+same_socks_unless Y old mid new (Err errno) caches match = ap (λ (h : Heap). h.socks) match ∙ same_socks old mid caches
+
+-- a purse that has paid for a socket has filled what it had filled
+pub fills_spent : (h : Heap) (before after : Purse) (count : ℕ) (result : Result (Unit {0}) Errno)
+    → MatchResult result (λ _. after ≡ record before { left = with_count before.left class.Sock count }) (λ _. after ≡ before) → HasFills h before → HasFills h after
+fills_spent h before after count (Ok it) spent fills =
+    subst (HasFills h) (sym spent) (record { vnodes = fills.vnodes; names = fills.names; blocks = fills.blocks })
+fills_spent h before after count (Err errno) spent fills = subst (HasFills h) (sym spent) fills
 
 -- ---- a socket that a number is open on
 
@@ -205,15 +254,15 @@ module _ (numbers : Numbers) (others : ℕ → ℕ) (old : Heap) (kept : TableVi
         pub one_waits : is_refused table (Some key) ≡ false → (new : Heap) → LeavesOthers mid new → IsConnectedBy mid new on.key key
             → AnswersConnecting numbers others old new kept now names script plain pid (call_connect script plain pid fd path) (Val (pos 0))
         one_waits room new leaves it = record {
-          now = then;
+          now = (with_sock numbers plain.files it.made);
           keeps = keeps_sock old numbers plain.files it.made (ap (λ (socks : List (Option Sock)). object socks it.made) (sym (same_socks old mid caches)) ∙ it.vacant);
           answers = record {
-            files = with_sockets plain.files after;
-            replies = told ∙ ap (λ b. cond b (failed script plain pid ECONNREFUSED) (resocketed script plain pid after)) room;
+            files = with_sockets plain.files (after_connect sockets place (numbers.socks key) (length sockets));
+            replies = told ∙ ap (λ b. cond b (failed script plain pid ECONNREFUSED) (resocketed script plain pid (after_connect sockets place (numbers.socks key) (length sockets)))) room;
             holds = record {
-              held = files_resocketed numbers then others mid new kept now plain.files after leaves have held_mid;
+              held = files_resocketed numbers (with_sock numbers plain.files it.made) others mid new kept now plain.files (after_connect sockets place (numbers.socks key) (length sockets)) leaves have held_mid;
               bound = bound_on (name_of mid.socks) (name_of new.socks) names hold_mid.bound
-                  (λ k. name_says new connected_table stands_new.table k ∙ connect_nodes table on.key key it.made free within client_within key_within k ∙ sym (name_says mid table stands_table.table k));
+                  (λ k. name_says new (after_connect table on.key key it.made) stands_new.table k ∙ connect_nodes table on.key key it.made free within client_within key_within k ∙ sym (name_says mid table stands_table.table k));
               named = connected_names plain.files place (numbers.socks key) (length sockets) hold.named (get_or_past sockets (length sockets) None (omega arith)) (omega arith)
                   (placed_inside numbers.socks table sockets renamed on.key client_there) (placed_inside numbers.socks table sockets renamed key key_there);
               places = hold.places;
@@ -221,16 +270,7 @@ module _ (numbers : Numbers) (others : ℕ → ℕ) (old : Heap) (kept : TableVi
           };
         }
           where
-            then : Numbers
-            then = with_sock numbers plain.files it.made
-
-            abbrev after : Sockets
-            after = after_connect sockets place (numbers.socks key) (length sockets)
-
-            abbrev connected_table : Sockets
-            connected_table = after_connect table on.key key it.made
-
-            stands_new : SocketsStandFor new connected_table
+            stands_new : SocketsStandFor new (after_connect table on.key key it.made)
             stands_new = it.stands table stands_table
 
             free : sock_at table it.made ≡ None
@@ -254,12 +294,49 @@ module _ (numbers : Numbers) (others : ℕ → ℕ) (old : Heap) (kept : TableVi
                 idle (stage_at table on.key) (sym (connect_told numbers.socks table sockets renamed on.key client_there) ∙ fault_is ∙ fine) in
                 let both : Idle ≡ Listening waiting = sym idle_there ∙ ap (stage_at table) (sym same) ∙ listens in cc
 
-            have : HaveOpen then new kept (with_sockets plain.files after)
+            have : HaveOpen (with_sock numbers plain.files it.made) new kept (with_sockets plain.files (after_connect sockets place (numbers.socks key) (length sockets)))
             have =
-                have_changed mid new leaves numbers then.socks (keeps_sock mid numbers plain.files it.made it.vacant).socks owners_mid.held.targets after
+                have_changed mid new leaves numbers (with_sock numbers plain.files it.made).socks (keeps_sock mid numbers plain.files it.made it.vacant).socks owners_mid.held.targets (after_connect sockets place (numbers.socks key) (length sockets))
                 (record {
-                  keyed = connected_table;
+                  keyed = (after_connect table on.key key it.made);
                   stands = stands_new;
                   renamed = connect_renamed numbers.socks table sockets stands_table.linked renamed on.key key it.made client_there key_there free within apart;
                 })
                 kept plain.files held_mid.opened
+
+      -- by what the call on sockets answers
+      pub connect_done : (new : Heap) (result : Result (Unit {0}) Errno)
+          → ((all : Sockets) → SocketsStandFor mid all → MatchBool (is_refused all listener) (result ≡ Err ECONNREFUSED) (IsOk result))
+          → MatchResult result (λ _. MatchOption listener ⊥ (IsConnectedBy mid new on.key)) (λ _. new ≡ mid) → LeavesOthers mid new → ((key : ℕ) → listener ≡ Some key → IsListeningIn mid key)
+          → AnswersConnecting numbers others old new kept now names script plain pid (call_connect script plain pid fd path) (zero_of result)
+      connect_done new result answer connected leaves listening = by_listener listener refl (answer table stands_table) connected
+        where
+          refused_so : result ≡ Err ECONNREFUSED → new ≡ mid
+              → AnswersConnecting numbers others old mid kept now names script plain pid (call_connect script plain pid fd path) (Fail ECONNREFUSED)
+              → AnswersConnecting numbers others old new kept now names script plain pid (call_connect script plain pid fd path) (zero_of result)
+          refused_so is same answers =
+              subst (λ (r : Result (Unit {0}) Errno). AnswersConnecting numbers others old new kept now names script plain pid (call_connect script plain pid fd path) (zero_of r)) (sym is)
+              (subst (λ (h : Heap). AnswersConnecting numbers others old h kept now names script plain pid (call_connect script plain pid fd path) (Fail ECONNREFUSED)) (sym same) answers)
+
+          by_room : (key : ℕ) → listener ≡ Some key → (waiting : List ℕ) → stage_at table key ≡ Listening waiting → (b : Bool) → is_refused table (Some key) ≡ b
+              → MatchBool b (result ≡ Err ECONNREFUSED) (IsOk result) → MatchResult result (λ _. IsConnectedBy mid new on.key key) (λ _. new ≡ mid)
+              → AnswersConnecting numbers others old new kept now names script plain pid (call_connect script plain pid fd path) (zero_of result)
+          by_room key is waiting listens true full told match =
+              refused_so told (not_done (IsConnectedBy mid new on.key key) (new ≡ mid) result ECONNREFUSED told match) (all_wait key is waiting listens full)
+          by_room key is waiting listens false room told match =
+              by_result result told (done (IsConnectedBy mid new on.key key) (new ≡ mid) result told match)
+            where
+              by_result : (r : Result (Unit {0}) Errno) → IsOk r → IsConnectedBy mid new on.key key
+                  → AnswersConnecting numbers others old new kept now names script plain pid (call_connect script plain pid fd path) (zero_of r)
+              by_result (Ok it) ok by = one_waits key is waiting listens room new leaves by
+              by_result (Err errno) ok by = absurd (wrong_ok errno ok)
+
+          by_listener : (o : Option ℕ) → listener ≡ o → MatchBool (is_refused table o) (result ≡ Err ECONNREFUSED) (IsOk result)
+              → MatchResult result (λ _. MatchOption o ⊥ (IsConnectedBy mid new on.key)) (λ _. new ≡ mid)
+              → AnswersConnecting numbers others old new kept now names script plain pid (call_connect script plain pid fd path) (zero_of result)
+          by_listener None is told match = refused_so told (not_done ⊥ (new ≡ mid) result ECONNREFUSED told match) (nobody_listens is)
+          by_listener (Some key) is told match =
+              let listens = listening key is in
+              by_room key is listens.waiting
+              (ap (λ (all : Sockets). stage_at all key) (one_table mid table listens.sockets stands_table listens.stands) ∙ listens.listens)
+              (is_refused table (Some key)) refl told match

@@ -71,18 +71,16 @@ module _ (numbers : Numbers) (old new : Heap) (kept : TableView) (files now : Fi
       then : HaveOpen numbers new kept now
       then = leads numbers have
 
-      abbrev next : Sockets
-      next = then.opened.socketed.keyed
 
       had : (node : ℕ) → name_of new.socks key ≡ Some node → name_of old.socks key ≡ Some node
       had node is =
-          let in_next : node_of next key ≡ Some node = sym (name_says new next then.opened.socketed.stands.table key) ∙ is in
+          let in_next : node_of then.opened.socketed.keyed key ≡ Some node = sym (name_says new then.opened.socketed.keyed then.opened.socketed.stands.table key) ∙ is in
           let sock = object_of old.socks key (was_used key (named_used new key node is)) in
           let there = (found old keyed key sock.0 stands.table sock.1).there in
           name_says old keyed stands.table key
           ∙ sym (placed_node numbers.socks keyed files.sockets have.opened.socketed.renamed key there)
           ∙ sym (same (numbers.socks key))
-          ∙ placed_node numbers.socks next now.sockets then.opened.socketed.renamed key (node_there next key node in_next)
+          ∙ placed_node numbers.socks then.opened.socketed.keyed now.sockets then.opened.socketed.renamed key (node_there then.opened.socketed.keyed key node in_next)
           ∙ in_next
 
       has : (node : ℕ) → name_of old.socks key ≡ Some node → name_of new.socks key ≡ Some node
@@ -90,13 +88,13 @@ module _ (numbers : Numbers) (old new : Heap) (kept : TableView) (files now : Fi
           let in_keyed : node_of keyed key ≡ Some node = sym (name_says old keyed stands.table key) ∙ is in
           let there = node_there keyed key node in_keyed in
           let at =
-          key_at numbers.socks next now.sockets then.opened.socketed.renamed (numbers.socks key) node
+          key_at numbers.socks then.opened.socketed.keyed now.sockets then.opened.socketed.renamed (numbers.socks key) node
           (same (numbers.socks key) ∙ placed_node numbers.socks keyed files.sockets have.opened.socketed.renamed key there ∙ in_keyed) in
-          let used = was_used at.key (used_from new next at.key then.opened.socketed.stands.table at.there) in
+          let used = was_used at.key (used_from new then.opened.socketed.keyed at.key then.opened.socketed.stands.table at.there) in
           let sock = object_of old.socks at.key used in
           let one : at.key ≡ key =
           have.opened.socketed.renamed.once at.key key (found old keyed at.key sock.0 stands.table sock.1).there there at.at in
-          name_says new next then.opened.socketed.stands.table key ∙ ap (node_of next) (sym one) ∙ at.named
+          name_says new then.opened.socketed.keyed then.opened.socketed.stands.table key ∙ ap (node_of then.opened.socketed.keyed) (sym one) ∙ at.named
 
       by_names : (one other : Option ℕ) → name_of new.socks key ≡ one → name_of old.socks key ≡ other → name_of new.socks key ≡ name_of old.socks key
       by_names (Some node) other is was = is ∙ sym (had node is)

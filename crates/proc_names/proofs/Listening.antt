@@ -16,7 +16,7 @@ use Rattle.proc_names.proofs.Placed.{once_by_key}
 use Rattle.proc_names.proofs.Tables.{name_says, node_of}
 use Rattle.proc_names.proofs.Ties.{bound_on, none_is}
 
-same_number : {a b : ℕ} → Some a ≡ Some b → a ≡ b
+pub same_number : {a b : ℕ} → Some a ≡ Some b → a ≡ b
 same_number e = cc
 
 -- a socket that is kept as one that listens does

@@ -1,0 +1,53 @@
+use Rattle.std.proofs.Common.{◌≡◌, ◌<◌, ◌∙◌, ap, arith, is_some, subst, sym, w64}
+use Rattle.std.proofs.lemmas.Int.{to_z-of_z}
+use Rattle.kabi_calls.specs.Arguments.{count_of}
+use Rattle.posix_defs.specs.Calls.OnDescriptors.{close}
+use Rattle.posix_defs.specs.Files.Closing.{after_close}
+use Rattle.proc_descs.specs.Naming.{named_by}
+use Rattle.proc_descs.proofs.NumberCloses.{no_some}
+use Rattle.proc_descs.proofs.NumberNames.{desc_named_by}
+use Rattle.proc_pipes.proofs.Answered.{on_it, on_nothing}
+use Rattle.proc_names.specs.Holding.{HoldNames}
+use Rattle.proc_names.proofs.closing.close_number.Goals as goal
+
+pub returns-in_default-clause-answers : goal.returns-in_default-clause-answers
+unfolding close
+returns-in_default-clause-answers c = λ numbers others script plain hold.
+    let fd = to_z-of_z w64 c.args.fd c.ranges.fd in
+    let held : c.descriptor_of.result ≡ named_by c.args.heap.now c.args.procs.now c.args.pid c.args.fd =
+    subst (λ z. c.descriptor_of.result ≡ named_by c.args.heap.now c.args.procs.now c.args.pid z) fd c.descriptor_of.ensures.held in
+    record {
+      files = plain.files;
+      replies = on_nothing numbers c.args.heap.now c.args.procs.now script plain c.args.pid hold.held.opened c.args.fd _ (sym held ∙ no_some c.descriptor_of.result c.in_default.not-Some);
+      holds = hold;
+    }
+
+pub overflow_cast-number : goal.overflow_cast-number
+overflow_cast-number c =
+    let fd = to_z-of_z w64 c.args.fd c.ranges.fd in
+    let count : c.count_of-number.result ≡ count_of c.args.fd = subst (λ z. c.count_of-number.result ≡ count_of z) fd c.count_of-number.ensures in
+    let few : count_of c.args.fd < 32 = subst (λ z. count_of z < 32) fd (c.descriptor_of.ensures.within (ap is_some c.in-Some.is)) in
+    omega (arith, count, few)
+
+pub close_open-requires-clause-number : goal.close_open-requires-clause-number
+close_open-requires-clause-number c =
+    let fd = to_z-of_z w64 c.args.fd c.ranges.fd in
+    let count : c.count_of-number.result ≡ count_of c.args.fd = subst (λ z. c.count_of-number.result ≡ count_of z) fd c.count_of-number.ensures in
+    let few : count_of c.args.fd < 32 = subst (λ z. count_of z < 32) fd (c.descriptor_of.ensures.within (ap is_some c.in-Some.is)) in
+    omega (arith, count, few)
+
+pub returns-clause-answers : goal.returns-clause-answers
+unfolding close
+returns-clause-answers c = λ numbers others script plain hold.
+    let fd = to_z-of_z w64 c.args.fd c.ranges.fd in
+    let held : c.descriptor_of.result ≡ named_by c.args.heap.now c.args.procs.now c.args.pid c.args.fd =
+    subst (λ z. c.descriptor_of.result ≡ named_by c.args.heap.now c.args.procs.now c.args.pid z) fd c.descriptor_of.ensures.held in
+    let count : c.count_of-number.result ≡ count_of c.args.fd = subst (λ z. c.count_of-number.result ≡ count_of z) fd c.count_of-number.ensures in
+    let is = sym held ∙ c.in-Some.is in
+    let desc = desc_named_by c.args.heap.now c.args.procs.now _ c.requires.listed c.requires.owners c.args.pid c.args.fd c.in-Some._held is in
+    record {
+      files = after_close plain.files c.args.pid (count_of c.args.fd);
+      replies = on_it numbers c.args.heap.now c.args.procs.now script plain c.args.pid hold.held.opened c.args.fd c.in-Some._held desc.0 is desc.1 _;
+      holds = subst (λ n. HoldNames numbers others c.close_open.new.heap c.args.procs.now c.close_open.new.tree c.close_open.new.names (after_close plain.files c.args.pid n)) count
+          (c.close_open.ensures.closed numbers others plain.files hold);
+    }

@@ -1,0 +1,42 @@
+use Rattle.std.proofs.Common.{ap, refl}
+use Rattle.kheap_laws.proofs.PaidLemmas.{IsPaid-nothing, IsPaid-trans}
+use Rattle.kheap_slabs.specs.Heap.{Heap}
+use Rattle.proc_descs.proofs.NumberCloses.{listed_on}
+use Rattle.proc_files.proofs.Closed.{close_on}
+use Rattle.proc_names.specs.Closing.{socket_going, unnamed}
+use Rattle.proc_descs.specs.Naming.{named_at}
+use Rattle.proc_names.proofs.Closed.{closed_names_hold}
+use Rattle.proc_names.proofs.closing.close_open.Goals as goal
+
+pub close_open-requires-clause-hold : goal.close_open-requires-clause-hold
+close_open-requires-clause-hold c =
+    let some = c.requires.hold in
+    record {
+      numbers = some.numbers;
+      others = some.others;
+      files = unnamed some.numbers some.files (socket_going c.args.heap.now.descs (named_at c.args.heap.now c.args.procs.now c.args.pid c.args.fd));
+      hold = (c.unname_going.ensures.hold some.numbers some.others c.args.tree.now some.files some.hold).held;
+    }
+
+pub close_open-requires-clause-may : goal.close_open-requires-clause-may
+close_open-requires-clause-may c =
+    close_on c.args.heap.now c.unname_going.new.heap c.args.purse.now
+    (record {
+      vnodes = ap (λ (h : Heap). h.vnodes) c.unname_going.ensures.beside;
+      names = ap (λ (h : Heap). h.names) c.unname_going.ensures.beside;
+      blocks = ap (λ (h : Heap). h.blocks) c.unname_going.ensures.beside;
+      size = ap (λ (h : Heap). h.heap) c.unname_going.ensures.beside;
+    })
+    c.unname_going.ensures.takes c.requires.may
+
+pub returns-clause-closed : goal.returns-clause-closed
+returns-clause-closed c = λ numbers others files hold.
+    closed_names_hold numbers others c.args.heap.now c.unname_going.new.heap c.close_open.new.heap c.args.procs.now c.args.tree.now c.close_open.new.tree c.args.names.now c.unname_going.new.names files c.args.pid c.args.fd
+    c.requires.listed c.requires.owners hold (ap (λ (h : Heap). h.procs) c.unname_going.ensures.beside) (ap (λ (h : Heap). h.descs) c.unname_going.ensures.beside)
+    (listed_on c.args.heap.now c.unname_going.new.heap c.args.procs.now (ap (λ (h : Heap). h.procs) c.unname_going.ensures.beside) c.requires.listed)
+    c.unname_going.ensures.owners (c.unname_going.ensures.hold numbers others c.args.tree.now files hold) c.close_open.ensures.closes c.close_open.ensures.listed c.close_open.ensures.closed
+
+pub returns-clause-paid : goal.returns-clause-paid
+returns-clause-paid c =
+    IsPaid-trans c.args.heap.now c.args.purse.now c.unname_going.new.heap c.args.purse.now c.close_open.new.heap c.close_open.new.purse
+    (IsPaid-nothing c.args.heap.now c.unname_going.new.heap c.args.purse.now c.args.purse.now c.unname_going.ensures.takes refl refl) c.close_open.ensures.paid
