@@ -1,19 +1,22 @@
 -- What stands once a socket's name has gone from the tree, and once a socket has lost its name.
-use Rattle.std.proofs.Common.{◌≡◌, ℕ, ◌<◌, ◌≤◌, List, [], length, Option, None, Some, IsSome, refl, sym, ap, subst, ◌∙◌, arith}
+use Rattle.std.proofs.Common.{◌≡◌, ℕ, zero, suc, ◌<◌, List, [], ◌∷◌, length, Option, None, Some, IsSome, is_some, unwrap_or, refl, sym, ap, subst, ◌∙◌, arith}
 use Rattle.std.specs.Prelude.{slice_set}
 use Rattle.std.proofs.lemmas.List.{length-set, set-get_or}
 use Rattle.kheap_shelves.specs.Objects.{object, without}
 use Rattle.kheap_slabs.specs.Heap.{Heap}
 use Rattle.memfs_ops.specs.FileTree.{TreeView}
 use Rattle.open_laws.specs.Owned.{HasItsOwners}
-use Rattle.open_laws.specs.Socketed.{AreRenamed}
+use Rattle.open_laws.specs.Socketed.{AreRenamed, socket_by}
+use Rattle.open_laws.proofs.SocketLemmas.{placed_there}
 use Rattle.place_laws.specs.Placed.{Numbers}
 use Rattle.posix_defs.specs.DiskFormat.{table_nodes}
 use Rattle.posix_defs.specs.Files.SocketNames.{after_freeing}
 use Rattle.posix_defs.specs.Files.State.{Files, with_sockets}
+use Rattle.posix_defs.specs.Socket.{Socket, new_socket}
 use Rattle.posix_defs.specs.SocketLinks.{AreNamedOnce, NamesNone}
-use Rattle.posix_defs.specs.Sockets.{Sockets, sock_at, with_name}
+use Rattle.posix_defs.specs.Sockets.{Sockets, sock_at, socket_at, with_name, with_socket}
 use Rattle.socket_laws.proofs.ListenerLemmas.{freed_name, no_name_to_free}
+use Rattle.socket_laws.proofs.SocketTable.{there_within}
 use Rattle.usock_core.specs.Standing.{IsSocketIn, StandsFor as SocketsStandFor}
 use Rattle.proc_table.specs.Table.{TableView}
 use Rattle.proc_descs.specs.Having.{HaveOpen}
@@ -21,7 +24,7 @@ use Rattle.proc_files.specs.Holding.{HoldFiles}
 use Rattle.proc_socks.specs.Owning.{SocketsChange}
 use Rattle.proc_socks.proofs.Told.{have_after}
 use Rattle.proc_names.specs.Bound.{AreBound, name_of}
-use Rattle.proc_names.specs.Holding.{HaveNamesBut, HoldNames}
+use Rattle.proc_names.specs.Holding.{HaveNames, HaveNamesBut, HoldNames}
 use Rattle.proc_names.proofs.Connected.{name_renamed}
 use Rattle.proc_names.proofs.Named.{none_named, taken_names}
 use Rattle.proc_names.proofs.Placed.{key_at, once_by_key, once_by_place, placed_inside, placed_node}
@@ -35,6 +38,19 @@ same_number e = cc
 -- nobody is bound to a node that nobody is bound to
 pub unset : (names : List (Option ℕ)) (node : ℕ) → object names node ≡ None → names ≡ without names node
 unset names node none = sym (ap (slice_set names node) (sym none) ∙ set-get_or names node None)
+
+-- a socket that is there stands at its place
+own_place : (sockets : Sockets) (place : ℕ) → place < length sockets → with_socket sockets place (sock_at sockets place) ≡ sockets
+own_place [] place within = absurd (omega (arith, within))
+own_place (first ∷ rest) zero within = refl
+own_place (first ∷ rest) (suc place) within = ap (λ (list : Sockets). first ∷ list) (own_place rest place (omega (arith, within)))
+
+-- one without a name loses none
+own_name : (sockets : Sockets) (place : ℕ) (socket : Socket) → sock_at sockets place ≡ Some socket → node_of sockets place ≡ None → with_name sockets place None ≡ sockets
+own_name sockets place socket is none =
+    ap (λ n. with_socket sockets place (Some (record (socket_at sockets place) { node = n }))) (sym none)
+    ∙ ap (with_socket sockets place) (ap (λ (o : Option Socket). Some (unwrap_or o new_socket)) is ∙ sym is)
+    ∙ own_place sockets place (there_within sockets place (ap is_some is))
 
 -- who is bound is there
 pub bound_there : (h : Heap) (names : List (Option ℕ)) (key node : ℕ) → HasItsOwners h [] → AreBound (name_of h.socks) names → object names node ≡ Some key → IsSocketIn h key
@@ -78,6 +94,15 @@ module _ (numbers : Numbers) (others : ℕ → ℕ) (old : Heap) (kept : TableVi
       nobody place is =
           let at = key_at numbers.socks keyed files.sockets renamed place node is in
           none_is (sym none ∙ bound.named at.key node (says at.key ∙ at.named))
+
+  -- a socket has no name to lose
+  pub nothing_taken : (key : ℕ) → IsSome (sock_at keyed key) → name_of old.socks key ≡ None → HaveNames files
+      → HoldNames numbers others old kept fs names (with_sockets files (with_name files.sockets (numbers.socks key) None))
+  nothing_taken key there none named =
+      subst (λ (sockets : Sockets). HoldNames numbers others old kept fs names (with_sockets files sockets))
+      (sym (own_name files.sockets (numbers.socks key) (socket_by numbers.socks (socket_at keyed key)) (placed_there numbers.socks keyed files.sockets key renamed there)
+      (placed_node numbers.socks keyed files.sockets renamed key there ∙ sym (says key) ∙ none)))
+      (none_freed named)
 
   -- a socket's
   module _ (node key : ℕ) (at : object names node ≡ Some key) (owners : HasItsOwners old []) (new : Heap) (change : SocketsChange old new [])

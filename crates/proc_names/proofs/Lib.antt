@@ -12,3 +12,4 @@ pub mod Freed
 pub mod Gone
 pub mod GoesOn
 pub mod Closed
+pub mod Left

@@ -8,6 +8,7 @@ mod binding;
 mod closing;
 mod connecting;
 mod directories;
+pub mod laws;
 mod naming;
 
 pub use binding::bind_number;
