@@ -1,6 +1,7 @@
 -- What the machine answers to a bind, and what stands once one is done.
 use Rattle.std.proofs.Common.{◌≡◌, ◌≢◌, ℕ, ℤ, pos, ◌<◌, ◌≤◌, Bool, true, false, cond, List, [], length, Option, None, Some, Result, Ok, Err, IsSome, is_some, is_ok, refl, sym, ap, subst, ◌∙◌, arith, Contains}
-use Rattle.std.specs.Prelude.{IsOk}
+use Rattle.std.specs.Prelude.{IsErrAnd}
+use Rattle.std.proofs.lemmas.Result.{err_from_is_err_and}
 use Rattle.std.proofs.lemmas.Bool.{false≢true}
 use Rattle.std.proofs.lemmas.List.{length-set}
 use Rattle.kabi_values.specs.declared.errnos.Errno.{Errno}
@@ -56,14 +57,18 @@ use Rattle.proc_names.proofs.Ties.{none_is}
 -- ---- faults
 
 -- what was done had no fault
-pub no_fault : {X : Type 0} (done : X) (fault : Option Errno) → IsFault {X = X} (Ok done) fault → fault ≡ None
+pub no_fault : (done : Unit {0}) (fault : Option Errno) → IsFault {X = Unit {0}} (Ok done) fault → fault ≡ None
 no_fault done None told = refl
 no_fault done (Some errno) told = cc
 
 -- what wasn't had this one
-pub one_fault : {X : Type 0} (errno : Errno) (fault : Option Errno) → IsFault {X = X} (Err errno) fault → fault ≡ Some errno
+pub one_fault : (errno : Errno) (fault : Option Errno) → IsFault {X = Unit {0}} (Err errno) fault → fault ≡ Some errno
 one_fault errno None told = cc
 one_fault errno (Some other) told = cc
+
+-- a fault that is handed on is the same
+pub err_is : (errno : Errno) (result : Result (Unit {0}) Errno) → IsErrAnd result (λ e. e ≡ errno) → result ≡ Err errno
+err_is errno result and = let p = err_from_is_err_and result and in p.1 ∙ ap Err p.2
 
 -- a socket that may be bound has no name, and isn't connected
 pub may_bind : (socket : Socket) → bind_fault socket ≡ None → (socket.node ≡ None) × (is_connected socket.stage ≡ false)

@@ -174,10 +174,10 @@ module _ (numbers : Numbers) (others : ℕ → ℕ) (old : Heap) (kept : TableVi
         ∙ ap (λ f. unless_fault script plain pid f (connected_by script plain pid place (find_socket plain.files.tree (directory_of plain.table pid) path))) (fault_is ∙ fine)
         ∙ ap (λ dir. connected_by script plain pid place (find_socket plain.files.tree dir path)) works
 
-    held_mid : HoldFiles numbers others mid kept now plain.files
+    abbrev held_mid : HoldFiles numbers others mid kept now plain.files
     held_mid = files_walked numbers others old mid kept fs now plain.files caches hold.held stands_mid
 
-    hold_mid : HoldNames numbers others mid kept now names plain.files
+    abbrev hold_mid : HoldNames numbers others mid kept now names plain.files
     hold_mid = record { held = held_mid; bound = bound_beside old mid names caches hold.bound; named = hold.named; places = hold.places }
 
     -- to a fault

@@ -1,4 +1,4 @@
-use Rattle.std.proofs.Common.{◌≡◌, ◌∙◌, ℕ, [], List, Option, None, Some, Result, Ok, Err, ap, refl, rules, subst, sym, w64}
+use Rattle.std.proofs.Common.{◌≡◌, ◌∙◌, ℕ, [], List, Option, None, Some, Result, Ok, Err, ap, refl, subst, sym, w64}
 use Rattle.std.proofs.lemmas.Int.{to_z-of_z}
 use Rattle.kabi_values.specs.declared.errnos.Errno.{Errno}
 use Rattle.kheap_laws.proofs.PaidLemmas.{IsPaid-nothing, IsPaid-trans}
@@ -22,7 +22,7 @@ use Rattle.proc_socks.proofs.Owners.{owners_change}
 use Rattle.proc_socks.proofs.Told.{queues_changed, socket_there}
 use Rattle.proc_names.specs.Answering.{AnswersNaming}
 use Rattle.proc_names.specs.Bound.{name_of}
-use Rattle.proc_names.proofs.BindAnswers.{bind_as, bind_done, bind_failed, bind_lost, bind_refused, directory_there, fills_on, led_makes, made_free, made_place, may_bind, named_beside, no_fault, one_fault}
+use Rattle.proc_names.proofs.BindAnswers.{bind_as, bind_done, bind_failed, bind_lost, bind_refused, directory_there, err_is, fills_on, led_makes, made_free, made_place, may_bind, named_beside, no_fault, one_fault}
 use Rattle.proc_names.proofs.Tables.{name_says}
 use Rattle.proc_names.proofs.binding.bind_number.Goals as goal
 
@@ -31,7 +31,7 @@ use Rattle.proc_names.proofs.binding.bind_number.Goals as goal
 pub returns-in_err-found-clause-answers : goal.returns-in_err-found-clause-answers
 returns-in_err-found-clause-answers c = λ numbers others script plain hold works.
     let fd = to_z-of_z w64 c.args.fd c.ranges.fd in
-    let gives : c.from_residual.result ≡ Err c.in_err-found.field-0.0 = search rules in
+    let gives = err_is c.in_err-found.field-0.0 c.from_residual.result c.from_residual.ensures.1 in
     subst
     (λ (r : Result (Unit {0}) Errno). AnswersNaming numbers others c.args.heap.now c.args.procs.now c.args.tree.now c.args.names.now script plain c.args.pid (bind script plain c.args.pid c.args.fd c.args.path.now) (zero_of r))
     (sym gives)
@@ -49,7 +49,7 @@ pub returns-in_err-can_bind-clause-answers : goal.returns-in_err-can_bind-clause
 returns-in_err-can_bind-clause-answers c = λ numbers others script plain hold works.
     let fd = to_z-of_z w64 c.args.fd c.ranges.fd in
     let socketed = hold.held.opened.opened.socketed in
-    let gives : c.from_residual-in_err-can_bind.result ≡ Err c.in_err-can_bind.field-0.0 = search rules in
+    let gives = err_is c.in_err-can_bind.field-0.0 c.from_residual-in_err-can_bind.result c.from_residual-in_err-can_bind.ensures.1 in
     subst
     (λ (r : Result (Unit {0}) Errno). AnswersNaming numbers others c.args.heap.now c.args.procs.now c.args.tree.now c.args.names.now script plain c.args.pid (bind script plain c.args.pid c.args.fd c.args.path.now) (zero_of r))
     (sym gives)
@@ -57,7 +57,7 @@ returns-in_err-can_bind-clause-answers c = λ numbers others script plain hold w
     (λ answer. subst (FindsSocket numbers script plain c.args.pid c.args.fd answer) c.in_ok-found.was
     (subst (λ z. FindsSocket numbers script plain c.args.pid z answer c.socket_of.result) fd (c.socket_of.ensures.found numbers script plain answer hold.held.opened)))
     c.in_err-can_bind.field-0.0
-    (one_fault {X = Unit {0}} c.in_err-can_bind.field-0.0 (bind_fault (socket_at socketed.keyed c.in_ok-found.found.key))
+    (one_fault c.in_err-can_bind.field-0.0 (bind_fault (socket_at socketed.keyed c.in_ok-found.found.key))
     (subst (λ (r : Result (Unit {0}) Errno). IsFault r (bind_fault (socket_at socketed.keyed c.in_ok-found.found.key))) c.in_err-can_bind.was (c.can_bind.ensures socketed.keyed socketed.stands))))
 
 -- ---- a path that leads to a fault
@@ -77,7 +77,7 @@ returns-in_err-node-clause-answers c = λ numbers others script plain hold works
     let fd = to_z-of_z w64 c.args.fd c.ranges.fd in
     let socketed = hold.held.opened.opened.socketed in
     let pins = holders others plain.files in
-    let gives : c.from_residual-in_err-node.result ≡ Err c.in_err-node.field-0.0 = search rules in
+    let gives = err_is c.in_err-node.field-0.0 c.from_residual-in_err-node.result c.from_residual-in_err-node.ensures.1 in
     subst
     (λ (r : Result (Unit {0}) Errno). AnswersNaming numbers others c.bind_name.new.heap c.args.procs.now c.bind_name.new.self c.args.names.now script plain c.args.pid (bind script plain c.args.pid c.args.fd c.args.path.now) (zero_of r))
     (sym gives)
@@ -86,7 +86,7 @@ returns-in_err-node-clause-answers c = λ numbers others script plain hold works
     (subst (λ z. FindsSocket numbers script plain c.args.pid z answer c.socket_of.result) fd (c.socket_of.ensures.found numbers script plain answer hold.held.opened)))
     c.bind_name.new.heap c.bind_name.new.self c.bind_name.ensures.pays.only c.directory_of-cwd.result
     (sym (c.directory_of-cwd.ensures (directory_of plain.table c.args.pid) works))
-    (no_fault {X = Unit {0}} c.in_ok-can_bind.field-0 (bind_fault (socket_at socketed.keyed c.in_ok-found.found.key))
+    (no_fault c.in_ok-can_bind.field-0 (bind_fault (socket_at socketed.keyed c.in_ok-found.found.key))
     (subst (λ (r : Result (Unit {0}) Errno). IsFault r (bind_fault (socket_at socketed.keyed c.in_ok-found.found.key))) c.in_ok-can_bind.was (c.can_bind.ensures socketed.keyed socketed.stands)))
     c.in_err-node.field-0.0
     (subst (λ (r : Result ℕ Errno). LedTo c.bind_name.new.heap c.bind_name.new.self plain.files.tree (bind_path plain.files.tree c.directory_of-cwd.result c.args.path.now) pins r) c.in_err-node.was
@@ -116,7 +116,7 @@ give_name-requires-clause-there c =
 pub give_name-requires-clause-unnamed : goal.give_name-requires-clause-unnamed
 give_name-requires-clause-unnamed c =
     let socketed = c.requires.hold.some.hold.held.opened.opened.socketed in
-    let fine = no_fault {X = Unit {0}} c.in_ok-can_bind.field-0 (bind_fault (socket_at socketed.keyed c.in_ok-found.found.key))
+    let fine = no_fault c.in_ok-can_bind.field-0 (bind_fault (socket_at socketed.keyed c.in_ok-found.found.key))
     (subst (λ (r : Result (Unit {0}) Errno). IsFault r (bind_fault (socket_at socketed.keyed c.in_ok-found.found.key))) c.in_ok-can_bind.was (c.can_bind.ensures socketed.keyed socketed.stands)) in
     ap (λ (socks : List (Option Sock)). name_of socks c.in_ok-found.found.key) (same_socks c.args.heap.now c.bind_name.new.heap c.bind_name.ensures.pays.only)
     ∙ name_says c.args.heap.now socketed.keyed socketed.stands.table c.in_ok-found.found.key
@@ -155,7 +155,7 @@ returns-clause-answers c = λ numbers others script plain hold works.
     (subst (λ z. FindsSocket numbers script plain c.args.pid z answer c.socket_of.result) fd (c.socket_of.ensures.found numbers script plain answer hold.held.opened)))
     c.bind_name.new.heap c.bind_name.new.self c.bind_name.ensures.pays.only c.directory_of-cwd.result
     (sym (c.directory_of-cwd.ensures (directory_of plain.table c.args.pid) works))
-    (no_fault {X = Unit {0}} c.in_ok-can_bind.field-0 (bind_fault (socket_at socketed.keyed c.in_ok-found.found.key))
+    (no_fault c.in_ok-can_bind.field-0 (bind_fault (socket_at socketed.keyed c.in_ok-found.found.key))
     (subst (λ (r : Result (Unit {0}) Errno). IsFault r (bind_fault (socket_at socketed.keyed c.in_ok-found.found.key))) c.in_ok-can_bind.was (c.can_bind.ensures socketed.keyed socketed.stands)))
     c.in_ok-node.node
     (subst (λ (r : Result ℕ Errno). LedTo c.bind_name.new.heap c.bind_name.new.self plain.files.tree (bind_path plain.files.tree c.directory_of-cwd.result c.args.path.now) pins r) c.in_ok-node.was

@@ -1,4 +1,4 @@
-use Rattle.std.proofs.Common.{◌≡◌, ◌∙◌, ◌-◌, ℕ, [], List, Option, Result, Ok, Err, ap, rules, subst, sym, w64}
+use Rattle.std.proofs.Common.{◌≡◌, ◌∙◌, ◌-◌, ℕ, [], List, Option, Result, Ok, Err, ap, subst, sym, w64}
 use Rattle.std.proofs.lemmas.Int.{to_z-of_z}
 use Rattle.std.specs.Prelude.{MatchOption}
 use Rattle.kabi_values.specs.declared.errnos.Errno.{Errno}
@@ -25,7 +25,7 @@ use Rattle.proc_socks.specs.Finding.{FindsSocket}
 use Rattle.proc_socks.proofs.Owners.{owners_change}
 use Rattle.proc_socks.proofs.Told.{queues_changed, socket_there}
 use Rattle.proc_names.specs.Answering.{AnswersConnecting}
-use Rattle.proc_names.proofs.BindAnswers.{fills_on, no_fault, one_fault}
+use Rattle.proc_names.proofs.BindAnswers.{err_is, fills_on, no_fault, one_fault}
 use Rattle.proc_names.proofs.ConnectAnswers.{connect_as, connect_done, connect_failed, connect_lost, connect_refused, fills_spent, on_done, same_socks_unless}
 use Rattle.proc_names.proofs.connecting.connect_number.Goals as goal
 
@@ -34,7 +34,7 @@ use Rattle.proc_names.proofs.connecting.connect_number.Goals as goal
 pub returns-in_err-found-clause-answers : goal.returns-in_err-found-clause-answers
 returns-in_err-found-clause-answers c = λ numbers others script plain hold works.
     let fd = to_z-of_z w64 c.args.fd c.ranges.fd in
-    let gives : c.from_residual.result ≡ Err c.in_err-found.field-0.0 = search rules in
+    let gives = err_is c.in_err-found.field-0.0 c.from_residual.result c.from_residual.ensures.1 in
     subst
     (λ (r : Result (Unit {0}) Errno). AnswersConnecting numbers others c.args.heap.now c.args.heap.now c.args.procs.now c.args.tree.now c.args.names.now script plain c.args.pid (connect script plain c.args.pid c.args.fd c.args.path.now) (zero_of r))
     (sym gives)
@@ -52,7 +52,7 @@ pub returns-in_err-can_connect-clause-answers : goal.returns-in_err-can_connect-
 returns-in_err-can_connect-clause-answers c = λ numbers others script plain hold works.
     let fd = to_z-of_z w64 c.args.fd c.ranges.fd in
     let socketed = hold.held.opened.opened.socketed in
-    let gives : c.from_residual-in_err-can_connect.result ≡ Err c.in_err-can_connect.field-0.0 = search rules in
+    let gives = err_is c.in_err-can_connect.field-0.0 c.from_residual-in_err-can_connect.result c.from_residual-in_err-can_connect.ensures.1 in
     subst
     (λ (r : Result (Unit {0}) Errno). AnswersConnecting numbers others c.args.heap.now c.args.heap.now c.args.procs.now c.args.tree.now c.args.names.now script plain c.args.pid (connect script plain c.args.pid c.args.fd c.args.path.now) (zero_of r))
     (sym gives)
@@ -60,7 +60,7 @@ returns-in_err-can_connect-clause-answers c = λ numbers others script plain hol
     (λ answer. subst (FindsSocket numbers script plain c.args.pid c.args.fd answer) c.in_ok-found.was
     (subst (λ z. FindsSocket numbers script plain c.args.pid z answer c.socket_of.result) fd (c.socket_of.ensures.found numbers script plain answer hold.held.opened)))
     c.in_err-can_connect.field-0.0
-    (one_fault {X = Unit {0}} c.in_err-can_connect.field-0.0 (connect_fault (stage_at socketed.keyed c.in_ok-found.found.key))
+    (one_fault c.in_err-can_connect.field-0.0 (connect_fault (stage_at socketed.keyed c.in_ok-found.found.key))
     (subst (λ (r : Result (Unit {0}) Errno). IsFault r (connect_fault (stage_at socketed.keyed c.in_ok-found.found.key))) c.in_err-can_connect.was
     (c.can_connect.ensures.answer socketed.keyed socketed.stands))))
 
@@ -81,7 +81,7 @@ returns-in_err-node-clause-answers c = λ numbers others script plain hold works
     let fd = to_z-of_z w64 c.args.fd c.ranges.fd in
     let socketed = hold.held.opened.opened.socketed in
     let pins = holders others plain.files in
-    let gives : c.from_residual-in_err-node.result ≡ Err c.in_err-node.field-0.0 = search rules in
+    let gives = err_is c.in_err-node.field-0.0 c.from_residual-in_err-node.result c.from_residual-in_err-node.ensures.1 in
     subst
     (λ (r : Result (Unit {0}) Errno). AnswersConnecting numbers others c.args.heap.now c.find_name.new.heap c.args.procs.now c.find_name.new.self c.args.names.now script plain c.args.pid (connect script plain c.args.pid c.args.fd c.args.path.now) (zero_of r))
     (sym gives)
@@ -90,7 +90,7 @@ returns-in_err-node-clause-answers c = λ numbers others script plain hold works
     (subst (λ z. FindsSocket numbers script plain c.args.pid z answer c.socket_of.result) fd (c.socket_of.ensures.found numbers script plain answer hold.held.opened)))
     c.find_name.new.heap c.find_name.new.self c.find_name.ensures.looks.on.heap (c.find_name.ensures.looks.stands plain.files.tree pins hold.held.tree) c.directory_of-cwd.result
     (sym (c.directory_of-cwd.ensures (directory_of plain.table c.args.pid) works))
-    (no_fault {X = Unit {0}} c.in_ok-can_connect.field-0 (connect_fault (stage_at socketed.keyed c.in_ok-found.found.key))
+    (no_fault c.in_ok-can_connect.field-0 (connect_fault (stage_at socketed.keyed c.in_ok-found.found.key))
     (subst (λ (r : Result (Unit {0}) Errno). IsFault r (connect_fault (stage_at socketed.keyed c.in_ok-found.found.key))) c.in_ok-can_connect.was
     (c.can_connect.ensures.answer socketed.keyed socketed.stands)))
     c.in_err-node.field-0.0
@@ -142,7 +142,7 @@ returns-clause-answers c = λ numbers others script plain hold works.
     (subst (λ z. FindsSocket numbers script plain c.args.pid z answer c.socket_of.result) fd (c.socket_of.ensures.found numbers script plain answer hold.held.opened)))
     c.find_name.new.heap c.find_name.new.self c.find_name.ensures.looks.on.heap (c.find_name.ensures.looks.stands plain.files.tree pins hold.held.tree) c.directory_of-cwd.result
     (sym (c.directory_of-cwd.ensures (directory_of plain.table c.args.pid) works))
-    (no_fault {X = Unit {0}} c.in_ok-can_connect.field-0 (connect_fault (stage_at socketed.keyed c.in_ok-found.found.key))
+    (no_fault c.in_ok-can_connect.field-0 (connect_fault (stage_at socketed.keyed c.in_ok-found.found.key))
     (subst (λ (r : Result (Unit {0}) Errno). IsFault r (connect_fault (stage_at socketed.keyed c.in_ok-found.found.key))) c.in_ok-can_connect.was
     (c.can_connect.ensures.answer socketed.keyed socketed.stands)))
     c.in_ok-node.node

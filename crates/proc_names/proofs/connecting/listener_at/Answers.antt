@@ -1,4 +1,4 @@
-use Rattle.std.proofs.Common.{◌≡◌, ◌∙◌, Some, ap, is_some, subst, sym}
+use Rattle.std.proofs.Common.{◌≡◌, ◌∙◌, inl, inr, subst, sym}
 use Rattle.kheap_shelves.specs.declared.objects.SockState.TheVariants as state
 use Rattle.usock_core.specs.Standing.{IsListeningIn}
 use Rattle.proc_names.proofs.Listening.{listener_there, no_listener, nobody_there, same_number, stage_there}
@@ -31,6 +31,9 @@ pub returns-in-Idle : goal.returns-in-Idle
 returns-in-Idle c = record {
   listener = λ sockets stands.
       no_listener c.args.heap.now c.args.names.now c.requires.bound sockets stands c.args.node c.in_ok-key.key (sym c.bound_at.ensures ∙ c.in_ok-key.was) c.get_sock.result.now c.get_sock.ensures
-      (λ listens. ?);
+      (λ listens. elim c.in-Idle.is [
+        | inl idle ↦ (let both : state.Idle ≡ state.Listening = sym idle ∙ listens in cc)
+        | inr connected ↦ (let both : state.Connected connected.0 connected.1 ≡ state.Listening = sym connected.2 ∙ listens in cc)
+      ]);
   listens = λ key is. absurd (cc);
 }
