@@ -9,4 +9,5 @@ pub mod Weighing
 pub mod Choosing
 pub mod Killing
 pub mod Ends
+pub mod OpenSockets
 pub mod Naming
