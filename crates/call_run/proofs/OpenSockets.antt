@@ -1,6 +1,5 @@
 -- Each socket is open by some number, or waits at one that is.
 use Rattle.std.proofs.Common.{◌≡◌, ℕ, ◌<◌, ◌⊎◌, true, false, List, [], ◌∷◌, Option, None, Some, IsSome, inl, inr, refl, sym, ◌∙◌, ap, subst, arith, Contains}
-use Rattle.std.specs.Prelude.{unwrap_or}
 use Rattle.kabi_types.specs.declared.scripts.Script.{Script}
 use Rattle.kheap_shelves.specs.Objects.{InUse, object}
 use Rattle.kheap_shelves.specs.declared.objects.Desc.{Desc}
@@ -9,7 +8,7 @@ use Rattle.kheap_shelves.specs.declared.objects.Target.{Target}
 use Rattle.kheap_shelves.specs.declared.objects.Target.TheVariants as target
 use Rattle.kheap_shelves.proofs.ObjectLemmas.{object_of}
 use Rattle.kheap_slabs.specs.Heap.{Heap}
-use Rattle.posix_defs.specs.Socket.{Stage, Idle, Listening, Connected, Socket, new_socket, waiting_of, is_connected}
+use Rattle.posix_defs.specs.Socket.{Stage, Idle, Listening, Connected, Socket, waiting_of, is_connected}
 use Rattle.posix_defs.specs.Sockets.{Sockets, sock_at, stage_at}
 use Rattle.usock_core.specs.Standing.{IsHeldIn, StandsAt, StandsFor}
 use Rattle.usock_core.proofs.CloseLemmas.{waiting_named}
@@ -48,9 +47,7 @@ listener_of : (h : Heap) (sockets : Sockets) (listener place : ℕ) → StandsFo
 listener_of h sockets listener place stands waits = go (object h.socks listener) refl (sock_at sockets listener) refl (stands.table.each listener)
   where
     nobody : sock_at sockets listener ≡ None → ⊥
-    nobody none =
-        let idle : stage_at sockets listener ≡ Idle = ap (λ (socket : Option Socket). (unwrap_or socket new_socket).stage) none in
-        let nowhere : Contains [] place = subst (λ (stage : Stage). Contains (waiting_of stage) place) idle waits in omega (arith, nowhere.1)
+    nobody none = let nowhere : Contains [] place = subst (λ (s : Stage). Contains (waiting_of s) place) (let idle : stage_at sockets listener ≡ Idle = rw none refl in idle) waits in omega (arith, nowhere.1)
 
     go : (held : Option Sock) → object h.socks listener ≡ held → (socket : Option Socket) → sock_at sockets listener ≡ socket
         → StandsAt h (object h.socks listener) (sock_at sockets listener) → (sock : Sock) × (object h.socks listener ≡ Some sock)
