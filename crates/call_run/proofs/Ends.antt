@@ -56,16 +56,6 @@ some_of : (a b : ℕ) → 0 < a + b → (0 < a) ⊎ (0 < b)
 some_of zero b some = inr (omega arith)
 some_of (suc a) b some = inl (omega arith)
 
--- what a Desc of the heap is open on, some number of a process names
-pub is_named : (script : Script) (objects : Objects) → AreKept script objects → (key : ℕ) (desc : Desc) → object objects.heap.descs key ≡ Some desc
-    → 0 < namings_of objects.heap.procs key
-is_named script objects kept key desc is =
-    no_more (desc_count_at objects.heap.descs key) (namings_of objects.heap.procs key) (kept.owners.named.counts key)
-    (kept.owners.named.named key (let used : InUse objects.heap.descs key = rw is refl in used))
-  where
-    no_more : (a b : ℕ) → a ≡ b + 0 → 0 < a → 0 < b
-    no_more a b same some = omega arith
-
 pub end_open : (script : Script) (objects : Objects) (pipe : ℕ) → AreKept script objects → InUse objects.heap.pipes pipe
     → (key : ℕ) × (desc : Desc) × (object objects.heap.descs key ≡ Some desc) × (desc.target ≡ target.Pipe pipe) × (0 < namings_of objects.heap.procs key)
 end_open script objects pipe kept there =
@@ -74,8 +64,16 @@ end_open script objects pipe kept there =
     elim (some_of held.0.readers held.0.writers ends.some_end) [
       | inl reads ↦
           let it = one_of (has_read_end pipe) objects.heap.descs refl (subst (λ n. 0 < n) ends.readers reads) in
-          (it.0, it.1, it.2, on_that pipe it.1.target (may_read (access_in it.1.access)) it.3, is_named script objects kept it.0 it.1 it.2)
+          (it.0, it.1, it.2, on_that pipe it.1.target (may_read (access_in it.1.access)) it.3, named it.0 it.1 it.2)
       | inr writes ↦
           let it = one_of (has_write_end pipe) objects.heap.descs refl (subst (λ n. 0 < n) ends.writers writes) in
-          (it.0, it.1, it.2, on_that pipe it.1.target (may_write (access_in it.1.access)) it.3, is_named script objects kept it.0 it.1 it.2)
+          (it.0, it.1, it.2, on_that pipe it.1.target (may_write (access_in it.1.access)) it.3, named it.0 it.1 it.2)
     ]
+  where
+    no_more : (a b : ℕ) → a ≡ b + 0 → 0 < a → 0 < b
+    no_more a b same some = omega arith
+
+    named : (key : ℕ) (desc : Desc) → object objects.heap.descs key ≡ Some desc → 0 < namings_of objects.heap.procs key
+    named key desc is =
+        no_more (desc_count_at objects.heap.descs key) (namings_of objects.heap.procs key) (kept.owners.named.counts key)
+        (kept.owners.named.named key (let used : InUse objects.heap.descs key = rw is refl in used))

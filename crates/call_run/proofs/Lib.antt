@@ -9,5 +9,4 @@ pub mod Weighing
 pub mod Choosing
 pub mod Killing
 pub mod Ends
-pub mod OpenSockets
 pub mod Naming

@@ -1,3 +1,2 @@
 pub mod Families
 pub mod Weights
-pub mod OpenSockets

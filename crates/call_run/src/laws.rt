@@ -1,13 +1,12 @@
-//! Laws of stores. Each is the contract of a function that does nothing.
+//! A law of stores. It is the contract of a function that does nothing.
 
-ghost use Rattle.std.specs.Prelude.{◌≡◌, ◌<◌, ◌⊎◌, ℕ, Some};
+ghost use Rattle.std.specs.Prelude.{◌≡◌, ◌<◌, ℕ, Some};
 ghost use Rattle.kabi_types.specs.declared.scripts.Script.{Script};
 ghost use Rattle.kheap_shelves.specs.Objects.{InUse, object};
 ghost use Rattle.kheap_shelves.specs.declared.objects.Desc.{Desc};
 ghost use Rattle.kheap_shelves.specs.declared.objects.Target.TheVariants as target;
 ghost use Rattle.open_laws.specs.Owned.{namings_of};
 ghost use Rattle.store_objects.specs.Objects.{AreKept};
-ghost use Rattle.call_run.specs.OpenSockets.{IsOpenOn, WaitsAtAnOpenOne};
 ghost use Rattle.store_objects.specs.declared.objects.Objects.{Objects};
 
 /// A pipe is in the heap only while some process has a number open on one of its ends: it goes with the last of them, and with
@@ -16,11 +15,4 @@ pub fn a_pipe_is_there_while_an_end_of_it_is_open()
     ensures { (script : Script) (objects : Objects) (pipe : ℕ) → AreKept script objects → InUse objects.heap.pipes pipe
         → (key : ℕ) × (desc : Desc) × (object objects.heap.descs key ≡ Some desc) × (desc.target ≡ target.Pipe pipe)
         × (0 < namings_of objects.heap.procs key) }
-{}
-
-/// A socket is in the heap only while some process has a number open on it, or while it waits to be accepted at a socket that
-/// some process has open: it goes with the last of them, and with it the bytes that it was to read.
-pub fn a_socket_is_there_while_it_is_open_or_waits()
-    ensures { (script : Script) (objects : Objects) (sock : ℕ) → AreKept script objects → InUse objects.heap.socks sock
-        → IsOpenOn objects.heap sock ⊎ WaitsAtAnOpenOne objects.heap sock }
 {}
