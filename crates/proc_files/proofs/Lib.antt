@@ -16,3 +16,4 @@ pub mod OpenFiles
 pub mod Ranges
 pub mod Finding
 pub mod Saves
+pub mod Makes

@@ -7,6 +7,7 @@
 mod closing;
 mod nodes;
 mod numbers;
+mod opening;
 mod reading;
 mod seeking;
 mod sizing;
@@ -16,6 +17,7 @@ mod writing;
 
 pub use closing::{close_number, close_open};
 pub use numbers::is_on_node;
+pub use opening::open_path;
 pub use reading::{pread_file, read_entries, read_file};
 pub use seeking::seek_number;
 pub use sizing::size_number;
