@@ -17,3 +17,6 @@ pub mod Ranges
 pub mod Finding
 pub mod Saves
 pub mod Makes
+pub mod OpenLeads
+pub mod HoldMade
+pub mod OpenAnswers

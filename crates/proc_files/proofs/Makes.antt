@@ -1,5 +1,5 @@
 -- A Desc is made that is open on a node: who owns what then, and what heap and table have open.
-use Rattle.std.proofs.Common.{◌≡◌, ◌≢◌, ℕ, zero, suc, ◌+◌, ◌<◌, ◌==◌, ◌++◌, ℤ, Bool, true, false, cond, List, [], ◌∷◌, length, count_by, Option, None, Some, IsSome, is_some, refl, sym, ap, subst, ◌∙◌, arith, eq-eqb, ne_eqb, inl, inr}
+use Rattle.std.proofs.Common.{◌≡◌, ◌≢◌, ℕ, zero, suc, ◌+◌, ◌-◌, ◌<◌, ◌==◌, ◌++◌, ℤ, Bool, true, false, cond, List, [], ◌∷◌, length, count_by, Option, None, Some, IsSome, is_some, refl, sym, ap, subst, ◌∙◌, arith, eq-eqb, ne_eqb, inl, inr}
 use Rattle.std.specs.Prelude.{slice_index_or}
 use Rattle.std.proofs.lemmas.Bool.{cases_eq}
 use Rattle.chunk_queue.proofs.HeldLemmas.{HasBytes-same}
@@ -11,7 +11,14 @@ use Rattle.kheap_shelves.specs.declared.objects.Desc.{Desc}
 use Rattle.kheap_shelves.specs.declared.objects.Descriptor.{Descriptor as HeldDescriptor}
 use Rattle.kheap_shelves.specs.declared.objects.Target.{Target}
 use Rattle.kheap_shelves.specs.declared.objects.Target.TheVariants as target
+use Rattle.kabi_values.specs.declared.classes.Class.TheVariants as class
+use Rattle.kheap_shelves.specs.Counts.{with_count}
+use Rattle.kheap_shelves.specs.Purse.{Purse}
+use Rattle.kheap_shelves.specs.declared.objects.Block.{Block}
+use Rattle.kheap_shelves.specs.declared.objects.Name.{Name}
+use Rattle.kheap_shelves.specs.declared.objects.Vnode.{Vnode}
 use Rattle.kheap_slabs.specs.Heap.{Heap}
+use Rattle.kheap_slabs.specs.Paid.{AreFills, HasFills}
 use Rattle.kheap_slabs.specs.Owners.{pipe_queues, sock_queues, spaces_of}
 use Rattle.open_laws.specs.Described.{AreDescribed, Counted, CountedList, access_in, counted_in, uncounted}
 use Rattle.open_laws.specs.Open.{AreOpen, descriptor_by, descriptors_by}
@@ -188,3 +195,16 @@ module _ (old new : Heap) (key node : ℕ) (flags : ℤ) (makes : MakesDesc old 
         made = have.descriptors.made;
       };
     }
+
+-- ---- the purse
+
+-- a purse that spends a Desc keeps what it has filled
+pub spent_fills : (old new : Heap) (before after : Purse) → new.vnodes ≡ old.vnodes → new.names ≡ old.names → new.blocks ≡ old.blocks
+    → after ≡ record before { left = with_count before.left class.Desc (before.left.desc - 1) } → HasFills old before → HasFills new after
+spent_fills old new before after vnodes names blocks spent fills =
+    subst (HasFills new) (sym spent)
+    (record {
+      vnodes = subst (λ (v : List (Option Vnode)). AreFills v before.vnodes before.left.vnode before.need.vnode) (sym vnodes) fills.vnodes;
+      names = subst (λ (v : List (Option Name)). AreFills v before.names before.left.name before.need.name) (sym names) fills.names;
+      blocks = subst (λ (v : List (Option Block)). AreFills v before.blocks before.left.block before.need.block) (sym blocks) fills.blocks;
+    })

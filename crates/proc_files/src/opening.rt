@@ -1,31 +1,37 @@
 //! `open`.
 
-ghost use Rattle.std.specs.Prelude.{◌≡◌, ◌-◌, ◌<◌, ◌≤◌, ◌^◌, ℕ, ℤ, List, [], ◌∷◌, IfSome, IsSome, None, OnErr, Some};
+ghost use Rattle.std.specs.Prelude.{◌≡◌, ◌-◌, ◌<◌, ◌≤◌, ◌^◌, ℕ, ℤ, List, [], ◌∷◌, IfSome, IsSome, None, OnErr, OnOk, Some, false, true};
 ghost use Rattle.std.specs.List.{All};
 ghost use Rattle.kabi_calls.specs.Arguments.{argument_fault};
 ghost use Rattle.kabi_calls.specs.declared.calls.Call.{Call};
 ghost use Rattle.kabi_types.specs.declared.scripts.Script.{Script};
+ghost use Rattle.kabi_values.specs.OpenFlags.{are_open_flags};
 ghost use Rattle.kabi_values.specs.declared.classes.Class.TheVariants as class;
 ghost use Rattle.kheap_shelves.specs.Counts.{with_count};
 ghost use Rattle.kheap_shelves.specs.declared.objects.Proc.{Proc};
-ghost use Rattle.kheap_slabs.specs.Paid.{CanPay, IsPaid};
-ghost use Rattle.memfs_ops.specs.FileTree.{MayWalk};
+ghost use Rattle.kheap_slabs.specs.Heap.{IsWellFormed};
+ghost use Rattle.kheap_slabs.specs.Paid.{CanPay, HasFills, IsPaid};
+ghost use Rattle.memfs_ops.specs.FileTree.{KeepsLast, KnowsWay, MayWalk, Stands, in_call};
+ghost use Rattle.memfs_ops.specs.Opening.{asks_of};
 ghost use Rattle.open_laws.specs.Owned.{HasItsOwners};
 ghost use Rattle.place_laws.specs.Placed.{Numbers};
-ghost use Rattle.posix_defs.specs.Calls.OnFiles.{open_file};
-ghost use Rattle.posix_defs.specs.Files.Descriptions.{has_flag};
+ghost use Rattle.posix_defs.specs.Calls.OnFiles.{description_for, open_file, opening_of};
+ghost use Rattle.posix_defs.specs.Files.Descriptions.{has_flag, o_cloexec, o_trunc};
 ghost use Rattle.posix_defs.specs.Files.Descriptors.{lowest_free_from};
-ghost use Rattle.posix_defs.specs.Files.State.{Files, descriptors_of};
+ghost use Rattle.posix_defs.specs.Files.State.{Files, descriptors_of, opened_as};
+ghost use Rattle.posix_defs.specs.Paths.{resolve};
 ghost use Rattle.posix_defs.specs.Plain.{Plain};
 ghost use Rattle.posix_defs.specs.Process.{Table, directory_of};
+ghost use Rattle.posix_defs.specs.Tree.{Tree};
 ghost use Rattle.proc_table.specs.Procs.{proc_of};
 ghost use Rattle.proc_table.specs.Standing.{IsTable};
 ghost use Rattle.proc_table.specs.Table.{key_of, processes};
 ghost use Rattle.proc_descs.specs.Having.{AreListed, HaveOpen};
-ghost use Rattle.proc_descs.specs.Naming.{named_at};
+ghost use Rattle.proc_descs.specs.Naming.{ChangesNumbers, named_at};
+ghost use Rattle.proc_descs.specs.Queues.{QueuesStand};
 ghost use Rattle.proc_pipes.specs.Answering.{value_of};
-ghost use Rattle.proc_files.specs.Holding.{HoldFiles, HoldSome};
-ghost use Rattle.proc_files.specs.Opening.{AnswersAnew, MakesDesc, WorksSomewhere, desc_on, mode_of};
+ghost use Rattle.proc_files.specs.Holding.{CachesStay, HoldFiles, HoldSome};
+ghost use Rattle.proc_files.specs.Opening.{AnswersAnew, HaveAnew, MakesDesc, OpensHolding, WorksSomewhere, desc_on, mode_of};
 
 use desc_table::Descs;
 use kabi_types::{Class, Errno, OpenFlags};
@@ -78,24 +84,84 @@ pub fn open_path(
     ensures listed { AreListed heap.new procs.now }
     ensures owners { HasItsOwners heap.new [] }
     ensures hold { HoldSome heap.new procs.now tree.new }
+    ensures opens { OpensHolding heap.old heap.new procs.now pid }
+    ensures queues { QueuesStand heap.old heap.new }
     ensures paid { IsPaid heap.old purse.old heap.new purse.new }
+    ensures fills { HasFills heap.new purse.new }
     ensures reads { tree.old.disk.reads ≤ tree.new.disk.reads }
+    ensures saved { (proc : Proc) (plain : Tree) (pins : ℕ → ℕ) → proc_of (processes heap.old procs.now) pid ≡ Some proc
+        → Stands heap.old tree.old plain pins → KnowsWay (in_call heap.old purse.old tree.old) plain proc.cwd path.now
+        → has_flag flags o_trunc ≡ false → tree.new.disk ≡ tree.old.disk }
+    ensures kept { (proc : Proc) (plain : Tree) (pins : ℕ → ℕ) → proc_of (processes heap.old procs.now) pid ≡ Some proc
+        → Stands heap.old tree.old plain pins → OnOk result (KeepsLast tree.new (resolve plain proc.cwd path.now)) }
 {
     let Some(fd) = lowest_free(heap, procs, pid) else {
         return Err(Errno::EMFILE);
     };
+    let cwd = directory_of(heap, procs, pid);
+    let how = asked_by(flags);
+    is_well_formed(heap);
+    match tree.open_node(heap, purse, cwd, path, how) {
+        Ok(node) => {
+            open_new(heap, purse, procs, pid, fd, node, flags);
+            Ok(fd)
+        }
+        Err(errno) => Err(errno),
+    }
+}
+
+// The heap is well formed: what there is of each class fits in it.
+fn is_well_formed(heap: &KHeap)
+    ensures { IsWellFormed heap.now }
+{
+    let _ = heap.heap();
+}
+
+// What flags ask of the tree.
+fn asked_by(flags: i64) -> Opening
+    requires { are_open_flags flags ≡ true }
+    ensures { asks_of result ≡ opening_of flags }
+{
     let Some(asked) = OpenFlags::of(flags) else {
         unreachable!();
     };
-    let cwd = directory_of(heap, procs, pid);
-    let node = tree.open_node(heap, purse, cwd, path, Opening::of(asked))?;
+    Opening::of(asked)
+}
+
+// A number of a process that isn't open names a new description of a node from now on, at its beginning and as the flags ask.
+fn open_new(
+    heap: &mut KHeap,
+    purse: &mut Purse,
+    procs: &ProcTable,
+    pid: u32,
+    fd: u32,
+    node: u32,
+    flags: i64,
+)
+    requires listed { AreListed heap.old procs.now }
+    requires owners { HasItsOwners heap.old [] }
+    requires there { IsSome (key_of procs.now.listed pid) }
+    requires number { fd < 32 }
+    requires free { named_at heap.old procs.now pid fd ≡ None }
+    requires pays { CanPay heap.old purse.old }
+    requires fills { HasFills heap.old purse.old }
+    requires left { 0 < purse.old.left.desc }
+    ensures opened { (numbers : Numbers) (files : Files) → HaveOpen numbers heap.old procs.now files
+        → HaveAnew numbers heap.old heap.new procs.now (opened_as files pid fd (has_flag flags o_cloexec) (description_for node flags)) }
+    ensures listed { AreListed heap.new procs.now }
+    ensures owners { HasItsOwners heap.new [] }
+    ensures changes { ChangesNumbers heap.old heap.new procs.now pid }
+    ensures stay { CachesStay heap.old heap.new }
+    ensures queues { QueuesStand heap.old heap.new }
+    ensures paid { IsPaid heap.old purse.old heap.new purse.new }
+    ensures fills { HasFills heap.new purse.new }
+{
     let desc = describe(heap, purse, node, flags);
     let descriptor = Descriptor {
         desc,
         close_on_exec: has_flag(flags, O_CLOEXEC),
     };
     open_one(heap, procs, pid, fd, descriptor);
-    Ok(fd)
 }
 
 // The lowest number of a process that is free.
