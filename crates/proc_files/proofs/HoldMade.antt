@@ -114,7 +114,7 @@ module _ (others : ℕ → ℕ) (files : Files) (next : Tree) (node : ℕ) (flag
 
 -- one at most is lost where one place is emptied
 emptied : {Y : Type 0} (things : List (Option Y)) (place : ℕ) → count_by is_some things ≤ count_by is_some (set things place None) + 1
-emptied things place = elim (cases_lt place (length things)) [
+emptied {Y = Y} things place = elim (cases_lt place (length things)) [
   | inl within ↦
       let moved = sum_by-set (λ o. one_if (is_some o)) things place None None within in
       let few = one_most (is_some (object things place)) in
@@ -144,7 +144,7 @@ none_counted (Some y ∷ things) none = absurd (none 0 y refl)
 few_things : {X Y : Type 0} (objects : List (Option X)) (number : ℕ → ℕ) (things : List (Option Y))
     → ((place : ℕ) (y : Y) → object things place ≡ Some y → (key : ℕ) × InUse objects key × (number key ≡ place))
     → count_by is_some things ≤ count_by is_some objects
-few_things {X} {Y} [] number things found =
+few_things {X = X} [] number things found =
     let none = none_counted things (λ place y is. (let key = found place y is in let used : is_some {T = X} None ≡ true = key.1 in cc)) in
     omega (arith, none)
 few_things (None ∷ objects) number things found =

@@ -20,3 +20,5 @@ pub mod Makes
 pub mod OpenLeads
 pub mod HoldMade
 pub mod OpenAnswers
+pub mod Changing
+pub mod Shares

@@ -1,10 +1,14 @@
 -- What a close leaves of heap and table where a description of a node may go with it.
-use Rattle.std.specs.Prelude.{ℕ, ◌≡◌, []}
+use Rattle.std.specs.Prelude.{ℕ, ◌≡◌, ◌<◌, Bool, true, [], List, length, Option, None, Some, slice_index_or}
+use Rattle.kheap_shelves.specs.Objects.{object, put}
 use Rattle.kheap_shelves.specs.Purse.{Purse}
+use Rattle.kheap_shelves.specs.declared.objects.Descriptor.{Descriptor as HeldDescriptor}
+use Rattle.kheap_shelves.specs.declared.objects.Proc.{Proc}
 use Rattle.kheap_slabs.specs.Heap.{Heap}
 use Rattle.memfs_ops.specs.Closing.{MayFree}
 use Rattle.proc_descs.specs.Having.{ClosesNumber}
-use Rattle.proc_table.specs.Table.{TableView}
+use Rattle.proc_table.specs.Procs.{no_descriptors}
+use Rattle.proc_table.specs.Table.{TableView, key_of}
 
 -- A purse that has filled nothing may pay for what closing a node takes: it asks for blocks, and gives back all that it fills.
 pub record MayClose (h : Heap) (purse : Purse) : Type 0 where
@@ -21,3 +25,34 @@ pub record ClosesHolding (old new : Heap) (kept : TableView) (pid fd : ℕ) : Ty
   pub mid : Heap
   pub closes : ClosesNumber old mid kept pid fd
   pub caches : CachesChange mid new
+
+-- Of one process other numbers are open, in its Proc; of the other objects only what is open and what the caches keep are others.
+pub record ChangesHolding (old new : Heap) (kept : TableView) (pid : ℕ) : Type 0 where
+  pub key : ℕ
+  pub proc : Proc
+  pub places : List (Option HeldDescriptor)
+  pub named : key_of kept.listed pid ≡ Some key
+  pub there : object old.procs key ≡ Some proc
+  pub procs : new.procs ≡ put old.procs key (record proc { descriptors = places })
+  pub beside : new ≡ record old {
+    procs = new.procs;
+    descs = new.descs;
+    pipes = new.pipes;
+    chunks = new.chunks;
+    socks = new.socks;
+    vnodes = new.vnodes;
+    names = new.names;
+    blocks = new.blocks;
+    high = new.high;
+  }
+
+-- the same, and of the numbers that are marked none is open any more
+pub record ClosesMarked (old new : Heap) (kept : TableView) (pid : ℕ) (marks : List Bool) : Type 0 where
+  pub changes : ChangesHolding old new kept pid
+  pub long : length changes.places ≡ 32
+  pub closed : (fd : ℕ) → slice_index_or marks fd true ≡ true → fd < 32 → slice_index_or changes.places fd None ≡ None
+
+-- the same, and none is open any more
+pub record ClosesEach (old new : Heap) (kept : TableView) (pid : ℕ) : Type 0 where
+  pub changes : ChangesHolding old new kept pid
+  pub none : changes.places ≡ no_descriptors

@@ -20,9 +20,7 @@ use Rattle.proc_pipes.specs.Opening.{KeepsNumbers}
 use Rattle.proc_table.specs.Procs.{proc_of}
 use Rattle.proc_table.specs.Table.{TableView, processes}
 use Rattle.proc_descs.specs.Having.{HaveOpen}
-use Rattle.proc_descs.specs.Naming.{ChangesNumbers}
 use Rattle.proc_files.specs.Answering.{AnswersHolding}
-use Rattle.proc_files.specs.Closing.{CachesChange}
 use Rattle.proc_files.specs.Holding.{HoldFiles}
 
 -- the access mode that the two lowest bits of the flags of `open` ask for
@@ -65,12 +63,6 @@ pub record HaveAnew (numbers : Numbers) (old new : Heap) (kept : TableView) (fil
   pub now : Numbers
   pub keeps : KeepsNumbers old numbers now
   pub have : HaveOpen now new kept files
-
--- First the caches have other objects, and then a number of a process may name a new description.
-pub record OpensHolding (old new : Heap) (kept : TableView) (pid : ℕ) : Type 0 where
-  pub mid : Heap
-  pub caches : CachesChange old mid
-  pub changes : ChangesNumbers mid new kept pid
 
 -- Heap, table and tree stand for some files, in which a process works in a directory.
 pub record WorksSomewhere (h : Heap) (kept : TableView) (fs : TreeView) (pid : ℕ) : Type 0 where

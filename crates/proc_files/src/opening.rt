@@ -9,7 +9,6 @@ ghost use Rattle.kabi_values.specs.OpenFlags.{are_open_flags};
 ghost use Rattle.kabi_values.specs.declared.classes.Class.TheVariants as class;
 ghost use Rattle.kheap_shelves.specs.Counts.{with_count};
 ghost use Rattle.kheap_shelves.specs.declared.objects.Proc.{Proc};
-ghost use Rattle.kheap_slabs.specs.Heap.{IsWellFormed};
 ghost use Rattle.kheap_slabs.specs.Paid.{CanPay, HasFills, IsPaid};
 ghost use Rattle.memfs_ops.specs.FileTree.{KeepsLast, KnowsWay, MayWalk, Stands, in_call};
 ghost use Rattle.memfs_ops.specs.Opening.{asks_of};
@@ -30,9 +29,11 @@ ghost use Rattle.proc_descs.specs.Having.{AreListed, HaveOpen};
 ghost use Rattle.proc_descs.specs.Naming.{ChangesNumbers, named_at};
 ghost use Rattle.proc_descs.specs.Queues.{QueuesStand};
 ghost use Rattle.proc_pipes.specs.Answering.{value_of};
+ghost use Rattle.proc_files.specs.Closing.{ChangesHolding};
 ghost use Rattle.proc_files.specs.Holding.{CachesStay, HoldFiles, HoldSome};
-ghost use Rattle.proc_files.specs.Opening.{AnswersAnew, HaveAnew, MakesDesc, OpensHolding, WorksSomewhere, desc_on, mode_of};
+ghost use Rattle.proc_files.specs.Opening.{AnswersAnew, HaveAnew, MakesDesc, WorksSomewhere, desc_on, mode_of};
 
+use crate::nodes::is_well_formed;
 use desc_table::Descs;
 use kabi_types::{Class, Errno, OpenFlags};
 use kheap_shelves::{Access, Desc, DescFlags, Descriptor, Purse, Target};
@@ -84,7 +85,7 @@ pub fn open_path(
     ensures listed { AreListed heap.new procs.now }
     ensures owners { HasItsOwners heap.new [] }
     ensures hold { HoldSome heap.new procs.now tree.new }
-    ensures opens { OpensHolding heap.old heap.new procs.now pid }
+    ensures changes { ChangesHolding heap.old heap.new procs.now pid }
     ensures queues { QueuesStand heap.old heap.new }
     ensures paid { IsPaid heap.old purse.old heap.new purse.new }
     ensures fills { HasFills heap.new purse.new }
@@ -108,13 +109,6 @@ pub fn open_path(
         }
         Err(errno) => Err(errno),
     }
-}
-
-// The heap is well formed: what there is of each class fits in it.
-fn is_well_formed(heap: &KHeap)
-    ensures { IsWellFormed heap.now }
-{
-    let _ = heap.heap();
 }
 
 // What flags ask of the tree.

@@ -9,11 +9,13 @@ use Rattle.memfs_ops.specs.FileTree.{KeepsLast, KnowsWay, in_call}
 use Rattle.memfs_ops.specs.Opening.{KeepsOpened, OpenedAs, asks_of}
 use Rattle.posix_defs.specs.Calls.OnFiles.{description_for, opening_of}
 use Rattle.posix_defs.specs.Files.Descriptions.{has_flag, o_cloexec}
-use Rattle.posix_defs.specs.Files.State.{opened_as, with_tree}
+use Rattle.place_laws.specs.Placed.{Numbers}
+use Rattle.posix_defs.specs.Files.State.{Files, opened_as, with_tree}
 use Rattle.posix_defs.specs.PathCalls.{Opening, open_path}
 use Rattle.posix_defs.specs.Paths.{resolve}
 use Rattle.posix_defs.specs.Process.{directory_of}
 use Rattle.posix_defs.specs.Tree.{Tree, is_directory}
+use Rattle.proc_descs.specs.Having.{HaveOpen}
 use Rattle.proc_descs.specs.Naming.{named_at}
 use Rattle.proc_descs.proofs.Fronts.{queues_same, queues_then}
 use Rattle.proc_descs.proofs.NumberCloses.{no_some}
@@ -22,6 +24,7 @@ use Rattle.proc_pipes.proofs.Lowest.{IsLowest}
 use Rattle.proc_files.specs.Holding.{holders}
 use Rattle.proc_files.specs.Opening.{HaveAnew}
 use Rattle.proc_files.proofs.Beside.{listed_beside, owners_beside, same_pipes, same_socks}
+use Rattle.proc_files.proofs.Changing.{caches_before, holding_of}
 use Rattle.proc_files.proofs.HoldMade.{may_hold}
 use Rattle.proc_files.proofs.OpenAnswers.{fault_holds, opened_by, open_fails, open_full, open_goes, right_open}
 use Rattle.proc_files.proofs.opening.open_path.Goals as goal
@@ -45,9 +48,9 @@ pub returns-in_default-clause-hold : goal.returns-in_default-clause-hold
 returns-in_default-clause-hold c =
     let works = c.requires.works in record { numbers = works.numbers; others = works.others; files = works.files; hold = works.hold }
 
-pub returns-in_default-clause-opens : goal.returns-in_default-clause-opens
-returns-in_default-clause-opens c =
-    record { mid = c.args.heap.now; caches = refl; changes = changes_nothing c.args.heap.now c.args.procs.now c.args.pid c.requires.listed c.requires.there }
+pub returns-in_default-clause-changes : goal.returns-in_default-clause-changes
+returns-in_default-clause-changes c =
+    holding_of c.args.heap.now c.args.heap.now c.args.procs.now c.args.pid (changes_nothing c.args.heap.now c.args.procs.now c.args.pid c.requires.listed c.requires.there)
 
 pub returns-in_default-clause-queues : goal.returns-in_default-clause-queues
 returns-in_default-clause-queues c = queues_same c.args.heap.now c.args.heap.now refl refl
@@ -113,14 +116,12 @@ returns-in-Err-clause-hold c =
     (c.open_node.ensures.answer works.files.tree (holders works.others works.files) works.hold.tree))) in
     record { numbers = works.numbers; others = works.others; files = works.files; hold = it.1 }
 
-pub returns-in-Err-clause-opens : goal.returns-in-Err-clause-opens
-returns-in-Err-clause-opens c =
+pub returns-in-Err-clause-changes : goal.returns-in-Err-clause-changes
+returns-in-Err-clause-changes c =
     let only = c.open_node.ensures.pays.only in
-    record {
-      mid = c.open_node.new.heap;
-      caches = only;
-      changes = changes_nothing c.open_node.new.heap c.args.procs.now c.args.pid (listed_beside c.args.heap.now c.open_node.new.heap only c.args.procs.now c.requires.listed) c.requires.there;
-    }
+    caches_before c.args.heap.now c.open_node.new.heap c.open_node.new.heap c.args.procs.now c.args.pid only
+    (holding_of c.open_node.new.heap c.open_node.new.heap c.args.procs.now c.args.pid
+    (changes_nothing c.open_node.new.heap c.args.procs.now c.args.pid (listed_beside c.args.heap.now c.open_node.new.heap only c.args.procs.now c.requires.listed) c.requires.there))
 
 pub returns-in-Err-clause-queues : goal.returns-in-Err-clause-queues
 returns-in-Err-clause-queues c =
@@ -168,7 +169,8 @@ returns-in-Ok-clause-answers c = λ numbers others script plain table hold.
     subst (λ r. OpenedAs c.open_node.new.heap c.open_node.new.self plain.files.tree (open_path plain.files.tree c.directory_of-cwd.result c.args.path.now (opening_of c.args.flags)) (holders others plain.files) r) c.in-Ok.is
     (subst (λ (o : Opening). OpenedAs c.open_node.new.heap c.open_node.new.self plain.files.tree (open_path plain.files.tree c.directory_of-cwd.result c.args.path.now o) (holders others plain.files) c.open_node.result) how
     (c.open_node.ensures.answer plain.files.tree (holders others plain.files) hold.tree)) in
-    let opened = λ numbers files have.
+    let opened : (n : Numbers) (f : Files) → HaveOpen n c.open_node.new.heap c.args.procs.now f
+    → HaveAnew n c.open_node.new.heap c.open_new.new.heap c.args.procs.now (opened_as f c.args.pid c.in-Some.fd (has_flag c.args.flags o_cloexec) (description_for c.in-Ok.node c.args.flags)) = λ numbers files have.
     subst (λ z. HaveAnew numbers c.open_node.new.heap c.open_new.new.heap c.args.procs.now (opened_as files c.args.pid c.in-Some.fd (has_flag z o_cloexec) (description_for c.in-Ok.node z))) flags
     (c.open_new.ensures.opened numbers files have) in
     let it = opened_by numbers others c.args.heap.now c.open_node.new.heap c.args.procs.now c.args.tree.now c.open_node.new.self plain.files c.directory_of-cwd.result c.args.path.now c.args.flags hold
@@ -194,15 +196,18 @@ returns-in-Ok-clause-hold c =
     subst (λ r. OpenedAs c.open_node.new.heap c.open_node.new.self works.files.tree (open_path works.files.tree c.directory_of-cwd.result c.args.path.now (opening_of c.args.flags)) (holders works.others works.files) r) c.in-Ok.is
     (subst (λ (o : Opening). OpenedAs c.open_node.new.heap c.open_node.new.self works.files.tree (open_path works.files.tree c.directory_of-cwd.result c.args.path.now o) (holders works.others works.files) c.open_node.result) how
     (c.open_node.ensures.answer works.files.tree (holders works.others works.files) works.hold.tree)) in
-    let opened = λ numbers files have.
+    let opened : (n : Numbers) (f : Files) → HaveOpen n c.open_node.new.heap c.args.procs.now f
+    → HaveAnew n c.open_node.new.heap c.open_new.new.heap c.args.procs.now (opened_as f c.args.pid c.in-Some.fd (has_flag c.args.flags o_cloexec) (description_for c.in-Ok.node c.args.flags)) = λ numbers files have.
     subst (λ z. HaveAnew numbers c.open_node.new.heap c.open_new.new.heap c.args.procs.now (opened_as files c.args.pid c.in-Some.fd (has_flag z o_cloexec) (description_for c.in-Ok.node z))) flags
     (c.open_new.ensures.opened numbers files have) in
     let it = opened_by works.numbers works.others c.args.heap.now c.open_node.new.heap c.args.procs.now c.args.tree.now c.open_node.new.self works.files c.directory_of-cwd.result c.args.path.now c.args.flags works.hold
     c.open_node.ensures.pays.only works.files.tree works.hold.tree.behind dir c.open_new.new.heap c.args.pid c.in-Some.fd c.in-Ok.node answer c.open_new.ensures.stay opened in
     record { numbers = it.now; others = works.others; files = opened_as (with_tree works.files it.next) c.args.pid c.in-Some.fd (has_flag c.args.flags o_cloexec) (description_for c.in-Ok.node c.args.flags); hold = it.holds }
 
-pub returns-in-Ok-clause-opens : goal.returns-in-Ok-clause-opens
-returns-in-Ok-clause-opens c = record { mid = c.open_node.new.heap; caches = c.open_node.ensures.pays.only; changes = c.open_new.ensures.changes }
+pub returns-in-Ok-clause-changes : goal.returns-in-Ok-clause-changes
+returns-in-Ok-clause-changes c =
+    caches_before c.args.heap.now c.open_node.new.heap c.open_new.new.heap c.args.procs.now c.args.pid c.open_node.ensures.pays.only
+    (holding_of c.open_node.new.heap c.open_new.new.heap c.args.procs.now c.args.pid c.open_new.ensures.changes)
 
 pub returns-in-Ok-clause-queues : goal.returns-in-Ok-clause-queues
 returns-in-Ok-clause-queues c =
