@@ -62,13 +62,13 @@ caches_after old mid new kept pid it e = record {
   beside = ap (λ (h : Heap). holding h new) e ∙ ap (λ (h : Heap). holding h new) it.beside;
 }
 
-set_again : {X : Type 0} (xs : List X) (i : ℕ) (a b : X) → set (set xs i a) i b ≡ set xs i b
+pub set_again : {X : Type 0} (xs : List X) (i : ℕ) (a b : X) → set (set xs i a) i b ≡ set xs i b
 set_again [] i a b = refl
 set_again (x ∷ xs) zero a b = refl
 set_again (x ∷ xs) (suc i) a b = ap (λ rest. x ∷ rest) (set_again xs i a b)
 
 -- one change after another
-pub holding_then : (old mid new : Heap) (kept : TableView) (pid : ℕ) → ChangesHolding old mid kept pid → ChangesHolding mid new kept pid → ChangesHolding old new kept pid
+abbrev pub holding_then : (old mid new : Heap) (kept : TableView) (pid : ℕ) → ChangesHolding old mid kept pid → ChangesHolding mid new kept pid → ChangesHolding old new kept pid
 holding_then old mid new kept pid first second =
     let was : Proc = record first.proc { descriptors = first.places } in
     let same_key : second.key ≡ first.key = some_same (key_of kept.listed pid) second.key first.key second.named first.named in

@@ -22,3 +22,4 @@ pub mod HoldMade
 pub mod OpenAnswers
 pub mod Changing
 pub mod Shares
+pub mod Endings

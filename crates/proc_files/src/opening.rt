@@ -170,8 +170,8 @@ fn lowest_free(heap: &KHeap, procs: &ProcTable, pid: u32) -> Option<u32>
     descs.lowest(0)
 }
 
-// The directory that a process works in.
-fn directory_of(heap: &KHeap, procs: &ProcTable, pid: u32) -> u32
+/// The directory that a process works in.
+pub(crate) fn directory_of(heap: &KHeap, procs: &ProcTable, pid: u32) -> u32
     requires listed { AreListed heap.now procs.now }
     requires there { IsSome (key_of procs.now.listed pid) }
     ensures works { (proc : Proc) → proc_of (processes heap.now procs.now) pid ≡ Some proc → result ≡ proc.cwd }
