@@ -10,11 +10,13 @@ ghost use Rattle.kheap_slabs.specs.Heap.{live_bytes};
 ghost use Rattle.posix_defs.specs.Machine.{answer_to, blocks, machine};
 ghost use Rattle.posix_defs.specs.Needs.{bound, need_of, slack};
 ghost use Rattle.posix_defs.specs.Process.{is_alive};
+ghost use Rattle.posix_defs.specs.Tree.{Tree};
 ghost use Rattle.posix_defs.specs.World.{World};
 ghost use Rattle.prog_ctl.specs.Waits.{wait_of};
 ghost use Rattle.store_objects.specs.Objects.{AreKept, IsCaller};
 ghost use Rattle.store_objects.specs.Standing.{Performs, StandsFor};
 ghost use Rattle.store_objects.specs.Uses.{UsesAtMost};
+ghost use Rattle.store_objects.specs.Working.{IsWorkedIn};
 ghost use Rattle.path_calls.specs.Walking.{Reaches};
 ghost use Rattle.call_run.specs.Families.{HasDone, HasPaths, is_named, is_open, is_queued, is_refused, is_socketed, makes_memory};
 
@@ -275,6 +277,7 @@ fn run_free(script: &Script, objects: &mut Objects, caller: &Caller, call: &Call
     requires other { makes_memory (kind_of call.now) ≡ false }
     requires queued { is_queued (kind_of call.now) ≡ false }
     requires socketed { is_socketed (kind_of call.now) ≡ false }
+    requires works { (tree : Tree) × IsWorkedIn objects.old tree }
     ensures kept { AreKept script.now objects.new }
     ensures uses { UsesAtMost objects.old.heap objects.new.heap 0 (slack call.now) }
     ensures does { Performs script.now objects.old caller.now.pid call.now (λ plain. answer_to script.now plain caller.now.pid call.now) result objects.new }

@@ -37,6 +37,7 @@ use Rattle.store_objects.specs.declared.objects.Objects.{Objects}
 use Rattle.store_objects.specs.Objects.{AreKept, Runs}
 use Rattle.store_objects.specs.Standing.{StandsFor, answered_in}
 use Rattle.store_objects.specs.Trees.{HasTree, KeepsTree, NamesNoSocket, but_root, held_nodes, kept_by, pins_in}
+use Rattle.store_objects.specs.Working.{AreDirectories}
 use Rattle.store_objects.proofs.Beside.{kept_beside, stands_beside, treed_in}
 use Rattle.store_objects.proofs.KeptNow.{as_many_blocks, as_many_names, as_many_vnodes}
 use Rattle.store_objects.proofs.Leading.{settled_account}
@@ -89,6 +90,7 @@ pub record Led (script : Script) (h : Heap) (fs : TreeView) (plain : Plain) (pid
   pub tree : Tree
   pub stands : Stands h fs tree (pins_in plain)
   pub sockets : NamesNoSocket tree
+  pub works : AreDirectories tree (directories_of plain.table)
   pub answers : answer ≡ replied script (retreed_as plain tree) pid said
 
 never : {X : Type 0} → true ≡ false → X
@@ -117,12 +119,12 @@ module _ (script : Script) (old : Objects) (heap : Heap) (fs : TreeView) (before
   changed world tree = treed_in world tree (kept_by fs) fs.disk.reads
 
   pub stands_mid : (world : World) (tree : Tree) → StandsFor script old world → Stands heap fs tree (pins_in world.plain) → NamesNoSocket tree
-      → StandsFor script mid (changed world tree)
-  stands_mid world tree was stands sockets =
+      → AreDirectories tree (directories_of world.plain.table) → StandsFor script mid (changed world tree)
+  stands_mid world tree was stands sockets works =
       let has : HasTree mid (changed world tree) =
       record { stands = stands_still heap fs world.plain tree stands; sockets = sockets; kept = refl; reads = refl } in
       subst (λ (h : Heap). StandsFor script (record { heap = h; procs = old.procs; tree = fs }) (changed world tree)) (sym pays.only)
-      (stands_beside script old heap.vnodes heap.names heap.blocks heap.high old.heap.marks fs world tree (kept_by fs) fs.disk.reads was
+      (stands_beside script old heap.vnodes heap.names heap.blocks heap.high old.heap.marks fs world tree (kept_by fs) fs.disk.reads was works
       (subst (λ (h : Heap). HasTree (record { heap = h; procs = old.procs; tree = fs }) (changed world tree)) pays.only has))
 
   -- it is paid for, and the step behind the call takes nothing more
@@ -172,7 +174,7 @@ module _ (script : Script) (old : Objects) (heap : Heap) (fs : TreeView) (before
         subst (λ a. WorldReached script new world pid which a told) (sym at.answers)
         (record {
           next = answered_in script next pid said;
-          stands = goes next (stands_mid world at.tree was at.stands at.sockets);
+          stands = goes next (stands_mid world at.tree was at.stands at.sockets at.works);
           tells = (tells, refl);
           account = sym (settled_account script old world was)
               ∙ ap (λ frames. account_on world.plain world.plain (with_frames world.account frames)) (sym (changes.frames world.account.frames pid said));

@@ -1,6 +1,7 @@
 -- The objects of a store once a call has looked along a path: the caches are others, and the rest is as it was.
-use Rattle.std.proofs.Common.{◌≡◌, ℕ, ◌+◌, ◌≤◌, ◌&&◌, ◌||◌, Bool, true, false, length, Option, None, Some, is_none, IsSome, Ok, Err, Result, refl, ap, sym, ◌∙◌, subst, arith}
+use Rattle.std.proofs.Common.{◌≡◌, ℕ, ◌+◌, ◌<◌, ◌≤◌, ◌==◌, ◌&&◌, ◌||◌, Bool, true, false, length, Option, None, Some, is_none, IsSome, Ok, Err, Result, refl, ap, sym, ◌∙◌, subst, inl, inr, arith}
 use Rattle.std.specs.Prelude.{IsOk}
+use Rattle.std.proofs.lemmas.Bool.Decides.{eqb_tells}
 use Rattle.std.specs.Map.{keys_of}
 use Rattle.std.specs.List.{AllByRecursion}
 use Rattle.kabi_calls.specs.Arguments.{argument_fault}
@@ -31,6 +32,10 @@ use Rattle.store_objects.specs.Standing.{StandsFor}
 use Rattle.store_objects.specs.Trees.{HasTree, KeepsTree, kept_by, pins_in}
 use Rattle.store_objects.proofs.Beside.{kept_beside, stands_beside}
 use Rattle.store_objects.proofs.KeptNow.{as_many_blocks, as_many_names, as_many_vnodes}
+use Rattle.store_objects.proofs.TreesOn.{held_by_procs, worked_in}
+use Rattle.store_objects.proofs.GoingOn.{rising_in}
+use Rattle.store_objects.proofs.WorkPlaces.{holds_it}
+use Rattle.store_objects.proofs.WorkingOn.{works_among}
 
 -- ---- where a process works
 
@@ -40,18 +45,21 @@ pub works_there : (script : Script) (objects : Objects) (world : World) (pid : �
 works_there script objects world pid proc stands found =
     ap directory_in (process_is objects.heap world.plain.table (procs_of objects) pid stands.processes.table.present ∙ ap (option_map (process_of objects.heap)) found)
 
--- which today is the root
-pub works_at_root : (script : Script) (objects : Objects) (world : World) (pid : ℕ) (proc : Proc) → StandsFor script objects world → proc_of (procs_of objects) pid ≡ Some proc
-    → proc.cwd ≡ root
-works_at_root script objects world pid proc stands found =
-    stands.home pid (process_of objects.heap proc)
-    (process_is objects.heap world.plain.table (procs_of objects) pid stands.processes.table.present ∙ ap (option_map (process_of objects.heap)) found)
-
--- and so a directory of the tree
-pub works_in_directory : (script : Script) (objects : Objects) (world : World) (pid : ℕ) (proc : Proc) → StandsFor script objects world → proc_of (procs_of objects) pid ≡ Some proc
+-- it is a directory of the tree
+pub works_in_directory : (script : Script) (objects : Objects) (world : World) (pid : ℕ) (proc : Proc) → StandsFor script objects world → proc_of (procs_of objects) pid ≡ Some proc → proc.status ≡ None
     → is_directory world.plain.files.tree proc.cwd ≡ true
-works_in_directory script objects world pid proc stands found =
-    ap (is_directory world.plain.files.tree) (works_at_root script objects world pid proc stands found) ∙ stands.tree.stands.is_tree.root_directory
+works_in_directory script objects world pid proc stands found up =
+    works_among (λ node. is_directory world.plain.files.tree node ≡ true) (procs_of objects) pid proc (worked_in script objects world stands).works found up
+
+-- which it holds, if only as the root
+pub holds_directory : (script : Script) (objects : Objects) (world : World) (pid : ℕ) (proc : Proc) → StandsFor script objects world → proc_of (procs_of objects) pid ≡ Some proc → proc.status ≡ None
+    → 0 < pins_in world.plain proc.cwd
+holds_directory script objects world pid proc stands found up = elim (eqb_tells proc.cwd root) [
+  | inl same ↦ subst (λ n. 0 < pins_in world.plain n) (sym same.1) stands.tree.stands.root
+  | inr other ↦
+      subst (λ n. 0 < n) (sym (held_by_procs script objects world.plain world.account stands.kept stands.files stands.processes.table proc.cwd))
+      (holds_it pid (procs_of objects) 0 proc (rising_in script objects stands.kept) found up other.1)
+]
 
 -- ---- once it has looked
 
@@ -81,7 +89,7 @@ module _ (script : Script) (old : Objects) (heap : Heap) (fs : TreeView) (before
   stands_mid world stands =
       let has : HasTree mid (looked world) = record { stands = looks.stands world.plain.files.tree (pins_in world.plain) stands.tree.stands; sockets = stands.tree.sockets; kept = refl; reads = refl } in
       subst (λ (h : Heap). StandsFor script (record { heap = h; procs = old.procs; tree = fs }) (looked world)) (sym beside)
-      (stands_beside script old heap.vnodes heap.names heap.blocks heap.high old.heap.marks fs world world.plain.files.tree (kept_by fs) fs.disk.reads stands
+      (stands_beside script old heap.vnodes heap.names heap.blocks heap.high old.heap.marks fs world world.plain.files.tree (kept_by fs) fs.disk.reads stands stands.works
       (subst (λ (h : Heap). HasTree (record { heap = h; procs = old.procs; tree = fs }) (looked world)) beside has))
 
   -- no more is kept than the call needs

@@ -1,8 +1,6 @@
 //! A turn of each call on names of the tree of files leads the objects of a store to what the call's definition says: `stat`.
 #![tactic(auto)]
 
-mod directories;
 mod telling;
 
-pub use directories::directory_of;
 pub use telling::stat;

@@ -11,12 +11,13 @@ use Rattle.memfs_ops.specs.FileTree.{TreeView}
 use Rattle.posix_defs.specs.Files.State.{with_tree}
 use Rattle.posix_defs.specs.Plain.{with_files}
 use Rattle.posix_defs.specs.Tree.{Tree}
-use Rattle.posix_defs.specs.World.{Kept, World}
+use Rattle.posix_defs.specs.World.{Kept, World, directories_of}
 use Rattle.proc_table.specs.Table.{with_procs}
 use Rattle.store_objects.specs.declared.objects.Objects.{Objects}
 use Rattle.store_objects.specs.Objects.{AreKept, procs_of}
 use Rattle.store_objects.specs.Standing.{StandsFor}
 use Rattle.store_objects.specs.Trees.{HasTree, KeepsTree}
+use Rattle.store_objects.specs.Working.{AreDirectories}
 use Rattle.store_objects.proofs.Opening.{files_on}
 use Rattle.store_objects.proofs.Families.{SameMemory, memory_on, processes_on}
 
@@ -63,9 +64,9 @@ module _ (script : Script) (objects : Objects) (vnodes : List (Option Vnode)) (n
   }
 
   -- they stand for the world in which the tree, what is kept, and how much was read are others
-  pub stands_beside : (world : World) (tree : Tree) (kept : Kept) (reads : ℕ) → StandsFor script objects world → HasTree new (treed_in world tree kept reads)
-      → StandsFor script new (treed_in world tree kept reads)
-  stands_beside world tree kept reads stands has = record {
+  pub stands_beside : (world : World) (tree : Tree) (kept : Kept) (reads : ℕ) → StandsFor script objects world → AreDirectories tree (directories_of world.plain.table)
+      → HasTree new (treed_in world tree kept reads) → StandsFor script new (treed_in world tree kept reads)
+  stands_beside world tree kept reads stands works has = record {
     runs = stands.runs;
     kept = kept_beside stands.kept (tree, _, has.stands);
     processes = processes_on script objects new world.plain (treed_in world tree kept reads).plain refl same refl refl stands.processes;
@@ -74,7 +75,7 @@ module _ (script : Script) (objects : Objects) (vnodes : List (Option Vnode)) (n
         refl refl refl refl refl refl refl refl refl (λ number have. record { each = have.each; made = have.made }) stands.files;
     tree = has;
     family = stands.family;
-    home = stands.home;
+    works = works;
   }
     where
       same : SameMemory objects.heap new.heap

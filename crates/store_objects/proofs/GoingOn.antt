@@ -160,7 +160,7 @@ goes_to script old new world pid then control stands moves at rests leads = reco
       (record { tree = moves.tree; caches = moved_caches old.heap new.heap old.procs new.procs (moves_then script old new pid control stands.kept moves) })
       refl refl refl refl stands.tree;
   family = stands.family;
-  home = stands.home;
+  works = stands.works;
 }
   where
     now : Proc

@@ -8,6 +8,9 @@ pub mod HeldNodes
 pub mod OnceKept
 pub mod KeptNow
 pub mod TreesOn
+pub mod WorkPlaces
+pub mod Pinning
+pub mod WorkingOn
 pub mod PidSums
 pub mod LiveIs
 pub mod PageNamings

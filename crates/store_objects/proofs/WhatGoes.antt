@@ -258,7 +258,7 @@ module _ (script : Script) (objects : Objects) (what : Cached) (heap : Heap) (fs
       } in (
         next,
         subst (λ (h : Heap). StandsFor script (record { heap = h; procs = objects.procs; tree = fs }) next) (sym beside)
-            (stands_beside script objects heap.vnodes heap.names heap.blocks objects.heap.high objects.heap.marks fs world world.plain.files.tree (kept_by fs) world.reads stands
+            (stands_beside script objects heap.vnodes heap.names heap.blocks objects.heap.high objects.heap.marks fs world world.plain.files.tree (kept_by fs) world.reads stands stands.works
             (subst (λ (h : Heap). HasTree (record { heap = h; procs = objects.procs; tree = fs }) next) beside has)),
         record {
           plain = refl;

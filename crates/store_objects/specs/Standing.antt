@@ -4,7 +4,6 @@ use Rattle.kabi_calls.specs.declared.calls.Call.{Call}
 use Rattle.kabi_values.specs.declared.replies.Reply.{Reply}
 use Rattle.kabi_types.specs.declared.scripts.Script.{Script}
 use Rattle.calls_built.specs.Built.{can_run}
-use Rattle.kern_laws.specs.AtHome.{AllAtHome}
 use Rattle.kheap_shelves.specs.declared.objects.Proc.{Proc}
 use Rattle.posix_defs.specs.Account.{account_on, with_frames}
 use Rattle.posix_defs.specs.Answer.{Answer}
@@ -17,7 +16,7 @@ use Rattle.posix_defs.specs.Plain.{Plain, answered, control_of, last_pid}
 use Rattle.posix_defs.specs.Process.{is_alive}
 use Rattle.posix_defs.specs.Turn.{Tells, account_after}
 use Rattle.posix_defs.specs.ValidScript.{IsValid}
-use Rattle.posix_defs.specs.World.{World}
+use Rattle.posix_defs.specs.World.{World, directories_of}
 use Rattle.posix_defs.specs.declared.turner.Turned.{Turned}
 use Rattle.proc_table.specs.Accounting.{HasAccount}
 use Rattle.proc_table.specs.Procs.{proc_of}
@@ -26,6 +25,7 @@ use Rattle.store_objects.specs.declared.objects.Objects.{Objects}
 use Rattle.store_objects.specs.Files.{HaveFiles}
 use Rattle.store_objects.specs.Objects.{AreKept, procs_of}
 use Rattle.store_objects.specs.Trees.{HasTree}
+use Rattle.store_objects.specs.Working.{AreDirectories}
 
 -- A store: its script, and its objects.
 pub record StoreView : Type 0 where
@@ -57,9 +57,9 @@ pub record StandsFor (script : Script) (objects : Objects) (world : World) : Typ
   pub files : HaveFiles objects world.plain.files world.account
   -- the disk has the machine's tree, and the caches keep what is kept of it
   pub tree : HasTree objects world
-  -- of the machine alone: who is whose child, and who works where
+  -- of the machine alone: who is whose child, and that everybody works in a directory
   pub family : IsFamily world.plain.table
-  pub home : AllAtHome world.plain.table
+  pub works : AreDirectories world.plain.files.tree (directories_of world.plain.table)
 
 -- ---- worlds after a step
 

@@ -1,0 +1,58 @@
+//! Who works in a directory holds it.
+
+ghost use Rattle.std.specs.Prelude.{◌≡◌, ◌≢◌, ◌<◌, ℕ, IsSome, Some};
+ghost use Rattle.kheap_shelves.specs.declared.objects.Proc.{Proc};
+ghost use Rattle.kheap_slabs.specs.Paid.{TakesNothing};
+ghost use Rattle.memfs_ops.specs.Closing.{one_less};
+ghost use Rattle.memfs_ops.specs.FileTree.{Stands};
+ghost use Rattle.posix_defs.specs.Plain.{root};
+ghost use Rattle.posix_defs.specs.Tree.{Tree};
+ghost use Rattle.proc_table.specs.Procs.{proc_of};
+ghost use Rattle.proc_table.specs.Table.{AreStored};
+ghost use Rattle.store_objects.specs.Objects.{procs_of};
+ghost use Rattle.store_objects.specs.Working.{OnlyPins, entered_pins, left_pins};
+
+use crate::objects::Objects;
+
+/// The root's number. It is held by itself: who works in it holds it no more often.
+const ROOT: u32 = 1;
+
+/// The working directory of a process that is there.
+pub fn directory_of(objects: &Objects, pid: u32) -> u32
+    requires stored { AreStored objects.now.heap.procs objects.now.procs.listed }
+    requires there { IsSome (proc_of (procs_of objects.now) pid) }
+    ensures { (proc : Proc) → proc_of (procs_of objects.now) pid ≡ Some proc → result ≡ proc.cwd }
+{
+    let Some(proc) = objects.proc(pid) else {
+        unreachable!();
+    };
+    proc.cwd
+}
+
+/// One more works in a directory that is held.
+pub fn hold_directory(objects: &mut Objects, directory: u32)
+    requires held { directory ≢ root → (tree : Tree) × (pins : ℕ → ℕ) × Stands objects.old.heap objects.old.tree tree pins
+        × (0 < pins directory) × (pins directory < 4294967295) }
+    ensures only { OnlyPins objects.old objects.new }
+    ensures stands { (tree : Tree) (pins : ℕ → ℕ) → Stands objects.old.heap objects.old.tree tree pins
+        → Stands objects.new.heap objects.new.tree tree (entered_pins pins directory) }
+    ensures takes { TakesNothing objects.old.heap objects.new.heap }
+{
+    if directory != ROOT {
+        objects.tree.pin_node(&mut objects.heap, directory);
+    }
+}
+
+/// Who worked in a directory lets it go. It has a name, since nobody removes a directory that is worked in, and so it stays.
+pub fn let_go(objects: &mut Objects, directory: u32)
+    requires held { directory ≢ root → (tree : Tree) × (pins : ℕ → ℕ) × Stands objects.old.heap objects.old.tree tree pins
+        × (0 < pins directory) × (0 < one_less pins directory root) }
+    ensures only { OnlyPins objects.old objects.new }
+    ensures stands { (tree : Tree) (pins : ℕ → ℕ) → Stands objects.old.heap objects.old.tree tree pins
+        → Stands objects.new.heap objects.new.tree tree (left_pins pins directory) }
+    ensures takes { TakesNothing objects.old.heap objects.new.heap }
+{
+    if directory != ROOT {
+        objects.tree.release(&mut objects.heap, directory);
+    }
+}
