@@ -67,7 +67,7 @@ begins_held pins cwd path at_root here = go (is_absolute path)
     go false = here
 
 -- all that a path asks for is cached where the world knows its way
-knows_it : (h : Heap) (before : Purse) (fs : TreeView) (plain : Plain) (cwd : ℕ) (path : List ℕ) → Stands h fs plain.files.tree (pins_in plain) → 0 < pins_in plain cwd
+pub knows_it : (h : Heap) (before : Purse) (fs : TreeView) (plain : Plain) (cwd : ℕ) (path : List ℕ) → Stands h fs plain.files.tree (pins_in plain) → 0 < pins_in plain cwd
     → knows plain.files.tree (kept_by fs) (begins_at cwd path) (components path) ≡ true → KnowsWay (in_call h before fs) plain.files.tree cwd path
 knows_it h before fs plain cwd path stands here known =
     let it = way (in_call h before fs) plain.files.tree (kept_by fs).blocks (named h fs plain stands) (ends_in_slash path) (begins_at cwd path) (components path)
@@ -117,14 +117,14 @@ module _ (script : Script) (old : Objects) (heap : Heap) (fs : TreeView) (before
     → AreReordered (in_call old.heap before old.tree) (in_call heap after fs))
     (left : (tree : Tree) (pins : ℕ → ℕ) → Stands old.heap old.tree tree pins → KeepsLed fs (resolve tree cwd path)) where
   keeps : (world : World) (told : Turned) → StandsFor script old world → told ≡ turned.Done (stat_reply o)
-      → KeepsOn world pid (call.Stat path) told (answered_in script (looked script old heap fs before after looks world) pid (stat_reply o))
+      → KeepsOn world pid (call.Stat path) told (answered_in script (looked script old heap fs looks.on.heap world) pid (stat_reply o))
   keeps world told stands tells = record {
     names = few.names;
     blocks = few.blocks;
     vnodes = few.vnodes;
     reads = few.reads;
     untouched = λ none.
-        never (sym (ap (λ (fault : Option Errno). (is_none fault && true) || ends_node world.plain.files (answered_in script (looked script old heap fs before after looks world) pid (stat_reply o)).plain.files) right) ∙ none);
+        never (sym (ap (λ (fault : Option Errno). (is_none fault && true) || ends_node world.plain.files (answered_in script (looked script old heap fs looks.on.heap world) pid (stat_reply o)).plain.files) right) ∙ none);
     left = λ ok.
         subst (λ dir. IsLeft world.plain.files.tree (kept_by fs) (last_of (resolve world.plain.files.tree dir path))) (sym works)
         (stat_left world.plain.files.tree fs cwd path o (value world.plain.files.tree (pins_in world.plain) stands.tree.stands)
@@ -138,22 +138,23 @@ module _ (script : Script) (old : Objects) (heap : Heap) (fs : TreeView) (before
         ap (λ disk. disk.reads) same.disk ∙ sym stands.tree.reads;
   }
     where
-      few : KeepsFew script old heap fs before after looks world (call.Stat path)
-      few = keeps_few script old heap fs before after looks world (call.Stat path) stands needed
+      few : KeepsFew fs world (call.Stat path)
+      few = keeps_few script old heap fs before after world (call.Stat path) world.plain.files.tree (pins_in world.plain) stands
+          (looks.stands world.plain.files.tree (pins_in world.plain) stands.tree.stands) looks.on.paid looks.on.reads needed
 
       works : directory_of world.plain.table pid ≡ cwd
       works = works_there script old world pid proc stands found ∙ sym home
 
-  pub does_stat : (new : Objects) (told : Turned) → told ≡ turned.Done (stat_reply o) → GoesOn script (mid script old heap fs before after looks) pid (stat_reply o) new
+  pub does_stat : (new : Objects) (told : Turned) → told ≡ turned.Done (stat_reply o) → GoesOn script (mid script old heap fs looks.on.heap) pid (stat_reply o) new
       → Reaches script old pid (call.Stat path) (λ plain. stat script plain pid path) told new
   does_stat new told tells goes = λ world stands alive.
       let works : directory_of world.plain.table pid ≡ cwd = works_there script old world pid proc stands found ∙ sym home in
-      let after_it = looked script old heap fs before after looks world in
+      let after_it = looked script old heap fs looks.on.heap world in
       subst (λ a. WorldReached script new world pid (call.Stat path) a told)
       (sym (stat_is script world.plain pid cwd path o works (value world.plain.files.tree (pins_in world.plain) stands.tree.stands)))
       (record {
         next = answered_in script after_it pid (stat_reply o);
-        stands = goes after_it (stands_mid script old heap fs before after looks world stands);
+        stands = goes after_it (stands_mid script old heap fs looks.on.heap world stands (looks.stands world.plain.files.tree (pins_in world.plain) stands.tree.stands));
         tells = (tells, refl);
         account = sym (settled_account script old world stands)
             ∙ ap (λ frames. account_on world.plain world.plain (with_frames world.account frames)) (sym (stat_frames world.account.frames pid path o));

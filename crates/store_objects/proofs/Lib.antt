@@ -13,6 +13,7 @@ pub mod Pinning
 pub mod WorkingOn
 pub mod PidSums
 pub mod LiveIs
+pub mod FewPins
 pub mod PageNamings
 pub mod Families
 pub mod Keeping
@@ -34,5 +35,6 @@ pub mod EndingProcs
 pub mod EndingOthers
 pub mod Closing
 pub mod EndingOne
+pub mod Moving
 pub mod Dying
 pub mod Booting

@@ -209,7 +209,7 @@ without_one n pid (first ∷ procs) before proc rising is = elim (eqb_tells firs
     swap a b c = omega arith
 
 module _ (pid : ℕ) (procs : List Proc) (before : ℕ) (proc : Proc) (rising : AreRising before procs) (is : proc_of procs pid ≡ Some proc) (up : proc.status ≡ None) where
-  others_hold : (n : ℕ) → pins_by procs n ≡ one_if (root == n) + (away proc.cwd n + count n (but_root (directories_in (filter (is_other pid) procs))))
+  pub others_hold : (n : ℕ) → pins_by procs n ≡ one_if (root == n) + (away proc.cwd n + count n (but_root (directories_in (filter (is_other pid) procs))))
   others_hold n =
       whole n root (but_root (directories_in procs))
       ∙ ap (λ k. one_if (root == n) + k) (without_one n pid procs before proc rising is

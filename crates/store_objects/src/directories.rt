@@ -3,13 +3,17 @@
 ghost use Rattle.std.specs.Prelude.{◌≡◌, ◌≢◌, ◌<◌, ℕ, IsSome, Some};
 ghost use Rattle.kheap_shelves.specs.declared.objects.Proc.{Proc};
 ghost use Rattle.kheap_slabs.specs.Paid.{TakesNothing};
+ghost use Rattle.kabi_types.specs.declared.scripts.Control.{Control};
+ghost use Rattle.kabi_types.specs.declared.scripts.Script.{Script};
 ghost use Rattle.memfs_ops.specs.Closing.{one_less};
-ghost use Rattle.memfs_ops.specs.FileTree.{Stands};
+ghost use Rattle.memfs_ops.specs.FileTree.{Stands, one_more};
 ghost use Rattle.posix_defs.specs.Plain.{root};
 ghost use Rattle.posix_defs.specs.Tree.{Tree};
-ghost use Rattle.proc_table.specs.Procs.{proc_of};
+ghost use Rattle.posix_defs.specs.World.{World};
+ghost use Rattle.proc_table.specs.Procs.{IsAlive, proc_of};
 ghost use Rattle.proc_table.specs.Table.{AreStored};
-ghost use Rattle.store_objects.specs.Objects.{procs_of};
+ghost use Rattle.store_objects.specs.Objects.{Runs, procs_of};
+ghost use Rattle.store_objects.specs.Standing.{HasEntered, StandsFor, working_in};
 ghost use Rattle.store_objects.specs.Working.{OnlyPins, entered_pins, left_pins};
 
 use crate::objects::Objects;
@@ -55,4 +59,34 @@ pub fn let_go(objects: &mut Objects, directory: u32)
     if directory != ROOT {
         objects.tree.release(&mut objects.heap, directory);
     }
+}
+
+/// Who has entered a directory holds it once. For the root that is one too many, and so that one goes.
+fn hold_once(objects: &mut Objects, directory: u32)
+    requires held { (tree : Tree) × (pins : ℕ → ℕ) × Stands objects.old.heap objects.old.tree tree (one_more pins directory)
+        × (0 < pins root) }
+    ensures only { OnlyPins objects.old objects.new }
+    ensures stands { (tree : Tree) (pins : ℕ → ℕ) → Stands objects.old.heap objects.old.tree tree (one_more pins directory)
+        → Stands objects.new.heap objects.new.tree tree (entered_pins pins directory) }
+    ensures takes { TakesNothing objects.old.heap objects.new.heap }
+{
+    if directory == ROOT {
+        objects.tree.release(&mut objects.heap, directory);
+    }
+}
+
+/// Has a process that runs work in a directory that it has entered, so that one more holds it, and lets the one go in which it
+/// worked.
+pub fn work_in(objects: &mut Objects, pid: u32, directory: u32)
+    requires alive { IsAlive (procs_of objects.old) pid }
+    requires entered { (script : Script) × (world : World) × HasEntered script objects.old world directory }
+    ensures runs { (control : Control) → Runs objects.old pid control → Runs objects.new pid control }
+    ensures stands { (script : Script) (world : World) → HasEntered script objects.old world directory
+        → StandsFor script objects.new (working_in world pid directory) }
+    ensures takes { TakesNothing objects.old.heap objects.new.heap }
+{
+    let left = directory_of(objects, pid);
+    hold_once(objects, directory);
+    objects.work_elsewhere(pid, directory);
+    let_go(objects, left);
 }

@@ -15,10 +15,10 @@ ghost use Rattle.path_calls.specs.Walking.{Reaches};
 use kabi_types::{Control, Reply, Script};
 use kheap_shelves::Purse;
 use posix_defs::Turned;
-use store_objects::{Objects, directory_of, go_on, let_go, work_in};
+use store_objects::{Objects, directory_of, go_on, work_in};
 
-/// Has the caller work in the directory that a path leads to, which it holds from then on, and lets the one go that it worked
-/// in; or tells the fault of the path.
+/// Has the caller work in the directory that a path leads to, which it holds from then on, and lets the one go in which it
+/// worked. ENOTDIR where the path leads to no directory, else the faults of the path; the caller works on where it worked then.
 ///
 /// See [chdir](https://pubs.opengroup.org/onlinepubs/9699919799/functions/chdir.html).
 pub fn chdir(
@@ -38,15 +38,11 @@ pub fn chdir(
     ensures paid { IsPaid objects.old.heap purse.old objects.new.heap purse.new }
     ensures does { Reaches script.now objects.old pid (Call.Chdir path.now) (λ plain. chdir script.now plain pid path.now) result objects.new }
 {
-    let left = directory_of(objects, pid);
-    match objects.tree.enter(&mut objects.heap, purse, left, path) {
-        Ok(entered) => {
-            // `enter` holds the root too, which is held by itself already.
-            if entered == ROOT {
-                objects.tree.release(&mut objects.heap, ROOT);
-            }
-            work_in(objects, pid, entered);
-            let_go(objects, left);
+    objects.heap_is_well_formed();
+    let cwd = directory_of(objects, pid);
+    match objects.tree.enter(&mut objects.heap, purse, cwd, path) {
+        Ok(directory) => {
+            work_in(objects, pid, directory);
             go_on(script, objects, pid, control, Reply::Val(0))
         }
         Err(errno) => go_on(script, objects, pid, control, Reply::Fail(errno)),
