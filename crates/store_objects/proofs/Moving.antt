@@ -11,7 +11,7 @@ use Rattle.memfs_ops.specs.Closing.{one_less}
 use Rattle.memfs_ops.specs.FileTree.{Stands, TreeView, one_more}
 use Rattle.posix_defs.specs.Control.{settled}
 use Rattle.posix_defs.specs.Plain.{Plain, control_of, root}
-use Rattle.posix_defs.specs.Process.{Table, process_at, with_directory, working_in as working}
+use Rattle.posix_defs.specs.Process.{Process, Table, process_at, with_directory, working_in as working}
 use Rattle.posix_defs.specs.Tree.{Tree, is_directory}
 use Rattle.posix_defs.specs.World.{World}
 use Rattle.proc_table.specs.Changes.{is_other, replaced}
@@ -167,7 +167,7 @@ table_at (there old first proc table procs e rest) new pid zero directory it sam
     subst (λ p. AreFrom new first (Some (record (process_of old proc) { directory = directory }) ∷ table) (p ∷ map (replaced pid (record it { cwd = directory })) procs))
     (sym (ap (λ b. cond b (record it { cwd = directory }) proc) (eqb_same proc.pid pid here)))
     (subst (λ process. AreFrom new first (Some process ∷ table) (record it { cwd = directory } ∷ map (replaced pid (record it { cwd = directory })) procs))
-    (ap (λ process. record process { directory = directory }) (same it ∙ ap (process_of old) (sym (only.0 here))))
+    (ap (λ (process : Process). record process { directory = directory }) (same it ∙ ap (process_of old) (sym (only.0 here))))
     (there new first (record it { cwd = directory }) table (map (replaced pid (record it { cwd = directory })) procs) (let l : it.pid ≡ pid = own in omega arith)
     (table_above rest new pid (record it { cwd = directory }) same (omega arith))))
 table_at (there old first proc table procs e rest) new pid (suc place) directory it same at own only =
@@ -244,12 +244,12 @@ module _ (script : Script) (old mid : Objects) (world : World) (directory : ℕ)
           made = length-with_pid table pid (working directory (process_at table pid)) ∙ is.made;
         })
       where
+        same : SameMemory old.heap mid.heap
+        same = record { procs = ap (λ (h : Heap). h.procs) once.heap; nodes = ap (λ (h : Heap). h.nodes) once.heap; pages = ap (λ (h : Heap). h.pages) once.heap }
+
         made : 0 < pid
         made = (proc_made script mid world.plain pid moves.proc kept_mid
             (processes_on script old mid world.plain world.plain once.procs same refl refl has.processes) moves.found).0
-
-        same : SameMemory old.heap mid.heap
-        same = record { procs = ap (λ (h : Heap). h.procs) once.heap; nodes = ap (λ (h : Heap). h.nodes) once.heap; pages = ap (λ (h : Heap). h.pages) once.heap }
 
     found_old : proc_of (procs_of old) pid ≡ Some moves.proc
     found_old = ap (λ procs. proc_of procs pid) (sym (pinned_procs old mid once)) ∙ moves.found

@@ -9,13 +9,16 @@ use Rattle.store_objects.proofs.directories.hold_once.Goals as goal
 
 pub release-requires : goal.release-requires
 release-requires c =
-    let held = c.requires.held in (
-      held.0,
-      one_more held.1 c.args.directory,
-      held.2,
-      some_once held.1 c.args.directory,
-      subst (λ n. 0 < n) (sym (one_back held.1 c.args.directory root)) held.3,
-    )
+    let held = c.requires.held in
+    record {
+      stands = (
+        held.0,
+        one_more held.1 c.args.directory,
+        held.2,
+        some_once held.1 c.args.directory,
+        subst (λ n. 0 < n) (sym (one_back held.1 c.args.directory root)) held.3,
+      );
+    }
 
 pub returns-then-directory-eq-ROOT-clause-stands : goal.returns-then-directory-eq-ROOT-clause-stands
 returns-then-directory-eq-ROOT-clause-stands c = λ tree pins stands.
@@ -23,7 +26,7 @@ returns-then-directory-eq-ROOT-clause-stands c = λ tree pins stands.
     (same_pins c.release.new.heap c.release.new.self tree (one_less (one_more pins c.args.directory) c.args.directory) pins (one_back pins c.args.directory)
     (c.release.ensures.stands tree (one_more pins c.args.directory) stands))
 
-pub returns-clause-stands : goal.returns-clause-stands
-returns-clause-stands c = λ tree pins stands.
+pub returns-else-directory-eq-ROOT-clause-stands : goal.returns-else-directory-eq-ROOT-clause-stands
+returns-else-directory-eq-ROOT-clause-stands c = λ tree pins stands.
     subst (λ b. Stands c.args.objects.now.heap c.args.objects.now.tree tree (cond b pins (one_more pins c.args.directory))) (sym (eqb_other c.args.directory root c.if-directory-eq-ROOT.false))
     stands
