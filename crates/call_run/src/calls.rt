@@ -23,7 +23,7 @@ ghost use Rattle.call_run.specs.Families.{HasDone, HasPaths, is_named, is_open, 
 use kabi_types::{Call, Need, Reply, Script, may_wait};
 use memory_calls::{load, mmap, munmap, store};
 use name_calls::{link, mkdir, rename, rmdir, unlink};
-use path_calls::stat;
+use path_calls::{chdir, stat};
 use pipe_calls::{close, dup, dup2, fcntl, fstat, pipe};
 use posix_defs::Turned;
 use process_calls::{exit, fork, signal_process, wait, would_sleep};
@@ -42,6 +42,7 @@ fn is_named(call: &Call) -> bool
     matches!(
         call,
         Call::Stat { .. }
+            | Call::Chdir { .. }
             | Call::Mkdir { .. }
             | Call::Rmdir { .. }
             | Call::Unlink { .. }
@@ -77,6 +78,7 @@ fn run_named(
     let mut purse = purse_for(need, Target::File);
     match call {
         Call::Stat { path } => stat(script, objects, &mut purse, pid, control, path.items()),
+        Call::Chdir { path } => chdir(script, objects, &mut purse, pid, control, path.items()),
         Call::Mkdir { path } => mkdir(script, objects, &mut purse, pid, control, path.items()),
         Call::Rmdir { path } => rmdir(script, objects, &mut purse, pid, control, path.items()),
         Call::Unlink { path } => unlink(script, objects, &mut purse, pid, control, path.items()),
