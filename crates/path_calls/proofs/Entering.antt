@@ -46,11 +46,11 @@ is_entered : (tree : Tree) (led : Result ℕ Errno) (number : ℕ) → Ok number
 is_entered tree (Err errno) number e = cc
 is_entered tree (Ok at) number e = go (is_directory tree at) refl e
   where
-    same : Ok {E = Errno} number ≡ Ok at → at ≡ number
-    same e = cc
+    same : (o : Result ℕ Errno) → o ≡ Ok number → o ≡ Ok at → at ≡ number
+    same o e f = cc
 
     go : (b : Bool) → is_directory tree at ≡ b → Ok number ≡ cond (not b) (Err ENOTDIR) (Ok at) → is_directory tree number ≡ true
-    go true is e = subst (λ n. is_directory tree n ≡ true) (same e) is
+    go true is e = subst (λ n. is_directory tree n ≡ true) (same (Ok number) refl e) is
     go false is e = cc
 
 -- to which the walk has led
