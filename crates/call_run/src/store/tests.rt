@@ -730,7 +730,7 @@ const LOOKED: &[Row] = &[
     (1, Ask::Stat(b"/a"), Told::Fails(Errno::ENOENT), 1728),
 ];
 
-/// Two directories fill the smallest heap: no further walk fits beside what is cached of them.
+/// Of two directories so much is cached that no further walk would fit beside it in the smallest heap.
 const MADE: &[Row] = &[
     (1, Ask::Mkdir(b"/a"), Told::Val(0), 2816),
     (1, Ask::Mkdir(b"/a/b"), Told::Val(0), 5184),
@@ -747,12 +747,13 @@ const FOUND: &[Row] = &[
 ];
 
 /// What goes and what gets another name is told so from then on: the old name isn't cached any more, and nothing of a directory that
-/// has gone.
+/// has gone. The move leaves a block of the directory that moved, and one of the table of nodes; with the root's entries and the map of
+/// what is free, which the next call reads besides, there are four.
 const MOVED: &[Row] = &[
     (1, Ask::Rename(b"/a/b", b"/c"), Told::Val(0), 3136),
-    (1, Ask::Rmdir(b"/a"), Told::Val(0), 2944),
-    (1, Ask::Stat(b"/a"), Told::Fails(Errno::ENOENT), 2944),
-    (1, Ask::Stat(b"/c"), Told::Directory(3, 64), 3008),
+    (1, Ask::Rmdir(b"/a"), Told::Val(0), 5120),
+    (1, Ask::Stat(b"/a"), Told::Fails(Errno::ENOENT), 5120),
+    (1, Ask::Stat(b"/c"), Told::Directory(3, 64), 5184),
 ];
 
 /// Whatever may go of a cache goes, which is no more than four objects.
@@ -806,7 +807,7 @@ fn directories_are_found_again<F: Scorer, G: Scorer>(rt: &impl Abort, store: &mu
 
 #[test]
 fn directories_outlive_what_is_cached_of_them(rt: HostRuntime) -> Result<(), Fail> {
-    try_it(&rt, 8192, Policy::Heaviest, &Trial::Directories)
+    try_it(&rt, 16384, Policy::Heaviest, &Trial::Directories)
 }
 
 /// Who makes which call, and what is told.
