@@ -29,7 +29,7 @@ use Rattle.kres_cli.proofs.Outcomes.{says_short}
 answer_is : (text whole : List ℕ) (asked : Task) (handed : Option StoreView) (st : Status) → AnswersText text whole asked handed st
     → ((st ≡ status.BadScript) × ((fault : ScriptFault) × Refuses text asked fault × (whole ≡ fault_line fault)))
     ⊎ ((script : Script) × ReadsText text (Ok script) × Makes asked script whole handed st)
-answer_is text whole asked handed _ (refuses fault why is none) = inl (refl, fault, why, is)
+answer_is text whole asked handed _ (refuses fault why is none) = inl (refl, (fault, why, is))
 answer_is text whole asked handed _ (makes script st says so) = inr (script, says, so)
 
 -- no run ends as a bad script
@@ -83,7 +83,7 @@ module _ {A : Type 0} (words : List (String A)) where
   task_cause i o handed asked status.Spent asks ends = ends_run i o handed asked status.Spent asks ends (λ is. (cc)) (λ is. (cc))
   task_cause i o handed asked status.ReadFault asks (risen, untouched, none) = (asked, asks, risen, untouched)
   task_cause i o handed asked status.WriteFault asks (whole, store, st, source, broke, none) =
-      (broke.fault, whole, inl (OnScript asked, asks, store, st, source), broke)
+      (broke.fault, (whole, inl (OnScript asked, asks, (store, st, source)), broke))
   task_cause i o handed asked status.Memory asks (untouched, none) = (OnScript asked, asks, untouched)
 
   table_cause : (i : Input) (o : Output) (handed : Option StoreView) (st : Status) → Asks words Table → CommandEnds i o handed Table st → HasCause words i o handed st
@@ -94,7 +94,7 @@ module _ {A : Type 0} (words : List (String A)) where
   table_cause i o handed status.AllAsleep asks ends = absurd ends.0
   table_cause i o handed status.Spent asks ends = absurd ends.0
   table_cause i o handed status.ReadFault asks ends = absurd ends.0
-  table_cause i o handed status.WriteFault asks (broke, none) = (broke.fault, _, inl (Table, asks, refl), broke)
+  table_cause i o handed status.WriteFault asks (broke, none) = (broke.fault, (_, inl (Table, asks, refl), broke))
   table_cause i o handed status.Memory asks (untouched, none) = (Table, asks, untouched)
 
   gen_cause : (i : Input) (o : Output) (handed : Option StoreView) (rounds : ℕ) (st : Status) → Asks words (Gen rounds) → CommandEnds i o handed (Gen rounds) st
@@ -106,7 +106,7 @@ module _ {A : Type 0} (words : List (String A)) where
   gen_cause i o handed rounds status.AllAsleep asks ends = absurd ends.0
   gen_cause i o handed rounds status.Spent asks ends = absurd ends.0
   gen_cause i o handed rounds status.ReadFault asks ends = absurd ends.0
-  gen_cause i o handed rounds status.WriteFault asks (broke, none) = (broke.fault, _, inl (Gen rounds, asks, refl), broke)
+  gen_cause i o handed rounds status.WriteFault asks (broke, none) = (broke.fault, (_, inl (Gen rounds, asks, refl), broke))
   gen_cause i o handed rounds status.Memory asks (untouched, none) = (Gen rounds, asks, untouched)
 
   -- of words that are a command
@@ -120,7 +120,7 @@ module _ {A : Type 0} (words : List (String A)) where
   pub others_cause : (i : Input) (o : Output) (handed : Option StoreView) (st : Status) → ((command : Command) → Asks words command → ⊥) → OthersEnd o st
       → i.untouched → HasCause words i o handed st
   others_cause i o handed status.Usage none wrote untouched = (none, wrote, untouched)
-  others_cause i o handed status.WriteFault none broke untouched = (broke.fault, _, inr (none, refl), broke)
+  others_cause i o handed status.WriteFault none broke untouched = (broke.fault, (_, inr (none, refl), broke))
   others_cause i o handed status.Finished none ends untouched = absurd ends
   others_cause i o handed status.BadScript none ends untouched = absurd ends
   others_cause i o handed status.Starved none ends untouched = absurd ends
