@@ -71,7 +71,6 @@ module _ (numbers : Numbers) (old new : Heap) (kept : TableView) (files now : Fi
       then : HaveOpen numbers new kept now
       then = leads numbers have
 
-
       had : (node : ℕ) → name_of new.socks key ≡ Some node → name_of old.socks key ≡ Some node
       had node is =
           let in_next : node_of then.opened.socketed.keyed key ≡ Some node = sym (name_says new then.opened.socketed.keyed then.opened.socketed.stands.table key) ∙ is in

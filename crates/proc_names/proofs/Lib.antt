@@ -11,5 +11,6 @@ pub mod ConnectAnswers
 pub mod Freed
 pub mod Gone
 pub mod GoesOn
+pub mod Anew
 pub mod Closed
 pub mod Left

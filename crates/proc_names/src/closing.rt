@@ -105,13 +105,7 @@ pub fn close_open(
 }
 
 // The socket that goes with a number of a process, if one does, has no name from now on.
-fn unname_going(
-    heap: &mut KHeap,
-    procs: &ProcTable,
-    names: &mut BoundTable,
-    pid: u32,
-    fd: u32,
-)
+fn unname_going(heap: &mut KHeap, procs: &ProcTable, names: &mut BoundTable, pid: u32, fd: u32)
     requires listed { AreListed heap.old procs.now }
     requires owners { HasItsOwners heap.old [] }
     requires there { IsSome (key_of procs.now.listed pid) }

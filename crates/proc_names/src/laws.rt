@@ -1,6 +1,7 @@
 //! Laws of names of sockets. Each is the contract of a function that does nothing.
 
 ghost use Rattle.std.specs.Prelude.{◌≡◌, ℕ, ℤ, [], List, IsSome, length, ◌+◌};
+ghost use Rattle.kheap_shelves.specs.Objects.{InUse};
 ghost use Rattle.kheap_slabs.specs.Heap.{Heap};
 ghost use Rattle.open_laws.specs.Owned.{HasItsOwners};
 ghost use Rattle.place_laws.specs.Placed.{Numbers};
@@ -9,6 +10,7 @@ ghost use Rattle.posix_defs.specs.SocketLinks.{AreLinked};
 ghost use Rattle.posix_defs.specs.Sockets.{sock_at, socket_at, with_new, with_pair, after_accept, after_listen, after_read, after_shut, after_write};
 ghost use Rattle.proc_table.specs.Table.{TableView};
 ghost use Rattle.proc_descs.specs.Having.{HaveOpen};
+ghost use Rattle.proc_pipes.specs.Opening.{KeepsNumbers};
 ghost use Rattle.proc_names.specs.Bound.{name_of};
 ghost use Rattle.proc_names.specs.Holding.{HaveNames};
 
@@ -18,6 +20,15 @@ pub fn names_stay_with_the_machines()
     ensures { (numbers : Numbers) (old : Heap) (new : Heap) (kept : TableView) (files : Files) (now : Files)
         → HasItsOwners old [] → HaveOpen numbers old kept files
         → ((n : Numbers) → HaveOpen n old kept files → HaveOpen n new kept now)
+        → ((place : ℕ) → (socket_at now.sockets place).node ≡ (socket_at files.sockets place).node)
+        → (key : ℕ) → name_of new.socks key ≡ name_of old.socks key }
+{}
+
+/// The same of a call that makes sockets: whatever was in use is in use still, and has the place that it had.
+pub fn made_sockets_have_no_names()
+    ensures { (numbers : Numbers) (after : Numbers) (old : Heap) (new : Heap) (kept : TableView) (files : Files) (now : Files)
+        → HaveOpen numbers old kept files → HaveOpen after new kept now → KeepsNumbers old numbers after
+        → ((key : ℕ) → InUse old.socks key → InUse new.socks key)
         → ((place : ℕ) → (socket_at now.sockets place).node ≡ (socket_at files.sockets place).node)
         → (key : ℕ) → name_of new.socks key ≡ name_of old.socks key }
 {}
