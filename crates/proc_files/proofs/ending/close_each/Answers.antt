@@ -1,4 +1,4 @@
-use Rattle.std.proofs.Common.{◌≡◌, ◌∙◌, refl, subst, sym}
+use Rattle.std.proofs.Common.{◌∙◌, refl, subst, sym}
 use Rattle.proc_descs.proofs.Fronts.{queues_same}
 use Rattle.proc_files.specs.Closing.{is_marked}
 use Rattle.proc_files.specs.Holding.{HoldFiles}

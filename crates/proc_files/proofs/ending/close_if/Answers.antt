@@ -1,4 +1,4 @@
-use Rattle.std.proofs.Common.{◌≡◌, cond, refl, subst, sym}
+use Rattle.std.proofs.Common.{cond, refl, subst, sym}
 use Rattle.posix_defs.specs.Files.Closing.{after_close}
 use Rattle.proc_descs.proofs.Fronts.{queues_same}
 use Rattle.proc_files.specs.Closing.{ClosesIf}
