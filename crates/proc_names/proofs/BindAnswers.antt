@@ -1,5 +1,5 @@
 -- What the machine answers to a bind, and what stands once one is done.
-use Rattle.std.proofs.Common.{◌≡◌, ◌≢◌, ℕ, ℤ, pos, ◌<◌, ◌≤◌, Bool, true, false, cond, List, [], length, Option, None, Some, Result, Ok, Err, IsSome, is_some, is_ok, refl, sym, ap, subst, ◌∙◌, arith, Contains}
+use Rattle.std.proofs.Common.{◌≡◌, ℕ, ℤ, pos, ◌<◌, ◌≤◌, Bool, true, false, cond, List, [], length, Option, None, Some, Result, Ok, Err, IsSome, is_some, refl, sym, ap, subst, ◌∙◌, arith, Contains}
 use Rattle.std.specs.Prelude.{IsErrAnd}
 use Rattle.std.proofs.lemmas.Result.{err_from_is_err_and}
 use Rattle.std.proofs.lemmas.Bool.{false≢true}
@@ -25,20 +25,20 @@ use Rattle.posix_defs.specs.Calls.Opened.{Opened}
 use Rattle.posix_defs.specs.DiskFormat.{table_nodes}
 use Rattle.posix_defs.specs.Files.State.{Files, with_sockets, with_tree}
 use Rattle.posix_defs.specs.IsTree.{IsTree}
-use Rattle.posix_defs.specs.PathCalls.{bind_path, is_socket}
+use Rattle.posix_defs.specs.PathCalls.{bind_path}
 use Rattle.posix_defs.specs.Plain.{Plain, with_files}
 use Rattle.posix_defs.specs.Process.{directory_of}
 use Rattle.posix_defs.specs.Socket.{Socket, bind_fault, is_connected}
 use Rattle.posix_defs.specs.SocketLinks.{WaitsFor}
-use Rattle.posix_defs.specs.Sockets.{Sockets, sock_at, socket_at, stage_at, with_name}
+use Rattle.posix_defs.specs.Sockets.{Sockets, sock_at, socket_at, with_name}
 use Rattle.posix_defs.specs.Tree.{Tree, is_directory}
 use Rattle.usock_core.specs.Answers.{Answers as IsFault}
 use Rattle.usock_core.specs.Standing.{LeavesOthers, StandsFor as SocketsStandFor}
 use Rattle.proc_table.specs.Table.{TableView}
 use Rattle.proc_descs.specs.Having.{HaveOpen}
 use Rattle.proc_files.specs.Closing.{CachesChange}
-use Rattle.proc_files.specs.Holding.{HoldFiles, holders}
-use Rattle.proc_files.proofs.Beside.{have_beside, owners_beside, same_descs, same_socks}
+use Rattle.proc_files.specs.Holding.{holders}
+use Rattle.proc_files.proofs.Beside.{owners_beside, same_descs, same_socks}
 use Rattle.proc_socks.specs.Finding.{FindsSocket}
 use Rattle.proc_socks.specs.Owning.{SocketsChange}
 use Rattle.proc_socks.specs.declared.finding.Found.{Found}

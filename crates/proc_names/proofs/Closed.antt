@@ -1,8 +1,7 @@
 -- The machine once a number is closed whose socket, where that goes, has lost its name before.
-use Rattle.std.proofs.Common.{◌≡◌, ◌≢◌, ◌⊎◌, ℕ, ◌<◌, ◌≤◌, ◌==◌, Bool, true, false, cond, List, [], length, Option, None, Some, IsSome, is_some, refl, sym, ap, subst, ◌∙◌, arith, inl, inr, Contains}
+use Rattle.std.proofs.Common.{◌≡◌, ◌≢◌, ◌⊎◌, ℕ, ◌<◌, ◌≤◌, ◌==◌, Bool, true, false, cond, List, [], length, Option, None, Some, IsSome, refl, sym, ap, subst, ◌∙◌, arith, inl, inr, Contains}
 use Rattle.std.specs.Option.{option_map}
 use Rattle.std.specs.Prelude.{IfSome}
-use Rattle.std.proofs.lemmas.Bool.{cases_eq}
 use Rattle.std.proofs.lemmas.Bool.Decides.{eqb_tells}
 use Rattle.kheap_shelves.specs.Objects.{object}
 use Rattle.kheap_shelves.specs.declared.objects.Desc.{Desc}
@@ -12,7 +11,7 @@ use Rattle.kheap_shelves.specs.declared.objects.Target.{Target as HeldTarget}
 use Rattle.kheap_shelves.specs.declared.objects.Target.TheVariants as target
 use Rattle.kheap_slabs.specs.Heap.{Heap}
 use Rattle.memfs_ops.specs.FileTree.{TreeView}
-use Rattle.open_laws.specs.Described.{counted_in, node_in, target_in}
+use Rattle.open_laws.specs.Described.{counted_in, target_in}
 use Rattle.open_laws.specs.Open.{descriptor_by}
 use Rattle.open_laws.specs.Owned.{HasItsOwners, sock_in, sock_of, socks_named}
 use Rattle.open_laws.proofs.OwnerLemmas.{named_by as sock_named_by}
@@ -20,12 +19,12 @@ use Rattle.open_laws.specs.Socketed.{AreRenamed}
 use Rattle.open_laws.proofs.SocketLemmas.{closed_renamed}
 use Rattle.place_laws.specs.Placed.{Numbers}
 use Rattle.posix_defs.specs.DiskFormat.{table_nodes}
-use Rattle.posix_defs.specs.Files.Closing.{after_close, close_in, description_gone, gone_in, left_node, released, target_closed}
-use Rattle.posix_defs.specs.Files.Descriptions.{Access, Description, OnNode, OnPipe, OnSocket, Target, description_at, with_description}
+use Rattle.posix_defs.specs.Files.Closing.{after_close, close_in, description_gone, gone_in, released, target_closed}
+use Rattle.posix_defs.specs.Files.Descriptions.{Description, OnNode, OnPipe, OnSocket, Target, description_at, with_description}
 use Rattle.posix_defs.specs.Files.Descriptors.{is_named}
 use Rattle.posix_defs.specs.Files.State.{Files, opens, with_descriptions, with_open, with_sockets, with_tree}
 use Rattle.posix_defs.specs.IsTree.{IsTree}
-use Rattle.posix_defs.specs.PathCalls.{is_socket, is_socket_kind, kind_in, kind_of_content}
+use Rattle.posix_defs.specs.PathCalls.{is_socket, is_socket_kind, kind_in}
 use Rattle.posix_defs.specs.SocketLinks.{WaitsFor, WaitsNowhere}
 use Rattle.posix_defs.specs.Sockets.{Sockets, after_close as sockets_after_close, sock_at, with_name}
 use Rattle.posix_defs.specs.Tree.{Node, Tree, links_at, links_in, node_at, with_node}
@@ -36,7 +35,7 @@ use Rattle.socket_laws.proofs.SocketCalls.{connected_there}
 use Rattle.usock_core.specs.Standing.{StandsFor as SocketsStandFor}
 use Rattle.usock_core.proofs.OneTable.{nowhere_in}
 use Rattle.proc_table.specs.Table.{TableView}
-use Rattle.proc_descs.specs.Having.{AreListed, ClosesNumber, HaveOpen, node_closed}
+use Rattle.proc_descs.specs.Having.{AreListed, HaveOpen, node_closed}
 use Rattle.proc_descs.specs.Naming.{named_at}
 use Rattle.proc_descs.proofs.NumberNames.{desc_named, descriptor_at_is}
 use Rattle.proc_queues.proofs.Opening.{described_so}
@@ -45,15 +44,15 @@ use Rattle.proc_files.specs.Holding.{HoldFiles}
 use Rattle.proc_files.proofs.Beside.{have_beside, listed_beside}
 use Rattle.proc_files.proofs.Closings.{Goes, closes_so, goes_with, none_names, still_named, tree_left}
 use Rattle.proc_socks.proofs.Told.{keyed_there, on_named, socket_there}
-use Rattle.proc_names.specs.Bound.{AreBound, name_of}
+use Rattle.proc_names.specs.Bound.{name_of}
 use Rattle.proc_names.specs.Closing.{socket_going, socket_left, unnamed}
-use Rattle.proc_names.specs.Holding.{HaveNames, HoldNames}
+use Rattle.proc_names.specs.Holding.{HoldNames}
 use Rattle.proc_names.proofs.GoesOn.{names_on}
 use Rattle.proc_names.proofs.Gone.{close_nodes, close_waits, nodes_placed, unnamed_goes, waits_placed}
 use Rattle.proc_names.proofs.Named.{named_here, waits_by_place}
 use Rattle.proc_names.proofs.Placed.{placed_inside, placed_node}
 use Rattle.proc_names.proofs.Tables.{node_of}
-use Rattle.proc_names.proofs.Ties.{bound_on, none_is}
+use Rattle.proc_names.proofs.Ties.{bound_on}
 
 -- ---- the tree
 

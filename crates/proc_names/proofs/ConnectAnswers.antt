@@ -1,5 +1,5 @@
 -- What the machine answers to a connect, and what stands once one is done.
-use Rattle.std.proofs.Common.{◌≡◌, ◌≢◌, ℕ, ℤ, pos, ◌<◌, ◌≤◌, Bool, true, false, cond, List, [], ◌∷◌, ◌++◌, length, Option, None, Some, Result, Ok, Err, IsSome, is_some, unwrap_or, refl, sym, ap, subst, ◌∙◌, arith, zero, suc, Contains}
+use Rattle.std.proofs.Common.{◌≡◌, ◌≢◌, ℕ, ℤ, pos, ◌<◌, ◌≤◌, Bool, true, false, cond, List, [], ◌∷◌, ◌++◌, length, Option, None, Some, Result, Ok, Err, IsSome, refl, sym, ap, subst, ◌∙◌, arith, zero, suc, Contains}
 use Rattle.std.specs.Prelude.{IsOk, OnErr, OnOk, MatchBool, MatchOption, MatchResult}
 use Rattle.std.specs.Option.{option_map}
 use Rattle.std.proofs.lemmas.List.{get_or_past}
@@ -9,7 +9,7 @@ use Rattle.kabi_values.specs.declared.replies.Reply.TheVariants.{Fail, Val}
 use Rattle.kabi_types.specs.declared.scripts.Script.{Script}
 use Rattle.kabi_values.specs.declared.classes.Class.TheVariants as class
 use Rattle.kheap_shelves.specs.Counts.{with_count}
-use Rattle.kheap_shelves.specs.Objects.{InUse, object}
+use Rattle.kheap_shelves.specs.Objects.{object}
 use Rattle.kheap_shelves.specs.Purse.{Purse}
 use Rattle.kheap_shelves.specs.declared.objects.Sock.{Sock}
 use Rattle.kheap_shelves.proofs.ObjectLemmas.{InUse-within}
@@ -19,18 +19,18 @@ use Rattle.memfs_ops.specs.FileTree.{Stands, TreeView}
 use Rattle.open_laws.specs.Owned.{HasItsOwners, socks_named}
 use Rattle.open_laws.specs.Socketed.{AreRenamed}
 use Rattle.place_laws.specs.Placed.{Numbers}
-use Rattle.posix_defs.specs.Answer.{Answer, failed, replied}
+use Rattle.posix_defs.specs.Answer.{Answer, failed}
 use Rattle.posix_defs.specs.Calls.OnSockets.{connect as call_connect, connect_at, connected_by, connected_under, listener_under, resocketed, unless_fault}
 use Rattle.posix_defs.specs.Calls.Opened.{Opened}
-use Rattle.posix_defs.specs.Files.State.{Files, with_sockets}
+use Rattle.posix_defs.specs.Files.State.{with_sockets}
 use Rattle.posix_defs.specs.PathCalls.{find_socket}
 use Rattle.posix_defs.specs.Plain.{Plain}
 use Rattle.posix_defs.specs.Process.{directory_of}
 use Rattle.posix_defs.specs.Socket.{Stage, Idle, Listening, Connected, Socket, connect_fault, connected_to, new_socket, waiting_of}
 use Rattle.posix_defs.specs.SocketLinks.{AreNamedOnce}
-use Rattle.posix_defs.specs.Sockets.{Sockets, after_connect, is_refused, sock_at, socket_at, stage_at, with_new, with_socket, with_stage}
+use Rattle.posix_defs.specs.Sockets.{Sockets, after_connect, is_refused, sock_at, socket_at, stage_at, with_socket, with_stage}
 use Rattle.socket_laws.proofs.SocketCalls.{listening_there}
-use Rattle.socket_laws.proofs.SocketTable.{length-with, length-with_there, sock_at-with_other, there_within}
+use Rattle.socket_laws.proofs.SocketTable.{length-with, length-with_there, there_within}
 use Rattle.usock_core.specs.Answers.{IsConnectedBy}
 use Rattle.usock_core.specs.Standing.{IsListeningIn, LeavesOthers, StandsFor as SocketsStandFor}
 use Rattle.usock_core.proofs.OneTable.{one_table}
@@ -48,7 +48,7 @@ use Rattle.proc_socks.proofs.Opens.{have_changed}
 use Rattle.proc_socks.proofs.Renaming.{new_within}
 use Rattle.proc_socks.proofs.Told.{keeps_same, keeps_sock, keyed_there}
 use Rattle.proc_names.specs.Answering.{AnswersConnecting}
-use Rattle.proc_names.specs.Bound.{AreBound, name_of}
+use Rattle.proc_names.specs.Bound.{name_of}
 use Rattle.proc_names.specs.Holding.{HoldNames}
 use Rattle.proc_names.proofs.BindAnswers.{bound_beside, named_beside}
 use Rattle.proc_names.proofs.Connected.{connect_renamed, refused_told}

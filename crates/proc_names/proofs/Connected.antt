@@ -1,11 +1,11 @@
 -- A table of sockets by key and the same one by place, once a socket is connected to a new one.
-use Rattle.std.proofs.Common.{◌≡◌, ◌≢◌, ℕ, zero, suc, ◌<◌, ◌≤◌, ◌++◌, List, [], ◌∷◌, map, length, nat_le, Option, None, Some, IsSome, is_some, false, refl, sym, ap, subst, ◌∙◌, arith, Contains}
+use Rattle.std.proofs.Common.{◌≡◌, ◌≢◌, ℕ, zero, suc, ◌≤◌, ◌++◌, List, [], ◌∷◌, map, length, nat_le, Option, None, Some, IsSome, is_some, false, refl, sym, ap, subst, ◌∙◌, arith, Contains}
 use Rattle.std.proofs.lemmas.List.{length-map}
 use Rattle.chunk_queue.proofs.JoinedLemmas.{Contains-cons}
 use Rattle.open_laws.specs.Socketed.{AreRenamed, stage_by}
 use Rattle.open_laws.proofs.SocketLemmas.{placed_at, placed_stage, renamed_changed}
 use Rattle.place_laws.specs.Placed.{numbered}
-use Rattle.posix_defs.specs.Socket.{Stage, Idle, Listening, Connected, Socket, connected_to, new_socket, waiting_of}
+use Rattle.posix_defs.specs.Socket.{Stage, Listening, Connected, Socket, connected_to, new_socket, waiting_of}
 use Rattle.posix_defs.specs.SocketLinks.{AreLinked}
 use Rattle.posix_defs.specs.Sockets.{Sockets, after_connect, backlog, is_refused, sock_at, socket_at, stage_at, with_name, with_new, with_socket, with_stage}
 use Rattle.socket_laws.proofs.SocketCalls.{connected_there}

@@ -1,5 +1,5 @@
 -- Calls on sockets that name nobody.
-use Rattle.std.proofs.Common.{◌≡◌, ◌⊎◌, ℕ, ℤ, ◌+◌, ◌≤◌, ◌++◌, Bool, List, [], ◌∷◌, length, take, drop, Option, None, Some, IsSome, unwrap_or, refl, sym, ap, ◌∙◌, arith, inl, inr, Contains}
+use Rattle.std.proofs.Common.{◌≡◌, ℕ, ℤ, ◌+◌, ◌≤◌, ◌++◌, Bool, List, [], ◌∷◌, length, take, drop, Option, None, Some, IsSome, unwrap_or, refl, sym, ap, ◌∙◌, arith, inl, Contains}
 use Rattle.std.proofs.lemmas.List.{get_or_past}
 use Rattle.std.proofs.lemmas.List.Elements.{Contains-append_right}
 use Rattle.posix_defs.specs.Files.State.{Files, with_sockets}

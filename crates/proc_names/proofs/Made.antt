@@ -1,5 +1,5 @@
 -- The tree once a socket's name is made: the node is new, and of every other node the tree says what it said.
-use Rattle.std.proofs.Common.{◌≡◌, ◌≢◌, ℕ, ◌≤◌, Bool, true, false, cond, List, length, Option, None, Some, Result, Ok, Err, is_some, refl, sym, ap, subst, ◌∙◌, arith, inl, inr}
+use Rattle.std.proofs.Common.{◌≡◌, ◌≢◌, ℕ, ◌≤◌, Bool, true, false, cond, List, Option, Some, Result, Ok, Err, is_some, refl, sym, ap, subst, ◌∙◌, arith, inl, inr}
 use Rattle.std.proofs.lemmas.Bool.{cases_eq, false≢true}
 use Rattle.kabi_values.specs.declared.errnos.Errno.{Errno}
 use Rattle.kabi_values.specs.declared.errnos.Errno.TheVariants.{ENOENT}
@@ -7,7 +7,7 @@ use Rattle.posix_defs.specs.DiskFormat.{table_nodes}
 use Rattle.posix_defs.specs.IsTree.{IsTree}
 use Rattle.posix_defs.specs.PathCalls.{bind_led, bind_path, is_socket, is_socket_kind, kind_in}
 use Rattle.posix_defs.specs.Paths.{IsLed, resolve}
-use Rattle.posix_defs.specs.Tree.{Node, SocketName, Tree, is_directory, is_directory_in, is_in_use, node_at, with_node}
+use Rattle.posix_defs.specs.Tree.{Node, SocketName, Tree, is_directory, is_directory_in, is_in_use, with_node}
 use Rattle.posix_defs.specs.TreeChanges.{entry_put, make, with_new}
 use Rattle.posix_defs.specs.declared.walked.Walked.{Walked}
 use Rattle.posix_defs.specs.declared.walked.Walked.TheVariants as walked

@@ -1,5 +1,5 @@
 -- Who is bound and who listens, in a table of sockets by key and in the same one by place.
-use Rattle.std.proofs.Common.{◌≡◌, ℕ, ◌<◌, ◌≤◌, Bool, cond, List, map, length, Option, None, Some, IsSome, is_some, refl, sym, ap, ◌∙◌, arith}
+use Rattle.std.proofs.Common.{◌≡◌, ℕ, ◌≤◌, Bool, cond, List, map, length, Option, None, Some, IsSome, is_some, refl, sym, ap, ◌∙◌, arith}
 use Rattle.std.specs.Option.{option_map}
 use Rattle.kabi_values.specs.declared.errnos.Errno.TheVariants.{EINVAL, EISCONN}
 use Rattle.open_laws.specs.Socketed.{AreRenamed, stage_by}

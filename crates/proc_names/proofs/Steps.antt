@@ -1,5 +1,5 @@
 -- Heap, table and tree go on standing for files over the steps of a call on names of sockets.
-use Rattle.std.proofs.Common.{◌≡◌, ◌≢◌, ℕ, ◌+◌, refl, sym, ap, ◌∙◌}
+use Rattle.std.proofs.Common.{◌≢◌, ℕ, ◌+◌, refl, sym, ap, ◌∙◌}
 use Rattle.kheap_slabs.specs.Heap.{Heap}
 use Rattle.memfs_ops.specs.FileTree.{Stands, TreeView}
 use Rattle.place_laws.specs.Placed.{Numbers}

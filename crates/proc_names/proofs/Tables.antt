@@ -1,5 +1,5 @@
 -- Which key of the heap has which name, as the table of sockets says it.
-use Rattle.std.proofs.Common.{◌≡◌, ◌≢◌, ℕ, ◌<◌, ◌≤◌, length, Option, None, Some, IsSome, unwrap_or, refl, sym, ap, ◌∙◌, arith}
+use Rattle.std.proofs.Common.{◌≡◌, ◌≢◌, ℕ, ◌≤◌, length, Option, None, Some, IsSome, unwrap_or, refl, sym, ap, ◌∙◌, arith}
 use Rattle.kheap_shelves.specs.Objects.{InUse, object}
 use Rattle.kheap_shelves.specs.declared.objects.Sock.{Sock}
 use Rattle.kheap_shelves.proofs.ObjectLemmas.{InUse-within}

@@ -9,7 +9,7 @@ use Rattle.posix_defs.specs.Files.State.{Files}
 use Rattle.posix_defs.specs.PathCalls.{is_socket}
 use Rattle.posix_defs.specs.SocketLinks.{WaitsFor}
 use Rattle.posix_defs.specs.Sockets.{socket_at}
-use Rattle.posix_defs.specs.Tree.{Tree, is_directory}
+use Rattle.posix_defs.specs.Tree.{is_directory}
 use Rattle.proc_table.specs.Procs.{proc_of}
 use Rattle.proc_table.specs.Table.{TableView, processes}
 use Rattle.proc_files.specs.Holding.{HoldFiles}

@@ -1,4 +1,4 @@
-use Rattle.std.proofs.Common.{◌≡◌, ◌∙◌, ℕ, [], List, Option, None, Some, Result, Ok, Err, ap, refl, subst, sym, w64}
+use Rattle.std.proofs.Common.{◌∙◌, ℕ, [], List, Option, Result, ap, refl, subst, sym, w64}
 use Rattle.std.proofs.lemmas.Int.{to_z-of_z}
 use Rattle.kabi_values.specs.declared.errnos.Errno.{Errno}
 use Rattle.kheap_laws.proofs.PaidLemmas.{IsPaid-nothing, IsPaid-trans}

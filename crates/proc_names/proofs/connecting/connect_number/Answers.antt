@@ -1,4 +1,4 @@
-use Rattle.std.proofs.Common.{◌≡◌, ◌∙◌, ◌-◌, ℕ, [], List, Option, Result, Ok, Err, ap, subst, sym, w64}
+use Rattle.std.proofs.Common.{◌∙◌, ◌-◌, [], List, Option, Result, ap, subst, sym, w64}
 use Rattle.std.proofs.lemmas.Int.{to_z-of_z}
 use Rattle.std.specs.Prelude.{MatchOption}
 use Rattle.kabi_values.specs.declared.errnos.Errno.{Errno}
@@ -8,7 +8,6 @@ use Rattle.kheap_shelves.specs.declared.objects.Sock.{Sock}
 use Rattle.kheap_slabs.specs.Heap.{Heap}
 use Rattle.memfs_ops.specs.FileTree.{KeepsLed, KnowsWay, in_call}
 use Rattle.posix_defs.specs.Calls.OnSockets.{connect}
-use Rattle.posix_defs.specs.PathCalls.{find_socket}
 use Rattle.posix_defs.specs.Paths.{resolve}
 use Rattle.posix_defs.specs.Process.{directory_of}
 use Rattle.posix_defs.specs.Socket.{connect_fault}
