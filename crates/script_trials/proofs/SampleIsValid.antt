@@ -7,7 +7,7 @@ use Rattle.kabi_types.specs.declared.scripts.Statement.{Statement}
 use Rattle.kabi_types.specs.declared.scripts.Statement.TheVariants as statement
 use Rattle.posix_defs.specs.ValidScript.{AreApart, IsStatement, IsValid}
 use Rattle.prog_ctl.specs.Runnable.{Stands}
-use Rattle.prog_ctl.specs.Sample.{sample, sample_body}
+use Rattle.script_trials.specs.Sample.{sample, sample_body}
 
 abbrev is_label : Option Statement → Bool
 is_label (Some (statement.Label _)) = true

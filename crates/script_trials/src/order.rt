@@ -1,4 +1,4 @@
-use crate::tests::{CLOSING, Row, check_first_line, check_line, check_texts, check_told, joined};
+use crate::texts::{CLOSING, Row, check_first_line, check_line, check_texts, check_told, joined};
 use kabi_types::FaultKind;
 use std::alloc::{AllocError, AllocGlobal, Global};
 use std::process::Abort;

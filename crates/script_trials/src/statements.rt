@@ -1,4 +1,4 @@
-use crate::tests::{Told, check_in_init, check_line, joined};
+use crate::texts::{Told, check_in_init, check_line, joined};
 use kabi_types::FaultKind;
 use std::alloc::{AllocError, Global};
 use std::test::Fail;

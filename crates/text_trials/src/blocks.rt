@@ -1,7 +1,7 @@
 ghost use Rattle.std.specs.Prelude.{◌≡◌, ◌<◌, ◌≤◌, [], ◌∷◌, None, Some, IsSome, IfSome, length, slice_get};
 ghost use Rattle.posix_defs.specs.Asking.{AskedInTurn};
 
-use crate::{BlockList, Blocks};
+use posix_defs::{BlockList, Blocks};
 
 /// Writes a block of sevens and reads two blocks, through the trait alone.
 fn write_and_read<B: Blocks>(disk: &mut B) -> (u8, u8)

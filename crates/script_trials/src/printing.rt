@@ -1,9 +1,9 @@
-use crate::print;
-use crate::tests::{CLOSING, check_canonical, joined};
+use crate::texts::{CLOSING, check_canonical, joined};
 use kabi_types::{
     CallKind, Chooser, Memory, Name27, Numbers, Operand, Operands, Policy, Program, Programs,
     Script, Statement, Statements, Test, Text, Texts,
 };
+use script_parse::print;
 use std::alloc::{AllocError, AllocGlobal, Global};
 use std::process::Abort;
 use std::test::Fail;

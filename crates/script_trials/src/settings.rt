@@ -1,4 +1,4 @@
-use crate::tests::{Told, check_at_top, check_first_line, joined};
+use crate::texts::{Told, check_at_top, check_first_line, joined};
 use kabi_types::FaultKind;
 use std::alloc::{AllocError, Global};
 use std::test::Fail;

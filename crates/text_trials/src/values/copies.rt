@@ -1,7 +1,7 @@
 //! Copies of scripts.
 
 use super::is_said;
-use crate::{
+use kabi_types::{
     CallKind, Chooser, Name27, Numbers, Operand, Operands, Policy, Program, Programs, Script,
     Statement, Statements, Test, Text, Texts,
 };

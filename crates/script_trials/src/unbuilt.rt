@@ -1,7 +1,7 @@
 //! Texts by hand.
 
-use crate::unbuilt_line;
 use std::test::Fail;
+use unbuilt_lines::unbuilt_line;
 
 /// Texts, and the number of their first line that calls what can't be run.
 const TOLD: &[(&str, u32)] = &[

@@ -1,6 +1,6 @@
 //! Which calls can be run, and scripts by hand.
 
-use crate::{can_run, is_built};
+use calls_built::{can_run, is_built};
 use kabi_types::{
     CallKind, Chooser, Name27, Operand, Operands, Policy, Program, Programs, Script, Statement,
     Statements, Texts,

@@ -1,12 +1,12 @@
 ghost use Rattle.std.specs.Prelude.{◌≡◌, ◌∷◌, [], codes, IfOk};
 ghost use Rattle.kabi_types.specs.declared.scripts.Statement.TheVariants.{Invoke};
-ghost use Rattle.prog_ctl.specs.Sample.{sample, sample_body};
+ghost use Rattle.script_trials.specs.Sample.{sample, sample_body};
 
-use crate::{answer, moved, next_call, restart};
 use kabi_types::{
     Call, CallKind, Chooser, Control, Errno, Name27, Operand, Operands, Policy, Program, Programs,
     Reply, Script, Statement, Statements, Test, Texts,
 };
+use prog_ctl::{answer, moved, next_call, restart};
 use std::alloc::{AllocError, Global};
 use std::test::Fail;
 

@@ -1,5 +1,5 @@
-use crate::{ParseError, parse, print};
 use kabi_types::{FaultKind, Memory, Script};
+use script_parse::{ParseError, parse, print};
 use std::alloc::{AllocError, AllocGlobal, Global};
 use std::process::Abort;
 use std::test::Fail;

@@ -1,4 +1,4 @@
-use crate::tests::{CLOSING, check_canonical, joined, script_said};
+use crate::texts::{CLOSING, check_canonical, joined, script_said};
 use kabi_types::{Chooser, Policy, Script, Statement};
 use std::alloc::{AllocError, AllocGlobal, Global};
 use std::process::Abort;

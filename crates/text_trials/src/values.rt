@@ -1,8 +1,8 @@
-use crate::{
+use bitflags::Flags;
+use kabi_types::{
     Bytes64, CallKind, Entries, Entry, Errno, Event, FaultKind, Name27, NodeKind, Noted, OpenFlags,
     Path, PollEntry, PollHits, PollList, Reply, Revents, ScriptFault, StatInfo,
 };
-use bitflags::Flags;
 use std::alloc::Global;
 use std::fmt::Display;
 use std::process::Abort;

@@ -1,6 +1,6 @@
 //! The argument check, call by call.
 
-use crate::{Bytes64, Call, CallKind, Errno, Path, PollList};
+use kabi_types::{Bytes64, Call, CallKind, Errno, Path, PollList};
 use std::process::Abort;
 
 const GREATEST: i64 = 9223372036854775807;
