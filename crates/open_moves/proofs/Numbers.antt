@@ -71,7 +71,7 @@ module _ (old new : Heap) (kept : TableView) (pid : ℕ) (holds : Holds old kept
       ∙ found_others old.procs changes.key changes.proc now changes.there refl kept.listed pid holds.stored changes.named q apart
 
   -- each process is there with other descriptors, or with its own
-  pub each : (q : ℕ) → (places : List (Option Descriptor)) × (proc_of (processes new kept) q ≡ option_map (opening places) (proc_of (processes old kept) q))
+  each : (q : ℕ) → (places : List (Option Descriptor)) × (proc_of (processes new kept) q ≡ option_map (opening places) (proc_of (processes old kept) q))
   each q = by_pid_of (eqb_tells q pid)
     where
       by_pid_of : (((q == pid) ≡ true) × (q ≡ pid)) ⊎ (((q == pid) ≡ false) × (q ≢ pid))
@@ -165,8 +165,7 @@ module _ (old new : Heap) (kept : TableView) (pid : ℕ) (holds : Holds old kept
           subst IsLight (some_same (proc_of (processes new kept) q) now proc (ap (proc_of (processes new kept)) same.1 ∙ here) is) of_pid
       by_pid_of q proc is (inr apart) = has_it IsLight (processes old kept) q proc holds.light (sym (others q apart.1) ∙ is)
 
-  -- it holds what a table holds
-  pub holds_opened : IsAlive (processes old kept) pid → AreListed new kept → OwnsItsObjects new → Holds new kept
+  holds_opened : IsAlive (processes old kept) pid → AreListed new kept → OwnsItsObjects new → Holds new kept
   holds_opened alive listed owns =
       let by = by_pid new kept listed owns in
       record {

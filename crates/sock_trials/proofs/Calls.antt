@@ -1,7 +1,6 @@
 -- The first process's calls may be made still, whatever one has changed.
 use Rattle.std.proofs.Common.{◌≡◌, ℕ, ◌+◌, ◌-◌, ◌/◌, ◌≤◌, ◌==◌, Bool, true, false, cond, List, [], count_by, Option, Some, refl, ap, sym, subst, ◌∙◌, arith, None, w64, Contains, ℤ, zero, suc, replicate}
 use Rattle.std.specs.Int.{cast_unsigned}
-use Rattle.std.specs.Option.{option_map}
 use Rattle.kabi_calls.specs.Arguments.{count_of, moved_fault}
 use Rattle.kabi_values.specs.Class.{size}
 use Rattle.kabi_values.specs.declared.classes.Class.TheVariants as class
@@ -14,8 +13,9 @@ use Rattle.kheap_shelves.specs.declared.objects.SockState.TheVariants as state
 use Rattle.kheap_slabs.specs.Heap.{Heap, empty_heap}
 use Rattle.kheap_slabs.specs.Owners.{OwnsItsObjects}
 use Rattle.open_laws.specs.Owned.{HasItsOwners, socks_named}
-use Rattle.open_moves.specs.Moves.{opening}
-use Rattle.open_moves.proofs.Numbers.{each, holds_opened}
+use Rattle.open_moves.specs.Moves.{OpenMoves}
+use Rattle.open_moves.proofs.Moving.{alive_opened}
+use Rattle.open_moves.proofs.Numbers.{moves_opened}
 use Rattle.page_space.specs.Contents.{SpaceMoves}
 use Rattle.page_space.specs.Putting.{Puts}
 use Rattle.posix_defs.specs.Needs.{chunks_for, pages_touched}
@@ -32,6 +32,10 @@ use Rattle.proc_table.specs.Moves.{SpaceTurns, TableMoves}
 use Rattle.proc_table.specs.Procs.{IsAlive, proc_of}
 use Rattle.proc_table.specs.Table.{AreStored, TableView, processes, procs_at}
 use Rattle.proc_table.proofs.LawLemmas.{back-moves, back-procs}
+use Rattle.lru_index.specs.Order.{order}
+use Rattle.vnode_cache.specs.Nodes.{nodes}
+use Rattle.memfs_ops.specs.FileTree.{TreeView}
+use Rattle.store_objects.specs.declared.objects.Objects.{Objects}
 use Rattle.store_objects.proofs.Keeping.{listed_on, owners_on}
 use Rattle.store_objects.proofs.Namings.{names_in, names_nodes}
 use Rattle.usock_core.specs.Standing.{IsHeldIn, IsListeningIn, LeavesOthers}
@@ -53,18 +57,29 @@ called_on old new kept same descs is can = record {
   there = can.there;
 }
 
+-- a tree of nothing, for the objects whose heap and table alone are asked about
+no_tree : TreeView
+no_tree = record { names = order [] 0; vnodes = nodes [] 0 0; blocks = order [] 0; disk = record { blocks = []; reads = 0 } }
+
 -- other numbers are open
 pub called_changed : (old new : Heap) (kept : TableView) → CanCall old kept → ChangesNumbers old new kept 1 → AreListed new kept → HasItsOwners new [] → (OpensNoNode old.descs → OpensNoNode new.descs) → CanCall new kept
-called_changed old new kept can changes listed owners nodes =
-    let one = each old new kept 1 can.holds changes 1 in
-    record {
-      holds = holds_opened old new kept 1 can.holds changes can.alive listed owners.objects;
-      listed = listed;
-      owners = owners;
-      nodes = nodes can.nodes;
-      alive = record { proc = opening one.0 can.alive.proc; there = one.1 ∙ ap (option_map (opening one.0)) can.alive.there; runs = can.alive.runs };
-      there = can.there;
-    }
+called_changed old new kept can changes listed owners nodes = record {
+  holds = moves.holds;
+  listed = listed;
+  owners = owners;
+  nodes = nodes can.nodes;
+  alive = alive_opened before after 1 moves can.alive;
+  there = can.there;
+}
+  where
+    before : Objects
+    before = record { heap = old; procs = kept; tree = no_tree }
+
+    after : Objects
+    after = record { heap = new; procs = kept; tree = no_tree }
+
+    moves : OpenMoves before after
+    moves = moves_opened before after 1 can.holds refl refl can.alive changes listed owners (nodes can.nodes)
 
 -- sockets are others
 pub called_sockets : (old new : Heap) (kept : TableView) → CanCall old kept → LeavesOthers old new → OwnsItsObjects new → ((named : List ℕ) → IsHeldIn old named → IsHeldIn new named) → CanCall new kept
