@@ -14,6 +14,7 @@ use Rattle.kres_cli.specs.declared.commands.Command.TheVariants.{OnScript}
 use Rattle.kres_cli.specs.declared.commands.Task.TheVariants.{Sim, Threads}
 use Rattle.kres_cli.specs.declared.statuses.Status.{Status}
 use Rattle.kres_cli.specs.declared.statuses.Status.TheVariants.{Finished, Starved, AllAsleep, Spent}
+use Rattle.kres_cli.specs.Causes.{Completes, HasCause}
 use Rattle.kres_cli.specs.Read.{HasReadAs}
 use Rattle.kres_cli.specs.Run.{high, marks, stands}
 use Rattle.kres_cli.specs.Status.{status_of}
@@ -99,8 +100,11 @@ ThreadsKeep i o handed AllAsleep = HasThreaded i o handed AllAsleep
 ThreadsKeep i o handed Spent = HasThreaded i o handed Spent
 ThreadsKeep i o handed _ = ⊤
 
--- What the tool does on these words, and what is so of each report that it has written of a run: by the core, or by workers.
+-- What the tool does on these words, and what is so of each report that it has written of a run: by the core, or by workers. Its answer
+-- has its cause, and where nothing fails it is the end of what was asked for.
 pub record ObeysAndKeeps {A : Type 0} (words : List (String A)) (i : Input) (o : Output) (handed : Option StoreView) (status : Status) : Type 0 where
   pub obeys : Obeys words i o handed status
   pub headline : Asks words (OnScript Sim) → SimKeeps i o handed status
   pub threads : (workers : ℕ) → Asks words (OnScript (Threads workers)) → ThreadsKeep i o handed status
+  pub causes : HasCause words i o handed status
+  pub complete : Completes words i o handed status
