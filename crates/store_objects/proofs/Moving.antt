@@ -189,185 +189,185 @@ table_from are new (suc place) directory it same some own only = table_at are ne
 -- It holds the directory that it has entered once (MID), works there (MOVED), and lets the one go in which it worked (NEW).
 module _ (script : Script) (old mid : Objects) (world : World) (directory : ℕ) (has : HasEntered script old world directory)
     (once : OnlyPins old mid) (held : (tree : Tree) (pins : ℕ → ℕ) → Stands old.heap old.tree tree (one_more pins directory) → Stands mid.heap mid.tree tree (entered_pins pins directory))
-    where
-  abbrev tree : Tree
-  tree = world.plain.files.tree
+  where
+    abbrev tree : Tree
+    tree = world.plain.files.tree
 
-  abbrev entering : ℕ → ℕ
-  entering = entered_pins (pins_in world.plain) directory
+    abbrev entering : ℕ → ℕ
+    entering = entered_pins (pins_in world.plain) directory
 
-  pub stands_mid : Stands mid.heap mid.tree tree entering
-  stands_mid = held tree (pins_in world.plain) has.tree
+    pub stands_mid : Stands mid.heap mid.tree tree entering
+    stands_mid = held tree (pins_in world.plain) has.tree
 
-  pub kept_mid : AreKept script mid
-  kept_mid = pinned_kept old mid once script has.kept (tree, entering, stands_mid)
+    pub kept_mid : AreKept script mid
+    kept_mid = pinned_kept old mid once script has.kept (tree, entering, stands_mid)
 
-  module _ (moved : Objects) (pid : ℕ) (moves : WorksElsewhere mid pid directory moved) where
-    abbrev at_directory : Proc → Proc
-    at_directory proc = record proc { cwd = directory }
+    module _ (moved : Objects) (pid : ℕ) (moves : WorksElsewhere mid pid directory moved) where
+      abbrev at_directory : Proc → Proc
+      at_directory proc = record proc { cwd = directory }
 
-    abbrev became : Proc
-    became = at_directory moves.proc
+      abbrev became : Proc
+      became = at_directory moves.proc
 
-    own : moves.proc.pid ≡ pid
-    own = proc_has_pid (procs_of mid) pid moves.proc moves.found
+      own : moves.proc.pid ≡ pid
+      own = proc_has_pid (procs_of mid) pid moves.proc moves.found
 
-    only : AllByRecursion (λ proc. proc.pid ≡ pid → proc ≡ moves.proc) (procs_of mid)
-    only = only_one (procs_of mid) 0 pid moves.proc (rising_in script mid kept_mid) moves.found
+      only : AllByRecursion (λ proc. proc.pid ≡ pid → proc ≡ moves.proc) (procs_of mid)
+      only = only_one (procs_of mid) 0 pid moves.proc (rising_in script mid kept_mid) moves.found
 
-    pub it_was : (proc : Proc) → proc_of (procs_of old) pid ≡ Some proc → moves.proc ≡ proc
-    it_was proc found = some_same (proc_of (procs_of mid) pid) moves.proc proc moves.found (ap (λ procs. proc_of procs pid) (pinned_procs old mid once) ∙ found)
+      pub it_was : (proc : Proc) → proc_of (procs_of old) pid ≡ Some proc → moves.proc ≡ proc
+      it_was proc found = some_same (proc_of (procs_of mid) pid) moves.proc proc moves.found (ap (λ procs. proc_of procs pid) (pinned_procs old mid once) ∙ found)
 
-    stays : TreeStays mid moved
-    stays = record { tree = moves.tree; caches = moved_caches mid.heap moved.heap mid.procs moved.procs (moves_changed script mid moved pid at_directory kept_mid moves) }
+      stays : TreeStays mid moved
+      stays = record { tree = moves.tree; caches = moved_caches mid.heap moved.heap mid.procs moved.procs (moves_changed script mid moved pid at_directory kept_mid moves) }
 
-    pub stands_moved : Stands moved.heap moved.tree tree entering
-    stands_moved = stands_where mid moved tree entering stays stands_mid
+      pub stands_moved : Stands moved.heap moved.tree tree entering
+      stands_moved = stands_where mid moved tree entering stays stands_mid
 
-    at_its_call : IsAtCall script moves.proc → IsAtCall script became
-    at_its_call at = record { stands = at.stands; rests = at.rests }
+      at_its_call : IsAtCall script moves.proc → IsAtCall script became
+      at_its_call at = record { stands = at.stands; rests = at.rests }
 
-    kept_then_moved : AreKept script moved
-    kept_then_moved = kept_changed script mid moved pid at_directory kept_mid moves
-        (λ up. at_its_call (has_it (λ proc. proc.status ≡ None → IsAtCall script proc) (procs_of mid) pid moves.proc kept_mid.calls moves.found up))
+      kept_then_moved : AreKept script moved
+      kept_then_moved = kept_changed script mid moved pid at_directory kept_mid moves
+          (λ up. at_its_call (has_it (λ proc. proc.status ≡ None → IsAtCall script proc) (procs_of mid) pid moves.proc kept_mid.calls moves.found up))
 
-    table_moved : (table : Table) → IsTable mid.heap mid.procs table → IsTable moved.heap moved.procs (with_directory table pid directory)
-    table_moved table is =
-        subst (λ (view : TableView). IsTable moved.heap view (with_directory table pid directory)) (sym moves.same)
-        (record {
-          present = subst (AreFrom moved.heap 1 (with_directory table pid directory))
-              (sym (on-procs mid.heap moved.heap mid.procs pid moves.key moves.proc became kept_mid.holds moves.turns))
-              (table_from is.present moved.heap pid directory moves.proc
-              (λ proc. process_of-same mid.heap moved.heap proc
-              (λ page. content_kept mid.heap moved.heap proc.nodes page (ap (λ (h : Heap). h.nodes) moves.turns.after) (ap (λ (h : Heap). h.pages) moves.turns.after)))
-              made own only);
-          made = length-with_pid table pid (working directory (process_at table pid)) ∙ is.made;
-        })
-      where
-        same : SameMemory old.heap mid.heap
-        same = record { procs = ap (λ (h : Heap). h.procs) once.heap; nodes = ap (λ (h : Heap). h.nodes) once.heap; pages = ap (λ (h : Heap). h.pages) once.heap }
-
-        made : 0 < pid
-        made = (proc_made script mid world.plain pid moves.proc kept_mid
-            (processes_on script old mid world.plain world.plain once.procs same refl refl has.processes) moves.found).0
-
-    found_old : proc_of (procs_of old) pid ≡ Some moves.proc
-    found_old = ap (λ procs. proc_of procs pid) (sym (pinned_procs old mid once)) ∙ moves.found
-
-    -- it holds the directory in which it worked until now, if only as the root
-    pub is_held : (left : ℕ) → left ≡ moves.proc.cwd → moves.proc.status ≡ None → left ≢ root → 0 < entering left
-    is_held left at up other =
-        some_more (pins_in world.plain) directory left
-        (subst (λ n. 0 < n) (sym (held_by_procs script old world.plain world.account has.kept has.files has.processes.table left))
-        (subst (λ n. 0 < pins_by (procs_of old) n) (sym at)
-        (holds_it pid (procs_of old) 0 moves.proc (rising_in script old has.kept) found_old up (λ same. other (at ∙ same)))))
-
-    module _ (new : Objects) (left : ℕ) (lets : OnlyPins moved new) (gone : (tree : Tree) (pins : ℕ → ℕ) → Stands moved.heap moved.tree tree pins → Stands new.heap new.tree tree (left_pins pins left))
-        (at : left ≡ moves.proc.cwd) (up : moves.proc.status ≡ None) where
-      stands_new : Stands new.heap new.tree tree (left_pins entering left)
-      stands_new = gone tree entering stands_moved
-
-      kept_new : AreKept script new
-      kept_new = pinned_kept moved new lets script kept_then_moved (tree, left_pins entering left, stands_new)
-
-      procs_new : procs_of new ≡ map (replaced pid became) (procs_of old)
-      procs_new = pinned_procs moved new lets ∙ procs_changed script mid moved pid at_directory kept_mid moves ∙ ap (map (replaced pid became)) (pinned_procs old mid once)
-
-      -- who is found then
-      found_then : (q : ℕ) → proc_of (procs_of new) q ≡ option_map (replaced pid became) (proc_of (procs_of old) q)
-      found_then q = ap (λ procs. proc_of procs q) procs_new ∙ replaced_at (procs_of old) pid became q own
-
-      pub found_new : proc_of (procs_of new) pid ≡ Some became
-      found_new = found_then pid ∙ ap (option_map (replaced pid became)) found_old ∙ ap (λ b. Some (cond b became moves.proc)) (eqb_same moves.proc.pid pid own)
-
-      -- it runs still
-      pub runs_new : (control : Control) → Runs old pid control → Runs new pid control
-      runs_new control runs = record {
-        proc = became;
-        found = found_new;
-        up = up;
-        at_call = ap (λ (proc : Proc). proc.control) (it_was runs.proc runs.found) ∙ runs.at_call;
-      }
-
-      -- ---- the families
-
-      table_new : IsTable new.heap new.procs (with_directory world.plain.table pid directory)
-      table_new = pinned_table moved new lets (with_directory world.plain.table pid directory)
-          (table_moved world.plain.table (pinned_table old mid once world.plain.table has.processes.table))
-
-      -- a process is as it was but for where it works
-      as_it_was : (q : ℕ) (was now : Proc) → proc_of (procs_of old) q ≡ Some was → now ≡ replaced pid became was → (now.control ≡ was.control) × (now.status ≡ was.status)
-      as_it_was q was now found is = by_pid (was.pid == pid) refl is
+      table_moved : (table : Table) → IsTable mid.heap mid.procs table → IsTable moved.heap moved.procs (with_directory table pid directory)
+      table_moved table is =
+          subst (λ (view : TableView). IsTable moved.heap view (with_directory table pid directory)) (sym moves.same)
+          (record {
+            present = subst (AreFrom moved.heap 1 (with_directory table pid directory))
+                (sym (on-procs mid.heap moved.heap mid.procs pid moves.key moves.proc became kept_mid.holds moves.turns))
+                (table_from is.present moved.heap pid directory moves.proc
+                (λ proc. process_of-same mid.heap moved.heap proc
+                (λ page. content_kept mid.heap moved.heap proc.nodes page (ap (λ (h : Heap). h.nodes) moves.turns.after) (ap (λ (h : Heap). h.pages) moves.turns.after)))
+                made own only);
+            made = length-with_pid table pid (working directory (process_at table pid)) ∙ is.made;
+          })
         where
-          by_pid : (b : Bool) → (was.pid == pid) ≡ b → now ≡ cond b became was → (now.control ≡ was.control) × (now.status ≡ was.status)
-          by_pid true e is =
-              let here : q ≡ pid = sym (proc_has_pid (procs_of old) q was found) ∙ eqb_is was.pid pid e in
-              let same : moves.proc ≡ was = it_was was (subst (λ n. proc_of (procs_of old) n ≡ Some was) here found) in
-              (ap (λ (p : Proc). p.control) is ∙ ap (λ (p : Proc). p.control) same, ap (λ (p : Proc). p.status) is ∙ ap (λ (p : Proc). p.status) same)
-          by_pid false e is = (ap (λ (p : Proc). p.control) is, ap (λ (p : Proc). p.status) is)
+          same : SameMemory old.heap mid.heap
+          same = record { procs = ap (λ (h : Heap). h.procs) once.heap; nodes = ap (λ (h : Heap). h.nodes) once.heap; pages = ap (λ (h : Heap). h.pages) once.heap }
 
-      controls_new : (q : ℕ) (it : Proc) → proc_of (procs_of new) q ≡ Some it → it.status ≡ None → settled script (control_of world.plain q) ≡ it.control
-      controls_new q it found runs =
-          let was = mapped_from (replaced pid became) (proc_of (procs_of old) q) it (sym (found_then q) ∙ found) in
-          let same = as_it_was q was.0 it was.1 was.2 in
-          has.processes.controls q was.0 was.1 (sym same.1 ∙ runs) ∙ sym same.0
+          made : 0 < pid
+          made = (proc_made script mid world.plain pid moves.proc kept_mid
+              (processes_on script old mid world.plain world.plain once.procs same refl refl has.processes) moves.found).0
 
-      files_new : HaveFiles new world.plain.files world.account
-      files_new = pinned_files moved new lets world.plain.files world.account
-          (files_moved mid moved world.plain.files world.plain.files world.account world.account (moves_changed script mid moved pid at_directory kept_mid moves) refl refl refl refl refl
-          (λ number have. descriptors_changed script mid moved pid at_directory kept_mid moves world.plain.files number have)
-          (pinned_files old mid once world.plain.files world.account has.files))
+      found_old : proc_of (procs_of old) pid ≡ Some moves.proc
+      found_old = ap (λ procs. proc_of procs pid) (sym (pinned_procs old mid once)) ∙ moves.found
 
-      -- ---- who holds what
+      -- it holds the directory in which it worked until now, if only as the root
+      pub is_held : (left : ℕ) → left ≡ moves.proc.cwd → moves.proc.status ≡ None → left ≢ root → 0 < entering left
+      is_held left at up other =
+          some_more (pins_in world.plain) directory left
+          (subst (λ n. 0 < n) (sym (held_by_procs script old world.plain world.account has.kept has.files has.processes.table left))
+          (subst (λ n. 0 < pins_by (procs_of old) n) (sym at)
+          (holds_it pid (procs_of old) 0 moves.proc (rising_in script old has.kept) found_old up (λ same. other (at ∙ same)))))
 
-      pins_new : (n : ℕ) → left_pins entering left n ≡ pins_by (procs_of new) n
-      pins_new n =
-          left_less entering left n (here + (away directory n + others)) as_many
-          ∙ sym (others_hold pid (procs_of new) 0 became (rising_in script new kept_new) found_new up n
-          ∙ ap (λ procs. here + (away directory n + count n (but_root (directories_in procs)))) (ap (filter (is_other pid)) procs_new ∙ others_same pid became (procs_of old) own))
-        where
-          here : ℕ
-          here = one_if (root == n)
+      module _ (new : Objects) (left : ℕ) (lets : OnlyPins moved new) (gone : (tree : Tree) (pins : ℕ → ℕ) → Stands moved.heap moved.tree tree pins → Stands new.heap new.tree tree (left_pins pins left))
+          (at : left ≡ moves.proc.cwd) (up : moves.proc.status ≡ None) where
+        stands_new : Stands new.heap new.tree tree (left_pins entering left)
+        stands_new = gone tree entering stands_moved
 
-          others : ℕ
-          others = count n (but_root (directories_in (filter (is_other pid) (procs_of old))))
+        kept_new : AreKept script new
+        kept_new = pinned_kept moved new lets script kept_then_moved (tree, left_pins entering left, stands_new)
 
-          group : (all was here away enters rest : ℕ) → all ≡ was + enters → was ≡ here + (away + rest) → all ≡ away + (here + (enters + rest))
-          group all was here away enters rest e f = omega arith
+        procs_new : procs_of new ≡ map (replaced pid became) (procs_of old)
+        procs_new = pinned_procs moved new lets ∙ procs_changed script mid moved pid at_directory kept_mid moves ∙ ap (map (replaced pid became)) (pinned_procs old mid once)
 
-          were : pins_in world.plain n ≡ here + (away moves.proc.cwd n + others)
-          were = held_by_procs script old world.plain world.account has.kept has.files has.processes.table n
-              ∙ others_hold pid (procs_of old) 0 moves.proc (rising_in script old has.kept) found_old up n
+        -- who is found then
+        found_then : (q : ℕ) → proc_of (procs_of new) q ≡ option_map (replaced pid became) (proc_of (procs_of old) q)
+        found_then q = ap (λ procs. proc_of procs q) procs_new ∙ replaced_at (procs_of old) pid became q own
 
-          as_many : entering n ≡ away left n + (here + (away directory n + others))
-          as_many = subst (λ cwd. entering n ≡ away cwd n + (here + (away directory n + others))) (sym at)
-              (group (entering n) (pins_in world.plain n) here (away moves.proc.cwd n) (away directory n) others (entered_more (pins_in world.plain) directory n) were)
+        pub found_new : proc_of (procs_of new) pid ≡ Some became
+        found_new = found_then pid ∙ ap (option_map (replaced pid became)) found_old ∙ ap (λ b. Some (cond b became moves.proc)) (eqb_same moves.proc.pid pid own)
 
-      worked_new : IsWorkedIn new tree
-      worked_new = record {
-        stands = same_pins new.heap new.tree tree (left_pins entering left) (pins_by (procs_of new)) pins_new stands_new;
-        works = subst (λ procs. AreDirectories tree (directories_in procs)) (sym procs_new)
-            (all_work (λ node. is_directory tree node ≡ true) pid became (procs_of old) has.entered
-            (subst (AreDirectories tree) (directories_from has.processes.table.present) has.works));
-      }
+        -- it runs still
+        pub runs_new : (control : Control) → Runs old pid control → Runs new pid control
+        runs_new control runs = record {
+          proc = became;
+          found = found_new;
+          up = up;
+          at_call = ap (λ (proc : Proc). proc.control) (it_was runs.proc runs.found) ∙ runs.at_call;
+        }
 
-      kept_same : KeptStays old.tree new.tree
-      kept_same = kept_then old.tree moved.tree new.tree
-          (kept_then old.tree mid.tree moved.tree (pinned_stays old mid once) (kept_where mid moved stays)) (pinned_stays moved new lets)
+        -- ---- the families
 
-      pub works_then : StandsFor script new (working_in world pid directory)
-      works_then = record {
-        runs = has.runs;
-        kept = kept_new;
-        processes = record {
-          table = table_new;
-          last = ap (λ (view : TableView). view.last) (lets.procs ∙ moves.same ∙ once.procs) ∙ has.processes.last;
-          controls = controls_new;
-        };
-        memory = pinned_account moved new lets world.account.frames
-            (account_changed script mid moved pid at_directory kept_mid moves world.account.frames (pinned_account old mid once world.account.frames has.memory));
-        files = files_new;
-        tree = tree_worked script new (working_in world pid directory) kept_new files_new table_new worked_new has.sockets (has.same ∙ sym kept_same.kept) (has.reads ∙ sym kept_same.reads);
-        family = (moves_on world.plain pid directory (record { family = has.family; counted = has.processes.table.made ∙ has.processes.last })).family;
-        works = works_worked new tree (with_directory world.plain.table pid directory) table_new worked_new;
-      }
+        table_new : IsTable new.heap new.procs (with_directory world.plain.table pid directory)
+        table_new = pinned_table moved new lets (with_directory world.plain.table pid directory)
+            (table_moved world.plain.table (pinned_table old mid once world.plain.table has.processes.table))
+
+        -- a process is as it was but for where it works
+        as_it_was : (q : ℕ) (was now : Proc) → proc_of (procs_of old) q ≡ Some was → now ≡ replaced pid became was → (now.control ≡ was.control) × (now.status ≡ was.status)
+        as_it_was q was now found is = by_pid (was.pid == pid) refl is
+          where
+            by_pid : (b : Bool) → (was.pid == pid) ≡ b → now ≡ cond b became was → (now.control ≡ was.control) × (now.status ≡ was.status)
+            by_pid true e is =
+                let here : q ≡ pid = sym (proc_has_pid (procs_of old) q was found) ∙ eqb_is was.pid pid e in
+                let same : moves.proc ≡ was = it_was was (subst (λ n. proc_of (procs_of old) n ≡ Some was) here found) in
+                (ap (λ (p : Proc). p.control) is ∙ ap (λ (p : Proc). p.control) same, ap (λ (p : Proc). p.status) is ∙ ap (λ (p : Proc). p.status) same)
+            by_pid false e is = (ap (λ (p : Proc). p.control) is, ap (λ (p : Proc). p.status) is)
+
+        controls_new : (q : ℕ) (it : Proc) → proc_of (procs_of new) q ≡ Some it → it.status ≡ None → settled script (control_of world.plain q) ≡ it.control
+        controls_new q it found runs =
+            let was = mapped_from (replaced pid became) (proc_of (procs_of old) q) it (sym (found_then q) ∙ found) in
+            let same = as_it_was q was.0 it was.1 was.2 in
+            has.processes.controls q was.0 was.1 (sym same.1 ∙ runs) ∙ sym same.0
+
+        files_new : HaveFiles new world.plain.files world.account
+        files_new = pinned_files moved new lets world.plain.files world.account
+            (files_moved mid moved world.plain.files world.plain.files world.account world.account (moves_changed script mid moved pid at_directory kept_mid moves) refl refl refl refl refl
+            (λ number have. descriptors_changed script mid moved pid at_directory kept_mid moves world.plain.files number have)
+            (pinned_files old mid once world.plain.files world.account has.files))
+
+        -- ---- who holds what
+
+        pins_new : (n : ℕ) → left_pins entering left n ≡ pins_by (procs_of new) n
+        pins_new n =
+            left_less entering left n (here + (away directory n + others)) as_many
+            ∙ sym (others_hold pid (procs_of new) 0 became (rising_in script new kept_new) found_new up n
+            ∙ ap (λ procs. here + (away directory n + count n (but_root (directories_in procs)))) (ap (filter (is_other pid)) procs_new ∙ others_same pid became (procs_of old) own))
+          where
+            here : ℕ
+            here = one_if (root == n)
+
+            others : ℕ
+            others = count n (but_root (directories_in (filter (is_other pid) (procs_of old))))
+
+            group : (all was here away enters rest : ℕ) → all ≡ was + enters → was ≡ here + (away + rest) → all ≡ away + (here + (enters + rest))
+            group all was here away enters rest e f = omega arith
+
+            were : pins_in world.plain n ≡ here + (away moves.proc.cwd n + others)
+            were = held_by_procs script old world.plain world.account has.kept has.files has.processes.table n
+                ∙ others_hold pid (procs_of old) 0 moves.proc (rising_in script old has.kept) found_old up n
+
+            as_many : entering n ≡ away left n + (here + (away directory n + others))
+            as_many = subst (λ cwd. entering n ≡ away cwd n + (here + (away directory n + others))) (sym at)
+                (group (entering n) (pins_in world.plain n) here (away moves.proc.cwd n) (away directory n) others (entered_more (pins_in world.plain) directory n) were)
+
+        worked_new : IsWorkedIn new tree
+        worked_new = record {
+          stands = same_pins new.heap new.tree tree (left_pins entering left) (pins_by (procs_of new)) pins_new stands_new;
+          works = subst (λ procs. AreDirectories tree (directories_in procs)) (sym procs_new)
+              (all_work (λ node. is_directory tree node ≡ true) pid became (procs_of old) has.entered
+              (subst (AreDirectories tree) (directories_from has.processes.table.present) has.works));
+        }
+
+        kept_same : KeptStays old.tree new.tree
+        kept_same = kept_then old.tree moved.tree new.tree
+            (kept_then old.tree mid.tree moved.tree (pinned_stays old mid once) (kept_where mid moved stays)) (pinned_stays moved new lets)
+
+        pub works_then : StandsFor script new (working_in world pid directory)
+        works_then = record {
+          runs = has.runs;
+          kept = kept_new;
+          processes = record {
+            table = table_new;
+            last = ap (λ (view : TableView). view.last) (lets.procs ∙ moves.same ∙ once.procs) ∙ has.processes.last;
+            controls = controls_new;
+          };
+          memory = pinned_account moved new lets world.account.frames
+              (account_changed script mid moved pid at_directory kept_mid moves world.account.frames (pinned_account old mid once world.account.frames has.memory));
+          files = files_new;
+          tree = tree_worked script new (working_in world pid directory) kept_new files_new table_new worked_new has.sockets (has.same ∙ sym kept_same.kept) (has.reads ∙ sym kept_same.reads);
+          family = (moves_on world.plain pid directory (record { family = has.family; counted = has.processes.table.made ∙ has.processes.last })).family;
+          works = works_worked new tree (with_directory world.plain.table pid directory) table_new worked_new;
+        }

@@ -38,7 +38,7 @@ work_in-requires-clause-entered c =
       c.args.script.now,
       looked c.args.script.now c.args.objects.now c.enter.new.heap c.enter.new.self c.enter.ensures.pays.only some.0,
       has_entered c.args.script.now c.args.objects.now c.enter.new.heap c.enter.new.self c.args.purse.now c.enter.new.purse c.enter.ensures.pays c.args.pid c.directory_of-cwd.result c.args.path.now c.requires.runs.proc c.requires.runs.found c.requires.runs.up
-    (c.directory_of-cwd.ensures c.requires.runs.proc c.requires.runs.found) c.requires.right c.requires.needed c.enter.ensures.saved c.enter.ensures.kept
+          (c.directory_of-cwd.ensures c.requires.runs.proc c.requires.runs.found) c.requires.right c.requires.needed c.enter.ensures.saved c.enter.ensures.kept
           c.in-Ok.directory (λ tree pins stands. sym c.in-Ok.is ∙ c.enter.ensures.value tree pins stands)
           (λ tree pins stands. subst (λ o. MatchResult o (λ number. Stands c.enter.new.heap c.enter.new.self tree (one_more pins number)) (λ _. Stands c.enter.new.heap c.enter.new.self tree pins)) c.in-Ok.is (c.enter.ensures.stands tree pins stands)) some.0 some.1,
     )

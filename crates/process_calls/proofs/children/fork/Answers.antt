@@ -51,8 +51,7 @@ hold_directory-requires c = record {
   held = λ other.
       let old = c.args.objects.now in
       let worked = c.requires.works in
-      let at = c.directory_of-directory.ensures c.requires.runs.proc c.requires.runs.found in
-      (
+      let at = c.directory_of-directory.ensures c.requires.runs.proc c.requires.runs.found in (
         worked.0,
         pins_by (procs_of old),
         stands_where old c.move_on.new.self worked.0 (pins_by (procs_of old))

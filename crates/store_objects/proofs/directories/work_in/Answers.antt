@@ -39,8 +39,7 @@ let_go-requires c = record {
       let held = c.hold_once.ensures.stands in
       let moves = c.work_elsewhere.ensures in
       let proc = c.requires.alive.proc in
-      let same = it_was some.0 old mid some.1 c.args.directory some.2 once held moved c.args.pid moves proc c.requires.alive.there in
-      (
+      let same = it_was some.0 old mid some.1 c.args.directory some.2 once held moved c.args.pid moves proc c.requires.alive.there in (
         some.1.plain.files.tree,
         entered_pins (pins_in some.1.plain) c.args.directory,
         stands_moved some.0 old mid some.1 c.args.directory some.2 once held moved c.args.pid moves,

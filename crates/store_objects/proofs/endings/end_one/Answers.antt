@@ -29,8 +29,7 @@ let_go-requires c = record {
       let old = c.args.objects.now in
       let proc = c.requires.alive.proc in
       let at : c.directory_of-directory.result ≡ proc.cwd = c.directory_of-directory.ensures proc c.requires.alive.there in
-      let away : proc.cwd ≢ root = λ same. other (at ∙ same) in
-      (
+      let away : proc.cwd ≢ root = λ same. other (at ∙ same) in (
         worked.0,
         pins_by (procs_of old),
         stands_where old c.shut_down.new.objects worked.0 (pins_by (procs_of old)) c.shut_down.ensures.tree worked.1.stands,
