@@ -1,11 +1,11 @@
-use Rattle.std.proofs.Common.{◌≡◌, ℕ, true, List, Option, Some, None, IsSome, refl, sym, ap, ◌∙◌, subst}
+use Rattle.std.proofs.Common.{◌≡◌, ℕ, List, Some, sym, subst}
 use Rattle.kheap_shelves.specs.declared.objects.Name.{Name}
 use Rattle.lru_index.specs.NameKeys.{name_key}
 use Rattle.lru_index.specs.declared.keys.NameKey.{NameKey}
 use Rattle.posix_defs.specs.SoundDisk.{HasNode}
 use Rattle.posix_defs.specs.Tree.{found}
 use Rattle.memfs_node.proofs.Looking.{same_directory}
-use Rattle.name_cache.specs.Names.{same_key, name_of, name_slot, cached_node, NameFilled}
+use Rattle.name_cache.specs.Names.{same_key, name_of, cached_node, NameFilled}
 use Rattle.cached_disk.specs.TreeLent.{tree_parts}
 use Rattle.cached_disk.specs.TreeGoing.{TreeGoesOn-trans}
 use Rattle.cached_disk.proofs.Absent.{some_slot_of}

@@ -1,8 +1,7 @@
-use Rattle.std.proofs.Common.{◌≡◌, ℕ, List, Option, Some, None, IsSome, refl, sym, ap, ◌∙◌, subst}
+use Rattle.std.proofs.Common.{◌≡◌, ℕ, Option, Some, None, IsSome, refl, sym, ◌∙◌, subst}
 use Rattle.kheap_shelves.specs.declared.objects.Name.{Name}
 use Rattle.lru_index.specs.NameKeys.{name_key}
 use Rattle.lru_index.specs.declared.keys.NameKey.{NameKey}
-use Rattle.posix_defs.specs.Tree.{found}
 use Rattle.name_cache.specs.Names.{same_key, name_slot, cached_node}
 use Rattle.cached_disk.specs.TreeLent.{tree_parts}
 use Rattle.cached_disk.proofs.Absent.{some_slot_of}
