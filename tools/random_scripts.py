@@ -148,6 +148,11 @@ class Program:
         self.lines.append(f"loop r15 {again}")
 
 
+def calls_of(named):
+    """The calls that are named, one by one or by their family, and those of processes."""
+    return sorted({*PROCESSES, *(it for name in named for it in FAMILIES.get(name, [name]))})
+
+
 def script(number, calls):
     rng = random.Random(number)
     lines = [f"heap {rng.choice([8192, 8192, 9000, 12000, 16384, 20000, 32768, 65536])}"]
@@ -170,8 +175,7 @@ def main(words):
         print(__doc__.split("\n")[0])
         return 2
     folder, seed, count = words[0], int(words[1]), int(words[2])
-    named = words[3:] or ["memory"]
-    calls = sorted({*PROCESSES, *(it for name in named for it in FAMILIES.get(name, [name]))})
+    calls = calls_of(words[3:] or ["memory"])
     os.makedirs(folder, exist_ok=True)
     for number in range(seed, seed + count):
         with open(f"{folder}/{number}.kres", "w", encoding="utf-8") as file:

@@ -147,16 +147,18 @@ reaches_right script old new pid which told right does =
 
 -- the calls that name nodes are these
 pub none_named : (which : Call) → is_named (kind_of which) ≡ true → ((path : List ℕ) → which ≡ call.Stat path → ⊥)
+    → ((path : List ℕ) → which ≡ call.Chdir path → ⊥)
     → ((path : List ℕ) → which ≡ call.Mkdir path → ⊥)
     → ((path : List ℕ) → which ≡ call.Rmdir path → ⊥)
     → ((path : List ℕ) → which ≡ call.Unlink path → ⊥)
     → ((old new : List ℕ) → which ≡ call.Link old new → ⊥)
     → ((old new : List ℕ) → which ≡ call.Rename old new → ⊥)
     → ⊥
-none_named (call.Stat path) named a b d e f g = a path refl
-none_named (call.Mkdir path) named a b d e f g = b path refl
-none_named (call.Rmdir path) named a b d e f g = d path refl
-none_named (call.Unlink path) named a b d e f g = e path refl
-none_named (call.Link old new) named a b d e f g = f old new refl
-none_named (call.Rename old new) named a b d e f g = g old new refl
-none_named _ named a b d e f g = cc
+none_named (call.Stat path) named a h b d e f g = a path refl
+none_named (call.Chdir path) named a h b d e f g = h path refl
+none_named (call.Mkdir path) named a h b d e f g = b path refl
+none_named (call.Rmdir path) named a h b d e f g = d path refl
+none_named (call.Unlink path) named a h b d e f g = e path refl
+none_named (call.Link old new) named a h b d e f g = f old new refl
+none_named (call.Rename old new) named a h b d e f g = g old new refl
+none_named _ named a h b d e f g = cc

@@ -11,6 +11,7 @@ use Rattle.posix_defs.specs.Reaching.{paths_of}
 -- the calls that name nodes of the tree by their paths
 abbrev pub is_named : CallKind → Bool
 is_named kind.Stat = true
+is_named kind.Chdir = true
 is_named kind.Mkdir = true
 is_named kind.Rmdir = true
 is_named kind.Unlink = true

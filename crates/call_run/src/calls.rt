@@ -10,18 +10,20 @@ ghost use Rattle.kheap_slabs.specs.Heap.{live_bytes};
 ghost use Rattle.posix_defs.specs.Machine.{answer_to, blocks, machine};
 ghost use Rattle.posix_defs.specs.Needs.{bound, need_of, slack};
 ghost use Rattle.posix_defs.specs.Process.{is_alive};
+ghost use Rattle.posix_defs.specs.Tree.{Tree};
 ghost use Rattle.posix_defs.specs.World.{World};
 ghost use Rattle.prog_ctl.specs.Waits.{wait_of};
 ghost use Rattle.store_objects.specs.Objects.{AreKept, IsCaller};
 ghost use Rattle.store_objects.specs.Standing.{Performs, StandsFor};
 ghost use Rattle.store_objects.specs.Uses.{UsesAtMost};
+ghost use Rattle.store_objects.specs.Working.{IsWorkedIn};
 ghost use Rattle.path_calls.specs.Walking.{Reaches};
 ghost use Rattle.call_run.specs.Families.{HasDone, HasPaths, is_named, is_open, is_queued, is_refused, is_socketed, makes_memory};
 
 use kabi_types::{Call, Need, Reply, Script, may_wait};
 use memory_calls::{load, mmap, munmap, store};
 use name_calls::{link, mkdir, rename, rmdir, unlink};
-use path_calls::stat;
+use path_calls::{chdir, stat};
 use pipe_calls::{close, dup, dup2, fcntl, fstat, pipe};
 use posix_defs::Turned;
 use process_calls::{exit, fork, signal_process, wait, would_sleep};
@@ -40,6 +42,7 @@ fn is_named(call: &Call) -> bool
     matches!(
         call,
         Call::Stat { .. }
+            | Call::Chdir { .. }
             | Call::Mkdir { .. }
             | Call::Rmdir { .. }
             | Call::Unlink { .. }
@@ -75,6 +78,7 @@ fn run_named(
     let mut purse = purse_for(need, Target::File);
     match call {
         Call::Stat { path } => stat(script, objects, &mut purse, pid, control, path.items()),
+        Call::Chdir { path } => chdir(script, objects, &mut purse, pid, control, path.items()),
         Call::Mkdir { path } => mkdir(script, objects, &mut purse, pid, control, path.items()),
         Call::Rmdir { path } => rmdir(script, objects, &mut purse, pid, control, path.items()),
         Call::Unlink { path } => unlink(script, objects, &mut purse, pid, control, path.items()),
@@ -275,6 +279,7 @@ fn run_free(script: &Script, objects: &mut Objects, caller: &Caller, call: &Call
     requires other { makes_memory (kind_of call.now) ≡ false }
     requires queued { is_queued (kind_of call.now) ≡ false }
     requires socketed { is_socketed (kind_of call.now) ≡ false }
+    requires works { (tree : Tree) × IsWorkedIn objects.old tree }
     ensures kept { AreKept script.now objects.new }
     ensures uses { UsesAtMost objects.old.heap objects.new.heap 0 (slack call.now) }
     ensures does { Performs script.now objects.old caller.now.pid call.now (λ plain. answer_to script.now plain caller.now.pid call.now) result objects.new }

@@ -36,6 +36,7 @@ is_built kind.Lseek = true
 is_built kind.Readdir = true
 is_built kind.Ftruncate = true
 is_built kind.Stat = true
+is_built kind.Chdir = true
 is_built kind.Mkdir = true
 is_built kind.Rmdir = true
 is_built kind.Unlink = true

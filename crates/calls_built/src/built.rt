@@ -37,6 +37,7 @@ pub fn is_built(kind: CallKind) -> bool
         | CallKind::Readdir
         | CallKind::Ftruncate
         | CallKind::Stat
+        | CallKind::Chdir
         | CallKind::Mkdir
         | CallKind::Rmdir
         | CallKind::Unlink

@@ -19,4 +19,5 @@ pub use Rattle.kern_tasks.specs.View
 pub use Rattle.kern_tasks.specs.Others
 pub mod Found
 pub mod Sleepers
+pub mod Evictables
 pub mod Reliefs

@@ -10,8 +10,10 @@ use Rattle.posix_defs.specs.Process.{is_alive}
 use Rattle.posix_defs.specs.World.{World}
 use Rattle.kern_tasks.specs.Room.{has_event, is_asleep}
 use Rattle.kern_tasks.specs.View.{CoreView, IsKept}
+use Rattle.kern_events.specs.declared.evictables.Evictables.{Evictables}
 use Rattle.kern_events.specs.declared.sleepers.Sleepers.{Sleepers}
 use Rattle.kern_events.specs.declared.sleepers.Sleepers.TheVariants as known
+use Rattle.kern_events.specs.Evictables.{AreEvictable}
 
 -- the call doesn't sleep
 abbrev pub IsAwake : Phase → Type 0
@@ -61,9 +63,11 @@ pub record HaveEvents (heap charged : ℕ) (tasks : List Task) : Type 0 where
   pub whole : room + charged ≡ heap
   pub all : list_all (λ task. has_event room task.phase) tasks ≡ true
 
--- Beside what every core keeps: what it knows of the calls that sleep is so, and no call that waits may use more than so many bytes.
+-- Beside what every core keeps: what it knows of the calls that sleep and of the caches is so, and no call that waits may use more
+-- than so many bytes.
 pub record Knows {T : Type 0} (stands_for : T → World → Type 0) (script : Script) (core : CoreView T) (heap run_room task_room : ℕ)
-    (sleepers : Sleepers) (ready : List Bool) (most : ℕ) : Type 0 where
+    (sleepers : Sleepers) (ready : List Bool) (most : ℕ) (told : Evictables) : Type 0 where
   pub kept : IsKept stands_for script core heap run_room task_room
   pub sleeping : IsKnown stands_for script core.store core.tasks ready sleepers
   pub waiting : AllByRecursion (λ task. WaitsForAtMost most task.phase) core.tasks
+  pub caches : AreEvictable stands_for core.store told

@@ -25,6 +25,7 @@ ghost use Rattle.kern_events.specs.Found.{IsFoundAt};
 ghost use Rattle.kern_events.specs.Sleepers.{AllFit, HaveEvents, WaitsForAtMost};
 ghost use Rattle.kern_events.specs.Reliefs.{NeverStarves, Relieves, first_evictable, relief_of};
 
+use crate::evictables::{Evictables, evictables_of};
 use crate::reliefs::Relief;
 use crate::sleepers::{Sleepers, ask_of_sleepers, known_after};
 use kabi_types::{Cached, Call, End, Entry, Event, Memory, Noted};
@@ -64,6 +65,8 @@ pub struct Core<T: Turner + Drop> {
     ready: [bool; MOST_TOLD],
     // No call that waits may use more, in bytes.
     most_asked: u64,
+    // Of each cache whether it keeps something that could go.
+    evictables: Evictables,
 }
 
 impl<T: Turner + Drop> Model for Core<T> {
@@ -91,7 +94,7 @@ impl<T: Turner + Drop> Model for Core<T> {
       reserved = core.reserved;
       charged = core.charged;
       peak = core.peak;
-    }) core.heap (vec_capacity core.run) (vec_capacity core.tasks) core.sleepers core.ready core.most_asked };
+    }) core.heap (vec_capacity core.run) (vec_capacity core.tasks) core.sleepers core.ready core.most_asked core.evictables };
 }
 
 impl<T: Turner + Drop> Core<T> {
@@ -113,6 +116,7 @@ impl<T: Turner + Drop> Core<T> {
             pid: 1,
             phase: Phase::User,
         });
+        let evictables = evictables_of(&store);
         Ok(Core {
             store,
             steps,
@@ -125,6 +129,7 @@ impl<T: Turner + Drop> Core<T> {
             sleepers: Sleepers::Nobody,
             ready: [false; MOST_TOLD],
             most_asked: 0,
+            evictables,
         })
     }
 
@@ -192,12 +197,19 @@ impl<T: Turner + Drop> Core<T> {
         some_within(self.tasks.as_slice(), self.room())
     }
 
+    /// Whether this cache keeps something that isn't pinned, as the store told when it last changed.
+    fn evictable(&self, what: Cached) -> bool
+        ensures { (s : CoreState) → IsAt T.stands self.now s → result ≡ can_evict s.world.plain s.world.kept what }
+    {
+        self.evictables.has(what)
+    }
+
     fn can_evict_any(&self) -> bool
         ensures { (s : CoreState) → IsAt T.stands self.now s → result ≡ can_evict_any s.world }
     {
-        self.store.evictable(Cached::Name)
-            || self.store.evictable(Cached::Block)
-            || self.store.evictable(Cached::Vnode)
+        self.evictable(Cached::Name)
+            || self.evictable(Cached::Block)
+            || self.evictable(Cached::Vnode)
     }
 
     /// What the first process's call needs, where it waits in vain and nothing can help it.
@@ -369,15 +381,34 @@ impl<T: Turner + Drop> Core<T> {
         ensures { (s : CoreState) → IsAt T.stands self.now s → result ≡ eviction (lives s 1) (can_evict s.world.plain s.world.kept what) what }
     {
         // Mostly nothing is cached, which is the cheaper question.
-        if self.store.evictable(what) && self.store.alive(1) {
+        if self.evictable(what) && self.store.alive(1) {
             Some(Event::Evict(what))
         } else {
             None
         }
     }
 
+    /// Whether no cache keeps anything that could go, and no call waits in vain: then there is no event that is of no process.
+    fn is_quiet(&self) -> bool
+        ensures { (s : CoreState) → IsAt T.stands self.now s → result ≡ true → others_in (T.script self.now.store) s ≡ [] }
+    {
+        !self.can_evict_any() && !self.some_wait_in_vain()
+    }
+
     /// The events that are of no process, each if it may be taken: the evictions, and then the kill.
     fn others(&self) -> [Option<Event>; 4]
+        ensures { (s : CoreState) → IsAt T.stands self.now s → present result ≡ others_in (T.script self.now.store) s }
+    {
+        if self.is_quiet() {
+            return [None; 4];
+        }
+        self.others_there()
+    }
+
+    /// The same, where each is asked for. It stands by itself, since a function pays for the room of all its locals whenever it
+    /// is entered, and mostly there is none of them.
+    #[inline(never)]
+    fn others_there(&self) -> [Option<Event>; 4]
         ensures { (s : CoreState) → IsAt T.stands self.now s → present result ≡ others_in (T.script self.now.store) s }
     {
         [
@@ -609,6 +640,7 @@ impl<T: Turner + Drop> Core<T> {
     {
         self.store.refuse(pid);
         self.sleepers = Sleepers::Untold;
+        self.evictables = evictables_of(&self.store);
         set_phase(&mut self.tasks, pid, Phase::User);
         let entry = Entry::Refused {
             pid,
@@ -662,6 +694,7 @@ impl<T: Turner + Drop> Core<T> {
         let before = self.store.last_pid();
         let call = self.store.next(pid);
         let turned = self.store.turn(pid, &call, need(&call));
+        self.evictables = evictables_of(&self.store);
         let phase = phase_after(&self.store, pid, asked, &turned);
         set_phase(&mut self.tasks, pid, phase);
         self.sleepers = known_after(self.sleepers, phase);
@@ -723,6 +756,7 @@ impl<T: Turner + Drop> Core<T> {
         let live = self.store.live();
         self.store.kill(pid);
         self.sleepers = Sleepers::Untold;
+        self.evictables = evictables_of(&self.store);
         bury(&self.store, &mut self.tasks);
         self.charged = self.store.live() + RESERVE + self.reserved;
         let noted = Noted {
@@ -748,6 +782,7 @@ impl<T: Turner + Drop> Core<T> {
     {
         self.store.evict(what);
         self.sleepers = Sleepers::Untold;
+        self.evictables = evictables_of(&self.store);
         self.charged = self.store.live() + RESERVE + self.reserved;
         let noted = Noted {
             event: Event::Evict(what),
@@ -763,11 +798,11 @@ impl<T: Turner + Drop> Core<T> {
     fn first_evictable(&self) -> Option<Cached>
         ensures { (s : CoreState) → IsAt T.stands self.now s → result ≡ first_evictable s.world }
     {
-        if self.store.evictable(Cached::Name) {
+        if self.evictable(Cached::Name) {
             Some(Cached::Name)
-        } else if self.store.evictable(Cached::Block) {
+        } else if self.evictable(Cached::Block) {
             Some(Cached::Block)
-        } else if self.store.evictable(Cached::Vnode) {
+        } else if self.evictable(Cached::Vnode) {
             Some(Cached::Vnode)
         } else {
             None

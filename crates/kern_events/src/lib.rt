@@ -2,6 +2,7 @@
 #![tactic(auto)]
 
 mod cores;
+mod evictables;
 mod reliefs;
 mod sleepers;
 

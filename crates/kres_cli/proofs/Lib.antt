@@ -1,4 +1,5 @@
 pub mod Asking
+pub mod Causing
 pub mod Headlines
 pub mod Histories
 pub mod Numbers

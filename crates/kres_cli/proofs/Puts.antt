@@ -28,10 +28,10 @@ left_more text left put count rest = take_rest left count ∙ ap (drop count) re
 -- what was put is known, whole or up to a fault
 pub has_put : {X E : Type 0} (o : Output) (whole : List ℕ) (answer : Result X E)
     → OnOk answer (Appends o.held o.held' whole) → OnOk answer (o.offered whole true)
-    → OnErr answer ((n : ℕ) × (n < length whole) × Appends o.held o.held' (take n whole)) → OnErr answer (o.offered whole false)
+    → OnOk answer (o.puts' ≡ o.puts) → OnErr answer ((n : ℕ) × (n < length whole) × Appends o.held o.held' (take n whole)) → OnErr answer (o.offered whole false)
     → OnErr answer (HasRisen o.puts o.puts') → HasPut o whole answer
-has_put o whole (Ok x) written offered begun part fault = (written, offered)
-has_put o whole (Err e) written offered begun part fault = record {
+has_put o whole (Ok x) written offered no_fault begun part fault = (written, offered, no_fault)
+has_put o whole (Err e) written offered no_fault begun part fault = record {
   count = begun.0;
   less = begun.1;
   begun = begun.2;

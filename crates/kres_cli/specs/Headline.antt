@@ -1,5 +1,5 @@
 -- What is so of a report that `sim` has written, and of one of `threads`.
-use Rattle.std.specs.Prelude.{ℕ, ⊤, ◌≡◌, ◌+◌, ◌*◌, ◌≤◌, List, length, take, slice_get, Option, Some, Ok}
+use Rattle.std.specs.Prelude.{ℕ, ⊤, ◌≡◌, ◌+◌, ◌*◌, ◌≤◌, List, String, length, take, slice_get, Option, Some, Ok}
 use Rattle.kabi_types.specs.declared.entries.End.{End}
 use Rattle.kabi_types.specs.declared.entries.End.TheVariants as end
 use Rattle.kabi_types.specs.declared.entries.Entry.{Entry}
@@ -10,12 +10,16 @@ use Rattle.store_objects.specs.Standing.{StoreView}
 use Rattle.run_report.specs.Headline.{EntryKeeps, KeepsHeadline}
 use Rattle.run_report.specs.Histories.{report_threads}
 use Rattle.work_crew.specs.Whole.{MayEnd}
+use Rattle.kres_cli.specs.declared.commands.Command.TheVariants.{OnScript}
+use Rattle.kres_cli.specs.declared.commands.Task.TheVariants.{Sim, Threads}
 use Rattle.kres_cli.specs.declared.statuses.Status.{Status}
 use Rattle.kres_cli.specs.declared.statuses.Status.TheVariants.{Finished, Starved, AllAsleep, Spent}
+use Rattle.kres_cli.specs.Causes.{Completes, HasCause}
 use Rattle.kres_cli.specs.Read.{HasReadAs}
 use Rattle.kres_cli.specs.Run.{high, marks, stands}
 use Rattle.kres_cli.specs.Status.{status_of}
-use Rattle.kres_cli.specs.Tool.{Input, Output, Wrote}
+use Rattle.kres_cli.specs.Tool.{Input, Obeys, Output, Wrote}
+use Rattle.kres_cli.specs.Words.{Asks}
 
 -- The source had the text of a script, and the sink got the whole report of a run of it, which ended as the status says. The
 -- run keeps the headline, and its store is handed out.
@@ -95,3 +99,12 @@ ThreadsKeep i o handed Starved = HasThreaded i o handed Starved
 ThreadsKeep i o handed AllAsleep = HasThreaded i o handed AllAsleep
 ThreadsKeep i o handed Spent = HasThreaded i o handed Spent
 ThreadsKeep i o handed _ = ⊤
+
+-- What the tool does on these words, and what is so of each report that it has written of a run: by the core, or by workers. Its answer
+-- has its cause, and where nothing fails it is the end of what was asked for.
+pub record ObeysAndKeeps {A : Type 0} (words : List (String A)) (i : Input) (o : Output) (handed : Option StoreView) (status : Status) : Type 0 where
+  pub obeys : Obeys words i o handed status
+  pub headline : Asks words (OnScript Sim) → SimKeeps i o handed status
+  pub threads : (workers : ℕ) → Asks words (OnScript (Threads workers)) → ThreadsKeep i o handed status
+  pub causes : HasCause words i o handed status
+  pub complete : Completes words i o handed status

@@ -106,9 +106,9 @@ pub record AnswersSource (i : Input) (asked : Task) (whole : List ℕ) (handed :
   pub no_fault : i.takes' ≡ i.takes
   pub answers : AnswersText text whole asked handed status
 
--- the whole text was written
+-- the whole text was written, and no put failed
 abbrev pub Wrote : Output → List ℕ → Type 0
-Wrote o whole = Appends o.held o.held' whole × o.offered whole true
+Wrote o whole = Appends o.held o.held' whole × o.offered whole true × (o.puts' ≡ o.puts)
 
 -- The sink failed, and holds a proper beginning of the text.
 pub record Broke (o : Output) (whole : List ℕ) : Type 0 where
@@ -132,19 +132,19 @@ pub data HandsOut (o : Output) (whole : List ℕ) (store : Option StoreView) (st
 pub data ScriptEnds (o : Output) (asked : Task) (script : Script) (handed : Option StoreView) : Status → Type 0 where
   ends_so : (whole : List ℕ) (store : Option StoreView) (status told : Status) → Makes asked script whole store status
       → HandsOut o whole store status handed told → ScriptEnds o asked script handed told
-  wants_memory : o.held' ≡ o.held → handed ≡ None → ScriptEnds o asked script handed Memory
+  wants_memory : o.untouched → handed ≡ None → ScriptEnds o asked script handed Memory
 
 -- What a task may end with where it has a text: the answer to the text was put, or there was no memory to make it.
 pub data AnswerEnds (o : Output) (asked : Task) (text : List ℕ) (handed : Option StoreView) : Status → Type 0 where
   answers_so : (whole : List ℕ) (store : Option StoreView) (status told : Status) → AnswersText text whole asked store status
       → HandsOut o whole store status handed told → AnswerEnds o asked text handed told
-  lacks_memory : o.held' ≡ o.held → handed ≡ None → AnswerEnds o asked text handed Memory
+  lacks_memory : o.untouched → handed ≡ None → AnswerEnds o asked text handed Memory
 
 -- what may become of the line of a fault
 abbrev pub FaultEnds : Output → ScriptFault → Status → Type 0
 FaultEnds o fault BadScript = Wrote o (fault_line fault)
 FaultEnds o fault WriteFault = Broke o (fault_line fault)
-FaultEnds o fault Memory = o.held' ≡ o.held
+FaultEnds o fault Memory = o.untouched
 FaultEnds o fault _ = ⊥
 
 -- what was read is answered whole, with this store and this status
@@ -159,16 +159,16 @@ TaskEnds i o handed asked Usage = ⊥
 TaskEnds i o handed asked Starved = Answered i o handed asked Starved
 TaskEnds i o handed asked AllAsleep = Answered i o handed asked AllAsleep
 TaskEnds i o handed asked Spent = Answered i o handed asked Spent
-TaskEnds i o handed asked ReadFault = HasRisen i.takes i.takes' × (o.held' ≡ o.held) × (handed ≡ None)
+TaskEnds i o handed asked ReadFault = HasRisen i.takes i.takes' × o.untouched × (handed ≡ None)
 TaskEnds i o handed asked WriteFault =
     (whole : List ℕ) × (store : Option StoreView) × (status : Status) × AnswersSource i asked whole store status × Broke o whole × (handed ≡ None)
-TaskEnds i o handed asked Memory = (o.held' ≡ o.held) × (handed ≡ None)
+TaskEnds i o handed asked Memory = o.untouched × (handed ≡ None)
 
 -- what may become of a text that needs no script
 abbrev pub TextEnds : Output → List ℕ → Status → Type 0
 TextEnds o whole Finished = Wrote o whole
 TextEnds o whole WriteFault = Broke o whole
-TextEnds o whole Memory = o.held' ≡ o.held
+TextEnds o whole Memory = o.untouched
 TextEnds o whole _ = ⊥
 
 -- what a command may end with: `table` writes the price list, and `gen` the generated script in its canonical form

@@ -13,6 +13,8 @@ mod statuses;
 #[cfg(test)]
 mod tests;
 #[cfg(test)]
+mod tests_hostile;
+#[cfg(test)]
 mod tests_names;
 #[cfg(test)]
 mod tests_pipes;

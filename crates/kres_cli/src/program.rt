@@ -7,8 +7,9 @@ ghost use Rattle.std.specs.Vec.Iter.{into_iter_items};
 ghost use Rattle.kabi_types.specs.declared.scripts.Policy.TheVariants.{Heaviest, Youngest};
 ghost use Rattle.store_objects.specs.Standing.{StoreView};
 ghost use Rattle.kres_cli.specs.Program.{EndsOn, EndsOnNoText, NothingDone};
+ghost use Rattle.kres_cli.specs.Headline.{ObeysAndKeeps};
 ghost use Rattle.kres_cli.specs.Status.{number_of};
-ghost use Rattle.kres_cli.specs.Tool.{Obeys, input, output};
+ghost use Rattle.kres_cli.specs.Tool.{input, output};
 ghost use Rattle.kres_cli.specs.declared.statuses.Status.TheVariants.{Memory};
 
 use crate::statuses::Status;
@@ -79,7 +80,7 @@ fn run_words<
 ) -> Status
     requires by_weight { F.scores heaviest Heaviest }
     requires by_age { G.scores youngest Youngest }
-    ensures { ((handed : Option StoreView) × Obeys (drop 1 (into_iter_items all)) (input S.left S.faults source.old source.new) (output K.held K.faults K.put_gives sink.old sink.new) handed result)
+    ensures { ((handed : Option StoreView) × ObeysAndKeeps (drop 1 (into_iter_items all)) (input S.left S.faults source.old source.new) (output K.held K.faults K.put_gives sink.old sink.new) handed result)
         ⊎ ((result ≡ Memory) × NothingDone (input S.left S.faults source.old source.new) (output K.held K.faults K.put_gives sink.old sink.new)) }
 {
     let Ok(words) = after_name(alloc, all) else {

@@ -15,11 +15,11 @@ use victim_core::Scorer;
 use work_crew::{Door, OpenDoor};
 
 /// Room for every text that a test writes, in bytes.
-const ROOM: usize = 262144;
+pub const ROOM: usize = 262144;
 
 pub const PID_SCRIPT: &str = "heap 8192\nprogram init\nr1 = getpid\nexit 0\nend\n";
 
-const PID_REPORT: &str = "1 p1 ask getpid bound 0 charged 2816
+pub const PID_REPORT: &str = "1 p1 ask getpid bound 0 charged 2816
 2 p1 admit getpid bound 0 charged 2816
 3 p1 done getpid = 1 charged 2816
 4 p1 ask exit bound 0 charged 2816
@@ -144,11 +144,24 @@ pub fn outcome_at<D: Door + Sync>(
     trouble: Trouble,
     door: &D,
 ) -> Result<Outcome, Memory> {
-    let words = words_of(rt, line)?;
     let puts = trouble.puts.to_vec(rt.alloc())?;
-    let mut sink = MemSink::new(rt.alloc(), ROOM, puts, trouble.most)?;
+    let sink = MemSink::new(rt.alloc(), ROOM, puts, trouble.most)?;
     let takes = trouble.takes.to_vec(rt.alloc())?;
-    let mut source = MemSource::new(text.to_vec(rt.alloc())?, takes, 4096);
+    let source = MemSource::new(text.to_vec(rt.alloc())?, takes, 4096);
+    outcome_over(rt, line, source, sink, door)
+}
+
+/// The same over streams of its own.
+pub fn outcome_over<D: Door + Sync>(
+    rt: &(impl AllocGlobal + Threads + Wait + Sync),
+    line: &str,
+    source: MemSource,
+    sink: MemSink,
+    door: &D,
+) -> Result<Outcome, Memory> {
+    let mut source = source;
+    let mut sink = sink;
+    let words = words_of(rt, line)?;
     let (status, left) = run_words(rt, words.as_slice(), &mut source, &mut sink, door);
     Ok(Outcome {
         status,

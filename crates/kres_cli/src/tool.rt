@@ -6,6 +6,7 @@ ghost use Rattle.posix_defs.specs.Canonical.{canonical};
 ghost use Rattle.posix_defs.specs.Generated.{generated};
 ghost use Rattle.posix_defs.specs.ScriptText.{ReadsText};
 ghost use Rattle.posix_defs.specs.ValidScript.{IsValid};
+ghost use Rattle.kres_cli.specs.Causes.{Completes, HasCause};
 ghost use Rattle.kres_cli.specs.Headline.{SimKeeps, ThreadsKeep};
 ghost use Rattle.kres_cli.specs.Run.{IsRunOf};
 ghost use Rattle.kres_cli.specs.Status.{status_of};
@@ -69,6 +70,8 @@ pub fn run_tool<
     ensures obeys { Obeys words.now (input S.left S.faults source.old source.new) (output K.held K.faults K.put_gives sink.old sink.new) store_out.new result }
     ensures headline { Asks words.now (OnScript Sim) → SimKeeps (input S.left S.faults source.old source.new) (output K.held K.faults K.put_gives sink.old sink.new) store_out.new result }
     ensures threads { (workers : ℕ) → Asks words.now (OnScript (Threads workers)) → ThreadsKeep (input S.left S.faults source.old source.new) (output K.held K.faults K.put_gives sink.old sink.new) store_out.new result }
+    ensures causes { HasCause words.now (input S.left S.faults source.old source.new) (output K.held K.faults K.put_gives sink.old sink.new) store_out.new result }
+    ensures complete { Completes words.now (input S.left S.faults source.old source.new) (output K.held K.faults K.put_gives sink.old sink.new) store_out.new result }
 {
     match workers_asked(words) {
         Some(workers) => {
@@ -95,6 +98,8 @@ pub fn run_plain<S: Source, K: Sink, F: Scorer, G: Scorer>(
     requires plain { (workers : ℕ) → Asks words.now (OnScript (Threads workers)) → ⊥ }
     ensures obeys { Obeys words.now (input S.left S.faults source.old source.new) (output K.held K.faults K.put_gives sink.old sink.new) store_out.new result }
     ensures headline { Asks words.now (OnScript Sim) → SimKeeps (input S.left S.faults source.old source.new) (output K.held K.faults K.put_gives sink.old sink.new) store_out.new result }
+    ensures causes { HasCause words.now (input S.left S.faults source.old source.new) (output K.held K.faults K.put_gives sink.old sink.new) store_out.new result }
+    ensures complete { Completes words.now (input S.left S.faults source.old source.new) (output K.held K.faults K.put_gives sink.old sink.new) store_out.new result }
 {
     forget(store_out);
     match command_of(words) {

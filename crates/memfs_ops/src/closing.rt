@@ -44,8 +44,9 @@ impl FileTree {
         self.free_closed(heap, purse, node, &inode);
     }
 
-    // One less holds a node. Answers whether it was the last.
-    fn release(&mut self, heap: &mut KHeap, node: u32) -> bool
+    /// One less holds a node, which stays on the disk and in its cache, as a process leaves the directory that it works in.
+    /// Nothing is used by that: what is cached keeps its order. Answers whether it was the last that held it.
+    pub fn release(&mut self, heap: &mut KHeap, node: u32) -> bool
         requires stands { (tree : Tree) × (pins : ℕ → ℕ) × Stands heap.old self.old tree pins
             × (0 < pins node) × (0 < one_less pins node root) }
         ensures last { (tree : Tree) (pins : ℕ → ℕ) → Stands heap.old self.old tree pins → result ≡ (pins node == 1) }
@@ -55,6 +56,7 @@ impl FileTree {
         ensures used { (slot : ℕ) → InUse heap.old.vnodes slot → InUse heap.new.vnodes slot }
         ensures takes { TakesNothing heap.old heap.new }
         ensures rest { self.new ≡ record self.old { vnodes = self.new.vnodes } }
+        ensures same { self.new.vnodes.order ≡ self.old.vnodes.order }
     {
         let pins = self.vnodes.pins(heap, node);
         self.vnodes.unpin(heap, node);

@@ -81,7 +81,8 @@ impl FileTree {
             → Stands heap.new self.new tree (one_more pins node) }
         ensures only { heap.new ≡ record heap.old { vnodes = heap.new.vnodes } }
         ensures takes { TakesNothing heap.old heap.new }
-        ensures disk { self.new.disk ≡ self.old.disk }
+        ensures rest { self.new ≡ record self.old { vnodes = self.new.vnodes } }
+        ensures same { self.new.vnodes.order ≡ self.old.vnodes.order }
     {
         self.hold(heap, node);
     }

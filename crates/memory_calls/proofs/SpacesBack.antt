@@ -12,8 +12,8 @@ use Rattle.posix_defs.specs.Memory.{Frames, Memory}
 use Rattle.posix_defs.specs.MemoryCalls.{remembered}
 use Rattle.posix_defs.specs.Plain.{Plain}
 use Rattle.posix_defs.specs.Process.{memory_in, memory_of}
-use Rattle.posix_defs.specs.World.{World}
-use Rattle.kern_laws.proofs.Remembering.{found_before, remembers_family}
+use Rattle.posix_defs.specs.World.{World, directories_of}
+use Rattle.kern_laws.proofs.Remembering.{remembers_family}
 use Rattle.proc_table.specs.Accounting.{HasAccount}
 use Rattle.proc_table.specs.Changes.{with_nodes}
 use Rattle.proc_table.specs.Moves.{SpaceTurns, TableMoves}
@@ -32,9 +32,9 @@ use Rattle.store_objects.proofs.Namings.{names_in, names_nodes}
 use Rattle.store_objects.proofs.Opening.{by_pids, by_procs, files_moved}
 use Rattle.store_objects.proofs.GoingOn.{rising_in, some_same}
 use Rattle.store_objects.proofs.Keeping.{kept_on, moved_caches}
-use Rattle.store_objects.proofs.TreesOn.{tree_goes_on}
+use Rattle.store_objects.proofs.TreesOn.{tree_goes_on, works_on}
+use Rattle.store_objects.proofs.WorkingOn.{works_remembered}
 use Rattle.store_objects.specs.Files.{HaveFiles}
-use Rattle.kern_laws.specs.AtHome.{AllAtHome}
 
 all_with_nodes : (P : Proc → Type 0) (pid : ℕ) (now : List (Option ℕ)) (procs : List Proc) → ((p : Proc) → P p → P (record p { nodes = now })) → AllByRecursion P procs
     → AllByRecursion P (map (with_nodes pid now) procs)
@@ -140,10 +140,10 @@ stand_back script old new mid pid key proc now world after memory stands turns s
   memory = subst (λ k. HasAccount new.heap k after) (sym same)
       (back-account old.heap mid new.heap old.procs pid key proc now stands.kept.holds turns world.account.frames after stands.memory moved);
   files = files;
-  tree = tree_goes_on script old new world (remembered_in world pid memory after) stands kept files home
+  tree = tree_goes_on script old new world (remembered_in world pid memory after) stands kept files works
       (record { tree = tree; caches = moved_caches old.heap new.heap old.procs new.procs moves }) refl refl refl;
   family = remembers_family world.plain.table pid memory stands.family;
-  home = home;
+  works = works_on world.plain (remembered world.plain pid memory) refl works stands.works;
 }
   where
     kept : AreKept script new
@@ -152,8 +152,8 @@ stand_back script old new mid pid key proc now world after memory stands turns s
     moves : TableMoves old.heap old.procs new.heap new.procs
     moves = subst (TableMoves old.heap old.procs new.heap) (sym same) (back-moves old.heap mid new.heap old.procs pid key proc now stands.kept.holds turns)
 
-    home : AllAtHome (remembered world.plain pid memory).table
-    home q process e = let old = found_before world.plain.table pid q memory process e in old.2.directory ∙ stands.home q old.0 old.1
+    works : directories_of (remembered world.plain pid memory).table ≡ directories_of world.plain.table
+    works = works_remembered world.plain.table pid memory
 
     files : HaveFiles new world.plain.files (remembered_in world pid memory after).account
     files = files_moved old new world.plain.files world.plain.files world.account (remembered_in world pid memory after).account moves refl refl refl refl refl

@@ -43,7 +43,7 @@ opens_among files n (description ∷ descriptions) = go (opened_node files descr
 opens_is : (files : Files) (n : ℕ) → opens files n ≡ is_in n (opened_nodes files)
 opens_is files n = opens_among files n files.descriptions
 
-works_is : (n : ℕ) (table : Table) → list_any (works_in n) table ≡ is_in n (directories_of table)
+pub works_is : (n : ℕ) (table : Table) → list_any (works_in n) table ≡ is_in n (directories_of table)
 works_is n [] = refl
 works_is n (None ∷ table) = works_is n table
 works_is n (Some process ∷ table) = go (runs process.status) (works_is n table)

@@ -8,10 +8,8 @@ use Rattle.kabi_calls.specs.PathParts.{components}
 use Rattle.kabi_calls.specs.declared.calls.Call.{Call}
 use Rattle.kabi_types.specs.declared.scripts.Control.{Control}
 use Rattle.kabi_types.specs.declared.scripts.Script.{Script}
-use Rattle.kabi_values.specs.declared.classes.Class.TheVariants as class
 use Rattle.kabi_values.specs.declared.errnos.Errno.{Errno}
 use Rattle.kabi_values.specs.declared.replies.Reply.{Reply}
-use Rattle.kheap_shelves.specs.Objects.{count}
 use Rattle.kheap_shelves.specs.Purse.{Purse}
 use Rattle.kheap_slabs.specs.Heap.{Heap}
 use Rattle.kheap_slabs.specs.Paid.{IsPaid, TakesNothing}
@@ -37,12 +35,13 @@ use Rattle.store_objects.specs.declared.objects.Objects.{Objects}
 use Rattle.store_objects.specs.Objects.{AreKept, Runs}
 use Rattle.store_objects.specs.Standing.{StandsFor, answered_in}
 use Rattle.store_objects.specs.Trees.{HasTree, KeepsTree, NamesNoSocket, but_root, held_nodes, kept_by, pins_in}
-use Rattle.store_objects.proofs.Beside.{kept_beside, stands_beside, treed_in}
-use Rattle.store_objects.proofs.KeptNow.{as_many_blocks, as_many_names, as_many_vnodes}
+use Rattle.store_objects.specs.Working.{AreDirectories}
+use Rattle.store_objects.proofs.Beside.{stands_beside, treed_in}
 use Rattle.store_objects.proofs.Leading.{settled_account}
 use Rattle.store_objects.proofs.Replies.{GoesOn}
 use Rattle.store_objects.proofs.TreesOn.{same_pins}
 use Rattle.path_calls.specs.Walking.{KeepsOn, Reaches, WorldReached}
+use Rattle.path_calls.proofs.Walked.{KeepsFew, keeps_few, kept_mid as kept_looked, runs_mid as runs_looked}
 
 -- ---- what the calls on names have in common
 
@@ -89,6 +88,7 @@ pub record Led (script : Script) (h : Heap) (fs : TreeView) (plain : Plain) (pid
   pub tree : Tree
   pub stands : Stands h fs tree (pins_in plain)
   pub sockets : NamesNoSocket tree
+  pub works : AreDirectories tree (directories_of plain.table)
   pub answers : answer ≡ replied script (retreed_as plain tree) pid said
 
 never : {X : Type 0} → true ≡ false → X
@@ -103,26 +103,22 @@ module _ (script : Script) (old : Objects) (heap : Heap) (fs : TreeView) (before
   mid = record { heap = heap; procs = old.procs; tree = fs }
 
   pub kept_mid : KeepsTree heap fs → AreKept script old → AreKept script mid
-  kept_mid keeps kept =
-      subst (λ (h : Heap). AreKept script (record { heap = h; procs = old.procs; tree = fs })) (sym pays.only)
-      (kept_beside script old heap.vnodes heap.names heap.blocks heap.high old.heap.marks fs kept (subst (λ (h : Heap). KeepsTree h fs) pays.only keeps))
+  kept_mid keeps kept = kept_looked script old heap fs pays.only keeps kept
 
   pub runs_mid : (pid : ℕ) (control : Control) → Runs old pid control → Runs mid pid control
-  runs_mid pid control runs =
-      subst (λ (h : Heap). Runs (record { heap = h; procs = old.procs; tree = fs }) pid control) (sym pays.only)
-      (record { proc = runs.proc; found = runs.found; up = runs.up; at_call = runs.at_call })
+  runs_mid pid control runs = runs_looked script old heap fs pays.only pid control runs
 
   -- the world with that tree, what is kept now, and the reads
   abbrev pub changed : World → Tree → World
   changed world tree = treed_in world tree (kept_by fs) fs.disk.reads
 
   pub stands_mid : (world : World) (tree : Tree) → StandsFor script old world → Stands heap fs tree (pins_in world.plain) → NamesNoSocket tree
-      → StandsFor script mid (changed world tree)
-  stands_mid world tree was stands sockets =
+      → AreDirectories tree (directories_of world.plain.table) → StandsFor script mid (changed world tree)
+  stands_mid world tree was stands sockets works =
       let has : HasTree mid (changed world tree) =
       record { stands = stands_still heap fs world.plain tree stands; sockets = sockets; kept = refl; reads = refl } in
       subst (λ (h : Heap). StandsFor script (record { heap = h; procs = old.procs; tree = fs }) (changed world tree)) (sym pays.only)
-      (stands_beside script old heap.vnodes heap.names heap.blocks heap.high old.heap.marks fs world tree (kept_by fs) fs.disk.reads was
+      (stands_beside script old heap.vnodes heap.names heap.blocks heap.high old.heap.marks fs world tree (kept_by fs) fs.disk.reads was works
       (subst (λ (h : Heap). HasTree (record { heap = h; procs = old.procs; tree = fs }) (changed world tree)) pays.only has))
 
   -- it is paid for, and the step behind the call takes nothing more
@@ -134,13 +130,10 @@ module _ (script : Script) (old : Objects) (heap : Heap) (fs : TreeView) (before
     keeps_on : (world : World) (tree : Tree) (said : Reply) (told : Turned) → StandsFor script old world → Stands heap fs tree (pins_in world.plain)
         → KeepsOn world pid which told (answered_in script (changed world tree) pid said)
     keeps_on world tree said told was stands = record {
-      names = few (count heap.names) after.left.name (count old.heap.names) before.left.name (need_of which).name _ _ (pays.paid.counts class.Name) (ap (λ n. n.name) needed)
-          (as_many_names heap fs now (stands_still heap fs world.plain tree stands)) (as_many_names old.heap old.tree world.plain was.tree.stands ∙ ap (λ k. length k.names) (sym was.tree.kept));
-      blocks = few (count heap.blocks) after.left.block (count old.heap.blocks) before.left.block (need_of which).block _ _ (pays.paid.counts class.Block) (ap (λ n. n.block) needed)
-          (as_many_blocks heap fs now (stands_still heap fs world.plain tree stands)) (as_many_blocks old.heap old.tree world.plain was.tree.stands ∙ ap (λ k. length k.blocks) (sym was.tree.kept));
-      vnodes = few (count heap.vnodes) after.left.vnode (count old.heap.vnodes) before.left.vnode (need_of which).vnode _ _ (pays.paid.counts class.Vnode) (ap (λ n. n.vnode) needed)
-          (as_many_vnodes heap fs now (stands_still heap fs world.plain tree stands)) (as_many_vnodes old.heap old.tree world.plain was.tree.stands ∙ ap (λ k. length k.vnodes) (sym was.tree.kept));
-      reads = rises world.reads old.tree.disk.reads fs.disk.reads was.tree.reads pays.reads;
+      names = kept.names;
+      blocks = kept.blocks;
+      vnodes = kept.vnodes;
+      reads = kept.reads;
       untouched = λ none. never (sym reaches ∙ none);
       left = λ ok.
           subst (λ path. IsLeft tree (kept_by fs) (option_and_then (λ p. last_of (resolve world.plain.files.tree (directory_of world.plain.table pid) p)) path)) (sym changes.leaves) tt;
@@ -149,19 +142,13 @@ module _ (script : Script) (old : Objects) (heap : Heap) (fs : TreeView) (before
           ∙ ap (λ o. option_map_or (λ path. knows world.plain.files.tree world.kept (begins_at (directory_of world.plain.table pid) path) (components path)) o false) changes.walks);
     }
       where
-        now : Plain
-        now = retreed_as world.plain tree
+        kept : KeepsFew fs world which
+        kept = keeps_few script old heap fs before after world which tree (pins_in world.plain) was stands pays.paid pays.reads needed
 
         reaches : reaches_node world.plain pid which (answered_in script (changed world tree) pid said).plain ≡ true
         reaches =
             reached (argument_fault which) (not (length (paths_of which) == 0)) (list_any (λ fd. is_on_node world.plain.files (opened_at world.plain.files pid fd)) (descriptors_in which))
             (ends_node world.plain.files (with_tree world.plain.files tree)) right changes.named
-
-        few : (new left old had need kept was : ℕ) → new + left ≤ old + had → had ≡ need → new ≡ kept → old ≡ was → kept ≤ was + need
-        few new left old had need kept was paid same is before = omega arith
-
-        rises : (world was now : ℕ) → world ≡ was → was ≤ now → world ≤ now
-        rises world was now same more = omega arith
 
     -- so the world is reached to which the answer leads
     pub leads : (said : Reply) (told : Turned) (new : Objects) (answer : Plain → Answer) → told ≡ turned.Done said → GoesOn script mid pid said new
@@ -172,7 +159,7 @@ module _ (script : Script) (old : Objects) (heap : Heap) (fs : TreeView) (before
         subst (λ a. WorldReached script new world pid which a told) (sym at.answers)
         (record {
           next = answered_in script next pid said;
-          stands = goes next (stands_mid world at.tree was at.stands at.sockets);
+          stands = goes next (stands_mid world at.tree was at.stands at.sockets at.works);
           tells = (tells, refl);
           account = sym (settled_account script old world was)
               ∙ ap (λ frames. account_on world.plain world.plain (with_frames world.account frames)) (sym (changes.frames world.account.frames pid said));

@@ -1,9 +1,8 @@
 -- Which nodes the processes of a heap work in, and which those of the machine.
-use Rattle.std.proofs.Common.{◌≡◌, ◌≢◌, ℕ, zero, suc, ◌*◌, ◌/◌, ◌≤◌, ◌==◌, ◌&&◌, ◌||◌, Bool, true, false, List, [], ◌∷◌, length, Option, None, Some, is_none, refl, ap, sym, ◌∙◌, inl, inr, arith}
+use Rattle.std.proofs.Common.{◌≡◌, ◌≢◌, ℕ, zero, suc, ◌*◌, ◌/◌, ◌≤◌, ◌==◌, ◌&&◌, ◌||◌, Bool, true, false, cond, List, [], ◌∷◌, length, Option, None, Some, is_none, refl, ap, sym, ◌∙◌, inl, inr, arith}
 use Rattle.std.specs.List.{AllByRecursion, list_any}
 use Rattle.std.proofs.lemmas.Bool.Decides.{eqb_tells}
 use Rattle.kabi_types.specs.declared.scripts.Script.{Script}
-use Rattle.kern_laws.specs.AtHome.{AllAtHome}
 use Rattle.kheap_shelves.specs.declared.objects.Proc.{Proc}
 use Rattle.kheap_slabs.specs.Heap.{Heap}
 use Rattle.memfs_ops.specs.Removing.{TellsOpened, is_held}
@@ -21,6 +20,8 @@ use Rattle.store_objects.specs.declared.objects.Objects.{Objects}
 use Rattle.store_objects.specs.Objects.{procs_of}
 use Rattle.store_objects.specs.Standing.{StandsFor}
 use Rattle.store_objects.specs.Trees.{pins_in}
+use Rattle.store_objects.specs.Working.{AreDirectories, directories_in}
+use Rattle.store_objects.proofs.TreesOn.{worked_in}
 use Rattle.name_calls.specs.Nodes.{WorksWithin, some_works, works_at}
 use Rattle.name_calls.proofs.Busy.{busy_works, held_busy}
 
@@ -43,19 +44,17 @@ works_from (there h first proc table procs e rest) n =
 abbrev pub WorksInDirectory : Tree → Proc → Type 0
 WorksInDirectory tree proc = proc.status ≡ None → is_directory tree proc.cwd ≡ true
 
-further : (here : Option Process) (table : Table) → AllAtHome (here ∷ table) → AllAtHome table
-further here table home zero process e = cc
-further here table home (suc i) process e = home (suc (suc i)) process e
+in_directories : (tree : Tree) (procs : List Proc) → AreDirectories tree (directories_in procs) → AllByRecursion (WorksInDirectory tree) procs
+in_directories tree [] all = tt
+in_directories tree (proc ∷ procs) all = by_status proc.status refl all (in_directories tree procs)
+  where
+    never : {X : Type 0} (over : ℕ) → Some over ≡ None → X
+    never over e = cc
 
--- today in the root
-in_directories : {h : Heap} {first : ℕ} {table : Table} {procs : List Proc} (tree : Tree) → AreFrom h first table procs → AllAtHome table → is_directory tree root ≡ true
-    → AllByRecursion (WorksInDirectory tree) procs
-in_directories tree (nobody h first) home is = tt
-in_directories tree (gone h first table procs rest) home is = in_directories tree rest (further None table home) is
-in_directories tree (there h first proc table procs e rest) home is = (
-  λ runs. ap (is_directory tree) (home 1 (process_of h proc) refl) ∙ is,
-  in_directories tree rest (further (Some (process_of h proc)) table home) is,
-)
+    by_status : (o : Option ℕ) → proc.status ≡ o → AreDirectories tree (cond (is_none o) (proc.cwd ∷ directories_in procs) (directories_in procs))
+        → (AreDirectories tree (directories_in procs) → AllByRecursion (WorksInDirectory tree) procs) → AllByRecursion (WorksInDirectory tree) (proc ∷ procs)
+    by_status None e all rest = ((λ runs. all.0), rest all.1)
+    by_status (Some over) e all rest = ((λ runs. never over (sym e ∙ runs)), rest all)
 
 -- a set may have it
 within : (tree : Tree) (procs : List Proc) → IsTree tree → AllByRecursion (WorksInDirectory tree) procs → AllByRecursion WorksWithin procs
@@ -87,7 +86,7 @@ module _ (script : Script) (objects : Objects) (world : World) (stands : StandsF
   tree = world.plain.files.tree
 
   all_in_directories : AllByRecursion (WorksInDirectory tree) (procs_of objects)
-  all_in_directories = in_directories tree stands.processes.table.present stands.home stands.tree.stands.is_tree.root_directory
+  all_in_directories = in_directories tree (procs_of objects) (worked_in script objects world stands).works
 
   pub all_within : AllByRecursion WorksWithin (procs_of objects)
   all_within = within tree (procs_of objects) stands.tree.stands.is_tree all_in_directories

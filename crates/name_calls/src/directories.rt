@@ -17,9 +17,8 @@ use crate::held::worked_in;
 use crate::replies::done;
 use kabi_types::{Control, Script};
 use kheap_shelves::Purse;
-use path_calls::directory_of;
 use posix_defs::Turned;
-use store_objects::{Objects, go_on};
+use store_objects::{Objects, directory_of, go_on};
 
 /// Makes a directory without entries. EEXIST where something is under its name, ENOSPC where there is no room, else the faults of
 /// its path.

@@ -17,9 +17,8 @@ use crate::held::worked_in;
 use crate::replies::{done, freed};
 use kabi_types::{Control, Script};
 use kheap_shelves::Purse;
-use path_calls::directory_of;
 use posix_defs::Turned;
-use store_objects::{Objects, go_on};
+use store_objects::{Objects, directory_of, go_on};
 
 /// Takes a name away, and with the last one its node, but for a file that a description opens. EPERM where it is a directory,
 /// ENOENT where the name is free, else the faults of its path.

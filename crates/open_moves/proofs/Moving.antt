@@ -18,7 +18,7 @@ use Rattle.store_objects.specs.Objects.{AreKept, IsAtCall, Runs, procs_of}
 use Rattle.store_objects.specs.Standing.{StandsFor}
 use Rattle.store_objects.proofs.EndingProcs.{all_found}
 use Rattle.store_objects.proofs.GoingOn.{mapped_from}
-use Rattle.store_objects.proofs.TreesOn.{tree_goes_on, tree_kept}
+use Rattle.store_objects.proofs.TreesOn.{tree_goes_on, tree_kept, works_on}
 use Rattle.open_moves.specs.Moves.{OpenMoves, opening}
 use Rattle.open_moves.specs.Worlds.{HasReached}
 
@@ -85,7 +85,7 @@ stands_opened script old new world next stands moves reached = record {
   };
   memory = reached.memory;
   files = reached.files;
-  tree = tree_goes_on script old new world next stands (kept_opened script old new stands.kept moves) reached.files reached.home moves.tree reached.tree reached.kept reached.reads;
+  tree = tree_goes_on script old new world next stands (kept_opened script old new stands.kept moves) reached.files reached.works moves.tree reached.tree reached.kept reached.reads;
   family = reached.family;
-  home = reached.home;
+  works = works_on world.plain next.plain reached.tree reached.works stands.works;
 }

@@ -2,7 +2,6 @@
 use Rattle.std.specs.Prelude.{ℕ, ◌≡◌}
 use Rattle.kabi_values.specs.declared.replies.Reply.{Reply}
 use Rattle.kabi_types.specs.declared.scripts.Script.{Script}
-use Rattle.kern_laws.specs.AtHome.{AllAtHome}
 use Rattle.open_laws.specs.Open.{HaveFronts}
 use Rattle.place_laws.specs.Placed.{Numbers}
 use Rattle.posix_defs.specs.Account.{Account}
@@ -10,7 +9,7 @@ use Rattle.posix_defs.specs.Answer.{Answer, replied}
 use Rattle.posix_defs.specs.Family.{IsFamily}
 use Rattle.posix_defs.specs.Files.State.{Files}
 use Rattle.posix_defs.specs.Plain.{Plain, with_files}
-use Rattle.posix_defs.specs.World.{World}
+use Rattle.posix_defs.specs.World.{World, directories_of}
 use Rattle.proc_descs.specs.Having.{HaveOpen}
 use Rattle.proc_descs.specs.Queues.{fronts_on}
 use Rattle.proc_table.specs.Accounting.{HasAccount}
@@ -30,7 +29,7 @@ pub record HasReached (new : Objects) (world next : World) : Type 0 where
   pub files : HaveFiles new next.plain.files next.account
   pub tree : next.plain.files.tree ≡ world.plain.files.tree
   pub family : IsFamily next.plain.table
-  pub home : AllAtHome next.plain.table
+  pub works : directories_of next.plain.table ≡ directories_of world.plain.table
   pub controls : next.plain.controls ≡ world.plain.controls
   pub kept : next.kept ≡ world.kept
   pub reads : next.reads ≡ world.reads

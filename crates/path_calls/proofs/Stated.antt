@@ -45,33 +45,33 @@ use Rattle.store_objects.proofs.KeptNow.{named}
 use Rattle.store_objects.proofs.Leading.{settled_account}
 use Rattle.store_objects.proofs.Replies.{GoesOn}
 use Rattle.path_calls.proofs.NamesKept.{walk_left}
-use Rattle.path_calls.proofs.Walked.{KeepsFew, keeps_few, looked, mid, stands_mid, works_at_root, works_in_directory, works_there}
+use Rattle.path_calls.proofs.Walked.{KeepsFew, holds_directory, keeps_few, looked, mid, stands_mid, works_in_directory, works_there}
 use Rattle.path_calls.proofs.WaysKnown.{way}
 
 never : {X : Type 0} → true ≡ false → X
 never e = cc
 
--- ---- the root is cached
+-- ---- who is held is cached
 
-root_slot : (h : Heap) (fs : TreeView) (tree : Tree) (pins : ℕ → ℕ) → Stands h fs tree pins → IsSome (node_slot fs.vnodes root)
-root_slot h fs tree pins stands =
-    let at = stands.held.held root stands.root in
-    ap is_some (stands.nodes.kept.only root at.0 (ap (option_map (λ (v : Vnode). v.number)) at.2 ∙ ap Some at.3))
+held_slot : (h : Heap) (fs : TreeView) (tree : Tree) (pins : ℕ → ℕ) (number : ℕ) → Stands h fs tree pins → 0 < pins number → IsSome (node_slot fs.vnodes number)
+held_slot h fs tree pins number stands some =
+    let at = stands.held.held number some in
+    ap is_some (stands.nodes.kept.only number at.0 (ap (option_map (λ (v : Vnode). v.number)) at.2 ∙ ap Some at.3))
 
--- a path begins there where its caller works there
-begins_at_root : (cwd : ℕ) (path : List ℕ) → cwd ≡ root → begins_at cwd path ≡ root
-begins_at_root cwd path home = go (is_absolute path)
+-- a path begins at the root, or where its caller works
+begins_held : (pins : ℕ → ℕ) (cwd : ℕ) (path : List ℕ) → 0 < pins root → 0 < pins cwd → 0 < pins (begins_at cwd path)
+begins_held pins cwd path at_root here = go (is_absolute path)
   where
-    go : (b : Bool) → cond b root cwd ≡ root
-    go true = refl
-    go false = home
+    go : (b : Bool) → 0 < pins (cond b root cwd)
+    go true = at_root
+    go false = here
 
 -- all that a path asks for is cached where the world knows its way
-knows_it : (h : Heap) (before : Purse) (fs : TreeView) (plain : Plain) (cwd : ℕ) (path : List ℕ) → Stands h fs plain.files.tree (pins_in plain) → cwd ≡ root
+pub knows_it : (h : Heap) (before : Purse) (fs : TreeView) (plain : Plain) (cwd : ℕ) (path : List ℕ) → Stands h fs plain.files.tree (pins_in plain) → 0 < pins_in plain cwd
     → knows plain.files.tree (kept_by fs) (begins_at cwd path) (components path) ≡ true → KnowsWay (in_call h before fs) plain.files.tree cwd path
-knows_it h before fs plain cwd path stands home known =
+knows_it h before fs plain cwd path stands here known =
     let it = way (in_call h before fs) plain.files.tree (kept_by fs).blocks (named h fs plain stands) (ends_in_slash path) (begins_at cwd path) (components path)
-    (subst (λ n. IsSome (node_slot fs.vnodes n)) (sym (begins_at_root cwd path home)) (root_slot h fs plain.files.tree (pins_in plain) stands)) known in
+    (held_slot h fs plain.files.tree (pins_in plain) (begins_at cwd path) stands (begins_held (pins_in plain) cwd path stands.root here)) known in
     (it.questions, it.ends)
 
 -- ---- the answer
@@ -110,50 +110,51 @@ stat_left tree fs cwd path (Ok info) value led kept ok = walk_left tree fs (reso
 stat_left tree fs cwd path (Err errno) value led kept ok = cc
 
 module _ (script : Script) (old : Objects) (heap : Heap) (fs : TreeView) (before after : Purse) (looks : Looks old.heap heap before after old.tree fs)
-    (pid cwd : ℕ) (path : List ℕ) (proc : Proc) (found : proc_of (procs_of old) pid ≡ Some proc) (home : cwd ≡ proc.cwd)
+    (pid cwd : ℕ) (path : List ℕ) (proc : Proc) (found : proc_of (procs_of old) pid ≡ Some proc) (up : proc.status ≡ None) (home : cwd ≡ proc.cwd)
     (right : path_fault path ≡ None) (needed : before.left ≡ need_of (call.Stat path)) (o : Result StatInfo Errno)
     (value : (tree : Tree) (pins : ℕ → ℕ) → Stands old.heap old.tree tree pins → o ≡ stat_path tree cwd path)
     (saved : (tree : Tree) (pins : ℕ → ℕ) → Stands old.heap old.tree tree pins → KnowsWay (in_call old.heap before old.tree) tree cwd path
     → AreReordered (in_call old.heap before old.tree) (in_call heap after fs))
     (left : (tree : Tree) (pins : ℕ → ℕ) → Stands old.heap old.tree tree pins → KeepsLed fs (resolve tree cwd path)) where
   keeps : (world : World) (told : Turned) → StandsFor script old world → told ≡ turned.Done (stat_reply o)
-      → KeepsOn world pid (call.Stat path) told (answered_in script (looked script old heap fs before after looks world) pid (stat_reply o))
+      → KeepsOn world pid (call.Stat path) told (answered_in script (looked script old heap fs looks.on.heap world) pid (stat_reply o))
   keeps world told stands tells = record {
     names = few.names;
     blocks = few.blocks;
     vnodes = few.vnodes;
     reads = few.reads;
     untouched = λ none.
-        never (sym (ap (λ (fault : Option Errno). (is_none fault && true) || ends_node world.plain.files (answered_in script (looked script old heap fs before after looks world) pid (stat_reply o)).plain.files) right) ∙ none);
+        never (sym (ap (λ (fault : Option Errno). (is_none fault && true) || ends_node world.plain.files (answered_in script (looked script old heap fs looks.on.heap world) pid (stat_reply o)).plain.files) right) ∙ none);
     left = λ ok.
         subst (λ dir. IsLeft world.plain.files.tree (kept_by fs) (last_of (resolve world.plain.files.tree dir path))) (sym works)
         (stat_left world.plain.files.tree fs cwd path o (value world.plain.files.tree (pins_in world.plain) stands.tree.stands)
-        (path_led world.plain.files.tree cwd path stands.tree.stands.is_tree (subst (λ dir. is_directory world.plain.files.tree dir ≡ true) (sym home) (works_in_directory script old world pid proc stands found)))
+        (path_led world.plain.files.tree cwd path stands.tree.stands.is_tree (subst (λ dir. is_directory world.plain.files.tree dir ≡ true) (sym home) (works_in_directory script old world pid proc stands found up)))
         (left world.plain.files.tree (pins_in world.plain) stands.tree.stands) (sym (ap has_succeeded tells) ∙ ok));
     known = λ known.
-        let knows_way = knows_it old.heap before old.tree world.plain cwd path stands.tree.stands (home ∙ works_at_root script old world pid proc stands found)
+        let knows_way = knows_it old.heap before old.tree world.plain cwd path stands.tree.stands (subst (λ n. 0 < pins_in world.plain n) (sym home) (holds_directory script old world pid proc stands found up))
         (subst (λ dir. knows world.plain.files.tree (kept_by old.tree) (begins_at dir path) (components path) ≡ true) works
         (subst (λ (kept : Kept). knows world.plain.files.tree kept (begins_at (directory_of world.plain.table pid) path) (components path) ≡ true) stands.tree.kept known)) in
         let same = saved world.plain.files.tree (pins_in world.plain) stands.tree.stands knows_way in
         ap (λ disk. disk.reads) same.disk ∙ sym stands.tree.reads;
   }
     where
-      few : KeepsFew script old heap fs before after looks world (call.Stat path)
-      few = keeps_few script old heap fs before after looks world (call.Stat path) stands needed
+      few : KeepsFew fs world (call.Stat path)
+      few = keeps_few script old heap fs before after world (call.Stat path) world.plain.files.tree (pins_in world.plain) stands
+          (looks.stands world.plain.files.tree (pins_in world.plain) stands.tree.stands) looks.on.paid looks.on.reads needed
 
       works : directory_of world.plain.table pid ≡ cwd
       works = works_there script old world pid proc stands found ∙ sym home
 
-  pub does_stat : (new : Objects) (told : Turned) → told ≡ turned.Done (stat_reply o) → GoesOn script (mid script old heap fs before after looks) pid (stat_reply o) new
+  pub does_stat : (new : Objects) (told : Turned) → told ≡ turned.Done (stat_reply o) → GoesOn script (mid script old heap fs looks.on.heap) pid (stat_reply o) new
       → Reaches script old pid (call.Stat path) (λ plain. stat script plain pid path) told new
   does_stat new told tells goes = λ world stands alive.
       let works : directory_of world.plain.table pid ≡ cwd = works_there script old world pid proc stands found ∙ sym home in
-      let after_it = looked script old heap fs before after looks world in
+      let after_it = looked script old heap fs looks.on.heap world in
       subst (λ a. WorldReached script new world pid (call.Stat path) a told)
       (sym (stat_is script world.plain pid cwd path o works (value world.plain.files.tree (pins_in world.plain) stands.tree.stands)))
       (record {
         next = answered_in script after_it pid (stat_reply o);
-        stands = goes after_it (stands_mid script old heap fs before after looks world stands);
+        stands = goes after_it (stands_mid script old heap fs looks.on.heap world stands (looks.stands world.plain.files.tree (pins_in world.plain) stands.tree.stands));
         tells = (tells, refl);
         account = sym (settled_account script old world stands)
             ∙ ap (λ frames. account_on world.plain world.plain (with_frames world.account frames)) (sym (stat_frames world.account.frames pid path o));

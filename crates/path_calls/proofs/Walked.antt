@@ -1,6 +1,7 @@
 -- The objects of a store once a call has looked along a path: the caches are others, and the rest is as it was.
-use Rattle.std.proofs.Common.{◌≡◌, ℕ, ◌+◌, ◌≤◌, ◌&&◌, ◌||◌, Bool, true, false, length, Option, None, Some, is_none, IsSome, Ok, Err, Result, refl, ap, sym, ◌∙◌, subst, arith}
+use Rattle.std.proofs.Common.{◌≡◌, ℕ, ◌+◌, ◌<◌, ◌≤◌, ◌==◌, ◌&&◌, ◌||◌, Bool, true, false, length, Option, None, Some, is_none, IsSome, Ok, Err, Result, refl, ap, sym, ◌∙◌, subst, inl, inr, arith}
 use Rattle.std.specs.Prelude.{IsOk}
+use Rattle.std.proofs.lemmas.Bool.Decides.{eqb_tells}
 use Rattle.std.specs.Map.{keys_of}
 use Rattle.std.specs.List.{AllByRecursion}
 use Rattle.kabi_calls.specs.Arguments.{argument_fault}
@@ -15,7 +16,7 @@ use Rattle.kheap_shelves.specs.Objects.{count}
 use Rattle.kheap_shelves.specs.Purse.{Purse}
 use Rattle.kheap_slabs.specs.Heap.{Heap}
 use Rattle.kheap_slabs.specs.Paid.{IsPaid}
-use Rattle.memfs_ops.specs.FileTree.{Looks, Stands, TreeView}
+use Rattle.memfs_ops.specs.FileTree.{Stands as TreeStands, TreeView, one_more}
 use Rattle.posix_defs.specs.Needs.{need_of}
 use Rattle.posix_defs.specs.Plain.{Plain, root}
 use Rattle.posix_defs.specs.Process.{directory_in, directory_of, process_at}
@@ -27,10 +28,14 @@ use Rattle.kheap_shelves.specs.declared.objects.Proc.{Proc}
 use Rattle.std.specs.Option.{option_map}
 use Rattle.store_objects.specs.declared.objects.Objects.{Objects}
 use Rattle.store_objects.specs.Objects.{AreKept, Runs, procs_of}
-use Rattle.store_objects.specs.Standing.{StandsFor}
+use Rattle.store_objects.specs.Standing.{HasEntered, StandsFor}
 use Rattle.store_objects.specs.Trees.{HasTree, KeepsTree, kept_by, pins_in}
-use Rattle.store_objects.proofs.Beside.{kept_beside, stands_beside}
+use Rattle.store_objects.proofs.Beside.{entered_beside, kept_beside, stands_beside}
 use Rattle.store_objects.proofs.KeptNow.{as_many_blocks, as_many_names, as_many_vnodes}
+use Rattle.store_objects.proofs.TreesOn.{held_by_procs, worked_in}
+use Rattle.store_objects.proofs.GoingOn.{rising_in}
+use Rattle.store_objects.proofs.WorkPlaces.{holds_it}
+use Rattle.store_objects.proofs.WorkingOn.{works_among}
 
 -- ---- where a process works
 
@@ -40,31 +45,31 @@ pub works_there : (script : Script) (objects : Objects) (world : World) (pid : �
 works_there script objects world pid proc stands found =
     ap directory_in (process_is objects.heap world.plain.table (procs_of objects) pid stands.processes.table.present ∙ ap (option_map (process_of objects.heap)) found)
 
--- which today is the root
-pub works_at_root : (script : Script) (objects : Objects) (world : World) (pid : ℕ) (proc : Proc) → StandsFor script objects world → proc_of (procs_of objects) pid ≡ Some proc
-    → proc.cwd ≡ root
-works_at_root script objects world pid proc stands found =
-    stands.home pid (process_of objects.heap proc)
-    (process_is objects.heap world.plain.table (procs_of objects) pid stands.processes.table.present ∙ ap (option_map (process_of objects.heap)) found)
-
--- and so a directory of the tree
-pub works_in_directory : (script : Script) (objects : Objects) (world : World) (pid : ℕ) (proc : Proc) → StandsFor script objects world → proc_of (procs_of objects) pid ≡ Some proc
+-- it is a directory of the tree
+pub works_in_directory : (script : Script) (objects : Objects) (world : World) (pid : ℕ) (proc : Proc) → StandsFor script objects world → proc_of (procs_of objects) pid ≡ Some proc → proc.status ≡ None
     → is_directory world.plain.files.tree proc.cwd ≡ true
-works_in_directory script objects world pid proc stands found =
-    ap (is_directory world.plain.files.tree) (works_at_root script objects world pid proc stands found) ∙ stands.tree.stands.is_tree.root_directory
+works_in_directory script objects world pid proc stands found up =
+    works_among (λ node. is_directory world.plain.files.tree node ≡ true) (procs_of objects) pid proc (worked_in script objects world stands).works found up
+
+-- which it holds, if only as the root
+pub holds_directory : (script : Script) (objects : Objects) (world : World) (pid : ℕ) (proc : Proc) → StandsFor script objects world → proc_of (procs_of objects) pid ≡ Some proc → proc.status ≡ None
+    → 0 < pins_in world.plain proc.cwd
+holds_directory script objects world pid proc stands found up = elim (eqb_tells proc.cwd root) [
+  | inl same ↦ subst (λ n. 0 < pins_in world.plain n) (sym same.1) stands.tree.stands.root
+  | inr other ↦
+      subst (λ n. 0 < n) (sym (held_by_procs script objects world.plain world.account stands.kept stands.files stands.processes.table proc.cwd))
+      (holds_it pid (procs_of objects) 0 proc (rising_in script objects stands.kept) found up other.1)
+]
 
 -- ---- once it has looked
 
-module _ (script : Script) (old : Objects) (heap : Heap) (fs : TreeView) (before after : Purse) (looks : Looks old.heap heap before after old.tree fs) where
+-- The caches and their part of the heap are others.
+module _ (script : Script) (old : Objects) (heap : Heap) (fs : TreeView) (beside : heap ≡ record old.heap { vnodes = heap.vnodes; names = heap.names; blocks = heap.blocks; high = heap.high }) where
   abbrev pub mid : Objects
   mid = record { heap = heap; procs = old.procs; tree = fs }
 
-  beside : heap ≡ record old.heap { vnodes = heap.vnodes; names = heap.names; blocks = heap.blocks; high = heap.high }
-  beside = looks.on.heap
-
-  pub kept_mid : AreKept script old → AreKept script mid
-  kept_mid kept =
-      let keeps : KeepsTree heap fs = (kept.caches.0, kept.caches.1, looks.stands kept.caches.0 kept.caches.1 kept.caches.2) in
+  pub kept_mid : KeepsTree heap fs → AreKept script old → AreKept script mid
+  kept_mid keeps kept =
       subst (λ (h : Heap). AreKept script (record { heap = h; procs = old.procs; tree = fs })) (sym beside)
       (kept_beside script old heap.vnodes heap.names heap.blocks heap.high old.heap.marks fs kept (subst (λ (h : Heap). KeepsTree h fs) beside keeps))
 
@@ -77,37 +82,52 @@ module _ (script : Script) (old : Objects) (heap : Heap) (fs : TreeView) (before
   abbrev pub looked : World → World
   looked world = record world { kept = kept_by fs; reads = fs.disk.reads }
 
-  pub stands_mid : (world : World) → StandsFor script old world → StandsFor script mid (looked world)
-  stands_mid world stands =
-      let has : HasTree mid (looked world) = record { stands = looks.stands world.plain.files.tree (pins_in world.plain) stands.tree.stands; sockets = stands.tree.sockets; kept = refl; reads = refl } in
+  pub stands_mid : (world : World) → StandsFor script old world → TreeStands heap fs world.plain.files.tree (pins_in world.plain) → StandsFor script mid (looked world)
+  stands_mid world stands now =
+      let has : HasTree mid (looked world) = record { stands = now; sockets = stands.tree.sockets; kept = refl; reads = refl } in
       subst (λ (h : Heap). StandsFor script (record { heap = h; procs = old.procs; tree = fs }) (looked world)) (sym beside)
-      (stands_beside script old heap.vnodes heap.names heap.blocks heap.high old.heap.marks fs world world.plain.files.tree (kept_by fs) fs.disk.reads stands
+      (stands_beside script old heap.vnodes heap.names heap.blocks heap.high old.heap.marks fs world world.plain.files.tree (kept_by fs) fs.disk.reads stands stands.works
       (subst (λ (h : Heap). HasTree (record { heap = h; procs = old.procs; tree = fs }) (looked world)) beside has))
 
-  -- no more is kept than the call needs
-  pub record KeepsFew (world : World) (which : Call) : Type 0 where
-    pub names : length (kept_by fs).names ≤ length world.kept.names + (need_of which).name
-    pub blocks : length (kept_by fs).blocks ≤ length world.kept.blocks + (need_of which).block
-    pub vnodes : length (kept_by fs).vnodes ≤ length world.kept.vnodes + (need_of which).vnode
-    pub reads : world.reads ≤ fs.disk.reads
+  -- where it has entered a directory
+  pub entered_mid : (world : World) (directory : ℕ) → StandsFor script old world → TreeStands heap fs world.plain.files.tree (one_more (pins_in world.plain) directory)
+      → is_directory world.plain.files.tree directory ≡ true → HasEntered script mid (looked world) directory
+  entered_mid world directory stands now is =
+      subst (λ (h : Heap). HasEntered script (record { heap = h; procs = old.procs; tree = fs }) (looked world) directory) (sym beside)
+      (entered_beside script old heap.vnodes heap.names heap.blocks heap.high old.heap.marks fs world directory stands
+      (subst (λ (h : Heap). TreeStands h fs world.plain.files.tree (one_more (pins_in world.plain) directory)) beside now) is)
 
-  pub keeps_few : (world : World) (which : Call) → StandsFor script old world → before.left ≡ need_of which → KeepsFew world which
-  keeps_few world which stands needed =
-      let now = looks.stands world.plain.files.tree (pins_in world.plain) stands.tree.stands in
-      let was = stands.tree.stands in
-      let paid : IsPaid old.heap before heap after = looks.on.paid in
-      record {
-        names = few (count heap.names) after.left.name (count old.heap.names) before.left.name (need_of which).name _ _ (paid.counts class.Name) (ap (λ n. n.name) needed)
-            (as_many_names heap fs world.plain now) (as_many_names old.heap old.tree world.plain was ∙ ap (λ k. length k.names) (sym stands.tree.kept));
-        blocks = few (count heap.blocks) after.left.block (count old.heap.blocks) before.left.block (need_of which).block _ _ (paid.counts class.Block) (ap (λ n. n.block) needed)
-            (as_many_blocks heap fs world.plain now) (as_many_blocks old.heap old.tree world.plain was ∙ ap (λ k. length k.blocks) (sym stands.tree.kept));
-        vnodes = few (count heap.vnodes) after.left.vnode (count old.heap.vnodes) before.left.vnode (need_of which).vnode _ _ (paid.counts class.Vnode) (ap (λ n. n.vnode) needed)
-            (as_many_vnodes heap fs world.plain now) (as_many_vnodes old.heap old.tree world.plain was ∙ ap (λ k. length k.vnodes) (sym stands.tree.kept));
-        reads = rises world.reads old.tree.disk.reads fs.disk.reads stands.tree.reads looks.on.reads;
-      }
-    where
-      few : (new left old had need kept was : ℕ) → new + left ≤ old + had → had ≡ need → new ≡ kept → old ≡ was → kept ≤ was + need
-      few new left old had need kept was paid same is before = omega arith
+-- what stands for whatever it stood for stands for the tree of a world
+pub keeps_looked : (script : Script) (old : Objects) (heap : Heap) (fs : TreeView) (world : World) → StandsFor script old world
+    → ((tree : Tree) (pins : ℕ → ℕ) → TreeStands old.heap old.tree tree pins → TreeStands heap fs tree pins) → KeepsTree heap fs
+keeps_looked script old heap fs world stands still = (world.plain.files.tree, pins_in world.plain, still world.plain.files.tree (pins_in world.plain) stands.tree.stands)
 
-      rises : (world was now : ℕ) → world ≡ was → was ≤ now → world ≤ now
-      rises world was now same more = omega arith
+-- ---- what it may keep
+
+-- no more is kept than the call needs
+pub record KeepsFew (fs : TreeView) (world : World) (which : Call) : Type 0 where
+  pub names : length (kept_by fs).names ≤ length world.kept.names + (need_of which).name
+  pub blocks : length (kept_by fs).blocks ≤ length world.kept.blocks + (need_of which).block
+  pub vnodes : length (kept_by fs).vnodes ≤ length world.kept.vnodes + (need_of which).vnode
+  pub reads : world.reads ≤ fs.disk.reads
+
+-- as what it has filled was paid for
+pub keeps_few : (script : Script) (old : Objects) (heap : Heap) (fs : TreeView) (before after : Purse) (world : World) (which : Call) (tree : Tree) (pins : ℕ → ℕ) → StandsFor script old world
+    → TreeStands heap fs tree pins → IsPaid old.heap before heap after → old.tree.disk.reads ≤ fs.disk.reads → before.left ≡ need_of which → KeepsFew fs world which
+keeps_few script old heap fs before after world which tree pins stands now paid read needed =
+    let was = stands.tree.stands in
+    record {
+      names = few (count heap.names) after.left.name (count old.heap.names) before.left.name (need_of which).name _ _ (paid.counts class.Name) (ap (λ n. n.name) needed)
+          (as_many_names heap fs tree pins now) (as_many_names old.heap old.tree world.plain.files.tree (pins_in world.plain) was ∙ ap (λ k. length k.names) (sym stands.tree.kept));
+      blocks = few (count heap.blocks) after.left.block (count old.heap.blocks) before.left.block (need_of which).block _ _ (paid.counts class.Block) (ap (λ n. n.block) needed)
+          (as_many_blocks heap fs tree pins now) (as_many_blocks old.heap old.tree world.plain.files.tree (pins_in world.plain) was ∙ ap (λ k. length k.blocks) (sym stands.tree.kept));
+      vnodes = few (count heap.vnodes) after.left.vnode (count old.heap.vnodes) before.left.vnode (need_of which).vnode _ _ (paid.counts class.Vnode) (ap (λ n. n.vnode) needed)
+          (as_many_vnodes heap fs tree pins now) (as_many_vnodes old.heap old.tree world.plain.files.tree (pins_in world.plain) was ∙ ap (λ k. length k.vnodes) (sym stands.tree.kept));
+      reads = rises world.reads old.tree.disk.reads fs.disk.reads stands.tree.reads read;
+    }
+  where
+    few : (new left old had need kept was : ℕ) → new + left ≤ old + had → had ≡ need → new ≡ kept → old ≡ was → kept ≤ was + need
+    few new left old had need kept was paid same is before = omega arith
+
+    rises : (world was now : ℕ) → world ≡ was → was ≤ now → world ≤ now
+    rises world was now same more = omega arith

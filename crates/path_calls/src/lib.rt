@@ -1,8 +1,8 @@
-//! A turn of each call on names of the tree of files leads the objects of a store to what the call's definition says: `stat`.
+//! A turn of each call that looks along a path leads the objects of a store to what the call's definition says: `stat` and `chdir`.
 #![tactic(auto)]
 
 mod directories;
 mod telling;
 
-pub use directories::directory_of;
+pub use directories::chdir;
 pub use telling::stat;

@@ -12,11 +12,10 @@ ghost use Rattle.store_objects.specs.Objects.{AreKept, Runs};
 ghost use Rattle.store_objects.specs.Standing.{StandsFor};
 ghost use Rattle.path_calls.specs.Walking.{Reaches};
 
-use crate::directories::directory_of;
 use kabi_types::{Control, Reply, Script};
 use kheap_shelves::Purse;
 use posix_defs::Turned;
-use store_objects::{Objects, go_on};
+use store_objects::{Objects, directory_of, go_on};
 
 /// Tells what there is of the node that a path leads to, or the fault of its path.
 pub fn stat(

@@ -16,3 +16,10 @@ pub mod OpenFiles
 pub mod Ranges
 pub mod Finding
 pub mod Saves
+pub mod Makes
+pub mod OpenLeads
+pub mod HoldMade
+pub mod OpenAnswers
+pub mod Changing
+pub mod Shares
+pub mod Endings

@@ -3,3 +3,4 @@ pub mod Answering
 pub mod Seeking
 pub mod Reading
 pub mod Closing
+pub mod Opening

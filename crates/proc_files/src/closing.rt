@@ -15,7 +15,7 @@ ghost use Rattle.proc_descs.specs.Naming.{named_at, named_by};
 ghost use Rattle.proc_descs.specs.Queues.{QueuesStand};
 ghost use Rattle.proc_pipes.specs.Answering.{zero_of};
 ghost use Rattle.proc_files.specs.Answering.{AnswersHolding};
-ghost use Rattle.proc_files.specs.Closing.{ClosesHolding, MayClose};
+ghost use Rattle.proc_files.specs.Closing.{ChangesHolding, ClosesHolding, MayClose};
 ghost use Rattle.proc_files.specs.Holding.{HoldFiles, HoldSome};
 
 use kabi_types::Errno;
@@ -51,6 +51,7 @@ pub fn close_number(
     ensures listed { AreListed heap.new procs.now }
     ensures owners { HasItsOwners heap.new [] }
     ensures hold { HoldSome heap.new procs.now tree.new }
+    ensures changes { ChangesHolding heap.old heap.new procs.now pid }
     ensures queues { QueuesStand heap.old heap.new }
     ensures unchanged { OnErr result ((heap.new ≡ heap.old) × (tree.new ≡ tree.old)) }
     ensures same { purse.new ≡ purse.old }

@@ -1,7 +1,8 @@
-//! What is open on a node, and where.
+//! What is open on a node, and where, and what the heap keeps.
 
 ghost use Rattle.std.specs.Prelude.{◌≡◌, ℕ, Some};
 ghost use Rattle.kheap_shelves.specs.Objects.{object};
+ghost use Rattle.kheap_slabs.specs.Heap.{IsWellFormed};
 ghost use Rattle.kheap_slabs.specs.Paid.{TakesNothing};
 ghost use Rattle.open_laws.specs.Described.{access_in};
 ghost use Rattle.posix_defs.specs.Files.Descriptions.{may_read as plain_may_read, may_write as plain_may_write};
@@ -57,4 +58,11 @@ pub(crate) fn move_to(heap: &mut KHeap, found: &Found, offset: u64)
             ..found.desc
         },
     );
+}
+
+/// The heap is well formed: what there is of each class fits in it, and each row of its objects is as long as it was reserved.
+pub(crate) fn is_well_formed(heap: &KHeap)
+    ensures { IsWellFormed heap.now }
+{
+    let _ = heap.heap();
 }

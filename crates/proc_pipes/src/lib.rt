@@ -13,5 +13,5 @@ mod telling;
 pub use closing::close_number;
 pub use controlling::control;
 pub use piping::make_pipe;
-pub use sharing::{dup_one, dup_to};
+pub use sharing::{dup_one, dup_to, share_at};
 pub use telling::stat_number;

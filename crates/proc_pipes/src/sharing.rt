@@ -184,8 +184,8 @@ fn first_from(from: u64) -> u32
     }
 }
 
-// A number of a process that is free names a description from now on that another number names.
-fn share_at(heap: &mut KHeap, procs: &ProcTable, pid: u32, fd: u32, desc: u32)
+/// A number of a process that is free names a description from now on that is open.
+pub fn share_at(heap: &mut KHeap, procs: &ProcTable, pid: u32, fd: u32, desc: u32)
     requires listed { AreListed heap.old procs.now }
     requires owners { HasItsOwners heap.old [] }
     requires there { IsSome (key_of procs.now.listed pid) }

@@ -1,9 +1,9 @@
 -- A child is made, which goes on behind its parent's call.
-use Rattle.std.proofs.Common.{◌≡◌, ◌≢◌, ◌⊎◌, ℕ, zero, suc, ◌+◌, ◌<◌, ◌≤◌, ◌==◌, Bool, true, false, cond, List, [], ◌∷◌, ◌++◌, length, Option, None, Some, is_some, unwrap_or, pos, refl, ap, sym, ◌∙◌, subst, inl, inr, arith, length-append}
+use Rattle.std.proofs.Common.{◌≡◌, ◌≢◌, ◌⊎◌, ℕ, zero, suc, ◌+◌, ◌<◌, ◌≤◌, ◌==◌, ◌||◌, nat_le, Bool, true, false, cond, List, [], ◌∷◌, ◌++◌, length, Option, None, Some, is_some, unwrap_or, pos, refl, ap, sym, ◌∙◌, subst, inl, inr, arith, length-append}
 use Rattle.std.specs.Prelude.{Ok, Err, count_by, slice_index}
 use Rattle.std.specs.List.{AllByRecursion}
 use Rattle.std.specs.Option.{option_map}
-use Rattle.std.proofs.lemmas.Bool.Decides.{eqb_tells}
+use Rattle.std.proofs.lemmas.Bool.Decides.{eqb_tells, leb_tells}
 use Rattle.kabi_calls.specs.declared.calls.Call.TheVariants as call
 use Rattle.kabi_values.specs.declared.errnos.Errno.{Errno}
 use Rattle.kabi_values.specs.declared.errnos.Errno.TheVariants.{EAGAIN}
@@ -15,8 +15,7 @@ use Rattle.kheap_shelves.specs.declared.objects.Desc.{Desc}
 use Rattle.kheap_shelves.specs.declared.objects.Proc.{Proc}
 use Rattle.kheap_slabs.specs.Heap.{Heap}
 use Rattle.kern_laws.proofs.EnabledEvents.{get_behind}
-use Rattle.kern_laws.specs.AtHome.{AllAtHome}
-use Rattle.kern_laws.proofs.TablePlaces.{get_front, in_longer}
+use Rattle.kern_laws.proofs.TablePlaces.{get_front}
 use Rattle.posix_defs.specs.Account.{Account, with_frames}
 use Rattle.posix_defs.specs.Answer.{replied}
 use Rattle.posix_defs.specs.ByPid.{at_pid}
@@ -24,12 +23,14 @@ use Rattle.posix_defs.specs.Control.{after, settled}
 use Rattle.posix_defs.specs.Files.State.{Files, with_heir}
 use Rattle.posix_defs.specs.Forking.{child_of, fork, with_child}
 use Rattle.posix_defs.specs.Memory.{Frames, after_fork}
-use Rattle.posix_defs.specs.Plain.{Plain, at_start, control_of}
+use Rattle.posix_defs.specs.Plain.{Plain, at_start, control_of, root}
 use Rattle.posix_defs.specs.Process.{Process, Table, is_alive, process_at}
+use Rattle.posix_defs.specs.Tree.{Tree, is_directory}
 use Rattle.posix_defs.specs.World.{World}
 use Rattle.posix_defs.specs.declared.turner.Turned.{Turned}
 use Rattle.posix_defs.specs.declared.turner.Turned.TheVariants.{Done}
 use Rattle.prog_ctl.specs.Runnable.{Rests, Stands}
+use Rattle.memfs_ops.specs.FileTree.{Stands as TreeStands}
 use Rattle.proc_table.specs.Accounting.{HasAccount}
 use Rattle.proc_table.specs.Changes.{child_proc, forked_as, is_full_at, replaced}
 use Rattle.open_laws.specs.Open.{AreOpen}
@@ -43,7 +44,7 @@ use Rattle.proc_table.specs.Standing.{IsTable, answered_fork, forked_in}
 use Rattle.proc_table.specs.Table.{TableView}
 use Rattle.proc_table.proofs.AccountLemmas.{pids_within}
 use Rattle.proc_table.proofs.FamilyLemmas.{proc_has_pid}
-use Rattle.proc_table.proofs.LawLemmas.{fork_is, on-account, on-table}
+use Rattle.proc_table.proofs.LawLemmas.{fork_is, length-procs_at, on-account, on-table}
 use Rattle.proc_table.proofs.OwnLemmas.{all_append, has_it}
 use Rattle.proc_table.proofs.PlaceLemmas.{eqb_other, eqb_same}
 use Rattle.store_objects.specs.declared.objects.Objects.{Objects}
@@ -52,8 +53,12 @@ use Rattle.store_objects.specs.Objects.{AreAtCalls, AreKept, IsAtCall, MovesOn, 
 use Rattle.store_objects.specs.Standing.{AreProcesses, Performs, StandsFor, WorldAfter}
 use Rattle.store_objects.proofs.GoingOn.{descriptors_moved, kept_moved, led_to, mapped_from, moves_then, proc_made, procs_then, replaced_at, rising_in, some_same}
 use Rattle.store_objects.proofs.Keeping.{kept_with, moved_caches}
-use Rattle.store_objects.proofs.TreesOn.{caches_then, tree_goes_on}
-use Rattle.store_objects.specs.Trees.{TreeStays}
+use Rattle.store_objects.proofs.Pinning.{kept_then, kept_where, pinned_account, pinned_files, pinned_kept, pinned_procs, pinned_stays, pinned_table, stands_where}
+use Rattle.store_objects.proofs.TreesOn.{caches_then, same_pins, tree_worked, worked_in, works_worked}
+use Rattle.store_objects.proofs.WorkPlaces.{directories_from}
+use Rattle.store_objects.proofs.WorkingOn.{all_and, entered_by_one, few_hold, works_among}
+use Rattle.store_objects.specs.Trees.{TreeStays, but_root}
+use Rattle.store_objects.specs.Working.{AreDirectories, IsWorkedIn, OnlyPins, directories_in, entered_pins, pins_by}
 use Rattle.store_objects.proofs.Namings.{names_by, names_forked, names_in, names_in_hand}
 use Rattle.store_objects.proofs.Opening.{by_pids, by_procs, files_moved, settled_on}
 use Rattle.store_objects.proofs.Leading.{led_on}
@@ -123,17 +128,6 @@ number_of there last child is = go (is_full_at there last) is
     go true e = cc
     go false e = cc
 
--- a child works where its parent does, and everybody else where he did
-born_home : (script : Script) (plain : Plain) (pid : ℕ) → AllAtHome plain.table → AllAtHome (with_child script plain pid).table
-born_home script plain pid home other process is = elim (in_longer plain.table (child_of pid (process_at plain.table pid)) other process is) [
-  | inl before ↦ home other process before.1
-  | inr last ↦ let found = as_parent (process_at plain.table pid) last.1 in found.2 ∙ home pid found.0 found.1
-]
-  where
-    as_parent : (there : Option Process) → child_of pid there ≡ Some process → (old : Process) × (there ≡ Some old) × (process.directory ≡ old.directory)
-    as_parent None e = cc
-    as_parent (Some old) e = (old, refl, (let same : process ≡ record old { parent = pid } = (cc) in ap (λ p. p.directory) same))
-
 -- the world with a child of a process
 abbrev pub forked_world : Script → World → ℕ → World
 forked_world script world pid = record world { plain = with_child script world.plain pid; account = with_frames world.account (after_fork world.account.frames pid) }
@@ -183,13 +177,13 @@ module _ (script : Script) (old mid moved : Objects) (pid child : ℕ) (control 
     (moves : TableMoves (sharing old.heap mid.heap) old.procs mid.heap mid.procs) (tree : mid.tree ≡ old.tree) (shared : HasShared old mid runs.proc)
     (forked : IsForked old.heap old.procs mid.heap mid.procs pid child)
     (number : child ≡ old.procs.last + 1) (turned : MovesOn mid child next moved) where
-  between : AreKept script mid
+  pub between : AreKept script mid
   between = kept_forked script old mid pid child control kept runs moves tree shared forked
 
-  abbrev now : Proc
+  abbrev pub now : Proc
   now = record turned.proc { control = next }
 
-  abbrev made : Proc
+  abbrev pub made : Proc
   made = child_proc forked.parent child forked.nodes
 
   own : now.pid ≡ child
@@ -219,7 +213,7 @@ module _ (script : Script) (old mid moved : Objects) (pid child : ℕ) (control 
     at_call = runs.at_call;
   }
 
-  controls_then : (plain : Plain) → AreProcesses script old plain → settled script (after script (control_of plain pid) (Val (pos 0))) ≡ next
+  pub controls_then : (plain : Plain) → AreProcesses script old plain → settled script (after script (control_of plain pid) (Val (pos 0))) ≡ next
       → (q : ℕ) (it : Proc) → proc_of (procs_of moved) q ≡ Some it → it.status ≡ None → settled script (control_of (with_child script plain pid) q) ≡ it.control
   controls_then plain are leads q it found up =
       let was = mapped_from (replaced child now) (proc_of (procs_of old ++ made ∷ []) q) it (sym (found_then q) ∙ found) in
@@ -241,7 +235,7 @@ module _ (script : Script) (old mid moved : Objects) (pid child : ℕ) (control 
       ]
 
   -- the child has open what its parent has, and the machine's says so
-  opens_forked : (files : Files) (account next : Account) → next.pipes ≡ account.pipes → next.sockets ≡ account.sockets → HaveFiles old files account → HaveFiles mid (with_heir files pid) next
+  pub opens_forked : (files : Files) (account next : Account) → next.pipes ≡ account.pipes → next.sockets ≡ account.sockets → HaveFiles old files account → HaveFiles mid (with_heir files pid) next
   opens_forked files account next pipes sockets have =
       let opened = have.opened in
       record {
@@ -266,7 +260,7 @@ module _ (script : Script) (old mid moved : Objects) (pid child : ℕ) (control 
       }
 
   -- the tree of files is the same
-  tree_stays : TreeStays old moved
+  pub tree_stays : TreeStays old moved
   tree_stays =
       let first = moved_caches (sharing old.heap mid.heap) mid.heap old.procs mid.procs moves in
       let then = moved_caches mid.heap moved.heap mid.procs moved.procs (moves_then script mid moved child next between turned) in
@@ -275,36 +269,100 @@ module _ (script : Script) (old mid moved : Objects) (pid child : ℕ) (control 
         caches = caches_then old.heap mid.heap moved.heap (record { vnodes = first.vnodes; names = first.names; blocks = first.blocks; size = first.size }) then;
       }
 
+-- The child holds the directory that it works in.
+module _ (script : Script) (old mid moved pinned : Objects) (pid child directory : ℕ) (control next : Control) (kept : AreKept script old) (runs : Runs old pid control)
+    (moves : TableMoves (sharing old.heap mid.heap) old.procs mid.heap mid.procs) (same_tree : mid.tree ≡ old.tree) (shared : HasShared old mid runs.proc)
+    (forked : IsForked old.heap old.procs mid.heap mid.procs pid child)
+    (number : child ≡ old.procs.last + 1) (turned : MovesOn mid child next moved) (at : directory ≡ runs.proc.cwd) (only : OnlyPins moved pinned)
+    (lets : (tree : Tree) (pins : ℕ → ℕ) → TreeStands moved.heap moved.tree tree pins → TreeStands pinned.heap pinned.tree tree (entered_pins pins directory)) where
+  mid_kept : AreKept script mid
+  mid_kept = between script old mid moved pid child control next kept runs moves same_tree shared forked number turned
+
+  stays : TreeStays old moved
+  stays = tree_stays script old mid moved pid child control next kept runs moves same_tree shared forked number turned
+
+  abbrev heir : Proc
+  heir = child_proc forked.parent child forked.nodes
+
+  abbrev further : Proc
+  further = record turned.proc { control = next }
+
+  works_there : heir.cwd ≡ directory
+  works_there = ap (λ (p : Proc). p.cwd) (same_parent script old mid pid child control kept runs moves same_tree shared forked) ∙ sym at
+
+  runs_there : heir.status ≡ None
+  runs_there = ap (λ (p : Proc). p.status) (same_parent script old mid pid child control kept runs moves same_tree shared forked) ∙ runs.up
+
+  pub kept_pinned : Stands script next → Rests script next → AreKept script pinned
+  kept_pinned stands rests =
+      pinned_kept moved pinned only script (kept_child script old mid moved pid child control next kept runs moves same_tree shared forked number turned stands rests)
+      (kept.caches.0, entered_pins kept.caches.1 directory, lets kept.caches.0 kept.caches.1 (stands_where old moved kept.caches.0 kept.caches.1 stays kept.caches.2))
+
+  pub runs_pinned : Runs pinned pid control
+  runs_pinned =
+      let still = runs_still script old mid moved pid child control next kept runs moves same_tree shared forked number turned in
+      record { proc = still.proc; found = ap (λ procs. proc_of procs pid) (pinned_procs moved pinned only) ∙ still.found; up = still.up; at_call = still.at_call }
+
+  -- the tree is worked in by one more
+  worked : (tree : Tree) (table : Table) → IsTable mid.heap mid.procs table → IsTable moved.heap moved.procs table → IsWorkedIn old tree → IsWorkedIn pinned tree
+  worked tree table before after was = record {
+    stands = same_pins pinned.heap pinned.tree tree (entered_pins (pins_by (procs_of old)) directory) (pins_by (procs_of pinned)) pins
+        (lets tree (pins_by (procs_of old)) (stands_where old moved tree (pins_by (procs_of old)) stays was.stands));
+    works = subst (AreDirectories tree) (sym (ap directories_in (pinned_procs moved pinned only) ∙ directories))
+        (all_and (λ node. is_directory tree node ≡ true) (procs_of old) heir
+        (subst (λ node. is_directory tree node ≡ true) (sym (works_there ∙ at)) (works_among (λ node. is_directory tree node ≡ true) (procs_of old) pid runs.proc was.works runs.found runs.up)) was.works);
+  }
+    where
+      directories : directories_in (procs_of moved) ≡ directories_in (procs_of old ++ heir ∷ [])
+      directories = sym (directories_from after.present) ∙ directories_from before.present ∙ ap directories_in forked.processes_are
+
+      pins : (number : ℕ) → entered_pins (pins_by (procs_of old)) directory number ≡ pins_by (procs_of pinned) number
+      pins number =
+          ap (λ n. entered_pins (pins_by (procs_of old)) n number) (sym works_there)
+          ∙ entered_by_one (procs_of old) heir runs_there number
+          ∙ ap (λ nodes. count_by (λ node. node == number) (root ∷ but_root nodes)) (sym directories)
+          ∙ ap (λ procs. pins_by procs number) (sym (pinned_procs moved pinned only))
+
   -- the objects stand for the world with the child
   pub stands_forked : (world : World) → StandsFor script old world → is_alive world.plain.table pid ≡ true
       → fork script world.plain pid ≡ replied script (with_child script world.plain pid) pid (Val (pos child))
-      → Stands script next × Rests script next → AreKept script moved
+      → Stands script next × Rests script next
       → IsTable mid.heap mid.procs (with_child script world.plain pid).table → HasAccount mid.heap mid.procs (after_fork world.account.frames pid)
       → settled script (after script (control_of world.plain pid) (Val (pos 0))) ≡ next
-      → StandsFor script moved (forked_world script world pid)
-  stands_forked world stands alive answers at kept_too table has leads =
+      → StandsFor script pinned (forked_world script world pid)
+  stands_forked world stands alive answers at_call table has leads =
       let plain = world.plain in
       let family = kept_by script old world (with_child script plain pid) pid call.Fork (Val (pos child)) stands alive answers in
-      let files = files_moved mid moved (with_heir plain.files pid) (with_heir plain.files pid) (forked_world script world pid).account (forked_world script world pid).account
-      (moves_then script mid moved child next between turned) refl refl refl refl refl
-      (descriptors_moved script mid moved child next (with_heir plain.files pid) between turned at.0 at.1)
-      (opens_forked plain.files world.account (forked_world script world pid).account refl refl stands.files) in
+      let on : IsTable moved.heap moved.procs (with_child script plain pid).table =
+      subst (λ k. IsTable moved.heap k (with_child script plain pid).table) (sym turned.same)
+      (on-table mid.heap moved.heap mid.procs child turned.key turned.proc further mid_kept.holds turned.turns (with_child script plain pid).table refl table) in
+      let is = pinned_table moved pinned only (with_child script plain pid).table on in
+      let files = pinned_files moved pinned only (with_heir plain.files pid) (forked_world script world pid).account
+      (files_moved mid moved (with_heir plain.files pid) (with_heir plain.files pid) (forked_world script world pid).account (forked_world script world pid).account
+      (moves_then script mid moved child next mid_kept turned) refl refl refl refl refl
+      (descriptors_moved script mid moved child next (with_heir plain.files pid) mid_kept turned at_call.0 at_call.1)
+      (opens_forked script old mid moved pid child control next kept runs moves same_tree shared forked number turned plain.files world.account (forked_world script world pid).account refl refl stands.files)) in
+      let now = worked plain.files.tree (with_child script plain pid).table table on (worked_in script old world stands) in
+      let caches = kept_then old.tree moved.tree pinned.tree (kept_where old moved stays) (pinned_stays moved pinned only) in
       record {
         runs = stands.runs;
-        kept = kept_too;
+        kept = kept_pinned at_call.0 at_call.1;
         processes = record {
-          table = subst (λ k. IsTable moved.heap k (with_child script plain pid).table) (sym turned.same)
-              (on-table mid.heap moved.heap mid.procs child turned.key turned.proc now between.holds turned.turns (with_child script plain pid).table refl table);
-          last = ap (λ k. k.last) turned.same ∙ forked.last ∙ number ∙ ap (λ n. n + 1) stands.processes.last
+          table = is;
+          last = ap (λ k. k.last) only.procs ∙ ap (λ k. k.last) turned.same ∙ forked.last ∙ number ∙ ap (λ n. n + 1) stands.processes.last
               ∙ sym (length-append plain.controls (after script (control_of plain pid) (Val (pos 0)) ∷ []));
-          controls = controls_then plain stands.processes leads;
+          controls = λ q it found up.
+              controls_then script old mid moved pid child control next kept runs moves same_tree shared forked number turned plain stands.processes leads q it
+              (ap (λ procs. proc_of procs q) (sym (pinned_procs moved pinned only)) ∙ found) up;
         };
-        memory = subst (λ k. HasAccount moved.heap k (after_fork world.account.frames pid)) (sym turned.same)
-            (on-account mid.heap moved.heap mid.procs child turned.key turned.proc now between.holds turned.turns (after_fork world.account.frames pid) has);
+        memory = pinned_account moved pinned only (after_fork world.account.frames pid)
+            (subst (λ k. HasAccount moved.heap k (after_fork world.account.frames pid)) (sym turned.same)
+            (on-account mid.heap moved.heap mid.procs child turned.key turned.proc further mid_kept.holds turned.turns (after_fork world.account.frames pid) has));
         files = files;
-        tree = tree_goes_on script old moved world (forked_world script world pid) stands kept_too files (born_home script plain pid stands.home) tree_stays refl refl refl;
+        tree = tree_worked script pinned (forked_world script world pid) (kept_pinned at_call.0 at_call.1) files is now stands.tree.sockets
+            (stands.tree.kept ∙ sym caches.kept) (stands.tree.reads ∙ sym caches.reads);
         family = family;
-        home = born_home script plain pid stands.home;
+        works = works_worked pinned plain.files.tree (with_child script plain pid).table is now;
       }
 
   -- from each world to the one with the child, in which its parent is told the child's pid
@@ -312,17 +370,36 @@ module _ (script : Script) (old mid moved : Objects) (pid child : ℕ) (control 
       → ((table : Table) → IsTable old.heap old.procs table → IsTable mid.heap mid.procs (forked_in table pid (Ok child)))
       → ((frames : Frames) → HasAccount old.heap old.procs frames → HasAccount mid.heap mid.procs (after_fork frames pid))
       → ((before : Control) → settled script before ≡ control → settled script (after script before (Val (pos 0))) ≡ next)
-      → told ≡ Done (Val (pos child)) → GoesOn script moved pid (Val (pos child)) new
+      → told ≡ Done (Val (pos child)) → GoesOn script pinned pid (Val (pos child)) new
       → Performs script old pid call.Fork (λ plain. fork script plain pid) told new
-  does_fork new told at rests answer table has leads tells goes = λ world stands alive.
+  does_fork new told at_call rests answer table has leads tells goes = λ world stands alive.
       let plain = world.plain in
       let answers : fork script plain pid ≡ replied script (with_child script plain pid) pid (Val (pos child)) =
       fork_is script plain old.heap old.procs pid kept.holds stands.processes.table (sym stands.processes.last) ∙ ap (answered_fork script plain pid) (sym answer) in
-      let with_it = stands_forked world stands alive answers (at, rests) (kept_child at rests) (table plain.table stands.processes.table) (has world.account.frames stands.memory)
+      let with_it = stands_forked world stands alive answers (at_call, rests) (table plain.table stands.processes.table) (has world.account.frames stands.memory)
       (leads (control_of plain pid) (led_to script old plain pid control runs stands.processes)) in
       subst (λ answer. WorldAfter script new world pid call.Fork answer told) (sym answers)
-      (led_on script moved new world (forked_world script world pid) pid call.Fork (Val (pos child)) told with_it tells (goes (forked_world script world pid) with_it)
+      (led_on script pinned new world (forked_world script world pid) pid call.Fork (Val (pos child)) told with_it tells (goes (forked_world script world pid) with_it)
       refl refl refl refl refl)
+
+-- where one more can be made fewer are there than may be
+room_for : (there last child : ℕ) → Ok child ≡ forked_as there last → there < 64
+room_for there last child is = elim (leb_tells 64 there) [
+  | inl many ↦ refused (nat_le 64 there) many.0 is
+  | inr few ↦ few.1
+]
+  where
+    refused : (b : Bool) → b ≡ true → Ok child ≡ cond (b || nat_le 4294967295 last) (Err EAGAIN) (Ok (last + 1)) → there < 64
+    refused true e f = cc
+    refused false e f = cc
+
+-- and so one more may hold what is held
+pub may_hold : (script : Script) (old : Objects) (child n : ℕ) → AreKept script old → Ok child ≡ forked_as (length old.procs.listed) old.procs.last → pins_by (procs_of old) n < 4294967295
+may_hold script old child n kept answer =
+    let few : pins_by (procs_of old) n ≤ length (procs_of old) + 1 = few_hold (procs_of old) n in
+    let listed : length (procs_of old) ≡ length old.procs.listed = length-procs_at old.heap.procs old.procs.listed kept.holds.stored in
+    let room : length old.procs.listed < 64 = room_for (length old.procs.listed) old.procs.last child answer in
+    omega (arith, few, listed, room)
 
 -- From each world to itself, where nobody more can be made.
 pub does_full : (script : Script) (old new : Objects) (pid : ℕ) (errno : Errno) (told : Turned)

@@ -21,9 +21,7 @@ use Rattle.posix_defs.specs.MemoryCalls.{frames_after}
 use Rattle.posix_defs.specs.Plain.{Plain, last_pid, with_table}
 use Rattle.posix_defs.specs.Process.{Table, is_alive}
 use Rattle.posix_defs.specs.Waiting.{is_nohang, waitpid}
-use Rattle.posix_defs.specs.World.{World}
-use Rattle.kern_laws.specs.AtHome.{AllAtHome}
-use Rattle.kern_laws.proofs.AtHome.{gone_home}
+use Rattle.posix_defs.specs.World.{World, directories_of}
 use Rattle.kern_laws.proofs.Families.{answers_on}
 use Rattle.proc_table.specs.Accounting.{HasAccount}
 use Rattle.proc_table.specs.Changes.{after_wait, is_other, reaped_of}
@@ -43,7 +41,9 @@ use Rattle.store_objects.specs.Objects.{AreAtCalls, AreKept, IsAtCall, Runs, pro
 use Rattle.store_objects.specs.Standing.{AreProcesses, Performs, StandsFor, WorldAfter}
 use Rattle.store_objects.proofs.GoingOn.{rising_in, some_same}
 use Rattle.store_objects.proofs.Keeping.{kept_on, moved_caches}
-use Rattle.store_objects.proofs.TreesOn.{tree_goes_on}
+use Rattle.store_objects.proofs.TreesOn.{tree_goes_on, works_on}
+use Rattle.store_objects.proofs.WorkingOn.{reaped_work, same_work}
+use Rattle.store_objects.specs.Working.{directories_in}
 use Rattle.store_objects.specs.Files.{HaveFiles}
 use Rattle.store_objects.proofs.Leading.{led_blocked, led_on}
 use Rattle.store_objects.proofs.Namings.{names_in, names_waited}
@@ -139,10 +139,10 @@ module _ (script : Script) (old mid : Objects) (pid : ℕ) (which options : ℤ)
     };
     memory = has world.account.frames stands.memory;
     files = files;
-    tree = tree_goes_on script old mid world (waited_world world told) stands (kept_waited script old mid pid which told stands.kept moves same_tree is procs) files (home told)
+    tree = tree_goes_on script old mid world (waited_world world told) stands (kept_waited script old mid pid which told stands.kept moves same_tree is procs) files works
         (record { tree = same_tree; caches = moved_caches old.heap mid.heap old.procs mid.procs moves }) refl refl refl;
     family = family told (waits_as script old world.plain pid which options told stands.processes is);
-    home = home told;
+    works = works_on world.plain (with_table world.plain (waited_in world.plain.table told)) refl works stands.works;
   }
     where
       files : HaveFiles mid world.plain.files world.account
@@ -155,10 +155,17 @@ module _ (script : Script) (old mid : Objects) (pid : ℕ) (which options : ℤ)
           (by_procs number (procs_of old) old.procs.last world.plain.files (rising_in script old stands.kept) have)))))
           stands.files
 
-      home : (told : Reaped) → AllAtHome (waited_in world.plain.table told)
-      home Nobody = stands.home
-      home NoChild = stands.home
-      home (Took gone status) = gone_home world.plain.table gone stands.home
+      -- who is told has ended, and so works nowhere
+      reaped : (told : Reaped) → told ≡ reaped_of pid which (procs_of old) → directories_in (after_wait told (procs_of old)) ≡ directories_in (procs_of old)
+      reaped Nobody e = refl
+      reaped NoChild e = refl
+      reaped (Took gone status) e =
+          reaped_work (procs_of old) 0 gone (rising_in script old stands.kept) (took_ended old.heap old.procs pid which gone status stands.kept.holds e)
+
+      works : directories_of (waited_in world.plain.table told) ≡ directories_of world.plain.table
+      works =
+          same_work old mid world.plain.table (waited_in world.plain.table told) stands.processes.table (table world.plain.table stands.processes.table)
+          (ap directories_in procs ∙ reaped told is)
 
       family : (told : Reaped) → waitpid script world.plain pid which options ≡ answered_wait script world.plain pid options told
           → IsFamily (waited_in world.plain.table told)

@@ -7,22 +7,24 @@ ghost use Rattle.kabi_types.specs.declared.scripts.Script.{Script};
 ghost use Rattle.kheap_slabs.specs.Paid.{CanPay, IsPaid, TakesNothing};
 ghost use Rattle.posix_defs.specs.Forking.{fork};
 ghost use Rattle.posix_defs.specs.Machine.{blocks};
+ghost use Rattle.posix_defs.specs.Tree.{Tree};
 ghost use Rattle.posix_defs.specs.Waiting.{is_nohang, waitpid};
 ghost use Rattle.posix_defs.specs.World.{World};
 ghost use Rattle.proc_table.specs.Table.{Holds};
 ghost use Rattle.store_objects.specs.Objects.{AreKept, Runs};
 ghost use Rattle.store_objects.specs.Standing.{Performs, StandsFor};
+ghost use Rattle.store_objects.specs.Working.{IsWorkedIn};
 
 use kabi_types::{Control, Errno, Reply, Script};
 use kheap_shelves::Purse;
 use posix_defs::Turned;
 use proc_table::Reaped;
-use store_objects::{Objects, behind, go_on};
+use store_objects::{Objects, behind, directory_of, go_on, hold_directory};
 
 /// The only option of `waitpid`: not to wait.
 const WNOHANG: i64 = 1;
 
-/// Makes a child that goes on where its parent does, has open what its parent has, and is told 0; EAGAIN where nobody more can
+/// Makes a child that goes on where its parent does, works there, has open what its parent has, and is told 0; EAGAIN where nobody more can
 /// be made.
 pub fn fork(
     script: &Script,
@@ -33,6 +35,7 @@ pub fn fork(
 ) -> Turned
     requires kept { AreKept script.now objects.old }
     requires runs { Runs objects.old pid control }
+    requires works { (tree : Tree) × IsWorkedIn objects.old tree }
     requires room { CanPay objects.old.heap purse.old }
     requires left_proc { 0 < purse.old.left.proc }
     requires left_nodes { 4 ≤ purse.old.left.node }
@@ -41,9 +44,11 @@ pub fn fork(
     ensures does { Performs script.now objects.old pid Call.Fork (λ plain. fork script.now plain pid) result objects.new }
 {
     objects.heap_is_well_formed();
+    let directory = directory_of(objects, pid);
     match objects.procs.fork(&mut objects.heap, purse, pid) {
         Ok(child) => {
             objects.move_on(child, behind(script, control, &Reply::Val(0)));
+            hold_directory(objects, directory);
             let reply = Reply::Val(i64::from(child));
             go_on(script, objects, pid, control, reply)
         }

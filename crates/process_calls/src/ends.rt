@@ -7,10 +7,12 @@ ghost use Rattle.posix_defs.specs.Answer.{Ended};
 ghost use Rattle.posix_defs.specs.Ending.{die, exit_status};
 ghost use Rattle.posix_defs.specs.Killing.{kill, struck};
 ghost use Rattle.posix_defs.specs.Sizes.{reserve};
+ghost use Rattle.posix_defs.specs.Tree.{Tree};
 ghost use Rattle.proc_table.specs.Procs.{IsAlive};
 ghost use Rattle.store_objects.specs.Objects.{AreKept, Runs, procs_of};
 ghost use Rattle.store_objects.specs.Standing.{Performs};
 ghost use Rattle.store_objects.specs.Uses.{UsesAtMost};
+ghost use Rattle.store_objects.specs.Working.{IsWorkedIn};
 
 use kabi_types::{Control, Reply, Script};
 use posix_defs::Turned;
@@ -22,6 +24,7 @@ fn strike(script: &Script, objects: &mut Objects, pid: u32, control: Control, ta
     requires runs { Runs objects.old pid control }
     requires other { target ≢ 1 }
     requires there { IsAlive (procs_of objects.old) target }
+    requires works { (tree : Tree) × IsWorkedIn objects.old tree }
     ensures kept { AreKept script.now objects.new }
     ensures uses { UsesAtMost objects.old.heap objects.new.heap 0 reserve }
     ensures does { (number signal : ℤ) → Performs script.now objects.old pid (Call.Kill number signal) (λ plain. struck script.now plain pid target) result objects.new }
@@ -44,6 +47,7 @@ pub fn signal_process(
 ) -> Turned
     requires kept { AreKept script.now objects.old }
     requires runs { Runs objects.old pid control }
+    requires works { (tree : Tree) × IsWorkedIn objects.old tree }
     ensures kept { AreKept script.now objects.new }
     ensures uses { UsesAtMost objects.old.heap objects.new.heap 0 reserve }
     ensures does { Performs script.now objects.old pid (Call.Kill target signal) (λ plain. kill script.now plain pid target signal) result objects.new }
@@ -62,6 +66,7 @@ pub fn signal_process(
 pub fn exit(objects: &mut Objects, pid: u32, status: i64) -> Turned
     requires kept { (script : Script) × AreKept script objects.old }
     requires runs { IsAlive (procs_of objects.old) pid }
+    requires works { (tree : Tree) × IsWorkedIn objects.old tree }
     ensures kept { (script : Script) → AreKept script objects.old → AreKept script objects.new }
     ensures uses { UsesAtMost objects.old.heap objects.new.heap 0 reserve }
     ensures does { (script : Script) → Performs script objects.old pid (Call.Exit status) (λ plain. Ended (exit_status status) (die plain pid (exit_status status))) result objects.new }

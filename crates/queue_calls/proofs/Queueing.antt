@@ -20,7 +20,7 @@ use Rattle.store_objects.specs.declared.objects.Objects.{Objects}
 use Rattle.store_objects.specs.Files.{AreSettled, HaveFiles}
 use Rattle.store_objects.specs.Objects.{AreAtCalls, AreKept, Runs, procs_of}
 use Rattle.store_objects.specs.Standing.{StandsFor}
-use Rattle.store_objects.proofs.TreesOn.{caches_on, tree_goes_on}
+use Rattle.store_objects.proofs.TreesOn.{caches_on, tree_goes_on, works_on}
 use Rattle.store_objects.specs.Trees.{CachesStay}
 use Rattle.store_objects.proofs.Keeping.{listed_in}
 use Rattle.store_objects.proofs.TreeStays.{OffNodes, off_by_heap}
@@ -126,10 +126,10 @@ module _ (script : Script) (old : Objects) (new : Heap) (is : IsKept new old.pro
     };
     memory = leads.frames;
     files = files;
-    tree = tree_goes_on script old mid world (record world { plain = next; account = account }) stands (kept_mid stands.kept) files (remains.home stands.home)
+    tree = tree_goes_on script old mid world (record world { plain = next; account = account }) stands (kept_mid stands.kept) files remains.works
         (record { tree = refl; caches = caches }) remains.tree refl refl;
     family = remains.family stands.family;
-    home = remains.home stands.home;
+    works = works_on world.plain next remains.tree remains.works stands.works;
   }
     where
       files : HaveFiles mid next.files account

@@ -9,8 +9,7 @@ use Rattle.kabi_values.specs.declared.replies.Reply.{Reply}
 use Rattle.kabi_values.specs.declared.replies.Reply.TheVariants.{Fail, Polled, Val}
 use Rattle.kabi_values.specs.declared.short_lists.PollEntry.{PollEntry}
 use Rattle.kabi_types.specs.declared.scripts.Script.{Script}
-use Rattle.kern_laws.specs.AtHome.{AllAtHome}
-use Rattle.kern_laws.proofs.Remembering.{found_before, remembers_family}
+use Rattle.kern_laws.proofs.Remembering.{remembers_family}
 use Rattle.posix_defs.specs.Answer.{Answer, Blocked, Done, Ended, Part, replied}
 use Rattle.posix_defs.specs.Calls.Opened.{Opened, answer_on, if_readable, if_writable, opened_at, opened_by}
 use Rattle.posix_defs.specs.Calls.Polling.{hits_of, poll, revents_of}
@@ -26,12 +25,14 @@ use Rattle.posix_defs.specs.Plain.{Plain, with_files}
 use Rattle.posix_defs.specs.Process.{memory_of}
 use Rattle.posix_defs.specs.Socket.{Stage, Idle, Listening, Connected, is_connected, is_shut_read}
 use Rattle.posix_defs.specs.Sockets.{Sockets, after_read as socket_after_read, free_at, sock_read, sock_write, socket_at, stage_at, write_in_stage, write_to, write_within}
+use Rattle.posix_defs.specs.World.{directories_of}
 use Rattle.store_objects.proofs.TreeStays.{OffNodes}
+use Rattle.store_objects.proofs.WorkingOn.{works_remembered}
 
 -- The machine becomes another: who is whose child, who works where, on what descriptions are open, and the tree are what they were.
 pub record Remains (plain next : Plain) : Type 0 where
   pub family : IsFamily plain.table → IsFamily next.table
-  pub home : AllAtHome plain.table → AllAtHome next.table
+  pub works : directories_of next.table ≡ directories_of plain.table
   pub descriptions : next.files.descriptions ≡ plain.files.descriptions
   pub tree : next.files.tree ≡ plain.files.tree
 
@@ -135,12 +136,12 @@ module _ (Parts : ℕ → Type 0) (script : Script) (plain : Plain) (pid : ℕ) 
 
   -- what changes the caller's control alone
   tells : (reply : Reply) → Left (replied script plain pid reply)
-  tells reply = record { family = λ is. is; home = λ is. is; descriptions = refl; tree = refl }
+  tells reply = record { family = λ is. is; works = refl; descriptions = refl; tree = refl }
 
   -- and what changes pipes or sockets
   tells_with : (files : Files) (reply : Reply) → files.descriptions ≡ plain.files.descriptions → files.tree ≡ plain.files.tree
       → Left (replied script (with_files plain files) pid reply)
-  tells_with files reply descriptions tree = record { family = λ is. is; home = λ is. is; descriptions = descriptions; tree = tree }
+  tells_with files reply descriptions tree = record { family = λ is. is; works = refl; descriptions = descriptions; tree = tree }
 
   -- and what puts bytes in memory
   puts : (files : Files) (addr : ℤ) (bytes : List ℕ) → files.descriptions ≡ plain.files.descriptions → files.tree ≡ plain.files.tree
@@ -148,7 +149,7 @@ module _ (Parts : ℕ → Type 0) (script : Script) (plain : Plain) (pid : ℕ) 
   puts files addr bytes descriptions tree =
       let memory : Memory = stored (memory_of plain.table pid) (count_of addr) bytes in record {
         family = λ is. remembers_family plain.table pid memory is;
-        home = λ home q process e. let old = found_before plain.table pid q memory process e in old.2.directory ∙ home q old.0 old.1;
+        works = works_remembered plain.table pid memory;
         descriptions = descriptions;
         tree = tree;
       }
@@ -220,7 +221,7 @@ module _ (Parts : ℕ → Type 0) (script : Script) (plain : Plain) (pid : ℕ) 
         | inl same ↦ absurd (let g : true ≡ false = sym same.0 ∙ is in cc)
         | inr other ↦ (let apart = other.1 in omega arith)
       ]),
-      record { family = λ is. is; home = λ is. is; descriptions = descriptions; tree = tree },
+      record { family = λ is. is; works = refl; descriptions = descriptions; tree = tree },
     )
 
     to_pipe : (place : ℕ) (n done : ℕ) (nonblock : Bool) (bytes : List ℕ) → ((moved : ℕ) → done + moved ≤ n → Parts moved)

@@ -73,7 +73,7 @@ module _ (script : Script) (old : Objects) (heap : Heap) (kept : IsKept heap old
         next = answered_in script base pid reply;
         stands = follows.done reply refl base
             (stands_mid script old heap kept rest world stands next account leads controls
-            (record { family = leaves.family; home = leaves.home; descriptions = leaves.descriptions; tree = leaves.tree })
+            (record { family = leaves.family; works = leaves.works; descriptions = leaves.descriptions; tree = leaves.tree })
             (settled_after world.plain (answered script next pid reply) (touched world.account pid which reply)));
         tells = (refl, refl);
         account = refl;
@@ -91,7 +91,7 @@ module _ (script : Script) (old : Objects) (heap : Heap) (kept : IsKept heap old
         next = partly_in base pid moved;
         stands = follows.part moved refl leaves.0 base
             (stands_mid script old heap kept rest world stands next account leads controls
-            (record { family = leaves.1.family; home = leaves.1.home; descriptions = leaves.1.descriptions; tree = leaves.1.tree })
+            (record { family = leaves.1.family; works = leaves.1.works; descriptions = leaves.1.descriptions; tree = leaves.1.tree })
             (settled_after world.plain after world.account));
         tells = (refl, refl);
         account = refl;
@@ -105,7 +105,7 @@ module _ (script : Script) (old : Objects) (heap : Heap) (kept : IsKept heap old
       led_blocked script new world pid which (follows.sleeps refl world
       (stands_mid script old heap kept rest world stands world.plain world.account
       (subst (λ plain. QueuesStandFor stands.files.numbers heap old.procs plain world.account) is.1 leads) refl
-      (record { family = λ family. family; home = λ home. home; descriptions = refl; tree = refl }) stands.files.settled))) leads
+      (record { family = λ family. family; works = refl; descriptions = refl; tree = refl }) stands.files.settled))) leads
   told_world world stands answer (turned.Ended status) next is leads controls leaves follows = absurd is
   told_world world stands answer turned.Gone next is leads controls leaves follows = absurd is
 

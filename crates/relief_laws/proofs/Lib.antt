@@ -1,2 +1,4 @@
 pub mod Counting
 pub mod Lowering
+pub mod Answering
+pub mod Helping

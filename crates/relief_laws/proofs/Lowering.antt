@@ -129,6 +129,9 @@ killed_fewer script old new pid noted kills =
     let fewer : living (die_in old.world.plain.table pid sigkill) < living old.world.plain.table = dead_fewer old.world.plain.table pid sigkill alive in
     subst (λ plain. living plain.table < living old.world.plain.table) (sym kills.kills.plain) fewer
 
+pub killed_less : (script : Script) (old new : CoreState) (pid : ℕ) (noted : Noted) → KillsOne script old pid noted new → IsLess (measure_of new) (measure_of old)
+killed_less script old new pid noted kills = inl (killed_fewer script old new pid noted kills)
+
 -- ---- chains of them
 
 -- with so many alive at most, and so many objects that could be evicted at most

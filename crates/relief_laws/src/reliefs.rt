@@ -1,12 +1,19 @@
 //! Laws of how far relief can go. Each is the contract of a function that does nothing.
 
-ghost use Rattle.std.specs.Prelude.{◌≡◌, ℕ};
+ghost use Rattle.std.specs.Prelude.{◌≡◌, ℕ, true, None, length};
 ghost use Rattle.kabi_types.specs.declared.entries.Cached.{Cached};
 ghost use Rattle.kabi_types.specs.declared.entries.Noted.{Noted};
 ghost use Rattle.kabi_types.specs.declared.scripts.Script.{Script};
 ghost use Rattle.posix_defs.specs.CoreEvent.{EvictsOne, KillsOne};
-ghost use Rattle.posix_defs.specs.CoreState.{CoreState};
-ghost use Rattle.relief_laws.specs.Measure.{ComesToAnEnd, IsLess, measure_of};
+ghost use Rattle.posix_defs.specs.CoreState.{CoreState, none_admitted};
+ghost use Rattle.posix_defs.specs.Ends.{end_of};
+ghost use Rattle.posix_defs.specs.SoundTasks.{IsSound};
+ghost use Rattle.kern_tasks.specs.View.{CoreView, IsAt};
+ghost use Rattle.kern_events.specs.Reliefs.{Relieves, relief_of};
+ghost use Rattle.kern_events.specs.declared.reliefs.Relief.{Relief};
+ghost use Rattle.relief_laws.specs.Measure.{ComesToAnEnd, IsHelpedInTheEnd, IsLess, Lowers, measure_of};
+
+use posix_defs::Turner;
 
 /// An eviction leaves as many processes alive and as many calls admitted, and one object fewer that could be evicted.
 pub fn an_eviction_lowers_the_measure()
@@ -25,4 +32,18 @@ pub fn a_kill_lowers_the_measure()
 /// or a kill is licensed.
 pub fn reliefs_come_to_an_end()
     ensures { (script : Script) (s : CoreState) → ComesToAnEnd script s }
+{}
+
+/// Over any store, what `relief` of a core tells and leads to, where no end stands: where it answers that it has evicted or killed,
+/// the core is in a state of a lower measure, and else it is as it was.
+pub fn relief_lowers_the_measure<T: Turner>()
+    ensures { (script : Script) (old new : CoreView T) (s : CoreState) (told : Relief) → IsAt T.stands old s → IsSound script s
+        → end_of script old.steps (length old.run) s ≡ None → told ≡ relief_of script s → Relieves T.stands script old told new
+        → Lowers T.stands s old told new }
+{}
+
+/// While no call is admitted, finitely many evictions and kills leave no call waiting in vain, make one that waits fit, or leave
+/// nobody alive but the first process; and until then one of them is always at hand.
+pub fn relief_helps_in_the_end()
+    ensures { (script : Script) (s : CoreState) → none_admitted s ≡ true → IsHelpedInTheEnd script s }
 {}

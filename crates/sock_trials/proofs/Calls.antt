@@ -32,6 +32,9 @@ use Rattle.proc_table.specs.Moves.{SpaceTurns, TableMoves}
 use Rattle.proc_table.specs.Procs.{IsAlive, proc_of}
 use Rattle.proc_table.specs.Table.{AreStored, TableView, processes, procs_at}
 use Rattle.proc_table.proofs.LawLemmas.{back-moves, back-procs}
+use Rattle.lru_index.specs.Order.{order}
+use Rattle.vnode_cache.specs.Nodes.{nodes}
+use Rattle.memfs_ops.specs.FileTree.{TreeView}
 use Rattle.store_objects.specs.declared.objects.Objects.{Objects}
 use Rattle.store_objects.proofs.Keeping.{listed_on, owners_on}
 use Rattle.store_objects.proofs.Namings.{names_in, names_nodes}
@@ -54,6 +57,10 @@ called_on old new kept same descs is can = record {
   there = can.there;
 }
 
+-- a tree of nothing, for the objects whose heap and table alone are asked about
+no_tree : TreeView
+no_tree = record { names = order [] 0; vnodes = nodes [] 0 0; blocks = order [] 0; disk = record { blocks = []; reads = 0 } }
+
 -- other numbers are open
 pub called_changed : (old new : Heap) (kept : TableView) → CanCall old kept → ChangesNumbers old new kept 1 → AreListed new kept → HasItsOwners new [] → (OpensNoNode old.descs → OpensNoNode new.descs) → CanCall new kept
 called_changed old new kept can changes listed owners nodes = record {
@@ -66,13 +73,13 @@ called_changed old new kept can changes listed owners nodes = record {
 }
   where
     before : Objects
-    before = record { heap = old; procs = kept }
+    before = record { heap = old; procs = kept; tree = no_tree }
 
     after : Objects
-    after = record { heap = new; procs = kept }
+    after = record { heap = new; procs = kept; tree = no_tree }
 
     moves : OpenMoves before after
-    moves = moves_opened before after 1 can.holds refl can.alive changes listed owners (nodes can.nodes)
+    moves = moves_opened before after 1 can.holds refl refl can.alive changes listed owners (nodes can.nodes)
 
 -- sockets are others
 pub called_sockets : (old new : Heap) (kept : TableView) → CanCall old kept → LeavesOthers old new → OwnsItsObjects new → ((named : List ℕ) → IsHeldIn old named → IsHeldIn new named) → CanCall new kept

@@ -1,5 +1,5 @@
 -- Objects whose caches have become others, with their part of the heap, and all else of which is the same.
-use Rattle.std.proofs.Common.{ℕ, List, Option, refl}
+use Rattle.std.proofs.Common.{◌≡◌, ℕ, true, List, Option, refl}
 use Rattle.kabi_types.specs.declared.scripts.Script.{Script}
 use Rattle.kheap_shelves.specs.declared.objects.Block.{Block}
 use Rattle.kheap_shelves.specs.declared.objects.Name.{Name}
@@ -7,16 +7,21 @@ use Rattle.kheap_shelves.specs.declared.objects.Vnode.{Vnode}
 use Rattle.kheap_slabs.specs.Heap.{Heap}
 use Rattle.kheap_slabs.specs.Owners.{AreOwnersOf, IsOwned, Owners}
 use Rattle.open_laws.proofs.GoingLemmas.{held_open_on}
-use Rattle.memfs_ops.specs.FileTree.{TreeView}
-use Rattle.posix_defs.specs.Files.State.{with_tree}
-use Rattle.posix_defs.specs.Plain.{with_files}
-use Rattle.posix_defs.specs.Tree.{Tree}
-use Rattle.posix_defs.specs.World.{Kept, World}
+use Rattle.memfs_ops.specs.FileTree.{Stands, TreeView, one_more}
+use Rattle.posix_defs.specs.Account.{Account}
+use Rattle.posix_defs.specs.Files.State.{Files, with_tree}
+use Rattle.posix_defs.specs.Memory.{Frames}
+use Rattle.posix_defs.specs.Plain.{Plain, with_files}
+use Rattle.posix_defs.specs.Tree.{Tree, is_directory}
+use Rattle.posix_defs.specs.World.{Kept, World, directories_of}
+use Rattle.proc_table.specs.Accounting.{HasAccount}
 use Rattle.proc_table.specs.Table.{with_procs}
 use Rattle.store_objects.specs.declared.objects.Objects.{Objects}
 use Rattle.store_objects.specs.Objects.{AreKept, procs_of}
-use Rattle.store_objects.specs.Standing.{StandsFor}
-use Rattle.store_objects.specs.Trees.{HasTree, KeepsTree}
+use Rattle.store_objects.specs.Files.{HaveFiles}
+use Rattle.store_objects.specs.Standing.{AreProcesses, HasEntered, StandsFor}
+use Rattle.store_objects.specs.Trees.{HasTree, KeepsTree, kept_by, pins_in}
+use Rattle.store_objects.specs.Working.{AreDirectories}
 use Rattle.store_objects.proofs.Opening.{files_on}
 use Rattle.store_objects.proofs.Families.{SameMemory, memory_on, processes_on}
 
@@ -62,20 +67,48 @@ module _ (script : Script) (objects : Objects) (vnodes : List (Option Vnode)) (n
     size = kept.size;
   }
 
+  same : SameMemory objects.heap new.heap
+  same = record { procs = refl; nodes = refl; pages = refl }
+
+  processes_beside : (plain next : Plain) → next.table ≡ plain.table → next.controls ≡ plain.controls → AreProcesses script objects plain → AreProcesses script new next
+  processes_beside plain next table controls are = processes_on script objects new plain next refl same table controls are
+
+  memory_beside : (frames : Frames) → HasAccount objects.heap objects.procs frames → HasAccount new.heap new.procs frames
+  memory_beside frames has = memory_on objects new frames frames refl same refl has
+
+  files_beside : (files : Files) (tree : Tree) (account : Account) → HaveFiles objects files account → HaveFiles new (with_tree files tree) account
+  files_beside files tree account have =
+      files_on objects new files (with_tree files tree) account account refl refl refl refl refl refl refl refl refl (λ number have. record { each = have.each; made = have.made }) have
+
   -- they stand for the world in which the tree, what is kept, and how much was read are others
-  pub stands_beside : (world : World) (tree : Tree) (kept : Kept) (reads : ℕ) → StandsFor script objects world → HasTree new (treed_in world tree kept reads)
-      → StandsFor script new (treed_in world tree kept reads)
-  stands_beside world tree kept reads stands has = record {
+  pub stands_beside : (world : World) (tree : Tree) (kept : Kept) (reads : ℕ) → StandsFor script objects world → AreDirectories tree (directories_of world.plain.table)
+      → HasTree new (treed_in world tree kept reads) → StandsFor script new (treed_in world tree kept reads)
+  stands_beside world tree kept reads stands works has = record {
     runs = stands.runs;
     kept = kept_beside stands.kept (tree, _, has.stands);
-    processes = processes_on script objects new world.plain (treed_in world tree kept reads).plain refl same refl refl stands.processes;
-    memory = memory_on objects new world.account.frames world.account.frames refl same refl stands.memory;
-    files = files_on objects new world.plain.files (with_tree world.plain.files tree) world.account world.account
-        refl refl refl refl refl refl refl refl refl (λ number have. record { each = have.each; made = have.made }) stands.files;
+    processes = processes_beside world.plain (treed_in world tree kept reads).plain refl refl stands.processes;
+    memory = memory_beside world.account.frames stands.memory;
+    files = files_beside world.plain.files tree world.account stands.files;
     tree = has;
     family = stands.family;
-    home = stands.home;
+    works = works;
   }
-    where
-      same : SameMemory objects.heap new.heap
-      same = record { procs = refl; nodes = refl; pages = refl }
+
+  -- and where one has entered a directory, for the world in which what is kept and how much was read are others, but that this
+  -- is held once more
+  pub entered_beside : (world : World) (directory : ℕ) → StandsFor script objects world → Stands new.heap fs world.plain.files.tree (one_more (pins_in world.plain) directory)
+      → is_directory world.plain.files.tree directory ≡ true → HasEntered script new (record world { kept = kept_by fs; reads = fs.disk.reads }) directory
+  entered_beside world directory stands now is = record {
+    runs = stands.runs;
+    kept = kept_beside stands.kept (world.plain.files.tree, one_more (pins_in world.plain) directory, now);
+    processes = processes_beside world.plain world.plain refl refl stands.processes;
+    memory = memory_beside world.account.frames stands.memory;
+    files = files_beside world.plain.files world.plain.files.tree world.account stands.files;
+    tree = now;
+    entered = is;
+    sockets = stands.tree.sockets;
+    same = refl;
+    reads = refl;
+    family = stands.family;
+    works = stands.works;
+  }

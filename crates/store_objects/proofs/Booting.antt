@@ -48,7 +48,6 @@ use Rattle.kabi_values.specs.declared.inodes.Inode.{Inode}
 use Rattle.memfs_ops.specs.FileTree.{HasNoFiles, KeepsRoot, Stands as TreeStands, TreeView, root_alone}
 use Rattle.std.specs.Map.{keys_of as keys_in}
 use Rattle.std.proofs.lemmas.Map.Entries.{length-keys_of}
-use Rattle.kern_laws.specs.AtHome.{AllAtHome}
 use Rattle.kern_laws.proofs.Bareness.{boot_bare}
 use Rattle.kern_laws.proofs.Families.{reached_kept}
 use Rattle.prog_ctl.specs.Runnable.{Rests, Stands}
@@ -396,12 +395,6 @@ boot_opens script objects control booted = record {
         by_hit true = none_by boot_numbers.descs
         by_hit false = none_by boot_numbers.descs
 
--- the first process works in the root
-boot_home : AllAtHome (Some first_process ∷ [])
-boot_home zero process is = cc
-boot_home (suc zero) process is = ap (λ p. p.directory) (some_same (Some process) process first_process refl (sym is))
-boot_home (suc (suc i)) process is = cc
-
 boot_controls : (script : Script) (control : Control) → settled script (at_start (place_of (codes "init") script.programs)) ≡ control
     → (pid : ℕ) (proc : Proc) → proc_of (record first_proc { control = control } ∷ []) pid ≡ Some proc
     → settled script (control_of (boot_plain script) pid) ≡ proc.control
@@ -429,7 +422,7 @@ boot_has_tree : (script : Script) (objects : Objects) → TreeStands objects.hea
     → objects.tree.disk.reads ≡ 0 → HasTree objects (boot_world script)
 boot_has_tree script objects stands kept unread = record {
   stands = same_pins objects.heap objects.tree (new_tree script.disk) root_alone (pins_in (boot_plain script))
-      (alone_pins (boot_plain script) (held_alone (boot_plain script) boot_home refl)) stands;
+      (alone_pins (boot_plain script) (held_alone (boot_plain script) refl refl)) stands;
   sockets = unnamed script.disk;
   kept = sym kept;
   reads = sym unread;
@@ -454,5 +447,5 @@ boot_stands_for script copy objects place control valid built same named settles
       files = boot_opens script objects control (subst (λ s. HasBooted objects s.heap s.disk control) same booted);
       tree = boot_has_tree script objects (subst (λ s. TreeStands objects.heap objects.tree (new_tree s.disk) root_alone) same booted.stands) booted.kept booted.unread;
       family = (reached_kept {script = script} boots).family;
-      home = boot_home;
+      works = (refl, tt);
     }

@@ -14,9 +14,9 @@ use Rattle.posix_defs.specs.Files.State.{Files}
 use Rattle.posix_defs.specs.Memory.{Frames, Places, after_clear, kept_from, no_places, without_dead}
 use Rattle.posix_defs.specs.Plain.{Plain, control_of, last_pid}
 use Rattle.posix_defs.specs.Process.{Table, is_alive, is_alive_in, is_there, process_at}
+use Rattle.posix_defs.specs.Tree.{Tree}
 use Rattle.posix_defs.specs.World.{World}
 use Rattle.proc_descs.specs.Having.{HaveOpen}
-use Rattle.kern_laws.proofs.AtHome.{die_home}
 use Rattle.kern_laws.proofs.Families.{dies_on, first_lives}
 use Rattle.kern_laws.proofs.Nexts.{alive_is_there, die_ends}
 use Rattle.kern_laws.proofs.TablePlaces.{each_changed}
@@ -34,7 +34,8 @@ use Rattle.proc_descs.specs.Queues.{QueuesStand}
 use Rattle.store_objects.specs.Files.{HaveFiles}
 use Rattle.store_objects.specs.Objects.{AreKept, procs_of}
 use Rattle.store_objects.specs.Standing.{AreProcesses, StandsFor, ended_in}
-use Rattle.store_objects.specs.Trees.{TreeStays}
+use Rattle.store_objects.specs.Trees.{KeptStays, NamesNoSocket}
+use Rattle.store_objects.specs.Working.{IsWorkedIn}
 use Rattle.proc_descs.proofs.Fronts.{queues_then}
 use Rattle.store_objects.proofs.Shutting.{all_shut}
 use Rattle.store_objects.proofs.EndingOthers.{alive_made, alive_runs_there}
@@ -43,7 +44,8 @@ use Rattle.store_objects.proofs.Forgetting.{forgotten}
 use Rattle.store_objects.proofs.Fronts.{fronts_stand, settled_after}
 use Rattle.store_objects.proofs.RunningProcs.{alive_is}
 use Rattle.store_objects.proofs.TreeStays.{Stays, closed_by_stays, off_by_heap}
-use Rattle.store_objects.proofs.TreesOn.{tree_goes_on, tree_then}
+use Rattle.store_objects.proofs.Pinning.{kept_then}
+use Rattle.store_objects.proofs.TreesOn.{tree_worked, worked_in, works_worked}
 
 -- whoever is dead may have been cleared before the dead are forgotten
 kept_set : (alive : ℕ → Bool) (places : List Places) (first i : ℕ) → alive (first + i) ≡ false
@@ -108,7 +110,8 @@ module _ (script : Script) (old : Objects) (world : World) (stands : StandsFor s
   pub record Closes (new : Objects) (pid : ℕ) : Type 0 where
     pub opened : (numbers : Numbers) → HaveOpen numbers old.heap old.procs plain.files → HaveOpen numbers new.heap new.procs (closed_by plain.files pid)
     pub queues : QueuesStand old.heap new.heap
-    pub tree : TreeStays old new
+    pub works : (tree : Tree) → IsWorkedIn old tree → IsWorkedIn new tree
+    pub stays : KeptStays old.tree new.tree
 
   -- the objects stand for the world in which it has ended, where processes, memory and what is open do
   ended_stands : (new : Objects) (pid status : ℕ) → AreKept script new → is_alive plain.table pid ≡ true → AreProcesses script new (die plain pid status)
@@ -119,9 +122,10 @@ module _ (script : Script) (old : Objects) (world : World) (stands : StandsFor s
     processes = are;
     memory = has;
     files = files;
-    tree = tree_goes_on script old new world (ended_in world pid status) stands kept files (die_home plain pid status stands.home) closes.tree stays.tree refl refl;
+    tree = tree_worked script new (ended_in world pid status) kept files are.table worked (subst NamesNoSocket (sym stays.tree) stands.tree.sockets)
+        (stands.tree.kept ∙ sym closes.stays.kept) (stands.tree.reads ∙ sym closes.stays.reads);
     family = (let on = dies_on plain pid status plain_kept lives in on.family);
-    home = die_home plain pid status stands.home;
+    works = works_worked new (die plain pid status).files.tree (die plain pid status).table are.table worked;
   }
     where
       before : HaveFiles old plain.files world.account
@@ -129,6 +133,9 @@ module _ (script : Script) (old : Objects) (world : World) (stands : StandsFor s
 
       stays : Stays plain.files (closed_by plain.files pid)
       stays = closed_by_stays plain.files pid (off_by_heap before.numbers old.heap before.opened.list plain.files before.opened.opened stands.kept.nodes)
+
+      worked : IsWorkedIn new (die plain pid status).files.tree
+      worked = subst (IsWorkedIn new) (sym stays.tree) (closes.works plain.files.tree (worked_in script old world stands))
 
       files : HaveFiles new (die plain pid status).files (ended_in world pid status).account
       files = record {
@@ -145,13 +152,13 @@ module _ (script : Script) (old : Objects) (world : World) (stands : StandsFor s
       → procs_of new ≡ ended pid status (map (shut pid) (procs_of old)) → IsTable new.heap new.procs (ends_in plain.table pid status)
       → HasAccount new.heap new.procs (after_clear frames pid)
       → ((numbers : Numbers) (files : Files) → HaveOpen numbers old.heap old.procs files → HaveOpen numbers new.heap new.procs (after_end_of files pid))
-      → QueuesStand old.heap new.heap → TreeStays old new → StandsFor script new (ended_in world pid status)
-  dies_other new pid status kept_new alive other last is table has opened queues tree =
+      → QueuesStand old.heap new.heap → ((tree : Tree) → IsWorkedIn old tree → IsWorkedIn new tree) → KeptStays old.tree new.tree → StandsFor script new (ended_in world pid status)
+  dies_other new pid status kept_new alive other last is table has opened queues works stays =
       ended_stands new pid status kept_new lives are
       (subst (HasAccount new.heap new.procs)
       (sym (forgotten script new (die plain pid status) (after_clear frames pid) kept_new are has)
       ∙ forget_cleared (is_alive (die plain pid status).table) frames pid dead) has)
-      (record { opened = λ numbers have. subst (HaveOpen numbers new.heap new.procs) (sym (closed pid other)) (opened numbers plain.files have); queues = queues; tree = tree })
+      (record { opened = λ numbers have. subst (HaveOpen numbers new.heap new.procs) (sym (closed pid other)) (opened numbers plain.files have); queues = queues; works = works; stays = stays })
     where
       closed : (pid : ℕ) → pid ≢ 1 → closed_by plain.files pid ≡ after_end_of plain.files pid
       closed zero apart = refl
@@ -221,9 +228,11 @@ module _ (script : Script) (old : Objects) (world : World) (stands : StandsFor s
       → ((numbers : Numbers) (files : Files) → HaveOpen numbers old.heap old.procs files → HaveOpen numbers mid.heap mid.procs (after_end_of files pid))
       → ((numbers : Numbers) (files : Files) → HaveOpen numbers mid.heap mid.procs files
       → HaveOpen numbers new.heap new.procs (after_ends_of files (range_with_len 2 (mid.procs.last - 1))))
-      → QueuesStand old.heap mid.heap → QueuesStand mid.heap new.heap → TreeStays old mid → TreeStays mid new
+      → QueuesStand old.heap mid.heap → QueuesStand mid.heap new.heap
+      → ((tree : Tree) → IsWorkedIn old tree → IsWorkedIn mid tree) → ((tree : Tree) → IsWorkedIn mid tree → IsWorkedIn new tree)
+      → KeptStays old.tree mid.tree → KeptStays mid.tree new.tree
       → StandsFor script new (ended_in world pid status)
-  dies_with_all mid new pid status same kept_new alive own others table has tables accounts opened opens queues more stays then =
+  dies_with_all mid new pid status same kept_new alive own others table has tables accounts opened opens queues more works_first works_then stays then =
       let there : IsTable mid.heap mid.procs (ends_in plain.table 1 status) = subst (λ n. IsTable mid.heap mid.procs (ends_in plain.table n status)) same table in
       let found = accounts (after_clear frames 1) (subst (λ n. HasAccount mid.heap mid.procs (after_clear frames n)) same has) in
       subst (λ n. StandsFor script new (ended_in world n status)) (sym same)
@@ -235,7 +244,8 @@ module _ (script : Script) (old : Objects) (world : World) (stands : StandsFor s
             subst (HaveOpen numbers new.heap new.procs) (all_closed (let made = have.descriptors.made in made ∙ sym own) (alive_made old pid stands.kept.holds alive))
             (opens numbers (after_end_of plain.files 1) (subst (λ n. HaveOpen numbers mid.heap mid.procs (after_end_of plain.files n)) same (opened numbers plain.files have)));
         queues = queues_then _ _ _ queues more;
-        tree = tree_then old mid new stays then;
+        works = λ tree worked. works_then tree (works_first tree worked);
+        stays = kept_then old.tree mid.tree new.tree stays then;
       }))
     where
       all_closed : length plain.files.descriptors ≡ mid.procs.last → pid ≤ old.procs.last

@@ -11,6 +11,7 @@ use Rattle.kabi_types.specs.declared.scripts.Script.{Script}
 use Rattle.kheap_shelves.specs.declared.objects.Proc.{Proc}
 use Rattle.posix_defs.specs.ByPid.{at_pid, with_pid}
 use Rattle.posix_defs.specs.Control.{after, settled}
+use Rattle.posix_defs.specs.Memory.{Frames}
 use Rattle.posix_defs.specs.Plain.{Plain, at_start, control_of, last_pid, with_control}
 use Rattle.posix_defs.specs.Files.State.{Files}
 use Rattle.posix_defs.specs.World.{World}
@@ -28,7 +29,7 @@ use Rattle.proc_table.proofs.FamilyLemmas.{proc_has_pid}
 use Rattle.proc_table.proofs.LawLemmas.{on-account, on-moves, on-procs, on-table, only_one}
 use Rattle.proc_table.proofs.OwnLemmas.{AreRising, has_it, rising_procs}
 use Rattle.store_objects.specs.declared.objects.Objects.{Objects}
-use Rattle.store_objects.specs.Objects.{AreAtCalls, AreKept, IsAtCall, MovesOn, Runs, procs_of}
+use Rattle.store_objects.specs.Objects.{AreAtCalls, AreKept, IsAtCall, MovesOn, OneChanges, Runs, procs_of}
 use Rattle.store_objects.specs.Standing.{AreProcesses, StandsFor, answered_in}
 use Rattle.store_objects.proofs.Keeping.{kept_on, moved_caches}
 use Rattle.store_objects.proofs.TreesOn.{tree_on}
@@ -105,38 +106,69 @@ refl_test n = elim (eqb_tells n n) [ inl same ↦ same.0 | inr other ↦ absurd 
 pub rising_in : (script : Script) (objects : Objects) → AreKept script objects → AreRising 0 (procs_of objects)
 rising_in script objects kept = rising_procs objects.heap.procs objects.procs.listed 0 objects.procs.last kept.holds.stored kept.holds.rising
 
--- The process goes on: its table moves, and who is there is as before but for its control.
+-- ---- one becomes another
+
+-- One process becomes another: its table moves, and all others are as before.
+module _ (script : Script) (old new : Objects) (pid : ℕ) (change : Proc → Proc) (kept : AreKept script old) (changes : OneChanges old pid change new) where
+  abbrev became : Proc
+  became = change changes.proc
+
+  pub procs_changed : procs_of new ≡ map (replaced pid became) (procs_of old)
+  procs_changed = ap (processes new.heap) changes.same ∙ on-procs old.heap new.heap old.procs pid changes.key changes.proc became kept.holds changes.turns
+
+  pub moves_changed : TableMoves old.heap old.procs new.heap new.procs
+  moves_changed = subst (TableMoves old.heap old.procs new.heap) (sym changes.same) (on-moves old.heap new.heap old.procs pid changes.key changes.proc became kept.holds changes.turns)
+
+  -- what is kept then, where it stands at its call if it runs
+  pub kept_changed : (became.status ≡ None → IsAtCall script became) → AreKept script new
+  kept_changed at =
+      kept_on script old new kept changes.tree moves_changed
+      (subst (AllByRecursion (λ proc. length proc.nodes ≡ 4)) (sym procs_changed)
+      (all_replaced (λ proc. length proc.nodes ≡ 4) (procs_of old) pid became kept.groups
+      (subst (λ nodes. length nodes ≡ 4) (sym (ap (λ proc. proc.nodes) changes.turns.same))
+      (has_it (λ proc. length proc.nodes ≡ 4) (procs_of old) pid changes.proc kept.groups changes.found))))
+      (subst (AreAtCalls script) (sym procs_changed) (all_replaced (λ proc. proc.status ≡ None → IsAtCall script proc) (procs_of old) pid became kept.calls at))
+      (λ key. ap (names_in key) procs_changed
+      ∙ names_replaced key pid changes.proc became (procs_of old) (ap (λ proc. proc.descriptors) changes.turns.same)
+      (only_one (procs_of old) 0 pid changes.proc (rising_in script old kept) changes.found))
+
+  -- its descriptors are what they were
+  pub descriptors_changed : (files : Files) (number : ℕ → ℕ) → HaveDescriptors number (procs_of old) old.procs.last files → HaveDescriptors number (procs_of new) new.procs.last files
+  descriptors_changed files number have =
+      subst (λ (procs : TableView). HaveDescriptors number (processes new.heap procs) procs.last files) (sym changes.same)
+      (by_pids number (processes new.heap old.procs) old.procs.last files
+      (have_turned old.heap new.heap old.procs pid changes.key changes.proc became number files kept.holds changes.turns
+      (by_procs number (procs_of old) old.procs.last files (rising_in script old kept) have)))
+
+  pub account_changed : (frames : Frames) → HasAccount old.heap old.procs frames → HasAccount new.heap new.procs frames
+  account_changed frames has =
+      subst (λ k. HasAccount new.heap k frames) (sym changes.same) (on-account old.heap new.heap old.procs pid changes.key changes.proc became kept.holds changes.turns frames has)
+
+  -- who is found then, and who it was
+  pub found_changed : (q : ℕ) → became.pid ≡ pid → proc_of (procs_of new) q ≡ option_map (replaced pid became) (proc_of (procs_of old) q)
+  found_changed q own = ap (λ procs. proc_of procs q) procs_changed ∙ replaced_at (procs_of old) pid became q own
+
+-- ---- it goes on at another control
+
+abbrev at_control : Control → Proc → Proc
+at_control control proc = record proc { control = control }
+
 pub procs_then : (script : Script) (old new : Objects) (pid : ℕ) (control : Control) → AreKept script old → (moves : MovesOn old pid control new)
     → procs_of new ≡ map (replaced pid (record moves.proc { control = control })) (procs_of old)
-procs_then script old new pid control kept moves =
-    ap (processes new.heap) moves.same ∙ on-procs old.heap new.heap old.procs pid moves.key moves.proc (record moves.proc { control = control }) kept.holds moves.turns
+procs_then script old new pid control kept moves = procs_changed script old new pid (at_control control) kept moves
 
 pub moves_then : (script : Script) (old new : Objects) (pid : ℕ) (control : Control) → AreKept script old → MovesOn old pid control new
     → TableMoves old.heap old.procs new.heap new.procs
-moves_then script old new pid control kept moves =
-    subst (TableMoves old.heap old.procs new.heap) (sym moves.same)
-    (on-moves old.heap new.heap old.procs pid moves.key moves.proc (record moves.proc { control = control }) kept.holds moves.turns)
+moves_then script old new pid control kept moves = moves_changed script old new pid (at_control control) kept moves
 
--- what is kept then
 pub kept_moved : (script : Script) (old new : Objects) (pid : ℕ) (control : Control) → AreKept script old → MovesOn old pid control new
     → Stands script control → Rests script control → AreKept script new
 kept_moved script old new pid control kept moves stands rests =
-    let now : Proc = record moves.proc { control = control } in
-    let procs = procs_then script old new pid control kept moves in
-    kept_on script old new kept moves.tree (moves_then script old new pid control kept moves)
-    (subst (AllByRecursion (λ proc. length proc.nodes ≡ 4)) (sym procs) (all_replaced (λ proc. length proc.nodes ≡ 4) (procs_of old) pid now kept.groups (has_it (λ proc. length proc.nodes ≡ 4) (procs_of old) pid moves.proc kept.groups moves.found)))
-    (subst (AreAtCalls script) (sym procs) (all_replaced (λ proc. proc.status ≡ None → IsAtCall script proc) (procs_of old) pid now kept.calls (λ up. record { stands = stands; rests = rests })))
-    (λ key. ap (names_in key) procs
-    ∙ names_replaced key pid moves.proc now (procs_of old) refl (only_one (procs_of old) 0 pid moves.proc (rising_in script old kept) moves.found))
+    kept_changed script old new pid (at_control control) kept moves (λ up. record { stands = stands; rests = rests })
 
--- its descriptors are what they were
 pub descriptors_moved : (script : Script) (old new : Objects) (pid : ℕ) (control : Control) (files : Files) → (kept : AreKept script old) → (moves : MovesOn old pid control new)
     → Stands script control → Rests script control → (number : ℕ → ℕ) → HaveDescriptors number (procs_of old) old.procs.last files → HaveDescriptors number (procs_of new) new.procs.last files
-descriptors_moved script old new pid control files kept moves at rests number have =
-    subst (λ (procs : TableView). HaveDescriptors number (processes new.heap procs) procs.last files) (sym moves.same)
-    (by_pids number (processes new.heap old.procs) old.procs.last files
-    (have_turned old.heap new.heap old.procs pid moves.key moves.proc (record moves.proc { control = control }) number files kept.holds moves.turns
-    (by_procs number (procs_of old) old.procs.last files (rising_in script old kept) have)))
+descriptors_moved script old new pid control files kept moves at rests number have = descriptors_changed script old new pid (at_control control) kept moves files number have
 
 -- The objects stand for the world in which its control is another, which leads to the new one; those of all others are what they
 -- were.
@@ -152,15 +184,14 @@ goes_to script old new world pid then control stands moves at rests leads = reco
     last = ap (λ k. k.last) moves.same ∙ stands.processes.last ∙ sym (length-with world.plain.controls pid then);
     controls = controls;
   };
-  memory = subst (λ k. HasAccount new.heap k world.account.frames) (sym moves.same)
-      (on-account old.heap new.heap old.procs pid moves.key moves.proc now stands.kept.holds moves.turns world.account.frames stands.memory);
+  memory = account_changed script old new pid (at_control control) stands.kept moves world.account.frames stands.memory;
   files = files_moved old new world.plain.files world.plain.files world.account world.account (moves_then script old new pid control stands.kept moves)
       refl refl refl refl refl (descriptors_moved script old new pid control world.plain.files stands.kept moves at rests) stands.files;
   tree = tree_on old new world (record world { plain = with_control world.plain pid then })
       (record { tree = moves.tree; caches = moved_caches old.heap new.heap old.procs new.procs (moves_then script old new pid control stands.kept moves) })
       refl refl refl refl stands.tree;
   family = stands.family;
-  home = stands.home;
+  works = stands.works;
 }
   where
     now : Proc
@@ -176,7 +207,7 @@ goes_to script old new world pid then control stands moves at rests leads = reco
         → settled script (control_of (with_control world.plain pid then) q) ≡ it.control
     controls q it found runs =
         let was = mapped_from (replaced pid now) (proc_of (procs_of old) q) it
-        (sym (replaced_at (procs_of old) pid now q own) ∙ ap (λ procs. proc_of procs q) (sym (procs_then script old new pid control stands.kept moves)) ∙ found) in
+        (sym (found_changed script old new pid (at_control control) stands.kept moves q own) ∙ found) in
         let old_pid : was.0.pid ≡ q = proc_has_pid (procs_of old) q was.0 was.1 in
         elim (eqb_tells q pid) [
           | inl same ↦

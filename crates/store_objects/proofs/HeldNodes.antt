@@ -1,24 +1,23 @@
--- The nodes that are held are those that are pinned; and where everybody works in the root and no node is opened, the root alone.
-use Rattle.std.proofs.Common.{◌≡◌, ℕ, zero, suc, ◌+◌, ◌<◌, ◌==◌, ◌||◌, Bool, true, false, cond, List, [], ◌∷◌, ◌++◌, Option, None, Some, refl, ap, sym, ◌∙◌, inl, inr, arith}
+-- The nodes that are held are those that are pinned; and where one works in the root and no node is opened, the root alone.
+use Rattle.std.proofs.Common.{◌≡◌, ℕ, ◌+◌, ◌<◌, ◌==◌, ◌||◌, Bool, true, false, cond, List, [], ◌∷◌, ◌++◌, refl, ap, sym, ◌∙◌, subst, inl, inr, arith}
 use Rattle.std.specs.Prelude.{count_by}
+use Rattle.std.specs.List.{list_any}
 use Rattle.std.proofs.lemmas.Bool.Decides.{eqb_tells}
 use Rattle.std.proofs.lemmas.List.Folds.{list_any-append}
 use Rattle.std.proofs.lemmas.List.Sums.{sum_by-cons}
-use Rattle.kern_laws.specs.AtHome.{AllAtHome}
 use Rattle.memfs_ops.specs.FileTree.{root_alone}
 use Rattle.posix_defs.specs.Files.State.{opened_nodes}
 use Rattle.posix_defs.specs.Plain.{Plain, root}
-use Rattle.posix_defs.specs.Process.{Process, Table, runs}
 use Rattle.posix_defs.specs.World.{directories_of, distinct, is_in, pinned_nodes}
 use Rattle.store_objects.specs.Trees.{but_root, held_nodes, pins_in}
 
 -- 1 for what passes
-abbrev one_if : Bool → ℕ
+abbrev pub one_if : Bool → ℕ
 one_if passes = cond passes 1 0
 
 -- ---- among some numbers
 
-whole : (n m : ℕ) (ms : List ℕ) → count_by (λ k. k == n) (m ∷ ms) ≡ one_if (m == n) + count_by (λ k. k == n) ms
+pub whole : (n m : ℕ) (ms : List ℕ) → count_by (λ k. k == n) (m ∷ ms) ≡ one_if (m == n) + count_by (λ k. k == n) ms
 whole n m ms = sum_by-cons (λ k. one_if (k == n)) m ms
 
 -- a number that is among some is counted there, and the other way round
@@ -95,22 +94,9 @@ held_pinned plain n some = pinned_same plain n ∙ counts_in n (held_nodes plain
 
 -- ---- the root alone
 
-further : (there : Option Process) (table : Table) → AllAtHome (there ∷ table) → AllAtHome table
-further there table home zero process e = cc
-further there table home (suc i) process e = home (suc (suc i)) process e
-
-none_away : (table : Table) → AllAtHome table → but_root (directories_of table) ≡ []
-none_away [] home = refl
-none_away (None ∷ table) home = none_away table (further None table home)
-none_away (Some process ∷ table) home = go (runs process.status) (none_away table (further (Some process) table home))
-  where
-    go : (b : Bool) → but_root (directories_of table) ≡ [] → but_root (cond b (process.directory ∷ directories_of table) (directories_of table)) ≡ []
-    go true rest = ap (λ n. cond (n == root) (but_root (directories_of table)) (n ∷ but_root (directories_of table))) (home 1 process refl) ∙ rest
-    go false rest = rest
-
-pub held_alone : (plain : Plain) → AllAtHome plain.table → opened_nodes plain.files ≡ [] → held_nodes plain ≡ root ∷ []
+pub held_alone : (plain : Plain) → directories_of plain.table ≡ root ∷ [] → opened_nodes plain.files ≡ [] → held_nodes plain ≡ root ∷ []
 held_alone plain home none =
-    ap (λ opened. root ∷ opened ++ but_root (directories_of plain.table)) none ∙ ap (λ away. root ∷ away) (none_away plain.table home)
+    ap (λ opened. root ∷ opened ++ but_root (directories_of plain.table)) none ∙ ap (λ away. root ∷ but_root away) home
 
 pub alone_pins : (plain : Plain) → held_nodes plain ≡ root ∷ [] → (n : ℕ) → root_alone n ≡ pins_in plain n
 alone_pins plain alone n = sym (ap (count_by (λ k. k == n)) alone ∙ whole n root [] ∙ no_more (one_if (root == n)) (count_by (λ k. k == n) []) refl)

@@ -113,6 +113,17 @@ held_kept h fs tree pins stands number some =
     let at = stands.held.held number some in
     is_kept number fs.vnodes.order.pairs at.0 (stands.nodes.kept.only number at.0 (ap (option_map (λ (v : Vnode). v.number)) at.2 ∙ ap Some at.3))
 
+-- as much as the heap has of them
+module _ (h : Heap) (fs : TreeView) (tree : Tree) (pins : ℕ → ℕ) (stands : Stands h fs tree pins) where
+  pub as_many_names : count h.names ≡ length (kept_by fs).names
+  as_many_names = sym (length-map (keys_of fs.names.pairs) name_in ∙ length-keys_of fs.names.pairs ∙ stands.names.many)
+
+  pub as_many_blocks : count h.blocks ≡ length (kept_by fs).blocks
+  as_many_blocks = sym (length-keys_of fs.blocks.pairs ∙ stands.blocks.many)
+
+  pub as_many_vnodes : count h.vnodes ≡ length (kept_by fs).vnodes
+  as_many_vnodes = sym (length-keys_of fs.vnodes.order.pairs ∙ stands.nodes.kept.many)
+
 module _ (h : Heap) (fs : TreeView) (plain : Plain) (stands : Stands h fs plain.files.tree (pins_in plain)) where
   pub named : AllByRecursion IsNameKey (keys_of fs.names.pairs)
   named = each_kept same_key_laws same_name key_of IsNameKey h.names fs.names stands.names (λ slot name is. made_is_key name.dir name.name)
@@ -142,16 +153,6 @@ module _ (h : Heap) (fs : TreeView) (plain : Plain) (stands : Stands h fs plain.
     on_disk = on_disk;
     in_use = in_use;
   }
-
-  -- as much as the heap has of them
-  pub as_many_names : count h.names ≡ length (kept_by fs).names
-  as_many_names = sym (length-map (keys_of fs.names.pairs) name_in ∙ length-keys_of fs.names.pairs ∙ stands.names.many)
-
-  pub as_many_blocks : count h.blocks ≡ length (kept_by fs).blocks
-  as_many_blocks = sym (length-keys_of fs.blocks.pairs ∙ stands.blocks.many)
-
-  pub as_many_vnodes : count h.vnodes ≡ length (kept_by fs).vnodes
-  as_many_vnodes = sym (length-keys_of fs.vnodes.order.pairs ∙ stands.nodes.kept.many)
 
 -- so what is kept in a world that a store stands for may be kept there
 pub may_keep_in : (script : Script) (objects : Objects) (world : World) → StandsFor script objects world → MayKeep world.plain world.kept

@@ -8,8 +8,12 @@ pub mod HeldNodes
 pub mod OnceKept
 pub mod KeptNow
 pub mod TreesOn
+pub mod WorkPlaces
+pub mod Pinning
+pub mod WorkingOn
 pub mod PidSums
 pub mod LiveIs
+pub mod FewPins
 pub mod PageNamings
 pub mod Families
 pub mod Keeping
@@ -31,5 +35,6 @@ pub mod EndingProcs
 pub mod EndingOthers
 pub mod Closing
 pub mod EndingOne
+pub mod Moving
 pub mod Dying
 pub mod Booting

@@ -49,6 +49,7 @@ use Rattle.proc_table.proofs.SpaceLemmas.{owned_proc}
 use Rattle.store_objects.specs.declared.objects.Objects.{Objects}
 use Rattle.store_objects.specs.Objects.{AreKept, procs_of}
 use Rattle.store_objects.specs.Standing.{StandsFor}
+use Rattle.store_objects.specs.Trees.{pins_in}
 use Rattle.store_objects.proofs.Keeping.{listed_in}
 use Rattle.store_objects.proofs.KeptNow.{as_many_blocks, as_many_names, as_many_vnodes}
 use Rattle.store_objects.proofs.Peeling.{by_pid}
@@ -236,10 +237,10 @@ live_is script objects world stands whole =
     let nodes : count objects.heap.nodes ≡ nodes_named world.account.frames = nodes_all script objects world.account.frames kept whole has in
     let pages : count objects.heap.pages ≡ frames_named world.account.frames = frames_are_pages has.number objects.heap.pages world.account.frames has.numbers
     (λ key used. subst (λ n. 0 < n) (sym (has.numbers.counts key used)) (by.owned.pages.named key used)) in
-    let vnodes : count objects.heap.vnodes ≡ length world.kept.vnodes = as_many_vnodes objects.heap objects.tree world.plain stands.tree.stands ∙ ap (λ (k : Kept). length k.vnodes) (sym stands.tree.kept) in
+    let vnodes : count objects.heap.vnodes ≡ length world.kept.vnodes = as_many_vnodes objects.heap objects.tree world.plain.files.tree (pins_in world.plain) stands.tree.stands ∙ ap (λ (k : Kept). length k.vnodes) (sym stands.tree.kept) in
     let descs : count objects.heap.descs ≡ count_by is_some files.descriptions = descs_are stands.files.numbers objects.heap stands.files.opened.list files opened in
-    let names : count objects.heap.names ≡ length world.kept.names = as_many_names objects.heap objects.tree world.plain stands.tree.stands ∙ ap (λ (k : Kept). length k.names) (sym stands.tree.kept) in
-    let blocks : count objects.heap.blocks ≡ length world.kept.blocks = as_many_blocks objects.heap objects.tree world.plain stands.tree.stands ∙ ap (λ (k : Kept). length k.blocks) (sym stands.tree.kept) in
+    let names : count objects.heap.names ≡ length world.kept.names = as_many_names objects.heap objects.tree world.plain.files.tree (pins_in world.plain) stands.tree.stands ∙ ap (λ (k : Kept). length k.names) (sym stands.tree.kept) in
+    let blocks : count objects.heap.blocks ≡ length world.kept.blocks = as_many_blocks objects.heap objects.tree world.plain.files.tree (pins_in world.plain) stands.tree.stands ∙ ap (λ (k : Kept). length k.blocks) (sym stands.tree.kept) in
     let pipes : count objects.heap.pipes ≡ count_by is_some files.pipes = pipes_are stands.files.numbers objects.heap files opened.piped in
     let chunks = chunks_are stands.files.numbers objects.heap stands.files.opened.list files world.account kept.owners.objects opened stands.files.fronts in
     let socks : count objects.heap.socks ≡ count_by is_some files.sockets = socks_are stands.files.numbers objects.heap files opened.socketed in

@@ -24,7 +24,7 @@ kept_marked script objects high marks kept =
 
 pub stands_marked : (script : Script) (objects : Objects) (high marks : ℕ) (world : World) → StandsFor script objects world → StandsFor script (marked_as objects high marks) world
 stands_marked script objects high marks world stands =
-    stands_beside script objects objects.heap.vnodes objects.heap.names objects.heap.blocks high marks objects.tree world world.plain.files.tree world.kept world.reads stands
+    stands_beside script objects objects.heap.vnodes objects.heap.names objects.heap.blocks high marks objects.tree world world.plain.files.tree world.kept world.reads stands stands.works
     (tree_on objects (marked_as objects high marks) world world (record { tree = refl; caches = marked_caches objects high marks }) refl refl refl refl stands.tree)
 
 -- from a mark on high is no less than what was taken at it

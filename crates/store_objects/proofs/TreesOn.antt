@@ -1,9 +1,8 @@
 -- The tree of files goes on where its caches have the same in the heap, and the machine has the same tree, whose nodes are held as
 -- before.
-use Rattle.std.proofs.Common.{◌≡◌, ℕ, ◌<◌, ◌==◌, List, [], ◌∷◌, ap, sym, ◌∙◌, subst}
+use Rattle.std.proofs.Common.{◌≡◌, ℕ, ◌<◌, ◌==◌, List, [], ◌∷◌, ◌++◌, ap, sym, ◌∙◌, subst}
 use Rattle.std.specs.Prelude.{count_by}
 use Rattle.kabi_types.specs.declared.scripts.Script.{Script}
-use Rattle.kern_laws.specs.AtHome.{AllAtHome}
 use Rattle.kheap_slabs.specs.Heap.{Heap}
 use Rattle.block_cache.specs.Blocks.{KeepsBlocks, TrueToDisk}
 use Rattle.name_cache.specs.Names.{KeepsNames, TrueNames}
@@ -15,13 +14,16 @@ use Rattle.posix_defs.specs.Files.State.{Files, opened_nodes}
 use Rattle.posix_defs.specs.Plain.{Plain, root}
 use Rattle.posix_defs.specs.SoundDisk.{HasNode}
 use Rattle.posix_defs.specs.Tree.{Tree, found}
-use Rattle.posix_defs.specs.World.{World}
+use Rattle.posix_defs.specs.Process.{Table}
+use Rattle.posix_defs.specs.World.{World, directories_of}
+use Rattle.proc_table.specs.Standing.{IsTable}
 use Rattle.store_objects.specs.declared.objects.Objects.{Objects}
 use Rattle.store_objects.specs.Files.{HaveFiles}
-use Rattle.store_objects.specs.Objects.{AreKept}
+use Rattle.store_objects.specs.Objects.{AreKept, procs_of}
 use Rattle.store_objects.specs.Standing.{StandsFor}
-use Rattle.store_objects.specs.Trees.{CachesStay, HasTree, KeepsTree, NamesNoSocket, TreeStays, held_nodes, kept_by, pins_in}
-use Rattle.store_objects.proofs.HeldNodes.{held_alone}
+use Rattle.store_objects.specs.Trees.{CachesStay, HasTree, KeepsTree, NamesNoSocket, TreeStays, but_root, held_nodes, kept_by, pins_in}
+use Rattle.store_objects.specs.Working.{AreDirectories, IsWorkedIn, pins_by}
+use Rattle.store_objects.proofs.WorkPlaces.{directories_from}
 use Rattle.store_objects.proofs.TreeStays.{off_by_heap, off_nodes}
 
 -- over a heap that is as large, and has the same of the three classes
@@ -70,6 +72,9 @@ caches_on old new fs now same stay keeps =
 pub tree_kept : (old new : Objects) → TreeStays old new → KeepsTree old.heap old.tree → KeepsTree new.heap new.tree
 tree_kept old new stays keeps = caches_on old.heap new.heap old.tree new.tree stays.tree stays.caches keeps
 
+abbrev counted : ℕ → List ℕ → ℕ
+counted number nodes = count_by (λ node. node == number) nodes
+
 -- The tree of a world, where another world has the same of it.
 pub tree_on : (old new : Objects) (world next : World) → TreeStays old new → next.plain.files.tree ≡ world.plain.files.tree
     → held_nodes next.plain ≡ held_nodes world.plain → next.kept ≡ world.kept → next.reads ≡ world.reads → HasTree old world → HasTree new next
@@ -83,9 +88,6 @@ tree_on old new world next stays tree held kept reads has = record {
   kept = kept ∙ has.kept ∙ ap kept_by (sym stays.tree);
   reads = reads ∙ has.reads ∙ ap (λ (fs : TreeView). fs.disk.reads) (sym stays.tree);
 }
-  where
-    counted : ℕ → List ℕ → ℕ
-    counted number nodes = count_by (λ node. node == number) nodes
 
 -- what goes on is transitive
 pub caches_then : (old mid new : Heap) → CachesStay old mid → CachesStay mid new → CachesStay old new
@@ -99,21 +101,56 @@ caches_then old mid new first then = record {
 pub tree_then : (old mid new : Objects) → TreeStays old mid → TreeStays mid new → TreeStays old new
 tree_then old mid new first then = record { tree = then.tree ∙ first.tree; caches = caches_then old.heap mid.heap new.heap first.caches then.caches }
 
--- ---- today
+-- ---- who works where
 
--- a store has no node open, and all work in its root, so this alone is held
+-- a store has no node open
 pub none_opened : (objects : Objects) (files : Files) (account : Account) (script : Script) → AreKept script objects → HaveFiles objects files account → opened_nodes files ≡ []
 none_opened objects files account script kept have =
     off_nodes files (off_by_heap have.numbers objects.heap have.opened.list files have.opened.opened kept.nodes)
 
-pub held_today : (script : Script) (objects : Objects) (plain : Plain) (account : Account) → AreKept script objects → HaveFiles objects plain.files account → AllAtHome plain.table
-    → held_nodes plain ≡ root ∷ []
-held_today script objects plain account kept have home = held_alone plain home (none_opened objects plain.files account script kept have)
+-- so each node is held by who works in it
+pub held_by_procs : (script : Script) (objects : Objects) (plain : Plain) (account : Account) → AreKept script objects → HaveFiles objects plain.files account
+    → IsTable objects.heap objects.procs plain.table → (number : ℕ) → pins_in plain number ≡ pins_by (procs_of objects) number
+held_by_procs script objects plain account kept have is number =
+    ap (λ opened. counted number (root ∷ opened ++ but_root (directories_of plain.table))) (none_opened objects plain.files account script kept have)
+    ∙ ap (λ nodes. counted number (root ∷ but_root nodes)) (directories_from is.present)
 
--- so the tree goes on with each step that leaves it, what is kept and the reads
+-- the tree of a store is worked in as the machine's is
+pub worked_in : (script : Script) (objects : Objects) (world : World) → StandsFor script objects world → IsWorkedIn objects world.plain.files.tree
+worked_in script objects world stands = record {
+  stands = same_pins objects.heap objects.tree world.plain.files.tree (pins_in world.plain) (pins_by (procs_of objects))
+      (held_by_procs script objects world.plain world.account stands.kept stands.files stands.processes.table) stands.tree.stands;
+  works = subst (AreDirectories world.plain.files.tree) (directories_from stands.processes.table.present) stands.works;
+}
+
+-- and the other way round
+pub works_worked : (objects : Objects) (tree : Tree) (table : Table) → IsTable objects.heap objects.procs table → IsWorkedIn objects tree → AreDirectories tree (directories_of table)
+works_worked objects tree table is worked = subst (AreDirectories tree) (sym (directories_from is.present)) worked.works
+
+pub tree_worked : (script : Script) (objects : Objects) (world : World) → AreKept script objects → HaveFiles objects world.plain.files world.account
+    → IsTable objects.heap objects.procs world.plain.table → IsWorkedIn objects world.plain.files.tree → NamesNoSocket world.plain.files.tree
+    → world.kept ≡ kept_by objects.tree → world.reads ≡ objects.tree.disk.reads → HasTree objects world
+tree_worked script objects world kept have is worked sockets same reads = record {
+  stands = same_pins objects.heap objects.tree world.plain.files.tree (pins_by (procs_of objects)) (pins_in world.plain)
+      (λ number. sym (held_by_procs script objects world.plain world.account kept have is number)) worked.stands;
+  sockets = sockets;
+  kept = same;
+  reads = reads;
+}
+
+-- so the tree goes on with each step that leaves it, who works where, what is kept and the reads
 pub tree_goes_on : (script : Script) (old new : Objects) (world next : World) → StandsFor script old world → AreKept script new → HaveFiles new next.plain.files next.account
-    → AllAtHome next.plain.table → TreeStays old new → next.plain.files.tree ≡ world.plain.files.tree → next.kept ≡ world.kept → next.reads ≡ world.reads → HasTree new next
-tree_goes_on script old new world next stands kept have home stays tree same reads =
+    → directories_of next.plain.table ≡ directories_of world.plain.table → TreeStays old new → next.plain.files.tree ≡ world.plain.files.tree → next.kept ≡ world.kept → next.reads ≡ world.reads
+    → HasTree new next
+tree_goes_on script old new world next stands kept have works stays tree same reads =
     tree_on old new world next stays tree
-    (held_today script new next.plain next.account kept have home ∙ sym (held_today script old world.plain world.account stands.kept stands.files stands.home))
+    (ap (λ opened. root ∷ opened ++ but_root (directories_of next.plain.table)) (none_opened new next.plain.files next.account script kept have)
+    ∙ ap (λ nodes. root ∷ but_root nodes) works
+    ∙ sym (ap (λ opened. root ∷ opened ++ but_root (directories_of world.plain.table)) (none_opened old world.plain.files world.account script stands.kept stands.files)))
     same reads stands.tree
+
+-- and everybody works in a directory of it still
+pub works_on : (plain next : Plain) → next.files.tree ≡ plain.files.tree → directories_of next.table ≡ directories_of plain.table
+    → AreDirectories plain.files.tree (directories_of plain.table) → AreDirectories next.files.tree (directories_of next.table)
+works_on plain next tree same works =
+    subst (λ (t : Tree). AreDirectories t (directories_of next.table)) (sym tree) (subst (AreDirectories plain.files.tree) (sym same) works)

@@ -129,13 +129,13 @@ module _ (h : Heap) (fs : TreeView) (plain : Plain) (stands : Stands h fs plain.
 
   -- what may go is what isn't pinned
   pub may_evict : (what : Cached) → MayGo h what → can_evict plain (kept_by fs) what ≡ true
-  may_evict Name may = some_there (length (kept_by fs).names) (subst (λ n. 0 < n) (as_many_names h fs plain stands) may)
-  may_evict Block may = some_there (length (kept_by fs).blocks) (subst (λ n. 0 < n) (as_many_blocks h fs plain stands) may)
+  may_evict Name may = some_there (length (kept_by fs).names) (subst (λ n. 0 < n) (as_many_names h fs plain.files.tree (pins_in plain) stands) may)
+  may_evict Block may = some_there (length (kept_by fs).blocks) (subst (λ n. 0 < n) (as_many_blocks h fs plain.files.tree (pins_in plain) stands) may)
   may_evict Vnode may = let found = counted_passes is_loose h.vnodes may in by_slot found.0 (object h.vnodes found.0) refl found.1
 
   pub evict_may : (what : Cached) → can_evict plain (kept_by fs) what ≡ true → MayGo h what
-  evict_may Name can = subst (λ n. 0 < n) (sym (as_many_names h fs plain stands)) (there_some (length (kept_by fs).names) can)
-  evict_may Block can = subst (λ n. 0 < n) (sym (as_many_blocks h fs plain stands)) (there_some (length (kept_by fs).blocks) can)
+  evict_may Name can = subst (λ n. 0 < n) (sym (as_many_names h fs plain.files.tree (pins_in plain) stands)) (there_some (length (kept_by fs).names) can)
+  evict_may Block can = subst (λ n. 0 < n) (sym (as_many_blocks h fs plain.files.tree (pins_in plain) stands)) (there_some (length (kept_by fs).blocks) can)
   evict_may Vnode can =
       some_passes (0 < loose_count h.vnodes) is_unpinned (kept_by fs).vnodes can
       (each_kept nat_eq_equiv eqb-true (λ (v : HeldVnode). v.number) (λ node. is_unpinned node ≡ true → 0 < loose_count h.vnodes) h.vnodes fs.vnodes.order stands.nodes.kept
@@ -258,7 +258,7 @@ module _ (script : Script) (objects : Objects) (what : Cached) (heap : Heap) (fs
       } in (
         next,
         subst (λ (h : Heap). StandsFor script (record { heap = h; procs = objects.procs; tree = fs }) next) (sym beside)
-            (stands_beside script objects heap.vnodes heap.names heap.blocks objects.heap.high objects.heap.marks fs world world.plain.files.tree (kept_by fs) world.reads stands
+            (stands_beside script objects heap.vnodes heap.names heap.blocks objects.heap.high objects.heap.marks fs world world.plain.files.tree (kept_by fs) world.reads stands stands.works
             (subst (λ (h : Heap). HasTree (record { heap = h; procs = objects.procs; tree = fs }) next) beside has)),
         record {
           plain = refl;

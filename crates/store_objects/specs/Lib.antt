@@ -1,5 +1,6 @@
 pub mod Objects
 pub mod Trees
+pub mod Working
 pub mod Files
 pub mod Standing
 pub mod Uses

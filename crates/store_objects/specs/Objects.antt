@@ -33,15 +33,23 @@ pub record Runs (objects : Objects) (pid : ℕ) (control : Control) : Type 0 whe
   pub up : proc.status ≡ None
   pub at_call : proc.control ≡ control
 
--- The process of that pid has gone on at another control, and nothing else has changed.
-pub record MovesOn (old : Objects) (pid : ℕ) (control : Control) (new : Objects) : Type 0 where
+-- The process of that pid has become another, and nothing else has changed.
+pub record OneChanges (old : Objects) (pid : ℕ) (change : Proc → Proc) (new : Objects) : Type 0 where
   pub proc : Proc
   pub key : ℕ
   pub found : proc_of (procs_of old) pid ≡ Some proc
-  pub turns : ProcTurns old.heap new.heap old.procs pid key proc (record proc { control = control })
+  pub turns : ProcTurns old.heap new.heap old.procs pid key proc (change proc)
   pub same : new.procs ≡ old.procs
   pub tree : new.tree ≡ old.tree
   pub takes : TakesNothing old.heap new.heap
+
+-- it has gone on at another control
+abbrev pub MovesOn : Objects → ℕ → Control → Objects → Type 0
+MovesOn old pid control new = OneChanges old pid (λ proc. record proc { control = control }) new
+
+-- it works in another directory
+abbrev pub WorksElsewhere : Objects → ℕ → ℕ → Objects → Type 0
+WorksElsewhere old pid directory new = OneChanges old pid (λ proc. record proc { cwd = directory }) new
 
 -- who makes a call is the process of that pid, which runs
 pub record IsCaller (objects : Objects) (pid : ℕ) (caller : Caller) : Type 0 where

@@ -4,8 +4,8 @@ use Rattle.kabi_calls.specs.declared.calls.Call.{Call}
 use Rattle.kabi_values.specs.declared.replies.Reply.{Reply}
 use Rattle.kabi_types.specs.declared.scripts.Script.{Script}
 use Rattle.calls_built.specs.Built.{can_run}
-use Rattle.kern_laws.specs.AtHome.{AllAtHome}
 use Rattle.kheap_shelves.specs.declared.objects.Proc.{Proc}
+use Rattle.memfs_ops.specs.FileTree.{Stands, one_more}
 use Rattle.posix_defs.specs.Account.{account_on, with_frames}
 use Rattle.posix_defs.specs.Answer.{Answer}
 use Rattle.posix_defs.specs.Control.{settled}
@@ -13,11 +13,12 @@ use Rattle.posix_defs.specs.Ending.{die}
 use Rattle.posix_defs.specs.Family.{IsFamily}
 use Rattle.posix_defs.specs.Memory.{Frames, Memory}
 use Rattle.posix_defs.specs.MemoryCalls.{remembered}
-use Rattle.posix_defs.specs.Plain.{Plain, answered, control_of, last_pid}
-use Rattle.posix_defs.specs.Process.{is_alive}
+use Rattle.posix_defs.specs.Plain.{Plain, answered, control_of, last_pid, with_table}
+use Rattle.posix_defs.specs.Process.{is_alive, with_directory}
+use Rattle.posix_defs.specs.Tree.{is_directory}
 use Rattle.posix_defs.specs.Turn.{Tells, account_after}
 use Rattle.posix_defs.specs.ValidScript.{IsValid}
-use Rattle.posix_defs.specs.World.{World}
+use Rattle.posix_defs.specs.World.{World, directories_of}
 use Rattle.posix_defs.specs.declared.turner.Turned.{Turned}
 use Rattle.proc_table.specs.Accounting.{HasAccount}
 use Rattle.proc_table.specs.Procs.{proc_of}
@@ -25,7 +26,8 @@ use Rattle.proc_table.specs.Standing.{IsTable}
 use Rattle.store_objects.specs.declared.objects.Objects.{Objects}
 use Rattle.store_objects.specs.Files.{HaveFiles}
 use Rattle.store_objects.specs.Objects.{AreKept, procs_of}
-use Rattle.store_objects.specs.Trees.{HasTree}
+use Rattle.store_objects.specs.Trees.{HasTree, NamesNoSocket, kept_by, pins_in}
+use Rattle.store_objects.specs.Working.{AreDirectories}
 
 -- A store: its script, and its objects.
 pub record StoreView : Type 0 where
@@ -57,9 +59,24 @@ pub record StandsFor (script : Script) (objects : Objects) (world : World) : Typ
   pub files : HaveFiles objects world.plain.files world.account
   -- the disk has the machine's tree, and the caches keep what is kept of it
   pub tree : HasTree objects world
-  -- of the machine alone: who is whose child, and who works where
+  -- of the machine alone: who is whose child, and that everybody works in a directory
   pub family : IsFamily world.plain.table
-  pub home : AllAtHome world.plain.table
+  pub works : AreDirectories world.plain.files.tree (directories_of world.plain.table)
+
+-- It stands for a world but for who holds what: one more holds a directory, since a process has entered it and will work there.
+pub record HasEntered (script : Script) (objects : Objects) (world : World) (directory : ℕ) : Type 0 where
+  pub runs : MayRun script
+  pub kept : AreKept script objects
+  pub processes : AreProcesses script objects world.plain
+  pub memory : HasAccount objects.heap objects.procs world.account.frames
+  pub files : HaveFiles objects world.plain.files world.account
+  pub tree : Stands objects.heap objects.tree world.plain.files.tree (one_more (pins_in world.plain) directory)
+  pub entered : is_directory world.plain.files.tree directory ≡ true
+  pub sockets : NamesNoSocket world.plain.files.tree
+  pub same : world.kept ≡ kept_by objects.tree
+  pub reads : world.reads ≡ objects.tree.disk.reads
+  pub family : IsFamily world.plain.table
+  pub works : AreDirectories world.plain.files.tree (directories_of world.plain.table)
 
 -- ---- worlds after a step
 
@@ -75,6 +92,10 @@ remembered_in world pid memory frames = record world { plain = remembered world.
 abbrev pub ended_in : World → ℕ → ℕ → World
 ended_in world pid status =
     record world { plain = die world.plain pid status; account = account_on world.plain (die world.plain pid status) world.account }
+
+-- a process works in another directory
+abbrev pub working_in : World → ℕ → ℕ → World
+working_in world pid directory = record world { plain = with_table world.plain (with_directory world.plain.table pid directory) }
 
 -- ---- a turn
 

@@ -61,6 +61,11 @@ pub record HasTree (objects : Objects) (world : World) : Type 0 where
 
 -- ---- what leaves it
 
+-- the caches keep the same, in the order of its last use, and nothing was read
+pub record KeptStays (old new : TreeView) : Type 0 where
+  pub kept : kept_by new ≡ kept_by old
+  pub reads : new.disk.reads ≡ old.disk.reads
+
 -- the heap has the same objects of the three caches, and is as large
 pub record CachesStay (old new : Heap) : Type 0 where
   pub vnodes : new.vnodes ≡ old.vnodes

@@ -5,7 +5,7 @@ ghost use Rattle.std.specs.Option.{option_copied};
 ghost use Rattle.kheap_slabs.specs.Heap.{IsWellFormed};
 ghost use Rattle.proc_table.specs.Procs.{proc_of};
 ghost use Rattle.proc_table.specs.Table.{AreStored};
-ghost use Rattle.store_objects.specs.Objects.{IsCaller, MovesOn, is_running, procs_of};
+ghost use Rattle.store_objects.specs.Objects.{IsCaller, MovesOn, WorksElsewhere, is_running, procs_of};
 
 use kabi_types::Control;
 use kheap_shelves::Proc;
@@ -99,5 +99,22 @@ impl Objects {
             unreachable!();
         };
         self.heap.set_proc_control(key, control);
+    }
+
+    /// Has a process that is there work in another directory. Who holds which of them is left to the caller.
+    pub(crate) fn work_elsewhere(&mut self, pid: u32, directory: u32)
+        requires stored { AreStored self.old.heap.procs self.old.procs.listed }
+        requires there { IsSome (proc_of (procs_of self.old) pid) }
+        ensures { WorksElsewhere self.old pid directory self.new }
+    {
+        let Some(key) = self.procs.key_of(pid) else {
+            unreachable!();
+        };
+        let proc = *self.heap.get_proc(key);
+        let moved = Proc {
+            cwd: directory,
+            ..proc
+        };
+        self.heap.set_proc(key, moved);
     }
 }

@@ -69,6 +69,7 @@ enum Ask {
     Read(i64, i64, i64),
     Write(i64, i64, i64),
     Stat(&'static [u8]),
+    Chdir(&'static [u8]),
     Mkdir(&'static [u8]),
     Rmdir(&'static [u8]),
     Unlink(&'static [u8]),
@@ -131,6 +132,10 @@ fn call_of(ask: &Ask) -> Call
         },
         Ask::Stat(path) => match path_of(path) {
             Some(path) => Call::Stat { path },
+            None => Call::SchedYield,
+        },
+        Ask::Chdir(path) => match path_of(path) {
+            Some(path) => Call::Chdir { path },
             None => Call::SchedYield,
         },
         Ask::Mkdir(path) => match path_of(path) {
@@ -357,6 +362,7 @@ enum Trial {
     Heights,
     Evictions,
     Directories,
+    Working,
 }
 
 /// Boots a store that is told these scores, and tries this with it.
@@ -389,6 +395,7 @@ fn try_with<F: Scorer, G: Scorer>(
         Trial::Heights => high_begins(rt, &mut store),
         Trial::Evictions => what_is_cached_goes(rt, &mut store),
         Trial::Directories => directories_are_found_again(rt, &mut store),
+        Trial::Working => who_works_holds_a_directory(rt, &mut store),
     }
     drop(store);
     Ok(())
@@ -723,7 +730,7 @@ const LOOKED: &[Row] = &[
     (1, Ask::Stat(b"/a"), Told::Fails(Errno::ENOENT), 1728),
 ];
 
-/// Two directories fill the smallest heap: no further walk fits beside what is cached of them.
+/// Of two directories so much is cached that no further walk would fit beside it in the smallest heap.
 const MADE: &[Row] = &[
     (1, Ask::Mkdir(b"/a"), Told::Val(0), 2816),
     (1, Ask::Mkdir(b"/a/b"), Told::Val(0), 5184),
@@ -740,12 +747,13 @@ const FOUND: &[Row] = &[
 ];
 
 /// What goes and what gets another name is told so from then on: the old name isn't cached any more, and nothing of a directory that
-/// has gone.
+/// has gone. The move leaves a block of the directory that moved, and one of the table of nodes; with the root's entries and the map of
+/// what is free, which the next call reads besides, there are four.
 const MOVED: &[Row] = &[
     (1, Ask::Rename(b"/a/b", b"/c"), Told::Val(0), 3136),
-    (1, Ask::Rmdir(b"/a"), Told::Val(0), 2944),
-    (1, Ask::Stat(b"/a"), Told::Fails(Errno::ENOENT), 2944),
-    (1, Ask::Stat(b"/c"), Told::Directory(3, 64), 3008),
+    (1, Ask::Rmdir(b"/a"), Told::Val(0), 5120),
+    (1, Ask::Stat(b"/a"), Told::Fails(Errno::ENOENT), 5120),
+    (1, Ask::Stat(b"/c"), Told::Directory(3, 64), 5184),
 ];
 
 /// Whatever may go of a cache goes, which is no more than four objects.
@@ -758,8 +766,8 @@ fn empties<F: Scorer, G: Scorer>(store: &mut Store<F, G>, what: Cached)
     }
 }
 
-/// Nothing is left but the root's inode, and nothing of that may go.
-fn empties_all<F: Scorer, G: Scorer>(rt: &impl Abort, store: &mut Store<F, G>)
+/// Nothing is left of the caches but what is held, with which so many bytes are in use, and nothing of that may go.
+fn empties_all<F: Scorer, G: Scorer>(rt: &impl Abort, store: &mut Store<F, G>, live: u64)
     requires { (world : World) × StandsFor store.old.script store.old.objects world }
     ensures { (world : World) × StandsFor store.new.script store.new.objects world }
 {
@@ -769,7 +777,7 @@ fn empties_all<F: Scorer, G: Scorer>(rt: &impl Abort, store: &mut Store<F, G>)
     let some = store.evictable(Cached::Name)
         || store.evictable(Cached::Block)
         || store.evictable(Cached::Vnode);
-    assert!(rt; !some && store.live() == 640);
+    assert!(rt; !some && store.live() == live);
 }
 
 fn what_is_cached_goes<F: Scorer, G: Scorer>(rt: &impl Abort, store: &mut Store<F, G>)
@@ -777,7 +785,7 @@ fn what_is_cached_goes<F: Scorer, G: Scorer>(rt: &impl Abort, store: &mut Store<
 {
     go_through(rt, store, LOOKED);
     assert!(rt; store.reads() == 1);
-    empties_all(rt, store);
+    empties_all(rt, store, 640);
     go_through(rt, store, LOOKED);
     assert!(rt; store.reads() == 2);
 }
@@ -791,13 +799,64 @@ fn directories_are_found_again<F: Scorer, G: Scorer>(rt: &impl Abort, store: &mu
     requires { (world : World) × StandsFor store.old.script store.old.objects world }
 {
     go_through(rt, store, MADE);
-    empties_all(rt, store);
+    empties_all(rt, store, 640);
     go_through(rt, store, FOUND);
-    empties_all(rt, store);
+    empties_all(rt, store, 640);
     go_through(rt, store, MOVED);
 }
 
 #[test]
 fn directories_outlive_what_is_cached_of_them(rt: HostRuntime) -> Result<(), Fail> {
-    try_it(&rt, 8192, Policy::Heaviest, &Trial::Directories)
+    try_it(&rt, 16384, Policy::Heaviest, &Trial::Directories)
+}
+
+/// Who makes which call, and what is told.
+type Said = (u32, Ask, Told);
+
+fn tells_all<F: Scorer, G: Scorer>(rt: &impl Abort, store: &mut Store<F, G>, rows: &[Said])
+    requires { (world : World) × StandsFor store.old.script store.old.objects world }
+    ensures { (world : World) × StandsFor store.new.script store.new.objects world }
+{
+    for (place, (pid, ask, told)) in rows.iter().enumerate() {
+        let turned = take(rt, store, *pid, &call_of(ask));
+        assert!(rt; tells(&turned, told), "row {place}");
+    }
+}
+
+/// A child works where its parent does, and moves alone.
+const ENTERED: &[Said] = &[
+    (1, Ask::Mkdir(b"/a"), Told::Val(0)),
+    (1, Ask::Chdir(b"/b"), Told::Fails(Errno::ENOENT)),
+    (1, Ask::Chdir(b"a"), Told::Val(0)),
+    (1, Ask::Fork, Told::Val(2)),
+    (1, Ask::Chdir(b".."), Told::Val(0)),
+    (1, Ask::Rmdir(b"a"), Told::Fails(Errno::EBUSY)),
+];
+
+/// It is killed, and its directory can go.
+const LEFT: &[Said] = &[
+    (2, Ask::Stat(b"."), Told::Directory(2, 64)),
+    (1, Ask::Kill(2, 9), Told::Val(0)),
+    (1, Ask::Wait(2, 0), Told::Child(2, 9)),
+];
+
+const GONE: &[Said] = &[
+    (1, Ask::Rmdir(b"a"), Told::Val(0)),
+    (1, Ask::Chdir(b"/a"), Told::Fails(Errno::ENOENT)),
+];
+
+/// Beside the root's inode and two processes that of the directory stays, until nobody works there.
+fn who_works_holds_a_directory<F: Scorer, G: Scorer>(rt: &impl Abort, store: &mut Store<F, G>)
+    requires { (world : World) × StandsFor store.old.script store.old.objects world }
+{
+    tells_all(rt, store, ENTERED);
+    empties_all(rt, store, 1280);
+    tells_all(rt, store, LEFT);
+    empties_all(rt, store, 640);
+    tells_all(rt, store, GONE);
+}
+
+#[test]
+fn a_working_directory_stays_cached(rt: HostRuntime) -> Result<(), Fail> {
+    try_it(&rt, 16384, Policy::Heaviest, &Trial::Working)
 }

@@ -31,6 +31,30 @@ returns-in-Stat-clause-does c =
     reaches_that c.args.script.now c.args.objects.now c.stat.new.objects c.args.caller.now.pid c.args.call.now (call.Stat c.items.result.now) c.stat.result
     (c.in-Stat.is ∙ ap call.Stat (sym c.items.ensures.same)) c.stat.ensures.does
 
+pub chdir-requires-clause-runs : goal.chdir-requires-clause-runs
+chdir-requires-clause-runs c = caller_runs c.args.objects.now c.args.caller.now.pid c.args.caller.now c.requires.caller
+
+pub chdir-requires-clause-right : goal.chdir-requires-clause-right
+chdir-requires-clause-right c = right_that c.args.call.now (call.Chdir c.items-in-Chdir.result.now) c.requires.right (c.in-Chdir.is ∙ ap call.Chdir (sym c.items-in-Chdir.ensures.same))
+
+pub chdir-requires-clause-may : goal.chdir-requires-clause-may
+chdir-requires-clause-may c =
+    walks_one c.args.objects.now.heap c.purse_for-purse.result c.args.need c.args.call.now (call.Chdir c.items-in-Chdir.result.now) c.purse_for-purse.ensures.value c.requires.needed c.requires.right (c.in-Chdir.is ∙ ap call.Chdir (sym c.items-in-Chdir.ensures.same)) refl c.requires.room
+
+pub chdir-requires-clause-needed : goal.chdir-requires-clause-needed
+chdir-requires-clause-needed c =
+    has_need c.args.objects.now.heap c.purse_for-purse.result c.args.need c.args.call.now (call.Chdir c.items-in-Chdir.result.now) c.purse_for-purse.ensures.value c.requires.needed c.requires.right (c.in-Chdir.is ∙ ap call.Chdir (sym c.items-in-Chdir.ensures.same)) refl
+
+pub returns-in-Chdir-clause-uses : goal.returns-in-Chdir-clause-uses
+returns-in-Chdir-clause-uses c =
+    uses_paid c.args.objects.now.heap c.chdir.new.objects.heap c.purse_for-purse.result c.chdir.new.purse (bound c.args.call.now) _ c.chdir.ensures.paid
+    (c.purse_for-purse.ensures.within c.args.call.now c.requires.needed)
+
+pub returns-in-Chdir-clause-does : goal.returns-in-Chdir-clause-does
+returns-in-Chdir-clause-does c =
+    reaches_that c.args.script.now c.args.objects.now c.chdir.new.objects c.args.caller.now.pid c.args.call.now (call.Chdir c.items-in-Chdir.result.now) c.chdir.result
+    (c.in-Chdir.is ∙ ap call.Chdir (sym c.items-in-Chdir.ensures.same)) c.chdir.ensures.does
+
 pub mkdir-requires-clause-runs : goal.mkdir-requires-clause-runs
 mkdir-requires-clause-runs c = caller_runs c.args.objects.now c.args.caller.now.pid c.args.caller.now c.requires.caller
 
@@ -161,4 +185,4 @@ pub rename-requires-clause-bytes : goal.rename-requires-clause-bytes
 rename-requires-clause-bytes c = let paths = paths_of_it c.args.call.now (call.Rename c.items-in-Rename.result.now c.items-in-Rename-2.result.now) (c.in-Rename.is ∙ ap (λ p. call.Rename p c.in-Rename.new) (sym c.items-in-Rename.ensures.same) ∙ ap (call.Rename c.items-in-Rename.result.now) (sym c.items-in-Rename-2.ensures.same)) c.requires.paths in paths.1.0
 
 pub unreachable-requires : goal.unreachable-requires
-unreachable-requires c = none_named c.args.call.now c.requires.among c.in_default.not-Stat c.in_default.not-Mkdir c.in_default.not-Rmdir c.in_default.not-Unlink c.in_default.not-Link c.in_default.not-Rename
+unreachable-requires c = none_named c.args.call.now c.requires.among c.in_default.not-Stat c.in_default.not-Chdir c.in_default.not-Mkdir c.in_default.not-Rmdir c.in_default.not-Unlink c.in_default.not-Link c.in_default.not-Rename

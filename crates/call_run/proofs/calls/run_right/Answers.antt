@@ -7,8 +7,13 @@ use Rattle.kabi_values.specs.declared.classes.Need.{Need}
 use Rattle.posix_defs.specs.Needs.{bound, nodes_for, pages_in, pages_touched}
 use Rattle.store_objects.specs.declared.purses.Target.TheVariants.{File}
 use Rattle.store_objects.proofs.Paying.{can_pay, left_is, uses_paid}
+use Rattle.store_objects.proofs.TreesOn.{worked_in}
 use Rattle.call_run.proofs.Dispatch.{does_one, does_that, others_left}
 use Rattle.call_run.proofs.calls.run_right.Goals as goal
+
+pub fork-requires-clause-works : goal.fork-requires-clause-works
+fork-requires-clause-works c =
+    let some = c.requires.stands in (some.0.plain.files.tree, worked_in c.args.script.now c.args.objects.now some.0 some.1)
 
 pub fork-requires-clause-room : goal.fork-requires-clause-room
 fork-requires-clause-room c =

@@ -9,6 +9,7 @@ use Rattle.call_run.proofs.Killing.{high_marked, kills_in}
 use Rattle.store_objects.proofs.LiveIs.{live_is}
 use Rattle.store_objects.proofs.Marking.{kept_marked, since_mark, stands_marked}
 use Rattle.store_objects.proofs.RunningProcs.{alive_is, running}
+use Rattle.store_objects.proofs.TreesOn.{worked_in}
 use Rattle.call_run.proofs.turns.kill.Goals as goal
 use Rattle.call_run.proofs.turns.kill.Goals.{then-pid-eq-INIT-via-then-pid-eq-INIT, then-pid-eq-INIT-via-else-pid-eq-INIT+then-not-runs}
 
@@ -44,6 +45,12 @@ end-requires-clause-kept c =
     let stood = c.requires in
     let marked : AreKept stood.0 (record { heap = c.mark.new.self; procs = c.args.objects.now.procs; tree = c.args.objects.now.tree }) = rw c.mark.ensures (kept_marked stood.0 c.args.objects.now _ _ stood.2.kept) in
     (stood.0, marked)
+
+pub end-requires-clause-works : goal.end-requires-clause-works
+end-requires-clause-works c =
+    let stood = c.requires in
+    let marked : StandsFor stood.0 (record { heap = c.mark.new.self; procs = c.args.objects.now.procs; tree = c.args.objects.now.tree }) stood.1 = rw c.mark.ensures (stands_marked stood.0 c.args.objects.now _ _ stood.1 stood.2) in
+    (stood.1.plain.files.tree, worked_in stood.0 (record { heap = c.mark.new.self; procs = c.args.objects.now.procs; tree = c.args.objects.now.tree }) stood.1 marked)
 
 pub end-requires-clause-alive : goal.end-requires-clause-alive
 end-requires-clause-alive c =

@@ -7,10 +7,11 @@ use Rattle.kres_cli.proofs.program.run_words.Goals as goal
 pub returns : goal.returns
 returns g c =
     let same : c.as_slice.result.now ≡ drop 1 (into_iter_items c.args.all) = c.as_slice.ensures.value ∙ c.in-Ok.ensures in
-    inl
-    (c.run_tool-status.new.store_out,
-    subst
-    (λ words. ObeysAndKeeps words (input g.S.Source.left g.S.Source.faults c.args.source.now c.run_tool-status.new.source)
-    (output g.K.Sink.held g.K.Sink.faults g.K.Sink.put_gives c.args.sink.now c.run_tool-status.new.sink) c.run_tool-status.new.store_out c.run_tool-status.result)
-    same
-    (record { obeys = c.run_tool-status.ensures.obeys; headline = c.run_tool-status.ensures.headline; threads = c.run_tool-status.ensures.threads }))
+    inl (
+      c.run_tool-status.new.store_out,
+      subst
+          (λ words. ObeysAndKeeps words (input g.S.Source.left g.S.Source.faults c.args.source.now c.run_tool-status.new.source)
+          (output g.K.Sink.held g.K.Sink.faults g.K.Sink.put_gives c.args.sink.now c.run_tool-status.new.sink) c.run_tool-status.new.store_out c.run_tool-status.result)
+          same
+          (record { obeys = c.run_tool-status.ensures.obeys; headline = c.run_tool-status.ensures.headline; threads = c.run_tool-status.ensures.threads; causes = c.run_tool-status.ensures.causes; complete = c.run_tool-status.ensures.complete }),
+    )

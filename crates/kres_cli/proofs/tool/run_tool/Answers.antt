@@ -3,12 +3,13 @@ use Rattle.kres_cli.specs.declared.commands.Command.{Command}
 use Rattle.kres_cli.specs.declared.commands.Command.TheVariants.{OnScript}
 use Rattle.kres_cli.specs.declared.commands.Task.TheVariants.{Sim, Threads}
 use Rattle.kres_cli.specs.Tool.{CommandEnds, input, output}
+use Rattle.kres_cli.proofs.Causing.{command_cause, completes}
 use Rattle.kres_cli.proofs.Histories.{threads_keep}
 use Rattle.kres_cli.proofs.Asking.{asks_once}
 use Rattle.kres_cli.proofs.tool.run_tool.Goals as goal
 
-pub returns-in-Some-clause-obeys : goal.returns-in-Some-clause-obeys
-returns-in-Some-clause-obeys g c = record {
+obeyed : goal.returns-in-Some-clause-obeys
+obeyed g c = record {
   commands = λ command asks.
       subst
       (λ asked. CommandEnds (input g.S.Source.left g.S.Source.faults c.args.source.now c.run_by_threads.new.source)
@@ -17,6 +18,21 @@ returns-in-Some-clause-obeys g c = record {
   others = λ none. absurd (none (OnScript (Threads c.in-Some.workers)) c.in-Some.ensures);
   untouched = λ none. absurd (none (Threads c.in-Some.workers) c.in-Some.ensures);
 }
+
+pub returns-in-Some-clause-obeys : goal.returns-in-Some-clause-obeys
+returns-in-Some-clause-obeys g c = obeyed g c
+
+pub returns-in-Some-clause-complete : goal.returns-in-Some-clause-complete
+returns-in-Some-clause-complete g c =
+    completes c.args.words.now (input g.S.Source.left g.S.Source.faults c.args.source.now c.run_by_threads.new.source)
+    (output g.K.Sink.held g.K.Sink.faults g.K.Sink.put_gives c.args.sink.now c.run_by_threads.new.sink) c.run_by_threads.new.store_out c.run_by_threads.result
+    (obeyed g c)
+
+pub returns-in-Some-clause-causes : goal.returns-in-Some-clause-causes
+returns-in-Some-clause-causes g c =
+    command_cause c.args.words.now (input g.S.Source.left g.S.Source.faults c.args.source.now c.run_by_threads.new.source)
+    (output g.K.Sink.held g.K.Sink.faults g.K.Sink.put_gives c.args.sink.now c.run_by_threads.new.sink) c.run_by_threads.new.store_out
+    (OnScript (Threads c.in-Some.workers)) c.run_by_threads.result c.in-Some.ensures c.run_by_threads.ensures
 
 pub returns-in-Some-clause-headline : goal.returns-in-Some-clause-headline
 returns-in-Some-clause-headline g c = λ asks.

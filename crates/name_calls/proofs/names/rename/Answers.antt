@@ -18,7 +18,7 @@ rename_name-renamed-requires-clause-stands c =
       some.0.plain.files.tree,
       pins_in some.0.plain,
       some.1.tree.stands,
-      at_directory c.args.script.now c.args.objects.now c.args.pid c.directory_of-cwd.result c.requires.runs.proc c.requires.runs.found (c.directory_of-cwd.ensures c.requires.runs.proc c.requires.runs.found) some.0 some.1,
+      at_directory c.args.script.now c.args.objects.now c.args.pid c.directory_of-cwd.result c.requires.runs.proc c.requires.runs.found c.requires.runs.up (c.directory_of-cwd.ensures c.requires.runs.proc c.requires.runs.found) some.0 some.1,
       holds_no_socket c.args.script.now c.args.objects.now some.0 some.1,
       λ number answer told other.
           let said : answer ≡ has_node c.worked_in-held.result number = search rules in
@@ -29,7 +29,7 @@ pub go_on-requires-clause-kept : goal.go_on-requires-clause-kept
 go_on-requires-clause-kept c =
     let some = c.requires.stands in
     kept_mid c.args.script.now c.args.objects.now c.rename_name-renamed.new.heap c.rename_name-renamed.new.self c.args.purse.now c.rename_name-renamed.new.purse c.rename_name-renamed.ensures.pays
-    (led_keeps (rename_leads c.args.script.now c.args.objects.now c.args.pid c.directory_of-cwd.result c.requires.runs.proc c.requires.runs.found (c.directory_of-cwd.ensures c.requires.runs.proc c.requires.runs.found) c.rename_name-renamed.new.heap c.rename_name-renamed.new.self c.freed.result c.args.old.now c.args.new.now c.rename_name-renamed.result c.freed.ensures c.rename_name-renamed.ensures.answer some.0 some.1)) some.1.kept
+    (led_keeps (rename_leads c.args.script.now c.args.objects.now c.args.pid c.directory_of-cwd.result c.requires.runs.proc c.requires.runs.found c.requires.runs.up (c.directory_of-cwd.ensures c.requires.runs.proc c.requires.runs.found) c.rename_name-renamed.new.heap c.rename_name-renamed.new.self c.freed.result c.args.old.now c.args.new.now c.rename_name-renamed.result c.freed.ensures c.rename_name-renamed.ensures.answer some.0 some.1)) some.1.kept
 
 pub returns-clause-paid : goal.returns-clause-paid
 returns-clause-paid c = paid_on c.args.script.now c.args.objects.now c.rename_name-renamed.new.heap c.rename_name-renamed.new.self c.args.purse.now c.rename_name-renamed.new.purse c.rename_name-renamed.ensures.pays c.go_on.new.objects.heap c.go_on.ensures.takes
@@ -39,4 +39,4 @@ returns-clause-does c =
     leads c.args.script.now c.args.objects.now c.rename_name-renamed.new.heap c.rename_name-renamed.new.self c.args.purse.now c.rename_name-renamed.new.purse c.rename_name-renamed.ensures.pays
     c.args.pid (call.Rename c.args.old.now c.args.new.now) (rename_changes c.args.old.now c.args.new.now) c.requires.right c.requires.needed c.freed.result c.go_on.result c.go_on.new.objects
     (λ plain. rename c.args.script.now plain c.args.pid c.args.old.now c.args.new.now) c.go_on.ensures.told c.go_on.ensures.goes
-    (rename_leads c.args.script.now c.args.objects.now c.args.pid c.directory_of-cwd.result c.requires.runs.proc c.requires.runs.found (c.directory_of-cwd.ensures c.requires.runs.proc c.requires.runs.found) c.rename_name-renamed.new.heap c.rename_name-renamed.new.self c.freed.result c.args.old.now c.args.new.now c.rename_name-renamed.result c.freed.ensures c.rename_name-renamed.ensures.answer)
+    (rename_leads c.args.script.now c.args.objects.now c.args.pid c.directory_of-cwd.result c.requires.runs.proc c.requires.runs.found c.requires.runs.up (c.directory_of-cwd.ensures c.requires.runs.proc c.requires.runs.found) c.rename_name-renamed.new.heap c.rename_name-renamed.new.self c.freed.result c.args.old.now c.args.new.now c.rename_name-renamed.result c.freed.ensures c.rename_name-renamed.ensures.answer)

@@ -9,8 +9,9 @@ use Rattle.proc_descs.proofs.Fronts.{queues_same}
 use Rattle.proc_descs.proofs.NumberCloses.{no_some}
 use Rattle.proc_descs.proofs.NumberNames.{desc_named_by}
 use Rattle.proc_pipes.proofs.Answered.{on_it, on_nothing}
-use Rattle.proc_pipes.proofs.Changes.{named_count}
+use Rattle.proc_pipes.proofs.Changes.{changes_nothing, named_count}
 use Rattle.proc_files.specs.Holding.{HoldFiles}
+use Rattle.proc_files.proofs.Changing.{holding_closed, holding_of}
 use Rattle.proc_files.proofs.closing.close_number.Goals as goal
 
 -- ---- it isn't open
@@ -29,6 +30,10 @@ returns-in_default-clause-answers c = λ numbers others script plain hold.
 
 pub returns-in_default-clause-queues : goal.returns-in_default-clause-queues
 returns-in_default-clause-queues c = queues_same c.args.heap.now c.args.heap.now refl refl
+
+pub returns-in_default-clause-changes : goal.returns-in_default-clause-changes
+returns-in_default-clause-changes c =
+    holding_of c.args.heap.now c.args.heap.now c.args.procs.now c.args.pid (changes_nothing c.args.heap.now c.args.procs.now c.args.pid c.requires.listed c.requires.there)
 
 -- ---- it is
 
@@ -60,6 +65,9 @@ returns-clause-answers c = λ numbers others script plain hold.
       replies = on_it numbers c.args.heap.now c.args.procs.now script plain c.args.pid hold.opened c.args.fd c.in-Some._held desc.0 is desc.1 _;
       holds = subst (λ n. HoldFiles numbers others c.close_open.new.heap c.args.procs.now c.close_open.new.tree (after_close plain.files c.args.pid n)) count (c.close_open.ensures.closed numbers others plain.files hold);
     }
+
+pub returns-clause-changes : goal.returns-clause-changes
+returns-clause-changes c = holding_closed c.args.heap.now c.close_open.new.heap c.args.procs.now c.args.pid _ c.close_open.ensures.closes
 
 pub returns-clause-stays : goal.returns-clause-stays
 returns-clause-stays c = λ none.

@@ -1,18 +1,21 @@
-use Rattle.std.proofs.Common.{◌≡◌, ◌∙◌, ap, pos, refl, subst, sym, w64}
+use Rattle.std.proofs.Common.{◌≡◌, ◌<◌, ◌∙◌, ap, is_some, pos, refl, subst, sym, w64}
 use Rattle.std.specs.Prelude.{Ok}
 use Rattle.std.proofs.lemmas.Int.{to_z-of_z}
 use Rattle.kabi_values.specs.declared.replies.Reply.TheVariants.{Fail, Val}
-use Rattle.kheap_laws.proofs.PaidLemmas.{IsPaid-nothing, IsPaid-trans}
+use Rattle.kheap_laws.proofs.PaidLemmas.{IsPaid-nothing, IsPaid-trans, TakesNothing-trans}
 use Rattle.posix_defs.specs.declared.turner.Turned.TheVariants.{Done}
 use Rattle.proc_table.specs.Accounting.{HasAccount, forked_account}
 use Rattle.proc_table.specs.Changes.{forked_as}
 use Rattle.proc_table.specs.Standing.{IsTable, forked_in}
 use Rattle.store_objects.specs.declared.objects.Objects.{Objects}
-use Rattle.store_objects.specs.Objects.{AreKept, Runs}
+use Rattle.store_objects.specs.Objects.{AreKept, Runs, procs_of}
+use Rattle.store_objects.specs.Working.{pins_by}
 use Rattle.store_objects.proofs.Replies.{GoesOn}
-use Rattle.process_calls.proofs.Forking.{child_there, does_fork, does_full, kept_child, number_of, runs_still, same_objects}
+use Rattle.process_calls.proofs.Forking.{child_there, does_fork, does_full, kept_pinned, may_hold, number_of, runs_pinned, same_objects, tree_stays}
 use Rattle.process_calls.proofs.Sharing.{can_share}
-use Rattle.store_objects.proofs.GoingOn.{at_its_call}
+use Rattle.store_objects.proofs.GoingOn.{at_its_call, rising_in}
+use Rattle.store_objects.proofs.Pinning.{stands_where}
+use Rattle.store_objects.proofs.WorkPlaces.{holds_it}
 use Rattle.process_calls.proofs.children.fork.Goals as goal
 
 pub fork-requires-clause-alive : goal.fork-requires-clause-alive
@@ -37,21 +40,43 @@ move_on-requires-clause-there c =
     (record { can = can_share c.args.script.now c.args.objects.now c.args.pid c.requires.runs.proc c.requires.kept c.heap_is_well_formed.ensures c.requires.runs.found; descs = c.in-Ok.ensures.shared c.requires.runs.proc c.requires.runs.found })
     c.in-Ok.ensures.child
 
+pub directory_of-directory-requires-clause-stored : goal.directory_of-directory-requires-clause-stored
+directory_of-directory-requires-clause-stored c = c.requires.kept.holds.stored
+
+pub directory_of-directory-requires-clause-there : goal.directory_of-directory-requires-clause-there
+directory_of-directory-requires-clause-there c = ap is_some c.requires.runs.found
+
+pub hold_directory-requires : goal.hold_directory-requires
+hold_directory-requires c = record {
+  held = λ other.
+      let old = c.args.objects.now in
+      let worked = c.requires.works in
+      let at = c.directory_of-directory.ensures c.requires.runs.proc c.requires.runs.found in (
+        worked.0,
+        pins_by (procs_of old),
+        stands_where old c.move_on.new.self worked.0 (pins_by (procs_of old))
+            (tree_stays c.args.script.now c.args.objects.now (record { heap = c.fork.new.heap; procs = c.fork.new.self; tree = c.args.objects.now.tree }) c.move_on.new.self c.args.pid c.in-Ok.child c.args.control c.behind.result
+            c.requires.kept c.requires.runs c.fork.ensures.moves refl (record { can = can_share c.args.script.now c.args.objects.now c.args.pid c.requires.runs.proc c.requires.kept c.heap_is_well_formed.ensures c.requires.runs.found; descs = c.in-Ok.ensures.shared c.requires.runs.proc c.requires.runs.found })
+            c.in-Ok.ensures.child (number_of _ _ c.in-Ok.child (sym c.in-Ok.is ∙ c.fork.ensures.answer)) c.move_on.ensures) worked.1.stands,
+        subst (λ n. 0 < pins_by (procs_of old) n) (sym at)
+            (holds_it c.args.pid (procs_of old) 0 c.requires.runs.proc (rising_in c.args.script.now old c.requires.kept) c.requires.runs.found c.requires.runs.up (λ same. other (at ∙ same))),
+        may_hold c.args.script.now old c.in-Ok.child c.directory_of-directory.result c.requires.kept (sym c.in-Ok.is ∙ c.fork.ensures.answer),
+      );
+}
+
 pub go_on-requires-clause-kept : goal.go_on-requires-clause-kept
 go_on-requires-clause-kept c =
-    kept_child c.args.script.now c.args.objects.now (record { heap = c.fork.new.heap; procs = c.fork.new.self; tree = c.args.objects.now.tree }) c.move_on.new.self c.args.pid c.in-Ok.child c.args.control c.behind.result
-    c.requires.kept c.requires.runs c.fork.ensures.moves refl
-    (record { can = can_share c.args.script.now c.args.objects.now c.args.pid c.requires.runs.proc c.requires.kept c.heap_is_well_formed.ensures c.requires.runs.found; descs = c.in-Ok.ensures.shared c.requires.runs.proc c.requires.runs.found })
-    c.in-Ok.ensures.child
-    (number_of _ _ c.in-Ok.child (sym c.in-Ok.is ∙ c.fork.ensures.answer)) c.move_on.ensures c.behind.ensures.stands c.behind.ensures.rests
+    kept_pinned c.args.script.now c.args.objects.now (record { heap = c.fork.new.heap; procs = c.fork.new.self; tree = c.args.objects.now.tree }) c.move_on.new.self c.hold_directory.new.objects c.args.pid c.in-Ok.child c.directory_of-directory.result c.args.control c.behind.result
+    c.requires.kept c.requires.runs c.fork.ensures.moves refl (record { can = can_share c.args.script.now c.args.objects.now c.args.pid c.requires.runs.proc c.requires.kept c.heap_is_well_formed.ensures c.requires.runs.found; descs = c.in-Ok.ensures.shared c.requires.runs.proc c.requires.runs.found })
+    c.in-Ok.ensures.child (number_of _ _ c.in-Ok.child (sym c.in-Ok.is ∙ c.fork.ensures.answer)) c.move_on.ensures
+    (c.directory_of-directory.ensures c.requires.runs.proc c.requires.runs.found) c.hold_directory.ensures.only c.hold_directory.ensures.stands c.behind.ensures.stands c.behind.ensures.rests
 
 pub go_on-requires-clause-runs : goal.go_on-requires-clause-runs
 go_on-requires-clause-runs c =
-    runs_still c.args.script.now c.args.objects.now (record { heap = c.fork.new.heap; procs = c.fork.new.self; tree = c.args.objects.now.tree }) c.move_on.new.self c.args.pid c.in-Ok.child c.args.control c.behind.result
-    c.requires.kept c.requires.runs c.fork.ensures.moves refl
-    (record { can = can_share c.args.script.now c.args.objects.now c.args.pid c.requires.runs.proc c.requires.kept c.heap_is_well_formed.ensures c.requires.runs.found; descs = c.in-Ok.ensures.shared c.requires.runs.proc c.requires.runs.found })
-    c.in-Ok.ensures.child
-    (number_of _ _ c.in-Ok.child (sym c.in-Ok.is ∙ c.fork.ensures.answer)) c.move_on.ensures
+    runs_pinned c.args.script.now c.args.objects.now (record { heap = c.fork.new.heap; procs = c.fork.new.self; tree = c.args.objects.now.tree }) c.move_on.new.self c.hold_directory.new.objects c.args.pid c.in-Ok.child c.directory_of-directory.result c.args.control c.behind.result
+    c.requires.kept c.requires.runs c.fork.ensures.moves refl (record { can = can_share c.args.script.now c.args.objects.now c.args.pid c.requires.runs.proc c.requires.kept c.heap_is_well_formed.ensures c.requires.runs.found; descs = c.in-Ok.ensures.shared c.requires.runs.proc c.requires.runs.found })
+    c.in-Ok.ensures.child (number_of _ _ c.in-Ok.child (sym c.in-Ok.is ∙ c.fork.ensures.answer)) c.move_on.ensures
+    (c.directory_of-directory.ensures c.requires.runs.proc c.requires.runs.found) c.hold_directory.ensures.only c.hold_directory.ensures.stands
 
 pub go_on-requires-in-Err-clause-kept : goal.go_on-requires-in-Err-clause-kept
 go_on-requires-in-Err-clause-kept c =
@@ -67,7 +92,8 @@ returns-in-Ok-clause-paid c =
     IsPaid-trans c.args.objects.now.heap c.args.purse.now c.fork.new.heap c.fork.new.purse c.go_on.new.objects.heap c.fork.new.purse c.fork.ensures.paid
     (IsPaid-trans c.fork.new.heap c.fork.new.purse c.move_on.new.self.heap c.fork.new.purse c.go_on.new.objects.heap c.fork.new.purse
     (IsPaid-nothing c.fork.new.heap c.move_on.new.self.heap c.fork.new.purse c.fork.new.purse c.move_on.ensures.takes refl refl)
-    (IsPaid-nothing c.move_on.new.self.heap c.go_on.new.objects.heap c.fork.new.purse c.fork.new.purse c.go_on.ensures.takes refl refl))
+    (IsPaid-nothing c.move_on.new.self.heap c.go_on.new.objects.heap c.fork.new.purse c.fork.new.purse
+    (TakesNothing-trans c.move_on.new.self.heap c.hold_directory.new.objects.heap c.go_on.new.objects.heap c.hold_directory.ensures.takes c.go_on.ensures.takes) refl refl))
 
 pub returns-in-Err-clause-paid : goal.returns-in-Err-clause-paid
 returns-in-Err-clause-paid c =
@@ -80,16 +106,17 @@ returns-in-Ok-clause-does c =
     let mid : Objects = record { heap = c.fork.new.heap; procs = c.fork.new.self; tree = c.args.objects.now.tree } in
     let answer : Ok c.in-Ok.child ≡ forked_as _ c.args.objects.now.procs.last = sym c.in-Ok.is ∙ c.fork.ensures.answer in
     let value : _ ≡ pos c.in-Ok.child = to_z-of_z w64 c.from.result (record { sfits = c.from.type_inv }) ∙ c.from.ensures in
-    does_fork script c.args.objects.now mid c.move_on.new.self c.args.pid c.in-Ok.child c.args.control c.behind.result
+    does_fork script c.args.objects.now mid c.move_on.new.self c.hold_directory.new.objects c.args.pid c.in-Ok.child c.directory_of-directory.result c.args.control c.behind.result
     c.requires.kept c.requires.runs c.fork.ensures.moves refl
     (record { can = can_share c.args.script.now c.args.objects.now c.args.pid c.requires.runs.proc c.requires.kept c.heap_is_well_formed.ensures c.requires.runs.found; descs = c.in-Ok.ensures.shared c.requires.runs.proc c.requires.runs.found })
     c.in-Ok.ensures.child (number_of _ _ c.in-Ok.child answer) c.move_on.ensures
+    (c.directory_of-directory.ensures c.requires.runs.proc c.requires.runs.found) c.hold_directory.ensures.only c.hold_directory.ensures.stands
     c.go_on.new.objects c.go_on.result c.behind.ensures.stands c.behind.ensures.rests answer
     (λ table is. subst (λ r. IsTable c.fork.new.heap c.fork.new.self (forked_in table c.args.pid r)) c.in-Ok.is (c.fork.ensures.table table is))
     (λ frames has. subst (λ r. HasAccount c.fork.new.heap c.fork.new.self (forked_account frames c.args.pid r)) c.in-Ok.is (c.fork.ensures.account frames has))
     c.behind.ensures.leads
     (c.go_on.ensures.told ∙ ap (λ z. Done (Val z)) value)
-    (subst (λ z. GoesOn script c.move_on.new.self c.args.pid (Val z) c.go_on.new.objects) value c.go_on.ensures.goes)
+    (subst (λ z. GoesOn script c.hold_directory.new.objects c.args.pid (Val z) c.go_on.new.objects) value c.go_on.ensures.goes)
 
 pub returns-in-Err-clause-does : goal.returns-in-Err-clause-does
 returns-in-Err-clause-does c =

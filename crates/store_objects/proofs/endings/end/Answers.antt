@@ -5,7 +5,10 @@ use Rattle.store_objects.proofs.Paying.{uses_nothing, uses_then}
 use Rattle.store_objects.proofs.endings.end.Goals as goal
 
 pub end_others-requires : goal.end_others-requires
-end_others-requires c = record { kept = (c.requires.kept.0, c.end_one.ensures.kept c.requires.kept.0 c.requires.kept.1) }
+end_others-requires c = record {
+  kept = (c.requires.kept.0, c.end_one.ensures.kept c.requires.kept.0 c.requires.kept.1);
+  works = (c.requires.works.0, c.end_one.ensures.works c.requires.works.0 c.requires.works.1);
+}
 
 pub returns-then-pid-eq-INIT-clause-kept : goal.returns-then-pid-eq-INIT-clause-kept
 returns-then-pid-eq-INIT-clause-kept c = λ script kept. c.end_others.ensures.kept script (c.end_one.ensures.kept script kept)
@@ -19,7 +22,7 @@ returns-then-pid-eq-INIT-clause-dies c = λ script world stands.
     c.requires.alive c.end_one.ensures.last c.end_others.ensures.last (c.end_one.ensures.table world.plain.table stands.processes.table)
     (c.end_one.ensures.account world.account.frames stands.memory)
     c.end_others.ensures.table c.end_others.ensures.account c.end_one.ensures.opened c.end_others.ensures.opened c.end_one.ensures.queues c.end_others.ensures.queues
-    c.end_one.ensures.tree c.end_others.ensures.tree
+    c.end_one.ensures.works c.end_others.ensures.works c.end_one.ensures.stays c.end_others.ensures.stays
 
 pub returns-else-pid-eq-INIT-clause-kept : goal.returns-else-pid-eq-INIT-clause-kept
 returns-else-pid-eq-INIT-clause-kept c = c.end_one.ensures.kept
@@ -29,7 +32,7 @@ returns-else-pid-eq-INIT-clause-dies c = λ script world stands.
     dies_other script c.args.objects.now world stands c.end_one.new.objects c.args.pid c.args.status
     (c.end_one.ensures.kept script stands.kept)
     c.requires.alive c.if-pid-eq-INIT.false c.end_one.ensures.last c.end_one.ensures.ended (c.end_one.ensures.table world.plain.table stands.processes.table)
-    (c.end_one.ensures.account world.account.frames stands.memory) c.end_one.ensures.opened c.end_one.ensures.queues c.end_one.ensures.tree
+    (c.end_one.ensures.account world.account.frames stands.memory) c.end_one.ensures.opened c.end_one.ensures.queues c.end_one.ensures.works c.end_one.ensures.stays
 
 pub returns-then-pid-eq-INIT-clause-others : goal.returns-then-pid-eq-INIT-clause-others
 returns-then-pid-eq-INIT-clause-others c = λ other. absurd (other c.if-pid-eq-INIT.true)

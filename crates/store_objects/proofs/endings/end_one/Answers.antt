@@ -1,110 +1,86 @@
-use Rattle.std.proofs.Common.{◌≡◌, ◌∙◌, ap, map, refl, subst, sym}
-use Rattle.kheap_slabs.specs.Heap.{Heap}
+use Rattle.std.proofs.Common.{◌≡◌, ◌≢◌, ◌<◌, ◌∙◌, ap, is_some, map, subst, sym}
 use Rattle.kheap_laws.proofs.PaidLemmas.{TakesNothing-trans}
 use Rattle.posix_defs.specs.Files.Closing.{after_end_of}
-use Rattle.proc_table.specs.Changes.{ended}
-use Rattle.proc_table.specs.Procs.{HasClosed}
+use Rattle.posix_defs.specs.Memory.{after_clear}
+use Rattle.posix_defs.specs.Plain.{root}
+use Rattle.posix_defs.specs.Tree.{Tree}
+use Rattle.proc_descs.proofs.Fronts.{queues_then}
+use Rattle.proc_table.specs.Standing.{ends_in}
 use Rattle.store_objects.specs.declared.objects.Objects.{Objects}
-use Rattle.store_objects.specs.Endings.{shut}
-use Rattle.store_objects.specs.Objects.{procs_of}
-use Rattle.store_objects.proofs.Shutting.{has_shut}
-use Rattle.proc_descs.proofs.Fronts.{queues_same, queues_then}
-use Rattle.store_objects.proofs.Closing.{alive_shut, kept_shut, shut_account, shut_caches, shut_procs, shut_table}
-use Rattle.store_objects.proofs.EndingOne.{has_key, opens_ended}
-use Rattle.store_objects.proofs.EndingProcs.{kept_ended}
-use Rattle.store_objects.proofs.Keeping.{listed_in, moved_caches}
-use Rattle.store_objects.proofs.TreesOn.{caches_then}
+use Rattle.store_objects.specs.Objects.{AreKept, procs_of}
+use Rattle.store_objects.specs.Working.{IsWorkedIn, pins_by}
+use Rattle.store_objects.proofs.WorkPlaces.{holds_it, root_stays}
+use Rattle.store_objects.proofs.EndingOne.{worked_ended}
+use Rattle.store_objects.proofs.GoingOn.{rising_in}
+use Rattle.store_objects.proofs.Pinning.{kept_then, kept_where, pinned_account, pinned_kept, pinned_open, pinned_procs, pinned_queues, pinned_stays, pinned_table, stands_where}
 use Rattle.store_objects.proofs.endings.end_one.Goals as goal
 
-pub close_all-requires-clause-listed : goal.close_all-requires-clause-listed
-close_all-requires-clause-listed c = let some = c.requires.kept in listed_in some.0 c.args.objects.now some.1
+pub directory_of-directory-requires-clause-stored : goal.directory_of-directory-requires-clause-stored
+directory_of-directory-requires-clause-stored c = c.requires.kept.1.holds.stored
 
-pub close_all-requires-clause-owners : goal.close_all-requires-clause-owners
-close_all-requires-clause-owners c = c.requires.kept.1.owners
+pub directory_of-directory-requires-clause-there : goal.directory_of-directory-requires-clause-there
+directory_of-directory-requires-clause-there c = ap is_some c.requires.alive.there
 
-pub close_all-requires-clause-there : goal.close_all-requires-clause-there
-close_all-requires-clause-there c = let some = c.requires.kept in has_key some.0 c.args.objects.now c.args.pid some.1 c.requires.alive
+pub let_go-requires : goal.let_go-requires
+let_go-requires c = record {
+  held = λ other.
+      let some = c.requires.kept in
+      let worked = c.requires.works in
+      let old = c.args.objects.now in
+      let proc = c.requires.alive.proc in
+      let at : c.directory_of-directory.result ≡ proc.cwd = c.directory_of-directory.ensures proc c.requires.alive.there in
+      let away : proc.cwd ≢ root = λ same. other (at ∙ same) in (
+        worked.0,
+        pins_by (procs_of old),
+        stands_where old c.shut_down.new.objects worked.0 (pins_by (procs_of old)) c.shut_down.ensures.tree worked.1.stands,
+        subst (λ n. 0 < pins_by (procs_of old) n) (sym at) (holds_it c.args.pid (procs_of old) 0 proc (rising_in some.0 old some.1) c.requires.alive.there c.requires.alive.runs away),
+        root_stays (procs_of old) c.directory_of-directory.result other,
+      );
+}
 
-pub close_all-requires-clause-nodes : goal.close_all-requires-clause-nodes
-close_all-requires-clause-nodes c = c.requires.kept.1.nodes
-
--- once it has closed all
-pub end-requires-clause-holds : goal.end-requires-clause-holds
-end-requires-clause-holds c =
+pub returns-clause-works : goal.returns-clause-works
+returns-clause-works c = λ tree worked.
     let some = c.requires.kept in
-    let old = c.args.objects.now in
-    let mid : Objects = record { heap = c.close_all.new.heap; procs = old.procs; tree = old.tree } in
-    (kept_shut some.0 old mid c.args.pid some.1 refl refl c.close_all.ensures.closes c.close_all.ensures.listed c.close_all.ensures.owners c.close_all.ensures.nodes).holds
-
-pub end-requires-clause-alive : goal.end-requires-clause-alive
-end-requires-clause-alive c =
-    let some = c.requires.kept in
-    let old = c.args.objects.now in
-    let mid : Objects = record { heap = c.close_all.new.heap; procs = old.procs; tree = old.tree } in
-    alive_shut old mid c.args.pid (shut_procs old.heap mid.heap old.procs c.args.pid some.1.holds c.close_all.ensures.closes) c.requires.alive
-
-pub end-requires-clause-closed : goal.end-requires-clause-closed
-end-requires-clause-closed c =
-    let some = c.requires.kept in
-    let old = c.args.objects.now in
-    subst (λ procs. HasClosed procs c.args.pid) (sym (shut_procs old.heap c.close_all.new.heap old.procs c.args.pid some.1.holds c.close_all.ensures.closes)) (has_shut c.args.pid (procs_of old))
+    worked_ended some.0 c.args.objects.now c.shut_down.new.objects c.let_go.new.objects c.args.pid c.args.status c.directory_of-directory.result c.requires.alive.proc tree
+    some.1 c.requires.alive.there c.requires.alive.runs (c.directory_of-directory.ensures c.requires.alive.proc c.requires.alive.there)
+    c.shut_down.ensures.tree c.shut_down.ensures.ended c.let_go.ensures.only (c.let_go.ensures.stands tree) worked
 
 pub returns-clause-kept : goal.returns-clause-kept
 returns-clause-kept c = λ script kept.
-    let old = c.args.objects.now in
-    let pid = c.args.pid in
-    let mid : Objects = record { heap = c.close_all.new.heap; procs = old.procs; tree = old.tree } in
-    let new : Objects = record { heap = c.end.new.heap; procs = c.end.new.self; tree = old.tree } in
-    let is : procs_of mid ≡ map (shut pid) (procs_of old) = shut_procs old.heap mid.heap old.procs pid kept.holds c.close_all.ensures.closes in
-    kept_ended script mid new pid c.args.status
-    (kept_shut script old mid pid kept refl refl c.close_all.ensures.closes c.close_all.ensures.listed c.close_all.ensures.owners c.close_all.ensures.nodes) refl
-    (subst (λ procs. HasClosed procs pid) (sym is) (has_shut pid (procs_of old))) c.end.ensures.moves c.end.ensures.ended
+    let some = c.requires.kept in
+    let worked = c.requires.works in
+    let then : IsWorkedIn c.let_go.new.objects worked.0 =
+    worked_ended some.0 c.args.objects.now c.shut_down.new.objects c.let_go.new.objects c.args.pid c.args.status c.directory_of-directory.result c.requires.alive.proc worked.0
+    some.1 c.requires.alive.there c.requires.alive.runs (c.directory_of-directory.ensures c.requires.alive.proc c.requires.alive.there)
+    c.shut_down.ensures.tree c.shut_down.ensures.ended c.let_go.ensures.only (c.let_go.ensures.stands worked.0) worked.1 in
+    pinned_kept c.shut_down.new.objects c.let_go.new.objects c.let_go.ensures.only script (c.shut_down.ensures.kept script kept)
+    (worked.0, pins_by (procs_of c.let_go.new.objects), then.stands)
+
+pub returns-clause-last : goal.returns-clause-last
+returns-clause-last c = ap (λ view. view.last) c.let_go.ensures.only.procs ∙ c.shut_down.ensures.last
 
 pub returns-clause-ended : goal.returns-clause-ended
-returns-clause-ended c =
-    let some = c.requires.kept in
-    let old = c.args.objects.now in
-    c.end.ensures.ended ∙ ap (ended c.args.pid c.args.status) (shut_procs old.heap c.close_all.new.heap old.procs c.args.pid some.1.holds c.close_all.ensures.closes)
+returns-clause-ended c = pinned_procs c.shut_down.new.objects c.let_go.new.objects c.let_go.ensures.only ∙ c.shut_down.ensures.ended
 
 pub returns-clause-table : goal.returns-clause-table
 returns-clause-table c = λ table is.
-    let some = c.requires.kept in
-    let old = c.args.objects.now in
-    c.end.ensures.table table (shut_table old.heap c.close_all.new.heap old.procs c.args.pid some.1.holds c.close_all.ensures.closes table is)
+    pinned_table c.shut_down.new.objects c.let_go.new.objects c.let_go.ensures.only (ends_in table c.args.pid c.args.status) (c.shut_down.ensures.table table is)
 
 pub returns-clause-account : goal.returns-clause-account
 returns-clause-account c = λ frames has.
-    let some = c.requires.kept in
-    let old = c.args.objects.now in
-    c.end.ensures.account frames (shut_account old.heap c.close_all.new.heap old.procs c.args.pid some.1.holds c.close_all.ensures.closes frames has)
+    pinned_account c.shut_down.new.objects c.let_go.new.objects c.let_go.ensures.only (after_clear frames c.args.pid) (c.shut_down.ensures.account frames has)
 
 pub returns-clause-opened : goal.returns-clause-opened
 returns-clause-opened c = λ numbers files have.
-    let some = c.requires.kept in
-    let old = c.args.objects.now in
-    let pid = c.args.pid in
-    let mid : Objects = record { heap = c.close_all.new.heap; procs = old.procs; tree = old.tree } in
-    let new : Objects = record { heap = c.end.new.heap; procs = c.end.new.self; tree = old.tree } in
-    let is : procs_of mid ≡ map (shut pid) (procs_of old) = shut_procs old.heap mid.heap old.procs pid some.1.holds c.close_all.ensures.closes in
-    opens_ended some.0 mid new pid c.args.status numbers (after_end_of files pid)
-    (kept_shut some.0 old mid pid some.1 refl refl c.close_all.ensures.closes c.close_all.ensures.listed c.close_all.ensures.owners c.close_all.ensures.nodes)
-    (subst (λ procs. HasClosed procs pid) (sym is) (has_shut pid (procs_of old))) c.end.ensures.moves c.end.ensures.ended c.end.ensures.last
-    (c.close_all.ensures.closed numbers files have)
+    pinned_open c.shut_down.new.objects c.let_go.new.objects c.let_go.ensures.only numbers (after_end_of files c.args.pid) (c.shut_down.ensures.opened numbers files have)
 
 pub returns-clause-queues : goal.returns-clause-queues
-returns-clause-queues c =
-    queues_then _ _ _ c.close_all.ensures.queues (queues_same c.close_all.new.heap c.end.new.heap (ap (λ (h : Heap). h.pipes) c.end.ensures.moves.kept) (ap (λ (h : Heap). h.socks) c.end.ensures.moves.kept))
+returns-clause-queues c = queues_then _ _ _ c.shut_down.ensures.queues (pinned_queues c.shut_down.new.objects c.let_go.new.objects c.let_go.ensures.only)
+
+pub returns-clause-stays : goal.returns-clause-stays
+returns-clause-stays c =
+    kept_then c.args.objects.now.tree c.shut_down.new.objects.tree c.let_go.new.objects.tree (kept_where c.args.objects.now c.shut_down.new.objects c.shut_down.ensures.tree)
+    (pinned_stays c.shut_down.new.objects c.let_go.new.objects c.let_go.ensures.only)
 
 pub returns-clause-takes : goal.returns-clause-takes
-returns-clause-takes c = TakesNothing-trans c.args.objects.now.heap c.close_all.new.heap c.end.new.heap c.close_all.ensures.takes c.end.ensures.takes
-
-pub returns-clause-tree : goal.returns-clause-tree
-returns-clause-tree c =
-    let old = c.args.objects.now in
-    let mid = c.close_all.new.heap in
-    let new = c.end.new.heap in
-    record {
-      tree = refl;
-      caches = caches_then old.heap mid new (shut_caches old.heap mid old.procs c.args.pid c.close_all.ensures.closes)
-          (moved_caches mid new old.procs c.end.new.self c.end.ensures.moves);
-    }
+returns-clause-takes c = TakesNothing-trans c.args.objects.now.heap c.shut_down.new.objects.heap c.let_go.new.objects.heap c.shut_down.ensures.takes c.let_go.ensures.takes

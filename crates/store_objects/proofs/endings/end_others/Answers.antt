@@ -7,7 +7,7 @@ use Rattle.store_objects.specs.Objects.{procs_of}
 use Rattle.proc_descs.proofs.Fronts.{queues_same, queues_then}
 use Rattle.store_objects.proofs.EndingOthers.{alive_made, begins, clears_one, closes_all, closes_first, closes_one, ends_all, ends_one}
 use Rattle.store_objects.proofs.Paying.{uses_nothing, uses_then}
-use Rattle.store_objects.proofs.TreesOn.{tree_then}
+use Rattle.store_objects.proofs.Pinning.{kept_then}
 use Rattle.store_objects.proofs.endings.end_others.Goals as goal
 
 pub loop-next-init : goal.loop-next-init
@@ -20,7 +20,9 @@ loop-next-init c = record {
   account = λ frames has. (frames, has, ([], refl));
   opened = closes_first c.args.objects.now;
   queues = queues_same c.args.objects.now.heap c.args.objects.now.heap refl refl;
-  tree = record { tree = refl; caches = record { vnodes = refl; names = refl; blocks = refl; size = refl } };
+  works = λ tree worked. worked;
+  worked = c.requires.works;
+  stays = record { kept = refl; reads = refl };
 }
 
 pub live_behind-requires : goal.live_behind-requires
@@ -28,6 +30,9 @@ live_behind-requires c = c.loop-next.invariant.some.1.holds
 
 pub end_one-requires-clause-kept : goal.end_one-requires-clause-kept
 end_one-requires-clause-kept c = c.loop-next.invariant.some
+
+pub end_one-requires-clause-works : goal.end_one-requires-clause-works
+end_one-requires-clause-works c = c.loop-next.invariant.worked
 
 pub loop-next-smaller : goal.loop-next-smaller
 loop-next-smaller c =
@@ -57,7 +62,9 @@ loop-next-preserved c =
       opened = λ numbers files have. closes_one start mid new c.loop-next.pid c.in-Some.next numbers files holds before.last c.in-Some.ensures.lowest
           (c.end_one.ensures.opened numbers) (before.opened numbers files have);
       queues = queues_then _ _ _ before.queues c.end_one.ensures.queues;
-      tree = tree_then start mid new before.tree c.end_one.ensures.tree;
+      works = λ tree worked. c.end_one.ensures.works tree (before.works tree worked);
+      worked = (before.worked.0, c.end_one.ensures.works before.worked.0 before.worked.1);
+      stays = kept_then start.tree mid.tree new.tree before.stays c.end_one.ensures.stays;
     }
 
 pub returns-clause-table : goal.returns-clause-table

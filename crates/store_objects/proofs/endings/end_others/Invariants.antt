@@ -5,13 +5,15 @@ use Rattle.posix_defs.specs.Files.State.{Files}
 use Rattle.posix_defs.specs.Memory.{Frames}
 use Rattle.posix_defs.specs.Process.{Table}
 use Rattle.posix_defs.specs.Sizes.{reserve}
+use Rattle.posix_defs.specs.Tree.{Tree}
 use Rattle.proc_descs.specs.Having.{HaveOpen}
 use Rattle.proc_table.specs.Accounting.{HasAccount}
 use Rattle.proc_table.specs.Standing.{IsTable}
 use Rattle.store_objects.specs.Endings.{ClearsSome}
 use Rattle.proc_descs.specs.Queues.{QueuesStand}
 use Rattle.store_objects.specs.Objects.{AreKept}
-use Rattle.store_objects.specs.Trees.{TreeStays}
+use Rattle.store_objects.specs.Trees.{KeptStays}
+use Rattle.store_objects.specs.Working.{IsWorkedIn}
 use Rattle.store_objects.specs.Uses.{UsesAtMost}
 use Rattle.store_objects.proofs.EndingOthers.{ClosesOn, EndsOn}
 use Rattle.store_objects.proofs.endings.end_others.Given as goal
@@ -28,7 +30,9 @@ invariant-loop-next l = record {
       → (after : Frames) × HasAccount l.objects.heap l.objects.procs after × ClearsSome frames after;
   opened : (numbers : Numbers) (files : Files) → HaveOpen numbers l.fn.objects.heap l.fn.objects.procs files → ClosesOn l.fn.objects l.objects l.pid numbers files;
   queues : QueuesStand l.fn.objects.heap l.objects.heap;
-  tree : TreeStays l.fn.objects l.objects;
+  works : (tree : Tree) → IsWorkedIn l.fn.objects tree → IsWorkedIn l.objects tree;
+  worked : (tree : Tree) × IsWorkedIn l.objects tree;
+  stays : KeptStays l.fn.objects.tree l.objects.tree;
 }
 
 abbrev pub decreases-loop-next : goal.decreases-loop-next

@@ -15,3 +15,10 @@ pub turn-requires-clause-so_far : goal.turn-requires-clause-so_far
 turn-requires-clause-so_far g c = λ proc found up.
     let right : c.is_so_far.result ≡ true = cc in
     c.is_so_far.ensures right proc found
+
+pub returns : goal.returns
+returns g c =
+    let world = c.requires.stands.0 in
+    let at : StandsFor c.store.inside.script c.store.inside.objects world = subst (λ store. StandsFor store.script store.objects world) (sym c.store.view_is) c.requires.stands.1 in
+    let turned = c.turn.ensures.turned world at in
+    (turned.0, turned.1)

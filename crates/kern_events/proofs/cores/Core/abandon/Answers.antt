@@ -49,6 +49,7 @@ invariant_of-self g c =
           let less : length (tasks_without c.self.inside.tasks.items c.args.pid) ≤ length c.self.inside.tasks.items = length-without c.self.inside.tasks.items c.args.pid in omega arith) refl;
       sleeping = tt;
       waiting = waits_without_one _ _ _ c.args.pid c.remove.ensures.items c.self.invariant.waiting;
+      caches = c.self.invariant.caches;
     }
 
 pub returns-clause-took : goal.returns-clause-took

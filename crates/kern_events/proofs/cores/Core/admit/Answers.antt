@@ -25,6 +25,7 @@ invariant_of-self g c =
           (subst (λ core. MayTake g.T.Turner.stands (g.T.Turner.script core.store) core (Admit c.args.pid)) (sym c.self.view_is) c.requires) c.note.ensures.peak c.note.ensures.room c.set_phase.ensures.room;
       sleeping = known_with g.T.Turner.stands _ _ _ _ c.args.pid (Admitted c.in-Waiting.asked) _ _ tt c.set_phase.ensures.items c.self.invariant.sleeping;
       waiting = waits_with _ _ _ c.args.pid (Admitted c.in-Waiting.asked) tt c.set_phase.ensures.items c.self.invariant.waiting;
+      caches = c.self.invariant.caches;
     }
 
 pub phase_of-requires : goal.phase_of-requires

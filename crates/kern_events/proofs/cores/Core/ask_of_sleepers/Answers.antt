@@ -34,4 +34,5 @@ invariant_of-self g c =
                 (ap (list_any (λ task. is_asleep task.phase)) (sym c.as_slice.ensures.value) ∙ sym c.ask_of_sleepers-some.ensures.some ∙ w.if-some.false))
           ];
       waiting = c.self.invariant.waiting;
+      caches = c.self.invariant.caches;
     }

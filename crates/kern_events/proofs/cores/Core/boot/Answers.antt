@@ -38,6 +38,7 @@ invariant_of-result g c =
       };
       sleeping = subst (AllByRecursion (λ task. IsAwake task.phase)) (sym tasks) (tt, tt);
       waiting = subst (AllByRecursion (λ task. WaitsForAtMost 0 task.phase)) (sym tasks) (tt, tt);
+      caches = c.evictables_of-evictables.ensures;
     }
 
 pub returns-clause-booted : goal.returns-clause-booted

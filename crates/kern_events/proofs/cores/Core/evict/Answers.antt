@@ -47,6 +47,7 @@ invariant_of-self g c =
           c.note.ensures.run refl c.note.ensures.peak c.note.ensures.room refl (omega arith) c.evict.ensures.script;
       sleeping = tt;
       waiting = c.self.invariant.waiting;
+      caches = c.evictables_of-self-inside.ensures;
     }
 
 pub returns-clause-took : goal.returns-clause-took

@@ -75,6 +75,7 @@ invariant_of-self g c =
           c.kill.ensures.script;
       sleeping = tt;
       waiting = waits_buried _ after.0.plain _ _ (c.bury.ensures.items after.0 after.1) c.self.invariant.waiting;
+      caches = c.evictables_of-self-inside.ensures;
     }
 
 pub returns-clause-took : goal.returns-clause-took

@@ -43,6 +43,7 @@ invariant_of-self g c =
           c.refuse.ensures.script;
       sleeping = tt;
       waiting = waits_with _ _ _ c.args.pid User tt c.set_phase.ensures.items c.self.invariant.waiting;
+      caches = c.evictables_of-self-inside.ensures;
     }
 
 pub returns-clause-took : goal.returns-clause-took

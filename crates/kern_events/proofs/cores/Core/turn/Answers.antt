@@ -167,6 +167,7 @@ invariant_of-self g c =
       waiting =
           waits_after _ may.state.world.plain here.world.plain _ _ c.args.pid c.phase_after-phase.result (c.phase_after-phase.ensures.waits _)
           turned_so c.self.invariant.waiting;
+      caches = c.evictables_of-self-inside.ensures;
     }
 
 pub returns-clause-took : goal.returns-clause-took

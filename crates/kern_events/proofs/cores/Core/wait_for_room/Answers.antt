@@ -33,6 +33,7 @@ invariant_of-self g c =
           (let few : length c.set_phase.new.tasks.items ≡ length c.self.inside.tasks.items = ap length c.set_phase.ensures.items ∙ length-with c.self.inside.tasks.items c.args.pid (Waiting c.args.asked) in omega arith) refl;
       sleeping = known_with g.T.Turner.stands _ _ _ _ c.args.pid (Waiting c.args.asked) _ _ tt c.set_phase.ensures.items c.self.invariant.sleeping;
       waiting = waits_too _ _ _ _ c.args.pid c.args.asked (omega arith) c.set_phase.ensures.items c.self.invariant.waiting;
+      caches = c.self.invariant.caches;
     }
 
 pub returns-clause-took : goal.returns-clause-took

@@ -1,5 +1,3 @@
-use Rattle.std.proofs.Common.{ap}
-use Rattle.memfs_ops.specs.FileTree.{TreeView}
 use Rattle.memfs_ops.proofs.PinLemmas.{held_cached}
 use Rattle.memfs_ops.proofs.file_tree.FileTree.pin_node.Goals as goal
 
@@ -11,6 +9,3 @@ hold-requires-clause-there c = held_cached c.requires.1 c.args.heap.now.vnodes c
 
 pub returns-clause-stands : goal.returns-clause-stands
 returns-clause-stands c = λ tree pins stands. c.hold.ensures.stands tree pins stands
-
-pub returns-clause-disk : goal.returns-clause-disk
-returns-clause-disk c = ap (λ (v : TreeView). v.disk) c.hold.ensures.rest

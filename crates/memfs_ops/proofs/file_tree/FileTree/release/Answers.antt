@@ -1,4 +1,4 @@
-use Rattle.std.proofs.Common.{◌-◌, eqb, sym, ap, subst, arith}
+use Rattle.std.proofs.Common.{◌-◌, ◌∙◌, eqb, sym, ap, subst, arith}
 use Rattle.kheap_shelves.specs.declared.objects.Vnode.{Vnode}
 use Rattle.memfs_ops.specs.FileTree.{TreeView, Stands}
 use Rattle.memfs_ops.specs.declared.file_tree.FileTree.TheInside.{Inside}
@@ -73,3 +73,6 @@ returns-clause-used c =
 
 pub returns-clause-rest : goal.returns-clause-rest
 returns-clause-rest c = ap (λ (v : TreeView). record v { vnodes = c.unpin.new.self }) c.self.view_is
+
+pub returns-clause-same : goal.returns-clause-same
+returns-clause-same c = c.unpin.ensures.same ∙ ap (λ (v : TreeView). v.vnodes.order) c.self.view_is

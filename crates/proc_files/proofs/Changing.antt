@@ -1,0 +1,95 @@
+-- What a process has open changes, step by step, and what the caches keep with it.
+use Rattle.std.proofs.Common.{◌≡◌, ℕ, zero, suc, List, [], ◌∷◌, set, Option, None, Some, refl, ap, sym, ◌∙◌}
+use Rattle.kheap_shelves.specs.Objects.{object, put}
+use Rattle.kheap_shelves.specs.declared.objects.Proc.{Proc}
+use Rattle.kheap_slabs.specs.Heap.{Heap}
+use Rattle.proc_table.specs.Table.{TableView, key_of}
+use Rattle.proc_table.proofs.PlaceLemmas.{some_same}
+use Rattle.proc_descs.specs.Naming.{ChangesNumbers}
+use Rattle.proc_descs.proofs.Listing.{put_same}
+use Rattle.proc_pipes.proofs.Changes.{changes_closed}
+use Rattle.proc_files.specs.Closing.{CachesChange, ChangesHolding, ClosesHolding}
+
+-- the heap with what is open and what is cached in another
+abbrev pub holding : Heap → Heap → Heap
+holding old new = record old {
+  procs = new.procs;
+  descs = new.descs;
+  pipes = new.pipes;
+  chunks = new.chunks;
+  socks = new.socks;
+  vnodes = new.vnodes;
+  names = new.names;
+  blocks = new.blocks;
+  high = new.high;
+}
+
+-- the caches may stay
+pub holding_of : (old new : Heap) (kept : TableView) (pid : ℕ) → ChangesNumbers old new kept pid → ChangesHolding old new kept pid
+holding_of old new kept pid it = record {
+  key = it.key;
+  proc = it.proc;
+  places = it.places;
+  named = it.named;
+  there = it.there;
+  procs = it.procs;
+  beside = ap (λ (h : Heap). holding h new) it.beside;
+}
+
+-- they change first
+pub caches_before : (old mid new : Heap) (kept : TableView) (pid : ℕ) → CachesChange old mid → ChangesHolding mid new kept pid → ChangesHolding old new kept pid
+caches_before old mid new kept pid e it =
+    let same : mid.procs ≡ old.procs = ap (λ (h : Heap). h.procs) e in
+    record {
+      key = it.key;
+      proc = it.proc;
+      places = it.places;
+      named = it.named;
+      there = ap (λ (p : List (Option Proc)). object p it.key) (sym same) ∙ it.there;
+      procs = it.procs ∙ ap (λ (p : List (Option Proc)). put p it.key (record it.proc { descriptors = it.places })) same;
+      beside = it.beside ∙ ap (λ (h : Heap). holding h new) e;
+    }
+
+-- or last
+pub caches_after : (old mid new : Heap) (kept : TableView) (pid : ℕ) → ChangesHolding old mid kept pid → CachesChange mid new → ChangesHolding old new kept pid
+caches_after old mid new kept pid it e = record {
+  key = it.key;
+  proc = it.proc;
+  places = it.places;
+  named = it.named;
+  there = it.there;
+  procs = ap (λ (h : Heap). h.procs) e ∙ it.procs;
+  beside = ap (λ (h : Heap). holding h new) e ∙ ap (λ (h : Heap). holding h new) it.beside;
+}
+
+pub set_again : {X : Type 0} (xs : List X) (i : ℕ) (a b : X) → set (set xs i a) i b ≡ set xs i b
+set_again [] i a b = refl
+set_again (x ∷ xs) zero a b = refl
+set_again (x ∷ xs) (suc i) a b = ap (λ rest. x ∷ rest) (set_again xs i a b)
+
+-- one change after another
+abbrev pub holding_then : (old mid new : Heap) (kept : TableView) (pid : ℕ) → ChangesHolding old mid kept pid → ChangesHolding mid new kept pid → ChangesHolding old new kept pid
+holding_then old mid new kept pid first second =
+    let was : Proc = record first.proc { descriptors = first.places } in
+    let same_key : second.key ≡ first.key = some_same (key_of kept.listed pid) second.key first.key second.named first.named in
+    let at : object mid.procs first.key ≡ Some was = ap (λ objects. object objects first.key) first.procs ∙ put_same old.procs first.key first.proc was first.there refl in
+    let same_proc : second.proc ≡ was = some_same (object mid.procs first.key) second.proc was (ap (object mid.procs) (sym same_key) ∙ second.there) at in
+    record {
+      key = first.key;
+      proc = first.proc;
+      places = second.places;
+      named = first.named;
+      there = first.there;
+      procs =
+          second.procs
+          ∙ ap (λ key. put mid.procs key (record second.proc { descriptors = second.places })) same_key
+          ∙ ap (λ (p : Proc). put mid.procs first.key (record p { descriptors = second.places })) same_proc
+          ∙ ap (λ objects. put objects first.key (record was { descriptors = second.places })) first.procs
+          ∙ set_again old.procs first.key (Some was) (Some (record was { descriptors = second.places }));
+      beside = second.beside ∙ ap (λ (h : Heap). holding h new) first.beside;
+    }
+
+-- a number is closed
+pub holding_closed : (old new : Heap) (kept : TableView) (pid fd : ℕ) → ClosesHolding old new kept pid fd → ChangesHolding old new kept pid
+holding_closed old new kept pid fd closes =
+    caches_after old closes.mid new kept pid (holding_of old closes.mid kept pid (changes_closed old closes.mid kept pid fd closes.closes)) closes.caches

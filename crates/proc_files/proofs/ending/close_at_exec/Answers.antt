@@ -1,0 +1,15 @@
+use Rattle.std.proofs.Common.{◌∙◌, ap, subst}
+use Rattle.proc_files.specs.Closing.{goes_at_exec, is_marked}
+use Rattle.proc_files.specs.Holding.{HoldFiles}
+use Rattle.proc_files.proofs.Endings.{exec_is}
+use Rattle.proc_files.proofs.ending.close_at_exec.Goals as goal
+
+pub returns-clause-closed : goal.returns-clause-closed
+returns-clause-closed c = λ numbers others files hold.
+    subst (HoldFiles numbers others c.close_marked.new.heap c.args.procs.now c.close_marked.new.tree)
+    (exec_is (is_marked c.marks_of-marks.result) numbers c.args.heap.now c.args.procs.now files c.args.pid
+    (λ fd below. c.marks_of-marks.ensures fd below ∙ ap (λ places. goes_at_exec places fd) c.places_of-places.ensures.places) hold.opened)
+    (c.close_marked.ensures.closed numbers others files hold)
+
+pub returns-clause-changes : goal.returns-clause-changes
+returns-clause-changes c = c.close_marked.ensures.closes.changes

@@ -1,0 +1,32 @@
+use Rattle.std.proofs.Common.{◌≡◌, ◌∙◌, refl, subst, sym}
+use Rattle.proc_descs.proofs.Fronts.{queues_same}
+use Rattle.proc_files.specs.Closing.{is_marked}
+use Rattle.proc_files.specs.Holding.{HoldFiles}
+use Rattle.proc_files.proofs.Endings.{each_closed, each_none, end_is, ends_same, is_at}
+use Rattle.proc_files.proofs.ending.close_each.Goals as goal
+
+-- ---- nothing is open
+
+pub returns-then-has_none_open-clause-closed : goal.returns-then-has_none_open-clause-closed
+returns-then-has_none_open-clause-closed c = λ numbers others files hold.
+    subst (HoldFiles numbers others c.args.heap.now c.args.procs.now c.args.tree.now)
+    (sym (ends_same numbers c.args.heap.now c.args.procs.now files c.args.pid c.requires.listed (is_at c.args.heap.now c.args.procs.now c.args.pid c.requires.listed c.requires.there)
+    (sym c.has_none_open.ensures.all ∙ c.if-has_none_open.true) hold.opened)) hold
+
+pub returns-then-has_none_open-clause-closes : goal.returns-then-has_none_open-clause-closes
+returns-then-has_none_open-clause-closes c =
+    each_none c.args.heap.now c.args.procs.now c.args.pid (is_at c.args.heap.now c.args.procs.now c.args.pid c.requires.listed c.requires.there) (c.has_none_open.ensures.none c.if-has_none_open.true)
+
+pub returns-then-has_none_open-clause-queues : goal.returns-then-has_none_open-clause-queues
+returns-then-has_none_open-clause-queues c = queues_same c.args.heap.now c.args.heap.now refl refl
+
+-- ---- something is
+
+pub returns-clause-closed : goal.returns-clause-closed
+returns-clause-closed c = λ numbers others files hold.
+    subst (HoldFiles numbers others c.close_marked.new.heap c.args.procs.now c.close_marked.new.tree) (end_is (is_marked c.all_marks-marks.result) files c.args.pid c.all_marks-marks.ensures)
+    (c.close_marked.ensures.closed numbers others files hold)
+
+pub returns-clause-closes : goal.returns-clause-closes
+returns-clause-closes c =
+    each_closed c.args.heap.now c.close_marked.new.heap c.args.procs.now c.args.pid (is_marked c.all_marks-marks.result) c.all_marks-marks.ensures c.is_well_formed.ensures c.close_marked.ensures.closes

@@ -1,0 +1,29 @@
+use Rattle.std.proofs.Common.{◌≡◌, cond, refl, subst, sym}
+use Rattle.posix_defs.specs.Files.Closing.{after_close}
+use Rattle.proc_descs.proofs.Fronts.{queues_same}
+use Rattle.proc_files.specs.Closing.{ClosesIf}
+use Rattle.proc_files.specs.Holding.{HoldFiles}
+use Rattle.proc_files.proofs.Endings.{is_at, marked_closes, not_marked}
+use Rattle.proc_files.proofs.ending.close_if.Goals as goal
+
+pub returns-then-not-marked-clause-closed : goal.returns-then-not-marked-clause-closed
+returns-then-not-marked-clause-closed c = λ numbers others files hold.
+    subst (λ b. HoldFiles numbers others c.args.heap.now c.args.procs.now c.args.tree.now (cond b (after_close files c.args.pid c.args.fd) files)) (sym c.if-not-marked.true) hold
+
+pub returns-then-not-marked-clause-closes : goal.returns-then-not-marked-clause-closes
+returns-then-not-marked-clause-closes c =
+    subst (ClosesIf c.args.heap.now c.args.heap.now c.args.procs.now c.args.pid c.args.fd) (sym c.if-not-marked.true)
+    (not_marked c.args.heap.now c.args.procs.now c.args.pid c.args.fd (is_at c.args.heap.now c.args.procs.now c.args.pid c.requires.listed c.requires.there))
+
+pub returns-then-not-marked-clause-queues : goal.returns-then-not-marked-clause-queues
+returns-then-not-marked-clause-queues c = queues_same c.args.heap.now c.args.heap.now refl refl
+
+pub returns-clause-closed : goal.returns-clause-closed
+returns-clause-closed c = λ numbers others files hold.
+    subst (λ b. HoldFiles numbers others c.close_open.new.heap c.args.procs.now c.close_open.new.tree (cond b (after_close files c.args.pid c.args.fd) files)) (sym c.if-not-marked.false)
+    (c.close_open.ensures.closed numbers others files hold)
+
+pub returns-clause-closes : goal.returns-clause-closes
+returns-clause-closes c =
+    subst (ClosesIf c.args.heap.now c.close_open.new.heap c.args.procs.now c.args.pid c.args.fd) (sym c.if-not-marked.false)
+    (marked_closes c.args.heap.now c.close_open.new.heap c.args.procs.now c.args.pid c.args.fd c.close_open.ensures.closes)

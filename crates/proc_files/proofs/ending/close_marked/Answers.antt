@@ -1,0 +1,60 @@
+use Rattle.std.proofs.Common.{◌≡◌, ◌+◌, ◌∙◌, ℕ, cond, suc, refl, subst, arith}
+use Rattle.kheap_laws.proofs.PaidLemmas.{IsPaid-refl, IsPaid-trans}
+use Rattle.posix_defs.specs.Files.Closing.{after_close}
+use Rattle.proc_descs.proofs.Fronts.{queues_same, queues_then}
+use Rattle.proc_files.specs.Closing.{ClosesIf, ClosesMarked, closed_where, is_marked}
+use Rattle.proc_files.specs.Holding.{HoldFiles}
+use Rattle.proc_files.proofs.Endings.{is_at, marked_begins, marked_more}
+use Rattle.proc_files.proofs.ending.close_marked.Goals as goal
+
+pub loop-fd-init : goal.loop-fd-init
+loop-fd-init c = record {
+  closed = λ numbers others files hold. hold;
+  listed = c.requires.listed;
+  owners = c.requires.owners;
+  hold = c.requires.hold;
+  closes = marked_begins c.args.heap.now c.args.procs.now c.args.pid (is_marked c.args.marks.now) (is_at c.args.heap.now c.args.procs.now c.args.pid c.requires.listed c.requires.there);
+  queues = queues_same c.args.heap.now c.args.heap.now refl refl;
+  same = refl;
+  may = c.requires.may;
+  paid = IsPaid-refl c.args.heap.now c.args.purse.now;
+  reads = omega arith;
+}
+
+next_one : (n : ℕ) → suc n ≡ n + 1
+next_one n = omega arith
+
+pub loop-fd-preserved : goal.loop-fd-preserved
+loop-fd-preserved c =
+    let mid = c.loop-fd.heap in
+    let new = c.close_if.new.heap in
+    let fd = c.loop-fd.fd in
+    let was = c.loop-fd.invariant in
+    record {
+      closed = λ numbers others files hold.
+          let before = closed_where (is_marked c.args.marks.now) files c.args.pid fd in
+          subst (λ n. HoldFiles numbers others new c.args.procs.now c.close_if.new.tree (closed_where (is_marked c.args.marks.now) files c.args.pid n)) (next_one fd)
+          (subst (λ b. HoldFiles numbers others new c.args.procs.now c.close_if.new.tree (cond b (after_close before c.args.pid fd) before)) c.mark_at-marked.ensures
+          (c.close_if.ensures.closed numbers others before (was.closed numbers others files hold)));
+      listed = c.close_if.ensures.listed;
+      owners = c.close_if.ensures.owners;
+      hold = c.close_if.ensures.hold;
+      closes =
+          subst (ClosesMarked c.args.heap.now new c.args.procs.now c.args.pid (is_marked c.args.marks.now)) (next_one fd)
+          (marked_more c.args.heap.now mid new c.args.procs.now c.args.pid fd (is_marked c.args.marks.now) was.closes
+          (subst (ClosesIf mid new c.args.procs.now c.args.pid fd) c.mark_at-marked.ensures c.close_if.ensures.closes));
+      queues = queues_then c.args.heap.now mid new was.queues c.close_if.ensures.queues;
+      same = c.close_if.ensures.same ∙ was.same;
+      may = c.close_if.ensures.may;
+      paid = IsPaid-trans c.args.heap.now c.args.purse.now mid c.loop-fd.purse new c.close_if.new.purse was.paid c.close_if.ensures.paid;
+      reads = (let first = was.reads in let second = c.close_if.ensures.reads in omega (arith, first, second));
+    }
+
+pub returns-clause-closed : goal.returns-clause-closed
+returns-clause-closed c = λ numbers others files hold.
+    subst (λ n. HoldFiles numbers others c.loop-fd.heap c.args.procs.now c.loop-fd.tree (closed_where (is_marked c.args.marks.now) files c.args.pid n)) (let e : c.loop-fd.fd ≡ 32 = omega arith in e)
+    (c.loop-fd.invariant.closed numbers others files hold)
+
+pub returns-clause-closes : goal.returns-clause-closes
+returns-clause-closes c =
+    subst (ClosesMarked c.args.heap.now c.loop-fd.heap c.args.procs.now c.args.pid (is_marked c.args.marks.now)) (let e : c.loop-fd.fd ≡ 32 = omega arith in e) c.loop-fd.invariant.closes

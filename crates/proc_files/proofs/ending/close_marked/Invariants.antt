@@ -1,0 +1,26 @@
+use Rattle.std.proofs.Common.{◌≡◌, ◌≤◌, ℕ, []}
+use Rattle.kheap_slabs.specs.Paid.{IsPaid}
+use Rattle.open_laws.specs.Owned.{HasItsOwners}
+use Rattle.place_laws.specs.Placed.{Numbers}
+use Rattle.posix_defs.specs.Files.State.{Files}
+use Rattle.proc_descs.specs.Having.{AreListed}
+use Rattle.proc_descs.specs.Queues.{QueuesStand}
+use Rattle.proc_files.specs.Closing.{ClosesMarked, MayClose, closed_where, is_marked}
+use Rattle.proc_files.specs.Holding.{HoldFiles, HoldSome}
+use Rattle.proc_files.proofs.ending.close_marked.Given as goal
+
+-- those that are marked are closed of the numbers below
+abbrev pub invariant-loop-fd : goal.invariant-loop-fd
+invariant-loop-fd l = record {
+  closed : (numbers : Numbers) (others : ℕ → ℕ) (files : Files) → HoldFiles numbers others l.fn.heap l.procs l.fn.tree files
+      → HoldFiles numbers others l.heap l.procs l.tree (closed_where (is_marked l.marks) files l.pid l.fd);
+  listed : AreListed l.heap l.procs;
+  owners : HasItsOwners l.heap [];
+  hold : HoldSome l.heap l.procs l.tree;
+  closes : ClosesMarked l.fn.heap l.heap l.procs l.pid (is_marked l.marks) l.fd;
+  queues : QueuesStand l.fn.heap l.heap;
+  same : l.purse ≡ l.fn.purse;
+  may : MayClose l.heap l.purse;
+  paid : IsPaid l.fn.heap l.fn.purse l.heap l.purse;
+  reads : l.fn.tree.disk.reads ≤ l.tree.disk.reads;
+}

@@ -1,0 +1,233 @@
+use Rattle.std.proofs.Common.{◌≡◌, ◌∙◌, ◌<◌, ℕ, ℤ, true, [], None, Ok, Some, Err, ap, refl, sym, subst, w64}
+use Rattle.std.specs.Prelude.{IfSome}
+use Rattle.std.proofs.lemmas.Int.{to_z-of_z}
+use Rattle.kabi_values.specs.OpenFlags.{are_open_flags}
+use Rattle.kheap_laws.proofs.PaidLemmas.{CanPay-kept, IsPaid-trans}
+use Rattle.kheap_shelves.specs.Purse.{Purse}
+use Rattle.kheap_slabs.specs.Heap.{Heap}
+use Rattle.memfs_ops.specs.FileTree.{KeepsLast, KnowsWay, in_call}
+use Rattle.memfs_ops.specs.Opening.{KeepsOpened, OpenedAs, asks_of}
+use Rattle.posix_defs.specs.Calls.OnFiles.{description_for, opening_of}
+use Rattle.posix_defs.specs.Files.Descriptions.{has_flag, o_cloexec}
+use Rattle.place_laws.specs.Placed.{Numbers}
+use Rattle.posix_defs.specs.Files.State.{Files, opened_as, with_tree}
+use Rattle.posix_defs.specs.PathCalls.{Opening, open_path}
+use Rattle.posix_defs.specs.Paths.{resolve}
+use Rattle.posix_defs.specs.Process.{directory_of}
+use Rattle.posix_defs.specs.Tree.{Tree, is_directory}
+use Rattle.proc_descs.specs.Having.{HaveOpen}
+use Rattle.proc_descs.specs.Naming.{named_at}
+use Rattle.proc_descs.proofs.Fronts.{queues_same, queues_then}
+use Rattle.proc_descs.proofs.NumberCloses.{no_some}
+use Rattle.proc_pipes.proofs.Changes.{changes_nothing}
+use Rattle.proc_pipes.proofs.Lowest.{IsLowest}
+use Rattle.proc_files.specs.Holding.{holders}
+use Rattle.proc_files.specs.Opening.{HaveAnew}
+use Rattle.proc_files.proofs.Beside.{listed_beside, owners_beside, same_pipes, same_socks}
+use Rattle.proc_files.proofs.Changing.{caches_before, holding_of}
+use Rattle.proc_files.proofs.HoldMade.{may_hold}
+use Rattle.proc_files.proofs.OpenAnswers.{fault_holds, opened_by, open_fails, open_full, open_goes, right_open}
+use Rattle.proc_files.proofs.opening.open_path.Goals as goal
+
+-- ---- no number is free
+
+pub returns-in_default-clause-answers : goal.returns-in_default-clause-answers
+returns-in_default-clause-answers c = λ numbers others script plain table hold.
+    let none = no_some c.lowest_free.result c.in_default.not-Some in
+    record {
+      now = numbers;
+      keeps = record { descs = λ key used. refl; pipes = λ key used. refl; socks = λ key used. refl; frames = refl };
+      answers = record {
+        files = plain.files;
+        replies = open_full script plain c.args.pid c.args.path.now c.args.flags (c.lowest_free.ensures.lowest numbers plain.files hold.opened ∙ none);
+        holds = hold;
+      };
+    }
+
+pub returns-in_default-clause-hold : goal.returns-in_default-clause-hold
+returns-in_default-clause-hold c =
+    let works = c.requires.works in record { numbers = works.numbers; others = works.others; files = works.files; hold = works.hold }
+
+pub returns-in_default-clause-changes : goal.returns-in_default-clause-changes
+returns-in_default-clause-changes c =
+    holding_of c.args.heap.now c.args.heap.now c.args.procs.now c.args.pid (changes_nothing c.args.heap.now c.args.procs.now c.args.pid c.requires.listed c.requires.there)
+
+pub returns-in_default-clause-queues : goal.returns-in_default-clause-queues
+returns-in_default-clause-queues c = queues_same c.args.heap.now c.args.heap.now refl refl
+
+-- ---- one is
+
+pub asked_by-how-requires : goal.asked_by-how-requires
+asked_by-how-requires c =
+    let flags = to_z-of_z w64 c.args.flags c.ranges.flags in
+    subst (λ z. are_open_flags z ≡ true) (sym flags) (right_open c.args.path.now c.args.flags c.requires.right).0
+
+pub open_node-requires-clause-stands : goal.open_node-requires-clause-stands
+open_node-requires-clause-stands c =
+    let works = c.requires.works in (
+      works.files.tree,
+      holders works.others works.files,
+      works.hold.tree,
+      ap (is_directory works.files.tree) (c.directory_of-cwd.ensures.works works.proc works.found) ∙ works.directory,
+      may_hold works.numbers works.others c.args.heap.now c.args.procs.now c.args.tree.now works.files c.is_well_formed.ensures works.hold,
+    )
+
+pub open_node-requires-clause-path : goal.open_node-requires-clause-path
+open_node-requires-clause-path c = (right_open c.args.path.now c.args.flags c.requires.right).1
+
+-- ---- the tree has a fault
+
+pub returns-in-Err-clause-answers : goal.returns-in-Err-clause-answers
+returns-in-Err-clause-answers c = λ numbers others script plain table hold.
+    let flags = to_z-of_z w64 c.args.flags c.ranges.flags in
+    let how : asks_of c.asked_by-how.result ≡ opening_of c.args.flags = c.asked_by-how.ensures ∙ ap opening_of flags in
+    let cwd = c.directory_of-cwd.ensures.plain plain.table table in
+    let it = fault_holds numbers others c.args.heap.now c.open_node.new.heap c.args.procs.now c.args.tree.now c.open_node.new.self plain.files c.directory_of-cwd.result c.args.path.now c.args.flags hold
+    c.open_node.ensures.pays.only c.in-Err.errno
+    (subst (λ r. OpenedAs c.open_node.new.heap c.open_node.new.self plain.files.tree (open_path plain.files.tree c.directory_of-cwd.result c.args.path.now (opening_of c.args.flags)) (holders others plain.files) r) c.in-Err.is
+    (subst (λ (o : Opening). OpenedAs c.open_node.new.heap c.open_node.new.self plain.files.tree (open_path plain.files.tree c.directory_of-cwd.result c.args.path.now o) (holders others plain.files) c.open_node.result) how
+    (c.open_node.ensures.answer plain.files.tree (holders others plain.files) hold.tree))) in
+    record {
+      now = numbers;
+      keeps = record { descs = λ key used. refl; pipes = λ key used. refl; socks = λ key used. refl; frames = refl };
+      answers = record {
+        files = plain.files;
+        replies = open_fails script plain c.args.pid c.args.path.now c.args.flags c.in-Some.fd (c.lowest_free.ensures.lowest numbers plain.files hold.opened ∙ c.in-Some.is) c.in-Err.errno
+            (ap (λ n. open_path plain.files.tree n c.args.path.now (opening_of c.args.flags)) cwd ∙ it.0);
+        holds = it.1;
+      };
+    }
+
+pub returns-in-Err-clause-listed : goal.returns-in-Err-clause-listed
+returns-in-Err-clause-listed c = listed_beside c.args.heap.now c.open_node.new.heap c.open_node.ensures.pays.only c.args.procs.now c.requires.listed
+
+pub returns-in-Err-clause-owners : goal.returns-in-Err-clause-owners
+returns-in-Err-clause-owners c = owners_beside c.args.heap.now c.open_node.new.heap c.open_node.ensures.pays.only [] c.requires.owners
+
+pub returns-in-Err-clause-hold : goal.returns-in-Err-clause-hold
+returns-in-Err-clause-hold c =
+    let flags = to_z-of_z w64 c.args.flags c.ranges.flags in
+    let how : asks_of c.asked_by-how.result ≡ opening_of c.args.flags = c.asked_by-how.ensures ∙ ap opening_of flags in
+    let works = c.requires.works in
+    let it = fault_holds works.numbers works.others c.args.heap.now c.open_node.new.heap c.args.procs.now c.args.tree.now c.open_node.new.self works.files c.directory_of-cwd.result c.args.path.now c.args.flags works.hold
+    c.open_node.ensures.pays.only c.in-Err.errno
+    (subst (λ r. OpenedAs c.open_node.new.heap c.open_node.new.self works.files.tree (open_path works.files.tree c.directory_of-cwd.result c.args.path.now (opening_of c.args.flags)) (holders works.others works.files) r) c.in-Err.is
+    (subst (λ (o : Opening). OpenedAs c.open_node.new.heap c.open_node.new.self works.files.tree (open_path works.files.tree c.directory_of-cwd.result c.args.path.now o) (holders works.others works.files) c.open_node.result) how
+    (c.open_node.ensures.answer works.files.tree (holders works.others works.files) works.hold.tree))) in
+    record { numbers = works.numbers; others = works.others; files = works.files; hold = it.1 }
+
+pub returns-in-Err-clause-changes : goal.returns-in-Err-clause-changes
+returns-in-Err-clause-changes c =
+    let only = c.open_node.ensures.pays.only in
+    caches_before c.args.heap.now c.open_node.new.heap c.open_node.new.heap c.args.procs.now c.args.pid only
+    (holding_of c.open_node.new.heap c.open_node.new.heap c.args.procs.now c.args.pid
+    (changes_nothing c.open_node.new.heap c.args.procs.now c.args.pid (listed_beside c.args.heap.now c.open_node.new.heap only c.args.procs.now c.requires.listed) c.requires.there))
+
+pub returns-in-Err-clause-queues : goal.returns-in-Err-clause-queues
+returns-in-Err-clause-queues c =
+    let only = c.open_node.ensures.pays.only in
+    queues_same c.args.heap.now c.open_node.new.heap (same_pipes c.args.heap.now c.open_node.new.heap only) (same_socks c.args.heap.now c.open_node.new.heap only)
+
+pub returns-in-Err-clause-saved : goal.returns-in-Err-clause-saved
+returns-in-Err-clause-saved c = λ proc plain pins found stands knows fine.
+    let flags = to_z-of_z w64 c.args.flags c.ranges.flags in
+    let how : asks_of c.asked_by-how.result ≡ opening_of c.args.flags = c.asked_by-how.ensures ∙ ap opening_of flags in
+    c.open_node.ensures.saved plain pins stands
+    (subst (λ n. KnowsWay (in_call c.args.heap.now c.args.purse.now c.args.tree.now) plain n c.args.path.now) (sym (c.directory_of-cwd.ensures.works proc found)) knows)
+    (ap (λ (o : Opening). o.truncates) how ∙ fine)
+
+-- ---- the node has a description
+
+pub open_new-requires-clause-listed : goal.open_new-requires-clause-listed
+open_new-requires-clause-listed c = listed_beside c.args.heap.now c.open_node.new.heap c.open_node.ensures.pays.only c.args.procs.now c.requires.listed
+
+pub open_new-requires-clause-owners : goal.open_new-requires-clause-owners
+open_new-requires-clause-owners c = owners_beside c.args.heap.now c.open_node.new.heap c.open_node.ensures.pays.only [] c.requires.owners
+
+pub open_new-requires-clause-number : goal.open_new-requires-clause-number
+open_new-requires-clause-number c = (subst (λ o. IfSome o (IsLowest c.args.heap.now c.args.procs.now c.args.pid 0)) c.in-Some.is c.lowest_free.ensures.free).0
+
+pub open_new-requires-clause-free : goal.open_new-requires-clause-free
+open_new-requires-clause-free c =
+    ap (λ (h : Heap). named_at h c.args.procs.now c.args.pid c.in-Some.fd) c.open_node.ensures.pays.only
+    ∙ (subst (λ o. IfSome o (IsLowest c.args.heap.now c.args.procs.now c.args.pid 0)) c.in-Some.is c.lowest_free.ensures.free).2
+
+pub open_new-requires-clause-pays : goal.open_new-requires-clause-pays
+open_new-requires-clause-pays c = CanPay-kept c.args.heap.now c.open_node.new.heap c.args.purse.now c.open_node.new.purse c.open_node.ensures.pays.paid c.requires.may.pays
+
+pub open_new-requires-clause-left : goal.open_new-requires-clause-left
+open_new-requires-clause-left c = subst (λ n. 0 < n) (sym (ap (λ (p : Purse). p.left.desc) c.open_node.ensures.pays.purse)) c.requires.left
+
+pub returns-in-Ok-clause-answers : goal.returns-in-Ok-clause-answers
+returns-in-Ok-clause-answers c = λ numbers others script plain table hold.
+    let flags = to_z-of_z w64 c.args.flags c.ranges.flags in
+    let how : asks_of c.asked_by-how.result ≡ opening_of c.args.flags = c.asked_by-how.ensures ∙ ap opening_of flags in
+    let cwd = c.directory_of-cwd.ensures.plain plain.table table in
+    let works = c.requires.works in
+    let dir : is_directory works.files.tree c.directory_of-cwd.result ≡ true = ap (is_directory works.files.tree) (c.directory_of-cwd.ensures.works works.proc works.found) ∙ works.directory in
+    let answer : OpenedAs c.open_node.new.heap c.open_node.new.self plain.files.tree (open_path plain.files.tree c.directory_of-cwd.result c.args.path.now (opening_of c.args.flags)) (holders others plain.files) (Ok c.in-Ok.node) =
+    subst (λ r. OpenedAs c.open_node.new.heap c.open_node.new.self plain.files.tree (open_path plain.files.tree c.directory_of-cwd.result c.args.path.now (opening_of c.args.flags)) (holders others plain.files) r) c.in-Ok.is
+    (subst (λ (o : Opening). OpenedAs c.open_node.new.heap c.open_node.new.self plain.files.tree (open_path plain.files.tree c.directory_of-cwd.result c.args.path.now o) (holders others plain.files) c.open_node.result) how
+    (c.open_node.ensures.answer plain.files.tree (holders others plain.files) hold.tree)) in
+    let opened : (n : Numbers) (f : Files) → HaveOpen n c.open_node.new.heap c.args.procs.now f
+    → HaveAnew n c.open_node.new.heap c.open_new.new.heap c.args.procs.now (opened_as f c.args.pid c.in-Some.fd (has_flag c.args.flags o_cloexec) (description_for c.in-Ok.node c.args.flags)) = λ numbers files have.
+    subst (λ z. HaveAnew numbers c.open_node.new.heap c.open_new.new.heap c.args.procs.now (opened_as files c.args.pid c.in-Some.fd (has_flag z o_cloexec) (description_for c.in-Ok.node z))) flags
+    (c.open_new.ensures.opened numbers files have) in
+    let it = opened_by numbers others c.args.heap.now c.open_node.new.heap c.args.procs.now c.args.tree.now c.open_node.new.self plain.files c.directory_of-cwd.result c.args.path.now c.args.flags hold
+    c.open_node.ensures.pays.only works.files.tree works.hold.tree.behind dir c.open_new.new.heap c.args.pid c.in-Some.fd c.in-Ok.node answer c.open_new.ensures.stay opened in
+    record {
+      now = it.now;
+      keeps = it.keeps;
+      answers = record {
+        files = opened_as (with_tree plain.files it.next) c.args.pid c.in-Some.fd (has_flag c.args.flags o_cloexec) (description_for c.in-Ok.node c.args.flags);
+        replies = open_goes script plain c.args.pid c.args.path.now c.args.flags c.in-Some.fd (c.lowest_free.ensures.lowest numbers plain.files hold.opened ∙ c.in-Some.is) c.in-Ok.node it.next
+            (ap (λ n. open_path plain.files.tree n c.args.path.now (opening_of c.args.flags)) cwd ∙ it.is);
+        holds = it.holds;
+      };
+    }
+
+pub returns-in-Ok-clause-hold : goal.returns-in-Ok-clause-hold
+returns-in-Ok-clause-hold c =
+    let flags = to_z-of_z w64 c.args.flags c.ranges.flags in
+    let how : asks_of c.asked_by-how.result ≡ opening_of c.args.flags = c.asked_by-how.ensures ∙ ap opening_of flags in
+    let works = c.requires.works in
+    let dir : is_directory works.files.tree c.directory_of-cwd.result ≡ true = ap (is_directory works.files.tree) (c.directory_of-cwd.ensures.works works.proc works.found) ∙ works.directory in
+    let answer : OpenedAs c.open_node.new.heap c.open_node.new.self works.files.tree (open_path works.files.tree c.directory_of-cwd.result c.args.path.now (opening_of c.args.flags)) (holders works.others works.files) (Ok c.in-Ok.node) =
+    subst (λ r. OpenedAs c.open_node.new.heap c.open_node.new.self works.files.tree (open_path works.files.tree c.directory_of-cwd.result c.args.path.now (opening_of c.args.flags)) (holders works.others works.files) r) c.in-Ok.is
+    (subst (λ (o : Opening). OpenedAs c.open_node.new.heap c.open_node.new.self works.files.tree (open_path works.files.tree c.directory_of-cwd.result c.args.path.now o) (holders works.others works.files) c.open_node.result) how
+    (c.open_node.ensures.answer works.files.tree (holders works.others works.files) works.hold.tree)) in
+    let opened : (n : Numbers) (f : Files) → HaveOpen n c.open_node.new.heap c.args.procs.now f
+    → HaveAnew n c.open_node.new.heap c.open_new.new.heap c.args.procs.now (opened_as f c.args.pid c.in-Some.fd (has_flag c.args.flags o_cloexec) (description_for c.in-Ok.node c.args.flags)) = λ numbers files have.
+    subst (λ z. HaveAnew numbers c.open_node.new.heap c.open_new.new.heap c.args.procs.now (opened_as files c.args.pid c.in-Some.fd (has_flag z o_cloexec) (description_for c.in-Ok.node z))) flags
+    (c.open_new.ensures.opened numbers files have) in
+    let it = opened_by works.numbers works.others c.args.heap.now c.open_node.new.heap c.args.procs.now c.args.tree.now c.open_node.new.self works.files c.directory_of-cwd.result c.args.path.now c.args.flags works.hold
+    c.open_node.ensures.pays.only works.files.tree works.hold.tree.behind dir c.open_new.new.heap c.args.pid c.in-Some.fd c.in-Ok.node answer c.open_new.ensures.stay opened in
+    record { numbers = it.now; others = works.others; files = opened_as (with_tree works.files it.next) c.args.pid c.in-Some.fd (has_flag c.args.flags o_cloexec) (description_for c.in-Ok.node c.args.flags); hold = it.holds }
+
+pub returns-in-Ok-clause-changes : goal.returns-in-Ok-clause-changes
+returns-in-Ok-clause-changes c =
+    caches_before c.args.heap.now c.open_node.new.heap c.open_new.new.heap c.args.procs.now c.args.pid c.open_node.ensures.pays.only
+    (holding_of c.open_node.new.heap c.open_new.new.heap c.args.procs.now c.args.pid c.open_new.ensures.changes)
+
+pub returns-in-Ok-clause-queues : goal.returns-in-Ok-clause-queues
+returns-in-Ok-clause-queues c =
+    let only = c.open_node.ensures.pays.only in
+    queues_then c.args.heap.now c.open_node.new.heap c.open_new.new.heap
+    (queues_same c.args.heap.now c.open_node.new.heap (same_pipes c.args.heap.now c.open_node.new.heap only) (same_socks c.args.heap.now c.open_node.new.heap only)) c.open_new.ensures.queues
+
+pub returns-in-Ok-clause-paid : goal.returns-in-Ok-clause-paid
+returns-in-Ok-clause-paid c =
+    IsPaid-trans c.args.heap.now c.args.purse.now c.open_node.new.heap c.open_node.new.purse c.open_new.new.heap c.open_new.new.purse c.open_node.ensures.pays.paid c.open_new.ensures.paid
+
+pub returns-in-Ok-clause-saved : goal.returns-in-Ok-clause-saved
+returns-in-Ok-clause-saved c = λ proc plain pins found stands knows fine.
+    let flags = to_z-of_z w64 c.args.flags c.ranges.flags in
+    let how : asks_of c.asked_by-how.result ≡ opening_of c.args.flags = c.asked_by-how.ensures ∙ ap opening_of flags in
+    c.open_node.ensures.saved plain pins stands
+    (subst (λ n. KnowsWay (in_call c.args.heap.now c.args.purse.now c.args.tree.now) plain n c.args.path.now) (sym (c.directory_of-cwd.ensures.works proc found)) knows)
+    (ap (λ (o : Opening). o.truncates) how ∙ fine)
+
+pub returns-in-Ok-clause-kept : goal.returns-in-Ok-clause-kept
+returns-in-Ok-clause-kept c = λ proc plain pins found stands.
+    subst (λ n. KeepsLast c.open_node.new.self (resolve plain n c.args.path.now)) (c.directory_of-cwd.ensures.works proc found)
+    (subst (KeepsOpened c.open_node.new.self (resolve plain c.directory_of-cwd.result c.args.path.now)) c.in-Ok.is (c.open_node.ensures.kept plain pins stands)).0

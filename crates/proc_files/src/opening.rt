@@ -1,0 +1,234 @@
+//! `open`.
+
+ghost use Rattle.std.specs.Prelude.{◌≡◌, ◌-◌, ◌<◌, ◌≤◌, ◌^◌, ℕ, ℤ, List, [], ◌∷◌, IfSome, IsSome, None, OnErr, OnOk, Some, false, true};
+ghost use Rattle.std.specs.List.{All};
+ghost use Rattle.kabi_calls.specs.Arguments.{argument_fault};
+ghost use Rattle.kabi_calls.specs.declared.calls.Call.{Call};
+ghost use Rattle.kabi_types.specs.declared.scripts.Script.{Script};
+ghost use Rattle.kabi_values.specs.OpenFlags.{are_open_flags};
+ghost use Rattle.kabi_values.specs.declared.classes.Class.TheVariants as class;
+ghost use Rattle.kheap_shelves.specs.Counts.{with_count};
+ghost use Rattle.kheap_shelves.specs.declared.objects.Proc.{Proc};
+ghost use Rattle.kheap_slabs.specs.Paid.{CanPay, HasFills, IsPaid};
+ghost use Rattle.memfs_ops.specs.FileTree.{KeepsLast, KnowsWay, MayWalk, Stands, in_call};
+ghost use Rattle.memfs_ops.specs.Opening.{asks_of};
+ghost use Rattle.open_laws.specs.Owned.{HasItsOwners};
+ghost use Rattle.place_laws.specs.Placed.{Numbers};
+ghost use Rattle.posix_defs.specs.Calls.OnFiles.{description_for, open_file, opening_of};
+ghost use Rattle.posix_defs.specs.Files.Descriptions.{has_flag, o_cloexec, o_trunc};
+ghost use Rattle.posix_defs.specs.Files.Descriptors.{lowest_free_from};
+ghost use Rattle.posix_defs.specs.Files.State.{Files, descriptors_of, opened_as};
+ghost use Rattle.posix_defs.specs.Paths.{resolve};
+ghost use Rattle.posix_defs.specs.Plain.{Plain};
+ghost use Rattle.posix_defs.specs.Process.{Table, directory_of};
+ghost use Rattle.posix_defs.specs.Tree.{Tree};
+ghost use Rattle.proc_table.specs.Procs.{proc_of};
+ghost use Rattle.proc_table.specs.Standing.{IsTable};
+ghost use Rattle.proc_table.specs.Table.{key_of, processes};
+ghost use Rattle.proc_descs.specs.Having.{AreListed, HaveOpen};
+ghost use Rattle.proc_descs.specs.Naming.{ChangesNumbers, named_at};
+ghost use Rattle.proc_descs.specs.Queues.{QueuesStand};
+ghost use Rattle.proc_pipes.specs.Answering.{value_of};
+ghost use Rattle.proc_files.specs.Closing.{ChangesHolding};
+ghost use Rattle.proc_files.specs.Holding.{CachesStay, HoldFiles, HoldSome};
+ghost use Rattle.proc_files.specs.Opening.{AnswersAnew, HaveAnew, MakesDesc, WorksSomewhere, desc_on, mode_of};
+
+use crate::nodes::is_well_formed;
+use desc_table::Descs;
+use kabi_types::{Class, Errno, OpenFlags};
+use kheap_shelves::{Access, Desc, DescFlags, Descriptor, Purse, Target};
+use kheap_slabs::KHeap;
+use memfs_ops::{FileTree, Opening};
+use proc_descs::{open_one, places_of};
+use proc_table::ProcTable;
+
+/// The flags of `open` that are the description's and the number's: access modes, O_APPEND, O_NONBLOCK and O_CLOEXEC.
+const O_WRONLY: u64 = 1;
+
+const O_RDWR: u64 = 2;
+
+const O_APPEND: u64 = 1024;
+
+const O_NONBLOCK: u64 = 2048;
+
+const O_CLOEXEC: u64 = 524288;
+
+/// The lowest number of a process that is free names a new description of what a path leads to from its working directory, which
+/// may be made by the way (O_CREAT). That number.
+///
+/// EMFILE where no number is free, before the path is walked; then EEXIST where something is there that must not be, EISDIR where a
+/// directory is to be written, EOPNOTSUPP of the name of a socket, ENOENT and ENOSPC where nothing is there and nothing is made, else
+/// the faults of the walk.
+///
+/// <https://pubs.opengroup.org/onlinepubs/9699919799/functions/open.html>
+pub fn open_path(
+    heap: &mut KHeap,
+    purse: &mut Purse,
+    procs: &ProcTable,
+    tree: &mut FileTree,
+    pid: u32,
+    path: &[u8],
+    flags: i64,
+) -> Result<u32, Errno>
+    requires listed { AreListed heap.old procs.now }
+    requires owners { HasItsOwners heap.old [] }
+    requires there { IsSome (key_of procs.now.listed pid) }
+    requires works { WorksSomewhere heap.old procs.now tree.old pid }
+    requires right { argument_fault (Call.OpenFile path.now flags) ≡ None }
+    requires bytes { All (λ byte. (0 < byte) × (byte < 2 ^ 8)) path.now }
+    requires may { MayWalk heap.old purse.old }
+    requires left { 0 < purse.old.left.desc }
+    ensures answers { (numbers : Numbers) (others : ℕ → ℕ) (script : Script) (plain : Plain)
+        → IsTable heap.old procs.now plain.table
+        → HoldFiles numbers others heap.old procs.now tree.old plain.files
+        → AnswersAnew numbers others heap.old heap.new procs.now tree.new script plain pid (open_file script plain pid path.now flags) (value_of result) }
+    ensures listed { AreListed heap.new procs.now }
+    ensures owners { HasItsOwners heap.new [] }
+    ensures hold { HoldSome heap.new procs.now tree.new }
+    ensures changes { ChangesHolding heap.old heap.new procs.now pid }
+    ensures queues { QueuesStand heap.old heap.new }
+    ensures paid { IsPaid heap.old purse.old heap.new purse.new }
+    ensures fills { HasFills heap.new purse.new }
+    ensures reads { tree.old.disk.reads ≤ tree.new.disk.reads }
+    ensures saved { (proc : Proc) (plain : Tree) (pins : ℕ → ℕ) → proc_of (processes heap.old procs.now) pid ≡ Some proc
+        → Stands heap.old tree.old plain pins → KnowsWay (in_call heap.old purse.old tree.old) plain proc.cwd path.now
+        → has_flag flags o_trunc ≡ false → tree.new.disk ≡ tree.old.disk }
+    ensures kept { (proc : Proc) (plain : Tree) (pins : ℕ → ℕ) → proc_of (processes heap.old procs.now) pid ≡ Some proc
+        → Stands heap.old tree.old plain pins → OnOk result (KeepsLast tree.new (resolve plain proc.cwd path.now)) }
+{
+    let Some(fd) = lowest_free(heap, procs, pid) else {
+        return Err(Errno::EMFILE);
+    };
+    let cwd = directory_of(heap, procs, pid);
+    let how = asked_by(flags);
+    is_well_formed(heap);
+    match tree.open_node(heap, purse, cwd, path, how) {
+        Ok(node) => {
+            open_new(heap, purse, procs, pid, fd, node, flags);
+            Ok(fd)
+        }
+        Err(errno) => Err(errno),
+    }
+}
+
+// What flags ask of the tree.
+fn asked_by(flags: i64) -> Opening
+    requires { are_open_flags flags ≡ true }
+    ensures { asks_of result ≡ opening_of flags }
+{
+    let Some(asked) = OpenFlags::of(flags) else {
+        unreachable!();
+    };
+    Opening::of(asked)
+}
+
+// A number of a process that isn't open names a new description of a node from now on, at its beginning and as the flags ask.
+fn open_new(
+    heap: &mut KHeap,
+    purse: &mut Purse,
+    procs: &ProcTable,
+    pid: u32,
+    fd: u32,
+    node: u32,
+    flags: i64,
+)
+    requires listed { AreListed heap.old procs.now }
+    requires owners { HasItsOwners heap.old [] }
+    requires there { IsSome (key_of procs.now.listed pid) }
+    requires number { fd < 32 }
+    requires free { named_at heap.old procs.now pid fd ≡ None }
+    requires pays { CanPay heap.old purse.old }
+    requires fills { HasFills heap.old purse.old }
+    requires left { 0 < purse.old.left.desc }
+    ensures opened { (numbers : Numbers) (files : Files) → HaveOpen numbers heap.old procs.now files
+        → HaveAnew numbers heap.old heap.new procs.now (opened_as files pid fd (has_flag flags o_cloexec) (description_for node flags)) }
+    ensures listed { AreListed heap.new procs.now }
+    ensures owners { HasItsOwners heap.new [] }
+    ensures changes { ChangesNumbers heap.old heap.new procs.now pid }
+    ensures stay { CachesStay heap.old heap.new }
+    ensures queues { QueuesStand heap.old heap.new }
+    ensures paid { IsPaid heap.old purse.old heap.new purse.new }
+    ensures fills { HasFills heap.new purse.new }
+{
+    let desc = describe(heap, purse, node, flags);
+    let descriptor = Descriptor {
+        desc,
+        close_on_exec: has_flag(flags, O_CLOEXEC),
+    };
+    open_one(heap, procs, pid, fd, descriptor);
+}
+
+// The lowest number of a process that is free.
+fn lowest_free(heap: &KHeap, procs: &ProcTable, pid: u32) -> Option<u32>
+    requires listed { AreListed heap.now procs.now }
+    requires there { IsSome (key_of procs.now.listed pid) }
+    ensures lowest { (numbers : Numbers) (files : Files) → HaveOpen numbers heap.now procs.now files
+        → lowest_free_from (descriptors_of files pid) 0 ≡ result }
+    ensures free { IfSome result (λ fd. (fd < 32) × (0 ≤ fd) × (named_at heap.now procs.now pid fd ≡ None)) }
+{
+    let descs = Descs::of(places_of(heap, procs, pid));
+    descs.lowest(0)
+}
+
+/// The directory that a process works in.
+pub(crate) fn directory_of(heap: &KHeap, procs: &ProcTable, pid: u32) -> u32
+    requires listed { AreListed heap.now procs.now }
+    requires there { IsSome (key_of procs.now.listed pid) }
+    ensures works { (proc : Proc) → proc_of (processes heap.now procs.now) pid ≡ Some proc → result ≡ proc.cwd }
+    ensures plain { (table : Table) → IsTable heap.now procs.now table → directory_of table pid ≡ result }
+{
+    let Some(key) = procs.key_of(pid) else {
+        unreachable!();
+    };
+    heap.get_proc(key).cwd
+}
+
+// A new description of a node, as the flags ask, which one descriptor in hand names. Its key.
+fn describe(heap: &mut KHeap, purse: &mut Purse, node: u32, flags: i64) -> u32
+    requires pays { CanPay heap.old purse.old }
+    requires left { 0 < purse.old.left.desc }
+    ensures makes { MakesDesc heap.old heap.new result node flags }
+    ensures paid { IsPaid heap.old purse.old heap.new purse.new }
+    ensures spent { purse.new
+        ≡ record purse.old { left = with_count purse.old.left class.Desc (purse.old.left.desc - 1) } }
+{
+    purse.spend(Class::Desc);
+    heap.insert_desc(desc_on(node, flags))
+}
+
+// A description of a node at its beginning, as the flags ask.
+fn desc_on(node: u32, flags: i64) -> Desc
+    ensures { result ≡ desc_on node flags }
+{
+    Desc {
+        target: Target::Inode(node),
+        offset: 0,
+        access: mode_of(flags),
+        flags: DescFlags {
+            append: has_flag(flags, O_APPEND),
+            nonblock: has_flag(flags, O_NONBLOCK),
+        },
+        count: 1,
+    }
+}
+
+// The access mode that flags ask for.
+fn mode_of(flags: i64) -> Access
+    ensures { result ≡ mode_of flags }
+{
+    if has_flag(flags, O_RDWR) {
+        Access::Both
+    } else if has_flag(flags, O_WRONLY) {
+        Access::Write
+    } else {
+        Access::Read
+    }
+}
+
+// Whether a flag, which is a power of 2, is among these bits.
+fn has_flag(bits: i64, flag: u64) -> bool
+    requires { 0 < flag }
+    ensures { result ≡ has_flag bits flag }
+{
+    bits.cast_unsigned() / flag % 2 == 1
+}
