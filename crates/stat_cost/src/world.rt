@@ -32,14 +32,23 @@ struct World {
 pub fn reads_of(alloc: Global, plan: &Plan) -> Option<u64>
     requires { (65536 ≤ plan.now.heap) × (plan.now.heap ≤ 8388608) }
 {
-    let mut world = booted(alloc, plan.heap).ok()?;
-    for count in 1..plan.components as usize + 1 {
-        make(&mut world, path_of(count))?;
+    let Ok(mut world) = booted(alloc, plan.heap) else {
+        return None;
+    };
+    reads_in(&mut world, plan.components as usize, plan.rounds)
+}
+
+/// The same in a world that was booted.
+fn reads_in(world: &mut World, components: usize, rounds: u32) -> Option<u64>
+    requires { StandsForSome world.old.heap world.old.files }
+{
+    for count in 0..components {
+        make(world, path_of(count.min(16) + 1))?;
     }
-    let path = path_of(plan.components as usize);
-    ask(&mut world, path, 1)?;
+    let path = path_of(components);
+    ask(world, path, 1)?;
     let before = world.files.reads();
-    ask(&mut world, path, plan.rounds)?;
+    ask(world, path, rounds)?;
     world.files.reads().checked_sub(before)
 }
 
