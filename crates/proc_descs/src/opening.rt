@@ -26,11 +26,21 @@ pub fn places_of(heap: &KHeap, procs: &ProcTable, pid: u32) -> [Option<Descripto
     ensures places { result ≡ places_of heap.now procs.now pid }
     ensures all { length (places_of heap.now procs.now pid) ≡ 32 }
 {
+    *places_in(heap, procs, pid)
+}
+
+// The same where they are kept: to take them out copies all of them.
+fn places_in<'a>(heap: &'a KHeap, procs: &ProcTable, pid: u32) -> &'a [Option<Descriptor>; 32]
+    requires listed { AreListed heap.now procs.now }
+    requires there { IsSome (key_of procs.now.listed pid) }
+    ensures places { result.now ≡ places_of heap.now procs.now pid }
+    ensures all { length (places_of heap.now procs.now pid) ≡ 32 }
+{
     is_well_formed(heap);
     let Some(key) = procs.key_of(pid) else {
         unreachable!();
     };
-    heap.get_proc(key).descriptors
+    &heap.get_proc(key).descriptors
 }
 
 /// What the number that a call has names; None where it isn't open, as no number below 0 or above 31 is.
@@ -40,7 +50,7 @@ pub fn descriptor_of(heap: &KHeap, procs: &ProcTable, pid: u32, fd: i64) -> Opti
     ensures held { result ≡ named_by heap.now procs.now pid fd }
     ensures within { IsSome result → count_of fd < 32 }
 {
-    let places = places_of(heap, procs, pid);
+    let places = places_in(heap, procs, pid);
     if may_be_descriptor(fd) {
         places[count_of(fd) as usize]
     } else {

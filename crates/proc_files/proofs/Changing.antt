@@ -1,5 +1,5 @@
 -- What a process has open changes, step by step, and what the caches keep with it.
-use Rattle.std.proofs.Common.{◌≡◌, ℕ, zero, suc, List, [], ◌∷◌, set, Option, None, Some, refl, ap, sym, ◌∙◌}
+use Rattle.std.proofs.Common.{◌≡◌, ℕ, zero, suc, List, [], ◌∷◌, set, Option, Some, refl, ap, sym, ◌∙◌}
 use Rattle.kheap_shelves.specs.Objects.{object, put}
 use Rattle.kheap_shelves.specs.declared.objects.Proc.{Proc}
 use Rattle.kheap_slabs.specs.Heap.{Heap}

@@ -1,29 +1,29 @@
 -- A process closes several numbers, one after another.
-use Rattle.std.proofs.Common.{◌≡◌, ◌≢◌, ℕ, zero, suc, ◌+◌, ◌<◌, Bool, true, false, cond, List, [], ◌∷◌, set, get_or, length, replicate, Option, None, Some, IsSome, is_none, refl, ap, sym, subst, ◌∙◌, arith, inl, inr}
+use Rattle.std.proofs.Common.{◌≡◌, ◌≢◌, ℕ, zero, suc, ◌+◌, ◌<◌, Bool, true, false, cond, List, [], ◌∷◌, set, get_or, length, replicate, Option, None, Some, IsSome, is_none, refl, ap, sym, ◌∙◌, arith, inl, inr}
 use Rattle.std.specs.Prelude.{slice_index_or, slice_set}
 use Rattle.std.specs.List.{filter, list_all, range_with_len}
 use Rattle.std.specs.Option.{option_map}
 use Rattle.std.proofs.lemmas.Bool.{cases_eq, false≢true}
-use Rattle.std.proofs.lemmas.List.{ext_get_or, get_or-set_other, length-replicate, set-get_or}
+use Rattle.std.proofs.lemmas.List.{ext_get_or, get_or-set_other, set-get_or}
 use Rattle.kheap_shelves.specs.Objects.{object, put}
 use Rattle.kheap_shelves.specs.declared.objects.Descriptor.{Descriptor as HeldDescriptor}
 use Rattle.kheap_shelves.specs.declared.objects.Proc.{Proc}
 use Rattle.kheap_slabs.specs.Heap.{Heap, IsWellFormed}
 use Rattle.open_laws.specs.Open.{descriptor_by}
 use Rattle.place_laws.specs.Placed.{Numbers}
-use Rattle.posix_defs.specs.Files.Closing.{after_close, after_closes, after_end_of, after_exec_of, all_numbers}
+use Rattle.posix_defs.specs.Files.Closing.{after_close, after_closes, after_end_of, after_exec_of}
 use Rattle.posix_defs.specs.Files.Descriptors.{has_cloexec, is_cloexec}
 use Rattle.posix_defs.specs.Files.State.{Files, descriptors_of}
-use Rattle.proc_table.specs.Procs.{no_descriptors, proc_of}
-use Rattle.proc_table.specs.Table.{TableView, key_of, processes}
+use Rattle.proc_table.specs.Procs.{no_descriptors}
+use Rattle.proc_table.specs.Table.{TableView, key_of}
 use Rattle.proc_table.proofs.PlaceLemmas.{key_of-proc, some_same}
-use Rattle.proc_descs.specs.Having.{AreListed, ClosesAll, HaveOpen, places_in}
+use Rattle.proc_descs.specs.Having.{AreListed, HaveOpen, places_in}
 use Rattle.proc_descs.specs.Naming.{named_at, places_of}
-use Rattle.proc_descs.proofs.AllClose.{end_of_none, none_to_close}
+use Rattle.proc_descs.proofs.AllClose.{end_of_none}
 use Rattle.proc_descs.proofs.Listing.{found_before, put_same}
 use Rattle.proc_descs.proofs.NumberNames.{descriptor_at_is}
-use Rattle.proc_files.specs.Closing.{CachesChange, ChangesHolding, ClosesEach, ClosesHolding, ClosesIf, ClosesMarked, closed_where, goes_at_exec, has_mark}
-use Rattle.proc_files.proofs.Changing.{caches_after, holding, holding_then}
+use Rattle.proc_files.specs.Closing.{ChangesHolding, ClosesEach, ClosesHolding, ClosesIf, ClosesMarked, closed_where, goes_at_exec, has_mark}
+use Rattle.proc_files.proofs.Changing.{holding, holding_then}
 
 -- ---- in the machine
 

@@ -1,9 +1,9 @@
 -- A number of a process names a new description of a node: heap, table and tree stand for the files then.
-use Rattle.std.proofs.Common.{◌≡◌, ◌≢◌, ℕ, zero, suc, ◌+◌, ◌*◌, ◌<◌, ◌≤◌, ◌==◌, ℤ, Bool, true, false, cond, List, [], ◌∷◌, ◌++◌, set, length, count_by, Option, None, Some, IsSome, Result, Ok, Err, is_some, refl, ap, sym, subst, ◌∙◌, arith, eq-eqb, ne_eqb, nat_eq, inl, inr}
+use Rattle.std.proofs.Common.{◌≡◌, ◌≢◌, ℕ, zero, suc, ◌+◌, ◌<◌, ◌≤◌, ◌==◌, ℤ, Bool, true, false, cond, List, [], ◌∷◌, set, length, count_by, Option, None, Some, Result, Ok, Err, is_some, refl, ap, sym, subst, ◌∙◌, arith, eq-eqb, ne_eqb, inl, inr}
 use Rattle.std.proofs.lemmas.Bool.{cases_eq, cases_lt}
-use Rattle.std.proofs.lemmas.List.{get_or_at, get_or-set_same, get_or-set_other, set_past}
+use Rattle.std.proofs.lemmas.List.{get_or_at, get_or-set_other, set_past}
 use Rattle.std.proofs.lemmas.List.Sums.{sum_by-cons, sum_by-set}
-use Rattle.kheap_shelves.specs.Objects.{InUse, count, object}
+use Rattle.kheap_shelves.specs.Objects.{InUse, object}
 use Rattle.kheap_slabs.specs.Heap.{Heap, IsWellFormed}
 use Rattle.kabi_values.specs.declared.errnos.Errno.{Errno}
 use Rattle.memfs_ops.specs.FileTree.{Stands, TreeView, one_more}
@@ -12,15 +12,15 @@ use Rattle.open_laws.specs.Described.{CountedList, uncounted}
 use Rattle.place_laws.specs.Placed.{Numbers}
 use Rattle.posix_defs.specs.Calls.OnFiles.{description_for}
 use Rattle.posix_defs.specs.Files.Descriptions.{Description, Descriptions, OnNode, access_of, description_at, o_cloexec, has_flag}
-use Rattle.posix_defs.specs.Files.State.{Files, beside, node_of, nodes_among, opened_as, opened_node, with_tree}
-use Rattle.posix_defs.specs.Tree.{Tree, is_directory}
+use Rattle.posix_defs.specs.Files.State.{Files, beside, node_of, nodes_among, opened_as, with_tree}
+use Rattle.posix_defs.specs.Tree.{Tree}
 use Rattle.posix_defs.proofs.TreeNodes.{directory_in_use}
 use Rattle.proc_table.specs.Table.{TableView}
 use Rattle.proc_table.proofs.PlaceLemmas.{some_same}
 use Rattle.proc_descs.specs.Having.{HaveOpen}
 use Rattle.proc_descs.proofs.Sums.{one_if}
-use Rattle.proc_pipes.proofs.Made.{length_uncounted, longer}
-use Rattle.proc_files.specs.Holding.{AreOpenNodes, HoldDirectories, HoldFiles, IsOpenNode, holders, openings, times}
+use Rattle.proc_pipes.proofs.Made.{longer}
+use Rattle.proc_files.specs.Holding.{AreOpenNodes, HoldFiles, IsOpenNode, holders, times}
 use Rattle.proc_files.proofs.Holding.{same_pins}
 use Rattle.proc_files.proofs.Openings.{nodes_made, times_beside, times_cons}
 use Rattle.proc_files.proofs.OpenLeads.{LeadsTo}

@@ -23,3 +23,4 @@ pub mod OpenAnswers
 pub mod Changing
 pub mod Shares
 pub mod Endings
+pub mod NodesEnd

@@ -1,10 +1,10 @@
 -- A Desc is made that is open on a node: who owns what then, and what heap and table have open.
-use Rattle.std.proofs.Common.{◌≡◌, ◌≢◌, ℕ, zero, suc, ◌+◌, ◌-◌, ◌<◌, ◌==◌, ◌++◌, ℤ, Bool, true, false, cond, List, [], ◌∷◌, length, count_by, Option, None, Some, IsSome, is_some, refl, sym, ap, subst, ◌∙◌, arith, eq-eqb, ne_eqb, inl, inr}
+use Rattle.std.proofs.Common.{◌≡◌, ◌≢◌, ℕ, zero, suc, ◌-◌, ◌<◌, ◌==◌, ◌++◌, ℤ, Bool, true, false, cond, List, [], ◌∷◌, length, count_by, Option, None, Some, IsSome, is_some, refl, sym, ap, subst, ◌∙◌, arith, eq-eqb, ne_eqb, inl, inr}
 use Rattle.std.specs.Prelude.{slice_index_or}
 use Rattle.std.proofs.lemmas.Bool.{cases_eq}
 use Rattle.chunk_queue.proofs.HeldLemmas.{HasBytes-same}
 use Rattle.kheap_laws.proofs.TableLemmas.{OwnsItsObjects-along}
-use Rattle.kheap_shelves.specs.Objects.{InUse, object, put}
+use Rattle.kheap_shelves.specs.Objects.{object, put}
 use Rattle.kheap_shelves.specs.declared.objects.Access.{Access as HeldAccess}
 use Rattle.kheap_shelves.specs.declared.objects.Access.TheVariants as mode
 use Rattle.kheap_shelves.specs.declared.objects.Desc.{Desc}
@@ -20,7 +20,7 @@ use Rattle.kheap_shelves.specs.declared.objects.Vnode.{Vnode}
 use Rattle.kheap_slabs.specs.Heap.{Heap}
 use Rattle.kheap_slabs.specs.Paid.{AreFills, HasFills}
 use Rattle.kheap_slabs.specs.Owners.{pipe_queues, sock_queues, spaces_of}
-use Rattle.open_laws.specs.Described.{AreDescribed, Counted, CountedList, access_in, counted_in, uncounted}
+use Rattle.open_laws.specs.Described.{AreDescribed, CountedList, access_in, counted_in, uncounted}
 use Rattle.open_laws.specs.Open.{AreOpen, descriptor_by, descriptors_by}
 use Rattle.open_laws.specs.Owned.{CountsItsNames, HasItsOwners, IsHeldOpen, IsThereFor, desc_count, desc_count_at, has_read_end, has_write_end, namings_of, sock_in, socks_named}
 use Rattle.open_laws.proofs.DropLemmas.{piped_on, socketed_on}
@@ -34,7 +34,7 @@ use Rattle.posix_defs.specs.Files.State.{Files}
 use Rattle.proc_table.specs.Table.{TableView}
 use Rattle.proc_table.proofs.PlaceLemmas.{some_same}
 use Rattle.proc_descs.specs.Having.{AreListed, HaveOpen}
-use Rattle.proc_descs.specs.Naming.{named_at, places_of}
+use Rattle.proc_descs.specs.Naming.{places_of}
 use Rattle.proc_descs.proofs.NumberCloses.{listed_on}
 use Rattle.proc_descs.proofs.NumberNames.{desc_named}
 use Rattle.proc_descs.proofs.Sums.{count_cons, one_if}

@@ -1,16 +1,16 @@
 -- An open is answered: what the machine says, and what heap, table and tree stand for then.
-use Rattle.std.proofs.Common.{◌≡◌, ℕ, ℤ, pos, Bool, true, false, cond, not, ◌&&◌, List, Option, None, Some, IsSome, Result, Ok, Err, refl, ap, sym, subst, ◌∙◌}
+use Rattle.std.proofs.Common.{◌≡◌, ℕ, ℤ, pos, Bool, true, false, not, ◌&&◌, List, Option, None, Some, Result, Ok, Err, refl, ap, sym, subst, ◌∙◌}
 use Rattle.std.specs.Option.{option_or}
 use Rattle.kabi_calls.specs.Arguments.{argument_fault, invalid_unless, path_fault, truncates_unwritten}
 use Rattle.kabi_calls.specs.declared.calls.Call.TheVariants as call
 use Rattle.kabi_values.specs.OpenFlags.{are_open_flags}
 use Rattle.kabi_values.specs.declared.errnos.Errno.{Errno}
-use Rattle.kabi_values.specs.declared.errnos.Errno.TheVariants.{EINVAL, EMFILE}
+use Rattle.kabi_values.specs.declared.errnos.Errno.TheVariants.{EMFILE}
 use Rattle.kabi_values.specs.declared.replies.Reply.TheVariants.{Val}
 use Rattle.kabi_types.specs.declared.scripts.Script.{Script}
 use Rattle.kheap_shelves.specs.Objects.{InUse}
 use Rattle.kheap_slabs.specs.Heap.{Heap}
-use Rattle.memfs_ops.specs.FileTree.{Stands, TreeView}
+use Rattle.memfs_ops.specs.FileTree.{TreeView}
 use Rattle.memfs_ops.specs.Opening.{OpenedAs}
 use Rattle.memfs_ops.proofs.RemoveLemmas.{path_led_in}
 use Rattle.place_laws.specs.Placed.{Numbers}
@@ -29,7 +29,7 @@ use Rattle.proc_table.specs.Table.{TableView}
 use Rattle.proc_descs.specs.Having.{HaveOpen}
 use Rattle.proc_pipes.specs.Opening.{KeepsNumbers}
 use Rattle.proc_files.specs.Closing.{CachesChange}
-use Rattle.proc_files.specs.Holding.{CachesStay, HasSameKinds, HoldFiles, holders}
+use Rattle.proc_files.specs.Holding.{CachesStay, HoldFiles, holders}
 use Rattle.proc_files.specs.Opening.{HaveAnew}
 use Rattle.proc_files.proofs.Beside.{have_beside, same_descs, same_pipes, same_socks}
 use Rattle.proc_files.proofs.Holding.{stands_on}

@@ -1,6 +1,6 @@
 -- What an open leads to in the tree: a node that may be open so, beside which each node in use is of the kind that it was.
-use Rattle.std.proofs.Common.{◌≡◌, ◌≢◌, ℕ, ℤ, Bool, true, false, cond, not, ◌&&◌, ◌||◌, List, [], Option, None, Some, Result, Ok, Err, is_some, refl, ap, sym, subst, ◌∙◌, inl, inr}
-use Rattle.std.proofs.lemmas.Bool.{cases_Bool, cases_eq, cond-true, cond-false, false≢true, and_cases, both_ways}
+use Rattle.std.proofs.Common.{◌≡◌, ◌≢◌, ℕ, ℤ, Bool, true, false, cond, not, ◌&&◌, ◌||◌, List, [], Option, Some, Result, Ok, Err, is_some, refl, ap, sym, subst, ◌∙◌, inl, inr}
+use Rattle.std.proofs.lemmas.Bool.{cases_Bool, cases_eq, cond-true, cond-false, false≢true}
 use Rattle.kabi_values.specs.declared.errnos.Errno.{Errno}
 use Rattle.kabi_values.specs.declared.errnos.Errno.TheVariants.{EEXIST, EISDIR, ENOENT, EOPNOTSUPP}
 use Rattle.posix_defs.specs.Calls.OnFiles.{opening_of}
@@ -9,7 +9,7 @@ use Rattle.posix_defs.specs.Files.Descriptions.{Access, ReadOnly, ReadWrite, Wri
 use Rattle.posix_defs.specs.IsTree.{IsTree}
 use Rattle.posix_defs.specs.PathCalls.{Opening, is_socket, is_socket_kind, kind_in, open_led, open_there, unless}
 use Rattle.posix_defs.specs.Paths.{IsLed}
-use Rattle.posix_defs.specs.Tree.{File, Node, Tree, is_directory, is_directory_in, is_in_use, node_at, with_node}
+use Rattle.posix_defs.specs.Tree.{File, Node, Tree, is_directory, is_directory_in, is_in_use, with_node}
 use Rattle.posix_defs.specs.TreeChanges.{entry_put, make, with_bytes, with_new}
 use Rattle.posix_defs.specs.declared.walked.Walked.{Walked}
 use Rattle.posix_defs.specs.declared.walked.Walked.TheVariants as walked

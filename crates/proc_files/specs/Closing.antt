@@ -1,5 +1,5 @@
 -- What a close leaves of heap and table where a description of a node may go with it.
-use Rattle.std.specs.Prelude.{ℕ, zero, suc, ◌≡◌, ◌<◌, Bool, true, false, if◌then◌else◌, [], List, Option, None, Some, slice_index_or, slice_set}
+use Rattle.std.specs.Prelude.{ℕ, zero, suc, ◌≡◌, ◌<◌, ◌≤◌, Bool, true, false, if◌then◌else◌, [], List, Option, None, Some, slice_index_or, slice_set}
 use Rattle.kheap_shelves.specs.Objects.{object, put}
 use Rattle.kheap_shelves.specs.Purse.{Purse}
 use Rattle.kheap_shelves.specs.declared.objects.Descriptor.{Descriptor as HeldDescriptor}
@@ -7,10 +7,12 @@ use Rattle.kheap_shelves.specs.declared.objects.Proc.{Proc}
 use Rattle.kheap_slabs.specs.Heap.{Heap}
 use Rattle.memfs_ops.specs.Closing.{MayFree}
 use Rattle.posix_defs.specs.Files.Closing.{after_close}
+use Rattle.posix_defs.specs.Files.Descriptions.{Description, description_at}
 use Rattle.posix_defs.specs.Files.State.{Files}
 use Rattle.proc_descs.specs.Having.{ClosesNumber}
 use Rattle.proc_table.specs.Procs.{no_descriptors}
 use Rattle.proc_table.specs.Table.{TableView, key_of}
+use Rattle.proc_files.specs.Holding.{openings}
 
 -- A purse that has filled nothing may pay for what closing a node takes: it asks for blocks, and gives back all that it fills.
 pub record MayClose (h : Heap) (purse : Purse) : Type 0 where
@@ -27,6 +29,11 @@ pub record ClosesHolding (old new : Heap) (kept : TableView) (pid fd : ℕ) : Ty
   pub mid : Heap
   pub closes : ClosesNumber old mid kept pid fd
   pub caches : CachesChange mid new
+
+-- Descriptions go, and nothing of another is other: nobody opens a node more often, and what is there is what was there.
+pub record OnlyGoes (files next : Files) : Type 0 where
+  pub fewer : (number : ℕ) → openings next number ≤ openings files number
+  pub left : (place : ℕ) (description : Description) → description_at next.descriptions place ≡ Some description → description_at files.descriptions place ≡ Some description
 
 -- ---- several numbers
 

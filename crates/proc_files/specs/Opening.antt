@@ -1,5 +1,5 @@
 -- A description of a node is made, and the place that the machine has for it.
-use Rattle.std.specs.Prelude.{ℕ, ◌+◌, ◌<◌, ◌≡◌, ℤ, pos, Bool, true, if◌then◌else◌, List, [], ◌∷◌, ◌++◌, length, None, Some}
+use Rattle.std.specs.Prelude.{ℕ, ◌<◌, ◌≡◌, ℤ, true, if◌then◌else◌, [], ◌∷◌, ◌++◌, length, None, Some}
 use Rattle.kabi_types.specs.declared.scripts.Script.{Script}
 use Rattle.kabi_values.specs.declared.replies.Reply.{Reply}
 use Rattle.kheap_shelves.specs.Objects.{object, put}

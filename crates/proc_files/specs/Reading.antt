@@ -1,5 +1,5 @@
 -- Bytes of a node that are put in a process's memory, and which machine a call leads to.
-use Rattle.std.specs.Prelude.{ℕ, ◌+◌, ◌<◌, ◌≤◌, ◌≡◌, ℤ, Bool, true, List, Option, None, Some, IsSome, Result, Ok, Err}
+use Rattle.std.specs.Prelude.{ℕ, ◌+◌, ◌-◌, ◌/◌, ◌<◌, ◌≤◌, ◌≡◌, ℤ, Bool, true, List, Option, None, Some, IsSome, Result, Ok, Err}
 use Rattle.std.specs.List.{AllByRecursion}
 use Rattle.kabi_calls.specs.Arguments.{count_of}
 use Rattle.kabi_calls.specs.declared.calls.Call.{Call}
@@ -23,6 +23,8 @@ use Rattle.page_space.specs.Putting.{Puts}
 use Rattle.place_laws.specs.Placed.{Numbers}
 use Rattle.posix_defs.specs.Account.{Account}
 use Rattle.posix_defs.specs.Answer.{Answer, replied}
+use Rattle.posix_defs.specs.DiskContents.{data_block}
+use Rattle.posix_defs.specs.DiskFormat.{block_size}
 use Rattle.posix_defs.specs.Memory.{is_mapped_range}
 use Rattle.posix_defs.specs.Plain.{Plain}
 use Rattle.posix_defs.specs.SoundDisk.{HasNode}
@@ -113,3 +115,10 @@ SavesRead h kept pid fd was is at count =
     (held : HeldDescriptor) (desc : Desc) (number : ℕ) (inode : Inode) → named_by h kept pid fd ≡ Some held → object h.descs held.desc ≡ Some desc
     → desc.target ≡ target.Inode number → HasNode was.disk.blocks number inode
     → AllByRecursion (IsCached was.blocks) (asked_to_read was.disk.blocks inode (at desc) count) → is.disk ≡ was.disk
+
+-- The block of the last of these bytes is cached, if there are any: they begin at a place that the description tells.
+abbrev pub KeepsRead : Heap → TableView → ℕ → ℤ → TreeView → TreeView → (Desc → ℕ) → ℕ → Type 0
+KeepsRead h kept pid fd was is at count =
+    (held : HeldDescriptor) (desc : Desc) (number : ℕ) (inode : Inode) → named_by h kept pid fd ≡ Some held → object h.descs held.desc ≡ Some desc
+    → desc.target ≡ target.Inode number → HasNode was.disk.blocks number inode → 0 < count
+    → IsCached is.blocks (data_block was.disk.blocks inode ((at desc + count - 1) / block_size))

@@ -1,19 +1,20 @@
 //! What a process has open is closed at its end, and by `exec`.
 
-ghost use Rattle.std.specs.Prelude.{◌≡◌, ◌<◌, ◌≤◌, ℕ, [], IsSome, if◌then◌else◌, is_none, true};
+ghost use Rattle.std.specs.Prelude.{◌≡◌, ◌<◌, ◌≤◌, ℕ, [], IsSome, false, if◌then◌else◌, is_none, true};
 ghost use Rattle.std.specs.List.{list_all};
 ghost use Rattle.kheap_slabs.specs.Paid.{IsPaid};
 ghost use Rattle.open_laws.specs.Owned.{HasItsOwners};
 ghost use Rattle.place_laws.specs.Placed.{Numbers};
 ghost use Rattle.posix_defs.specs.Files.Closing.{after_close, after_end_of, after_exec_of};
 ghost use Rattle.posix_defs.specs.Files.State.{Files};
+ghost use Rattle.posix_defs.specs.Reaching.{ends_node};
 ghost use Rattle.proc_table.specs.Procs.{no_descriptors};
 ghost use Rattle.proc_table.specs.Table.{key_of};
 ghost use Rattle.proc_descs.specs.Having.{AreListed};
 ghost use Rattle.proc_descs.specs.Naming.{places_of};
 ghost use Rattle.proc_descs.specs.Queues.{QueuesStand};
-ghost use Rattle.proc_files.specs.Closing.{ChangesHolding, ClosesEach, ClosesIf, ClosesMarked, MayClose, closed_where, goes_at_exec, has_mark, is_marked};
-ghost use Rattle.proc_files.specs.Holding.{HoldFiles, HoldSome};
+ghost use Rattle.proc_files.specs.Closing.{ChangesHolding, ClosesEach, ClosesIf, ClosesMarked, MayClose, OnlyGoes, closed_where, goes_at_exec, has_mark, is_marked};
+ghost use Rattle.proc_files.specs.Holding.{HoldFiles, HoldSome, openings};
 
 use crate::closing::close_open;
 use crate::nodes::is_well_formed;
@@ -25,7 +26,7 @@ use proc_descs::places_of;
 use proc_table::ProcTable;
 
 /// A process has nothing open any more: it closes all its numbers, the lowest first, as one does that ends. A file without links
-/// goes with the last description of it.
+/// goes with the last description of it; where no description of a node goes, the tree is as it was.
 ///
 /// The purse pays for the blocks that this asks for, and is then as it was.
 ///
@@ -54,6 +55,9 @@ pub fn close_each(
     ensures may { MayClose heap.new purse.new }
     ensures paid { IsPaid heap.old purse.old heap.new purse.new }
     ensures reads { tree.old.disk.reads ≤ tree.new.disk.reads }
+    ensures stays { (numbers : Numbers) (others : ℕ → ℕ) (files : Files)
+        → HoldFiles numbers others heap.old procs.now tree.old files → ends_node files (after_end_of files pid) ≡ false
+        → tree.new ≡ tree.old }
 {
     // Most processes that end have nothing open.
     if has_none_open(heap, procs, pid) {
@@ -65,7 +69,7 @@ pub fn close_each(
 }
 
 /// A process closes the numbers that `exec` closes (FD_CLOEXEC), the lowest first. A file without links goes with the last
-/// description of it.
+/// description of it; where no description of a node goes, the tree is as it was.
 ///
 /// The purse pays for the blocks that this asks for, and is then as it was.
 ///
@@ -94,6 +98,9 @@ pub fn close_at_exec(
     ensures may { MayClose heap.new purse.new }
     ensures paid { IsPaid heap.old purse.old heap.new purse.new }
     ensures reads { tree.old.disk.reads ≤ tree.new.disk.reads }
+    ensures stays { (numbers : Numbers) (others : ℕ → ℕ) (files : Files)
+        → HoldFiles numbers others heap.old procs.now tree.old files → ends_node files (after_exec_of files pid) ≡ false
+        → tree.new ≡ tree.old }
 {
     let places = places_of(heap, procs, pid);
     let marks = marks_of(&places);
@@ -179,6 +186,13 @@ fn close_marked(
     ensures may { MayClose heap.new purse.new }
     ensures paid { IsPaid heap.old purse.old heap.new purse.new }
     ensures reads { tree.old.disk.reads ≤ tree.new.disk.reads }
+    ensures goes { (numbers : Numbers) (others : ℕ → ℕ) (files : Files)
+        → HoldFiles numbers others heap.old procs.now tree.old files
+        → OnlyGoes files (closed_where (is_marked marks.now) files pid 32) }
+    ensures stays { (numbers : Numbers) (others : ℕ → ℕ) (files : Files)
+        → HoldFiles numbers others heap.old procs.now tree.old files
+        → ((number : ℕ) → openings (closed_where (is_marked marks.now) files pid 32) number ≡ openings files number)
+        → tree.new ≡ tree.old }
 {
     for fd in 0..MOST_DESCRIPTORS {
         let marked = mark_at(marks, fd);
@@ -214,6 +228,13 @@ fn close_if(
     ensures may { MayClose heap.new purse.new }
     ensures paid { IsPaid heap.old purse.old heap.new purse.new }
     ensures reads { tree.old.disk.reads ≤ tree.new.disk.reads }
+    ensures goes { (numbers : Numbers) (others : ℕ → ℕ) (files : Files)
+        → HoldFiles numbers others heap.old procs.now tree.old files
+        → OnlyGoes files (if marked then after_close files pid fd else files) }
+    ensures stays { (numbers : Numbers) (others : ℕ → ℕ) (files : Files)
+        → HoldFiles numbers others heap.old procs.now tree.old files
+        → ((number : ℕ) → openings (if marked then after_close files pid fd else files) number ≡ openings files number)
+        → tree.new ≡ tree.old }
 {
     if !marked {
         return;

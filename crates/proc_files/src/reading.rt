@@ -1,6 +1,6 @@
 //! `read` and `pread` of files, and `readdir`.
 
-ghost use Rattle.std.specs.Prelude.{◌≡◌, ◌+◌, ◌%◌, ◌≤◌, ◌<◌, ℕ, None, Some, IsSome, length};
+ghost use Rattle.std.specs.Prelude.{◌≡◌, ◌/◌, ◌-◌, ◌+◌, ◌%◌, ◌≤◌, ◌<◌, ℕ, None, Some, IsSome, length};
 ghost use Rattle.std.specs.List.{AllByRecursion};
 ghost use Rattle.kabi_calls.specs.Arguments.{argument_fault, count_of};
 ghost use Rattle.kabi_calls.specs.declared.calls.Call.{Call};
@@ -20,6 +20,8 @@ ghost use Rattle.posix_defs.specs.Calls.Reading.{pread, read, readdir};
 ghost use Rattle.posix_defs.specs.Needs.{pages_touched};
 ghost use Rattle.posix_defs.specs.PathCalls as calls;
 ghost use Rattle.posix_defs.specs.Plain.{Plain};
+ghost use Rattle.posix_defs.specs.DiskContents.{data_block};
+ghost use Rattle.posix_defs.specs.DiskFormat.{block_size};
 ghost use Rattle.posix_defs.specs.SoundDisk.{HasNode};
 ghost use Rattle.posix_defs.specs.Tree.{Tree};
 ghost use Rattle.proc_pipes.specs.Answering.{value_of};
@@ -28,7 +30,7 @@ ghost use Rattle.proc_table.specs.Table.{processes};
 ghost use Rattle.proc_queues.specs.Standing.{IsKept, StandsFor};
 ghost use Rattle.proc_files.specs.Answering.{StaysOffNodes};
 ghost use Rattle.proc_files.specs.Holding.{HoldFiles, HoldSome};
-ghost use Rattle.proc_files.specs.Reading.{HoldsDirectory, HoldsFile, IsOnNode, LeadsHolding, ReadsNode, SavesRead, moved_by};
+ghost use Rattle.proc_files.specs.Reading.{HoldsDirectory, HoldsFile, IsOnNode, KeepsRead, LeadsHolding, ReadsNode, SavesRead, moved_by};
 
 use crate::nodes::{is_directory, may_read, move_to};
 use crate::spaces::{FileBuffer, Range, range_of};
@@ -80,6 +82,7 @@ pub fn read_file(
     ensures reads { tree.old.disk.reads ≤ tree.new.disk.reads }
     ensures stays { StaysOffNodes heap.old procs.now pid fd tree.old tree.new }
     ensures saved { SavesRead heap.old procs.now pid fd tree.old tree.new (λ (desc : HeldDesc). desc.offset) (moved_by result) }
+    ensures last { KeepsRead heap.old procs.now pid fd tree.old tree.new (λ (desc : HeldDesc). desc.offset) (moved_by result) }
 {
     let Some(found) = opened(heap, procs, pid, fd) else {
         return Err(Errno::EBADF);
@@ -131,6 +134,8 @@ fn read_into(
     ensures saved { (inode : Inode) → HasNode tree.old.disk.blocks node inode
         → AllByRecursion (IsCached tree.old.blocks) (asked_to_read tree.old.disk.blocks inode at result)
         → tree.new.disk ≡ tree.old.disk }
+    ensures last { (inode : Inode) → HasNode tree.old.disk.blocks node inode → 0 < result
+        → IsCached tree.new.blocks (data_block tree.old.disk.blocks inode ((at + result - 1) / block_size)) }
 {
     let out = &mut buffer[..range.count as usize];
     let count = tree.read_node(heap, purse, node, at, out);
@@ -179,6 +184,7 @@ pub fn pread_file(
     ensures reads { tree.old.disk.reads ≤ tree.new.disk.reads }
     ensures stays { StaysOffNodes heap.old procs.now pid fd tree.old tree.new }
     ensures saved { SavesRead heap.old procs.now pid fd tree.old tree.new (λ (desc : HeldDesc). count_of at) (moved_by result) }
+    ensures last { KeepsRead heap.old procs.now pid fd tree.old tree.new (λ (desc : HeldDesc). count_of at) (moved_by result) }
 {
     let Some(found) = opened(heap, procs, pid, fd) else {
         return Err(Errno::EBADF);
@@ -241,6 +247,7 @@ pub fn read_entries(
     ensures reads { tree.old.disk.reads ≤ tree.new.disk.reads }
     ensures stays { StaysOffNodes heap.old procs.now pid fd tree.old tree.new }
     ensures saved { SavesRead heap.old procs.now pid fd tree.old tree.new (λ (desc : HeldDesc). desc.offset) (moved_by result) }
+    ensures last { KeepsRead heap.old procs.now pid fd tree.old tree.new (λ (desc : HeldDesc). desc.offset) (moved_by result) }
 {
     let Some(found) = opened(heap, procs, pid, fd) else {
         return Err(Errno::EBADF);
@@ -287,6 +294,8 @@ fn list_into(
     ensures saved { (inode : Inode) → HasNode tree.old.disk.blocks node inode
         → AllByRecursion (IsCached tree.old.blocks) (asked_to_read tree.old.disk.blocks inode at result)
         → tree.new.disk ≡ tree.old.disk }
+    ensures last { (inode : Inode) → HasNode tree.old.disk.blocks node inode → 0 < result
+        → IsCached tree.new.blocks (data_block tree.old.disk.blocks inode ((at + result - 1) / block_size)) }
 {
     let out = &mut buffer[..range.count as usize];
     let count = tree.list_node(heap, purse, node, at, out);

@@ -14,3 +14,4 @@ pub mod ReadCall
 pub mod WriteCall
 pub mod Capped
 pub mod Took
+pub mod Fetching

@@ -1,13 +1,16 @@
 //! `poll`.
 
-ghost use Rattle.std.specs.Prelude.{◌≡◌, ◌==◌, ◌&&◌, ◌≤◌, IsSome, length};
+ghost use Rattle.std.specs.Prelude.{◌≡◌, ◌==◌, ◌&&◌, ◌≤◌, ℤ, IsSome, length};
 ghost use Rattle.kabi_calls.specs.Arguments.{is_minus_one};
 ghost use Rattle.kabi_calls.specs.declared.calls.Call.{Call};
 ghost use Rattle.kabi_types.specs.declared.scripts.Script.{Script};
 ghost use Rattle.place_laws.specs.Placed.{Numbers};
 ghost use Rattle.posix_defs.specs.Account.{Account};
-ghost use Rattle.posix_defs.specs.Calls.Polling.{hits_of, poll, polled_at, revents_of};
-ghost use Rattle.posix_defs.specs.Files.State.{Files};
+ghost use Rattle.open_laws.specs.Open.{renumbered};
+ghost use Rattle.open_laws.specs.Polled.{IsOpenIn};
+ghost use Rattle.posix_defs.specs.Calls.Polling.{hits_of, poll, revents_of};
+ghost use Rattle.posix_defs.specs.Files.Descriptors.{descriptor_of};
+ghost use Rattle.posix_defs.specs.Files.State.{Files, descriptors_of};
 ghost use Rattle.posix_defs.specs.Machine.{blocks};
 ghost use Rattle.posix_defs.specs.Plain.{Plain};
 ghost use Rattle.proc_descs.specs.Having.{HaveOpen};
@@ -74,9 +77,11 @@ fn revents_of(heap: &KHeap, procs: &ProcTable, pid: u32, entries: &[PollEntry]) 
     ensures { (numbers : Numbers) (files : Files) → HaveOpen numbers heap.now procs.now files
         → result ≡ revents_of files pid entries.now }
 {
+    // These are many, so they are taken once and not for each entry.
+    let descs = descs_of(heap, procs, pid);
     let mut events = [0; 8];
     for place in 0..entries.len() {
-        events[place] = polled(heap, procs, pid, &entries[place]);
+        events[place] = descs.polled(heap, &entries[place]);
     }
     let Some(revents) = Revents::of(&events[..entries.len()]) else {
         unreachable!();
@@ -84,17 +89,18 @@ fn revents_of(heap: &KHeap, procs: &ProcTable, pid: u32, entries: &[PollEntry]) 
     revents
 }
 
-// What one entry is told.
-fn polled(heap: &KHeap, procs: &ProcTable, pid: u32, entry: &PollEntry) -> u8
+// What a process has open.
+fn descs_of(heap: &KHeap, procs: &ProcTable, pid: u32) -> Descs
     requires kept { IsKept heap.now procs.now }
     requires there { IsSome (key_of procs.now.listed pid) }
-    ensures { (numbers : Numbers) (files : Files) → HaveOpen numbers heap.now procs.now files
-        → result ≡ polled_at files pid entry.now.fd entry.now.events }
+    ensures open { (fd : ℤ) → IsOpenIn heap.now (descriptor_of result fd) }
+    ensures are { (numbers : Numbers) (files : Files) → HaveOpen numbers heap.now procs.now files
+        → descriptors_of files pid ≡ renumbered numbers.descs result }
 {
     let Some(key) = procs.key_of(pid) else {
         unreachable!();
     };
-    Descs::of(heap.get_proc(key).descriptors).polled(heap, entry)
+    Descs::of(heap.get_proc(key).descriptors)
 }
 
 // How many entries are told something.

@@ -27,7 +27,7 @@ ghost use Rattle.proc_queues.specs.Standing.{IsKept, Leads, StandsFor};
 
 use crate::buffer::{Buffer, CAPACITY};
 use crate::lookups::writable;
-use crate::spaces::{space_of, start_of};
+use crate::spaces::{fetch, space_of, start_of};
 use chunk_queue::Moved;
 use kabi_types::{Errno, Reply};
 use kheap_shelves::{Purse, Target};
@@ -200,7 +200,7 @@ fn put_in_pipe(
         → UnlessMoves (write_answer pipe nonblock written.now.n (written.now.n - written.now.done)) (heap.new ≡ heap.old) }
 {
     let bytes = &mut buffer[..(written.left() as usize).min(CAPACITY)];
-    space.copy_out(heap, written.rest(), bytes);
+    fetch(space, heap, written.rest(), bytes);
     let moved = pipe_write(heap, purse, key, nonblock, written.n, bytes);
     told(moved, nonblock, written)
 }

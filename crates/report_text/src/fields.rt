@@ -1,4 +1,5 @@
-//! The pieces of a line. A line that each event adds is put together from its words and numbers, with no format between.
+//! The pieces of a line. A line that each event adds is put together from its words and numbers, with no format between. A line has
+//! some ten pieces, most of them a known word, so each is written where it is wanted: a call would cost more than the piece.
 
 ghost use Rattle.std.specs.Prelude.{◌≡◌, ◌++◌, OnOk, string_bytes};
 ghost use Rattle.posix_defs.specs.Lines.{pid_text};
@@ -7,6 +8,7 @@ use itoa::{Buffer, Integer};
 use std::alloc::AllocError;
 
 /// A number in decimal digits, behind a sign where it is below 0.
+#[inline(always)]
 pub(crate) fn push_number<N: Integer>(out: &mut String, number: N) -> Result<(), AllocError>
     ensures { OnOk result (string_bytes out.new ≡ string_bytes out.old ++ N.text number) }
 {
@@ -15,6 +17,7 @@ pub(crate) fn push_number<N: Integer>(out: &mut String, number: N) -> Result<(),
 }
 
 /// A number behind a word that says what it is.
+#[inline(always)]
 pub(crate) fn push_field<N: Integer>(
     out: &mut String,
     word: &str,
@@ -27,6 +30,7 @@ pub(crate) fn push_field<N: Integer>(
 }
 
 /// Who did what of which call.
+#[inline(always)]
 pub(crate) fn push_call(out: &mut String, pid: u32, did: &str, word: &str) -> Result<(), AllocError>
     ensures { OnOk result (string_bytes out.new ≡ string_bytes out.old ++ pid_text pid ++ did.now ++ word.now) }
 {

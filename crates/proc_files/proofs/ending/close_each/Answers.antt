@@ -1,8 +1,11 @@
-use Rattle.std.proofs.Common.{◌≡◌, ◌∙◌, refl, subst, sym}
+use Rattle.std.proofs.Common.{ap, ◌∙◌, refl, subst, sym}
+use Rattle.posix_defs.specs.Files.Closing.{after_end_of}
+use Rattle.posix_defs.specs.Files.State.{Files}
 use Rattle.proc_descs.proofs.Fronts.{queues_same}
-use Rattle.proc_files.specs.Closing.{is_marked}
-use Rattle.proc_files.specs.Holding.{HoldFiles}
+use Rattle.proc_files.specs.Closing.{OnlyGoes, is_marked}
+use Rattle.proc_files.specs.Holding.{HoldFiles, openings}
 use Rattle.proc_files.proofs.Endings.{each_closed, each_none, end_is, ends_same, is_at}
+use Rattle.proc_files.proofs.NodesEnd.{ends_none}
 use Rattle.proc_files.proofs.ending.close_each.Goals as goal
 
 -- ---- nothing is open
@@ -30,3 +33,10 @@ returns-clause-closed c = λ numbers others files hold.
 pub returns-clause-closes : goal.returns-clause-closes
 returns-clause-closes c =
     each_closed c.args.heap.now c.close_marked.new.heap c.args.procs.now c.args.pid (is_marked c.all_marks-marks.result) c.all_marks-marks.ensures c.is_well_formed.ensures c.close_marked.ensures.closes
+
+pub returns-clause-stays : goal.returns-clause-stays
+returns-clause-stays c = λ numbers others files hold none.
+    let end = end_is (is_marked c.all_marks-marks.result) files c.args.pid c.all_marks-marks.ensures in
+    c.close_marked.ensures.stays numbers others files hold
+    (λ n. ap (λ (f : Files). openings f n) end
+    ∙ ends_none files (after_end_of files c.args.pid) none (subst (OnlyGoes files) end (c.close_marked.ensures.goes numbers others files hold)) n)

@@ -1,9 +1,10 @@
-use Rattle.std.proofs.Common.{◌≡◌, cond, refl, subst, sym}
+use Rattle.std.proofs.Common.{◌≡◌, ℕ, cond, refl, subst, sym}
 use Rattle.posix_defs.specs.Files.Closing.{after_close}
 use Rattle.proc_descs.proofs.Fronts.{queues_same}
-use Rattle.proc_files.specs.Closing.{ClosesIf}
-use Rattle.proc_files.specs.Holding.{HoldFiles}
+use Rattle.proc_files.specs.Closing.{ClosesIf, OnlyGoes}
+use Rattle.proc_files.specs.Holding.{HoldFiles, openings}
 use Rattle.proc_files.proofs.Endings.{is_at, marked_closes, not_marked}
+use Rattle.proc_files.proofs.NodesEnd.{closing_goes, goes_still, none_goes, only_goes}
 use Rattle.proc_files.proofs.ending.close_if.Goals as goal
 
 pub returns-then-not-marked-clause-closed : goal.returns-then-not-marked-clause-closed
@@ -27,3 +28,22 @@ pub returns-clause-closes : goal.returns-clause-closes
 returns-clause-closes c =
     subst (ClosesIf c.args.heap.now c.close_open.new.heap c.args.procs.now c.args.pid c.args.fd) (sym c.if-not-marked.false)
     (marked_closes c.args.heap.now c.close_open.new.heap c.args.procs.now c.args.pid c.args.fd c.close_open.ensures.closes)
+
+pub returns-then-not-marked-clause-goes : goal.returns-then-not-marked-clause-goes
+returns-then-not-marked-clause-goes c = λ numbers others files hold.
+    subst (λ b. OnlyGoes files (cond b (after_close files c.args.pid c.args.fd) files)) (sym c.if-not-marked.true) (goes_still files)
+
+pub returns-clause-goes : goal.returns-clause-goes
+returns-clause-goes c = λ numbers others files hold.
+    subst (λ b. OnlyGoes files (cond b (after_close files c.args.pid c.args.fd) files)) (sym c.if-not-marked.false)
+    (only_goes files (after_close files c.args.pid c.args.fd) _
+    (closing_goes c.args.heap.now c.close_open.new.heap c.args.procs.now c.args.pid c.args.fd numbers files c.requires.listed c.requires.owners c.close_open.ensures.listed c.close_open.ensures.closes hold.opened
+    (c.close_open.ensures.closed numbers others files hold).opened))
+
+pub returns-clause-stays : goal.returns-clause-stays
+returns-clause-stays c = λ numbers others files hold same.
+    c.close_open.ensures.stays
+    (none_goes files (after_close files c.args.pid c.args.fd) _
+    (closing_goes c.args.heap.now c.close_open.new.heap c.args.procs.now c.args.pid c.args.fd numbers files c.requires.listed c.requires.owners c.close_open.ensures.listed c.close_open.ensures.closes hold.opened
+    (c.close_open.ensures.closed numbers others files hold).opened)
+    (subst (λ b. (n : ℕ) → openings (cond b (after_close files c.args.pid c.args.fd) files) n ≡ openings files n) c.if-not-marked.false same))

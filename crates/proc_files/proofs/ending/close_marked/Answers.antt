@@ -1,10 +1,11 @@
-use Rattle.std.proofs.Common.{◌≡◌, ◌+◌, ◌∙◌, ℕ, cond, suc, refl, subst, arith}
+use Rattle.std.proofs.Common.{◌≡◌, ◌+◌, ◌∙◌, ℕ, cond, suc, refl, sym, subst, arith}
 use Rattle.kheap_laws.proofs.PaidLemmas.{IsPaid-refl, IsPaid-trans}
 use Rattle.posix_defs.specs.Files.Closing.{after_close}
 use Rattle.proc_descs.proofs.Fronts.{queues_same, queues_then}
-use Rattle.proc_files.specs.Closing.{ClosesIf, ClosesMarked, closed_where, is_marked}
-use Rattle.proc_files.specs.Holding.{HoldFiles}
+use Rattle.proc_files.specs.Closing.{ClosesIf, ClosesMarked, OnlyGoes, closed_where, is_marked}
+use Rattle.proc_files.specs.Holding.{HoldFiles, openings}
 use Rattle.proc_files.proofs.Endings.{is_at, marked_begins, marked_more}
+use Rattle.proc_files.proofs.NodesEnd.{goes_still, goes_then}
 use Rattle.proc_files.proofs.ending.close_marked.Goals as goal
 
 pub loop-fd-init : goal.loop-fd-init
@@ -18,6 +19,8 @@ loop-fd-init c = record {
   same = refl;
   may = c.requires.may;
   paid = IsPaid-refl c.args.heap.now c.args.purse.now;
+  goes = λ numbers others files hold. goes_still files;
+  stays = λ numbers others files hold same. refl;
   reads = omega arith;
 }
 
@@ -47,6 +50,23 @@ loop-fd-preserved c =
       same = c.close_if.ensures.same ∙ was.same;
       may = c.close_if.ensures.may;
       paid = IsPaid-trans c.args.heap.now c.args.purse.now mid c.loop-fd.purse new c.close_if.new.purse was.paid c.close_if.ensures.paid;
+      goes = λ numbers others files hold.
+          let before = closed_where (is_marked c.args.marks.now) files c.args.pid fd in
+          subst (λ n. OnlyGoes files (closed_where (is_marked c.args.marks.now) files c.args.pid n)) (next_one fd)
+          (goes_then files before (closed_where (is_marked c.args.marks.now) files c.args.pid (suc fd)) (was.goes numbers others files hold)
+          (subst (λ b. OnlyGoes before (cond b (after_close before c.args.pid fd) before)) c.mark_at-marked.ensures (c.close_if.ensures.goes numbers others before (was.closed numbers others files hold))));
+      stays = λ numbers others files hold same.
+          let before = closed_where (is_marked c.args.marks.now) files c.args.pid fd in
+          let next = closed_where (is_marked c.args.marks.now) files c.args.pid (suc fd) in
+          let all : (n : ℕ) → openings next n ≡ openings files n =
+          subst (λ k. (n : ℕ) → openings (closed_where (is_marked c.args.marks.now) files c.args.pid k) n ≡ openings files n) (sym (next_one fd)) same in
+          let first = was.goes numbers others files hold in
+          let second : OnlyGoes before next =
+          subst (λ b. OnlyGoes before (cond b (after_close before c.args.pid fd) before)) c.mark_at-marked.ensures (c.close_if.ensures.goes numbers others before (was.closed numbers others files hold)) in
+          c.close_if.ensures.stays numbers others before (was.closed numbers others files hold)
+          (subst (λ b. (n : ℕ) → openings (cond b (after_close before c.args.pid fd) before) n ≡ openings before n) (sym c.mark_at-marked.ensures)
+          (λ n. (let one = first.fewer n in let two = second.fewer n in let as_many = all n in omega (arith, one, two, as_many))))
+          ∙ was.stays numbers others files hold (λ n. (let one = first.fewer n in let two = second.fewer n in let as_many = all n in omega (arith, one, two, as_many)));
       reads = (let first = was.reads in let second = c.close_if.ensures.reads in omega (arith, first, second));
     }
 
@@ -58,3 +78,12 @@ returns-clause-closed c = λ numbers others files hold.
 pub returns-clause-closes : goal.returns-clause-closes
 returns-clause-closes c =
     subst (ClosesMarked c.args.heap.now c.loop-fd.heap c.args.procs.now c.args.pid (is_marked c.args.marks.now)) (let e : c.loop-fd.fd ≡ 32 = omega arith in e) c.loop-fd.invariant.closes
+
+pub returns-clause-goes : goal.returns-clause-goes
+returns-clause-goes c = λ numbers others files hold.
+    subst (λ n. OnlyGoes files (closed_where (is_marked c.args.marks.now) files c.args.pid n)) (let e : c.loop-fd.fd ≡ 32 = omega arith in e) (c.loop-fd.invariant.goes numbers others files hold)
+
+pub returns-clause-stays : goal.returns-clause-stays
+returns-clause-stays c = λ numbers others files hold same.
+    c.loop-fd.invariant.stays numbers others files hold
+    (subst (λ k. (n : ℕ) → openings (closed_where (is_marked c.args.marks.now) files c.args.pid k) n ≡ openings files n) (sym (let e : c.loop-fd.fd ≡ 32 = omega arith in e)) same)

@@ -5,8 +5,8 @@ use Rattle.place_laws.specs.Placed.{Numbers}
 use Rattle.posix_defs.specs.Files.State.{Files}
 use Rattle.proc_descs.specs.Having.{AreListed}
 use Rattle.proc_descs.specs.Queues.{QueuesStand}
-use Rattle.proc_files.specs.Closing.{ClosesMarked, MayClose, closed_where, is_marked}
-use Rattle.proc_files.specs.Holding.{HoldFiles, HoldSome}
+use Rattle.proc_files.specs.Closing.{ClosesMarked, MayClose, OnlyGoes, closed_where, is_marked}
+use Rattle.proc_files.specs.Holding.{HoldFiles, HoldSome, openings}
 use Rattle.proc_files.proofs.ending.close_marked.Given as goal
 
 -- those that are marked are closed of the numbers below
@@ -22,5 +22,8 @@ invariant-loop-fd l = record {
   same : l.purse ≡ l.fn.purse;
   may : MayClose l.heap l.purse;
   paid : IsPaid l.fn.heap l.fn.purse l.heap l.purse;
+  goes : (numbers : Numbers) (others : ℕ → ℕ) (files : Files) → HoldFiles numbers others l.fn.heap l.procs l.fn.tree files → OnlyGoes files (closed_where (is_marked l.marks) files l.pid l.fd);
+  stays : (numbers : Numbers) (others : ℕ → ℕ) (files : Files) → HoldFiles numbers others l.fn.heap l.procs l.fn.tree files
+      → ((number : ℕ) → openings (closed_where (is_marked l.marks) files l.pid l.fd) number ≡ openings files number) → l.tree ≡ l.fn.tree;
   reads : l.fn.tree.disk.reads ≤ l.tree.disk.reads;
 }

@@ -1,4 +1,4 @@
-use Rattle.std.proofs.Common.{◌≡◌, ◌∙◌, ap, refl, sym}
+use Rattle.std.proofs.Common.{◌≡◌, ◌∙◌, ap, sym}
 use Rattle.desc_table.specs.Numbered.{descriptors_in}
 use Rattle.posix_defs.specs.Files.Descriptors.{lowest_free_from}
 use Rattle.proc_descs.specs.Naming.{places_of}

@@ -1,15 +1,13 @@
-use Rattle.std.proofs.Common.{◌≡◌, ◌∙◌, [], ◌∷◌, length, Option, None, Some, ap, refl, sym, subst, w64}
+use Rattle.std.proofs.Common.{◌≡◌, ◌∙◌, [], length, Some, ap, refl, sym, subst, w64}
 use Rattle.std.proofs.lemmas.Int.{to_z-of_z}
-use Rattle.kheap_shelves.specs.Purse.{Purse}
 use Rattle.kheap_slabs.specs.Heap.{Heap}
-use Rattle.kheap_slabs.specs.Paid.{HasFills}
 use Rattle.kheap_laws.proofs.PaidLemmas.{IsPaid-nothing, IsPaid-trans}
 use Rattle.posix_defs.specs.Calls.OnFiles.{description_for}
 use Rattle.posix_defs.specs.Files.Descriptions.{has_flag, o_cloexec}
 use Rattle.posix_defs.specs.Files.State.{with_open}
 use Rattle.proc_descs.specs.Having.{HaveOpen}
 use Rattle.proc_descs.specs.Naming.{named_at}
-use Rattle.proc_descs.proofs.Fronts.{queues_same, queues_then}
+use Rattle.proc_descs.proofs.Fronts.{queues_same}
 use Rattle.proc_descs.proofs.NumberOpens.{changes_named}
 use Rattle.proc_pipes.proofs.Changes.{changes_after, opening}
 use Rattle.proc_pipes.proofs.Made.{used_apart}

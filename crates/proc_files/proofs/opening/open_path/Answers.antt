@@ -1,4 +1,4 @@
-use Rattle.std.proofs.Common.{◌≡◌, ◌∙◌, ◌<◌, ℕ, ℤ, true, [], None, Ok, Some, Err, ap, refl, sym, subst, w64}
+use Rattle.std.proofs.Common.{◌≡◌, ◌∙◌, ◌<◌, true, [], Ok, ap, refl, sym, subst, w64}
 use Rattle.std.specs.Prelude.{IfSome}
 use Rattle.std.proofs.lemmas.Int.{to_z-of_z}
 use Rattle.kabi_values.specs.OpenFlags.{are_open_flags}
@@ -13,8 +13,7 @@ use Rattle.place_laws.specs.Placed.{Numbers}
 use Rattle.posix_defs.specs.Files.State.{Files, opened_as, with_tree}
 use Rattle.posix_defs.specs.PathCalls.{Opening, open_path}
 use Rattle.posix_defs.specs.Paths.{resolve}
-use Rattle.posix_defs.specs.Process.{directory_of}
-use Rattle.posix_defs.specs.Tree.{Tree, is_directory}
+use Rattle.posix_defs.specs.Tree.{is_directory}
 use Rattle.proc_descs.specs.Having.{HaveOpen}
 use Rattle.proc_descs.specs.Naming.{named_at}
 use Rattle.proc_descs.proofs.Fronts.{queues_same, queues_then}

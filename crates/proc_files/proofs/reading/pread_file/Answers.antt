@@ -16,7 +16,7 @@ use Rattle.proc_files.proofs.Puts.{leads_put, read_beside, read_kept, read_paid}
 use Rattle.proc_files.proofs.Ranges.{as_mapped, as_range, no_count, right_placed, some_count}
 use Rattle.proc_files.proofs.ReadAnswers.{pread_closed, pread_denied, pread_directory, pread_goes, pread_nothing, pread_refused, pread_unmapped}
 use Rattle.kabi_calls.specs.declared.calls.Call.TheVariants as call
-use Rattle.proc_files.proofs.Saves.{saves_read, saves_used}
+use Rattle.proc_files.proofs.Saves.{keeps_read, saves_read, saves_used}
 use Rattle.proc_queues.specs.Found.{IsNamed}
 use Rattle.kheap_shelves.specs.declared.objects.Desc.{Desc}
 use Rattle.proc_files.proofs.reading.pread_file.Goals as goal
@@ -177,3 +177,29 @@ returns-clause-saved c =
     c.in-Some.ensures.there c.in-Inode.is (λ (desc : Desc). count_of c.args.at) c.count_of.result c.read_into.result
     (subst (λ z. c.count_of.result ≡ count_of z) (to_z-of_z w64 c.args.at c.ranges.at) c.count_of.ensures)
     c.read_into.ensures.saved
+
+pub returns-in_default-clause-last : goal.returns-in_default-clause-last
+returns-in_default-clause-last c = λ held desc number inode named there on has some. absurd (omega (arith, some))
+
+pub returns-then-not-may_read-clause-last : goal.returns-then-not-may_read-clause-last
+returns-then-not-may_read-clause-last c = λ held desc number inode named there on has some. absurd (omega (arith, some))
+
+pub returns-in_default-target-clause-last : goal.returns-in_default-target-clause-last
+returns-in_default-target-clause-last c = λ held desc number inode named there on has some. absurd (omega (arith, some))
+
+pub returns-then-is_directory-clause-last : goal.returns-then-is_directory-clause-last
+returns-then-is_directory-clause-last c = λ held desc number inode named there on has some. absurd (omega (arith, some))
+
+pub returns-in_default-range_of-clause-last : goal.returns-in_default-range_of-clause-last
+returns-in_default-range_of-clause-last c = λ held desc number inode named there on has some. absurd (omega (arith, some))
+
+pub returns-then-is_empty-clause-last : goal.returns-then-is_empty-clause-last
+returns-then-is_empty-clause-last c = λ held desc number inode named there on has some. absurd (omega (arith, some))
+
+pub returns-clause-last : goal.returns-clause-last
+returns-clause-last c =
+    keeps_read c.args.heap.now c.args.procs.now c.args.pid c.args.fd c.args.tree.now c.stat_node-info.new.self c.stat_node-info.ensures.used c.read_into.new.tree c.in-Some.found c.in-Inode.node
+    (subst (λ z. IsNamed c.args.heap.now c.args.procs.now c.args.pid z c.in-Some.found) (to_z-of_z w64 c.args.fd c.ranges.fd) c.in-Some.ensures.named)
+    c.in-Some.ensures.there c.in-Inode.is (λ (desc : Desc). count_of c.args.at) c.count_of.result c.read_into.result
+    (subst (λ z. c.count_of.result ≡ count_of z) (to_z-of_z w64 c.args.at c.ranges.at) c.count_of.ensures)
+    c.read_into.ensures.last

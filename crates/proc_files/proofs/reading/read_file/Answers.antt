@@ -23,7 +23,7 @@ use Rattle.proc_files.proofs.Puts.{leads_moved, moved_beside, read_descs, read_k
 use Rattle.proc_files.proofs.Ranges.{as_mapped, as_range, no_count, right_moved, some_count}
 use Rattle.proc_files.proofs.ReadAnswers.{read_closed, read_denied, read_directory, read_goes, read_nothing, read_unmapped}
 use Rattle.kabi_calls.specs.declared.calls.Call.TheVariants as call
-use Rattle.proc_files.proofs.Saves.{saves_read, saves_used}
+use Rattle.proc_files.proofs.Saves.{keeps_read, saves_read, saves_used}
 use Rattle.proc_files.proofs.reading.read_file.Goals as goal
 
 pub opened-requires-clause-there : goal.opened-requires-clause-there
@@ -198,3 +198,25 @@ returns-clause-saved c =
     (subst (λ z. IsNamed c.args.heap.now c.args.procs.now c.args.pid z c.in-Some.found) (to_z-of_z w64 c.args.fd c.ranges.fd) c.in-Some.ensures.named)
     c.in-Some.ensures.there c.in-Inode.is (λ (desc : Desc). desc.offset) c.in-Some.found.desc.offset c.read_into-count.result refl
     c.read_into-count.ensures.saved
+
+pub returns-in_default-clause-last : goal.returns-in_default-clause-last
+returns-in_default-clause-last c = λ held desc number inode named there on has some. absurd (omega (arith, some))
+
+pub returns-then-not-may_read-clause-last : goal.returns-then-not-may_read-clause-last
+returns-then-not-may_read-clause-last c = λ held desc number inode named there on has some. absurd (omega (arith, some))
+
+pub returns-then-is_directory-clause-last : goal.returns-then-is_directory-clause-last
+returns-then-is_directory-clause-last c = λ held desc number inode named there on has some. absurd (omega (arith, some))
+
+pub returns-in_default-range_of-clause-last : goal.returns-in_default-range_of-clause-last
+returns-in_default-range_of-clause-last c = λ held desc number inode named there on has some. absurd (omega (arith, some))
+
+pub returns-then-is_empty-clause-last : goal.returns-then-is_empty-clause-last
+returns-then-is_empty-clause-last c = λ held desc number inode named there on has some. absurd (omega (arith, some))
+
+pub returns-clause-last : goal.returns-clause-last
+returns-clause-last c =
+    keeps_read c.args.heap.now c.args.procs.now c.args.pid c.args.fd c.args.tree.now c.stat_node-info.new.self c.stat_node-info.ensures.used c.read_into-count.new.tree c.in-Some.found c.in-Inode.node
+    (subst (λ z. IsNamed c.args.heap.now c.args.procs.now c.args.pid z c.in-Some.found) (to_z-of_z w64 c.args.fd c.ranges.fd) c.in-Some.ensures.named)
+    c.in-Some.ensures.there c.in-Inode.is (λ (desc : Desc). desc.offset) c.in-Some.found.desc.offset c.read_into-count.result refl
+    c.read_into-count.ensures.last

@@ -63,3 +63,6 @@ returns-clause-count c = λ plain pins stands.
 
 pub returns-clause-saved : goal.returns-clause-saved
 returns-clause-saved c = c.read_node-count.ensures.saved
+
+pub returns-clause-last : goal.returns-clause-last
+returns-clause-last c = c.read_node-count.ensures.last

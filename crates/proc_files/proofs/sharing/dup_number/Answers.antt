@@ -1,4 +1,4 @@
-use Rattle.std.proofs.Common.{◌≡◌, ◌≢◌, ◌∙◌, ◌<◌, ◌+◌, [], None, Some, true, false, cond, ne_eqb, ap, is_some, refl, pos, subst, sym, w64, arith}
+use Rattle.std.proofs.Common.{◌≡◌, ◌∙◌, ◌<◌, [], None, Some, true, false, cond, ne_eqb, ap, is_some, refl, pos, subst, sym, w64, arith}
 use Rattle.std.proofs.lemmas.Int.{to_z-of_z}
 use Rattle.kabi_calls.specs.Arguments.{count_of, may_be_descriptor}
 use Rattle.kabi_values.specs.declared.replies.Reply.TheVariants.{Val}
@@ -15,7 +15,7 @@ use Rattle.proc_descs.proofs.Fronts.{queues_same, queues_then}
 use Rattle.proc_descs.proofs.NumberCloses.{no_some}
 use Rattle.proc_descs.proofs.NumberNames.{desc_named, desc_named_by, within_most}
 use Rattle.proc_pipes.proofs.Answered.{dup2_beyond, dup2_other, dup2_same, on_nothing}
-use Rattle.proc_pipes.proofs.Changes.{changes_nothing, closed_names_nothing, named_count, node_of_number, others_stay}
+use Rattle.proc_pipes.proofs.Changes.{changes_nothing, closed_names_nothing, named_count, others_stay}
 use Rattle.proc_files.proofs.Changing.{holding_closed, holding_of, holding_then}
 use Rattle.proc_files.proofs.Shares.{caches_shared, hold_named}
 use Rattle.proc_files.proofs.sharing.dup_number.Goals as goal

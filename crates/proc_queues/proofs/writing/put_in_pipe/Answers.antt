@@ -16,8 +16,8 @@ returns-clause-told c = λ pipe at stands.
     let len_is = c.min.ensures ∙ ap (λ m. min m 4096) c.left.ensures in
     c.told.ensures
     ∙ ap (told_write c.args.nonblock written.n written.done)
-    (put_answer pipe c.args.nonblock written.n written.done written.start c.rest.result memory c.copy_out.new.out c.min.result
-    (c.copy_out.ensures memory (memory_at-stands c.args.heap.now c.args.space.now) ∙ ap (loaded memory c.rest.result) (length-take-le c.min.result _ (let few = c.min.ensures in omega (arith, few))))
+    (put_answer pipe c.args.nonblock written.n written.done written.start c.rest.result memory c.fetch.new.out c.min.result
+    (c.fetch.ensures memory (memory_at-stands c.args.heap.now c.args.space.now) ∙ ap (loaded memory c.rest.result) (length-take-le c.min.result _ (let few = c.min.ensures in omega (arith, few))))
     len_is c.rest.ensures.rest c.pipe_write-moved.result (c.pipe_write-moved.ensures.answer pipe at stands))
 
 pub returns-clause-stands : goal.returns-clause-stands
@@ -25,8 +25,8 @@ returns-clause-stands c = λ pipe at memory stands is.
     let written = c.args.written.now in
     let len_is = c.min.ensures ∙ ap (λ m. min m 4096) c.left.ensures in
     subst (λ (p : Pipe). PipeStandsFor c.pipe_write-moved.new.heap c.args.key p at)
-    (put_bytes pipe c.args.nonblock written.n written.done written.start c.rest.result memory c.copy_out.new.out c.min.result
-    (c.copy_out.ensures memory is ∙ ap (loaded memory c.rest.result) (length-take-le c.min.result _ (let few = c.min.ensures in omega (arith, few))))
+    (put_bytes pipe c.args.nonblock written.n written.done written.start c.rest.result memory c.fetch.new.out c.min.result
+    (c.fetch.ensures memory is ∙ ap (loaded memory c.rest.result) (length-take-le c.min.result _ (let few = c.min.ensures in omega (arith, few))))
     len_is c.rest.ensures.rest c.pipe_write-moved.result (c.pipe_write-moved.ensures.answer pipe at stands))
     (c.pipe_write-moved.ensures.stands pipe at stands)
 
@@ -36,7 +36,7 @@ returns-clause-refused c = λ pipe at stands.
     let memory = memory_at c.args.heap.now c.args.space.now in
     let len_is = c.min.ensures ∙ ap (λ m. min m 4096) c.left.ensures in
     unless_moves c.pipe_write-moved.result (pipe_write pipe c.args.nonblock written.n (written.n - written.done)) _ (c.pipe_write-moved.new.heap ≡ c.args.heap.now)
-    (put_answer pipe c.args.nonblock written.n written.done written.start c.rest.result memory c.copy_out.new.out c.min.result
-    (c.copy_out.ensures memory (memory_at-stands c.args.heap.now c.args.space.now) ∙ ap (loaded memory c.rest.result) (length-take-le c.min.result _ (let few = c.min.ensures in omega (arith, few))))
+    (put_answer pipe c.args.nonblock written.n written.done written.start c.rest.result memory c.fetch.new.out c.min.result
+    (c.fetch.ensures memory (memory_at-stands c.args.heap.now c.args.space.now) ∙ ap (loaded memory c.rest.result) (length-take-le c.min.result _ (let few = c.min.ensures in omega (arith, few))))
     len_is c.rest.ensures.rest c.pipe_write-moved.result (c.pipe_write-moved.ensures.answer pipe at stands))
     (λ both. both.0) c.pipe_write-moved.ensures.refused

@@ -2,7 +2,7 @@ use Rattle.std.proofs.Common.{◌∙◌, is_some, length, ap, refl, sym}
 use Rattle.proc_table.proofs.PlaceLemmas.{key_of-proc}
 use Rattle.proc_descs.specs.Having.{places_in}
 use Rattle.proc_descs.proofs.Listing.{found_before}
-use Rattle.proc_descs.proofs.opening.places_of.Goals as goal
+use Rattle.proc_descs.proofs.opening.places_in.Goals as goal
 
 pub get_proc-requires : goal.get_proc-requires
 get_proc-requires c =

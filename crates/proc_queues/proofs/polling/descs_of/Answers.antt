@@ -6,22 +6,21 @@ use Rattle.posix_defs.specs.Files.Descriptors.{Descriptors, descriptor_of}
 use Rattle.proc_table.proofs.PlaceLemmas.{key_of-proc}
 use Rattle.proc_queues.proofs.Opening.{descriptors_are}
 use Rattle.proc_queues.proofs.Polls.{number_opens}
-use Rattle.proc_queues.proofs.polling.polled.Goals as goal
+use Rattle.proc_queues.proofs.polling.descs_of.Goals as goal
 
 pub get_proc-requires : goal.get_proc-requires
 get_proc-requires c =
     let it = key_of-proc c.args.heap.now.procs c.args.procs.now.listed c.args.pid c.in-Some.key c.requires.kept.listed.stored (sym c.key_of.ensures ∙ c.in-Some.is) in
     ap is_some it.1
 
-pub polled-requires : goal.polled-requires
-polled-requires c =
-    subst (λ (d : Descriptors). IsOpenIn c.args.heap.now (descriptor_of d c.args.entry.now.fd)) (sym c.of.ensures)
+pub returns-clause-open : goal.returns-clause-open
+returns-clause-open c = λ fd.
+    subst (λ (d : Descriptors). IsOpenIn c.args.heap.now (descriptor_of d fd)) (sym c.of.ensures)
     (number_opens c.args.heap.now c.args.procs.now c.args.pid c.in-Some.key c.get_proc.result.now c.requires.kept.listed (sym c.key_of.ensures ∙ c.in-Some.is) c.get_proc.ensures
-    c.requires.kept.owners c.args.entry.now.fd)
+    c.requires.kept.owners fd)
 
-pub returns : goal.returns
-returns c = λ numbers files have.
-    c.polled.ensures numbers have.list files c.args.pid have.opened
-    (descriptors_are c.args.heap.now c.args.procs.now c.args.pid c.in-Some.key c.get_proc.result.now c.requires.kept.listed (sym c.key_of.ensures ∙ c.in-Some.is) c.get_proc.ensures numbers files have
+pub returns-clause-are : goal.returns-clause-are
+returns-clause-are c = λ numbers files have.
+    descriptors_are c.args.heap.now c.args.procs.now c.args.pid c.in-Some.key c.get_proc.result.now c.requires.kept.listed (sym c.key_of.ensures ∙ c.in-Some.is) c.get_proc.ensures numbers files have
     ∙ kept_by numbers.descs c.get_proc.result.now.descriptors
-    ∙ ap (renumbered numbers.descs) (sym c.of.ensures))
+    ∙ ap (renumbered numbers.descs) (sym c.of.ensures)

@@ -1,0 +1,234 @@
+//! Calls of the first process, one after another.
+
+ghost use Rattle.file_trials.specs.Desks.{HasDesk};
+
+use crate::desk::{Desk, blocks, walking};
+use kabi_types::Errno;
+use proc_files::{
+    close_at_exec, close_each, close_number, dup_number, open_path, seek_number, size_number,
+    stat_number,
+};
+use std::process::Abort;
+
+/// A call of the first process.
+#[derive(Drop)]
+pub enum Step {
+    /// `open("/a", O_RDWR | O_CREAT)`
+    OpenNew,
+    /// `open("/a", O_RDONLY | O_CLOEXEC)`
+    OpenMarked,
+    /// `open("/b", O_RDONLY)`
+    OpenMissing,
+    /// `open("/", O_RDWR)`
+    OpenRoot,
+    Close(i64),
+    Dup2(i64, i64),
+    Lseek(i64, i64, i64),
+    Ftruncate(i64, i64),
+    /// The size that `fstat` tells.
+    Fstat(i64),
+    /// What `exec` closes.
+    AtExec,
+    /// What an end closes.
+    AtEnd,
+}
+
+/// What a call answers, 0 where that is nothing.
+pub type Told = Result<u64, Errno>;
+
+/// A step of the first process.
+pub fn take(rt: &impl Abort, desk: &mut Desk, step: &Step) -> Told
+    requires { HasDesk desk.old.heap desk.old.procs desk.old.tree }
+    ensures { HasDesk desk.new.heap desk.new.procs desk.new.tree }
+{
+    match step {
+        Step::OpenNew => open_new(rt, desk),
+        Step::OpenMarked => open_marked(rt, desk),
+        Step::OpenMissing => open_missing(rt, desk),
+        Step::OpenRoot => open_root(rt, desk),
+        Step::Close(fd) => close(rt, desk, *fd),
+        Step::Dup2(fd, to) => dup2(rt, desk, *fd, *to),
+        Step::Lseek(fd, offset, whence) => lseek(desk, *fd, *offset, *whence),
+        Step::Ftruncate(fd, size) => ftruncate(rt, desk, *fd, *size),
+        Step::Fstat(fd) => fstat(desk, *fd),
+        Step::AtExec => at_exec(rt, desk),
+        Step::AtEnd => at_end(rt, desk),
+    }
+}
+
+// A value as a wider one.
+fn widened(value: Result<u32, Errno>) -> Told {
+    match value {
+        Ok(value) => Ok(u64::from(value)),
+        Err(errno) => Err(errno),
+    }
+}
+
+// 0 where nothing is told.
+fn nothing(done: Result<(), Errno>) -> Told {
+    match done {
+        Ok(()) => Ok(0),
+        Err(errno) => Err(errno),
+    }
+}
+
+fn open_new(rt: &impl Abort, desk: &mut Desk) -> Told
+    requires { HasDesk desk.old.heap desk.old.procs desk.old.tree }
+    ensures { HasDesk desk.new.heap desk.new.procs desk.new.tree }
+{
+    let mut purse = walking(rt, &desk.heap);
+    let told = open_path(
+        &mut desk.heap,
+        &mut purse,
+        &desk.procs,
+        &mut desk.tree,
+        1,
+        b"/a",
+        66,
+    );
+    widened(told)
+}
+
+fn open_marked(rt: &impl Abort, desk: &mut Desk) -> Told
+    requires { HasDesk desk.old.heap desk.old.procs desk.old.tree }
+    ensures { HasDesk desk.new.heap desk.new.procs desk.new.tree }
+{
+    let mut purse = walking(rt, &desk.heap);
+    let told = open_path(
+        &mut desk.heap,
+        &mut purse,
+        &desk.procs,
+        &mut desk.tree,
+        1,
+        b"/a",
+        524288,
+    );
+    widened(told)
+}
+
+fn open_missing(rt: &impl Abort, desk: &mut Desk) -> Told
+    requires { HasDesk desk.old.heap desk.old.procs desk.old.tree }
+    ensures { HasDesk desk.new.heap desk.new.procs desk.new.tree }
+{
+    let mut purse = walking(rt, &desk.heap);
+    let told = open_path(
+        &mut desk.heap,
+        &mut purse,
+        &desk.procs,
+        &mut desk.tree,
+        1,
+        b"/b",
+        0,
+    );
+    widened(told)
+}
+
+fn open_root(rt: &impl Abort, desk: &mut Desk) -> Told
+    requires { HasDesk desk.old.heap desk.old.procs desk.old.tree }
+    ensures { HasDesk desk.new.heap desk.new.procs desk.new.tree }
+{
+    let mut purse = walking(rt, &desk.heap);
+    let told = open_path(
+        &mut desk.heap,
+        &mut purse,
+        &desk.procs,
+        &mut desk.tree,
+        1,
+        b"/",
+        2,
+    );
+    widened(told)
+}
+
+fn close(rt: &impl Abort, desk: &mut Desk, fd: i64) -> Told
+    requires { HasDesk desk.old.heap desk.old.procs desk.old.tree }
+    ensures { HasDesk desk.new.heap desk.new.procs desk.new.tree }
+{
+    let mut purse = blocks(rt, &desk.heap);
+    let done = close_number(
+        &mut desk.heap,
+        &mut purse,
+        &desk.procs,
+        &mut desk.tree,
+        1,
+        fd,
+    );
+    nothing(done)
+}
+
+fn dup2(rt: &impl Abort, desk: &mut Desk, fd: i64, to: i64) -> Told
+    requires { HasDesk desk.old.heap desk.old.procs desk.old.tree }
+    ensures { HasDesk desk.new.heap desk.new.procs desk.new.tree }
+{
+    let mut purse = blocks(rt, &desk.heap);
+    let told = dup_number(
+        &mut desk.heap,
+        &mut purse,
+        &desk.procs,
+        &mut desk.tree,
+        1,
+        fd,
+        to,
+    );
+    widened(told)
+}
+
+fn lseek(desk: &mut Desk, fd: i64, offset: i64, whence: i64) -> Told
+    requires { HasDesk desk.old.heap desk.old.procs desk.old.tree }
+    ensures { HasDesk desk.new.heap desk.new.procs desk.new.tree }
+{
+    seek_number(
+        &mut desk.heap,
+        &desk.procs,
+        &mut desk.tree,
+        1,
+        fd,
+        offset,
+        whence,
+    )
+}
+
+fn ftruncate(rt: &impl Abort, desk: &mut Desk, fd: i64, size: i64) -> Told
+    requires { HasDesk desk.old.heap desk.old.procs desk.old.tree }
+    ensures { HasDesk desk.new.heap desk.new.procs desk.new.tree }
+{
+    let mut purse = blocks(rt, &desk.heap);
+    let done = size_number(
+        &mut desk.heap,
+        &mut purse,
+        &desk.procs,
+        &mut desk.tree,
+        1,
+        fd,
+        size,
+    );
+    nothing(done)
+}
+
+fn fstat(desk: &mut Desk, fd: i64) -> Told
+    requires { HasDesk desk.old.heap desk.old.procs desk.old.tree }
+    ensures { HasDesk desk.new.heap desk.new.procs desk.new.tree }
+{
+    match stat_number(&desk.heap, &desk.procs, &mut desk.tree, 1, fd) {
+        Ok(info) => Ok(u64::from(info.size)),
+        Err(errno) => Err(errno),
+    }
+}
+
+fn at_exec(rt: &impl Abort, desk: &mut Desk) -> Told
+    requires { HasDesk desk.old.heap desk.old.procs desk.old.tree }
+    ensures { HasDesk desk.new.heap desk.new.procs desk.new.tree }
+{
+    let mut purse = blocks(rt, &desk.heap);
+    close_at_exec(&mut desk.heap, &mut purse, &desk.procs, &mut desk.tree, 1);
+    Ok(0)
+}
+
+fn at_end(rt: &impl Abort, desk: &mut Desk) -> Told
+    requires { HasDesk desk.old.heap desk.old.procs desk.old.tree }
+    ensures { HasDesk desk.new.heap desk.new.procs desk.new.tree }
+{
+    let mut purse = blocks(rt, &desk.heap);
+    close_each(&mut desk.heap, &mut purse, &desk.procs, &mut desk.tree, 1);
+    Ok(0)
+}
