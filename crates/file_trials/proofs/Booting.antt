@@ -53,7 +53,7 @@ alone_directories tree is = record {
   few = λ number. by_test (nat_eq root number);
 }
   where
-    by_test : (b : Bool) → cond b 1 0 ≤ 65
+    by_test : (b : Bool) → cond b 1 0 ≤ 65536
     by_test true = omega arith
     by_test false = omega arith
 

@@ -30,8 +30,8 @@ holders others files number = others number + openings files number
 pub record HoldDirectories (others : ℕ → ℕ) (tree : Tree) : Type 0 where
   pub root : 0 < others root
   pub directories : (number : ℕ) → 0 < others number → is_directory tree number ≡ true
-  -- the root is held once by itself, and there are at most 64 processes
-  pub few : (number : ℕ) → others number ≤ 65
+  -- the root is held once by itself, and there are no more processes than a heap has room for
+  pub few : (number : ℕ) → others number ≤ 65536
 
 -- ---- what is open
 
