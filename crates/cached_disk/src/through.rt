@@ -60,6 +60,7 @@ pub fn read_through(
 }
 
 /// The inode that the table has of a node, in use or free.
+#[cold]
 pub fn inode_through(
     heap: &mut KHeap,
     purse: &mut Purse,
