@@ -28,7 +28,14 @@ pub fn booted(alloc: Global) -> Result<Desk, Memory>
 {
     let mut heap = KHeap::boot(alloc, 65536)?;
     let procs = ProcTable::boot(&mut heap);
-    let tree = FileTree::boot(alloc, 64, &mut heap)?;
+    let tree = match FileTree::boot(alloc, 64, &mut heap) {
+        Ok(tree) => tree,
+        Err(wanting) => {
+            drop(procs);
+            drop(heap);
+            return Err(wanting);
+        }
+    };
     Ok(Desk { heap, procs, tree })
 }
 

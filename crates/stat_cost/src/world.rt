@@ -35,7 +35,9 @@ pub fn reads_of(alloc: Global, plan: &Plan) -> Option<u64>
     let Ok(mut world) = booted(alloc, plan.heap) else {
         return None;
     };
-    reads_in(&mut world, plan.components as usize, plan.rounds)
+    let reads = reads_in(&mut world, plan.components as usize, plan.rounds);
+    drop(world);
+    reads
 }
 
 /// The same in a world that was booted.
@@ -63,7 +65,13 @@ fn booted(alloc: Global, heap: u64) -> Result<World, Memory>
     ensures { IfOk result (λ world. StandsForSome world.heap world.files) }
 {
     let mut heap = KHeap::boot(alloc, heap)?;
-    let files = FileTree::boot(alloc, 4096, &mut heap)?;
+    let files = match FileTree::boot(alloc, 4096, &mut heap) {
+        Ok(files) => files,
+        Err(wanting) => {
+            drop(heap);
+            return Err(wanting);
+        }
+    };
     Ok(World { heap, files })
 }
 

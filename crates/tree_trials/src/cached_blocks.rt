@@ -43,9 +43,10 @@ fn booted(alloc: Global) -> Result<(KHeap, Purse, BlockCache, RamDisk), Memory>
     ensures disk { IfOk result (λ made. length made.3.blocks ≡ 16) }
     ensures sound { IfOk result (λ made. Sound made.3.blocks) }
 {
-    let heap = KHeap::boot(alloc, 65536)?;
-    let cache = BlockCache::boot(alloc, 16)?;
+    // The greater, the later: where memory is wanting, what is there already is let go.
     let disk = RamDisk::boot(alloc, 16)?;
+    let cache = BlockCache::boot(alloc, 16)?;
+    let heap = KHeap::boot(alloc, 65536)?;
     Ok((heap, two_blocks(), cache, disk))
 }
 

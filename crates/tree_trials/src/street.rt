@@ -106,11 +106,12 @@ fn booted(rt: &impl Abort, alloc: Global, many: u32) -> Result<Kept, Memory>
     requires { (1 ≤ many) × (many ≤ 4) }
     ensures { IfOk result (λ kept. LentForSome kept.heap kept.purse kept.names kept.vnodes kept.blocks kept.disk) }
 {
-    let heap = KHeap::boot(alloc, 65536)?;
-    let names = NameCache::boot(alloc, 1024)?;
-    let vnodes = VnodeCache::boot(alloc, 16)?;
-    let blocks = BlockCache::boot(alloc, 16)?;
+    // The greater, the later: where memory is wanting, what is there already is let go.
     let disk = street(rt, alloc)?;
+    let blocks = BlockCache::boot(alloc, 16)?;
+    let vnodes = VnodeCache::boot(alloc, 16)?;
+    let names = NameCache::boot(alloc, 1024)?;
+    let heap = KHeap::boot(alloc, 65536)?;
     let purse = purse_of(many);
     Ok(Kept {
         heap,

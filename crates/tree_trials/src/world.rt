@@ -27,7 +27,13 @@ pub fn booted(alloc: Global, blocks: u32) -> Result<World, Memory>
     ensures { IfOk result (λ world. StandsHeld world.heap world.files world.held.items) }
 {
     let mut heap = KHeap::boot(alloc, 65536)?;
-    let files = FileTree::boot(alloc, blocks, &mut heap)?;
+    let files = match FileTree::boot(alloc, blocks, &mut heap) {
+        Ok(files) => files,
+        Err(wanting) => {
+            drop(heap);
+            return Err(wanting);
+        }
+    };
     Ok(World {
         heap,
         files,

@@ -11,4 +11,4 @@ pub boot-requires-2-clause-empty : goal.boot-requires-2-clause-empty
 boot-requires-2-clause-empty c = subst HasNoFiles (sym c.in_ok-heap.ensures.empty) (no_files c.args.heap)
 
 pub returns : goal.returns
-returns c = let s = c.in_ok-files.ensures.stands in (new_tree 4096, root_alone, s, s.is_tree.root_directory)
+returns c = let s = c.in-Ok.ensures.stands in (new_tree 4096, root_alone, s, s.is_tree.root_directory)

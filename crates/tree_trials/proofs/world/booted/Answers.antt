@@ -8,4 +8,4 @@ pub boot-requires-2-clause-empty : goal.boot-requires-2-clause-empty
 boot-requires-2-clause-empty c = subst HasNoFiles (sym c.in_ok-heap.ensures.empty) (no_files 65536)
 
 pub returns : goal.returns
-returns c = stands_booted _ _ (new_tree c.args.blocks) c.new.result.items c.new.ensures.items c.in_ok-files.ensures.stands
+returns c = stands_booted _ _ (new_tree c.args.blocks) c.new.result.items c.new.ensures.items c.in-Ok.ensures.stands
