@@ -40,15 +40,16 @@ pins_split plain n =
 -- who isn't the root and is held so is a directory
 away_is : (tree : Tree) (n : ℕ) (nodes : List ℕ) → AreDirectories tree nodes → 0 < count_by (λ node. node == n) (but_root nodes) → is_directory tree n ≡ true
 away_is tree n [] are some = absurd (let none : count_by (λ (node : ℕ). node == n) [] ≡ 0 = refl in omega (arith, some, none))
-away_is tree n (node ∷ nodes) are some = by_root (node == root) some
+away_is tree n (node ∷ nodes) are some = by_root (node == root) (λ held. away_is tree n nodes are.1 held) some
   where
-    by_node : (((node == n) ≡ true) × (node ≡ n)) ⊎ (((node == n) ≡ false) × (node ≢ n)) → 0 < count_by (λ k. k == n) (node ∷ but_root nodes) → is_directory tree n ≡ true
-    by_node (inl same) held = subst (λ k. is_directory tree k ≡ true) same.1 are.0
-    by_node (inr apart) held = away_is tree n nodes are.1 (let all = whole n node (but_root nodes) in let none : one_if (node == n) ≡ 0 = ap one_if apart.0 in omega (arith, held, all, none))
+    by_node : (((node == n) ≡ true) × (node ≡ n)) ⊎ (((node == n) ≡ false) × (node ≢ n)) → (0 < count_by (λ k. k == n) (but_root nodes) → is_directory tree n ≡ true)
+        → 0 < count_by (λ k. k == n) (node ∷ but_root nodes) → is_directory tree n ≡ true
+    by_node (inl same) later held = subst (λ k. is_directory tree k ≡ true) same.1 are.0
+    by_node (inr apart) later held = later (let all = whole n node (but_root nodes) in let none : one_if (node == n) ≡ 0 = ap one_if apart.0 in omega (arith, held, all, none))
 
-    by_root : (b : Bool) → 0 < count_by (λ k. k == n) (cond b (but_root nodes) (node ∷ but_root nodes)) → is_directory tree n ≡ true
-    by_root true held = away_is tree n nodes are.1 held
-    by_root false held = by_node (eqb_tells node n) held
+    by_root : (b : Bool) → (0 < count_by (λ k. k == n) (but_root nodes) → is_directory tree n ≡ true) → 0 < count_by (λ k. k == n) (cond b (but_root nodes) (node ∷ but_root nodes)) → is_directory tree n ≡ true
+    by_root true later held = later held
+    by_root false later held = by_node (eqb_tells node n) later held
 
 directories : (tree : Tree) (plain : Plain) → is_directory tree root ≡ true → AreDirectories tree (directories_of plain.table) → (n : ℕ) → 0 < others_in plain n → is_directory tree n ≡ true
 directories tree plain root_is are n some = by_root (eqb_tells root n)
