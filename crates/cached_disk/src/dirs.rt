@@ -1,5 +1,5 @@
 //! `CachedDirs`, and what it does to what was lent.
-ghost use Rattle.std.specs.Prelude.{◌≡◌, ◌≢◌, ◌⊎◌, ℕ, ◌<◌, true, length, IfNone, IfSome, IsSome, None};
+ghost use Rattle.std.specs.Prelude.{◌≡◌, ◌≢◌, ◌⊎◌, ℕ, ◌<◌, ◌≤◌, true, length, IfNone, IfSome, IsSome, None};
 ghost use Rattle.lru_index.specs.Order.{Order};
 ghost use Rattle.lru_index.specs.NameKeys.{name_key};
 ghost use Rattle.lru_index.specs.declared.keys.NameKey.{NameKey as KeyOf};
@@ -12,7 +12,7 @@ ghost use Rattle.cached_disk.specs.TreeLent.{tree_parts, AllLent, StandsThrough,
 use crate::through::{inode_through, name_through, parent_through};
 use block_cache::BlockCache;
 use disk_layout::RamDisk;
-use kabi_types::{Inode, Name27};
+use kabi_types::Inode;
 use kheap_shelves::Purse;
 use kheap_slabs::KHeap;
 use lru_index::NameKey;
@@ -151,17 +151,18 @@ pub fn find_inode(
     }
 }
 
-/// A name that an entry may have: 27 bytes at most, and neither `.` nor `..`.
-fn entry_name(name: &[u8]) -> Option<Name27>
+/// The key of a name that an entry may have: 27 bytes at most, and neither `.` nor `..`.
+fn entry_key(dir: u32, name: &[u8]) -> Option<NameKey>
     ensures none { IfNone result
         ((name.now ≡ own_name) ⊎ ((name.now ≡ parent_name) ⊎ (27 < length name.now))) }
     ensures some { IfSome result
-        (λ entry. (entry ≡ name.now) × (name.now ≢ own_name) × (name.now ≢ parent_name)) }
+        (λ key. (key ≡ name_key dir name.now) × (length name.now ≤ 27)
+        × (name.now ≢ own_name) × (name.now ≢ parent_name)) }
 {
-    if name == b".".as_slice() || name == b"..".as_slice() {
+    if name == b".".as_slice() || name == b"..".as_slice() || name.len() > 27 {
         return None;
     }
-    Name27::of(name)
+    Some(NameKey::of_bytes(dir, name))
 }
 
 /// The node under a name of a directory: as it is cached, else as the directory has it, and then it is cached. None exactly
@@ -193,16 +194,17 @@ pub fn find_name(
         (tree_parts heap.old purse.old names.old vnodes.old blocks.old disk.old)
         (tree_parts heap.new purse.new names.new vnodes.new blocks.new disk.new) }
 {
-    let Some(entry) = entry_name(name) else {
+    let Some(key) = entry_key(dir, name) else {
         return None;
     };
-    match names.get(heap, NameKey::of(dir, &entry)) {
+    match names.get(heap, key) {
         Some(node) => Some(node),
-        None => find_beyond(heap, purse, names, vnodes, blocks, disk, dir, &entry),
+        None => find_beyond(heap, purse, names, vnodes, blocks, disk, dir, name),
     }
 }
 
 /// The same of a name that isn't cached.
+#[cold]
 fn find_beyond(
     heap: &mut KHeap,
     purse: &mut Purse,
@@ -211,13 +213,13 @@ fn find_beyond(
     blocks: &mut BlockCache,
     disk: &mut RamDisk,
     dir: u32,
-    name: &Name27,
+    name: &[u8],
 ) -> Option<u32>
     requires lent { AllLent heap.old purse.old names.old vnodes.old blocks.old disk.old }
     requires stands { (tree : Tree)
         × StandsThrough (tree_parts heap.old purse.old names.old vnodes.old blocks.old disk.old) tree
         × (is_directory tree dir ≡ true) }
-    requires name { (name.now ≢ own_name) × (name.now ≢ parent_name) }
+    requires name { (length name.now ≤ 27) × (name.now ≢ own_name) × (name.now ≢ parent_name) }
     requires absent { name_slot names.old (name_key dir name.now) ≡ None }
     ensures value { (tree : Tree)
         → StandsThrough (tree_parts heap.old purse.old names.old vnodes.old blocks.old disk.old) tree
@@ -231,10 +233,10 @@ fn find_beyond(
     ensures kept { IfSome result (λ _. IsSome (name_slot names.new (name_key dir name.now))) }
 {
     let inode = find_inode(heap, purse, vnodes, blocks, disk, dir);
-    let Some(found) = name_through(heap, purse, blocks, disk, &inode, name.items()) else {
+    let Some(found) = name_through(heap, purse, blocks, disk, &inode, name) else {
         return None;
     };
-    names.fill(heap, purse, NameKey::of(dir, name), found);
+    names.fill(heap, purse, NameKey::of_bytes(dir, name), found);
     Some(found)
 }
 

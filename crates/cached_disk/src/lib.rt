@@ -11,15 +11,12 @@ mod changing;
 mod dirs;
 pub mod laws;
 mod looking;
-#[cfg(test)]
-mod tests;
-#[cfg(test)]
-mod tests_walking;
 mod through;
 mod walking;
 
 pub use blocks::CachedBlocks;
 pub use changing::{free_through, make_through, size_through, write_through};
 pub use dirs::{CachedDirs, find_inode, find_name, find_parent};
-pub use through::read_through;
+pub use looking::node_named;
+pub use through::{inode_through, read_through};
 pub use walking::walk_through;

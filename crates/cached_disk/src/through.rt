@@ -60,7 +60,8 @@ pub fn read_through(
 }
 
 /// The inode that the table has of a node, in use or free.
-pub(crate) fn inode_through(
+#[cold]
+pub fn inode_through(
     heap: &mut KHeap,
     purse: &mut Purse,
     cache: &mut BlockCache,

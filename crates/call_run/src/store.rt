@@ -52,6 +52,8 @@ impl<F: Scorer, G: Scorer> Store<F, G> {
         ensures script { IfOk result (λ store. store.script ≡ script.now) }
         ensures booted { IfOk result (λ store. StandsFor script.now store.objects (boot_world script.now)) }
     {
+        // The greater, the later: where memory is wanting, what is there already is let go.
+        let buffer = Box::new(alloc, [0; CAPACITY])?;
         let script = script.copy(alloc)?;
         let mut control = Control {
             program: place_of(script.programs.items(), b"init"),
@@ -61,7 +63,6 @@ impl<F: Scorer, G: Scorer> Store<F, G> {
         };
         prog_ctl::go_to_call(&script, &mut control);
         let objects = booted(alloc, script.heap, script.disk, control)?;
-        let buffer = Box::new(alloc, [0; CAPACITY])?;
         Ok(Store {
             script,
             objects,

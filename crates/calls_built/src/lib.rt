@@ -3,8 +3,6 @@
 
 mod built;
 mod laws;
-#[cfg(test)]
-mod tests;
 
 pub use built::{can_run, is_built, statement_runs};
 pub use laws::calls_of_a_script_that_can_run_are_built;

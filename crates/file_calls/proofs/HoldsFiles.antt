@@ -1,5 +1,5 @@
 -- A store that stands for a world holds its files.
-use Rattle.std.proofs.Common.{◌≡◌, ℕ, ◌+◌, ◌*◌, ◌<◌, ◌≤◌, ◌==◌, Bool, true, false, cond, ◌⊎◌, ◌≢◌, List, [], ◌∷◌, ◌++◌, length, refl, ap, sym, subst, ◌∙◌, arith, inl, inr}
+use Rattle.std.proofs.Common.{◌≡◌, ℕ, ◌+◌, ◌*◌, ◌<◌, ◌≤◌, ◌==◌, Bool, true, false, cond, ◌⊎◌, ◌≢◌, List, [], ◌∷◌, ◌++◌, length, refl, ap, subst, arith, inl, inr}
 use Rattle.std.specs.Prelude.{count_by}
 use Rattle.std.proofs.lemmas.Bool.Decides.{eqb_tells}
 use Rattle.std.proofs.lemmas.List.Sums.{sum_by-append}
@@ -23,7 +23,7 @@ use Rattle.store_objects.proofs.TreeStays.{off_by_heap}
 use Rattle.store_objects.proofs.TreesOn.{held_by_procs}
 use Rattle.store_objects.proofs.WorkingOn.{few_hold}
 use Rattle.path_calls.proofs.Walked.{works_in_directory}
-use Rattle.proc_files.specs.Holding.{HoldDirectories, HoldFiles, holders, times}
+use Rattle.proc_files.specs.Holding.{HoldFiles, holders}
 use Rattle.proc_files.specs.Opening.{WorksSomewhere}
 use Rattle.proc_files.proofs.Holding.{same_pins}
 use Rattle.file_calls.specs.Holders.{others_in}

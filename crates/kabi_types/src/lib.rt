@@ -7,8 +7,6 @@ mod copies;
 mod entries;
 mod long_lists;
 mod scripts;
-#[cfg(test)]
-mod tests;
 
 pub use entries::{Cached, End, Entry, Event, Noted};
 pub use kabi_calls::{Call, CallKind, MOST_DESCRIPTORS, every_call_is_listed, may_wait};

@@ -1,2 +1,1 @@
 pub mod PickedRuns
-pub mod SampleSteps

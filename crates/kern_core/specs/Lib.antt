@@ -19,5 +19,4 @@ pub use Rattle.kern_tasks.specs.View
 pub use Rattle.kern_tasks.specs.Others
 pub use Rattle.kern_events.specs.Reliefs
 pub mod Choosing
-pub mod Sample
 pub mod RunOver

@@ -3,11 +3,7 @@
 
 mod choosing;
 mod picks;
-#[cfg(test)]
-mod tests;
-#[cfg(test)]
-mod tests_evictions;
 
 pub use choosing::Choosing;
 pub use kern_events::{Core, Relief};
-pub use picks::run_to_end;
+pub use picks::{picked, run_to_end};

@@ -12,7 +12,7 @@ use kern_events::Core;
 use posix_defs::Turner;
 
 /// The event that a number names, or the default without a number, where some event may be taken.
-pub(crate) fn picked<T: Turner + Drop>(core: &Core<T>, number: Option<u32>) -> Event
+pub fn picked<T: Turner + Drop>(core: &Core<T>, number: Option<u32>) -> Event
     requires goes_on { GoesOn T.stands (T.script core.now.store) core.now }
     requires no_end { (s : CoreState) → IsAt T.stands core.now s → IsSound (T.script core.now.store) s → end_of (T.script core.now.store) core.now.steps (length core.now.run) s ≡ None }
     ensures named { (s : CoreState) → IsAt T.stands core.now s → IsSound (T.script core.now.store) s → named_by number (T.script core.now.store) s ≡ Some result }

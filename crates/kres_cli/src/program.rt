@@ -16,11 +16,11 @@ use crate::statuses::Status;
 use crate::tool::{run_tool, tell_usage};
 use kio_ports::{Sink, Source};
 use std::alloc::{AllocError, Global};
-use std::env;
 use std::io::{self, ErrorKind};
 use std::process::ExitCode;
 use std::sync::Wait;
 use std::thread::Threads;
+use std::{env, mem};
 use victim_core::Scorer;
 use work_crew::Door;
 
@@ -98,7 +98,9 @@ fn run_words<
         youngest,
         &mut store_out,
     );
-    drop(store_out);
+    // The program is at its end, and the host takes all memory back at once: to free each object of the store would take as long
+    // as a thousand events.
+    mem::forget(store_out);
     drop(words);
     status
 }

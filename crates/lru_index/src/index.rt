@@ -80,7 +80,7 @@ impl<K: Key> Index<K> {
         ensures slot { result ≡ lookup (K.eq key) self.now.pairs }
         ensures valid { IsOrder K.eq self.now }
     {
-        match self.places.get(key) {
+        match self.places.get(&key) {
             Some(place) => slot_in(self.chain.item(place)),
             None => None,
         }
@@ -95,7 +95,7 @@ impl<K: Key> Index<K> {
             → lookup (K.eq other) self.new.pairs ≡ lookup (K.eq other) self.old.pairs }
         ensures valid { IsOrder K.eq self.new }
     {
-        match self.places.get(key) {
+        match self.places.get(&key) {
             Some(place) => Some(self.chain.warm(place).1),
             None => None,
         }
@@ -164,7 +164,7 @@ impl<K: Key> Index<K> {
     {
         match after {
             None => key_in(self.chain.coldest()),
-            Some(key) => match self.places.get(key) {
+            Some(key) => match self.places.get(&key) {
                 Some(place) => key_in(self.chain.warmer(place)),
                 None => None,
             },

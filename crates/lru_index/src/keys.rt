@@ -1,5 +1,5 @@
 //! What an index may be kept by.
-ghost use Rattle.std.specs.Prelude.{◌≡◌, ℕ, true, List};
+ghost use Rattle.std.specs.Prelude.{◌≡◌, ℕ, ◌≤◌, true, List, length};
 ghost use Rattle.std.proofs.Common.{eqb-true};
 
 use kabi_types::Name27;
@@ -30,12 +30,19 @@ impl NameKey {
     pub fn of(dir: u32, name: &Name27) -> NameKey
         ensures { result ≡ name_key dir name.now }
     {
-        let bytes = name.items();
+        NameKey::of_bytes(dir, name.items())
+    }
+
+    /// The same of a name by its bytes, 27 at most.
+    pub fn of_bytes(dir: u32, name: &[u8]) -> NameKey
+        requires { length name.now ≤ 27 }
+        ensures { result ≡ name_key dir name.now }
+    {
         let mut padded = [0; 27];
-        padded[..bytes.len()].copy_from_slice(bytes);
+        padded[..name.len()].copy_from_slice(name);
         NameKey {
             dir,
-            len: bytes.len() as u8,
+            len: name.len() as u8,
             name: padded,
         }
     }

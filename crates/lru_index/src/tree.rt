@@ -79,18 +79,19 @@ impl<K: Key, V: Copy> Tree<K, V> {
     }
 
     /// The value of a key.
-    pub fn get(&self, key: K) -> Option<V>
+    pub fn get(&self, key: &K) -> Option<V>
         requires sorted { IsSorted K.cmp (keys_of self.now) }
-        ensures { result ≡ lookup (K.eq key) self.now }
+        ensures { result ≡ lookup (K.eq key.now) self.now }
     {
-        match &self.node {
-            Node::Leaf => None,
-            Node::Inner(fork) => match key.cmp(&fork.key) {
-                Ordering::Less => fork.left.get(key),
-                Ordering::Greater => fork.right.get(key),
-                Ordering::Equal => Some(fork.value),
-            },
+        let mut tree = self;
+        while let Node::Inner(fork) = &tree.node {
+            tree = match key.cmp(&fork.key) {
+                Ordering::Less => &fork.left,
+                Ordering::Greater => &fork.right,
+                Ordering::Equal => return Some(fork.value),
+            };
         }
+        None
     }
 
     /// Adds an absent key with the value of a fork that stands alone.

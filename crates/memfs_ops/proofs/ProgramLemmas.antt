@@ -21,7 +21,7 @@ use Rattle.disk_layout.specs.Disk.{Disk}
 use Rattle.lru_index.specs.Order.{Order}
 use Rattle.cached_disk.specs.Lent.{IsCached}
 use Rattle.memfs_ops.specs.FileTree.{TreeView}
-use Rattle.memfs_ops.specs.Starting.{line_of, file, KnowsLine, KeepsLine}
+use Rattle.memfs_ops.specs.Starting.{line_of, file_kind, KnowsLine, KeepsLine}
 
 same_position : {K : Type 0} (one other : K → Bool) (P : K → Type 0) → ((x : K) → P x → one x ≡ other x) → (i : ℕ) (xs : List K) → All P xs → position_from one i xs ≡ position_from other i xs
 same_position one other P same i [] all = refl
@@ -114,12 +114,12 @@ keeps_line was between is number same line inode has kind some =
     subst (λ (d : List (List ℕ)). IsCached is.blocks (data_block d inode 0)) same (line inode (subst (λ (d : List (List ℕ)). HasNode d number inode) (sym same) has) kind some)
 
 -- the test of a file, by its inode
-pub is_kind : (test : Bool) (inode : Inode) → test ≡ nat_eq inode.kind file → test ≡ true → inode.kind ≡ file
-is_kind test inode is plain = eqb-true inode.kind file (sym is ∙ plain)
+pub is_kind : (test : Bool) (inode : Inode) → test ≡ nat_eq inode.kind file_kind → test ≡ true → inode.kind ≡ file_kind
+is_kind test inode is plain = eqb-true inode.kind file_kind (sym is ∙ plain)
 
 -- what isn't a file by one inode isn't by another
-pub other_kind : (disk : List (List ℕ)) (number : ℕ) (inode held : Inode) → HasNode disk number inode → HasNode disk number held → inode.kind ≡ file → (test : Bool) → test ≡ nat_eq held.kind file → test ≡ false → ⊥
+pub other_kind : (disk : List (List ℕ)) (number : ℕ) (inode held : Inode) → HasNode disk number inode → HasNode disk number held → inode.kind ≡ file_kind → (test : Bool) → test ≡ nat_eq held.kind file_kind → test ≡ false → ⊥
 other_kind disk number inode held has also kind test is other =
     let same : held ≡ inode = one_inode disk number held inode also.0 has.0 in
-    let there : nat_eq held.kind file ≡ true = eq-eqb held.kind file (ap (λ (i : Inode). i.kind) same ∙ kind) in
+    let there : nat_eq held.kind file_kind ≡ true = eq-eqb held.kind file_kind (ap (λ (i : Inode). i.kind) same ∙ kind) in
     false≢true (sym other ∙ is ∙ there)

@@ -19,13 +19,13 @@ pub record ArePrograms (programs : List Program) : Type 0 where
   pub names : All (λ program. length program.name ≤ 27) programs
 
 -- the kind of a file in the table
-abbrev pub file : ℕ
-file = 1
+abbrev pub file_kind : ℕ
+file_kind = 1
 
 -- Where a node is a file, the blocks are cached that its first 30 bytes are reached by, in which the longest line has room.
 abbrev pub KnowsLine : TreeView → ℕ → Type 0
-KnowsLine fs number = (inode : Inode) → HasNode fs.disk.blocks number inode → inode.kind ≡ file → AllByRecursion (IsCached fs.blocks) (asked_to_read fs.disk.blocks inode 0 (min 30 inode.size))
+KnowsLine fs number = (inode : Inode) → HasNode fs.disk.blocks number inode → inode.kind ≡ file_kind → AllByRecursion (IsCached fs.blocks) (asked_to_read fs.disk.blocks inode 0 (min 30 inode.size))
 
 -- where a node is a file that isn't empty, its first block is cached afterwards
 abbrev pub KeepsLine : TreeView → TreeView → ℕ → Type 0
-KeepsLine was is number = (inode : Inode) → HasNode was.disk.blocks number inode → inode.kind ≡ file → 0 < inode.size → IsCached is.blocks (data_block was.disk.blocks inode 0)
+KeepsLine was is number = (inode : Inode) → HasNode was.disk.blocks number inode → inode.kind ≡ file_kind → 0 < inode.size → IsCached is.blocks (data_block was.disk.blocks inode 0)

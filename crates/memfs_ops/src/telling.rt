@@ -13,7 +13,7 @@ ghost use Rattle.name_cache.specs.Names.{name_slot};
 ghost use Rattle.vnode_cache.specs.Nodes.{node_slot};
 ghost use Rattle.cached_disk.specs.TreeLent.{AreReordered, IsKnown};
 ghost use Rattle.memfs_ops.specs.FileTree.{Stands, MayWalk, Looks, KnowsWay, KeepsLed, in_call};
-ghost use Rattle.memfs_ops.specs.Starting.{file};
+ghost use Rattle.memfs_ops.specs.Starting.{file_kind};
 
 use crate::FileTree;
 use cached_disk::{find_inode, find_name, walk_through};
@@ -218,7 +218,7 @@ pub(crate) fn told(number: u32, inode: &Inode) -> StatInfo
 pub(crate) fn is_file(inode: &Inode) -> bool
     ensures value { (tree : Tree) (number : ℕ) → IsInodeAt tree number inode.now
         → result ≡ not (directory_in tree number || calls.is_socket tree number) }
-    ensures kind { result ≡ (inode.now.kind == file) }
+    ensures kind { result ≡ (inode.now.kind == file_kind) }
 {
     inode.kind == FILE
 }

@@ -1,6 +1,6 @@
 -- A call that has its caller work elsewhere leads to the world that its answer reaches.
 use Rattle.std.proofs.Common.{◌≡◌, ℕ, ◌<◌, ◌&&◌, ◌||◌, not, Bool, true, false, cond, List, Option, None, Some, is_none, Ok, Err, Result, pos, refl, ap, sym, ◌∙◌, subst}
-use Rattle.std.specs.Prelude.{IsOk, MatchResult}
+use Rattle.std.specs.Prelude.{IsOk}
 use Rattle.kabi_calls.specs.Arguments.{path_fault}
 use Rattle.kabi_calls.specs.PathParts.{components}
 use Rattle.kabi_calls.specs.declared.calls.Call.TheVariants as call
@@ -18,7 +18,7 @@ use Rattle.posix_defs.specs.Calls.OnNames.{chdir, works_from}
 use Rattle.posix_defs.specs.Needs.{need_of}
 use Rattle.posix_defs.specs.PathCalls.{enter_path, entered, node_led}
 use Rattle.posix_defs.specs.Paths.{begins_at, resolve}
-use Rattle.posix_defs.specs.Plain.{Plain, with_table}
+use Rattle.posix_defs.specs.Plain.{with_table}
 use Rattle.posix_defs.specs.Process.{Table, directory_of, with_directory}
 use Rattle.posix_defs.specs.Reaching.{IsLeft, ends_node, has_succeeded, is_reply, knows, last_of}
 use Rattle.posix_defs.specs.Tree.{Tree, is_directory}

@@ -1,5 +1,5 @@
 -- A name, or a node, is kept where a cache has it.
-use Rattle.std.proofs.Common.{◌≡◌, ℕ, ◌==◌, ◌&&◌, ◌||◌, Bool, true, false, cond, List, [], ◌∷◌, map, nat_eq, eqb-true, Option, None, Some, is_some, IsSome, Ok, Err, refl, ap, sym, ◌∙◌, subst, inl, inr}
+use Rattle.std.proofs.Common.{◌≡◌, ℕ, ◌==◌, ◌&&◌, ◌||◌, Bool, true, false, cond, List, [], ◌∷◌, map, nat_eq, eqb-true, Option, None, Some, is_some, IsSome, refl, ap, sym, ◌∙◌, subst, inl, inr}
 use Rattle.std.specs.Prelude.{IsOk}
 use Rattle.std.specs.List.{AllByRecursion, list_any}
 use Rattle.std.specs.Map.{keys_of, lookup}
@@ -16,7 +16,7 @@ use Rattle.memfs_ops.specs.FileTree.{KeepsLed, TreeView}
 use Rattle.posix_defs.specs.PathCalls.{node_led}
 use Rattle.posix_defs.specs.Paths.{IsLed}
 use Rattle.posix_defs.specs.Reaching.{IsLeft, has_name, last_of}
-use Rattle.posix_defs.specs.Tree.{Tree, found}
+use Rattle.posix_defs.specs.Tree.{Tree}
 use Rattle.posix_defs.specs.World.{is_in}
 use Rattle.posix_defs.specs.declared.walked.Walked.{Walked}
 use Rattle.posix_defs.specs.declared.walked.Walked.TheVariants as walked

@@ -1,25 +1,18 @@
 -- The objects of a store once a call has looked along a path: the caches are others, and the rest is as it was.
-use Rattle.std.proofs.Common.{◌≡◌, ℕ, ◌+◌, ◌<◌, ◌≤◌, ◌==◌, ◌&&◌, ◌||◌, Bool, true, false, length, Option, None, Some, is_none, IsSome, Ok, Err, Result, refl, ap, sym, ◌∙◌, subst, inl, inr, arith}
-use Rattle.std.specs.Prelude.{IsOk}
+use Rattle.std.proofs.Common.{◌≡◌, ℕ, ◌+◌, ◌<◌, ◌≤◌, true, length, None, Some, refl, ap, sym, ◌∙◌, subst, inl, inr, arith}
 use Rattle.std.proofs.lemmas.Bool.Decides.{eqb_tells}
-use Rattle.std.specs.Map.{keys_of}
-use Rattle.std.specs.List.{AllByRecursion}
-use Rattle.kabi_calls.specs.Arguments.{argument_fault}
-use Rattle.kabi_calls.specs.PathParts.{components}
 use Rattle.kabi_calls.specs.declared.calls.Call.{Call}
 use Rattle.kabi_types.specs.declared.scripts.Control.{Control}
 use Rattle.kabi_types.specs.declared.scripts.Script.{Script}
 use Rattle.kabi_values.specs.declared.classes.Class.TheVariants as class
-use Rattle.kabi_values.specs.declared.errnos.Errno.{Errno}
-use Rattle.kabi_values.specs.declared.replies.Reply.{Reply}
 use Rattle.kheap_shelves.specs.Objects.{count}
 use Rattle.kheap_shelves.specs.Purse.{Purse}
 use Rattle.kheap_slabs.specs.Heap.{Heap}
 use Rattle.kheap_slabs.specs.Paid.{IsPaid}
 use Rattle.memfs_ops.specs.FileTree.{Stands as TreeStands, TreeView, one_more}
 use Rattle.posix_defs.specs.Needs.{need_of}
-use Rattle.posix_defs.specs.Plain.{Plain, root}
-use Rattle.posix_defs.specs.Process.{directory_in, directory_of, process_at}
+use Rattle.posix_defs.specs.Plain.{root}
+use Rattle.posix_defs.specs.Process.{directory_in, directory_of}
 use Rattle.posix_defs.specs.Tree.{Tree, is_directory}
 use Rattle.posix_defs.specs.World.{World}
 use Rattle.proc_table.specs.Procs.{proc_of, process_of}

@@ -11,8 +11,6 @@ mod nodes;
 mod phases;
 mod prices;
 mod said;
-#[cfg(test)]
-mod tests;
 mod turner;
 mod walked;
 

@@ -1,5 +1,4 @@
 pub mod Resting
-pub mod SampleIsValid
 pub mod Settling
 pub mod Staying
 pub mod ValidPrograms

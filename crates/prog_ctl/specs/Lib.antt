@@ -1,3 +1,2 @@
 pub mod Runnable
-pub mod Sample
 pub mod Waits

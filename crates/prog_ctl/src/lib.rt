@@ -5,8 +5,6 @@ mod controls;
 mod laws;
 mod made;
 mod statements;
-#[cfg(test)]
-mod tests;
 mod waits;
 
 pub use controls::{answer, call_here, go_to_call, moved, next_call, restart, wait_here};

@@ -110,7 +110,7 @@ left_fewer table (suc i) status alive =
     let same : living (map (left_behind (suc i)) table) ≡ living table = count_map is_alive_in (left_behind (suc i)) (alive_behind (suc i)) table in
     omega arith
 
-dead_fewer : (table : Table) (pid status : ℕ) → is_alive table pid ≡ true → living (die_in table pid status) < living table
+pub dead_fewer : (table : Table) (pid status : ℕ) → is_alive table pid ≡ true → living (die_in table pid status) < living table
 dead_fewer table zero status alive = cc
 dead_fewer table (suc zero) status alive =
     let none : living (map (λ _. None) table) ≡ 0 = none_alive table in

@@ -1,10 +1,11 @@
 -- How far relief can go from a state of the core: what each eviction and each kill lowers.
-use Rattle.std.specs.Prelude.{ℕ, ◌+◌, ◌≡◌, ◌<◌, ◌⊎◌, Bool, true, not, ◌||◌, is_some, List, length, count_by}
+use Rattle.std.specs.Prelude.{ℕ, ◌+◌, ◌-◌, ◌≡◌, ◌<◌, ◌⊎◌, Bool, true, not, ◌||◌, is_some, List, length, count_by}
 use Rattle.kabi_types.specs.declared.entries.Cached.{Cached}
 use Rattle.kabi_types.specs.declared.entries.Noted.{Noted}
 use Rattle.kabi_types.specs.declared.scripts.Script.{Script}
 use Rattle.posix_defs.specs.CoreEvent.{EvictsOne, KillsOne}
 use Rattle.posix_defs.specs.CoreState.{CoreState, is_admitted, some_fits, some_wait_in_vain}
+use Rattle.posix_defs.specs.History.{Past}
 use Rattle.posix_defs.specs.Licence.{can_evict_any, is_licensed}
 use Rattle.posix_defs.specs.Plain.{Plain}
 use Rattle.posix_defs.specs.Process.{Table, is_alive_in}
@@ -78,3 +79,8 @@ pub data IsHelpedInTheEnd (script : Script) : CoreState → Type 0 where
   at_once : (s : CoreState) → is_helped script s ≡ true → IsHelpedInTheEnd script s
   by_relief : (s : CoreState) → (can_evict_any s.world || is_licensed script s) ≡ true
       → ((new : CoreState) → IsRelieved script s new → IsHelpedInTheEnd script new) → IsHelpedInTheEnd script s
+
+-- By a history alone: how many objects its calls may have put into the caches that weren't evicted since.
+abbrev pub left_to_evict : Past → ℕ
+left_to_evict past =
+    (past.filled.names - past.evicted.names) + (past.filled.blocks - past.evicted.blocks) + (past.filled.vnodes - past.evicted.vnodes)

@@ -6,5 +6,5 @@ mod reliefs;
 
 pub use reliefs::{
     a_kill_lowers_the_measure, an_eviction_lowers_the_measure, relief_helps_in_the_end,
-    relief_lowers_the_measure, reliefs_come_to_an_end,
+    relief_lowers_the_measure, reliefs_come_to_an_end, reliefs_of_a_history_lower_it,
 };

@@ -1,17 +1,19 @@
 //! Laws of how far relief can go. Each is the contract of a function that does nothing.
 
-ghost use Rattle.std.specs.Prelude.{◌≡◌, ℕ, true, None, length};
+ghost use Rattle.std.specs.Prelude.{◌≡◌, ◌<◌, ℕ, true, None, length};
 ghost use Rattle.kabi_types.specs.declared.entries.Cached.{Cached};
+ghost use Rattle.kabi_types.specs.declared.entries.Entry.TheVariants.{Evicted, Killed};
 ghost use Rattle.kabi_types.specs.declared.entries.Noted.{Noted};
 ghost use Rattle.kabi_types.specs.declared.scripts.Script.{Script};
 ghost use Rattle.posix_defs.specs.CoreEvent.{EvictsOne, KillsOne};
 ghost use Rattle.posix_defs.specs.CoreState.{CoreState, none_admitted};
 ghost use Rattle.posix_defs.specs.Ends.{end_of};
+ghost use Rattle.posix_defs.specs.History.{MayFollow, Past};
 ghost use Rattle.posix_defs.specs.SoundTasks.{IsSound};
 ghost use Rattle.kern_tasks.specs.View.{CoreView, IsAt};
 ghost use Rattle.kern_events.specs.Reliefs.{Relieves, relief_of};
 ghost use Rattle.kern_events.specs.declared.reliefs.Relief.{Relief};
-ghost use Rattle.relief_laws.specs.Measure.{ComesToAnEnd, IsHelpedInTheEnd, IsLess, Lowers, measure_of};
+ghost use Rattle.relief_laws.specs.Measure.{ComesToAnEnd, IsHelpedInTheEnd, IsLess, Lowers, left_to_evict, living, measure_of};
 
 use posix_defs::Turner;
 
@@ -46,4 +48,13 @@ pub fn relief_lowers_the_measure<T: Turner>()
 /// nobody alive but the first process; and until then one of them is always at hand.
 pub fn relief_helps_in_the_end()
     ensures { (script : Script) (s : CoreState) → none_admitted s ≡ true → IsHelpedInTheEnd script s }
+{}
+
+/// In a history of the machine, as workers make it, a kill leaves fewer processes alive, and an eviction as many, with fewer objects
+/// left that could go. So between two answers there are finitely many of them.
+pub fn reliefs_of_a_history_lower_it()
+    ensures kill { (script : Script) (past next : Past) (pid waiter need live : ℕ) → MayFollow script past (Killed pid waiter need live) next
+        → living next.plain.table < living past.plain.table }
+    ensures eviction { (script : Script) (past next : Past) (what : Cached) → MayFollow script past (Evicted what) next
+        → (living next.plain.table ≡ living past.plain.table) × (left_to_evict next < left_to_evict past) }
 {}

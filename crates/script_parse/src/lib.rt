@@ -3,20 +3,6 @@
 
 mod laws;
 mod scripts;
-#[cfg(test)]
-mod tests;
-#[cfg(test)]
-mod tests_operands;
-#[cfg(test)]
-mod tests_order;
-#[cfg(test)]
-mod tests_print;
-#[cfg(test)]
-mod tests_reading;
-#[cfg(test)]
-mod tests_settings;
-#[cfg(test)]
-mod tests_statements;
 
 pub use laws::{
     a_text_reads_in_one_way, canonical_text_reads_as_its_script, every_text_reads_or_has_a_fault,

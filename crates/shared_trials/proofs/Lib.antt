@@ -1,3 +1,4 @@
+pub mod Diaries
 pub mod PairSteps
 pub mod SampleSteps
 pub mod SleeperSteps

@@ -1,5 +1,5 @@
-//! Turns by tickets, the shared kernel over stores of its own (one of two processes, and one of a process that sleeps), and workers over it.
-//! Tests alone, and what there is of the processes.
+//! The core over a store of one process and over one that has something to evict; turns by tickets, the shared kernel over stores of its own
+//! (one of two processes, and one of a process that sleeps), and workers over it. Tests alone, and what there is of the processes.
 #![tactic(auto)]
 
 #[cfg(test)]
@@ -8,6 +8,12 @@ mod asleep;
 mod beside;
 #[cfg(test)]
 mod crew;
+#[cfg(test)]
+mod events;
+#[cfg(test)]
+mod evictions;
+#[cfg(test)]
+mod one_pid;
 #[cfg(test)]
 mod one_thread;
 #[cfg(test)]

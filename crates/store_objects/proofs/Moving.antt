@@ -1,5 +1,5 @@
 -- A process that has entered a directory works there from then on, and has let the one go in which it worked.
-use Rattle.std.proofs.Common.{◌≡◌, ◌≢◌, ℕ, zero, suc, ◌+◌, ◌-◌, ◌<◌, ◌==◌, nat_eq, not, Bool, true, false, cond, List, [], ◌∷◌, filter, map, Option, None, Some, is_none, unwrap_or, slice_get, slice_set, refl, ap, sym, ◌∙◌, subst, arith}
+use Rattle.std.proofs.Common.{◌≡◌, ◌≢◌, ℕ, zero, suc, ◌+◌, ◌-◌, ◌<◌, ◌==◌, not, Bool, true, false, cond, List, [], ◌∷◌, filter, map, None, Some, is_none, unwrap_or, slice_get, slice_set, refl, ap, sym, ◌∙◌, subst, arith}
 use Rattle.std.specs.List.{AllByRecursion}
 use Rattle.std.specs.Option.{option_map}
 use Rattle.kabi_types.specs.declared.scripts.Control.{Control}
@@ -8,7 +8,7 @@ use Rattle.kern_laws.proofs.Remembering.{moves_on}
 use Rattle.kheap_shelves.specs.declared.objects.Proc.{Proc}
 use Rattle.kheap_slabs.specs.Heap.{Heap}
 use Rattle.memfs_ops.specs.Closing.{one_less}
-use Rattle.memfs_ops.specs.FileTree.{Stands, TreeView, one_more}
+use Rattle.memfs_ops.specs.FileTree.{Stands, one_more}
 use Rattle.posix_defs.specs.Control.{settled}
 use Rattle.posix_defs.specs.Plain.{Plain, control_of, root}
 use Rattle.posix_defs.specs.Process.{Process, Table, process_at, with_directory, working_in as working}
@@ -17,7 +17,7 @@ use Rattle.posix_defs.specs.World.{World}
 use Rattle.proc_table.specs.Changes.{is_other, replaced}
 use Rattle.proc_table.specs.Procs.{proc_of, process_of}
 use Rattle.proc_table.specs.Standing.{AreFrom, IsTable, gone, nobody, there}
-use Rattle.proc_table.specs.Table.{TableView, processes}
+use Rattle.proc_table.specs.Table.{TableView}
 use Rattle.proc_table.proofs.FamilyLemmas.{length-with_pid, proc_has_pid}
 use Rattle.proc_table.proofs.HoldLemmas.{content_kept}
 use Rattle.proc_table.proofs.LawLemmas.{on-procs, only_one}
@@ -27,7 +27,7 @@ use Rattle.proc_table.proofs.PlaceLemmas.{eqb_is, eqb_other, eqb_same}
 use Rattle.store_objects.specs.declared.objects.Objects.{Objects}
 use Rattle.store_objects.specs.Files.{HaveFiles}
 use Rattle.store_objects.specs.Objects.{AreKept, IsAtCall, Runs, WorksElsewhere, procs_of}
-use Rattle.store_objects.specs.Standing.{AreProcesses, HasEntered, StandsFor, working_in}
+use Rattle.store_objects.specs.Standing.{HasEntered, StandsFor, working_in}
 use Rattle.store_objects.specs.Trees.{KeptStays, TreeStays, but_root, held_nodes, pins_in}
 use Rattle.store_objects.specs.Working.{AreDirectories, IsWorkedIn, OnlyPins, directories_in, entered_pins, left_pins, pins_by}
 use Rattle.store_objects.proofs.Families.{SameMemory, processes_on}

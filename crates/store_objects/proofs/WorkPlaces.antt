@@ -1,5 +1,5 @@
 -- Where the processes of a heap work, and who holds these directories, also once one has ended.
-use Rattle.std.proofs.Common.{◌≡◌, ◌≢◌, ℕ, ◌+◌, ◌-◌, ◌<◌, ◌==◌, nat_eq, not, Bool, true, false, cond, List, [], ◌∷◌, filter, map, Option, None, Some, is_none, refl, ap, sym, ◌∙◌, subst, inl, inr, arith}
+use Rattle.std.proofs.Common.{◌≡◌, ◌≢◌, ℕ, ◌+◌, ◌-◌, ◌<◌, ◌==◌, not, Bool, true, false, cond, List, [], ◌∷◌, filter, map, Option, None, Some, is_none, refl, ap, sym, ◌∙◌, subst, inl, inr, arith}
 use Rattle.std.specs.Prelude.{count_by}
 use Rattle.std.specs.List.{AllByRecursion, cons_option}
 use Rattle.std.proofs.lemmas.Bool.Decides.{eqb_tells}
@@ -9,8 +9,8 @@ use Rattle.memfs_ops.specs.Closing.{one_less}
 use Rattle.posix_defs.specs.Plain.{root}
 use Rattle.posix_defs.specs.Process.{Table, runs}
 use Rattle.posix_defs.specs.World.{directories_of}
-use Rattle.proc_table.specs.Changes.{cleared, ended, is_alone, is_other, left_behind, left_by, left_child}
-use Rattle.proc_table.specs.Procs.{no_descriptors, no_nodes, proc_of, process_of, status_of}
+use Rattle.proc_table.specs.Changes.{ended, is_alone, is_other, left_behind, left_by, left_child}
+use Rattle.proc_table.specs.Procs.{no_descriptors, no_nodes, proc_of, status_of}
 use Rattle.proc_table.specs.Standing.{AreFrom, gone, nobody, there}
 use Rattle.proc_table.proofs.OwnLemmas.{AreRising, others_above}
 use Rattle.proc_table.proofs.PlaceLemmas.{eqb_other, eqb_same, some_same}

@@ -1,14 +1,13 @@
 -- Where processes work once one has a child, is waited for, or has something else in memory.
-use Rattle.std.proofs.Common.{◌≡◌, ◌≢◌, ℕ, zero, suc, ◌+◌, ◌<◌, ◌≤◌, ◌==◌, nat_eq, not, Bool, true, false, cond, List, [], ◌∷◌, ◌++◌, filter, map, length, Option, None, Some, is_none, refl, ap, sym, ◌∙◌, subst, inl, inr, arith, slice_set}
-use Rattle.std.specs.Prelude.{count_by, slice_get, unwrap_or}
+use Rattle.std.proofs.Common.{◌≡◌, ℕ, zero, suc, ◌+◌, ◌≤◌, ◌==◌, not, Bool, true, false, cond, List, [], ◌∷◌, ◌++◌, filter, length, None, Some, is_none, refl, ap, sym, ◌∙◌, subst, inl, inr, arith, slice_set}
+use Rattle.std.specs.Prelude.{slice_get, unwrap_or}
 use Rattle.std.specs.List.{AllByRecursion}
 use Rattle.std.proofs.lemmas.Bool.Decides.{eqb_tells}
 use Rattle.kheap_shelves.specs.declared.objects.Proc.{Proc}
-use Rattle.kheap_slabs.specs.Heap.{Heap}
 use Rattle.memfs_ops.specs.FileTree.{one_more}
 use Rattle.posix_defs.specs.Memory.{Memory}
 use Rattle.posix_defs.specs.Plain.{root}
-use Rattle.posix_defs.specs.Process.{Process, Table, remembering, runs, with_memory}
+use Rattle.posix_defs.specs.Process.{Table, remembering, runs, with_memory}
 use Rattle.posix_defs.specs.World.{directories_of}
 use Rattle.proc_table.specs.Changes.{is_other}
 use Rattle.proc_table.specs.Procs.{HasEnded, proc_of}

@@ -2,7 +2,6 @@
 use Rattle.std.specs.Prelude.{ℕ, ◌≡◌, ◌==◌, true, if◌then◌else◌, List, [], ◌∷◌, count_by, is_none}
 use Rattle.std.specs.List.{AllByRecursion}
 use Rattle.kheap_shelves.specs.declared.objects.Proc.{Proc}
-use Rattle.kheap_slabs.specs.Heap.{Heap}
 use Rattle.memfs_ops.specs.Closing.{one_less}
 use Rattle.memfs_ops.specs.FileTree.{Stands, one_more}
 use Rattle.posix_defs.specs.Plain.{root}

@@ -20,7 +20,13 @@ pub fn booted(alloc: Global, heap: u64, blocks: u32, control: Control) -> Result
     ensures { IfOk result (λ objects. HasBooted objects heap blocks control) }
 {
     let mut heap = KHeap::boot(alloc, heap)?;
-    let tree = FileTree::boot(alloc, blocks, &mut heap)?;
+    let tree = match FileTree::boot(alloc, blocks, &mut heap) {
+        Ok(tree) => tree,
+        Err(wanting) => {
+            drop(heap);
+            return Err(wanting);
+        }
+    };
     let procs = ProcTable::boot(&mut heap);
     let mut objects = Objects { heap, procs, tree };
     objects.move_on(1, control);

@@ -13,7 +13,7 @@ mod objects;
 mod purses;
 
 pub use boot::booted;
-pub use directories::{directory_of, hold_directory, let_go, work_in};
+pub use directories::{directory_of, hold_directory, work_in};
 pub use endings::{INIT, SIGKILL, end};
 pub use evicting::{evict, evictable};
 pub use going_on::{behind, go_on};

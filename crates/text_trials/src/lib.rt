@@ -1,6 +1,8 @@
-//! Prices, victims, generated scripts, lines of reports, and the streams that they go through, by hand. Tests alone.
+//! Values and calls, prices, victims, generated scripts, lines of reports, and the streams that they go through, by hand. Tests alone.
 #![tactic(auto)]
 
+#[cfg(test)]
+mod blocks;
 #[cfg(test)]
 mod generated;
 #[cfg(test)]
@@ -9,5 +11,7 @@ mod lines;
 mod prices;
 #[cfg(test)]
 mod streams;
+#[cfg(test)]
+mod values;
 #[cfg(test)]
 mod victims;

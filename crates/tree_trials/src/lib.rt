@@ -1,8 +1,10 @@
-//! The tree of files by hand and beside a plain tree. Tests alone.
+//! A disk behind its caches and the tree of files over them, by hand and beside a plain tree. Tests alone.
 #![tactic(auto)]
 
 #[cfg(test)]
 mod by_hand;
+#[cfg(test)]
+mod cached_blocks;
 #[cfg(test)]
 mod calls;
 #[cfg(test)]
@@ -15,5 +17,7 @@ mod named;
 mod plain;
 #[cfg(test)]
 mod programs;
+#[cfg(test)]
+mod street;
 #[cfg(test)]
 mod world;

@@ -1,6 +1,5 @@
 mod Counts
 mod Desks
-mod Diaries
 mod Ends
 pub mod Held
 mod Joining

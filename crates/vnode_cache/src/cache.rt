@@ -187,6 +187,7 @@ impl VnodeCache {
 
     /// Fills an inode that isn't cached, with no pin. Where the purse has no Vnode left, of those
     /// that were filled through it the first without pins goes before.
+    #[cold]
     pub fn fill(&mut self, heap: &mut KHeap, purse: &mut Purse, number: u32, inode: Inode)
         requires keeps { KeepsNodes heap.old.vnodes self.old }
         requires absent { node_slot self.old number ≡ None }

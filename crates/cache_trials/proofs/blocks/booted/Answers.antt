@@ -1,4 +1,4 @@
-use Rattle.std.proofs.Common.{◌/◌, nat_eq, sym, ap, subst}
+use Rattle.std.proofs.Common.{◌/◌, nat_eq, sym, ap, ◌∙◌, subst}
 use Rattle.kabi_values.specs.Class.{size}
 use Rattle.kabi_values.specs.declared.classes.Class.TheVariants as class
 use Rattle.kheap_shelves.specs.declared.objects.Block.{Block}
@@ -7,4 +7,4 @@ use Rattle.cache_laws.proofs.KeepsLemmas.{keeps_none}
 use Rattle.cache_trials.proofs.blocks.booted.Goals as goal
 
 pub returns : goal.returns
-returns c = subst (KeepsBlocks c.in_ok-heap.heap.blocks) (sym c.in_ok-cache.ensures.empty) (keeps_none nat_eq (λ (b : Block). b.number) (16384 / size class.Block) 5 c.in_ok-heap.heap.blocks (ap (λ h. h.blocks) c.in_ok-heap.ensures.empty))
+returns c = subst (KeepsBlocks c.in_ok-heap.heap.blocks) (sym c.in_ok-cache.ensures.empty) (keeps_none nat_eq (λ (b : Block). b.number) (65536 / size class.Block) c.args.capacity c.in_ok-heap.heap.blocks (ap (λ h. h.blocks) c.in_ok-heap.ensures.empty))

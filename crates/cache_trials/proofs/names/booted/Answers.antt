@@ -6,4 +6,4 @@ use Rattle.cache_laws.proofs.KeepsLemmas.{keeps_none}
 use Rattle.cache_trials.proofs.names.booted.Goals as goal
 
 pub returns : goal.returns
-returns c = subst (KeepsNames c.in_ok-heap.heap.names) (sym c.in_ok-cache.ensures.empty) (keeps_none same_key key_of (16384 / size class.Name) 5 c.in_ok-heap.heap.names (ap (λ h. h.names) c.in_ok-heap.ensures.empty))
+returns c = subst (KeepsNames c.in_ok-heap.heap.names) (sym c.in_ok-cache.ensures.empty) (keeps_none same_key key_of (65536 / size class.Name) c.args.capacity c.in_ok-heap.heap.names (ap (λ h. h.names) c.in_ok-heap.ensures.empty))

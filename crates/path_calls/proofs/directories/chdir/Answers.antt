@@ -1,4 +1,4 @@
-use Rattle.std.proofs.Common.{◌≡◌, ◌∙◌, ap, is_some, refl, subst, sym}
+use Rattle.std.proofs.Common.{◌∙◌, ap, is_some, refl, subst, sym}
 use Rattle.std.specs.Prelude.{MatchResult}
 use Rattle.kheap_laws.proofs.PaidLemmas.{IsPaid-nothing, IsPaid-trans, TakesNothing-trans}
 use Rattle.memfs_ops.specs.FileTree.{Stands, one_more}

@@ -1,4 +1,4 @@
-use Rattle.turn_words.proofs.Diaries.{nothing_told}
+use Rattle.shared_trials.proofs.Diaries.{nothing_told}
 use Rattle.shared_trials.proofs.turns.pass_quietly.Goals as goal
 
 pub pass_on-requires-clause-more : goal.pass_on-requires-clause-more

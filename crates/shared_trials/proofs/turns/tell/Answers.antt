@@ -1,6 +1,6 @@
 use Rattle.std.proofs.Common.{rules, ◌≡◌, ℕ, List, [], ◌∷◌, ◌++◌, map, sym, ap, ◌∙◌}
 use Rattle.turn_words.specs.declared.items.Item.TheVariants.{Live}
-use Rattle.turn_words.proofs.Diaries.{nothing_told, one_told}
+use Rattle.shared_trials.proofs.Diaries.{nothing_told, one_told}
 use Rattle.turn_words.proofs.Notes.{may_put}
 use Rattle.shared_trials.proofs.turns.tell.Goals as goal
 

@@ -21,7 +21,7 @@ pub boot-procs-requires : goal.boot-procs-requires
 boot-procs-requires c =
     let empty = c.in_ok-heap.heap in
     let rooted = c.boot-2.new.heap in
-    let root : KeepsRoot (new_root c.args.blocks) empty rooted = c.in_ok-tree.ensures.root in
+    let root : KeepsRoot (new_root c.args.blocks) empty rooted = c.in-Ok.ensures.root in
     let none : live_bytes empty ≡ 0 = c.in_ok-heap.ensures.live in
     let live : live_bytes rooted ≡ live_bytes empty + 128 = rooted_live c.args.heap (new_root c.args.blocks) empty rooted c.in_ok-heap.ensures.empty root in
     let bytes : rooted.heap ≡ c.args.heap = rooted_size c.args.heap (new_root c.args.blocks) empty rooted c.in_ok-heap.ensures.empty root in
@@ -30,7 +30,7 @@ boot-procs-requires c =
 pub move_on-requires-clause-stored : goal.move_on-requires-clause-stored
 move_on-requires-clause-stored c =
     let owned : IsOwned c.boot-2.new.heap no_owners =
-    rooted_owned c.args.heap (new_root c.args.blocks) c.in_ok-heap.heap c.boot-2.new.heap c.in_ok-heap.ensures.empty c.in_ok-tree.ensures.root in
+    rooted_owned c.args.heap (new_root c.args.blocks) c.in_ok-heap.heap c.boot-2.new.heap c.in_ok-heap.ensures.empty c.in-Ok.ensures.root in
     (c.boot-procs.ensures.moves no_owners owned).holds.stored
 
 pub returns : goal.returns
@@ -40,11 +40,11 @@ returns c =
     let empty = c.in_ok-heap.heap in
     let rooted = c.boot-2.new.heap in
     let is_empty = c.in_ok-heap.ensures.empty in
-    let root : KeepsRoot (new_root c.args.blocks) c.in_ok-heap.heap c.boot-2.new.heap = c.in_ok-tree.ensures.root in
-    let fs = c.in_ok-tree.tree in
+    let root : KeepsRoot (new_root c.args.blocks) c.in_ok-heap.heap c.boot-2.new.heap = c.in-Ok.ensures.root in
+    let fs = c.in-Ok.tree in
     has_booted heap c.args.blocks c.args.control rooted fs (record { heap = c.boot-procs.new.heap; procs = c.boot-procs.result; tree = fs }) c.move_on.new.self
     (no_pages heap inode empty rooted is_empty root) (no_procs heap inode empty rooted is_empty root) (rooted_owned heap inode empty rooted is_empty root)
-    (rooted_bare heap inode empty rooted is_empty root) (rooted_owners heap inode empty rooted is_empty root) c.in_ok-tree.ensures.stands
-    (rooted_kept heap inode empty rooted is_empty root fs (new_tree c.args.blocks) root_alone c.in_ok-tree.ensures.stands) c.in_ok-tree.ensures.unread refl
+    (rooted_bare heap inode empty rooted is_empty root) (rooted_owners heap inode empty rooted is_empty root) c.in-Ok.ensures.stands
+    (rooted_kept heap inode empty rooted is_empty root fs (new_tree c.args.blocks) root_alone c.in-Ok.ensures.stands) c.in-Ok.ensures.unread refl
     (rooted_size heap inode empty rooted is_empty root)
     c.boot-procs.ensures.processes c.boot-procs.ensures.last c.boot-procs.ensures.moves c.boot-procs.ensures.table c.boot-procs.ensures.account c.move_on.ensures

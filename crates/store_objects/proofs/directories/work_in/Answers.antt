@@ -1,9 +1,6 @@
-use Rattle.std.proofs.Common.{◌≡◌, ◌≢◌, ◌<◌, ◌∙◌, ap, is_some, subst, sym}
+use Rattle.std.proofs.Common.{◌∙◌, ap, is_some, sym}
 use Rattle.kheap_laws.proofs.PaidLemmas.{TakesNothing-trans}
-use Rattle.posix_defs.specs.Plain.{root}
-use Rattle.posix_defs.specs.World.{World}
 use Rattle.proc_table.specs.Procs.{proc_of}
-use Rattle.store_objects.specs.Objects.{procs_of}
 use Rattle.store_objects.specs.Trees.{pins_in}
 use Rattle.store_objects.specs.Working.{entered_pins}
 use Rattle.store_objects.proofs.Moving.{is_held, it_was, kept_mid, root_held, root_stays_held, runs_new, stands_moved, works_then}

@@ -1,13 +1,11 @@
-use Rattle.std.proofs.Common.{◌≡◌, ◌≢◌, ◌<◌, ◌∙◌, ap, is_some, map, subst, sym}
+use Rattle.std.proofs.Common.{◌≡◌, ◌≢◌, ◌<◌, ◌∙◌, ap, is_some, subst, sym}
 use Rattle.kheap_laws.proofs.PaidLemmas.{TakesNothing-trans}
 use Rattle.posix_defs.specs.Files.Closing.{after_end_of}
 use Rattle.posix_defs.specs.Memory.{after_clear}
 use Rattle.posix_defs.specs.Plain.{root}
-use Rattle.posix_defs.specs.Tree.{Tree}
 use Rattle.proc_descs.proofs.Fronts.{queues_then}
 use Rattle.proc_table.specs.Standing.{ends_in}
-use Rattle.store_objects.specs.declared.objects.Objects.{Objects}
-use Rattle.store_objects.specs.Objects.{AreKept, procs_of}
+use Rattle.store_objects.specs.Objects.{procs_of}
 use Rattle.store_objects.specs.Working.{IsWorkedIn, pins_by}
 use Rattle.store_objects.proofs.WorkPlaces.{holds_it, root_stays}
 use Rattle.store_objects.proofs.EndingOne.{worked_ended}

@@ -1,5 +1,0 @@
-use Rattle.kern_core.proofs.SampleSteps.{sample_since}
-use Rattle.kern_core.proofs.tests.OnePidTurner.kill.Goals as goal
-
-pub returns-clause-since : goal.returns-clause-since
-returns-clause-since c = λ world is. sample_since world c.args.self.now.place c.args.self.now.lives c.mark.new.self.high is c.mark.ensures.high

@@ -1,7 +1,0 @@
-use Rattle.std.proofs.Common.{sym, ap, ◌∙◌}
-use Rattle.posix_defs.specs.World.{live_of}
-use Rattle.shared_trials.proofs.SampleSteps.{sample_live}
-use Rattle.shared_trials.proofs.crew.OnePidTurner.live.Goals as goal
-
-pub returns-clause-bytes : goal.returns-clause-bytes
-returns-clause-bytes c = λ world is. c.taken.ensures ∙ sym (ap live_of is ∙ sample_live c.args.self.now.place c.args.self.now.lives)
