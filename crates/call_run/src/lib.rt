@@ -1,7 +1,6 @@
-//! What a turn of each call does to the heap and to the processes in it. So far the calls are those of processes and of their
-//! memory, `fork`, `waitpid`, `kill`, `exit`, `getpid`, `getppid`, `sched_yield`, `mmap`, `munmap`, `store` and `load`; and those
-//! on descriptors, which are open on pipes: `pipe`, `close`, `dup`, `dup2`, `fcntl`, `fstat`, `read`, `write`, `poll`, `pread`,
-//! `pwrite`, `lseek`, `readdir` and `ftruncate`.
+//! What a turn of each call does to the heap, to the processes in it and to the tree of files beside it. So far the calls are
+//! those of processes and of their memory; those on descriptors, which are open on pipes and on sockets without a name; and on
+//! names of the tree of files `stat`, `chdir`, `mkdir`, `rmdir`, `unlink`, `link` and `rename`.
 #![tactic(auto)]
 
 mod calls;

@@ -1,4 +1,4 @@
-//! The store that the core runs: the script, and the heap with the processes of the script in it.
+//! The store that the core runs: the script, the heap with the processes of the script in it, and the tree of files beside it.
 
 ghost use Rattle.std.specs.Prelude.{◌≡◌, ◌≤◌, IfOk, length, true};
 ghost use Rattle.calls_built.specs.Built.{can_run};

@@ -1,6 +1,6 @@
 //! The words that the kernel, its scripts and its reports share: calls, replies, entries, events, scripts, sizes.
 //!
-//! Nothing here does anything yet. Each list type is seen by contracts as its list.
+//! Scripts, entries and lists are made and copied here, and nothing else is done. Each list type is seen by contracts as its list.
 #![tactic(auto)]
 
 mod copies;
