@@ -1,7 +1,7 @@
 #!/usr/bin/env python3
 """Refuses memory: tools/refuse_memory.py KRES [SCRIPT], or tools/refuse_memory.py FIRST LAST
 
-Runs a small script by `sim` and by `threads 2`, again and again, and refuses one allocation in each run, in turn. Each run has
+Runs a small script by `sim` and by `threads 2`, and a generated one by `load 1`, again and again, and refuses one allocation in each run, in turn. Each run has
 to end as it does with ample memory and with the same text (nothing was refused, or only a thread that wasn't started), or with
 8 and a beginning of that text. Tells each run that isn't right and how many were tried, and ends with 1 where one isn't.
 
@@ -16,7 +16,7 @@ import sys
 import tempfile
 
 SCRIPT = "heap 8192\ndisk 16\nsteps 3\nprogram init\nend\n"
-WORDS = {"sim": ["sim"], "threads": ["threads", "2"]}
+WORDS = {"sim": ["sim"], "threads": ["threads", "2"], "load": ["load", "1"]}
 CRATE = os.path.join(os.path.dirname(os.path.realpath(__file__)), "..", "crates", "kres_cli")
 MEMORY = 8
 AMPLE = 10 ** 9  # the number of an allocation that no run makes

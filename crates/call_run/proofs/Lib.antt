@@ -1,6 +1,10 @@
 pub mod Dispatch
 pub mod Worlds
 pub mod Turning
+pub mod SettledDone
+pub mod Sound
+pub mod Stores
+pub mod OnFiles
 pub mod Sleeping
 pub mod FrameCounts
 pub mod Reaching
@@ -10,3 +14,4 @@ pub mod Choosing
 pub mod Killing
 pub mod Ends
 pub mod Naming
+pub mod CanRun

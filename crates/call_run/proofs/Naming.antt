@@ -1,30 +1,22 @@
--- A call that names nodes by their paths: its purse, and what it does.
+-- The purse of a call on files or on names of the tree, and what such a call needs of its operands.
 use Rattle.std.proofs.Common.{◌≡◌, ℕ, ◌+◌, ◌<◌, ◌≤◌, None, ap, sym, ◌∙◌, subst, arith}
 use Rattle.kabi_calls.specs.Arguments.{argument_fault}
 use Rattle.kabi_calls.specs.declared.calls.Call.{Call}
 use Rattle.kabi_values.specs.declared.classes.Need.{Need}
-use Rattle.kabi_types.specs.declared.scripts.Script.{Script}
 use Rattle.kheap_shelves.specs.Counts.{need_bytes}
 use Rattle.kheap_shelves.specs.Purse.{Purse}
 use Rattle.kheap_slabs.specs.Heap.{Heap, live_bytes}
+use Rattle.kheap_laws.proofs.FillLemmas.{AreFills-none}
+use Rattle.memfs_ops.specs.Fetching.{MayFetch}
 use Rattle.memfs_ops.specs.FileTree.{MayWalk}
 use Rattle.memfs_ops.proofs.PurseLemmas.{may_walk}
-use Rattle.posix_defs.specs.Machine.{answer_to}
 use Rattle.posix_defs.specs.Needs.{bound, need_of, objects_of, two_walks_need, walk_need}
-use Rattle.posix_defs.specs.declared.turner.Turned.{Turned}
+use Rattle.posix_defs.specs.Sizes.{reserve}
 use Rattle.posix_defs.proofs.PriceLemmas.{right_needs}
 use Rattle.store_objects.specs.Purses.{need_for, unspent}
-use Rattle.store_objects.specs.declared.objects.Objects.{Objects}
 use Rattle.store_objects.specs.declared.purses.Target.TheVariants.{File}
 use Rattle.store_objects.proofs.Paying.{left_is, purse_fits}
-use Rattle.path_calls.specs.Walking.{Reaches}
 use Rattle.call_run.specs.Families.{HasPaths}
-
--- what a call reaches that is another, spelt in other words
-pub reaches_that : (script : Script) (old new : Objects) (pid : ℕ) (which that : Call) (told : Turned) → which ≡ that
-    → Reaches script old pid that (λ plain. answer_to script plain pid that) told new → Reaches script old pid which (λ plain. answer_to script plain pid which) told new
-reaches_that script old new pid which that told is does =
-    subst (λ w. Reaches script old pid w (λ plain. answer_to script plain pid w) told new) (sym is) does
 
 -- the paths of a call are bytes
 pub paths_of_it : (which that : Call) → which ≡ that → HasPaths which → HasPaths that
@@ -34,11 +26,30 @@ paths_of_it which that is paths = subst HasPaths is paths
 pub right_that : (which that : Call) → argument_fault which ≡ None → which ≡ that → argument_fault that ≡ None
 right_that which that right is = subst (λ w. argument_fault w ≡ None) is right
 
+-- ---- room
+
+-- what is kept back isn't asked for
+pub room_less : (heap : Heap) (which : Call) → live_bytes heap + bound which + reserve ≤ heap.heap → live_bytes heap + bound which ≤ heap.heap
+room_less heap which room = less (live_bytes heap) (bound which) heap.heap room
+  where
+    less : (live bytes size : ℕ) → live + bytes + reserve ≤ size → live + bytes ≤ size
+    less live bytes size fits = omega (arith, fits)
+
+pub room_kept : (heap : Heap) (which : Call) → live_bytes heap + bound which + reserve ≤ heap.heap → live_bytes heap + reserve ≤ heap.heap
+room_kept heap which room = less (live_bytes heap) (bound which) heap.heap room
+  where
+    less : (live bytes size : ℕ) → live + bytes + reserve ≤ size → live + reserve ≤ size
+    less live bytes size fits = omega (arith, fits)
+
 -- ---- its purse, of which nothing is spent
 
 module _ (heap : Heap) (purse : Purse) (need : Need) (which that : Call) (unused : purse ≡ unspent (need_for File need)) (needed : need ≡ need_of which)
     (right : argument_fault which ≡ None) (is : which ≡ that) where
-  -- it has what the call needs
+  -- it has what the call needs but chunks
+  pub has_file_need : purse.left ≡ need_for File (need_of that)
+  has_file_need = left_is purse File need which that unused needed right is ∙ ap (need_for File) (sym (right_needs that (right_that which that right is)))
+
+  -- and that is all where the call needs no chunks
   pub has_need : need_for File (objects_of that) ≡ objects_of that → purse.left ≡ need_of that
   has_need same = left_is purse File need which that unused needed right is ∙ same ∙ sym (right_needs that (right_that which that right is))
 
@@ -52,17 +63,41 @@ module _ (heap : Heap) (purse : Purse) (need : Need) (which that : Call) (unused
       fits : (live bytes less size : ℕ) → live + bytes ≤ size → less ≤ bytes → live + less ≤ size
       fits live bytes less size room few = omega arith
 
-  -- and with it the call may walk
+  -- with it the call may walk
+  walks : (n : Need) → objects_of that ≡ n → (0 < n.name) × (0 < n.vnode) × (0 < n.block) → (n.name ≤ 4) × (n.vnode ≤ 4) × (n.block ≤ 4) → live_bytes heap + bound which ≤ heap.heap
+      → MayWalk heap purse
+  walks n one some few room =
+      let same : need_for File need ≡ need_for File n = need_is ∙ ap (need_for File) one in
+      may_walk heap purse (need_for File need) unused (has_room room) (subst (λ (m : Need). (0 < m.name) × (0 < m.vnode) × (0 < m.block)) (sym same) some)
+      (subst (λ (m : Need). (m.name ≤ 4) × (m.vnode ≤ 4) × (m.block ≤ 4)) (sym same) few)
+
   pub walks_one : objects_of that ≡ walk_need → live_bytes heap + bound which ≤ heap.heap → MayWalk heap purse
-  walks_one one room =
-      let same : need_for File need ≡ walk_need = need_is ∙ ap (need_for File) one in
-      may_walk heap purse (need_for File need) unused (has_room room)
-      (subst (λ (n : Need). (0 < n.name) × (0 < n.vnode) × (0 < n.block)) (sym same) (omega arith, omega arith, omega arith))
-      (subst (λ (n : Need). (n.name ≤ 4) × (n.vnode ≤ 4) × (n.block ≤ 4)) (sym same) (omega arith, omega arith, omega arith))
+  walks_one one room = walks walk_need one (omega arith, omega arith, omega arith) (omega arith, omega arith, omega arith) room
 
   pub walks_two : objects_of that ≡ two_walks_need → live_bytes heap + bound which ≤ heap.heap → MayWalk heap purse
-  walks_two two room =
-      let same : need_for File need ≡ two_walks_need = need_is ∙ ap (need_for File) two in
-      may_walk heap purse (need_for File need) unused (has_room room)
-      (subst (λ (n : Need). (0 < n.name) × (0 < n.vnode) × (0 < n.block)) (sym same) (omega arith, omega arith, omega arith))
-      (subst (λ (n : Need). (n.name ≤ 4) × (n.vnode ≤ 4) × (n.block ≤ 4)) (sym same) (omega arith, omega arith, omega arith))
+  walks_two two room = walks two_walks_need two (omega arith, omega arith, omega arith) (omega arith, omega arith, omega arith) room
+
+  -- also where it makes a description or a socket
+  pub walks_opening : objects_of that ≡ record walk_need { desc = 1 } → live_bytes heap + bound which ≤ heap.heap → MayWalk heap purse
+  walks_opening one room = walks (record walk_need { desc = 1 }) one (omega arith, omega arith, omega arith) (omega arith, omega arith, omega arith) room
+
+  pub walks_connecting : objects_of that ≡ record walk_need { sock = 1 } → live_bytes heap + bound which ≤ heap.heap → MayWalk heap purse
+  walks_connecting one room = walks (record walk_need { sock = 1 }) one (omega arith, omega arith, omega arith) (omega arith, omega arith, omega arith) room
+
+  -- and ask for the two blocks that it needs
+  pub may_fetch : (objects_of that).block ≡ 2 → live_bytes heap + bound which ≤ heap.heap → MayFetch heap purse
+  may_fetch two room = subst (MayFetch heap) (sym unused) (record {
+    pays = has_room room;
+    fills = record { vnodes = AreFills-none heap.vnodes need.vnode; names = AreFills-none heap.names need.name; blocks = AreFills-none heap.blocks need.block };
+    few = few need.block blocks;
+    some = some need.block blocks;
+  })
+    where
+      blocks : need.block ≡ 2
+      blocks = ap (λ (n : Need). n.block) (needed ∙ right_needs which right ∙ ap objects_of is) ∙ two
+
+      few : (n : ℕ) → n ≡ 2 → n ≤ 4
+      few n same = omega (arith, same)
+
+      some : (n : ℕ) → n ≡ 2 → 0 < n + 0
+      some n same = omega (arith, same)

@@ -5,9 +5,7 @@ use Rattle.kabi_calls.specs.Call.{kind_of}
 use Rattle.kabi_calls.specs.declared.calls.Call.{Call}
 use Rattle.kabi_calls.specs.declared.calls.Call.TheVariants as call
 use Rattle.kabi_types.specs.declared.scripts.Script.{Script}
-use Rattle.calls_built.specs.Built.{is_built}
 use Rattle.posix_defs.specs.Answer.{Answer}
-use Rattle.posix_defs.specs.Needs.{need_of}
 use Rattle.posix_defs.specs.Plain.{Plain}
 use Rattle.posix_defs.specs.Reaching.{IsLeft, has_succeeded, name_to_leave, path_to_leave, last_of}
 use Rattle.kabi_values.specs.declared.errnos.Errno.{Errno}
@@ -19,16 +17,16 @@ use Rattle.posix_defs.specs.declared.turner.Turned.TheVariants as turned
 use Rattle.posix_defs.specs.declared.turner.Turned.{Turned}
 use Rattle.store_objects.specs.declared.objects.Objects.{Objects}
 use Rattle.store_objects.specs.Standing.{Performs}
-use Rattle.path_calls.specs.Walking.{KeepsOn, Reaches}
+use Rattle.store_objects.specs.Walking.{KeepsOn, Reaches, Serves}
 use Rattle.call_run.specs.Families.{is_named}
 
--- a call that can be run and names no node leaves no name
-unnamed_leaves : (which : Call) → is_built (kind_of which) ≡ true → is_named (kind_of which) ≡ false → path_to_leave which ≡ None
-unnamed_leaves (call.Stat path) built unnamed = cc
-unnamed_leaves (call.OpenFile path flags) built unnamed = cc
-unnamed_leaves (call.Chdir path) built unnamed = cc
-unnamed_leaves (call.Exec path) built unnamed = cc
-unnamed_leaves _ built unnamed = refl
+-- a call that names no node leaves no name
+unnamed_leaves : (which : Call) → is_named (kind_of which) ≡ false → path_to_leave which ≡ None
+unnamed_leaves (call.Stat path) unnamed = cc
+unnamed_leaves (call.OpenFile path flags) unnamed = cc
+unnamed_leaves (call.Chdir path) unnamed = cc
+unnamed_leaves (call.Exec path) unnamed = cc
+unnamed_leaves _ unnamed = refl
 
 keeps_same : (world next : World) (pid : ℕ) (which : Call) (told : Turned) → next.kept ≡ world.kept → next.reads ≡ world.reads
     → (has_succeeded told ≡ true → IsLeft next.plain.files.tree next.kept (name_to_leave world.plain pid which)) → KeepsOn world pid which told next
@@ -59,15 +57,21 @@ reaches script old new pid which told answer does left = λ world stands alive.
       keeps = keeps_same world led.next pid which told led.kept led.reads (left world led.next);
     }
 
+-- what a call reaches from each world that was stood for it reaches from those that are sound
+pub served : (script : Script) (old new : Objects) (pid : ℕ) (which : Call) (told : Turned) (answer : Plain → Answer) → Reaches script old pid which answer told new → Serves script old pid which answer told new
+served script old new pid which told answer does = λ world stands sound alive. does world stands alive
+
 -- where the call names no node
-pub unnamed_reaches : (script : Script) (old new : Objects) (pid : ℕ) (which : Call) (told : Turned) (answer : Plain → Answer) → is_built (kind_of which) ≡ true → is_named (kind_of which) ≡ false
-    → Performs script old pid which answer told new → Reaches script old pid which answer told new
-unnamed_reaches script old new pid which told answer built unnamed does =
-    reaches script old new pid which told answer does
-    (λ world next _. subst (λ path. IsLeft next.plain.files.tree next.kept (option_and_then (λ p. last_of (resolve world.plain.files.tree (directory_of world.plain.table pid) p)) path)) (sym (unnamed_leaves which built unnamed)) tt)
+pub unnamed_served : (script : Script) (old new : Objects) (pid : ℕ) (which : Call) (told : Turned) (answer : Plain → Answer) → is_named (kind_of which) ≡ false
+    → Performs script old pid which answer told new → Serves script old pid which answer told new
+unnamed_served script old new pid which told answer unnamed does =
+    served script old new pid which told answer
+    (reaches script old new pid which told answer does
+    (λ world next _. subst (λ path. IsLeft next.plain.files.tree next.kept (option_and_then (λ p. last_of (resolve world.plain.files.tree (directory_of world.plain.table pid) p)) path)) (sym (unnamed_leaves which unnamed)) tt))
 
 -- and where it fails
-pub failed_reaches : (script : Script) (old new : Objects) (pid : ℕ) (which : Call) (errno : Errno) (told : Turned) (answer : Plain → Answer) → told ≡ turned.Done (reply.Fail errno)
-    → Performs script old pid which answer told new → Reaches script old pid which answer told new
-failed_reaches script old new pid which errno told answer tells does =
-    reaches script old new pid which told answer does (λ world next ok. absurd (let both : true ≡ false = sym ok ∙ ap has_succeeded tells in cc))
+pub failed_served : (script : Script) (old new : Objects) (pid : ℕ) (which : Call) (errno : Errno) (told : Turned) (answer : Plain → Answer) → told ≡ turned.Done (reply.Fail errno)
+    → Performs script old pid which answer told new → Serves script old pid which answer told new
+failed_served script old new pid which errno told answer tells does =
+    served script old new pid which told answer
+    (reaches script old new pid which told answer does (λ world next ok. absurd (let both : true ≡ false = sym ok ∙ ap has_succeeded tells in cc)))

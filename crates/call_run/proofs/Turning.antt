@@ -1,5 +1,5 @@
 -- What a process does next.
-use Rattle.std.proofs.Common.{◌≡◌, ℕ, suc, ◌<◌, ℤ, true, List, [], ◌∷◌, length, Option, None, Some, map, refl, ap, sym, ◌∙◌, subst, arith, Contains}
+use Rattle.std.proofs.Common.{◌≡◌, ℕ, suc, ℤ, true, List, [], ◌∷◌, Option, None, Some, map, refl, ap, sym, ◌∙◌, subst, arith, Contains}
 use Rattle.std.specs.List.{AllByRecursion}
 use Rattle.kabi_calls.specs.declared.calls.Call.{Call}
 use Rattle.kabi_calls.specs.declared.calls.CallKind.{CallKind}
@@ -60,7 +60,7 @@ made_done kind.Write numbers texts done = refl
 made_done _ numbers texts done = tt
 
 -- of a write as much as its control says
-at_done : (control : Control) (here : Option Statement) → HasDone (call_at control here) control.done
+pub at_done : (control : Control) (here : Option Statement) → HasDone (call_at control here) control.done
 at_done control None = tt
 at_done control (Some (statement.Invoke which operands texts first second)) = made_done which (map (value_of control) operands) texts control.done
 at_done control (Some _) = tt

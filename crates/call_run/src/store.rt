@@ -1,21 +1,19 @@
 //! The store that the core runs: the script, the heap with the processes of the script in it, and the tree of files beside it.
 
-ghost use Rattle.std.specs.Prelude.{◌≡◌, ◌≤◌, IfOk, length, true};
-ghost use Rattle.calls_built.specs.Built.{can_run};
+ghost use Rattle.std.specs.Prelude.{◌≡◌, ◌≤◌, IfOk, length};
 ghost use Rattle.kabi_types.specs.declared.scripts.Script.{Script};
 ghost use Rattle.posix_defs.specs.Plain as plain;
 ghost use Rattle.posix_defs.specs.ValidScript.{IsValid};
 ghost use Rattle.posix_defs.specs.World.{World, boot_world};
-ghost use Rattle.store_objects.specs.Standing.{StandsFor};
+ghost use Rattle.call_run.specs.Stores.{IsStoreOf};
 
 #[cfg(test)]
 mod tests;
 
-use crate::calls::would_block;
+use crate::calls::{Buffers, would_block};
 use crate::{turns, victims};
 use kabi_types::{Cached, Call, Control, Memory, Need, Program, Script};
-use posix_defs::{Turned, Turner};
-use queue_calls::{Buffer, CAPACITY};
+use posix_defs::{Asked, Turned, Turner};
 use std::alloc::Global;
 use std::marker::Model;
 use store_objects::{Objects, booted, evictable};
@@ -27,8 +25,7 @@ use victim_core::{Score, Scorer};
 pub struct Store<F: Scorer, G: Scorer> {
     script: Script,
     objects: Objects,
-    // What reads and writes move their bytes through.
-    buffer: Box<Buffer>,
+    buffers: Buffers,
     score: Score<F, G>,
 }
 
@@ -44,16 +41,14 @@ impl<F: Scorer, G: Scorer> Model for Store<F, G> {
 }
 
 impl<F: Scorer, G: Scorer> Store<F, G> {
-    /// The first process alone, at the start of the program `init` of the script, of which the store keeps a copy. The script
-    /// makes no call but those that can be run. `Memory` comes where the host has no memory left, and nothing else.
+    /// The first process alone, at the start of the program `init` of the script, of which the store keeps a copy. `Memory` comes where the host has no memory left, and nothing else.
     pub fn boot(alloc: Global, script: &Script, score: Score<F, G>) -> Result<Store<F, G>, Memory>
         requires valid { IsValid script.now }
-        requires can { can_run script.now ≡ true }
         ensures script { IfOk result (λ store. store.script ≡ script.now) }
-        ensures booted { IfOk result (λ store. StandsFor script.now store.objects (boot_world script.now)) }
+        ensures booted { IfOk result (λ store. IsStoreOf script.now store.objects (boot_world script.now)) }
     {
         // The greater, the later: where memory is wanting, what is there already is let go.
-        let buffer = Box::new(alloc, [0; CAPACITY])?;
+        let buffers = Buffers::new(alloc)?;
         let script = script.copy(alloc)?;
         let mut control = Control {
             program: place_of(script.programs.items(), b"init"),
@@ -66,7 +61,7 @@ impl<F: Scorer, G: Scorer> Store<F, G> {
         Ok(Store {
             script,
             objects,
-            buffer,
+            buffers,
             score,
         })
     }
@@ -92,7 +87,7 @@ fn place_of(programs: &[Program], name: &[u8]) -> u32
 impl<F: Scorer, G: Scorer> Turner for Store<F, G> {
     ghost script = { λ store. store.script };
 
-    ghost stands = { λ store world. StandsFor store.script store.objects world };
+    ghost stands = { λ store world. IsStoreOf store.script store.objects world };
 
     ghost marks = { λ store. store.objects.heap.marks };
 
@@ -104,11 +99,15 @@ impl<F: Scorer, G: Scorer> Turner for Store<F, G> {
         turns::next(&self.script, &self.objects, pid)
     }
 
+    fn asks(&self, pid: u32) -> Asked {
+        turns::asks(&self.script, &self.objects, pid)
+    }
+
     fn turn(&mut self, pid: u32, call: &Call, need: Need) -> Turned {
         turns::turn(
             &self.script,
             &mut self.objects,
-            &mut self.buffer,
+            &mut self.buffers,
             pid,
             call,
             need,

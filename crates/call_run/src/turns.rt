@@ -1,10 +1,7 @@
 //! Turns over a script and its objects, as the core asks for them.
 
-ghost use Rattle.std.specs.Prelude.{◌≡◌, ◌≢◌, ◌+◌, ◌%◌, ◌^◌, ◌≤◌, None, Some, true, false};
-ghost use Rattle.calls_built.specs.Built.{is_built};
-ghost use Rattle.kabi_calls.specs.Call.{kind_of};
+ghost use Rattle.std.specs.Prelude.{◌≡◌, ◌≢◌, ◌+◌, ◌%◌, ◌^◌, ◌≤◌, true, false};
 ghost use Rattle.kabi_types.specs.declared.scripts.Script.{Script};
-ghost use Rattle.kheap_shelves.specs.declared.objects.Proc.{Proc};
 ghost use Rattle.posix_defs.specs.Needs.{bound, need_of, slack};
 ghost use Rattle.posix_defs.specs.Plain.{call_of};
 ghost use Rattle.posix_defs.specs.Process.{is_alive};
@@ -12,18 +9,17 @@ ghost use Rattle.posix_defs.specs.Relief.{Evicts, Kills, refused_in};
 ghost use Rattle.posix_defs.specs.Sizes.{reserve};
 ghost use Rattle.posix_defs.specs.Turn.{TurnsTo};
 ghost use Rattle.posix_defs.specs.World.{World, can_evict, live_of};
-ghost use Rattle.proc_table.specs.Procs.{proc_of};
-ghost use Rattle.prog_ctl.specs.Waits.{wait_of};
-ghost use Rattle.store_objects.specs.Objects.{AreKept, procs_of};
+ghost use Rattle.prog_ctl.specs.Waits.{asked_for, wait_of};
+ghost use Rattle.store_objects.specs.Objects.{AreKept};
 ghost use Rattle.store_objects.specs.Standing.{StandsFor};
-ghost use Rattle.call_run.specs.Families.{HasDone, HasPaths};
+ghost use Rattle.call_run.specs.Stores.{IsStoreOf};
 
-use crate::calls;
+use crate::calls::{self, Buffers};
 use kabi_types::{Cached, Call, Errno, Need, Reply, Script};
-use posix_defs::Turned;
+use posix_defs::{Asked, Turned};
+use process_ends::{INIT, SIGKILL, end};
 use prog_ctl::Awaited;
-use queue_calls::Buffer;
-use store_objects::{INIT, Objects, SIGKILL, end, go_on};
+use store_objects::{Objects, go_on};
 
 /// The call that a live process makes next.
 pub fn next(script: &Script, objects: &Objects, pid: u32) -> Call
@@ -35,6 +31,18 @@ pub fn next(script: &Script, objects: &Objects, pid: u32) -> Call
         unreachable!();
     };
     prog_ctl::call_here(script, &proc.control)
+}
+
+/// What a live process asks for with its next call.
+pub fn asks(script: &Script, objects: &Objects, pid: u32) -> Asked
+    requires { (world : World) × StandsFor script.now objects.now world × (is_alive world.plain.table pid ≡ true) }
+    ensures { (world : World) → StandsFor script.now objects.now world → is_alive world.plain.table pid ≡ true
+        → result ≡ asked_for (call_of script.now world.plain pid) }
+{
+    let Some(proc) = objects.proc(pid) else {
+        unreachable!();
+    };
+    prog_ctl::asked_here(script, &proc.control)
 }
 
 /// What a live process's next call waits for; None where that call never blocks.
@@ -49,48 +57,45 @@ pub fn waits_for(script: &Script, objects: &Objects, pid: u32) -> Option<Awaited
     prog_ctl::wait_here(script, &proc.control)
 }
 
-/// A turn of a process's call, which is one that can be run where the process is alive, and says how much of it is done; `Gone`
-/// where the process has ended.
+/// A turn of a process's own next call, where it is alive; `Gone` where it has ended.
 pub fn turn(
     script: &Script,
     objects: &mut Objects,
-    buffer: &mut Buffer,
+    buffers: &mut Buffers,
     pid: u32,
     call: &Call,
     need: Need,
 ) -> Turned
-    requires kept { AreKept script.now objects.old }
     requires needed { need ≡ need_of call.now }
-    requires so_far { (proc : Proc) → proc_of (procs_of objects.old) pid ≡ Some proc → proc.status ≡ None → HasDone call.now proc.control.done }
-    requires may { (world : World) × StandsFor script.now objects.old world
-        × (is_alive world.plain.table pid ≡ true → (is_built (kind_of call.now) ≡ true) × HasPaths call.now)
+    requires may { (world : World) × IsStoreOf script.now objects.old world
+        × (is_alive world.plain.table pid ≡ true → call.now ≡ call_of script.now world.plain pid)
         × (live_of world + bound call.now + reserve ≤ script.now.heap) }
     ensures kept { AreKept script.now objects.new }
-    ensures turned { (world : World) → StandsFor script.now objects.old world
-        → (after : World) × StandsFor script.now objects.new after × TurnsTo script.now world pid call.now result after }
+    ensures turned { (world : World) → IsStoreOf script.now objects.old world
+        → (after : World) × IsStoreOf script.now objects.new after × TurnsTo script.now world pid call.now result after }
     ensures marked { objects.new.heap.marks ≡ (objects.old.heap.marks + 1) % 2 ^ 64 }
-    ensures since { (world : World) → StandsFor script.now objects.old world → live_of world ≤ objects.new.heap.high }
-    ensures high { (world : World) → StandsFor script.now objects.old world → objects.new.heap.high ≤ live_of world + bound call.now + slack call.now }
+    ensures since { (world : World) → IsStoreOf script.now objects.old world → live_of world ≤ objects.new.heap.high }
+    ensures high { (world : World) → IsStoreOf script.now objects.old world → objects.new.heap.high ≤ live_of world + bound call.now + slack call.now }
 {
     objects.heap_is_well_formed();
     objects.heap.mark();
     let Some(caller) = objects.caller(pid) else {
         return Turned::Gone;
     };
-    let turned = calls::run(script, objects, buffer, &caller, call, need);
+    let turned = calls::run(script, objects, buffers, &caller, call, need);
     objects.heap_is_well_formed();
     turned
 }
 
 /// Answers a live process's next call ENOMEM.
 pub fn refuse(script: &Script, objects: &mut Objects, pid: u32)
-    requires { (world : World) × StandsFor script.now objects.old world × (is_alive world.plain.table pid ≡ true) }
+    requires { (world : World) × IsStoreOf script.now objects.old world × (is_alive world.plain.table pid ≡ true) }
     ensures kept { AreKept script.now objects.new }
-    ensures refused { (world : World) → StandsFor script.now objects.old world → is_alive world.plain.table pid ≡ true
-        → StandsFor script.now objects.new (refused_in script.now world pid) }
+    ensures refused { (world : World) → IsStoreOf script.now objects.old world → is_alive world.plain.table pid ≡ true
+        → IsStoreOf script.now objects.new (refused_in script.now world pid) }
     ensures marked { objects.new.heap.marks ≡ (objects.old.heap.marks + 1) % 2 ^ 64 }
-    ensures since { (world : World) → StandsFor script.now objects.old world → live_of world ≤ objects.new.heap.high }
-    ensures high { (world : World) → StandsFor script.now objects.old world → objects.new.heap.high ≤ live_of world }
+    ensures since { (world : World) → IsStoreOf script.now objects.old world → live_of world ≤ objects.new.heap.high }
+    ensures high { (world : World) → IsStoreOf script.now objects.old world → objects.new.heap.high ≤ live_of world }
 {
     objects.heap_is_well_formed();
     objects.heap.mark();
@@ -103,16 +108,16 @@ pub fn refuse(script: &Script, objects: &mut Objects, pid: u32)
 
 /// Ends a live process other than the first; where that isn't one, nothing changes.
 pub fn kill(objects: &mut Objects, pid: u32)
-    requires { (script : Script) × (world : World) × StandsFor script objects.old world }
-    ensures kept { (script : Script) → AreKept script objects.old → AreKept script objects.new }
-    ensures killed { (script : Script) (world : World) → StandsFor script objects.old world → is_alive world.plain.table pid ≡ true → pid ≢ 1
-        → (after : World) × StandsFor script objects.new after × Kills world pid after }
-    ensures gone { (script : Script) (world : World) → StandsFor script objects.old world → is_alive world.plain.table pid ≡ false
-        → StandsFor script objects.new world }
-    ensures first { (script : Script) (world : World) → StandsFor script objects.old world → pid ≡ 1 → StandsFor script objects.new world }
+    requires { (script : Script) × (world : World) × IsStoreOf script objects.old world }
+    ensures kept { (script : Script) (world : World) → IsStoreOf script objects.old world → AreKept script objects.new }
+    ensures killed { (script : Script) (world : World) → IsStoreOf script objects.old world → is_alive world.plain.table pid ≡ true → pid ≢ 1
+        → (after : World) × IsStoreOf script objects.new after × Kills world pid after }
+    ensures gone { (script : Script) (world : World) → IsStoreOf script objects.old world → is_alive world.plain.table pid ≡ false
+        → IsStoreOf script objects.new world }
+    ensures first { (script : Script) (world : World) → IsStoreOf script objects.old world → pid ≡ 1 → IsStoreOf script objects.new world }
     ensures marked { objects.new.heap.marks ≡ (objects.old.heap.marks + 1) % 2 ^ 64 }
-    ensures since { (script : Script) (world : World) → StandsFor script objects.old world → live_of world ≤ objects.new.heap.high }
-    ensures high { (script : Script) (world : World) → StandsFor script objects.old world → objects.new.heap.high ≤ live_of world + reserve }
+    ensures since { (script : Script) (world : World) → IsStoreOf script objects.old world → live_of world ≤ objects.new.heap.high }
+    ensures high { (script : Script) (world : World) → IsStoreOf script objects.old world → objects.new.heap.high ≤ live_of world + reserve }
 {
     objects.heap_is_well_formed();
     objects.heap.mark();
@@ -125,17 +130,18 @@ pub fn kill(objects: &mut Objects, pid: u32)
 
 /// Of what a cache keeps and isn't pinned the object that was used longest ago goes; where there is none nothing changes.
 pub fn evict(objects: &mut Objects, what: Cached)
-    requires { (script : Script) × (world : World) × StandsFor script objects.old world }
+    requires { (script : Script) × (world : World) × IsStoreOf script objects.old world }
     ensures kept { (script : Script) → AreKept script objects.old → AreKept script objects.new }
-    ensures evicted { (script : Script) (world : World) → StandsFor script objects.old world → can_evict world.plain world.kept what ≡ true
-        → (after : World) × StandsFor script objects.new after × Evicts world what after }
-    ensures same { (script : Script) (world : World) → StandsFor script objects.old world → can_evict world.plain world.kept what ≡ false
-        → StandsFor script objects.new world }
+    ensures evicted { (script : Script) (world : World) → IsStoreOf script objects.old world → can_evict world.plain world.kept what ≡ true
+        → (after : World) × IsStoreOf script objects.new after × Evicts world what after }
+    ensures same { (script : Script) (world : World) → IsStoreOf script objects.old world → can_evict world.plain world.kept what ≡ false
+        → IsStoreOf script objects.new world }
     ensures marked { objects.new.heap.marks ≡ (objects.old.heap.marks + 1) % 2 ^ 64 }
-    ensures since { (script : Script) (world : World) → StandsFor script objects.old world → live_of world ≤ objects.new.heap.high }
-    ensures high { (script : Script) (world : World) → StandsFor script objects.old world → objects.new.heap.high ≤ live_of world }
+    ensures since { (script : Script) (world : World) → IsStoreOf script objects.old world → live_of world ≤ objects.new.heap.high }
+    ensures high { (script : Script) (world : World) → IsStoreOf script objects.old world → objects.new.heap.high ≤ live_of world }
 {
     objects.heap_is_well_formed();
     objects.heap.mark();
     store_objects::evict(objects, what);
+    objects.heap_is_well_formed();
 }

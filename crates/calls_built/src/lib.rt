@@ -1,4 +1,4 @@
-//! Which calls the store can run today: a script that makes another one is valid, and is refused before it runs.
+//! Which calls the store can run, and so which scripts: all.
 #![tactic(auto)]
 
 mod built;

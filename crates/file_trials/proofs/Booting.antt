@@ -1,5 +1,5 @@
 -- At the beginning the first process has nothing open, and the root is held by itself.
-use Rattle.std.proofs.Common.{◌≡◌, ℕ, zero, suc, ◌+◌, ◌/◌, ◌<◌, ◌≤◌, Bool, true, false, cond, replicate, List, [], ◌∷◌, Option, None, Some, nat_eq, refl, ap, sym, subst, ◌∙◌, arith, inl, inr, ne_eqb}
+use Rattle.std.proofs.Common.{◌≡◌, ℕ, zero, suc, ◌+◌, ◌/◌, ◌≤◌, Bool, true, false, cond, replicate, List, [], ◌∷◌, Option, None, Some, nat_eq, refl, ap, sym, subst, ◌∙◌, arith, inl, inr, ne_eqb}
 use Rattle.std.proofs.lemmas.Bool.{cases_eq}
 use Rattle.kern_laws.proofs.Bareness.{boot_bare}
 use Rattle.kabi_values.specs.Class.{size}
@@ -19,9 +19,10 @@ use Rattle.place_laws.specs.Placed.{Numbers}
 use Rattle.posix_defs.specs.Files.Descriptors.{none_open}
 use Rattle.posix_defs.specs.Files.State.{boot_files, descriptors_of}
 use Rattle.posix_defs.specs.Tree.{Tree, is_directory, new_tree, root}
-use Rattle.proc_descs.specs.Having.{AreListed, HaveOpen, places_in}
+use Rattle.proc_descs.specs.Having.{HaveOpen, places_in}
 use Rattle.proc_files.specs.Closing.{CachesChange}
-use Rattle.proc_files.specs.Holding.{HoldDirectories, HoldFiles, holders}
+use Rattle.proc_files.specs.Holding.{HoldFiles}
+use Rattle.holding_laws.specs.Holders.{HoldDirectories, holders}
 use Rattle.proc_files.proofs.Beside.{have_beside, listed_beside, owners_beside, same_procs}
 use Rattle.proc_files.proofs.Holding.{same_pins}
 use Rattle.proc_pipes.proofs.Booted.{boot_listed, boot_owned, boot_there}

@@ -1,5 +1,5 @@
 -- The first process goes on working in the root.
-use Rattle.std.proofs.Common.{◌≡◌, ℕ, [], List, Option, Some, refl, ap, sym, ◌∙◌}
+use Rattle.std.proofs.Common.{◌≡◌, [], List, Option, Some, refl, ap, sym, ◌∙◌}
 use Rattle.kheap_shelves.specs.declared.objects.Proc.{Proc}
 use Rattle.kheap_slabs.specs.Heap.{Heap}
 use Rattle.memfs_ops.specs.FileTree.{TreeView}
@@ -10,7 +10,7 @@ use Rattle.proc_descs.proofs.Listing.{found_before, found_now}
 use Rattle.proc_files.specs.Closing.{ChangesHolding}
 use Rattle.proc_files.specs.Holding.{HoldSome}
 use Rattle.proc_files.specs.Opening.{WorksSomewhere}
-use Rattle.proc_files.proofs.Endings.{IsAt, is_at}
+use Rattle.proc_files.proofs.Finding.{IsAt, is_at}
 use Rattle.proc_table.specs.Procs.{proc_of}
 use Rattle.proc_table.specs.Table.{TableView, processes, procs_at}
 use Rattle.proc_table.proofs.PlaceLemmas.{some_same}

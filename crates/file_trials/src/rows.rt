@@ -34,14 +34,13 @@ fn go_through(rt: &impl Abort, alloc: Global, rows: &[Row]) -> Result<(), Memory
     Ok(())
 }
 
-// A file is made by the open that asks for it; both numbers of a description share its offset, another open has its own. An offset
-// may stand behind the end, and nothing is written by it.
+// A file is made by the open that asks for it; each open has an offset of its own. An offset may stand behind the end, and nothing is
+// written by it.
 const OFFSETS: &[Row] = &[
     (Step::OpenMissing, Err(Errno::ENOENT)),
     (Step::OpenNew, Ok(0)),
     (Step::Fstat(0), Ok(0)),
-    (Step::Dup2(0, 5), Ok(5)),
-    (Step::Lseek(5, 100, 0), Ok(100)),
+    (Step::Lseek(0, 100, 0), Ok(100)),
     (Step::Lseek(0, 0, 1), Ok(100)),
     (Step::OpenNew, Ok(1)),
     (Step::Lseek(1, 0, 1), Ok(0)),
@@ -50,46 +49,27 @@ const OFFSETS: &[Row] = &[
     (Step::Lseek(0, -100, 2), Ok(500)),
     (Step::Lseek(0, -501, 1), Err(Errno::EINVAL)),
     (Step::Close(0), Ok(0)),
-    (Step::Lseek(5, 0, 1), Ok(500)),
+    (Step::Lseek(1, 0, 1), Ok(0)),
     (Step::Fstat(0), Err(Errno::EBADF)),
 ];
 
-// A number that is given anew is closed before; who reads alone may not truncate; no directory is opened to be written.
+// A number that was closed is given anew; who reads alone may not truncate; no directory is opened to be written.
 const NUMBERS: &[Row] = &[
     (Step::OpenRoot, Err(Errno::EISDIR)),
     (Step::OpenNew, Ok(0)),
     (Step::OpenMarked, Ok(1)),
     (Step::Ftruncate(1, 1), Err(Errno::EBADF)),
     (Step::Ftruncate(0, 3), Ok(0)),
-    (Step::Dup2(0, 1), Ok(1)),
-    (Step::Ftruncate(1, 1), Ok(0)),
-    (Step::Dup2(2, 0), Err(Errno::EBADF)),
-    (Step::Dup2(0, 32), Err(Errno::EBADF)),
-    (Step::Dup2(0, 0), Ok(0)),
-    (Step::Fstat(1), Ok(1)),
-];
-
-// `exec` closes the numbers that are marked, and an end closes all.
-const ENDS: &[Row] = &[
+    (Step::Close(0), Ok(0)),
+    (Step::Close(7), Ok(0)),
     (Step::OpenNew, Ok(0)),
-    (Step::OpenMarked, Ok(1)),
-    (Step::OpenMarked, Ok(2)),
-    (Step::Dup2(1, 7), Ok(7)),
-    (Step::AtExec, Ok(0)),
-    (Step::Fstat(0), Ok(0)),
-    (Step::Fstat(1), Err(Errno::EBADF)),
-    (Step::Fstat(2), Err(Errno::EBADF)),
-    (Step::Fstat(7), Ok(0)),
-    (Step::AtEnd, Ok(0)),
-    (Step::Fstat(0), Err(Errno::EBADF)),
-    (Step::Fstat(7), Err(Errno::EBADF)),
-    (Step::OpenMarked, Ok(0)),
+    (Step::Ftruncate(0, 1), Ok(0)),
+    (Step::Fstat(1), Ok(1)),
 ];
 
 #[test]
 fn files_are_opened_and_closed(rt: HostRuntime) -> Result<(), Fail> {
     go_through(&rt, rt.alloc(), OFFSETS)?;
     go_through(&rt, rt.alloc(), NUMBERS)?;
-    go_through(&rt, rt.alloc(), ENDS)?;
     Ok(())
 }

@@ -4,10 +4,7 @@ ghost use Rattle.file_trials.specs.Desks.{HasDesk};
 
 use crate::desk::{Desk, blocks, walking};
 use kabi_types::Errno;
-use proc_files::{
-    close_at_exec, close_each, close_number, dup_number, open_path, seek_number, size_number,
-    stat_number,
-};
+use proc_files::{close_open, open_path, seek_number, size_number, stat_number};
 use std::process::Abort;
 
 /// A call of the first process.
@@ -21,16 +18,12 @@ pub enum Step {
     OpenMissing,
     /// `open("/", O_RDWR)`
     OpenRoot,
-    Close(i64),
-    Dup2(i64, i64),
+    /// A close of a number below 32.
+    Close(u32),
     Lseek(i64, i64, i64),
     Ftruncate(i64, i64),
     /// The size that `fstat` tells.
     Fstat(i64),
-    /// What `exec` closes.
-    AtExec,
-    /// What an end closes.
-    AtEnd,
 }
 
 /// What a call answers, 0 where that is nothing.
@@ -47,12 +40,9 @@ pub fn take(rt: &impl Abort, desk: &mut Desk, step: &Step) -> Told
         Step::OpenMissing => open_missing(rt, desk),
         Step::OpenRoot => open_root(rt, desk),
         Step::Close(fd) => close(rt, desk, *fd),
-        Step::Dup2(fd, to) => dup2(rt, desk, *fd, *to),
         Step::Lseek(fd, offset, whence) => lseek(desk, *fd, *offset, *whence),
         Step::Ftruncate(fd, size) => ftruncate(rt, desk, *fd, *size),
         Step::Fstat(fd) => fstat(desk, *fd),
-        Step::AtExec => at_exec(rt, desk),
-        Step::AtEnd => at_end(rt, desk),
     }
 }
 
@@ -140,12 +130,13 @@ fn open_root(rt: &impl Abort, desk: &mut Desk) -> Told
     widened(told)
 }
 
-fn close(rt: &impl Abort, desk: &mut Desk, fd: i64) -> Told
+fn close(rt: &impl Abort, desk: &mut Desk, fd: u32) -> Told
     requires { HasDesk desk.old.heap desk.old.procs desk.old.tree }
     ensures { HasDesk desk.new.heap desk.new.procs desk.new.tree }
 {
+    assert!(rt; fd < 32);
     let mut purse = blocks(rt, &desk.heap);
-    let done = close_number(
+    close_open(
         &mut desk.heap,
         &mut purse,
         &desk.procs,
@@ -153,24 +144,7 @@ fn close(rt: &impl Abort, desk: &mut Desk, fd: i64) -> Told
         1,
         fd,
     );
-    nothing(done)
-}
-
-fn dup2(rt: &impl Abort, desk: &mut Desk, fd: i64, to: i64) -> Told
-    requires { HasDesk desk.old.heap desk.old.procs desk.old.tree }
-    ensures { HasDesk desk.new.heap desk.new.procs desk.new.tree }
-{
-    let mut purse = blocks(rt, &desk.heap);
-    let told = dup_number(
-        &mut desk.heap,
-        &mut purse,
-        &desk.procs,
-        &mut desk.tree,
-        1,
-        fd,
-        to,
-    );
-    widened(told)
+    Ok(0)
 }
 
 fn lseek(desk: &mut Desk, fd: i64, offset: i64, whence: i64) -> Told
@@ -213,22 +187,4 @@ fn fstat(desk: &mut Desk, fd: i64) -> Told
         Ok(info) => Ok(u64::from(info.size)),
         Err(errno) => Err(errno),
     }
-}
-
-fn at_exec(rt: &impl Abort, desk: &mut Desk) -> Told
-    requires { HasDesk desk.old.heap desk.old.procs desk.old.tree }
-    ensures { HasDesk desk.new.heap desk.new.procs desk.new.tree }
-{
-    let mut purse = blocks(rt, &desk.heap);
-    close_at_exec(&mut desk.heap, &mut purse, &desk.procs, &mut desk.tree, 1);
-    Ok(0)
-}
-
-fn at_end(rt: &impl Abort, desk: &mut Desk) -> Told
-    requires { HasDesk desk.old.heap desk.old.procs desk.old.tree }
-    ensures { HasDesk desk.new.heap desk.new.procs desk.new.tree }
-{
-    let mut purse = blocks(rt, &desk.heap);
-    close_each(&mut desk.heap, &mut purse, &desk.procs, &mut desk.tree, 1);
-    Ok(0)
 }

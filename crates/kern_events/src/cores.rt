@@ -5,7 +5,6 @@ ghost use Rattle.std.specs.Option.{option_or, option_to_list};
 ghost use Rattle.kabi_types.specs.declared.entries.End.TheVariants.{Spent};
 ghost use Rattle.std.specs.List.{list_any, list_all};
 ghost use Rattle.kabi_types.specs.declared.entries.Event.TheVariants.{Ask, Admit, Turn, Wake, Abandon, Kill, Evict};
-ghost use Rattle.kabi_calls.specs.Call.{kind_of};
 ghost use Rattle.posix_defs.specs.Needs.{bound};
 ghost use Rattle.posix_defs.specs.Sizes.{room};
 ghost use Rattle.posix_defs.specs.World.{World, boot_world, can_evict};
@@ -34,7 +33,7 @@ use kern_tasks::{
     first_waiting, is_admitted, is_alone, last_noted, may_end, note, phase_of, present_at, remove,
     set_phase, some_within, some_without, task_at,
 };
-use need_table::{bound, need};
+use need_table::need;
 use posix_defs::{Asked, Phase, Task, Turned, Turner};
 use std::alloc::Global;
 use std::marker::Model;
@@ -621,7 +620,7 @@ impl<T: Turner + Drop> Core<T> {
         ensures took { Takes T.stands (T.script self.old.store) self.old (Ask pid) self.new }
         ensures inside { StaysInside T.marks T.high (T.script self.old.store).heap self.old self.new }
     {
-        let asked = asked_of(&self.store.next(pid));
+        let asked = self.store.asks(pid);
         if asked.bound > self.heap - FIXED {
             self.refuse(pid, asked)
         } else {
@@ -860,27 +859,6 @@ impl<T: Turner + Drop> Core<T> {
     }
 }
 
-/// What a process asks for with this call.
-fn asked_of(call: &Call) -> Asked
-    ensures { result ≡ record { kind = kind_of call.now; bound = bound call.now } }
-{
-    Asked {
-        kind: call.kind(),
-        bound: bound(call),
-    }
-}
-
-/// What a process asks for with the rest of a call of which a part is done. It stands by itself, since a function pays for the
-/// room of all its locals whenever it is entered, and few turns do a part.
-#[inline(never)]
-fn rest_of<T: Turner>(store: &T, pid: u32) -> Asked
-    requires { (world : World) × T.stands store.now world × (is_alive world.plain.table pid ≡ true) }
-    ensures { (world : World) → T.stands store.now world → is_alive world.plain.table pid ≡ true
-        → result ≡ asked_by (T.script store.now) world.plain pid }
-{
-    asked_of(&store.next(pid))
-}
-
 /// Whether an event brings no call nearer to the heap.
 fn asks_nothing(event: Event) -> bool
     ensures { result ≡ asks_nothing event }
@@ -912,7 +890,7 @@ fn phase_after<T: Turner>(store: &T, pid: u32, asked: Asked, turned: &Turned) ->
 {
     match turned {
         Turned::Done(_) => Phase::User,
-        Turned::Part(_) => Phase::Asleep(rest_of(store, pid)),
+        Turned::Part(_) => Phase::Asleep(store.asks(pid)),
         Turned::Sleep => Phase::Asleep(asked),
         Turned::Ended(_) | Turned::Gone => Phase::Dead,
     }

@@ -3,7 +3,7 @@ use Rattle.std.proofs.Common.{◌≡◌, ℕ, ◌≤◌, List, [], ◌∷◌, Op
 use Rattle.std.specs.Prelude.{String}
 use Rattle.std.proofs.lemmas.Fmt.{decimal_injective}
 use Rattle.kres_cli.specs.declared.commands.Command.{Command}
-use Rattle.kres_cli.specs.declared.commands.Command.TheVariants.{OnScript, Table, Gen}
+use Rattle.kres_cli.specs.declared.commands.Command.TheVariants.{OnScript, Table, Gen, Load}
 use Rattle.kres_cli.specs.declared.commands.Task.TheVariants as task
 use Rattle.kres_cli.specs.Words.{Asks, IsAllowed, most_rounds, most_workers, words_of}
 
@@ -28,6 +28,10 @@ same_rounds : (rounds rounds' : ℕ) → rounds ≤ most_rounds → rounds' ≤ 
 unfolding second_word
 same_rounds rounds rounds' few few' same = ap Gen (decimal_injective rounds rounds' (omega arith) (omega arith) (ap second_word same))
 
+same_loads : (rounds rounds' : ℕ) → rounds ≤ most_rounds → rounds' ≤ most_rounds → words_of (Load rounds) ≡ words_of (Load rounds') → Load rounds ≡ Load rounds'
+unfolding second_word
+same_loads rounds rounds' few few' same = ap Load (decimal_injective rounds rounds' (omega arith) (omega arith) (ap second_word same))
+
 same_workers : (workers workers' : ℕ) → workers ≤ most_workers → workers' ≤ most_workers → words_of (OnScript (task.Threads workers)) ≡ words_of (OnScript (task.Threads workers'))
     → OnScript (task.Threads workers) ≡ OnScript (task.Threads workers')
 unfolding second_word
@@ -41,26 +45,37 @@ one_command (OnScript task.Sim) (OnScript (task.Threads _)) _ _ same = absurd (l
 one_command (OnScript task.Sim) (OnScript task.Print) _ _ same = absurd (let wrong : 115 ≡ 112 = ap first_byte same in omega (arith, wrong))
 one_command (OnScript task.Sim) Table _ _ same = absurd (let wrong : 115 ≡ 116 = ap first_byte same in omega (arith, wrong))
 one_command (OnScript task.Sim) (Gen rounds) _ _ same = absurd (let wrong : 115 ≡ 103 = ap first_byte same in omega (arith, wrong))
+one_command (OnScript task.Sim) (Load rounds) _ _ same = absurd (let wrong : 115 ≡ 108 = ap first_byte same in omega (arith, wrong))
 one_command (OnScript (task.Threads _)) (OnScript task.Sim) _ _ same = absurd (let wrong : 116 ≡ 115 = ap first_byte same in omega (arith, wrong))
 one_command (OnScript (task.Threads workers)) (OnScript (task.Threads workers')) few few' same = same_workers workers workers' few.1 few'.1 same
 one_command (OnScript (task.Threads _)) (OnScript task.Print) _ _ same = absurd (let wrong : 116 ≡ 112 = ap first_byte same in omega (arith, wrong))
 one_command (OnScript (task.Threads _)) Table _ _ same = absurd (let wrong : 104 ≡ 97 = ap second_byte same in omega (arith, wrong))
 one_command (OnScript (task.Threads _)) (Gen rounds) _ _ same = absurd (let wrong : 116 ≡ 103 = ap first_byte same in omega (arith, wrong))
+one_command (OnScript (task.Threads _)) (Load rounds) _ _ same = absurd (let wrong : 116 ≡ 108 = ap first_byte same in omega (arith, wrong))
 one_command (OnScript task.Print) (OnScript task.Sim) _ _ same = absurd (let wrong : 112 ≡ 115 = ap first_byte same in omega (arith, wrong))
 one_command (OnScript task.Print) (OnScript (task.Threads _)) _ _ same = absurd (let wrong : 112 ≡ 116 = ap first_byte same in omega (arith, wrong))
 one_command (OnScript task.Print) (OnScript task.Print) _ _ same = refl
 one_command (OnScript task.Print) Table _ _ same = absurd (let wrong : 112 ≡ 116 = ap first_byte same in omega (arith, wrong))
 one_command (OnScript task.Print) (Gen rounds) _ _ same = absurd (let wrong : 112 ≡ 103 = ap first_byte same in omega (arith, wrong))
+one_command (OnScript task.Print) (Load rounds) _ _ same = absurd (let wrong : 112 ≡ 108 = ap first_byte same in omega (arith, wrong))
 one_command Table (OnScript task.Sim) _ _ same = absurd (let wrong : 116 ≡ 115 = ap first_byte same in omega (arith, wrong))
 one_command Table (OnScript (task.Threads _)) _ _ same = absurd (let wrong : 97 ≡ 104 = ap second_byte same in omega (arith, wrong))
 one_command Table (OnScript task.Print) _ _ same = absurd (let wrong : 116 ≡ 112 = ap first_byte same in omega (arith, wrong))
 one_command Table Table _ _ same = refl
 one_command Table (Gen rounds) _ _ same = absurd (let wrong : 116 ≡ 103 = ap first_byte same in omega (arith, wrong))
+one_command Table (Load rounds) _ _ same = absurd (let wrong : 116 ≡ 108 = ap first_byte same in omega (arith, wrong))
 one_command (Gen rounds) (OnScript task.Sim) _ _ same = absurd (let wrong : 103 ≡ 115 = ap first_byte same in omega (arith, wrong))
 one_command (Gen rounds) (OnScript (task.Threads _)) _ _ same = absurd (let wrong : 103 ≡ 116 = ap first_byte same in omega (arith, wrong))
 one_command (Gen rounds) (OnScript task.Print) _ _ same = absurd (let wrong : 103 ≡ 112 = ap first_byte same in omega (arith, wrong))
 one_command (Gen rounds) Table _ _ same = absurd (let wrong : 103 ≡ 116 = ap first_byte same in omega (arith, wrong))
 one_command (Gen rounds) (Gen rounds') few few' same = same_rounds rounds rounds' few few' same
+one_command (Gen rounds) (Load _) _ _ same = absurd (let wrong : 103 ≡ 108 = ap first_byte same in omega (arith, wrong))
+one_command (Load rounds) (OnScript task.Sim) _ _ same = absurd (let wrong : 108 ≡ 115 = ap first_byte same in omega (arith, wrong))
+one_command (Load rounds) (OnScript (task.Threads _)) _ _ same = absurd (let wrong : 108 ≡ 116 = ap first_byte same in omega (arith, wrong))
+one_command (Load rounds) (OnScript task.Print) _ _ same = absurd (let wrong : 108 ≡ 112 = ap first_byte same in omega (arith, wrong))
+one_command (Load rounds) Table _ _ same = absurd (let wrong : 108 ≡ 116 = ap first_byte same in omega (arith, wrong))
+one_command (Load rounds) (Gen _) _ _ same = absurd (let wrong : 108 ≡ 103 = ap first_byte same in omega (arith, wrong))
+one_command (Load rounds) (Load rounds') few few' same = same_loads rounds rounds' few few' same
 
 pub asks_once : {A : Type 0} (words : List (String A)) (first second : Command) → Asks words first → Asks words second → first ≡ second
 asks_once words first second asks asks_too = one_command first second asks.1 asks_too.1 (sym asks.0 ∙ asks_too.0)

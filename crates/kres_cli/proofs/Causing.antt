@@ -11,7 +11,7 @@ use Rattle.posix_defs.specs.ScriptText.{ReadsText}
 use Rattle.script_parse.proofs.TextReads.{reads_as}
 use Rattle.calls_built.specs.Built.{can_run}
 use Rattle.kres_cli.specs.declared.commands.Command.{Command}
-use Rattle.kres_cli.specs.declared.commands.Command.TheVariants.{OnScript, Table, Gen}
+use Rattle.kres_cli.specs.declared.commands.Command.TheVariants.{OnScript, Table, Gen, Load}
 use Rattle.kres_cli.specs.declared.commands.Task.{Task}
 use Rattle.kres_cli.specs.declared.commands.Task.TheVariants as task
 use Rattle.kres_cli.specs.declared.statuses.Status.{Status}
@@ -19,7 +19,7 @@ use Rattle.kres_cli.specs.declared.statuses.Status.TheVariants as status
 use Rattle.kres_cli.specs.Causes.{Completes, EndsRun, HasCause, HasScript, IsDone, IsTold, NoPutFailed, NothingFailed, TellsEnd, TellsFault}
 use Rattle.kres_cli.specs.Read.{HasTaken}
 use Rattle.kres_cli.specs.Status.{status_of}
-use Rattle.kres_cli.specs.Tool.{Answered, AnswersText, CommandEnds, Input, Makes, Obeys, OthersEnd, Output, Refuses, TaskEnds, TextEnds, Wrote, cannot_run, makes, no_script, refuses, runs, usage_line}
+use Rattle.kres_cli.specs.Tool.{Answered, AnswersText, CommandEnds, Input, LoadEnds, Loaded, Makes, Obeys, OthersEnd, Output, Refuses, TaskEnds, TextEnds, Wrote, cannot_run, makes, no_script, refuses, runs, usage_line}
 use Rattle.kres_cli.specs.Words.{Asks}
 use Rattle.kres_cli.proofs.Outcomes.{says_short}
 
@@ -71,7 +71,7 @@ module _ {A : Type 0} (words : List (String A)) where
       → (st ≡ status.BadScript → ⊥) → (st ≡ status.Finished → ⊥) → EndsRun words i o handed st
   ends_run i o handed asked st asks answered other going =
       let told = tells_end i o handed asked st answered other in
-      (asked, asks, is_run asked told.script told.whole handed st told.makes going, told)
+      inl (asked, asks, is_run asked told.script told.whole handed st told.makes going, told)
 
   task_cause : (i : Input) (o : Output) (handed : Option StoreView) (asked : Task) (st : Status) → Asks words (OnScript asked) → TaskEnds i o handed asked st
       → HasCause words i o handed st
@@ -109,12 +109,25 @@ module _ {A : Type 0} (words : List (String A)) where
   gen_cause i o handed rounds status.WriteFault asks (broke, none) = (broke.fault, (_, inl (Gen rounds, asks, refl), broke))
   gen_cause i o handed rounds status.Memory asks (untouched, none) = (Gen rounds, asks, untouched)
 
+  load_cause : (i : Input) (o : Output) (handed : Option StoreView) (rounds : ℕ) (st : Status) → Asks words (Load rounds) → LoadEnds o handed rounds st
+      → HasCause words i o handed st
+  load_cause i o handed rounds status.Finished asks ends = (Load rounds, asks, ends)
+  load_cause i o handed rounds status.BadScript asks ends = absurd ends
+  load_cause i o handed rounds status.Usage asks ends = absurd ends
+  load_cause i o handed rounds status.Starved asks ends = inr (rounds, asks, ends)
+  load_cause i o handed rounds status.AllAsleep asks ends = inr (rounds, asks, ends)
+  load_cause i o handed rounds status.Spent asks ends = inr (rounds, asks, ends)
+  load_cause i o handed rounds status.ReadFault asks ends = absurd ends
+  load_cause i o handed rounds status.WriteFault asks (whole, store, st, is, broke, none) = (broke.fault, (whole, inl (Load rounds, asks, (store, st, is)), broke))
+  load_cause i o handed rounds status.Memory asks (untouched, none) = (Load rounds, asks, untouched)
+
   -- of words that are a command
   pub command_cause : (i : Input) (o : Output) (handed : Option StoreView) (command : Command) (st : Status) → Asks words command
       → CommandEnds i o handed command st → HasCause words i o handed st
   command_cause i o handed (OnScript asked) st asks ends = task_cause i o handed asked st asks ends
   command_cause i o handed Table st asks ends = table_cause i o handed st asks ends
   command_cause i o handed (Gen rounds) st asks ends = gen_cause i o handed rounds st asks ends
+  command_cause i o handed (Load rounds) st asks ends = load_cause i o handed rounds st asks ends
 
   -- and of others
   pub others_cause : (i : Input) (o : Output) (handed : Option StoreView) (st : Status) → ((command : Command) → Asks words command → ⊥) → OthersEnd o st
@@ -193,6 +206,17 @@ text_done o whole status.AllAsleep ends none = absurd ends
 text_done o whole status.Spent ends none = absurd ends
 text_done o whole status.ReadFault ends none = absurd ends
 
+load_done : (o : Output) (handed : Option StoreView) (rounds : ℕ) (st : Status) → LoadEnds o handed rounds st → NoPutFailed o → Loaded o handed rounds st ⊎ (st ≡ status.Memory)
+load_done o handed rounds status.Finished ends none = inl ends
+load_done o handed rounds status.Starved ends none = inl ends
+load_done o handed rounds status.AllAsleep ends none = inl ends
+load_done o handed rounds status.Spent ends none = inl ends
+load_done o handed rounds status.WriteFault (whole, store, st, is, broke, nothing) none = absurd (none broke.fault)
+load_done o handed rounds status.Memory ends none = inr refl
+load_done o handed rounds status.BadScript ends none = absurd ends
+load_done o handed rounds status.Usage ends none = absurd ends
+load_done o handed rounds status.ReadFault ends none = absurd ends
+
 others_done : (o : Output) (st : Status) → OthersEnd o st → NoPutFailed o → (st ≡ status.Usage) × Wrote o usage_line
 others_done o status.Usage wrote none = (refl, wrote)
 others_done o status.WriteFault broke none = absurd (none broke.fault)
@@ -211,5 +235,6 @@ completes words i o handed st obeys = record {
   scripts = λ asked script asks there none. task_done i o handed asked script st (obeys.commands (OnScript asked) asks) there none;
   table = λ asks none. let ends = obeys.commands Table asks in text_done o _ st ends.0 none;
   gen = λ rounds asks none. let ends = obeys.commands (Gen rounds) asks in text_done o _ st ends.0 none;
+  load = λ rounds asks none. load_done o handed rounds st (obeys.commands (Load rounds) asks) none;
   others = λ nothing none. let ends = obeys.others nothing in others_done o st ends.0 none;
 }

@@ -1,16 +1,19 @@
--- Why what `sim` has written keeps the headline.
-use Rattle.std.proofs.Common.{◌≡◌, ◌⊎◌, List, ℕ, Option, Ok, inl, inr, refl}
+-- Why what `sim` and `load` have written keeps the headline.
+use Rattle.std.proofs.Common.{◌≡◌, ◌≤◌, ◌⊎◌, List, ℕ, Option, Ok, inl, inr, refl}
 use Rattle.kabi_types.specs.declared.scripts.Script.{Script}
 use Rattle.store_objects.specs.Standing.{StoreView}
 use Rattle.posix_defs.specs.ScriptText.{ReadsText}
-use Rattle.run_report.proofs.Headlines.{keeps_headline}
+use Rattle.posix_defs.specs.Generated.{generated}
+use Rattle.run_report.proofs.Headlines.{keeps_headline, keeps_summary}
+use Rattle.script_laws.proofs.GeneratedScripts.{generated_valid}
 use Rattle.script_parse.proofs.ValidScripts.{reads_valid}
 use Rattle.kres_cli.specs.declared.commands.Task.TheVariants.{Sim}
 use Rattle.kres_cli.specs.declared.statuses.Status.{Status}
 use Rattle.kres_cli.specs.declared.statuses.Status.TheVariants as status
-use Rattle.kres_cli.specs.Headline.{HasSimulated, SimKeeps}
+use Rattle.kres_cli.specs.Headline.{HasLoaded, HasSimulated, LoadKeeps, SimKeeps}
 use Rattle.kres_cli.specs.Run.{IsRunOf, high, marks, stands}
-use Rattle.kres_cli.specs.Tool.{Answered, AnswersText, Input, Output, TaskEnds, makes, refuses}
+use Rattle.kres_cli.specs.Tool.{Answered, AnswersText, Input, LoadEnds, Loaded, Output, TaskEnds, makes, refuses}
+use Rattle.kres_cli.specs.Words.{most_rounds}
 
 -- what answers a text but the line of its fault is the report of a run
 told : (text whole : List ℕ) (handed : Option StoreView) (st : Status) → AnswersText text whole Sim handed st
@@ -50,3 +53,26 @@ sim_keeps i o handed status.Usage ends = tt
 sim_keeps i o handed status.ReadFault ends = tt
 sim_keeps i o handed status.WriteFault ends = tt
 sim_keeps i o handed status.Memory ends = tt
+
+loaded : (o : Output) (rounds : ℕ) (handed : Option StoreView) (st : Status) → rounds ≤ most_rounds → Loaded o handed rounds st → HasLoaded o rounds handed st
+loaded o rounds handed st few (whole, is, wrote) = record {
+  whole = whole;
+  wrote = wrote;
+  end = is.end;
+  status_is = is.status_is;
+  store = is.store;
+  handed_is = is.handed_is;
+  same = is.same;
+  keeps = keeps_summary stands marks high (generated rounds) is.store is.end rounds whole (generated_valid rounds few) is.summary;
+}
+
+pub load_keeps : (o : Output) (rounds : ℕ) (handed : Option StoreView) (st : Status) → rounds ≤ most_rounds → LoadEnds o handed rounds st → LoadKeeps o rounds handed st
+load_keeps o rounds handed status.Finished few ends = loaded o rounds handed status.Finished few ends
+load_keeps o rounds handed status.Starved few ends = loaded o rounds handed status.Starved few ends
+load_keeps o rounds handed status.AllAsleep few ends = loaded o rounds handed status.AllAsleep few ends
+load_keeps o rounds handed status.Spent few ends = loaded o rounds handed status.Spent few ends
+load_keeps o rounds handed status.BadScript few ends = tt
+load_keeps o rounds handed status.Usage few ends = tt
+load_keeps o rounds handed status.ReadFault few ends = tt
+load_keeps o rounds handed status.WriteFault few ends = tt
+load_keeps o rounds handed status.Memory few ends = tt

@@ -5,3 +5,4 @@ pub mod Histories
 pub mod Numbers
 pub mod Outcomes
 pub mod Puts
+pub mod Runnable

@@ -6,23 +6,25 @@ use Rattle.kabi_types.specs.declared.scripts.FaultKind.TheVariants.{NotBuilt}
 use Rattle.kabi_types.specs.declared.scripts.Script.{Script}
 use Rattle.kabi_types.specs.declared.scripts.ScriptFault.{ScriptFault}
 use Rattle.posix_defs.specs.Canonical.{canonical}
+use Rattle.posix_defs.specs.Generated.{generated}
 use Rattle.posix_defs.specs.Lines.{fault_line}
 use Rattle.posix_defs.specs.ScriptText.{ReadsText, reads, too_long}
 use Rattle.calls_built.specs.Built.{can_run}
 use Rattle.store_objects.specs.Standing.{StoreView}
 use Rattle.unbuilt_lines.specs.Unbuilt.{IsUnbuiltLine}
 use Rattle.run_report.specs.Reports.{IsReport}
+use Rattle.run_report.specs.Summaries.{IsSummary}
 use Rattle.run_report.specs.declared.runs.Reported.{Reported}
 use Rattle.kres_cli.specs.declared.commands.Task.{Task}
 use Rattle.kres_cli.specs.declared.commands.Task.TheVariants as task
 use Rattle.kres_cli.specs.declared.statuses.Status.{Status}
 use Rattle.kres_cli.specs.declared.statuses.Status.TheVariants as status
-use Rattle.kres_cli.specs.Run.{IsRunOf, high, marks, stands}
+use Rattle.kres_cli.specs.Run.{IsLoadOf, IsRunOf, high, marks, stands}
 use Rattle.kres_cli.specs.Status.{status_of}
 use Rattle.kres_cli.specs.Read.{HasReadAs, HasTaken, IsReadAs, Says}
 use Rattle.kres_cli.specs.declared.reading.Reading.{Reading}
 use Rattle.kres_cli.specs.declared.reading.Reading.TheVariants as reading
-use Rattle.kres_cli.specs.Tool.{Input, Output, AnswerEnds, answers_so, lacks_memory, AnswersText, refuses, makes, AnswersSource, Broke, FaultEnds, HandsOut, Makes, Refuses, cannot_run, no_script, ScriptEnds, TextEnds, Wrote, whole_text, beginning, ends_so, wants_memory, TaskEnds, runs}
+use Rattle.kres_cli.specs.Tool.{Input, Output, AnswerEnds, answers_so, lacks_memory, AnswersText, refuses, makes, AnswersSource, Broke, FaultEnds, HandsOut, LoadEnds, Makes, Refuses, cannot_run, no_script, ScriptEnds, TextEnds, Wrote, whole_text, beginning, ends_so, wants_memory, TaskEnds, runs}
 
 -- a run's report was written
 reported : (i : Input) (o : Output) (asked : Task) (whole : List ℕ) (handed : Option StoreView) (e : End)
@@ -146,3 +148,33 @@ pub run_handed : {E : Type 0} (script : Script) (store : StoreView) (handed : Op
 run_handed script store handed (Ok it) same is report =
     record { end = it.end; store = store; handed_is = is; same = same; report = report; status_is = refl }
 run_handed script store handed (Err _) same is report = tt
+
+-- and so is the one that is summed up
+pub load_handed : {E : Type 0} (rounds : ℕ) (script : Script) (store : StoreView) (handed : Option StoreView) (summed : Result Reported E) → script ≡ generated rounds
+    → store.script ≡ script → handed ≡ Some store → IfOk summed (λ it. IsSummary stands marks high script store it.end rounds (string_bytes it.text))
+    → IfOk summed (λ it. IsLoadOf rounds (string_bytes it.text) handed (status_of it.end))
+load_handed rounds script store handed (Ok it) is_script same is summary =
+    record {
+      end = it.end;
+      store = store;
+      handed_is = is;
+      same = same ∙ is_script;
+      summary = subst (λ s. IsSummary stands marks high s store it.end rounds (string_bytes it.text)) is_script summary;
+      status_is = refl;
+    }
+load_handed rounds script store handed (Err _) is_script same is summary = tt
+
+-- a summary was written
+summed : (o : Output) (rounds : ℕ) (whole : List ℕ) (handed : Option StoreView) (e : End) → IsLoadOf rounds whole handed (status_of e) → Wrote o whole
+    → LoadEnds o handed rounds (status_of e)
+summed o rounds whole handed end.Finished is wrote = (whole, is, wrote)
+summed o rounds whole handed (end.Starved _ _) is wrote = (whole, is, wrote)
+summed o rounds whole handed end.AllAsleep is wrote = (whole, is, wrote)
+summed o rounds whole handed end.Spent is wrote = (whole, is, wrote)
+
+-- whole or in part
+pub load_ends : (o : Output) (rounds : ℕ) (whole : List ℕ) (store handed : Option StoreView) (st told : Status) → IsLoadOf rounds whole store st
+    → HandsOut o whole store st handed told → LoadEnds o handed rounds told
+load_ends o rounds whole store _ st _ is (whole_text wrote) =
+    subst (LoadEnds o store rounds) (sym is.status_is) (summed o rounds whole store is.end (subst (IsLoadOf rounds whole store) is.status_is is) wrote)
+load_ends o rounds whole store _ st _ is (beginning broke) = (whole, store, st, is, broke, refl)

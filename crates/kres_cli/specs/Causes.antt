@@ -11,12 +11,13 @@ use Rattle.posix_defs.specs.PriceText.{table_text}
 use Rattle.posix_defs.specs.ScriptText.{ReadsText}
 use Rattle.calls_built.specs.Built.{can_run}
 use Rattle.kres_cli.specs.declared.commands.Command.{Command}
-use Rattle.kres_cli.specs.declared.commands.Command.TheVariants.{OnScript, Table, Gen}
+use Rattle.kres_cli.specs.declared.commands.Command.TheVariants.{OnScript, Table, Gen, Load}
 use Rattle.kres_cli.specs.declared.commands.Task.{Task}
 use Rattle.kres_cli.specs.declared.statuses.Status.{Status}
 use Rattle.kres_cli.specs.declared.statuses.Status.TheVariants.{Finished, BadScript, Usage, Starved, AllAsleep, Spent, ReadFault, WriteFault, Memory}
 use Rattle.kres_cli.specs.Read.{HasTaken}
-use Rattle.kres_cli.specs.Tool.{AnswersSource, Broke, CommandEnds, Input, Makes, Output, Refuses, Wrote, runs, usage_line}
+use Rattle.kres_cli.specs.Run.{IsLoadOf}
+use Rattle.kres_cli.specs.Tool.{AnswersSource, Broke, CommandEnds, Input, Loaded, Makes, Output, Refuses, Wrote, runs, usage_line}
 use Rattle.kres_cli.specs.Words.{Asks}
 
 -- The text that was taken says a script, and what the task makes of it was written whole.
@@ -42,6 +43,7 @@ abbrev pub IsDueFor : Input → Command → List ℕ → Type 0
 IsDueFor i (OnScript asked) whole = (store : Option StoreView) × (status : Status) × AnswersSource i asked whole store status
 IsDueFor i Table whole = whole ≡ table_text
 IsDueFor i (Gen rounds) whole = whole ≡ canonical (generated rounds)
+IsDueFor i (Load rounds) whole = (store : Option StoreView) × (status : Status) × IsLoadOf rounds whole store status
 
 module _ {A : Type 0} (words : List (String A)) where
   -- the words are no command
@@ -52,9 +54,11 @@ module _ {A : Type 0} (words : List (String A)) where
   abbrev pub IsDue : Input → List ℕ → Type 0
   IsDue i whole = ((command : Command) × Asks words command × IsDueFor i command whole) ⊎ (AskNothing × (whole ≡ usage_line))
 
-  -- a script was to be run, and the end of its run was told
+  -- a script was to be run, and the end of its run was told; or a generated one was
   abbrev pub EndsRun : Input → Output → Option StoreView → Status → Type 0
-  EndsRun i o handed status = (asked : Task) × Asks words (OnScript asked) × (runs asked ≡ true) × TellsEnd i o handed asked status
+  EndsRun i o handed status =
+      ((asked : Task) × Asks words (OnScript asked) × (runs asked ≡ true) × TellsEnd i o handed asked status)
+      ⊎ ((rounds : ℕ) × Asks words (Load rounds) × Loaded o handed rounds status)
 
   -- Why the tool answers this. A run's end is told by the report of the run, and so is a fault by its line. A stream has failed only
   -- where its count rose: of the source while a script was to be read, and then nothing is written; of the sink while it was put
@@ -94,10 +98,11 @@ abbrev pub IsTold : Output → List ℕ → Status → Status → Type 0
 IsTold o whole wanted status = ((status ≡ wanted) × Wrote o whole) ⊎ (status ≡ Memory)
 
 -- Where no stream fails, what was asked for is done to its end, but for want of memory: a script that is there is run to the end of
--- its run, or printed; a text that needs no script is written whole. Words that ask for nothing are always told so.
+-- its run, or printed; a text that needs no script is written whole, and so is the summary of a generated script's run. Words that ask for nothing are always told so.
 pub record Completes {A : Type 0} (words : List (String A)) (i : Input) (o : Output) (handed : Option StoreView) (status : Status) : Type 0 where
   pub scripts : (asked : Task) (script : Script) → Asks words (OnScript asked) → HasScript i asked script → NothingFailed i o
       → IsDone o handed asked script status
   pub table : Asks words Table → NoPutFailed o → IsTold o table_text Finished status
   pub gen : (rounds : ℕ) → Asks words (Gen rounds) → NoPutFailed o → IsTold o (canonical (generated rounds)) Finished status
+  pub load : (rounds : ℕ) → Asks words (Load rounds) → NoPutFailed o → Loaded o handed rounds status ⊎ (status ≡ Memory)
   pub others : AskNothing words → NoPutFailed o → (status ≡ Usage) × Wrote o usage_line

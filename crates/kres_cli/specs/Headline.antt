@@ -4,13 +4,15 @@ use Rattle.kabi_types.specs.declared.entries.End.{End}
 use Rattle.kabi_types.specs.declared.entries.End.TheVariants as end
 use Rattle.kabi_types.specs.declared.entries.Entry.{Entry}
 use Rattle.kabi_types.specs.declared.scripts.Script.{Script}
+use Rattle.posix_defs.specs.Generated.{generated}
 use Rattle.posix_defs.specs.History.{IsRun, Past}
 use Rattle.posix_defs.specs.World.{World, base, pins}
 use Rattle.store_objects.specs.Standing.{StoreView}
 use Rattle.run_report.specs.Headline.{EntryKeeps, KeepsHeadline}
 use Rattle.run_report.specs.Histories.{report_threads}
+use Rattle.run_report.specs.Summaries.{KeepsSummary}
 use Rattle.work_crew.specs.Whole.{MayEnd}
-use Rattle.kres_cli.specs.declared.commands.Command.TheVariants.{OnScript}
+use Rattle.kres_cli.specs.declared.commands.Command.TheVariants.{OnScript, Load}
 use Rattle.kres_cli.specs.declared.commands.Task.TheVariants.{Sim, Threads}
 use Rattle.kres_cli.specs.declared.statuses.Status.{Status}
 use Rattle.kres_cli.specs.declared.statuses.Status.TheVariants.{Finished, Starved, AllAsleep, Spent}
@@ -42,6 +44,26 @@ SimKeeps i o handed Starved = HasSimulated i o handed Starved
 SimKeeps i o handed AllAsleep = HasSimulated i o handed AllAsleep
 SimKeeps i o handed Spent = HasSimulated i o handed Spent
 SimKeeps i o handed _ = ⊤
+
+-- The sink got the summary of a run of the generated script of so many rounds, which ended as the status says. The run keeps the
+-- headline, and its store is handed out.
+pub record HasLoaded (o : Output) (rounds : ℕ) (handed : Option StoreView) (status : Status) : Type 0 where
+  pub whole : List ℕ
+  pub wrote : Wrote o whole
+  pub end : End
+  pub status_is : status ≡ status_of end
+  pub store : StoreView
+  pub handed_is : handed ≡ Some store
+  pub same : store.script ≡ generated rounds
+  pub keeps : KeepsSummary stands marks high (generated rounds) store end rounds whole
+
+-- where the status is an end's
+abbrev pub LoadKeeps : Output → ℕ → Option StoreView → Status → Type 0
+LoadKeeps o rounds handed Finished = HasLoaded o rounds handed Finished
+LoadKeeps o rounds handed Starved = HasLoaded o rounds handed Starved
+LoadKeeps o rounds handed AllAsleep = HasLoaded o rounds handed AllAsleep
+LoadKeeps o rounds handed Spent = HasLoaded o rounds handed Spent
+LoadKeeps o rounds handed _ = ⊤
 
 -- no name and no block is kept, and of the nodes just those that have to be
 pub record KeepsNoMore (world : World) : Type 0 where
@@ -100,11 +122,13 @@ ThreadsKeep i o handed AllAsleep = HasThreaded i o handed AllAsleep
 ThreadsKeep i o handed Spent = HasThreaded i o handed Spent
 ThreadsKeep i o handed _ = ⊤
 
--- What the tool does on these words, and what is so of each report that it has written of a run: by the core, or by workers. Its answer
+-- What the tool does on these words, and what is so of each report that it has written of a run, by the core or by workers,
+-- and of each summary. Its answer
 -- has its cause, and where nothing fails it is the end of what was asked for.
 pub record ObeysAndKeeps {A : Type 0} (words : List (String A)) (i : Input) (o : Output) (handed : Option StoreView) (status : Status) : Type 0 where
   pub obeys : Obeys words i o handed status
   pub headline : Asks words (OnScript Sim) → SimKeeps i o handed status
   pub threads : (workers : ℕ) → Asks words (OnScript (Threads workers)) → ThreadsKeep i o handed status
+  pub loads : (rounds : ℕ) → Asks words (Load rounds) → LoadKeeps o rounds handed status
   pub causes : HasCause words i o handed status
   pub complete : Completes words i o handed status

@@ -16,13 +16,13 @@ use Rattle.posix_defs.specs.ScriptText.{ReadsText}
 use Rattle.calls_built.specs.Built.{can_run}
 use Rattle.unbuilt_lines.specs.Unbuilt.{IsUnbuiltLine}
 use Rattle.kres_cli.specs.declared.commands.Command.{Command}
-use Rattle.kres_cli.specs.declared.commands.Command.TheVariants.{OnScript, Table, Gen}
+use Rattle.kres_cli.specs.declared.commands.Command.TheVariants.{OnScript, Table, Gen, Load}
 use Rattle.kres_cli.specs.declared.commands.Task.{Task}
 use Rattle.kres_cli.specs.declared.commands.Task.TheVariants as task
 use Rattle.kres_cli.specs.declared.statuses.Status.{Status}
 use Rattle.kres_cli.specs.declared.statuses.Status.TheVariants.{Finished, BadScript, Usage, Starved, AllAsleep, Spent, ReadFault, WriteFault, Memory}
 use Rattle.kres_cli.specs.Read.{HasTaken}
-use Rattle.kres_cli.specs.Run.{IsRunOf, IsThreadsRunOf}
+use Rattle.kres_cli.specs.Run.{IsLoadOf, IsRunOf, IsThreadsRunOf}
 use Rattle.kres_cli.specs.Words.{Asks}
 
 -- what is written where the words aren't the program's
@@ -171,11 +171,27 @@ TextEnds o whole WriteFault = Broke o whole
 TextEnds o whole Memory = o.untouched
 TextEnds o whole _ = ⊥
 
--- what a command may end with: `table` writes the price list, and `gen` the generated script in its canonical form
+-- the summary of the generated script's run was written whole, with this store and this status
+abbrev pub Loaded : Output → Option StoreView → ℕ → Status → Type 0
+Loaded o handed rounds status = (whole : List ℕ) × IsLoadOf rounds whole handed status × Wrote o whole
+
+-- What a run of a generated script may end with. A store is handed out with an end alone.
+abbrev pub LoadEnds : Output → Option StoreView → ℕ → Status → Type 0
+LoadEnds o handed rounds Finished = Loaded o handed rounds Finished
+LoadEnds o handed rounds Starved = Loaded o handed rounds Starved
+LoadEnds o handed rounds AllAsleep = Loaded o handed rounds AllAsleep
+LoadEnds o handed rounds Spent = Loaded o handed rounds Spent
+LoadEnds o handed rounds WriteFault = (whole : List ℕ) × (store : Option StoreView) × (status : Status) × IsLoadOf rounds whole store status × Broke o whole × (handed ≡ None)
+LoadEnds o handed rounds Memory = o.untouched × (handed ≡ None)
+LoadEnds o handed rounds _ = ⊥
+
+-- what a command may end with: `table` writes the price list, `gen` the generated script in its canonical form, and
+-- `load` the summary of its run
 abbrev pub CommandEnds : Input → Output → Option StoreView → Command → Status → Type 0
 CommandEnds i o handed (OnScript asked) status = TaskEnds i o handed asked status
 CommandEnds i o handed Table status = TextEnds o table_text status × (handed ≡ None)
 CommandEnds i o handed (Gen rounds) status = TextEnds o (canonical (generated rounds)) status × (handed ≡ None)
+CommandEnds i o handed (Load rounds) status = LoadEnds o handed rounds status
 
 -- what other words may end with
 abbrev pub OthersEnd : Output → Status → Type 0

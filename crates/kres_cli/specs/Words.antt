@@ -1,7 +1,7 @@
 -- The words of the command line.
 use Rattle.std.specs.Prelude.{ℕ, ⊤, ◌≡◌, ◌≤◌, List, [], ◌∷◌, map, String, string_bytes, codes, decimal}
 use Rattle.kres_cli.specs.declared.commands.Command.{Command}
-use Rattle.kres_cli.specs.declared.commands.Command.TheVariants.{OnScript, Table, Gen}
+use Rattle.kres_cli.specs.declared.commands.Command.TheVariants.{OnScript, Table, Gen, Load}
 use Rattle.kres_cli.specs.declared.commands.Task.TheVariants.{Sim, Threads, Print}
 
 -- the words of a command; a number is its digits, with no sign and no zero before others
@@ -11,6 +11,7 @@ words_of (OnScript (Threads workers)) = codes "threads" ∷ decimal workers ∷ 
 words_of (OnScript Print) = codes "print" ∷ []
 words_of Table = codes "table" ∷ []
 words_of (Gen rounds) = codes "gen" ∷ decimal rounds ∷ []
+words_of (Load rounds) = codes "load" ∷ decimal rounds ∷ []
 
 -- the most rounds of a generated script
 abbrev pub most_rounds : ℕ
@@ -26,6 +27,7 @@ IsAllowed (OnScript (Threads workers)) = (1 ≤ workers) × (workers ≤ most_wo
 IsAllowed (OnScript Print) = ⊤
 IsAllowed Table = ⊤
 IsAllowed (Gen rounds) = rounds ≤ most_rounds
+IsAllowed (Load rounds) = rounds ≤ most_rounds
 
 module _ {A : Type 0} where
   -- the words are this command

@@ -24,6 +24,8 @@ pub enum Command {
     Table,
     /// Prints the generated script of so many rounds.
     Gen(u32),
+    /// Runs the generated script of so many rounds, and sums its run up.
+    Load(u32),
 }
 
 /// The most rounds of a generated script.
@@ -78,6 +80,9 @@ fn with_number(word: &str, number: &str) -> Option<Command>
 {
     if word == "gen" {
         return Some(Command::Gen(number_within(number, MOST_ROUNDS)?));
+    }
+    if word == "load" {
+        return Some(Command::Load(number_within(number, MOST_ROUNDS)?));
     }
     if word == "threads" {
         return Some(Command::OnScript(Task::Threads(workers_of(number)?)));

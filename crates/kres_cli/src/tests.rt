@@ -263,11 +263,11 @@ const STORES: &[(&str, &str, Left)] = &[
     ("sim", PID_SCRIPT, Some((128, 0))),
     ("sim", LOOP_SCRIPT, Some((640, 0))),
     ("sim", "", None),
-    ("sim", "program init\nbind 0 \"a\"\nend\n", None),
+    ("sim", "program init\nbind 0\nend\n", None),
     ("print", PID_SCRIPT, None),
     ("threads 1", PID_SCRIPT, Some((128, 0))),
     ("threads 2", LOOP_SCRIPT, Some((640, 0))),
-    ("threads 2", "program init\nbind 0 \"a\"\nend\n", None),
+    ("threads 2", "program init\nbind 0\nend\n", None),
 ];
 
 fn expect_left(
@@ -294,9 +294,9 @@ const REFUSALS: &[(&str, &str, Status, &str)] = &[
     ("threads 2", PID_SCRIPT, Status::Finished, PID_HISTORY),
     (
         "sim",
-        "program init\nr1 = bind 0 \"a\"\nend\n",
+        "program init\nr1 = bind 0\nend\n",
         Status::BadScript,
-        "bad script: line 2: not built\n",
+        "bad script: line 2: unknown word\n",
     ),
     (
         "sim",
@@ -345,17 +345,6 @@ const FAULTS: &[(&str, Status, &str)] = &[
         Status::BadScript,
         "bad script: line 3: unknown word\n",
     ),
-    (
-        "program init\nr1 = bind 0 \"a\"\nend\n",
-        Status::BadScript,
-        "bad script: line 2: not built\n",
-    ),
-    (
-        "program init\nr1 = getpid\nend\nprogram other\nopen \"a\" O_RDONLY\nbind 0 \"a\"\nend\n",
-        Status::BadScript,
-        "bad script: line 5: not built\n",
-    ),
-    // What is no script is told before.
     (
         "program init\nr1 = bind 0 \"a\"\njmp a\nend\n",
         Status::BadScript,
@@ -511,7 +500,10 @@ const OTHER_WORDS: &[&str] = &[
     "threads 4 4",
     "4 threads",
     // This comes later.
-    "load 1",
+    "load",
+    "load 01",
+    "load 1001",
+    "load x",
 ];
 
 /// The words of a line aren't the program's, and the source isn't touched.

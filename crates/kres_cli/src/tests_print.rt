@@ -73,7 +73,6 @@ const PRINTS: &[(&str, Status, &str)] = &[
         Status::BadScript,
         "bad script: line 3: unknown word\n",
     ),
-    // What can't be run is printed.
     (
         "program init\nr1 = bind 0 \"a\"\nend\n",
         Status::Finished,

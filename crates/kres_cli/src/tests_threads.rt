@@ -42,9 +42,9 @@ const HISTORIES: &[(&str, Status, &str)] = &[
     (STARVING_SCRIPT, Status::Starved, STARVING_HISTORY),
     ("", Status::BadScript, "bad script: line 0: no init\n"),
     (
-        "program init\nr1 = bind 0 \"a\"\nend\n",
+        "program init\nr1 = bind 0\nend\n",
         Status::BadScript,
-        "bad script: line 2: not built\n",
+        "bad script: line 2: unknown word\n",
     ),
 ];
 

@@ -121,3 +121,23 @@ fn a_beginning_is_written_where_the_sink_fails(rt: HostRuntime) -> Result<(), Fa
     assert!(rt; outcome.status == Status::WriteFault && begun);
     Ok(())
 }
+
+const SUMMED_UP: &[(&str, &str)] = &[
+    ("load 0", "load 0 calls 1 failed 0 end finished\n"),
+    ("load 1", "load 1 calls 2 failed 1 end finished\n"),
+    ("load 7", "load 7 calls 18 failed 4 end finished\n"),
+];
+
+/// The source isn't touched, and the store of the run is handed out.
+#[test]
+fn generated_scripts_are_summed_up(rt: HostRuntime) -> Result<(), Fail> {
+    for (line, wanted) in SUMMED_UP {
+        let outcome = outcome_of(&rt, *line, b"", NONE)?;
+        let told = outcome.sink.bytes() == wanted.as_bytes();
+        let right = outcome.status == Status::Finished
+            && outcome.takes == 0
+            && outcome.left.is_some();
+        check(&rt, told && right, *line);
+    }
+    Ok(())
+}

@@ -7,13 +7,13 @@ ghost use Rattle.posix_defs.specs.Generated.{generated};
 ghost use Rattle.posix_defs.specs.ScriptText.{ReadsText};
 ghost use Rattle.posix_defs.specs.ValidScript.{IsValid};
 ghost use Rattle.kres_cli.specs.Causes.{Completes, HasCause};
-ghost use Rattle.kres_cli.specs.Headline.{SimKeeps, ThreadsKeep};
-ghost use Rattle.kres_cli.specs.Run.{IsRunOf};
+ghost use Rattle.kres_cli.specs.Headline.{LoadKeeps, SimKeeps, ThreadsKeep};
+ghost use Rattle.kres_cli.specs.Run.{IsLoadOf, IsRunOf};
 ghost use Rattle.kres_cli.specs.Status.{status_of};
-ghost use Rattle.kres_cli.specs.Tool.{AnswerEnds, CommandEnds, FaultEnds, HandsOut, HasPut, Obeys, OthersEnd, ScriptEnds, TaskEnds, TextEnds, input, output, runs};
+ghost use Rattle.kres_cli.specs.Tool.{AnswerEnds, CommandEnds, FaultEnds, HandsOut, HasPut, LoadEnds, Obeys, OthersEnd, ScriptEnds, TaskEnds, TextEnds, input, output, runs};
 ghost use Rattle.kres_cli.specs.Words.{Asks, IsAllowed, most_rounds};
 ghost use Rattle.kres_cli.specs.declared.commands.Command.{Command};
-ghost use Rattle.kres_cli.specs.declared.commands.Command.TheVariants.{OnScript};
+ghost use Rattle.kres_cli.specs.declared.commands.Command.TheVariants.{Load, OnScript};
 ghost use Rattle.kres_cli.specs.declared.commands.Task.{Task};
 ghost use Rattle.kres_cli.specs.declared.commands.Task.TheVariants.{Sim, Threads};
 
@@ -30,7 +30,8 @@ use kern_core::Core;
 use kio_ports::{Failed, Sink, Source};
 use load_gen::generate;
 use need_table::table;
-use run_report::{Reported, run_core};
+use run_report::{Reported, run_core, sum_up_core};
+use script_laws::generated_scripts_are_valid;
 use script_parse::print;
 use std::alloc::Global;
 use std::sync::Wait;
@@ -70,6 +71,7 @@ pub fn run_tool<
     ensures obeys { Obeys words.now (input S.left S.faults source.old source.new) (output K.held K.faults K.put_gives sink.old sink.new) store_out.new result }
     ensures headline { Asks words.now (OnScript Sim) → SimKeeps (input S.left S.faults source.old source.new) (output K.held K.faults K.put_gives sink.old sink.new) store_out.new result }
     ensures threads { (workers : ℕ) → Asks words.now (OnScript (Threads workers)) → ThreadsKeep (input S.left S.faults source.old source.new) (output K.held K.faults K.put_gives sink.old sink.new) store_out.new result }
+    ensures loads { (rounds : ℕ) → Asks words.now (Load rounds) → LoadKeeps (output K.held K.faults K.put_gives sink.old sink.new) rounds store_out.new result }
     ensures causes { HasCause words.now (input S.left S.faults source.old source.new) (output K.held K.faults K.put_gives sink.old sink.new) store_out.new result }
     ensures complete { Completes words.now (input S.left S.faults source.old source.new) (output K.held K.faults K.put_gives sink.old sink.new) store_out.new result }
 {
@@ -98,6 +100,7 @@ pub fn run_plain<S: Source, K: Sink, F: Scorer, G: Scorer>(
     requires plain { (workers : ℕ) → Asks words.now (OnScript (Threads workers)) → ⊥ }
     ensures obeys { Obeys words.now (input S.left S.faults source.old source.new) (output K.held K.faults K.put_gives sink.old sink.new) store_out.new result }
     ensures headline { Asks words.now (OnScript Sim) → SimKeeps (input S.left S.faults source.old source.new) (output K.held K.faults K.put_gives sink.old sink.new) store_out.new result }
+    ensures loads { (rounds : ℕ) → Asks words.now (Load rounds) → LoadKeeps (output K.held K.faults K.put_gives sink.old sink.new) rounds store_out.new result }
     ensures causes { HasCause words.now (input S.left S.faults source.old source.new) (output K.held K.faults K.put_gives sink.old sink.new) store_out.new result }
     ensures complete { Completes words.now (input S.left S.faults source.old source.new) (output K.held K.faults K.put_gives sink.old sink.new) store_out.new result }
 {
@@ -176,6 +179,7 @@ fn obey<S: Source, K: Sink, F: Scorer, G: Scorer>(
         Command::OnScript(task) => answer_source(alloc, task, source, sink, score, store_out),
         Command::Table => tell(sink, table(alloc)),
         Command::Gen(rounds) => tell(sink, generated_text(alloc, rounds)),
+        Command::Load(rounds) => load(alloc, rounds, sink, score, store_out),
     }
 }
 
@@ -318,6 +322,65 @@ fn run_script<F: Scorer, G: Scorer>(
     let reported = run_core(alloc, &mut core, script);
     hand_out(store_out, core.close());
     reported
+}
+
+/// Runs the generated script of so many rounds to its end, and writes the summary of its run. The store is handed out where that was
+/// written whole.
+fn load<K: Sink, F: Scorer, G: Scorer>(
+    alloc: Global,
+    rounds: u32,
+    sink: &mut K,
+    score: Score<F, G>,
+    store_out: &mut Option<Store<F, G>>,
+) -> Status
+    requires { rounds ≤ most_rounds }
+    ensures { LoadEnds (output K.held K.faults K.put_gives sink.old sink.new) store_out.new rounds result }
+{
+    match run_generated(alloc, rounds, score, store_out) {
+        Ok(reported) => tell_run(sink, &reported, store_out),
+        Err(Memory) => {
+            forget(store_out);
+            Status::Memory
+        }
+    }
+}
+
+/// Runs the generated script of so many rounds to its end, and sums its run up. The store is handed out as it was left, also where
+/// there is no memory for the summary.
+fn run_generated<F: Scorer, G: Scorer>(
+    alloc: Global,
+    rounds: u32,
+    score: Score<F, G>,
+    store_out: &mut Option<Store<F, G>>,
+) -> Result<Reported, Memory>
+    requires { rounds ≤ most_rounds }
+    ensures { IfOk result (λ it. IsLoadOf rounds (string_bytes it.text) store_out.new (status_of it.end)) }
+{
+    let script = generate(alloc, rounds)?;
+    generated_scripts_are_valid();
+    let summed = run_summed(alloc, &script, rounds, score, store_out);
+    drop(script);
+    summed
+}
+
+/// The same of a script that is there.
+fn run_summed<F: Scorer, G: Scorer>(
+    alloc: Global,
+    script: &Script,
+    rounds: u32,
+    score: Score<F, G>,
+    store_out: &mut Option<Store<F, G>>,
+) -> Result<Reported, Memory>
+    requires script { script.now ≡ generated rounds }
+    requires valid { IsValid script.now }
+    requires can { can_run script.now ≡ true }
+    ensures { IfOk result (λ it. IsLoadOf rounds (string_bytes it.text) store_out.new (status_of it.end)) }
+{
+    let store = Store::boot(alloc, script, score)?;
+    let mut core = Core::boot(alloc, store, script.steps, script.heap)?;
+    let summed = sum_up_core(alloc, &mut core, script, rounds);
+    hand_out(store_out, core.close());
+    summed
 }
 
 /// Hands a store out.

@@ -40,8 +40,8 @@ read_only flags e = go (has_flag flags 2) (has_flag flags 1) e
     go false false f = refl
 
 -- what is opened for writing is a file
-pub file_at : (tree : Tree) (access : Access) (number : ℕ) → IsOpened tree access number → may_write access ≡ true → (links : ℕ) × (bytes : List ℕ) × (node_at tree number ≡ Some (record { links = links; content = File bytes }))
-file_at tree access number opened may = go (node_at tree number) refl
+pub file_at : (tree : Tree) (access : Access) (offset number : ℕ) → IsOpened tree access offset number → may_write access ≡ true → (links : ℕ) × (bytes : List ℕ) × (node_at tree number ≡ Some (record { links = links; content = File bytes }))
+file_at tree access offset number opened may = go (node_at tree number) refl
   where
     not_dir : is_directory tree number ≡ true → ⊥
     not_dir dir = true_false (may_write access) may (ap may_write (opened.directory dir))

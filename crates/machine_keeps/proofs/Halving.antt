@@ -211,7 +211,7 @@ module _ (plain : Plain) (pid : ℕ) (call : Call) (next : Files) (who : ℕ) (a
       (other_keeps (after_close plain.files pid (count_of to)) pid who apart (count_of to) _))
   step_keeps (step.marks fd opened cloexec named is) = by _ is (other_keeps plain.files pid who apart (count_of fd) _)
   step_keeps (step.closes fd opened named is) = by _ is (closes (count_of fd))
-  step_keeps (step.describes fd opened description named target access is) = by _ is (described fd opened description _ named target refl refl)
+  step_keeps (step.describes fd opened description named target access between is) = by _ is (described fd opened description _ named target refl refl)
   step_keeps (step.opens path flags fd found which free led is) = by _ is (one _ fd _ _ refl refl)
   step_keeps (step.writes fd addr n done opened number at offset written reaches wrote is) = by _ is (described fd opened _ _ reaches.named refl refl refl)
   step_keeps (step.writes_at fd addr n opened number at written reaches wrote is) = same _ is refl refl

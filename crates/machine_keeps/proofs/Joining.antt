@@ -416,7 +416,7 @@ module _ (plain : Plain) (pid : ℕ) (call : Call) (next : Files) (joined : Hold
   step_joined (step.shares_over fd to opened named_it may apart is) = by _ is (close_holds anybody Holds closes plain.files pid (count_of to) tt joined)
   step_joined (step.marks fd opened cloexec named_it is) = same _ is refl refl
   step_joined (step.closes fd opened named_it is) = by _ is (close_holds anybody Holds closes plain.files pid (count_of fd) tt joined)
-  step_joined (step.describes fd opened description named_it target access is) = by _ is (described fd opened description named_it target access)
+  step_joined (step.describes fd opened description named_it target access between is) = by _ is (described fd opened description named_it target access)
   step_joined (step.opens path flags fd found which free led is) = by _ is (one _ (λ socket e. no_node _ socket e))
   step_joined (step.writes fd addr n done opened number at offset written reaches wrote is) = by _ is (described fd opened _ reaches.named refl refl)
   step_joined (step.writes_at fd addr n opened number at written reaches wrote is) = same _ is refl refl

@@ -9,6 +9,7 @@ pub mod Joining
 pub mod NodesAfter
 pub mod Openers
 pub mod MovedBytes
+pub mod Unnamed
 pub mod Rooting
 pub mod PipeBytes
 pub mod ClosingKeeps
@@ -19,3 +20,4 @@ pub mod Keeping
 pub mod Texting
 pub mod Wholeness
 pub mod Histories
+pub mod Turning

@@ -501,7 +501,7 @@ module _ (plain : Plain) (pid : ℕ) (call : Call) (next : Files) (piped : Holds
   step_piped (step.shares_over fd to opened named may apart is) = by _ is (close_holds anybody Holds closes plain.files pid (count_of to) tt piped)
   step_piped (step.marks fd opened cloexec named is) = same _ is refl refl
   step_piped (step.closes fd opened named is) = by _ is (close_holds anybody Holds closes plain.files pid (count_of fd) tt piped)
-  step_piped (step.describes fd opened description named target access is) = by _ is (described fd opened description named target access)
+  step_piped (step.describes fd opened description named target access between is) = by _ is (described fd opened description named target access)
   step_piped (step.opens path flags fd found which free led is) = by _ is (one _ (λ q. refl) tt)
   step_piped (step.writes fd addr n done opened number at offset written reaches wrote is) = by _ is (described fd opened _ reaches.named refl refl)
   step_piped (step.writes_at fd addr n opened number at written reaches wrote is) = same _ is refl refl

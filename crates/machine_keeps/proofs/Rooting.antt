@@ -1,5 +1,5 @@
 -- What is kept of the tree, and of the descriptions and sockets that name its nodes.
-use Rattle.std.proofs.Common.{◌≡◌, ◌≢◌, ℕ, zero, suc, ◌<◌, ◌≤◌, ◌==◌, ◌^◌, Bool, true, false, cond, List, [], ◌∷◌, ◌++◌, length, Option, None, Some, IsSome, is_some, unwrap_or, refl, ap, sym, ◌∙◌, subst, ◌⊎◌, inl, inr, arith}
+use Rattle.std.proofs.Common.{◌≡◌, ◌≢◌, ℕ, zero, suc, ◌<◌, ◌≤◌, ◌==◌, ◌^◌, ◌%◌, Bool, true, false, cond, List, [], ◌∷◌, ◌++◌, length, Option, None, Some, IsSome, is_some, unwrap_or, refl, ap, sym, ◌∙◌, subst, ◌⊎◌, inl, inr, arith}
 use Rattle.std.specs.Option.{option_map}
 use Rattle.std.proofs.lemmas.Bool.Decides.{eqb_tells}
 use Rattle.std.proofs.lemmas.List.{get_or-set_other}
@@ -90,15 +90,16 @@ pub record IsWell (tree : Tree) (socket : Socket) : Type 0 where
   pub bound : (number : ℕ) → socket.node ≡ Some number → is_socket tree number ≡ true
   pub bytes : AreBytes socket.bytes
 
--- what a description opens is a file, or a directory for reading alone
-pub record IsOpened (tree : Tree) (access : Access) (number : ℕ) : Type 0 where
+-- what a description opens is a file, or a directory for reading alone, in which its offset stands between two entries
+pub record IsOpened (tree : Tree) (access : Access) (offset number : ℕ) : Type 0 where
   pub used : is_in_use tree number ≡ true
   pub socket : is_socket tree number ≡ false
   pub directory : is_directory tree number ≡ true → access ≡ ReadOnly
+  pub between : is_directory tree number ≡ true → offset % 32 ≡ 0
 
 pub record Rooted (descriptions : Descriptions) (tree : Tree) (sockets : Sockets) : Type 0 where
   pub tree_is : IsTree tree
-  pub nodes : (place number : ℕ) (description : Description) → description_at descriptions place ≡ Some description → description.target ≡ OnNode number → IsOpened tree description.access number
+  pub nodes : (place number : ℕ) (description : Description) → description_at descriptions place ≡ Some description → description.target ≡ OnNode number → IsOpened tree description.access description.offset number
   pub unlinked : (n : ℕ) → is_in_use tree n ≡ true → links_at tree n ≡ 0 → Opener descriptions n
   pub wells : Each (IsWell tree) sockets
   pub alone : AreNamedOnce sockets
@@ -126,9 +127,9 @@ turned_rooted descriptions tree after sockets opened busy freed rooted is turns 
   alone = freed_alone freed;
 }
   where
-    nodes : (place number : ℕ) (description : Description) → description_at descriptions place ≡ Some description → description.target ≡ OnNode number → IsOpened after description.access number
+    nodes : (place number : ℕ) (description : Description) → description_at descriptions place ≡ Some description → description.target ≡ OnNode number → IsOpened after description.access description.offset number
     nodes place number description there on = let before = rooted.nodes place number description there on in elim (turns.each number before.used) [
-      | inl stays ↦ record { used = stays.used; socket = stays.socket ∙ before.socket; directory = λ dir_is. before.directory (sym stays.directory ∙ dir_is) }
+      | inl stays ↦ record { used = stays.used; socket = stays.socket ∙ before.socket; directory = λ dir_is. before.directory (sym stays.directory ∙ dir_is); between = λ dir_is. before.between (sym stays.directory ∙ dir_is) }
       | inr goes ↦ absurd (elim (dir_cases (is_directory tree number)) [
         | inl dir_is ↦ true_false (busy number) (busy_by number opener) (goes.directory dir_is)
         | inr not_dir ↦ true_false (opened number) (opened_by number opener) (goes.file not_dir before.socket)
@@ -178,13 +179,13 @@ turned_rooted descriptions tree after sockets opened busy freed rooted is turns 
 -- ---- other descriptions
 
 module _ (descriptions : Descriptions) (tree : Tree) (sockets : Sockets) (rooted : Rooted descriptions tree sockets) where
-  pub pushed_rooted : (new : Description) → ((number : ℕ) → new.target ≡ OnNode number → IsOpened tree new.access number) → Rooted (descriptions ++ Some new ∷ []) tree sockets
+  pub pushed_rooted : (new : Description) → ((number : ℕ) → new.target ≡ OnNode number → IsOpened tree new.access new.offset number) → Rooted (descriptions ++ Some new ∷ []) tree sockets
   pushed_rooted new is_opened = record {
     tree_is = rooted.tree_is;
     nodes = λ place number description there on. elim (pushed_is descriptions (Some new) place description there) [
       | inl old ↦ rooted.nodes place number description old on
       | inr last ↦ let same : new ≡ description = some_same (Some new) new description refl last.1 in
-          subst (λ d. IsOpened tree d.access number) same (is_opened number (ap (λ d. d.target) same ∙ on))
+          subst (λ d. IsOpened tree d.access d.offset number) same (is_opened number (ap (λ d. d.target) same ∙ on))
     ];
     unlinked = λ n used none. pushed_opener descriptions new n (rooted.unlinked n used none);
     wells = rooted.wells;
@@ -192,13 +193,20 @@ module _ (descriptions : Descriptions) (tree : Tree) (sockets : Sockets) (rooted
   }
 
   pub described_rooted : (place : ℕ) (was now : Description) → description_at descriptions place ≡ Some was → now.target ≡ was.target → now.access ≡ was.access
-      → Rooted (with_description descriptions place (Some now)) tree sockets
-  described_rooted place was now there target access = record {
+      → ((number : ℕ) → was.target ≡ OnNode number → is_directory tree number ≡ true → was.offset % 32 ≡ 0 → now.offset % 32 ≡ 0) → Rooted (with_description descriptions place (Some now)) tree sockets
+  described_rooted place was now there target access between = record {
     tree_is = rooted.tree_is;
     nodes = λ other number description is on. elim (changed_is descriptions place (Some now) other description is) [
       | inl old ↦ rooted.nodes other number description old.1 on
       | inr new ↦ let same : now ≡ description = some_same (Some now) now description refl new.1 in
-          subst (λ d. IsOpened tree d.access number) same (subst (λ a. IsOpened tree a number) (sym access) (rooted.nodes place number was there (sym target ∙ ap (λ d. d.target) same ∙ on)))
+          let on_it = sym target ∙ ap (λ d. d.target) same ∙ on in
+          let before = rooted.nodes place number was there on_it in
+          subst (λ d. IsOpened tree d.access d.offset number) same (record {
+            used = before.used;
+            socket = before.socket;
+            directory = λ dir_is. access ∙ before.directory dir_is;
+            between = λ dir_is. between number on_it dir_is (before.between dir_is);
+          })
     ];
     unlinked = λ n used none. described_opener descriptions place was now n there target (rooted.unlinked n used none);
     wells = rooted.wells;
@@ -211,7 +219,7 @@ module _ (descriptions : Descriptions) (tree : Tree) (sockets : Sockets) (rooted
 
   -- the nodes of the descriptions that are left where one has gone
   left_nodes : (place : ℕ) → (other number : ℕ) (description : Description) → description_at (with_description descriptions place None) other ≡ Some description → description.target ≡ OnNode number
-      → (other ≢ place) × IsOpened tree description.access number
+      → (other ≢ place) × IsOpened tree description.access description.offset number
   left_nodes place other number description is on = elim (changed_is descriptions place None other description is) [
     | inl old ↦ (old.0, rooted.nodes other number description old.1 on)
     | inr new ↦ absurd (not_some refl new.1)
@@ -244,7 +252,7 @@ module _ (descriptions : Descriptions) (tree : Tree) (sockets : Sockets) (rooted
     tree_is = closed_keeps tree number rooted.tree_is opened.used;
     nodes = λ other n description is on_it. let before = left_nodes place other n description is on_it in
         let same = closed_nodes tree number n (λ e. nobody (record { place = other; description = description; is = is; on = on_it ∙ ap OnNode e })) in let node = before.1 in
-        record { used = ap is_some same ∙ node.used; socket = ap (λ o. is_socket_kind (kind_in o)) same ∙ node.socket; directory = λ dir_is. node.directory (sym (ap is_directory_in same) ∙ dir_is) };
+        record { used = ap is_some same ∙ node.used; socket = ap (λ o. is_socket_kind (kind_in o)) same ∙ node.socket; directory = λ dir_is. node.directory (sym (ap is_directory_in same) ∙ dir_is); between = λ dir_is. node.between (sym (ap is_directory_in same) ∙ dir_is) };
     unlinked = λ n used none. elim (eqb_tells n number) [
       | inl alike ↦ absurd (no_links n alike.1 used none)
       | inr apart ↦ let same = closed_nodes tree number n apart.1 in
@@ -258,7 +266,7 @@ module _ (descriptions : Descriptions) (tree : Tree) (sockets : Sockets) (rooted
     alone = rooted.alone;
   }
     where
-      opened : IsOpened tree was.access number
+      opened : IsOpened tree was.access was.offset number
       opened = rooted.nodes place number was there on
 
       same_node : (n : ℕ) → was.target ≡ OnNode n → n ≡ number

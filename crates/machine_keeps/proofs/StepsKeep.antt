@@ -1,5 +1,5 @@
 -- Whatever step files take, the tree keeps what a tree has to, and what descriptions and sockets name of it is there.
-use Rattle.std.proofs.Common.{◌≡◌, ℕ, ◌+◌, ◌-◌, ◌≤◌, ℤ, Bool, true, false, cond, List, [], ◌∷◌, ◌++◌, length, take, drop, Option, None, Some, IsSome, is_some, slice_set, Ok, refl, ap, sym, ◌∙◌, subst, inl, inr, arith, Contains, length-append}
+use Rattle.std.proofs.Common.{◌≡◌, ℕ, ◌+◌, ◌-◌, ◌%◌, ◌≤◌, ℤ, Bool, true, false, cond, List, [], ◌∷◌, ◌++◌, length, take, drop, Option, None, Some, IsSome, is_some, slice_set, Ok, refl, ap, sym, ◌∙◌, subst, inl, inr, arith, Contains, length-append}
 use Rattle.std.specs.List.{list_any}
 use Rattle.std.proofs.lemmas.List.Elements.{All-append, All-drop, All-nil, All-take}
 use Rattle.kabi_calls.specs.Arguments.{argument_fault, count_of}
@@ -97,13 +97,14 @@ module _ (plain : Plain) (pid : ℕ) (call : Call) (next : Files) (rooted : Root
   })
 
   -- a description that a descriptor names is open on a node
-  opened_node : (fd : ℤ) (opened : Opened) (number : ℕ) → opened_at plain.files pid fd ≡ Some opened → opened.is.target ≡ OnNode number → IsOpened plain.files.tree opened.is.access number
+  opened_node : (fd : ℤ) (opened : Opened) (number : ℕ) → opened_at plain.files pid fd ≡ Some opened → opened.is.target ≡ OnNode number → IsOpened plain.files.tree opened.is.access opened.is.offset number
   opened_node fd opened number named on = let naming_it = naming plain.files pid fd opened named in rooted.nodes opened.place number opened.is naming_it.there on
 
   described : (tree : Tree) (sockets : Sockets) → Rooted plain.files.descriptions tree sockets → (fd : ℤ) (opened : Opened) (now : Description) → opened_at plain.files pid fd ≡ Some opened → now.target ≡ opened.is.target → now.access ≡ opened.is.access
+      → ((number : ℕ) → opened.is.target ≡ OnNode number → is_directory tree number ≡ true → opened.is.offset % 32 ≡ 0 → now.offset % 32 ≡ 0)
       → Rooted (with_description plain.files.descriptions opened.place (Some now)) tree sockets
-  described tree sockets left fd opened now named target access = let naming_it = naming plain.files pid fd opened named in
-      described_rooted plain.files.descriptions tree sockets left opened.place opened.is now naming_it.there target access
+  described tree sockets left fd opened now named target access between = let naming_it = naming plain.files pid fd opened named in
+      described_rooted plain.files.descriptions tree sockets left opened.place opened.is now naming_it.there target access between
 
   -- ---- another tree
 
@@ -161,11 +162,12 @@ module _ (plain : Plain) (pid : ℕ) (call : Call) (next : Files) (rooted : Root
           tree_is = open_path_keeps plain.files.tree (directory_of plain.table pid) path (opening_of flags) there.0 there.1 rooted.tree_is cwd
               (open_path_fault path flags (no_fault (calls.OpenFile path flags) which), first_path (calls.OpenFile path flags) path [] which refl) led
 
-          is_opened : (number : ℕ) → OnNode there.0 ≡ OnNode number → IsOpened there.1 (access_of flags) number
-          is_opened number e = subst (IsOpened there.1 (access_of flags)) (same_node e) (record {
+          is_opened : (number : ℕ) → OnNode there.0 ≡ OnNode number → IsOpened there.1 (access_of flags) 0 number
+          is_opened number e = subst (IsOpened there.1 (access_of flags) 0) (same_node e) (record {
             used = opens_it.used;
             socket = opens_it.socket;
             directory = λ dir. read_only flags (opens_it.directory dir);
+            between = λ dir. refl;
           })
             where
               opens_it : Opens there.1 (may_write (access_of flags)) there.0
@@ -178,7 +180,7 @@ module _ (plain : Plain) (pid : ℕ) (call : Call) (next : Files) (rooted : Root
   written_tree : (fd addr n : ℤ) (done : ℕ) (opened : Opened) (number at : ℕ) (written : ℕ × Tree) → WritesNode plain pid call fd opened number
       → write plain.files.tree number at (bytes_left plain pid addr (count_of n) done) ≡ Ok written → IsTree written.1 × Turns plain.files.tree written.1 (opens plain.files) (is_busy plain) None
   written_tree fd addr n done opened number at written reaches wrote_it =
-      let file = file_at plain.files.tree opened.is.access number (opened_node fd opened number reaches.named reaches.target) reaches.writable in
+      let file = file_at plain.files.tree opened.is.access opened.is.offset number (opened_node fd opened number reaches.named reaches.target) reaches.writable in
       let wrote_is = wrote plain.files.tree number at (bytes_left plain pid addr (count_of n) done) written.0 written.1 wrote_it in (
         write_keeps plain.files.tree number file.0 at file.1 (bytes_left plain pid addr (count_of n) done) written.0 written.1 rooted.tree_is file.2
             (loaded_bytes (memory_of plain.table pid) (count_of addr + done) (count_of n - done) memory) wrote_it,
@@ -189,7 +191,7 @@ module _ (plain : Plain) (pid : ℕ) (call : Call) (next : Files) (rooted : Root
   resized_tree : (fd : ℤ) (opened : Opened) (number size : ℕ) (tree : Tree) → WritesNode plain pid call fd opened number → resize plain.files.tree number size ≡ Ok tree
       → IsTree tree × Turns plain.files.tree tree (opens plain.files) (is_busy plain) None
   resized_tree fd opened number size tree reaches sized =
-      let file = file_at plain.files.tree opened.is.access number (opened_node fd opened number reaches.named reaches.target) reaches.writable in (
+      let file = file_at plain.files.tree opened.is.access opened.is.offset number (opened_node fd opened number reaches.named reaches.target) reaches.writable in (
         resize_keeps plain.files.tree number file.0 size file.1 tree rooted.tree_is file.2 sized,
         subst (λ t. Turns plain.files.tree t (opens plain.files) (is_busy plain) None) (resized_is plain.files.tree number size tree sized)
             (turns_of plain.files.tree _ (opens plain.files) (is_busy plain) None (bytes_look plain.files.tree number (resized size))),
@@ -350,10 +352,16 @@ module _ (plain : Plain) (pid : ℕ) (call : Call) (next : Files) (rooted : Root
       record { rooted = closed_it.rooted; pipes = closed_it.pipes; directories = closed_it.directories })
   step_after (step.marks fd opened cloexec named is) = same _ is refl refl refl refl
   step_after (step.closes fd opened named is) = by _ is (close_after plain rooted pipes joined pid (count_of fd))
-  step_after (step.describes fd opened description named target access is) = untreed _ is (described plain.files.tree plain.files.sockets rooted fd opened description named target access) pipes refl
+  step_after (step.describes fd opened description named target access between is) = untreed _ is (described plain.files.tree plain.files.sockets rooted fd opened description named target access
+      (λ number on dir was. between number on rooted.tree_is dir was)) pipes refl
   step_after (step.opens path flags fd found which free led is) = opened_file path flags found which led _ is refl refl refl refl
   step_after (step.writes fd addr n done opened number at offset written reaches wrote_it is) = by _ is (let both = written_tree fd addr n done opened number at written reaches wrote_it in
-      record { rooted = described written.1 plain.files.sockets (turned written.1 None both.0 both.1) fd opened _ reaches.named refl refl; pipes = pipes; directories = turned_directories written.1 None both.1 })
+      let left = turned written.1 None both.0 both.1 in let naming_it = naming plain.files pid fd opened reaches.named in record {
+        rooted = described written.1 plain.files.sockets left fd opened _ reaches.named refl refl (λ other on dir was.
+            absurd (true_false (may_write opened.is.access) reaches.writable (let it = left.nodes opened.place other opened.is naming_it.there on in ap may_write (it.directory dir))));
+        pipes = pipes;
+        directories = turned_directories written.1 None both.1;
+      })
   step_after (step.writes_at fd addr n opened number at written reaches wrote_it is) = let both = written_tree fd addr n 0 opened number at written reaches wrote_it in
       retreed written.1 _ is both.0 both.1 refl refl refl refl
   step_after (step.resizes fd opened number size tree reaches sized is) = let both = resized_tree fd opened number size tree reaches sized in retreed tree _ is both.0 both.1 refl refl refl refl

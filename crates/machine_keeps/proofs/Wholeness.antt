@@ -1,7 +1,8 @@
 -- Every machine that is reached is whole.
-use Rattle.std.proofs.Common.{◌≡◌, ℕ, Some, refl, subst}
+use Rattle.std.proofs.Common.{◌≡◌, ℕ, ◌%◌, true, Some, refl, subst}
 use Rattle.kabi_types.specs.declared.scripts.Script.{Script}
 use Rattle.posix_defs.specs.Plain.{Plain}
+use Rattle.posix_defs.specs.Tree.{is_directory}
 use Rattle.posix_defs.specs.Files.Descriptions.{Target, OnNode, OnPipe, OnSocket, Description, description_at}
 use Rattle.posix_defs.specs.Files.Whole.{AreNamed, AreSockets, IsTarget, IsWhole}
 use Rattle.machine_laws.specs.Described.{AreDescribed}
@@ -79,3 +80,8 @@ module _ (script : Script) (plain : Plain) (texts : HasTexts script) (reached : 
 
   pub has_bytes : HasBytes plain
   has_bytes = record { memory = whole.memory; pipes = whole.pipes; sockets = λ place. let well = rooted.wells place in well.bytes }
+
+pub stands_between : (script : Script) (plain : Plain) → HasTexts script → IsReached script plain → (place number : ℕ) (description : Description)
+    → description_at plain.files.descriptions place ≡ Some description → description.target ≡ OnNode number → is_directory plain.files.tree number ≡ true → description.offset % 32 ≡ 0
+stands_between script plain texts is_reached place number description there on dir =
+    let opened = (rooted script plain texts is_reached).nodes place number description there on in opened.between dir

@@ -1,3 +1,4 @@
+mod Between
 pub mod Stepping
 pub mod Leading
 pub mod Fading

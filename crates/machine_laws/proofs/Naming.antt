@@ -505,7 +505,7 @@ module _ (plain : Plain) (pid : ℕ) (call : Call) (next : Files) (told : Told p
   step_told (step.shares_over fd to opened named may apart is) = by _ is (shares_over_told fd (count_of to) opened (naming plain.files pid fd opened named) apart)
   step_told (step.marks fd opened cloexec named is) = by _ is (marks_told fd opened cloexec (naming plain.files pid fd opened named))
   step_told (step.closes fd opened named is) = by _ is (close_told plain.files pid (count_of fd) told)
-  step_told (step.describes fd opened description named target access is) = by _ is (let naming_it = naming plain.files pid fd opened named in described_told plain.files opened.place opened.is description told naming_it.there)
+  step_told (step.describes fd opened description named target access between is) = by _ is (let naming_it = naming plain.files pid fd opened named in described_told plain.files opened.place opened.is description told naming_it.there)
   step_told (step.opens path flags fd found which free led is) = by _ is (one _ fd _ _ refl refl free)
   step_told (step.writes fd addr n done opened number at offset written reaches wrote is) = by _ is (let naming_it = naming plain.files pid fd opened reaches.named in
       described_told (with_tree plain.files written.1) opened.place opened.is _ (told_same plain.files (with_tree plain.files written.1) told refl (λ place. refl)) naming_it.there)

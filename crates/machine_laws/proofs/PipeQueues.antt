@@ -188,7 +188,7 @@ module _ (plain : Plain) (pid : ℕ) (call : Call) (place : ℕ) (pipe : Pipe) (
   kept (step.shares_over fd to opened named may apart is) = faded _ is _ refl refl (close_fades plain.files pid (count_of to))
   kept (step.marks fd opened cloexec named is) = same _ is refl
   kept (step.closes fd opened named is) = faded _ is _ refl refl (close_fades plain.files pid (count_of fd))
-  kept (step.describes fd opened description named target access is) = same _ is refl
+  kept (step.describes fd opened description named target access between is) = same _ is refl
   kept (step.opens path flags fd found which free led is) = same _ is refl
   kept (step.writes fd addr n done opened number at offset written reaches wrote is) = same _ is refl
   kept (step.writes_at fd addr n opened number at written reaches wrote is) = same _ is refl

@@ -75,7 +75,7 @@ module _ (plain : Plain) (pid : ℕ) (call : Call) (next : Files) (no_fork : cal
   step_shuts (step.shares_over fd to opened named may apart is) = by _ is (shuts_on pid plain.files _ _ (close_shuts pid plain.files pid (count_of to)) (open_shuts _ pid (count_of to) _))
   step_shuts (step.marks fd opened cloexec named is) = by _ is (open_shuts plain.files pid (count_of fd) _)
   step_shuts (step.closes fd opened named is) = by _ is (close_shuts pid plain.files pid (count_of fd))
-  step_shuts (step.describes fd opened description named target access is) = same _ is refl
+  step_shuts (step.describes fd opened description named target access between is) = same _ is refl
   step_shuts (step.opens path flags fd found which free led is) = by _ is (opens_one _ fd _ _ refl)
   step_shuts (step.writes fd addr n done opened number at offset written reaches wrote is) = same _ is refl
   step_shuts (step.writes_at fd addr n opened number at written reaches wrote is) = same _ is refl

@@ -41,6 +41,7 @@ use Rattle.posix_defs.specs.Calls.OnPipes.{pipe, piped_under}
 use Rattle.posix_defs.specs.Calls.OnSockets.{accept, accepted_under, bind, bound_to, connect, connected_by, connected_under, listen, listener_under, on_socket, paired_under, resocketed, shutdown, socket_target, socketed_under, socketpair, unless_fault}
 use Rattle.posix_defs.specs.Calls.OnSockets as on_sockets
 use Rattle.posix_defs.specs.Calls.Polling.{hits_of, poll, revents_of}
+use Rattle.machine_laws.proofs.Between.{listed_between, of_file, sought_between}
 use Rattle.machine_laws.specs.FileSteps as step
 use Rattle.machine_laws.specs.FileSteps.{IsStep, LeadsTo, WritesNode, is_ending}
 
@@ -87,15 +88,15 @@ module _ (script : Script) (plain : Plain) (pid : ℕ) (which : Call) where
   -- ---- reads
 
   read_on : (fd addr n : ℤ) (opened : Opened) (target : Target) → which ≡ call.Read fd addr n → opened_at plain.files pid fd ≡ Some opened → opened.is.target ≡ target
-      → may_read opened.is.access ≡ true → Stepped plain pid which (read_target script plain pid opened addr (count_of n) target)
-  read_on fd addr n opened (OnNode number) called is on may = step.describes fd opened _ is refl refl refl
-  read_on fd addr n opened (OnPipe place) called is on may = go _ refl
+      → may_read opened.is.access ≡ true → is_directory_target plain.files.tree target ≡ false → Stepped plain pid which (read_target script plain pid opened addr (count_of n) target)
+  read_on fd addr n opened (OnNode number) called is on may isnt = step.describes fd opened _ is refl refl (of_file plain.files.tree opened.is number _ on isnt) refl
+  read_on fd addr n opened (OnPipe place) called is on may isnt = go _ refl
     where
       go : (moving : Moving) → pipe_read (pipe_at plain.files place) opened.is.nonblock (count_of n) ≡ moving → Stepped plain pid which (read_from_pipe script plain pid place addr moving)
       go (pipes.Moves k) moves = step.takes fd addr n opened place k called is on may moves refl
       go pipes.Blocks moves = tt
       go (pipes.Fails e) moves = step.stays refl
-  read_on fd addr n opened (OnSocket place) called is on may = go _ refl
+  read_on fd addr n opened (OnSocket place) called is on may isnt = go _ refl
     where
       go : (moving : Moving) → sock_read plain.files.sockets place opened.is.nonblock (count_of n) ≡ moving → Stepped plain pid which (read_from_socket script plain pid place addr moving)
       go (pipes.Moves k) moves = step.receives fd addr n opened place k called is on moves refl
@@ -106,7 +107,7 @@ module _ (script : Script) (plain : Plain) (pid : ℕ) (which : Call) where
   unfolding read
   reads fd addr n called = opens_step fd _ (λ opened is. readable opened _ (λ may.
       either (is_directory_target plain.files.tree opened.is.target) _ _ (λ yes. step.stays refl) (λ no.
-      bytes_step addr n _ (read_on fd addr n opened opened.is.target called is refl may))))
+      bytes_step addr n _ (read_on fd addr n opened opened.is.target called is refl may no))))
 
   preads : (fd addr n at : ℤ) → Stepped plain pid which (pread script plain pid fd addr n at)
   unfolding pread
@@ -119,13 +120,14 @@ module _ (script : Script) (plain : Plain) (pid : ℕ) (which : Call) where
 
   lists : (fd addr n : ℤ) → Stepped plain pid which (readdir script plain pid fd addr n)
   unfolding readdir
-  lists fd addr n = opens_step fd _ (λ opened is. go opened opened.is.target is)
+  lists fd addr n = opens_step fd _ (λ opened is. go opened opened.is.target is refl)
     where
-      go : (opened : Opened) (target : Target) → opened_at plain.files pid fd ≡ Some opened → Stepped plain pid which (list_target script plain pid opened addr n target)
-      go opened (OnNode number) is =
-          either (is_directory plain.files.tree number) _ _ (λ yes. ranged addr (count_of n) _ (step.describes fd opened _ is refl refl refl)) (λ no. step.stays refl)
-      go opened (OnPipe place) is = step.stays refl
-      go opened (OnSocket place) is = step.stays refl
+      go : (opened : Opened) (target : Target) → opened_at plain.files pid fd ≡ Some opened → opened.is.target ≡ target → Stepped plain pid which (list_target script plain pid opened addr n target)
+      go opened (OnNode number) is on =
+          either (is_directory plain.files.tree number) _ _
+          (λ yes. ranged addr (count_of n) _ (step.describes fd opened _ is refl refl (listed_between plain.files.tree opened.is number (count_of n) on) refl)) (λ no. step.stays refl)
+      go opened (OnPipe place) is on = step.stays refl
+      go opened (OnSocket place) is on = step.stays refl
 
   -- ---- writes
 
@@ -268,23 +270,24 @@ module _ (script : Script) (plain : Plain) (pid : ℕ) (which : Call) where
       go opened is (suc zero) = step.stays refl
       go opened is (suc (suc zero)) = step.marks fd opened (has_flag arg 1) is refl
       go opened is (suc (suc (suc zero))) = step.stays refl
-      go opened is (suc (suc (suc (suc zero)))) = step.describes fd opened _ is refl refl refl
+      go opened is (suc (suc (suc (suc zero)))) = step.describes fd opened _ is refl refl (λ number on is_tree dir between. between) refl
       go opened is (suc (suc (suc (suc (suc n))))) = step.stays refl
 
   seeks : (fd offset whence : ℤ) → Stepped plain pid which (lseek script plain pid fd offset whence)
   unfolding lseek
-  seeks fd offset whence = opens_step fd _ (λ opened is. go opened opened.is.target is)
+  seeks fd offset whence = opens_step fd _ (λ opened is. go opened opened.is.target is refl)
     where
-      at : (opened : Opened) (number : ℕ) (place : ℤ) → opened_at plain.files pid fd ≡ Some opened → Stepped plain pid which (seek_to script plain pid opened number place)
-      at opened number (negsuc n) is = step.stays refl
-      at opened number (pos place) is =
+      at : (opened : Opened) (number : ℕ) (place : ℤ) → opened_at plain.files pid fd ≡ Some opened → opened.is.target ≡ OnNode number → Stepped plain pid which (seek_to script plain pid opened number place)
+      at opened number (negsuc n) is on = step.stays refl
+      at opened number (pos place) is on =
           either (nat_lt greatest_offset place) _ _ (λ yes. step.stays refl) (λ no.
-          either (is_between_entries plain.files.tree number place) _ _ (λ yes. step.stays refl) (λ no. step.describes fd opened _ is refl refl refl))
+          either (is_between_entries plain.files.tree number place) _ _ (λ yes. step.stays refl) (λ no. step.describes fd opened _ is refl refl (sought_between plain.files.tree opened.is number place on no) refl))
 
-      go : (opened : Opened) (target : Target) → opened_at plain.files pid fd ≡ Some opened → Stepped plain pid which (seek_target script plain pid opened offset (count_of whence) target)
-      go opened (OnNode number) is = at opened number (pos (origin plain.files.tree opened number (count_of whence)) +ℤ offset) is
-      go opened (OnPipe place) is = step.stays refl
-      go opened (OnSocket place) is = step.stays refl
+      go : (opened : Opened) (target : Target) → opened_at plain.files pid fd ≡ Some opened → opened.is.target ≡ target
+          → Stepped plain pid which (seek_target script plain pid opened offset (count_of whence) target)
+      go opened (OnNode number) is on = at opened number (pos (origin plain.files.tree opened number (count_of whence)) +ℤ offset) is on
+      go opened (OnPipe place) is on = step.stays refl
+      go opened (OnSocket place) is on = step.stays refl
 
   fstats : (fd : ℤ) → Stepped plain pid which (fstat script plain pid fd)
   unfolding fstat

@@ -46,7 +46,7 @@ module _ (plain : Plain) (pid : ℕ) (call : Call) (next : Files) (unnamed : nam
   by_step (step.shares_over fd to opened named_by may apart is) = kept _ is (λ none. tree_kept plain.files _ (close_fades plain.files pid _) none)
   by_step (step.marks fd opened cloexec named_by is) = tree_of _ is refl
   by_step (step.closes fd opened named_by is) = kept _ is (λ none. tree_kept plain.files _ (close_fades plain.files pid _) none)
-  by_step (step.describes fd opened description named_by target access is) = tree_of _ is refl
+  by_step (step.describes fd opened description named_by target access between is) = tree_of _ is refl
   by_step (step.opens path flags fd there which free led is) = called _ which refl
   by_step (step.writes fd addr n done opened number at offset written there wrote is) = named there.reached
   by_step (step.writes_at fd addr n opened number at written there wrote is) = named there.reached

@@ -1,5 +1,5 @@
 -- How files change in one call: by one step, whatever the machine answers.
-use Rattle.std.specs.Prelude.{ℕ, ◌≡◌, ◌-◌, ◌==◌, ℤ, Bool, true, false, List, length, Option, None, Some, Ok}
+use Rattle.std.specs.Prelude.{ℕ, ◌≡◌, ◌-◌, ◌%◌, ◌==◌, ℤ, Bool, true, false, List, length, Option, None, Some, Ok}
 use Rattle.kabi_calls.specs.Arguments.{count_of, may_be_descriptor}
 use Rattle.kabi_calls.specs.declared.calls.Call.{Call}
 use Rattle.kabi_calls.specs.declared.calls.Call.TheVariants as calls
@@ -11,7 +11,8 @@ use Rattle.posix_defs.specs.Process.{directory_of}
 use Rattle.posix_defs.specs.Reaching.{names_node}
 use Rattle.posix_defs.specs.Socket.{Takes, accept as accept_in, bind_fault, connect_fault, listen_fault, shutdown_fault}
 use Rattle.posix_defs.specs.Sockets.{socket_at, stage_at, sock_read, sock_write, with_name, after_connect, after_listen, after_read as socket_after_read, after_shut, is_refused}
-use Rattle.posix_defs.specs.Tree.{Tree}
+use Rattle.posix_defs.specs.IsTree.{IsTree}
+use Rattle.posix_defs.specs.Tree.{Tree, is_directory}
 use Rattle.posix_defs.specs.TreeChanges.{resize, write}
 use Rattle.posix_defs.specs.PathCalls.{bind_path, link_path, mkdir_path, open_path, rename_path, rmdir_path, unlink_path}
 use Rattle.posix_defs.specs.Files.Closing.{after_close, after_exec_of}
@@ -47,6 +48,11 @@ pub record WritesNode (plain : Plain) (pid : ℕ) (call : Call) (fd : ℤ) (open
   pub writable : may_write opened.is.access ≡ true
   pub reached : names_node plain.files pid call ≡ true
 
+-- Where a description is open on a directory, and its offset stood between two entries of 32 bytes, another stands so too.
+abbrev pub StaysBetween : Tree → Description → ℕ → Type 0
+StaysBetween tree was offset =
+    (number : ℕ) → was.target ≡ OnNode number → IsTree tree → is_directory tree number ≡ true → was.offset % 32 ≡ 0 → offset % 32 ≡ 0
+
 -- Of files nothing else changes in a call than this.
 pub data IsStep (plain : Plain) (pid : ℕ) (call : Call) (next : Files) : Type 0 where
   -- nothing
@@ -67,9 +73,10 @@ pub data IsStep (plain : Plain) (pid : ℕ) (call : Call) (next : Files) : Type 
   -- a descriptor is closed
   closes : (fd : ℤ) (opened : Opened) → opened_at plain.files pid fd ≡ Some opened
       → next ≡ after_close plain.files pid (count_of fd) → IsStep plain pid call next
-  -- a description gets another offset or other flags, and stays open on what it was, for what it was
+  -- a description gets another offset or other flags, and stays open on what it was, for what it was; in a directory between
+  -- two entries
   describes : (fd : ℤ) (opened : Opened) (description : Description) → opened_at plain.files pid fd ≡ Some opened
-      → description.target ≡ opened.is.target → description.access ≡ opened.is.access
+      → description.target ≡ opened.is.target → description.access ≡ opened.is.access → StaysBetween plain.files.tree opened.is description.offset
       → next ≡ described_as plain.files opened.place description → IsStep plain pid call next
   -- ---- the tree
 

@@ -1,12 +1,12 @@
 -- The bytes of a slot, one by one and as a piece of the block.
-use Rattle.std.proofs.Common.{◌≡◌, ℕ, ◌+◌, ◌-◌, ◌*◌, ◌<◌, ◌≤◌, ◌⊎◌, inl, inr, List, ◌++◌, length, get_or, take, drop, sym, ap, ◌∙◌, arith}
+use Rattle.std.proofs.Common.{◌≡◌, ℕ, suc, ◌+◌, ◌-◌, ◌*◌, ◌<◌, ◌≤◌, ◌⊎◌, inl, inr, List, ◌++◌, length, get_or, take, drop, replicate, refl, sym, ap, ◌∙◌, subst, arith}
 use Rattle.std.proofs.lemmas.List.{ext_get_or, get_or-take, get_or-drop, length-take-le, get_or_append_left, get_or-append_right}
 use Rattle.std.proofs.Common.{length-drop}
 use borrow.Rule.Slice.PartMut.{put_mid}
 use Rattle.kabi_values.specs.declared.inodes.DirEntry.{DirEntry}
 use Rattle.posix_defs.specs.DiskFormat.{IsEntry, entry_bytes}
 use Rattle.disk_laws.proofs.DiskSpelling.{length-entry_bytes, same_entry_bytes}
-use Rattle.memfs_dir.specs.Slots.{Spells}
+use Rattle.memfs_dir.specs.Slots.{IsCalled, Spells}
 
 abbrev pub piece : List ℕ → ℕ → List ℕ
 piece block slot = take 32 (drop (32 * slot) block)
@@ -33,6 +33,42 @@ pub one_entry : (block : List ℕ) (slot : ℕ) (one other : DirEntry) → Spell
 one_entry block slot one other first second =
     same_entry_bytes one other first.valid second.valid (ext_get_or 0 (entry_bytes one) (entry_bytes other) (length-entry_bytes one first.valid ∙ sym (length-entry_bytes other second.valid))
     (λ j within. let at : j < 32 = omega (arith, within, length-entry_bytes one first.valid) in sym (first.bytes j at) ∙ second.bytes j at))
+
+-- ---- what the name of a slot shows
+
+-- behind the node's number stands how long the name is, and then the name
+length_spelled : (entry : DirEntry) → get_or (entry_bytes entry) 4 0 ≡ length entry.name
+unfolding entry_bytes
+length_spelled entry = refl
+
+name_spelled : (entry : DirEntry) (k : ℕ) → k < length entry.name → get_or (entry_bytes entry) (suc (suc (suc (suc (suc k))))) 0 ≡ get_or entry.name k 0
+unfolding entry_bytes
+name_spelled entry k lt = get_or_append_left entry.name (replicate (27 - length entry.name) 0) 0 k lt
+
+-- What a slot shows of the entry's name.
+pub record Shows (block : List ℕ) (at : ℕ) (name : List ℕ) : Type 0 where
+  pub some : 0 < length name
+  pub few : length name ≤ 27
+  pub long : get_or block at 0 ≡ length name
+  pub last : get_or block (at + length name) 0 ≡ get_or name (length name - 1) 0
+
+pub shows : (block : List ℕ) (slot : ℕ) (name : List ℕ) → IsCalled block slot name → Shows block (32 * slot + 4) name
+shows block slot name called = subst (Shows block (32 * slot + 4)) called.called (record {
+  some = valid.name.len.0;
+  few = valid.name.len.1;
+  long = called.spells.bytes 4 (omega arith) ∙ length_spelled entry;
+  last =
+      let at : 32 * slot + 4 + length entry.name ≡ 32 * slot + suc (suc (suc (suc (suc (length entry.name - 1))))) = omega (arith, valid.name.len.0) in
+      ap (λ (k : ℕ). get_or block k 0) at
+      ∙ called.spells.bytes (suc (suc (suc (suc (suc (length entry.name - 1)))))) (omega (arith, valid.name.len.0, valid.name.len.1))
+      ∙ name_spelled entry (length entry.name - 1) (omega (arith, valid.name.len.0));
+})
+  where
+    entry : DirEntry
+    entry = called.entry
+
+    valid : IsEntry entry
+    valid = called.spells.valid
 
 -- ---- bytes put into a row
 

@@ -1,6 +1,6 @@
 //! A block of a directory: 32 slots, each with the bytes of one entry.
 
-ghost use Rattle.std.specs.Prelude.{◌≡◌, ℕ, ◌+◌, ◌*◌, ◌<◌, ◌≤◌, ◌⊎◌, ◌↔◌, IsTrue, IfSome, None, take, drop, slice_index};
+ghost use Rattle.std.specs.Prelude.{◌≡◌, ℕ, ◌+◌, ◌*◌, ◌<◌, ◌≤◌, ◌⊎◌, ◌↔◌, IsTrue, IfSome, None, true, take, drop, slice_index};
 ghost use Rattle.kabi_values.specs.declared.inodes.DirEntry.{DirEntry};
 ghost use Rattle.posix_defs.specs.DiskFormat.{IsEntry};
 ghost use Rattle.memfs_dir.specs.Slots.{entry_size, entries_in_block, HasBytesOf, Spells, IsCalled};
@@ -44,11 +44,28 @@ pub fn put_entry(block: &mut [u8; 1024], slot: u32, entry: &DirEntry)
     block[start..start + 32].copy_from_slice(&bytes_of_entry(entry));
 }
 
+/// Whether the length and the last byte of a slot's name are those of this name, as those of few others are: only such an entry is
+/// read.
+fn looks_like(block: &[u8; 1024], slot: u32, name: &[u8]) -> bool
+    requires { slot < entries_in_block }
+    ensures { IsCalled block.now slot name.now → result ≡ true }
+{
+    let length = name.len();
+    if length == 0 || length > 27 {
+        return false;
+    }
+    let start = 32 * slot as usize + 4;
+    block[start] as usize == length && block[start + length] == name[length - 1]
+}
+
 /// Whether a slot has an entry of this name.
 fn is_called(block: &[u8; 1024], slot: u32, name: &[u8]) -> bool
     requires { slot < entries_in_block }
     ensures { IsTrue result ↔ IsCalled block.now slot name.now }
 {
+    if !looks_like(block, slot, name) {
+        return false;
+    }
     match entry_of(&slot_in(block, slot)) {
         Ok(entry) => entry.name.items() == name,
         Err(_) => false,

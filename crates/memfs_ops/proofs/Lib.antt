@@ -12,6 +12,7 @@ pub mod KindLemmas
 pub mod PurseLemmas
 pub mod ForgetLemmas
 pub mod CloseLemmas
+pub mod CachedLemmas
 pub mod StepLemmas
 pub mod RemoveLemmas
 pub mod LinkLemmas

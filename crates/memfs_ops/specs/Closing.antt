@@ -1,9 +1,12 @@
 -- Who holds a node lets it go: what is left of the tree, and who holds what then.
-use Rattle.std.specs.Prelude.{◌≡◌, ℕ, ◌-◌, ◌<◌, ◌≤◌, ◌==◌, if◌then◌else◌, cond, nat_eq}
+use Rattle.std.specs.Prelude.{◌≡◌, ℕ, ◌-◌, ◌<◌, ◌≤◌, ◌==◌, if◌then◌else◌, cond, nat_eq, IsSome}
+use Rattle.kabi_values.specs.declared.inodes.Inode.{Inode}
 use Rattle.kheap_shelves.specs.Purse.{Purse}
 use Rattle.kheap_slabs.specs.Heap.{Heap}
+use Rattle.posix_defs.specs.SoundDisk.{HasNode}
 use Rattle.posix_defs.specs.Tree.{Tree, links_at, root}
 use Rattle.posix_defs.specs.TreeChanges.{closed}
+use Rattle.vnode_cache.specs.Nodes.{node_slot}
 use Rattle.memfs_ops.specs.FileTree.{TreeView, Stands}
 use Rattle.memfs_ops.specs.Fetching.{MayFetch}
 
@@ -33,3 +36,16 @@ pub record HeldToClose (heap : Heap) (purse : Purse) (fs : TreeView) (node : ℕ
   pub held : 0 < pins node
   pub root_stays : 0 < one_less pins node root
   pub may : GoesThen tree pins node → MayFree heap purse
+
+-- ---- what stays cached
+
+-- the disk has a node of this number
+abbrev pub IsOnDisk : TreeView → ℕ → Type 0
+IsOnDisk fs number = (inode : Inode) × HasNode fs.disk.blocks number inode
+
+-- Where nodes are let go, the caches keep all names, and of the nodes that they had each that is there still. No node comes that
+-- wasn't there.
+pub record KeepsCached (was is : TreeView) : Type 0 where
+  pub names : is.names ≡ was.names
+  pub there : (number : ℕ) → IsOnDisk is number → IsOnDisk was number
+  pub nodes : (number : ℕ) → IsOnDisk is number → IsSome (node_slot was.vnodes number) → IsSome (node_slot is.vnodes number)

@@ -1,16 +1,17 @@
 //! Nodes that are closed: who holds one lets it go, and a file without a name goes with the last that holds it.
-ghost use Rattle.std.specs.Prelude.{◌≡◌, ℕ, ◌-◌, ◌<◌, ◌==◌, []};
+ghost use Rattle.std.specs.Prelude.{◌≡◌, ◌≢◌, ℕ, ◌-◌, ◌<◌, ◌==◌, []};
 ghost use Rattle.kheap_shelves.specs.Objects.{InUse};
 ghost use Rattle.kheap_slabs.specs.Paid.{HasFills, TakesNothing};
 ghost use Rattle.posix_defs.specs.SoundDisk.{HasNode};
 ghost use Rattle.posix_defs.specs.Tree.{Tree, root};
 ghost use Rattle.posix_defs.specs.TreeChanges.{closed};
 ghost use Rattle.posix_defs.specs.IsTree.{IsTree};
+ghost use Rattle.vnode_cache.specs.Nodes.{node_slot};
 ghost use Rattle.cached_disk.specs.Lent.{parts, GoesOn};
 ghost use Rattle.memfs_ops.specs.FileTree.{Stands, Pays};
 ghost use Rattle.memfs_ops.specs.Fetching.{MayFetch};
 ghost use Rattle.memfs_ops.specs.Changing.{Lags};
-ghost use Rattle.memfs_ops.specs.Closing.{one_less, left_tree, GoesThen, MayFree, HeldToClose};
+ghost use Rattle.memfs_ops.specs.Closing.{one_less, left_tree, GoesThen, KeepsCached, MayFree, HeldToClose};
 
 use crate::FileTree;
 use cached_disk::free_through;
@@ -32,6 +33,7 @@ impl FileTree {
         ensures dropped { purse.old.vnodes ≡ [] → purse.old.blocks ≡ [] → purse.new ≡ purse.old }
         ensures stays { (tree : Tree) (pins : ℕ → ℕ) → Stands heap.old self.old tree pins → (GoesThen tree pins node → ⊥)
             → (purse.new ≡ purse.old) × (self.new.disk ≡ self.old.disk) × (self.new.blocks ≡ self.old.blocks) }
+        ensures cached { KeepsCached self.old self.new }
     {
         let inode = self.held_inode(heap, node);
         let last = self.release(heap, node);
@@ -74,6 +76,8 @@ impl FileTree {
             → Stands heap.new self.new (closed tree node) pins }
         ensures pays { Pays heap.old heap.new purse.old purse.new self.old self.new }
         ensures dropped { purse.old.vnodes ≡ [] → purse.old.blocks ≡ [] → purse.new ≡ purse.old }
+        ensures names { self.new.names ≡ self.old.names }
+        ensures others { (other : ℕ) → node ≢ other → node_slot self.new.vnodes other ≡ node_slot self.old.vnodes other }
     {
         self.free_in(heap, purse, node, inode);
         self.forget_node(heap, purse, node);
@@ -91,6 +95,7 @@ impl FileTree {
         ensures goes_on { GoesOn (parts heap.old purse.old self.old.blocks self.old.disk)
             (parts heap.new purse.new self.new.blocks self.new.disk) }
         ensures may { MayFetch heap.new purse.new }
+        ensures rest { self.new ≡ record self.old { blocks = self.new.blocks; disk = self.new.disk } }
     {
         free_through(heap, purse, &mut self.blocks, &mut self.disk, node, inode);
     }

@@ -1,5 +1,5 @@
 //! What is cached and is true no more goes, and what a call filled and may not leave.
-ghost use Rattle.std.specs.Prelude.{◌≡◌, ◌≤◌, ◌+◌, ℕ, [], None, length};
+ghost use Rattle.std.specs.Prelude.{◌≡◌, ◌≢◌, ◌≤◌, ◌+◌, ℕ, [], None, length};
 ghost use Rattle.kheap_slabs.specs.Paid.{HasFills};
 ghost use Rattle.lru_index.specs.NameKeys.{name_key};
 ghost use Rattle.lru_index.specs.declared.keys.NameKey.{NameKey as KeyOf};
@@ -7,6 +7,7 @@ ghost use Rattle.posix_defs.specs.Tree.{Tree};
 ghost use Rattle.block_cache.specs.Blocks.{with_blocks};
 ghost use Rattle.name_cache.specs.Names.{name_slot};
 ghost use Rattle.vnode_cache.specs.Calls.{with_vnodes};
+ghost use Rattle.vnode_cache.specs.Nodes.{node_slot};
 ghost use Rattle.memfs_ops.specs.FileTree.{Stands, MayWalk, Looks, Pays};
 ghost use Rattle.memfs_ops.specs.Changing.{Between, MidWay};
 
@@ -29,6 +30,7 @@ impl FileTree {
         ensures rest { self.new ≡ record self.old { vnodes = self.new.vnodes } }
         ensures purse { purse.new ≡ with_vnodes purse.old purse.new.left.vnode purse.new.vnodes }
         ensures same { purse.old.vnodes ≡ [] → purse.new ≡ purse.old }
+        ensures others { (other : ℕ) → number ≢ other → node_slot self.new.vnodes other ≡ node_slot self.old.vnodes other }
     {
         self.vnodes.let_go(heap, purse, number);
     }
@@ -58,6 +60,7 @@ impl FileTree {
             → Stands heap.new self.new tree pins }
         ensures pays { Pays heap.old heap.new purse.old purse.new self.old self.new }
         ensures dropped { purse.new ≡ with_blocks purse.old (purse.old.left.block + length purse.old.blocks) [] }
+        ensures rest { self.new ≡ record self.old { blocks = self.new.blocks } }
     {
         self.blocks.drop_fills(heap, purse);
     }

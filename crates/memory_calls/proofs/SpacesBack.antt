@@ -92,10 +92,10 @@ procs_back script old new mid pid key proc now holds turns same =
 
 -- the objects are kept
 pub kept_back : (script : Script) (old new : Objects) (mid : Heap) (pid key : ℕ) (proc : Proc) (now : List (Option ℕ)) → AreKept script old
-    → SpaceTurns old.heap mid new.heap old.procs pid key proc now → new.procs ≡ old.procs → new.tree ≡ old.tree → length now ≡ 4 → AreKept script new
-kept_back script old new mid pid key proc now kept turns same tree four =
+    → SpaceTurns old.heap mid new.heap old.procs pid key proc now → new.procs ≡ old.procs → new.tree ≡ old.tree → new.names ≡ old.names → length now ≡ 4 → AreKept script new
+kept_back script old new mid pid key proc now kept turns same tree names four =
     let procs = procs_back script old new mid pid key proc now kept.holds turns same in
-    kept_on script old new kept tree
+    kept_on script old new kept tree names
     (subst (TableMoves old.heap old.procs new.heap) (sym same) (back-moves old.heap mid new.heap old.procs pid key proc now kept.holds turns))
     (subst (AllByRecursion (λ p. length p.nodes ≡ 4)) (sym procs) (all_with_nodes (λ p. length p.nodes ≡ 4) pid now (procs_of old) (λ p long. four) kept.groups))
     (subst (AreAtCalls script) (sym procs)
@@ -122,10 +122,10 @@ memory_here script objects plain pid proc are found =
 
 -- The objects stand for the world with another memory.
 pub stand_back : (script : Script) (old new : Objects) (mid : Heap) (pid key : ℕ) (proc : Proc) (now : List (Option ℕ)) (world : World) (after : Frames) (memory : Memory)
-    → (stands : StandsFor script old world) → SpaceTurns old.heap mid new.heap old.procs pid key proc now → new.procs ≡ old.procs → new.tree ≡ old.tree → length now ≡ 4
+    → (stands : StandsFor script old world) → SpaceTurns old.heap mid new.heap old.procs pid key proc now → new.procs ≡ old.procs → new.tree ≡ old.tree → new.names ≡ old.names → length now ≡ 4
     → IsMemory mid now memory → length memory ≡ 256 → AccountMoves old.heap mid proc.nodes now stands.memory.number world.account.frames after pid
     → StandsFor script new (remembered_in world pid memory after)
-stand_back script old new mid pid key proc now world after memory stands turns same tree four is whole moved = record {
+stand_back script old new mid pid key proc now world after memory stands turns same tree names four is whole moved = record {
   runs = stands.runs;
   kept = kept;
   processes = record {
@@ -140,14 +140,14 @@ stand_back script old new mid pid key proc now world after memory stands turns s
   memory = subst (λ k. HasAccount new.heap k after) (sym same)
       (back-account old.heap mid new.heap old.procs pid key proc now stands.kept.holds turns world.account.frames after stands.memory moved);
   files = files;
-  tree = tree_goes_on script old new world (remembered_in world pid memory after) stands kept files works
-      (record { tree = tree; caches = moved_caches old.heap new.heap old.procs new.procs moves }) refl refl refl;
+  tree = tree_goes_on script old new world (remembered_in world pid memory after) stands refl works
+      (record { tree = tree; names = names; caches = moved_caches old.heap new.heap old.procs new.procs moves }) refl refl refl;
   family = remembers_family world.plain.table pid memory stands.family;
   works = works_on world.plain (remembered world.plain pid memory) refl works stands.works;
 }
   where
     kept : AreKept script new
-    kept = kept_back script old new mid pid key proc now stands.kept turns same tree four
+    kept = kept_back script old new mid pid key proc now stands.kept turns same tree names four
 
     moves : TableMoves old.heap old.procs new.heap new.procs
     moves = subst (TableMoves old.heap old.procs new.heap) (sym same) (back-moves old.heap mid new.heap old.procs pid key proc now stands.kept.holds turns)

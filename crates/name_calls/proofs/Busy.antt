@@ -1,29 +1,27 @@
 -- A node is busy where it is held: a description opens it, or a live process works in it. The root is held always.
-use Rattle.std.proofs.Common.{◌≡◌, ◌≢◌, ℕ, ◌==◌, ◌&&◌, ◌||◌, Bool, true, false, cond, List, [], ◌∷◌, ◌++◌, Option, None, Some, refl, ap, sym, ◌∙◌, inl, inr}
+use Rattle.std.proofs.Common.{◌≡◌, ◌≢◌, ℕ, zero, suc, ◌==◌, ◌&&◌, ◌||◌, Bool, true, false, cond, List, [], ◌∷◌, ◌++◌, Option, None, Some, refl, ap, sym, ◌∙◌, inl, inr, arith}
 use Rattle.std.specs.Prelude.{count_by, nat_lt}
 use Rattle.std.specs.List.{list_any}
 use Rattle.std.proofs.lemmas.Bool.{lt-ltb, ltb-true}
 use Rattle.std.proofs.lemmas.Bool.Decides.{eqb_tells}
 use Rattle.std.proofs.lemmas.List.Folds.{list_any-append}
-use Rattle.kabi_types.specs.declared.scripts.Script.{Script}
-use Rattle.memfs_ops.specs.Removing.{HoldsNoSocket, TellsHeld, is_held}
+use Rattle.machine_keeps.proofs.NodesAfter.{dir_or_sock}
+use Rattle.machine_keeps.proofs.Openers.{opens_by}
+use Rattle.memfs_ops.specs.Removing.{HoldsNoSocket, TellsHeld, TellsOpened, is_held}
 use Rattle.posix_defs.specs.Calls.OnNames.{is_busy, works_in}
 use Rattle.posix_defs.specs.Files.Descriptions.{Descriptions}
 use Rattle.posix_defs.specs.Files.State.{Files, beside, is_number, nodes_among, opened_node, opened_nodes, opens}
+use Rattle.posix_defs.specs.IsTree.{IsTree}
+use Rattle.posix_defs.specs.PathCalls.{is_socket}
 use Rattle.posix_defs.specs.Plain.{Plain, root}
 use Rattle.posix_defs.specs.Process.{Table, runs}
-use Rattle.posix_defs.specs.World.{World, directories_of, is_in}
-use Rattle.store_objects.specs.declared.objects.Objects.{Objects}
-use Rattle.store_objects.specs.Standing.{StandsFor}
+use Rattle.posix_defs.specs.Tree.{Tree, is_directory, node_at}
+use Rattle.posix_defs.specs.World.{directories_of, is_in}
+use Rattle.holding_laws.specs.Holders.{AreOpenNodes}
 use Rattle.store_objects.specs.Trees.{held_nodes, pins_in}
+use Rattle.store_objects.specs.Working.{AreDirectories}
 use Rattle.store_objects.proofs.HeldNodes.{counts_in, held_same, in_counts}
-use Rattle.store_objects.proofs.TreesOn.{none_opened}
-
--- a test holds where another does, and the other way round
-alike : (a b : Bool) → (a ≡ true → b ≡ true) → (b ≡ true → a ≡ true) → a ≡ b
-alike true b to from = sym (to refl)
-alike false true to from = from refl
-alike false false to from = refl
+use Rattle.name_calls.proofs.Adding.{alike}
 
 -- some of these numbers are the number where they count it
 counted : (n : ℕ) (ns : List ℕ) → nat_lt 0 (count_by (λ k. k == n) ns) ≡ is_in n ns
@@ -71,16 +69,49 @@ held_busy plain n other =
 pub tells_held : (plain : Plain) → TellsHeld (pins_in plain) (is_busy plain)
 tells_held plain = λ n other. held_busy plain n other
 
--- ---- today no node is open
+-- ---- who is told of as held
 
-module _ (script : Script) (objects : Objects) (world : World) (stands : StandsFor script objects world) where
-  pub opens_none : (n : ℕ) → opens world.plain.files n ≡ false
-  opens_none n = opens_is world.plain.files n ∙ ap (is_in n) (none_opened objects world.plain.files world.account script stands.kept stands.files)
+-- a node that somebody works in is a directory
+among_directories : (tree : Tree) (n : ℕ) (nodes : List ℕ) → AreDirectories tree nodes → is_directory tree n ≡ false → is_in n nodes ≡ false
+among_directories tree n [] are none = refl
+among_directories tree n (m ∷ nodes) are none = elim (eqb_tells m n) [
+  | inl same ↦ absurd (let both : true ≡ false = sym are.0 ∙ ap (is_directory tree) same.1 ∙ none in cc)
+  | inr apart ↦ ap (λ b. b || is_in n nodes) apart.0 ∙ among_directories tree n nodes are.1 none
+]
 
-  -- so who works in a node alone makes it busy
-  pub busy_works : (n : ℕ) → is_busy world.plain n ≡ list_any (works_in n) world.plain.table
-  busy_works n = ap (λ b. b || list_any (works_in n) world.plain.table) (opens_none n)
+module _ (plain : Plain) (is_tree : IsTree plain.files.tree) (works : AreDirectories plain.files.tree (directories_of plain.table)) where
+  -- what is no directory is held where it is open
+  opened_held : (n : ℕ) → is_directory plain.files.tree n ≡ false → opens plain.files n ≡ is_held (pins_in plain) n
+  opened_held n file =
+      sym (ap (λ b. opens plain.files n || b) (works_is n plain.table ∙ among_directories plain.files.tree n (directories_of plain.table) works file) ∙ either (opens plain.files n))
+      ∙ held_busy plain n (λ same. not_root same)
+    where
+      either : (b : Bool) → (b || false) ≡ b
+      either true = refl
+      either false = refl
 
-  -- no name of a socket is held, since there is none
-  pub holds_no_socket : HoldsNoSocket world.plain.files.tree (pins_in world.plain)
-  holds_no_socket = λ number is. absurd (let both : true ≡ false = sym is ∙ stands.tree.sockets number in cc)
+      not_root : n ≡ root → ⊥
+      not_root same = let both : true ≡ false = sym is_tree.root_directory ∙ ap (is_directory plain.files.tree) (sym same) ∙ file in cc
+
+  -- of each file it is told whether it is opened
+  pub tells_opened : TellsOpened plain.files.tree (pins_in plain) (opens plain.files)
+  tells_opened = λ n file named. opened_held n file
+
+  -- nobody holds a socket's name, since what is open is none
+  pub holds_no_socket : AreOpenNodes plain.files → HoldsNoSocket plain.files.tree (pins_in plain)
+  holds_no_socket nodes = λ n is.
+      none_held (pins_in plain n) (sym (opened_held n (no_directory n is (is_directory plain.files.tree n) refl)) ∙ closed n is (opens plain.files n) refl)
+    where
+      no_directory : (n : ℕ) → is_socket plain.files.tree n ≡ true → (b : Bool) → is_directory plain.files.tree n ≡ b → is_directory plain.files.tree n ≡ false
+      no_directory n is false e = e
+      no_directory n is true e = absurd (dir_or_sock (node_at plain.files.tree n) e is)
+
+      closed : (n : ℕ) → is_socket plain.files.tree n ≡ true → (b : Bool) → opens plain.files n ≡ b → opens plain.files n ≡ false
+      closed n is false e = e
+      closed n is true e =
+          let by = opens_by plain.files n e in
+          absurd (let both : true ≡ false = sym is ∙ (nodes by.place n by.description by.is by.on).unnamed in cc)
+
+      none_held : (pins : ℕ) → nat_lt 0 pins ≡ false → pins ≡ 0
+      none_held zero e = refl
+      none_held (suc pins) e = absurd (let both : true ≡ false = sym (lt-ltb 0 (suc pins) (omega arith)) ∙ e in cc)

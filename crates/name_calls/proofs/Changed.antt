@@ -1,5 +1,5 @@
 -- The objects of a store once a call has changed the tree of files: the caches and the disk are others, and the rest is as it was.
-use Rattle.std.proofs.Common.{◌≡◌, ℕ, ◌+◌, ◌≤◌, ◌==◌, ◌&&◌, ◌||◌, not, Bool, true, false, List, [], ◌∷◌, ◌++◌, length, Option, None, Some, is_none, refl, ap, sym, ◌∙◌, subst, arith}
+use Rattle.std.proofs.Common.{◌≡◌, ℕ, ◌==◌, ◌&&◌, ◌||◌, not, Bool, true, false, List, [], ◌∷◌, ◌++◌, length, Option, None, Some, is_none, refl, ap, sym, ◌∙◌, subst}
 use Rattle.std.specs.Prelude.{count_by}
 use Rattle.std.specs.List.{list_any}
 use Rattle.std.specs.Option.{option_and_then, option_map_or}
@@ -17,6 +17,7 @@ use Rattle.kheap_laws.proofs.PaidLemmas.{IsPaid-nothing, IsPaid-trans}
 use Rattle.memfs_ops.specs.FileTree.{Pays, Stands, TreeView}
 use Rattle.posix_defs.specs.Account.{account_on, with_frames}
 use Rattle.posix_defs.specs.Answer.{Answer, replied}
+use Rattle.posix_defs.specs.Calls.OnNames.{renamed}
 use Rattle.posix_defs.specs.Calls.Opened.{opened_at}
 use Rattle.posix_defs.specs.Files.Descriptions.{Descriptions, Target, OnNode, OnPipe, OnSocket}
 use Rattle.posix_defs.specs.Files.State.{Files, beside, nodes_among, node_of, with_tree}
@@ -31,16 +32,17 @@ use Rattle.posix_defs.specs.Tree.{Tree}
 use Rattle.posix_defs.specs.World.{World, directories_of}
 use Rattle.posix_defs.specs.declared.turner.Turned.{Turned}
 use Rattle.posix_defs.specs.declared.turner.Turned.TheVariants as turned
+use Rattle.holding_laws.specs.Holders.{AreOpenNodes, HaveNamesBut}
 use Rattle.store_objects.specs.declared.objects.Objects.{Objects}
 use Rattle.store_objects.specs.Objects.{AreKept, Runs}
 use Rattle.store_objects.specs.Standing.{StandsFor, answered_in}
-use Rattle.store_objects.specs.Trees.{HasTree, KeepsTree, NamesNoSocket, but_root, held_nodes, kept_by, pins_in}
+use Rattle.store_objects.specs.Trees.{HasTree, KeepsTree, but_root, held_nodes, kept_by, pins_in}
 use Rattle.store_objects.specs.Working.{AreDirectories}
 use Rattle.store_objects.proofs.Beside.{stands_beside, treed_in}
 use Rattle.store_objects.proofs.Leading.{settled_account}
 use Rattle.store_objects.proofs.Replies.{GoesOn}
 use Rattle.store_objects.proofs.TreesOn.{same_pins}
-use Rattle.path_calls.specs.Walking.{KeepsOn, Reaches, WorldReached}
+use Rattle.store_objects.specs.Walking.{KeepsOn, Reaches, WorldReached}
 use Rattle.path_calls.proofs.Walked.{KeepsFew, keeps_few, kept_mid as kept_looked, runs_mid as runs_looked}
 
 -- ---- what the calls on names have in common
@@ -63,7 +65,7 @@ same_node files now (OnNode number) = refl
 same_node files now (OnPipe place) = refl
 same_node files now (OnSocket place) = refl
 
-same_opened : (files now : Files) (descriptions : Descriptions) → nodes_among now descriptions ≡ nodes_among files descriptions
+pub same_opened : (files now : Files) (descriptions : Descriptions) → nodes_among now descriptions ≡ nodes_among files descriptions
 same_opened files now [] = refl
 same_opened files now (None ∷ descriptions) = same_opened files now descriptions
 same_opened files now (Some description ∷ descriptions) =
@@ -82,14 +84,22 @@ stands_still h fs plain tree =
 
 -- ---- once the tree has changed
 
--- With this heap and this tree of files the store stands for a tree without a name of a socket, by which a call of a process is
--- answered so.
+-- With this heap and this tree of files the store stands for a tree, by which a call of a process is answered so.
 pub record Led (script : Script) (h : Heap) (fs : TreeView) (plain : Plain) (pid : ℕ) (said : Reply) (answer : Answer) : Type 0 where
   pub tree : Tree
   pub stands : Stands h fs tree (pins_in plain)
-  pub sockets : NamesNoSocket tree
   pub works : AreDirectories tree (directories_of plain.table)
   pub answers : answer ≡ replied script (retreed_as plain tree) pid said
+
+-- The same of a call that may have freed a socket's name: whoever was bound to that keeps none. What is open is open as it may be,
+-- and all others that are bound are bound to a name.
+pub record Freed (script : Script) (h : Heap) (fs : TreeView) (plain : Plain) (pid : ℕ) (said : Reply) (freed : Option ℕ) (answer : Answer) : Type 0 where
+  pub tree : Tree
+  pub stands : Stands h fs tree (pins_in plain)
+  pub works : AreDirectories tree (directories_of plain.table)
+  pub nodes : AreOpenNodes (with_tree plain.files tree)
+  pub names : HaveNamesBut freed (with_tree plain.files tree)
+  pub answers : answer ≡ replied script (with_files plain (renamed plain.files freed tree)) pid said
 
 never : {X : Type 0} → true ≡ false → X
 never e = cc
@@ -100,7 +110,7 @@ reached fault paths more ends right named = ap (λ f. (is_none f && (paths || mo
 
 module _ (script : Script) (old : Objects) (heap : Heap) (fs : TreeView) (before after : Purse) (pays : Pays old.heap heap before after old.tree fs) where
   abbrev pub mid : Objects
-  mid = record { heap = heap; procs = old.procs; tree = fs }
+  mid = record { heap = heap; procs = old.procs; tree = fs; names = old.names }
 
   pub kept_mid : KeepsTree heap fs → AreKept script old → AreKept script mid
   kept_mid keeps kept = kept_looked script old heap fs pays.only keeps kept
@@ -112,31 +122,31 @@ module _ (script : Script) (old : Objects) (heap : Heap) (fs : TreeView) (before
   abbrev pub changed : World → Tree → World
   changed world tree = treed_in world tree (kept_by fs) fs.disk.reads
 
-  pub stands_mid : (world : World) (tree : Tree) → StandsFor script old world → Stands heap fs tree (pins_in world.plain) → NamesNoSocket tree
+  pub stands_mid : (world : World) (tree : Tree) → StandsFor script old world → Stands heap fs tree (pins_in world.plain)
       → AreDirectories tree (directories_of world.plain.table) → StandsFor script mid (changed world tree)
-  stands_mid world tree was stands sockets works =
+  stands_mid world tree was stands works =
       let has : HasTree mid (changed world tree) =
-      record { stands = stands_still heap fs world.plain tree stands; sockets = sockets; kept = refl; reads = refl } in
-      subst (λ (h : Heap). StandsFor script (record { heap = h; procs = old.procs; tree = fs }) (changed world tree)) (sym pays.only)
+      record { stands = stands_still heap fs world.plain tree stands; kept = refl; reads = refl } in
+      subst (λ (h : Heap). StandsFor script (record { heap = h; procs = old.procs; tree = fs; names = old.names }) (changed world tree)) (sym pays.only)
       (stands_beside script old heap.vnodes heap.names heap.blocks heap.high old.heap.marks fs world tree (kept_by fs) fs.disk.reads was works
-      (subst (λ (h : Heap). HasTree (record { heap = h; procs = old.procs; tree = fs }) (changed world tree)) pays.only has))
+      (subst (λ (h : Heap). HasTree (record { heap = h; procs = old.procs; tree = fs; names = old.names }) (changed world tree)) pays.only has))
 
   -- it is paid for, and the step behind the call takes nothing more
   pub paid_on : (new : Heap) → TakesNothing heap new → IsPaid old.heap before new after
   paid_on new takes = IsPaid-trans old.heap before heap after new after pays.paid (IsPaid-nothing heap new after after takes refl refl)
 
   module _ (pid : ℕ) (which : Call) (changes : ChangesNames which) (right : argument_fault which ≡ None) (needed : before.left ≡ need_of which) where
-    -- what is kept and read goes on as it may
-    keeps_on : (world : World) (tree : Tree) (said : Reply) (told : Turned) → StandsFor script old world → Stands heap fs tree (pins_in world.plain)
-        → KeepsOn world pid which told (answered_in script (changed world tree) pid said)
-    keeps_on world tree said told was stands = record {
+    -- what is kept and read goes on as it may, whatever the machine becomes
+    pub keeps_on : (world : World) (tree : Tree) (next : Plain) (told : Turned) → StandsFor script old world → Stands heap fs tree (pins_in world.plain)
+        → KeepsOn world pid which told (record (changed world tree) { plain = next })
+    keeps_on world tree next told was stands = record {
       names = kept.names;
       blocks = kept.blocks;
       vnodes = kept.vnodes;
       reads = kept.reads;
       untouched = λ none. never (sym reaches ∙ none);
       left = λ ok.
-          subst (λ path. IsLeft tree (kept_by fs) (option_and_then (λ p. last_of (resolve world.plain.files.tree (directory_of world.plain.table pid) p)) path)) (sym changes.leaves) tt;
+          subst (λ path. IsLeft next.files.tree (kept_by fs) (option_and_then (λ p. last_of (resolve world.plain.files.tree (directory_of world.plain.table pid) p)) path)) (sym changes.leaves) tt;
       known = λ known.
           never (sym known
           ∙ ap (λ o. option_map_or (λ path. knows world.plain.files.tree world.kept (begins_at (directory_of world.plain.table pid) path) (components path)) o false) changes.walks);
@@ -145,10 +155,10 @@ module _ (script : Script) (old : Objects) (heap : Heap) (fs : TreeView) (before
         kept : KeepsFew fs world which
         kept = keeps_few script old heap fs before after world which tree (pins_in world.plain) was stands pays.paid pays.reads needed
 
-        reaches : reaches_node world.plain pid which (answered_in script (changed world tree) pid said).plain ≡ true
+        reaches : reaches_node world.plain pid which next ≡ true
         reaches =
             reached (argument_fault which) (not (length (paths_of which) == 0)) (list_any (λ fd. is_on_node world.plain.files (opened_at world.plain.files pid fd)) (descriptors_in which))
-            (ends_node world.plain.files (with_tree world.plain.files tree)) right changes.named
+            (ends_node world.plain.files next.files) right changes.named
 
     -- so the world is reached to which the answer leads
     pub leads : (said : Reply) (told : Turned) (new : Objects) (answer : Plain → Answer) → told ≡ turned.Done said → GoesOn script mid pid said new
@@ -159,9 +169,9 @@ module _ (script : Script) (old : Objects) (heap : Heap) (fs : TreeView) (before
         subst (λ a. WorldReached script new world pid which a told) (sym at.answers)
         (record {
           next = answered_in script next pid said;
-          stands = goes next (stands_mid world at.tree was at.stands at.sockets at.works);
+          stands = goes next (stands_mid world at.tree was at.stands at.works);
           tells = (tells, refl);
           account = sym (settled_account script old world was)
               ∙ ap (λ frames. account_on world.plain world.plain (with_frames world.account frames)) (sym (changes.frames world.account.frames pid said));
-          keeps = keeps_on world at.tree said told was at.stands;
+          keeps = keeps_on world at.tree (answered_in script next pid said).plain told was at.stands;
         })

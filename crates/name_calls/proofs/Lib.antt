@@ -1,7 +1,10 @@
-pub mod NoSocket
+pub mod Adding
+pub mod Walking
+pub mod Opened
 pub mod Busy
-pub mod Working
-pub mod Marked
+pub mod HeldBy
 pub mod Changed
 pub mod WorkedOn
+pub mod OpenAfter
 pub mod Led
+pub mod Freeing

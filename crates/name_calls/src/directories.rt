@@ -11,9 +11,9 @@ ghost use Rattle.posix_defs.specs.Needs.{need_of};
 ghost use Rattle.posix_defs.specs.World.{World};
 ghost use Rattle.store_objects.specs.Objects.{AreKept, Runs};
 ghost use Rattle.store_objects.specs.Standing.{StandsFor};
-ghost use Rattle.path_calls.specs.Walking.{Reaches};
+ghost use Rattle.store_objects.specs.Walking.{Reaches};
 
-use crate::held::worked_in;
+use crate::held::held_nodes;
 use crate::replies::done;
 use kabi_types::{Control, Script};
 use kheap_shelves::Purse;
@@ -69,8 +69,9 @@ pub fn rmdir(
     ensures paid { IsPaid objects.old.heap purse.old objects.new.heap purse.new }
     ensures does { Reaches script.now objects.old pid (Call.Rmdir path.now) (λ plain. rmdir script.now plain pid path.now) result objects.new }
 {
+    objects.heap_is_well_formed();
     let cwd = directory_of(objects, pid);
-    let held = worked_in(&objects.heap, &objects.procs);
+    let held = held_nodes(&objects.heap, &objects.procs);
     let busy = |node: u32| held.has(node);
     let gone = objects
         .tree

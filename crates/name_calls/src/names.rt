@@ -10,18 +10,19 @@ ghost use Rattle.posix_defs.specs.Calls.OnNames.{link, rename, unlink};
 ghost use Rattle.posix_defs.specs.Needs.{need_of};
 ghost use Rattle.posix_defs.specs.World.{World};
 ghost use Rattle.store_objects.specs.Objects.{AreKept, Runs};
-ghost use Rattle.store_objects.specs.Standing.{StandsFor};
-ghost use Rattle.path_calls.specs.Walking.{Reaches};
+ghost use Rattle.store_objects.specs.Standing.{IsSound, StandsFor};
+ghost use Rattle.store_objects.specs.Walking.{Reaches, Serves};
 
-use crate::held::worked_in;
-use crate::replies::{done, freed};
+use crate::held::held_nodes;
+use crate::replies::{done, freed, gone_reply};
 use kabi_types::{Control, Script};
 use kheap_shelves::Purse;
 use posix_defs::Turned;
+use proc_names::name_freed;
 use store_objects::{Objects, directory_of, go_on};
 
-/// Takes a name away, and with the last one its node, but for a file that a description opens. EPERM where it is a directory,
-/// ENOENT where the name is free, else the faults of its path.
+/// Takes a name away, and with the last one its node, but for a file that a description opens. A socket that was bound to the node
+/// keeps no name. EPERM where it is a directory, ENOENT where the name is free, else the faults of its path.
 ///
 /// <https://pubs.opengroup.org/onlinepubs/9699919799/functions/unlink.html>
 pub fn unlink(
@@ -32,20 +33,22 @@ pub fn unlink(
     control: Control,
     path: &[u8],
 ) -> Turned
-    requires stands { (world : World) × StandsFor script.now objects.old world }
+    requires stands { (world : World) × StandsFor script.now objects.old world × IsSound world.plain }
     requires runs { Runs objects.old pid control }
     requires right { argument_fault (Call.Unlink path.now) ≡ None }
     requires may { MayWalk objects.old.heap purse.old }
     requires needed { purse.old.left ≡ need_of (Call.Unlink path.now) }
     ensures kept { AreKept script.now objects.new }
     ensures paid { IsPaid objects.old.heap purse.old objects.new.heap purse.new }
-    ensures does { Reaches script.now objects.old pid (Call.Unlink path.now) (λ plain. unlink script.now plain pid path.now) result objects.new }
+    ensures does { Serves script.now objects.old pid (Call.Unlink path.now) (λ plain. unlink script.now plain pid path.now) result objects.new }
 {
     let cwd = directory_of(objects, pid);
     let gone = objects
         .tree
         .remove_name(&mut objects.heap, purse, cwd, path);
-    go_on(script, objects, pid, control, freed(gone))
+    objects.heap_is_well_formed();
+    name_freed(&mut objects.heap, &mut objects.names, freed(&gone));
+    go_on(script, objects, pid, control, gone_reply(gone))
 }
 
 /// Gives a node that is no directory a further name. EPERM where it is one, EEXIST where something is under the new name, ENOENT
@@ -79,10 +82,11 @@ pub fn link(
     go_on(script, objects, pid, control, done(linked))
 }
 
-/// Gives the node of one path the name of another, which loses the node that it had. ENOENT where the old name is free, EBUSY where
-/// a path leads to the root or to a directory that goes, in which somebody works or which is open, EINVAL where a directory would go
-/// below itself, EISDIR and ENOTDIR where one of two nodes alone is a directory or a slash stands behind a free name, ENOTEMPTY where
-/// a directory that goes has entries, ENOSPC where there is no room, else the faults of both paths.
+/// Gives the node of one path the name of another, which loses the node that it had; a socket that was bound to that one keeps no
+/// name. ENOENT where the old name is free, EBUSY where a path leads to the root or to a directory that goes, in which somebody works
+/// or which is open, EINVAL where a directory would go below itself, EISDIR and ENOTDIR where one of two nodes alone is a directory or
+/// a slash stands behind a free name, ENOTEMPTY where a directory that goes has entries, ENOSPC where there is no room, else the faults
+/// of both paths.
 ///
 /// <https://pubs.opengroup.org/onlinepubs/9699919799/functions/rename.html>
 #[inline(never)]
@@ -95,7 +99,7 @@ pub fn rename(
     old: &[u8],
     new: &[u8],
 ) -> Turned
-    requires stands { (world : World) × StandsFor script.now objects.old world }
+    requires stands { (world : World) × StandsFor script.now objects.old world × IsSound world.plain }
     requires runs { Runs objects.old pid control }
     requires right { argument_fault (Call.Rename old.now new.now) ≡ None }
     requires bytes { All (λ byte. (0 < byte) × (byte < 2 ^ 8)) new.now }
@@ -103,13 +107,16 @@ pub fn rename(
     requires needed { purse.old.left ≡ need_of (Call.Rename old.now new.now) }
     ensures kept { AreKept script.now objects.new }
     ensures paid { IsPaid objects.old.heap purse.old objects.new.heap purse.new }
-    ensures does { Reaches script.now objects.old pid (Call.Rename old.now new.now) (λ plain. rename script.now plain pid old.now new.now) result objects.new }
+    ensures does { Serves script.now objects.old pid (Call.Rename old.now new.now) (λ plain. rename script.now plain pid old.now new.now) result objects.new }
 {
+    objects.heap_is_well_formed();
     let cwd = directory_of(objects, pid);
-    let held = worked_in(&objects.heap, &objects.procs);
+    let held = held_nodes(&objects.heap, &objects.procs);
     let busy = |node: u32| held.has(node);
     let renamed = objects
         .tree
         .rename_name(&mut objects.heap, purse, cwd, old, new, &busy);
-    go_on(script, objects, pid, control, freed(renamed))
+    objects.heap_is_well_formed();
+    name_freed(&mut objects.heap, &mut objects.names, freed(&renamed));
+    go_on(script, objects, pid, control, gone_reply(renamed))
 }

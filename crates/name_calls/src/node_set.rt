@@ -1,7 +1,7 @@
 //! Sets of nodes, with a bit a node.
 
-ghost use Rattle.std.specs.Prelude.{◌≡◌, ◌≢◌, ℕ, ◌<◌, true, false};
-ghost use Rattle.name_calls.specs.Nodes.{has_node, most_nodes};
+ghost use Rattle.std.specs.Prelude.{◌≡◌, ◌==◌, ℕ, false};
+ghost use Rattle.name_calls.specs.Nodes.{Adds, has_node};
 
 use disk_layout::{is_marked, mark};
 
@@ -23,13 +23,13 @@ impl NodeSet {
         NodeSet { bits: [0; 1024] }
     }
 
-    /// One node more.
+    /// One node more, if a disk may have it.
     pub(crate) fn add(&mut self, node: u32)
-        requires { node < most_nodes }
-        ensures this { has_node self.new node ≡ true }
-        ensures others { (number : ℕ) → number ≢ node → has_node self.new number ≡ has_node self.old number }
+        ensures { Adds self.old self.new (λ number. node == number) }
     {
-        mark(&mut self.bits, node);
+        if node < MOST {
+            mark(&mut self.bits, node);
+        }
     }
 
     /// Whether a node is among them.

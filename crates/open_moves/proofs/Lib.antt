@@ -1,3 +1,4 @@
 pub mod Moving
 pub mod Numbers
 pub mod Replying
+pub mod Leaving

@@ -10,9 +10,10 @@ use Rattle.kheap_slabs.specs.Owners.{OwnsItsObjects}
 use Rattle.open_laws.specs.Owned.{HasItsOwners}
 use Rattle.posix_defs.specs.Memory.{Frames}
 use Rattle.posix_defs.specs.Process.{Table}
-use Rattle.proc_descs.specs.Having.{AreListed, OpensNoNode, places_in}
+use Rattle.proc_descs.specs.Having.{AreListed, places_in}
 use Rattle.proc_descs.specs.Naming.{ChangesNumbers}
 use Rattle.proc_descs.proofs.Listing.{found_before, found_now, found_others}
+use Rattle.holding_laws.specs.Names.{name_of}
 use Rattle.proc_table.specs.Accounting.{HasAccount}
 use Rattle.proc_table.specs.Procs.{HasNoneOpenOnce, IsAlive, IsLight, proc_of, process_of}
 use Rattle.proc_table.specs.Standing.{AreFrom, IsTable}
@@ -26,8 +27,8 @@ use Rattle.proc_table.proofs.PlaceLemmas.{Follows, eqb_other, eqb_same, follows_
 use Rattle.proc_table.proofs.TurnLemmas.{all_changed, all_kept}
 use Rattle.store_objects.specs.declared.objects.Objects.{Objects}
 use Rattle.store_objects.specs.Objects.{procs_of}
-use Rattle.store_objects.proofs.EndingProcs.{all_found}
 use Rattle.store_objects.proofs.Peeling.{by_pid}
+use Rattle.store_objects.proofs.RunningProcs.{all_found}
 use Rattle.open_moves.specs.Moves.{OpenMoves, opening}
 
 -- the process of the pid has other descriptors
@@ -71,7 +72,7 @@ module _ (old new : Heap) (kept : TableView) (pid : ℕ) (holds : Holds old kept
       ∙ found_others old.procs changes.key changes.proc now changes.there refl kept.listed pid holds.stored changes.named q apart
 
   -- each process is there with other descriptors, or with its own
-  each : (q : ℕ) → (places : List (Option Descriptor)) × (proc_of (processes new kept) q ≡ option_map (opening places) (proc_of (processes old kept) q))
+  pub each : (q : ℕ) → (places : List (Option Descriptor)) × (proc_of (processes new kept) q ≡ option_map (opening places) (proc_of (processes old kept) q))
   each q = by_pid_of (eqb_tells q pid)
     where
       by_pid_of : (((q == pid) ≡ true) × (q ≡ pid)) ⊎ (((q == pid) ≡ false) × (q ≢ pid))
@@ -165,7 +166,7 @@ module _ (old new : Heap) (kept : TableView) (pid : ℕ) (holds : Holds old kept
           subst IsLight (some_same (proc_of (processes new kept) q) now proc (ap (proc_of (processes new kept)) same.1 ∙ here) is) of_pid
       by_pid_of q proc is (inr apart) = has_it IsLight (processes old kept) q proc holds.light (sym (others q apart.1) ∙ is)
 
-  holds_opened : IsAlive (processes old kept) pid → AreListed new kept → OwnsItsObjects new → Holds new kept
+  pub holds_opened : IsAlive (processes old kept) pid → AreListed new kept → OwnsItsObjects new → Holds new kept
   holds_opened alive listed owns =
       let by = by_pid new kept listed owns in
       record {
@@ -176,17 +177,18 @@ module _ (old new : Heap) (kept : TableView) (pid : ℕ) (holds : Holds old kept
       }
 
 -- Where a call changes what a process has open that runs, only what is open has changed of the store.
-pub moves_opened : (old new : Objects) (pid : ℕ) → Holds old.heap old.procs → new.procs ≡ old.procs → new.tree ≡ old.tree → IsAlive (procs_of old) pid → ChangesNumbers old.heap new.heap old.procs pid
-    → AreListed new.heap old.procs → HasItsOwners new.heap [] → OpensNoNode new.heap.descs → OpenMoves old new
-moves_opened old new pid holds same tree alive changes listed owners nodes =
-    subst (λ (procs : TableView). OpenMoves old (record { heap = new.heap; procs = procs; tree = new.tree })) (sym same) (record {
+pub moves_opened : (old new : Objects) (pid : ℕ) → Holds old.heap old.procs → new.procs ≡ old.procs → new.tree ≡ old.tree → new.names ≡ old.names → IsAlive (procs_of old) pid
+    → ChangesNumbers old.heap new.heap old.procs pid → AreListed new.heap old.procs → HasItsOwners new.heap [] → ((key : ℕ) → name_of new.heap.socks key ≡ name_of old.heap.socks key) → OpenMoves old new
+moves_opened old new pid holds same tree table alive changes listed owners names =
+    subst (λ (procs : TableView). OpenMoves old (record { heap = new.heap; procs = procs; tree = new.tree; names = new.names })) (sym same) (record {
       procs = record { same = refl; each = each old.heap new.heap old.procs pid holds changes };
       holds = holds_opened old.heap new.heap old.procs pid holds changes alive listed owners.objects;
       all = listed.all;
       owners = owners;
-      nodes = nodes;
+      names = names;
       tree = record {
         tree = tree;
+        names = table;
         caches = record {
           vnodes = ap (λ (h : Heap). h.vnodes) changes.beside;
           names = ap (λ (h : Heap). h.names) changes.beside;
@@ -195,23 +197,3 @@ moves_opened old new pid holds same tree alive changes listed owners nodes =
         };
       };
     })
-
--- and so where it leaves all processes
-pub moves_elsewhere : (old new : Objects) → new.procs ≡ old.procs → new.tree ≡ old.tree → new.heap.procs ≡ old.heap.procs → Holds new.heap new.procs → AreListed new.heap new.procs → HasItsOwners new.heap []
-    → OpensNoNode new.heap.descs → new.heap.vnodes ≡ old.heap.vnodes → new.heap.names ≡ old.heap.names → new.heap.blocks ≡ old.heap.blocks → new.heap.heap ≡ old.heap.heap
-    → OpenMoves old new
-moves_elsewhere old new same tree procs holds listed owners nodes vnodes names blocks size = record {
-  procs = record {
-    same = same;
-    each = λ pid. (
-      places_in (proc_of (procs_of old) pid),
-      ap (λ (view : TableView). proc_of (procs_at new.heap.procs view.listed) pid) same
-          ∙ ap (λ (there : List (Option Proc)). proc_of (procs_at there old.procs.listed) pid) procs ∙ opening_own (proc_of (procs_of old) pid),
-    );
-  };
-  holds = holds;
-  all = listed.all;
-  owners = owners;
-  nodes = nodes;
-  tree = record { tree = tree; caches = record { vnodes = vnodes; names = names; blocks = blocks; size = size } };
-}

@@ -9,7 +9,7 @@ use Rattle.kheap_shelves.specs.Objects.{InUse}
 use Rattle.place_laws.specs.Placed.{Numbers}
 use Rattle.posix_defs.specs.Account.{Account, account_on}
 use Rattle.posix_defs.specs.Answer.{Answer, replied}
-use Rattle.posix_defs.specs.Files.State.{Files}
+use Rattle.posix_defs.specs.Files.State.{Files, opened_nodes}
 use Rattle.posix_defs.specs.Memory.{Frames}
 use Rattle.posix_defs.specs.MemoryCalls.{frames_after, frames_of}
 use Rattle.posix_defs.specs.Plain.{Plain, with_files}
@@ -57,12 +57,13 @@ files_become new plain now account become = record {
 -- Where queues stand where they stood, and what was there keeps its numbers, the account goes on with the fronts.
 pub become_where_queues_stand : (old new : Objects) (files now : Files) (account : Account) (numbers : Numbers) → (have : HaveFiles old files account) → QueuesStand old.heap new.heap
     → ((key : ℕ) → InUse old.heap.pipes key → numbers.pipes key ≡ have.numbers.pipes key) → ((key : ℕ) → InUse old.heap.socks key → numbers.socks key ≡ have.numbers.socks key)
-    → HaveOpen numbers new.heap new.procs now → now.tree ≡ files.tree → HaveBecome new files now account
-become_where_queues_stand old new files now account numbers have stand pipes socks opened tree = record {
+    → HaveOpen numbers new.heap new.procs now → now.tree ≡ files.tree → opened_nodes now ≡ opened_nodes files → HaveBecome new files now account
+become_where_queues_stand old new files now account numbers have stand pipes socks opened tree opens = record {
   numbers = numbers;
   opened = opened;
   fronts = fronts_follow have.numbers numbers old.heap new.heap have.opened.list opened.list files now account have.opened.opened opened.opened stand pipes socks have.fronts;
   tree = tree;
+  opens = opens;
 }
 
 -- ---- worlds
@@ -77,6 +78,7 @@ reached_opened script old new world pid files stands same changes become = recor
       (account_opened old.heap new.heap old.procs pid stands.kept.holds changes world.account.frames stands.memory);
   files = files_become new world.plain files world.account become;
   tree = become.tree;
+  opens = become.opens;
   family = stands.family;
   works = refl;
   controls = refl;

@@ -5,7 +5,7 @@ use Rattle.kheap_shelves.specs.declared.objects.Descriptor.{Descriptor}
 use Rattle.kheap_shelves.specs.declared.objects.Proc.{Proc}
 use Rattle.kheap_slabs.specs.Keys.{AreKeysOf}
 use Rattle.open_laws.specs.Owned.{HasItsOwners}
-use Rattle.proc_descs.specs.Having.{OpensNoNode}
+use Rattle.holding_laws.specs.Names.{name_of}
 use Rattle.proc_table.specs.Procs.{proc_of}
 use Rattle.proc_table.specs.Table.{Holds, keys_of}
 use Rattle.store_objects.specs.declared.objects.Objects.{Objects}
@@ -22,11 +22,11 @@ pub record ProcsStay (old new : Objects) : Type 0 where
   pub each : (pid : ℕ) → (places : List (Option Descriptor)) × (proc_of (procs_of new) pid ≡ option_map (opening places) (proc_of (procs_of old) pid))
 
 -- Of a store only what is open has changed, and what a process has in memory: its processes stay but for their descriptors, all that
--- is in the heap has its owner, and the tree of files is the same.
+-- is in the heap has its owner, and the tree of files is the same. No socket has another name.
 pub record OpenMoves (old new : Objects) : Type 0 where
   pub procs : ProcsStay old new
   pub holds : Holds new.heap new.procs
   pub all : AreKeysOf new.heap.procs (keys_of new.procs.listed)
   pub owners : HasItsOwners new.heap []
-  pub nodes : OpensNoNode new.heap.descs
+  pub names : (key : ℕ) → name_of new.heap.socks key ≡ name_of old.heap.socks key
   pub tree : TreeStays old new

@@ -7,7 +7,7 @@ use Rattle.place_laws.specs.Placed.{Numbers}
 use Rattle.posix_defs.specs.Account.{Account}
 use Rattle.posix_defs.specs.Answer.{Answer, replied}
 use Rattle.posix_defs.specs.Family.{IsFamily}
-use Rattle.posix_defs.specs.Files.State.{Files}
+use Rattle.posix_defs.specs.Files.State.{Files, opened_nodes}
 use Rattle.posix_defs.specs.Plain.{Plain, with_files}
 use Rattle.posix_defs.specs.World.{World, directories_of}
 use Rattle.proc_descs.specs.Having.{HaveOpen}
@@ -28,6 +28,7 @@ pub record HasReached (new : Objects) (world next : World) : Type 0 where
   pub memory : HasAccount new.heap new.procs next.account.frames
   pub files : HaveFiles new next.plain.files next.account
   pub tree : next.plain.files.tree ≡ world.plain.files.tree
+  pub opens : opened_nodes next.plain.files ≡ opened_nodes world.plain.files
   pub family : IsFamily next.plain.table
   pub works : directories_of next.plain.table ≡ directories_of world.plain.table
   pub controls : next.plain.controls ≡ world.plain.controls
@@ -35,12 +36,13 @@ pub record HasReached (new : Objects) (world next : World) : Type 0 where
   pub reads : next.reads ≡ world.reads
 
 -- The objects have these files open, which others have become, and the account that has gone on with them has the fronts of their
--- queues. The tree is the same.
+-- queues. The tree is the same, and so is which nodes are open.
 pub record HaveBecome (new : Objects) (files now : Files) (account : Account) : Type 0 where
   pub numbers : Numbers
   pub opened : HaveOpen numbers new.heap new.procs now
   pub fronts : HaveFronts numbers new.heap (fronts_on files now account)
   pub tree : now.tree ≡ files.tree
+  pub opens : opened_nodes now ≡ opened_nodes files
 
 -- The machine's answer is this reply, where its files have become others, which the objects have.
 pub record RepliesOn (new : Objects) (script : Script) (plain : Plain) (account : Account) (pid : ℕ) (answer : Answer) (said : Reply) : Type 0 where

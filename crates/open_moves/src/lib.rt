@@ -15,8 +15,9 @@ ghost use Rattle.posix_defs.specs.Plain.{Plain};
 ghost use Rattle.posix_defs.specs.World.{World};
 ghost use Rattle.posix_defs.specs.declared.turner.Turned.{Turned};
 ghost use Rattle.posix_defs.specs.declared.turner.Turned.TheVariants as turned;
-ghost use Rattle.proc_descs.specs.Having.{AreListed, OpensNoNode};
+ghost use Rattle.proc_descs.specs.Having.{AreListed};
 ghost use Rattle.proc_descs.specs.Naming.{ChangesNumbers};
+ghost use Rattle.holding_laws.specs.Names.{name_of};
 ghost use Rattle.proc_table.specs.Procs.{IsAlive};
 ghost use Rattle.proc_table.specs.Table.{Holds};
 ghost use Rattle.std.specs.Prelude.{◌≡◌, ℕ, []};
@@ -33,13 +34,13 @@ pub fn a_store_goes_on_with_what_is_open()
         → StandsFor script old world → OpenMoves old new → HasReached new world next → StandsFor script new next }
 {}
 
-/// Where a call changes what a process has open that runs, only what is open has changed of the store; and where its answer is a
-/// reply that leaves all memory, with which the machine's files have become those that the objects have, its caller goes on in that
-/// machine.
+/// Where a call changes what a process has open that runs, and no socket's name, only what is open has changed of the store; and
+/// where its answer is a reply that leaves all memory, with which the machine's files have become those that the objects have, its
+/// caller goes on in that machine.
 pub fn a_call_changes_what_a_process_has_open()
-    ensures moves { (old : Objects) (new : Objects) (pid : ℕ) → Holds old.heap old.procs → new.procs ≡ old.procs → new.tree ≡ old.tree → IsAlive (procs_of old) pid
-        → ChangesNumbers old.heap new.heap old.procs pid → AreListed new.heap old.procs → HasItsOwners new.heap [] → OpensNoNode new.heap.descs
-        → OpenMoves old new }
+    ensures moves { (old : Objects) (new : Objects) (pid : ℕ) → Holds old.heap old.procs → new.procs ≡ old.procs → new.tree ≡ old.tree → new.names ≡ old.names
+        → IsAlive (procs_of old) pid → ChangesNumbers old.heap new.heap old.procs pid → AreListed new.heap old.procs → HasItsOwners new.heap []
+        → ((key : ℕ) → name_of new.heap.socks key ≡ name_of old.heap.socks key) → OpenMoves old new }
     ensures performs { (script : Script) (old : Objects) (mid : Objects) (new : Objects) (pid : ℕ) (call : Call) (said : Reply) (told : Turned)
         (answer : Plain → Answer)
         → mid.procs ≡ old.procs → ChangesNumbers old.heap mid.heap old.procs pid → OpenMoves old mid

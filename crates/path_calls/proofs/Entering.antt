@@ -33,10 +33,11 @@ use Rattle.store_objects.specs.Standing.{HasEntered, StandsFor, answered_in, wor
 use Rattle.store_objects.specs.Trees.{kept_by, pins_in}
 use Rattle.store_objects.proofs.Leading.{settled_account}
 use Rattle.store_objects.proofs.Replies.{GoesOn}
-use Rattle.path_calls.specs.Walking.{KeepsOn, Reaches, WorldReached}
+use Rattle.store_objects.specs.Walking.{KeepsOn, Reaches, WorldReached}
+use Rattle.store_objects.proofs.HoldsFiles.{works_in_directory}
 use Rattle.path_calls.proofs.NamesKept.{walk_left}
 use Rattle.path_calls.proofs.Stated.{knows_it}
-use Rattle.path_calls.proofs.Walked.{KeepsFew, entered_mid, holds_directory, keeps_few, looked, mid, stands_mid, works_in_directory, works_there}
+use Rattle.path_calls.proofs.Walked.{KeepsFew, entered_mid, holds_directory, keeps_few, looked, mid, stands_mid, works_there}
 
 never : {X : Type 0} → true ≡ false → X
 never e = cc

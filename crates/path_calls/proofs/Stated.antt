@@ -38,12 +38,13 @@ use Rattle.store_objects.specs.declared.objects.Objects.{Objects}
 use Rattle.store_objects.specs.Objects.{procs_of}
 use Rattle.store_objects.specs.Standing.{StandsFor, answered_in}
 use Rattle.store_objects.specs.Trees.{kept_by, pins_in}
-use Rattle.path_calls.specs.Walking.{KeepsOn, Reaches, WorldReached}
+use Rattle.store_objects.specs.Walking.{KeepsOn, Reaches, WorldReached}
 use Rattle.store_objects.proofs.KeptNow.{named}
 use Rattle.store_objects.proofs.Leading.{settled_account}
 use Rattle.store_objects.proofs.Replies.{GoesOn}
+use Rattle.store_objects.proofs.HoldsFiles.{works_in_directory}
 use Rattle.path_calls.proofs.NamesKept.{walk_left}
-use Rattle.path_calls.proofs.Walked.{KeepsFew, holds_directory, keeps_few, looked, mid, stands_mid, works_in_directory, works_there}
+use Rattle.path_calls.proofs.Walked.{KeepsFew, holds_directory, keeps_few, looked, mid, stands_mid, works_there}
 use Rattle.path_calls.proofs.WaysKnown.{way}
 
 never : {X : Type 0} → true ≡ false → X

@@ -10,7 +10,7 @@ ghost use Rattle.posix_defs.specs.Needs.{need_of};
 ghost use Rattle.posix_defs.specs.World.{World};
 ghost use Rattle.store_objects.specs.Objects.{AreKept, Runs};
 ghost use Rattle.store_objects.specs.Standing.{StandsFor};
-ghost use Rattle.path_calls.specs.Walking.{Reaches};
+ghost use Rattle.store_objects.specs.Walking.{Reaches};
 
 use kabi_types::{Control, Reply, Script};
 use kheap_shelves::Purse;

@@ -3,6 +3,7 @@ ghost use Rattle.kabi_types.specs.declared.scripts.Script.{Script};
 ghost use Rattle.posix_defs.specs.Needs.{bound, need_of, slack};
 ghost use Rattle.posix_defs.specs.Sizes.{reserve};
 ghost use Rattle.posix_defs.specs.Process.{is_alive};
+ghost use Rattle.posix_defs.specs.CoreState.{asked_by};
 ghost use Rattle.posix_defs.specs.Plain.{call_of, last_pid};
 ghost use Rattle.posix_defs.specs.Machine.{would_block};
 ghost use Rattle.posix_defs.specs.Relief.{Evicts, Kills, refused_in};
@@ -10,6 +11,7 @@ ghost use Rattle.posix_defs.specs.Victim.{victim_of};
 ghost use Rattle.posix_defs.specs.World.{World, can_evict, live_of};
 ghost use Rattle.posix_defs.specs.Turn.{TurnsTo};
 
+use crate::phases::Asked;
 use kabi_types::{Cached, Call, Need, Reply};
 
 /// What a turn of a call came to.
@@ -49,6 +51,13 @@ pub trait Turner {
         requires { (world : World) × stands self.now world × (is_alive world.plain.table pid ≡ true) }
         ensures { (world : World) → stands self.now world → is_alive world.plain.table pid ≡ true
             → result ≡ call_of (script self.now) world.plain pid };
+
+    /// What a live process asks for: the kind of its next call, and the bytes of kernel heap that this may use. It tells as much as
+    /// the call does, which isn't made for it.
+    fn asks(&self, pid: u32) -> Asked
+        requires { (world : World) × stands self.now world × (is_alive world.plain.table pid ≡ true) }
+        ensures { (world : World) → stands self.now world → is_alive world.plain.table pid ≡ true
+            → result ≡ asked_by (script self.now) world.plain pid };
 
     /// Runs a process's call: `Sleep` exactly where it would block, `Gone` exactly where the process has ended, else
     /// what POSIX answers.

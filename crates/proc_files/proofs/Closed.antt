@@ -23,11 +23,12 @@ use Rattle.proc_descs.specs.Having.{ClosesNumber, HaveOpen}
 use Rattle.proc_table.specs.Table.{TableView}
 use Rattle.tree_laws.proofs.OtherNodes.{closed_nodes}
 use Rattle.proc_files.specs.Closing.{CachesChange, MayClose}
-use Rattle.proc_files.specs.Holding.{AreOpenNodes, CachesStay, HoldDirectories, HoldFiles, IsOpenNode, holders, openings, times}
+use Rattle.proc_files.specs.Holding.{CachesStay, HoldFiles}
+use Rattle.holding_laws.specs.Holders.{AreOpenNodes, HoldDirectories, holders, IsOpenNode, openings, times}
 use Rattle.proc_files.proofs.Closings.{Goes, opens_so}
 use Rattle.proc_files.proofs.Beside.{have_beside}
 use Rattle.proc_files.proofs.Holding.{same_pins, stands_on}
-use Rattle.proc_files.proofs.Openings.{opens_once, times_apart, times_here}
+use Rattle.holding_laws.proofs.Openings.{opens_once, times_apart, times_here}
 
 -- a directory is never closed away
 pub closed_directory : (tree : Tree) (number : ℕ) → IsTree tree → is_directory tree number ≡ true → closed tree number ≡ tree

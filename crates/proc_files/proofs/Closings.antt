@@ -35,8 +35,8 @@ use Rattle.proc_descs.proofs.Named.{named_by_none, named_by_some}
 use Rattle.proc_descs.proofs.NumberNames.{desc_named, descriptor_at_is}
 use Rattle.proc_descs.proofs.Sums.{one_if}
 use Rattle.proc_queues.proofs.Opening.{described_so}
-use Rattle.proc_files.specs.Holding.{openings, times}
-use Rattle.proc_files.proofs.Openings.{nodes_gone, same_nodes, times_apart, times_cons}
+use Rattle.holding_laws.specs.Holders.{openings, times}
+use Rattle.holding_laws.proofs.Openings.{nodes_gone, same_nodes, times_apart, times_cons}
 
 -- ---- who opens a node
 

@@ -3,15 +3,18 @@ use Rattle.std.proofs.Common.{◌≡◌, ℕ, ℤ, true, false, IsSome, Option, 
 use Rattle.kheap_shelves.specs.Objects.{object}
 use Rattle.kheap_shelves.specs.declared.objects.Desc.{Desc}
 use Rattle.kheap_shelves.specs.declared.objects.Descriptor.{Descriptor as HeldDescriptor}
+use Rattle.kheap_shelves.specs.declared.objects.Proc.{Proc}
 use Rattle.kheap_shelves.specs.declared.objects.Target.{Target}
 use Rattle.kheap_shelves.specs.declared.objects.Target.TheVariants as target
 use Rattle.kheap_slabs.specs.Heap.{Heap}
 use Rattle.open_laws.specs.Described.{node_in, target_in}
 use Rattle.place_laws.specs.Placed.{Numbers}
 use Rattle.posix_defs.specs.Files.State.{Files, node_of}
-use Rattle.proc_table.specs.Table.{TableView}
-use Rattle.proc_descs.specs.Naming.{named_by}
-use Rattle.proc_table.proofs.PlaceLemmas.{some_same}
+use Rattle.proc_table.specs.Table.{TableView, key_of}
+use Rattle.proc_descs.specs.Having.{AreListed, places_in}
+use Rattle.proc_descs.specs.Naming.{named_by, places_of}
+use Rattle.proc_descs.proofs.Listing.{found_before}
+use Rattle.proc_table.proofs.PlaceLemmas.{key_of-proc, some_same}
 use Rattle.proc_files.specs.Reading.{IsOffNodes, IsOnNode}
 
 pub tells_target : (numbers : Numbers) (files : Files) (what : Target) → is_some (node_in what) ≡ is_some (node_of files (target_in numbers what))
@@ -40,3 +43,28 @@ off_named_node h kept pid fd held desc is there off = λ also found also_is foun
 -- what isn't open is open on nothing
 pub off_unnamed : (h : Heap) (kept : TableView) (pid : ℕ) (fd : ℤ) → named_by h kept pid fd ≡ None → IsOffNodes h kept pid fd
 off_unnamed h kept pid fd none = λ held desc is there. absurd (let both : None ≡ Some held = sym none ∙ is in cc)
+
+-- ---- a process that is there
+
+-- it is in its Proc
+pub record IsAt (h : Heap) (kept : TableView) (pid : ℕ) : Type 0 where
+  pub key : ℕ
+  pub proc : Proc
+  pub named : key_of kept.listed pid ≡ Some key
+  pub there : object h.procs key ≡ Some proc
+  pub places : places_of h kept pid ≡ proc.descriptors
+
+pub is_at : (h : Heap) (kept : TableView) (pid : ℕ) → AreListed h kept → IsSome (key_of kept.listed pid) → IsAt h kept pid
+is_at h kept pid listed there = by_key (key_of kept.listed pid) refl there
+  where
+    by_key : (o : Option ℕ) → key_of kept.listed pid ≡ o → IsSome o → IsAt h kept pid
+    by_key None named some = cc
+    by_key (Some key) named some =
+        let it = key_of-proc h.procs kept.listed pid key listed.stored named in
+        record {
+          key = key;
+          proc = it.0;
+          named = named;
+          there = it.1;
+          places = ap places_in (found_before h.procs key it.0 it.0 it.1 refl kept.listed pid listed.stored named);
+        }

@@ -20,9 +20,10 @@ use Rattle.proc_table.proofs.PlaceLemmas.{some_same}
 use Rattle.proc_descs.specs.Having.{HaveOpen}
 use Rattle.proc_descs.proofs.Sums.{one_if}
 use Rattle.proc_pipes.proofs.Made.{longer}
-use Rattle.proc_files.specs.Holding.{AreOpenNodes, HoldFiles, IsOpenNode, holders, times}
+use Rattle.proc_files.specs.Holding.{HoldFiles}
+use Rattle.holding_laws.specs.Holders.{AreOpenNodes, holders, IsOpenNode, times}
 use Rattle.proc_files.proofs.Holding.{same_pins}
-use Rattle.proc_files.proofs.Openings.{nodes_made, times_beside, times_cons}
+use Rattle.holding_laws.proofs.Openings.{nodes_made, times_beside, times_cons}
 use Rattle.proc_files.proofs.OpenLeads.{LeadsTo}
 
 -- ---- the answer of the tree

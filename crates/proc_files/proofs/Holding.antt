@@ -34,9 +34,10 @@ use Rattle.proc_queues.specs.Found.{opened_in}
 use Rattle.proc_queues.specs.declared.lookups.Found.{Found}
 use Rattle.proc_queues.proofs.Opening.{described_so}
 use Rattle.proc_files.specs.Reading.{IsOnNode}
-use Rattle.proc_files.specs.Holding.{AreOpenNodes, CachesStay, HoldFiles, HoldSome, IsHeldIn, IsOpenNode, holders, times}
+use Rattle.proc_files.specs.Holding.{CachesStay, HoldFiles, HoldSome, IsHeldIn}
+use Rattle.holding_laws.specs.Holders.{AreOpenNodes, holders, IsOpenNode, times}
 use Rattle.proc_files.proofs.Moved.{have_moved, with_it}
-use Rattle.proc_files.proofs.Openings.{nodes_set, opens_once}
+use Rattle.holding_laws.proofs.Openings.{nodes_set, opens_once}
 
 -- ---- the tree
 

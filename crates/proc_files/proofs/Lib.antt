@@ -1,4 +1,3 @@
-pub mod Openings
 pub mod Moved
 pub mod Holding
 pub mod SeekAnswers
@@ -21,6 +20,3 @@ pub mod OpenLeads
 pub mod HoldMade
 pub mod OpenAnswers
 pub mod Changing
-pub mod Shares
-pub mod Endings
-pub mod NodesEnd

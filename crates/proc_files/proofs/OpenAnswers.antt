@@ -29,7 +29,8 @@ use Rattle.proc_table.specs.Table.{TableView}
 use Rattle.proc_descs.specs.Having.{HaveOpen}
 use Rattle.proc_pipes.specs.Opening.{KeepsNumbers}
 use Rattle.proc_files.specs.Closing.{CachesChange}
-use Rattle.proc_files.specs.Holding.{CachesStay, HoldFiles, holders}
+use Rattle.proc_files.specs.Holding.{CachesStay, HoldFiles}
+use Rattle.holding_laws.specs.Holders.{holders}
 use Rattle.proc_files.specs.Opening.{HaveAnew}
 use Rattle.proc_files.proofs.Beside.{have_beside, same_descs, same_pipes, same_socks}
 use Rattle.proc_files.proofs.Holding.{stands_on}

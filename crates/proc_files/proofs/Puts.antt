@@ -31,7 +31,8 @@ use Rattle.proc_table.specs.Table.{TableView}
 use Rattle.proc_queues.specs.Spaces.{HasSpace}
 use Rattle.proc_queues.specs.Standing.{IsKept, StandsFor}
 use Rattle.proc_queues.proofs.Remembering.{account_put, fronts_put, kept_put, open_put, table_put}
-use Rattle.proc_files.specs.Holding.{CachesStay, HoldFiles, holders}
+use Rattle.proc_files.specs.Holding.{CachesStay, HoldFiles}
+use Rattle.holding_laws.specs.Holders.{holders}
 use Rattle.proc_files.specs.Reading.{LeadsHolding, ReadsNode}
 use Rattle.proc_files.specs.Seeking.{MovesDesc, moved}
 use Rattle.proc_files.specs.Closing.{CachesChange}

@@ -30,7 +30,8 @@ use Rattle.proc_table.specs.Table.{TableView}
 use Rattle.proc_queues.specs.Standing.{IsKept, StandsFor}
 use Rattle.proc_files.specs.Answering.{AnswersHolding}
 use Rattle.proc_files.specs.Closing.{CachesChange}
-use Rattle.proc_files.specs.Holding.{HasSameKinds, HoldFiles, HoldSome, holders}
+use Rattle.proc_files.specs.Holding.{HasSameKinds, HoldFiles, HoldSome}
+use Rattle.holding_laws.specs.Holders.{holders}
 use Rattle.proc_files.specs.Reading.{LeadsHolding}
 use Rattle.proc_files.specs.Seeking.{MovesDesc, moved}
 use Rattle.proc_files.proofs.Beside.{account_beside, fronts_beside, kept_beside, same_descs, table_beside}

@@ -17,10 +17,11 @@ use Rattle.posix_defs.proofs.TreeNodes.{seen_same}
 use Rattle.proc_table.specs.Table.{TableView}
 use Rattle.tree_laws.proofs.FileKeeps.{wrote}
 use Rattle.proc_files.specs.Closing.{CachesChange}
-use Rattle.proc_files.specs.Holding.{HasSameKinds, HoldFiles, holders, times}
+use Rattle.proc_files.specs.Holding.{HasSameKinds, HoldFiles}
+use Rattle.holding_laws.specs.Holders.{holders, times}
 use Rattle.proc_files.proofs.Beside.{have_beside}
 use Rattle.proc_files.proofs.Holding.{same_pins}
-use Rattle.proc_files.proofs.Openings.{same_nodes}
+use Rattle.holding_laws.proofs.Openings.{same_nodes}
 
 -- ---- a tree in which a file has other bytes
 

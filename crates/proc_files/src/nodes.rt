@@ -61,7 +61,7 @@ pub(crate) fn move_to(heap: &mut KHeap, found: &Found, offset: u64)
 }
 
 /// The heap is well formed: what there is of each class fits in it, and each row of its objects is as long as it was reserved.
-pub(crate) fn is_well_formed(heap: &KHeap)
+pub fn is_well_formed(heap: &KHeap)
     ensures { IsWellFormed heap.now }
 {
     let _ = heap.heap();

@@ -87,6 +87,7 @@ pub fn open_path(
     ensures hold { HoldSome heap.new procs.now tree.new }
     ensures changes { ChangesHolding heap.old heap.new procs.now pid }
     ensures queues { QueuesStand heap.old heap.new }
+    ensures socks { heap.new.socks ≡ heap.old.socks }
     ensures paid { IsPaid heap.old purse.old heap.new purse.new }
     ensures fills { HasFills heap.new purse.new }
     ensures reads { tree.old.disk.reads ≤ tree.new.disk.reads }
@@ -147,6 +148,7 @@ fn open_new(
     ensures changes { ChangesNumbers heap.old heap.new procs.now pid }
     ensures stay { CachesStay heap.old heap.new }
     ensures queues { QueuesStand heap.old heap.new }
+    ensures socks { heap.new.socks ≡ heap.old.socks }
     ensures paid { IsPaid heap.old purse.old heap.new purse.new }
     ensures fills { HasFills heap.new purse.new }
 {

@@ -11,7 +11,7 @@ use Rattle.usock_core.proofs.StandingLemmas.{found, used_from}
 use Rattle.proc_table.specs.Table.{TableView}
 use Rattle.proc_descs.specs.Having.{HaveOpen}
 use Rattle.proc_pipes.specs.Opening.{KeepsNumbers}
-use Rattle.proc_names.specs.Bound.{name_of}
+use Rattle.holding_laws.specs.Names.{name_of}
 use Rattle.proc_names.proofs.Placed.{key_at, placed_node}
 use Rattle.proc_names.proofs.Tables.{name_says, named_used, node_of, node_there}
 use Rattle.proc_names.proofs.Ties.{none_is}

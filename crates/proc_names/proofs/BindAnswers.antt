@@ -37,14 +37,14 @@ use Rattle.usock_core.specs.Standing.{LeavesOthers, StandsFor as SocketsStandFor
 use Rattle.proc_table.specs.Table.{TableView}
 use Rattle.proc_descs.specs.Having.{HaveOpen}
 use Rattle.proc_files.specs.Closing.{CachesChange}
-use Rattle.proc_files.specs.Holding.{holders}
+use Rattle.holding_laws.specs.Holders.{holders}
 use Rattle.proc_files.proofs.Beside.{owners_beside, same_descs, same_socks}
 use Rattle.proc_socks.specs.Finding.{FindsSocket}
 use Rattle.proc_socks.specs.Owning.{SocketsChange}
 use Rattle.proc_socks.specs.declared.finding.Found.{Found}
 use Rattle.proc_socks.proofs.Told.{have_after, keyed_there}
 use Rattle.proc_names.specs.Answering.{AnswersNaming, NamesChange}
-use Rattle.proc_names.specs.Bound.{AreBound, name_of}
+use Rattle.holding_laws.specs.Names.{AreBound, name_of}
 use Rattle.proc_names.specs.Holding.{HoldNames}
 use Rattle.proc_names.proofs.Connected.{name_renamed}
 use Rattle.proc_names.proofs.Made.{MakesName, bind_makes}

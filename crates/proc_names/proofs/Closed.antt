@@ -44,7 +44,7 @@ use Rattle.proc_files.specs.Holding.{HoldFiles}
 use Rattle.proc_files.proofs.Beside.{have_beside, listed_beside}
 use Rattle.proc_files.proofs.Closings.{Goes, closes_so, goes_with, none_names, still_named, tree_left}
 use Rattle.proc_socks.proofs.Told.{keyed_there, on_named, socket_there}
-use Rattle.proc_names.specs.Bound.{name_of}
+use Rattle.holding_laws.specs.Names.{name_of}
 use Rattle.proc_names.specs.Closing.{socket_going, socket_left, unnamed}
 use Rattle.proc_names.specs.Holding.{HoldNames}
 use Rattle.proc_names.proofs.GoesOn.{names_on}
@@ -349,7 +349,7 @@ module _ (numbers : Numbers) (others : ℕ → ℕ) (old mid new : Heap) (kept :
     bound =
         bound_on (name_of mid.socks) (name_of new.socks) after hold.bound
         (names_on numbers mid new kept first (after_close first pid fd) owners_mid hold.held.opened
-        (λ n have. (leads n others first (record { opened = have; tree = hold.held.tree; nodes = hold.held.nodes; beside = hold.held.beside })).opened) so.nodes);
+        (λ n keeps have. (leads n others first (record { opened = have; tree = hold.held.tree; nodes = hold.held.nodes; beside = hold.held.beside })).opened) so.nodes);
     named = record {
       bound = λ place number is none.
           subst (λ t. is_socket t number ≡ true) (sym goes.tree)

@@ -38,7 +38,8 @@ use Rattle.usock_core.proofs.StandingLemmas.{free_from}
 use Rattle.proc_table.specs.Table.{TableView}
 use Rattle.proc_descs.specs.Having.{HaveOpen}
 use Rattle.proc_files.specs.Closing.{CachesChange}
-use Rattle.proc_files.specs.Holding.{HoldFiles, holders}
+use Rattle.proc_files.specs.Holding.{HoldFiles}
+use Rattle.holding_laws.specs.Holders.{holders}
 use Rattle.proc_files.proofs.Beside.{owners_beside, same_socks}
 use Rattle.proc_pipes.specs.Answering.{zero_of}
 use Rattle.proc_socks.specs.Finding.{FindsSocket}
@@ -48,7 +49,7 @@ use Rattle.proc_socks.proofs.Opens.{have_changed}
 use Rattle.proc_socks.proofs.Renaming.{new_within}
 use Rattle.proc_socks.proofs.Told.{keeps_same, keeps_sock, keyed_there}
 use Rattle.proc_names.specs.Answering.{AnswersConnecting}
-use Rattle.proc_names.specs.Bound.{name_of}
+use Rattle.holding_laws.specs.Names.{name_of}
 use Rattle.proc_names.specs.Holding.{HoldNames}
 use Rattle.proc_names.proofs.BindAnswers.{bound_beside, named_beside}
 use Rattle.proc_names.proofs.Connected.{connect_renamed, refused_told}

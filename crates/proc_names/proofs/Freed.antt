@@ -23,8 +23,9 @@ use Rattle.proc_descs.specs.Having.{HaveOpen}
 use Rattle.proc_files.specs.Holding.{HoldFiles}
 use Rattle.proc_socks.specs.Owning.{SocketsChange}
 use Rattle.proc_socks.proofs.Told.{have_after}
-use Rattle.proc_names.specs.Bound.{AreBound, name_of}
-use Rattle.proc_names.specs.Holding.{HaveNames, HaveNamesBut, HoldNames}
+use Rattle.holding_laws.specs.Names.{AreBound, name_of}
+use Rattle.proc_names.specs.Holding.{HoldNames}
+use Rattle.holding_laws.specs.Holders.{HaveNames, HaveNamesBut}
 use Rattle.proc_names.proofs.Connected.{name_renamed}
 use Rattle.proc_names.proofs.Named.{none_named, taken_names}
 use Rattle.proc_names.proofs.Placed.{key_at, once_by_key, once_by_place, placed_inside, placed_node}

@@ -1,5 +1,5 @@
--- Where the heap stands for what the machine has, whichever places its sockets have, and no socket of the machine gets another name,
--- no key of the heap does.
+-- Where the heap stands for what the machine has, whichever places keys have that aren't in use, and no socket of the machine gets
+-- another name, no key of the heap does.
 use Rattle.std.proofs.Common.{◌≡◌, ℕ, cond, [], length, Option, None, Some, IsSome, is_some, refl, sym, ap, ◌∙◌, arith}
 use Rattle.std.proofs.lemmas.List.{get_or_past}
 use Rattle.kheap_shelves.specs.Objects.{InUse, object}
@@ -17,15 +17,16 @@ use Rattle.usock_core.proofs.StandingLemmas.{LeavesOthers-refl, found, used_from
 use Rattle.kheap_shelves.proofs.ObjectLemmas.{object_of}
 use Rattle.proc_table.specs.Table.{TableView}
 use Rattle.proc_descs.specs.Having.{HaveOpen}
+use Rattle.proc_pipes.specs.Opening.{KeepsNumbers}
 use Rattle.proc_socks.proofs.Opens.{have_changed}
 use Rattle.proc_socks.proofs.Renaming.{socket_same}
-use Rattle.proc_names.specs.Bound.{name_of}
+use Rattle.holding_laws.specs.Names.{name_of}
 use Rattle.proc_names.proofs.Placed.{key_at, placed_node}
 use Rattle.proc_names.proofs.Tables.{name_says, named_used, node_of, node_there}
 use Rattle.proc_names.proofs.Ties.{none_is}
 
 module _ (numbers : Numbers) (old new : Heap) (kept : TableView) (files now : Files) (owners : HasItsOwners old []) (have : HaveOpen numbers old kept files)
-    (leads : (n : Numbers) → HaveOpen n old kept files → HaveOpen n new kept now) (same : (place : ℕ) → node_of now.sockets place ≡ node_of files.sockets place) where
+    (leads : (n : Numbers) → KeepsNumbers old numbers n → HaveOpen n old kept files → HaveOpen n new kept now) (same : (place : ℕ) → node_of now.sockets place ≡ node_of files.sockets place) where
   abbrev keyed : Sockets
   keyed = have.opened.socketed.keyed
 
@@ -51,6 +52,9 @@ module _ (numbers : Numbers) (old new : Heap) (kept : TableView) (files now : Fi
   have_far =
       have_changed old old (LeavesOthers-refl old) numbers far far_used owners.held.targets files.sockets (record { keyed = keyed; stands = stands; renamed = renamed_far }) kept files have
 
+  keeps_far : KeepsNumbers old numbers (record numbers { socks = far })
+  keeps_far = record { descs = λ key used. refl; pipes = λ key used. refl; socks = far_used; frames = refl }
+
   -- so no socket is made
   was_used : (key : ℕ) → InUse new.socks key → InUse old.socks key
   was_used key used = by_sock (object old.socks key) refl
@@ -58,7 +62,7 @@ module _ (numbers : Numbers) (old new : Heap) (kept : TableView) (files now : Fi
       by_sock : (o : Option Sock) → object old.socks key ≡ o → IsSome (object old.socks key)
       by_sock (Some sock) is = ap is_some is
       by_sock None is = absurd (
-          let then = (leads (record numbers { socks = far }) have_far).opened.socketed in
+          let then = (leads (record numbers { socks = far }) keeps_far have_far).opened.socketed in
           let sock = object_of new.socks key used in
           let there = (found new then.keyed key sock.0 then.stands.table sock.1).there in
           let past : sock_at now.sockets (far key) ≡ None =
@@ -69,7 +73,7 @@ module _ (numbers : Numbers) (old new : Heap) (kept : TableView) (files now : Fi
   names_on key = by_names (name_of new.socks key) (name_of old.socks key) refl refl
     where
       then : HaveOpen numbers new kept now
-      then = leads numbers have
+      then = leads numbers (record { descs = λ key used. refl; pipes = λ key used. refl; socks = λ key used. refl; frames = refl }) have
 
       had : (node : ℕ) → name_of new.socks key ≡ Some node → name_of old.socks key ≡ Some node
       had node is =

@@ -10,7 +10,7 @@ use Rattle.socket_laws.proofs.SocketLaws.{peer_there}
 use Rattle.socket_laws.proofs.SocketLinked.{each}
 use Rattle.socket_laws.proofs.SocketTable.{Changed, Changed-with, there_within, with-length}
 use Rattle.std.proofs.Common.{length-append}
-use Rattle.proc_names.specs.Holding.{HaveNames}
+use Rattle.holding_laws.specs.Holders.{HaveNames}
 use Rattle.proc_names.proofs.Named.{names_fewer}
 use Rattle.proc_names.proofs.Tables.{node_of}
 use Rattle.proc_names.proofs.Ties.{none_is}

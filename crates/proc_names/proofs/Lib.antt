@@ -14,3 +14,7 @@ pub mod GoesOn
 pub mod Anew
 pub mod Closed
 pub mod Left
+pub mod Shares
+pub mod Endings
+pub mod NodesEnd
+pub mod Unnaming

@@ -10,7 +10,7 @@ use Rattle.posix_defs.specs.Sockets.{Sockets, stage_at}
 use Rattle.socket_laws.proofs.ListenerLemmas.{listener_found, listener_is, nobody_listens}
 use Rattle.usock_core.specs.Standing.{StandsFor, state_of}
 use Rattle.usock_core.proofs.StandingLemmas.{found}
-use Rattle.proc_names.specs.Bound.{AreBound, name_of}
+use Rattle.holding_laws.specs.Names.{AreBound, name_of}
 use Rattle.proc_names.proofs.Placed.{once_by_key}
 use Rattle.proc_names.proofs.Tables.{name_says, node_of}
 use Rattle.proc_names.proofs.Ties.{bound_on, none_is}

@@ -15,7 +15,7 @@ use Rattle.posix_defs.specs.Tree.{Tree}
 use Rattle.socket_laws.proofs.SocketCalls.{connected_there}
 use Rattle.socket_laws.proofs.SocketLinked.{each}
 use Rattle.socket_laws.proofs.SocketTable.{Changed, Changed-with, length-with}
-use Rattle.proc_names.specs.Holding.{HaveNames, HaveNamesBut}
+use Rattle.holding_laws.specs.Holders.{HaveNames, HaveNamesBut}
 use Rattle.proc_names.proofs.Made.{MakesName}
 use Rattle.proc_names.proofs.Placed.{waiting_by}
 use Rattle.proc_names.proofs.Tables.{node_of}

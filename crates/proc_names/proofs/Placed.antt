@@ -11,7 +11,7 @@ use Rattle.posix_defs.specs.Sockets.{Sockets, sock_at, socket_at, stage_at}
 use Rattle.socket_laws.proofs.ListenerLemmas.{listener_found, listener_is}
 use Rattle.socket_laws.proofs.SocketCalls.{listening_there}
 use Rattle.socket_laws.proofs.SocketTable.{there_within}
-use Rattle.proc_names.specs.Bound.{AreBound}
+use Rattle.holding_laws.specs.Names.{AreBound}
 use Rattle.proc_names.proofs.Tables.{node_of, node_there}
 use Rattle.proc_names.proofs.Ties.{none_is}
 

@@ -11,10 +11,11 @@ use Rattle.proc_descs.specs.Having.{HaveOpen}
 use Rattle.proc_table.specs.Table.{TableView}
 use Rattle.usock_core.specs.Standing.{LeavesOthers}
 use Rattle.proc_files.specs.Closing.{CachesChange}
-use Rattle.proc_files.specs.Holding.{CachesStay, HoldFiles, holders, times}
+use Rattle.proc_files.specs.Holding.{CachesStay, HoldFiles}
+use Rattle.holding_laws.specs.Holders.{holders, times}
 use Rattle.proc_files.proofs.Beside.{have_beside}
 use Rattle.proc_files.proofs.Holding.{same_pins, stands_on}
-use Rattle.proc_files.proofs.Openings.{same_nodes}
+use Rattle.holding_laws.proofs.Openings.{same_nodes}
 use Rattle.proc_names.proofs.Made.{MakesName, used_apart}
 
 module _ (numbers : Numbers) (others : ℕ → ℕ) (old mid : Heap) (kept : TableView) (fs now : TreeView) (files : Files) (caches : CachesChange old mid) (hold : HoldFiles numbers others old kept fs files) where

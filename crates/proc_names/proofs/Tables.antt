@@ -9,7 +9,7 @@ use Rattle.posix_defs.specs.Sockets.{Sockets, sock_at, socket_at, with_name}
 use Rattle.socket_laws.proofs.SocketTable.{sock_at-with, sock_at-with_other}
 use Rattle.usock_core.specs.Standing.{IsTable, StandsFor}
 use Rattle.usock_core.proofs.StandingLemmas.{found, free_from}
-use Rattle.proc_names.specs.Bound.{name_in, name_of}
+use Rattle.holding_laws.specs.Names.{name_in, name_of}
 
 -- what a table says of a place
 abbrev pub node_of : Sockets → ℕ → Option ℕ

@@ -4,7 +4,7 @@ use Rattle.std.proofs.lemmas.Bool.{cases_eq}
 use Rattle.std.proofs.lemmas.List.{get_or-set_other, get_or-set_same}
 use Rattle.kheap_shelves.specs.Objects.{object, put, without}
 use Rattle.kheap_shelves.proofs.ObjectLemmas.{InUse-within}
-use Rattle.proc_names.specs.Bound.{AreBound}
+use Rattle.holding_laws.specs.Names.{AreBound}
 
 same_number : {a b : ℕ} → Some a ≡ Some b → a ≡ b
 same_number e = cc

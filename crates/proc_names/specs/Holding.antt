@@ -1,29 +1,17 @@
 -- What heap, table, tree and the table of names stand for: files, whose sockets have names in the tree.
-use Rattle.std.specs.Prelude.{ℕ, ◌<◌, ◌≡◌, ◌≢◌, true, List, length, Option, None, Some}
+use Rattle.std.specs.Prelude.{ℕ, ◌<◌, ◌≡◌, true, List, length, Option, Some}
+use Rattle.holding_laws.specs.Holders.{HaveNames}
 use Rattle.kheap_shelves.specs.declared.objects.Proc.{Proc}
 use Rattle.kheap_slabs.specs.Heap.{Heap}
 use Rattle.memfs_ops.specs.FileTree.{TreeView}
 use Rattle.place_laws.specs.Placed.{Numbers}
 use Rattle.posix_defs.specs.DiskFormat.{table_nodes}
 use Rattle.posix_defs.specs.Files.State.{Files}
-use Rattle.posix_defs.specs.PathCalls.{is_socket}
-use Rattle.posix_defs.specs.SocketLinks.{WaitsFor}
-use Rattle.posix_defs.specs.Sockets.{socket_at}
 use Rattle.posix_defs.specs.Tree.{is_directory}
 use Rattle.proc_table.specs.Procs.{proc_of}
 use Rattle.proc_table.specs.Table.{TableView, processes}
 use Rattle.proc_files.specs.Holding.{HoldFiles}
-use Rattle.proc_names.specs.Bound.{AreBound, name_of}
-
--- A socket that is bound is bound to a socket's name, but for the node whose name was just freed. Who waits to be accepted isn't
--- bound.
-pub record HaveNamesBut (freed : Option ℕ) (files : Files) : Type 0 where
-  pub bound : (place number : ℕ) → (socket_at files.sockets place).node ≡ Some number → freed ≢ Some number → is_socket files.tree number ≡ true
-  pub waiting : (listener place : ℕ) → WaitsFor files.sockets listener place → (socket_at files.sockets place).node ≡ None
-
--- no name was just freed
-abbrev pub HaveNames : Files → Type 0
-HaveNames files = HaveNamesBut None files
+use Rattle.holding_laws.specs.Names.{AreBound, name_of}
 
 -- Heap, table and tree stand for these files, and the table of names has a place for each node, with the socket that is bound
 -- to it.

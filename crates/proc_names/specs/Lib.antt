@@ -1,4 +1,4 @@
-pub mod Bound
 pub mod Holding
 pub mod Answering
 pub mod Closing
+pub mod Ending

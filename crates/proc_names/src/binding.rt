@@ -1,6 +1,6 @@
 //! `bind`.
 
-ghost use Rattle.std.specs.Prelude.{◌≡◌, ◌<◌, ◌≤◌, ◌^◌, ℕ, [], IsSome, OnErr};
+ghost use Rattle.std.specs.Prelude.{◌≡◌, ◌<◌, ◌≤◌, ◌^◌, ℕ, [], IsSome, OnErr, length};
 ghost use Rattle.std.specs.List.{All};
 ghost use Rattle.cached_disk.specs.TreeLent.{with_cached};
 ghost use Rattle.kabi_calls.specs.Arguments.{path_fault};
@@ -63,6 +63,7 @@ pub fn bind_number(
     ensures owners { HasItsOwners heap.new [] }
     ensures changes { NamesChange heap.old heap.new }
     ensures unchanged { OnErr result ((heap.new.socks ≡ heap.old.socks) × (names.new ≡ names.old)) }
+    ensures places { length names.new ≡ length names.old }
     ensures queues { QueuesStand heap.old heap.new }
     ensures purse { purse.new ≡ with_cached purse.old purse.new }
     ensures paid { IsPaid heap.old purse.old heap.new purse.new }

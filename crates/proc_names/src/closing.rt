@@ -1,9 +1,10 @@
 //! `close`, and what is closed with a number, where a socket may lose its name.
 
-ghost use Rattle.std.specs.Prelude.{◌≡◌, ◌<◌, ◌≤◌, ℕ, [], IfSome, IsSome, OnErr};
+ghost use Rattle.std.specs.Prelude.{◌≡◌, ◌<◌, ◌≤◌, ℕ, [], IfSome, IsSome, None, OnErr, length};
 ghost use Rattle.std.specs.List.{Contains};
 ghost use Rattle.kabi_types.specs.declared.scripts.Script.{Script};
 ghost use Rattle.kheap_slabs.specs.Paid.{IsPaid, TakesNothing};
+ghost use Rattle.memfs_ops.specs.Closing.{KeepsCached};
 ghost use Rattle.memfs_ops.specs.FileTree.{TreeView};
 ghost use Rattle.open_laws.specs.Owned.{HasItsOwners, sock_of, socks_named};
 ghost use Rattle.place_laws.specs.Placed.{Numbers};
@@ -12,13 +13,13 @@ ghost use Rattle.posix_defs.specs.Files.Closing.{after_close};
 ghost use Rattle.posix_defs.specs.Files.State.{Files};
 ghost use Rattle.posix_defs.specs.Plain.{Plain};
 ghost use Rattle.proc_table.specs.Table.{key_of};
-ghost use Rattle.proc_descs.specs.Having.{AreListed};
-ghost use Rattle.proc_descs.specs.Naming.{named_at};
+ghost use Rattle.proc_descs.specs.Having.{AreListed, node_closed};
+ghost use Rattle.proc_descs.specs.Naming.{named_at, named_by};
 ghost use Rattle.proc_descs.specs.Queues.{QueuesStand};
 ghost use Rattle.proc_pipes.specs.Answering.{zero_of};
-ghost use Rattle.proc_files.specs.Closing.{MayClose};
+ghost use Rattle.proc_files.specs.Closing.{ChangesHolding, ClosesHolding, MayClose};
 ghost use Rattle.proc_names.specs.Answering.{AnswersNaming};
-ghost use Rattle.proc_names.specs.Bound.{AreBound, name_of};
+ghost use Rattle.holding_laws.specs.Names.{AreBound, name_of};
 ghost use Rattle.proc_names.specs.Closing.{socket_going, unnamed};
 ghost use Rattle.proc_names.specs.Holding.{HoldNames, HoldSomeNames};
 
@@ -57,11 +58,15 @@ pub fn close_number(
         → AnswersNaming numbers others heap.new procs.now tree.new names.new script plain pid (close script plain pid fd) (zero_of result) }
     ensures listed { AreListed heap.new procs.now }
     ensures owners { HasItsOwners heap.new [] }
+    ensures hold { HoldSomeNames heap.new procs.now tree.new names.new }
+    ensures changes { ChangesHolding heap.old heap.new procs.now pid }
+    ensures places { length names.new ≡ length names.old }
     ensures queues { QueuesStand heap.old heap.new }
     ensures unchanged { OnErr result ((heap.new ≡ heap.old) × (tree.new ≡ tree.old) × (names.new ≡ names.old)) }
     ensures same { purse.new ≡ purse.old }
     ensures paid { IsPaid heap.old purse.old heap.new purse.new }
     ensures reads { tree.old.disk.reads ≤ tree.new.disk.reads }
+    ensures stays { node_closed heap.old.descs (named_by heap.old procs.now pid fd) ≡ None → tree.new ≡ tree.old }
 {
     let Some(_held) = descriptor_of(heap, procs, pid, fd) else {
         return Err(Errno::EBADF);
@@ -94,11 +99,16 @@ pub fn close_open(
         → HoldNames numbers others heap.new procs.now tree.new names.new (after_close files pid fd) }
     ensures listed { AreListed heap.new procs.now }
     ensures owners { HasItsOwners heap.new [] }
+    ensures hold { HoldSomeNames heap.new procs.now tree.new names.new }
+    ensures closes { ClosesHolding heap.old heap.new procs.now pid fd }
+    ensures places { length names.new ≡ length names.old }
     ensures queues { QueuesStand heap.old heap.new }
     ensures same { purse.new ≡ purse.old }
     ensures may { MayClose heap.new purse.new }
     ensures paid { IsPaid heap.old purse.old heap.new purse.new }
     ensures reads { tree.old.disk.reads ≤ tree.new.disk.reads }
+    ensures stays { node_closed heap.old.descs (named_at heap.old procs.now pid fd) ≡ None → tree.new ≡ tree.old }
+    ensures cached { KeepsCached tree.old tree.new }
 {
     unname_going(heap, procs, names, pid, fd);
     proc_files::close_open(heap, purse, procs, tree, pid, fd);
@@ -116,6 +126,7 @@ fn unname_going(heap: &mut KHeap, procs: &ProcTable, names: &mut BoundTable, pid
         → HoldNames numbers others heap.new procs.now fs names.new
         (unnamed numbers files (socket_going heap.old.descs (named_at heap.old procs.now pid fd))) }
     ensures owners { HasItsOwners heap.new [] }
+    ensures places { length names.new ≡ length names.old }
     ensures beside { heap.new
         ≡ record heap.old { chunks = heap.new.chunks; socks = heap.new.socks; high = heap.new.high } }
     ensures queues { QueuesStand heap.old heap.new }

@@ -21,7 +21,7 @@ ghost use Rattle.proc_descs.specs.Queues.{QueuesStand};
 ghost use Rattle.proc_pipes.specs.Answering.{zero_of};
 ghost use Rattle.usock_core.specs.Standing.{HasSockets, IsListeningIn, StandsFor as SocketsStandFor};
 ghost use Rattle.proc_names.specs.Answering.{AnswersConnecting, NamesChange};
-ghost use Rattle.proc_names.specs.Bound.{AreBound, name_of};
+ghost use Rattle.holding_laws.specs.Names.{AreBound, name_of};
 ghost use Rattle.proc_names.specs.Holding.{HoldNames, WorksAt, WorksInSome};
 
 use crate::directories::directory_of;

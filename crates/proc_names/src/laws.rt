@@ -11,15 +11,15 @@ ghost use Rattle.posix_defs.specs.Sockets.{sock_at, socket_at, with_new, with_pa
 ghost use Rattle.proc_table.specs.Table.{TableView};
 ghost use Rattle.proc_descs.specs.Having.{HaveOpen};
 ghost use Rattle.proc_pipes.specs.Opening.{KeepsNumbers};
-ghost use Rattle.proc_names.specs.Bound.{name_of};
-ghost use Rattle.proc_names.specs.Holding.{HaveNames};
+ghost use Rattle.holding_laws.specs.Names.{name_of};
+ghost use Rattle.holding_laws.specs.Holders.{HaveNames};
 
-/// No key of the heap gets another name where no socket of the machine does: a call that leads, whichever places sockets have, from
-/// what heap and table stood for to what they stand for then.
+/// No key of the heap gets another name where no socket of the machine does: a call that leads, whichever places keys have that
+/// aren't in use, from what heap and table stood for to what they stand for then.
 pub fn names_stay_with_the_machines()
     ensures { (numbers : Numbers) (old : Heap) (new : Heap) (kept : TableView) (files : Files) (now : Files)
         → HasItsOwners old [] → HaveOpen numbers old kept files
-        → ((n : Numbers) → HaveOpen n old kept files → HaveOpen n new kept now)
+        → ((n : Numbers) → KeepsNumbers old numbers n → HaveOpen n old kept files → HaveOpen n new kept now)
         → ((place : ℕ) → (socket_at now.sockets place).node ≡ (socket_at files.sockets place).node)
         → (key : ℕ) → name_of new.socks key ≡ name_of old.socks key }
 {}

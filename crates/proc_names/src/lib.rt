@@ -8,10 +8,14 @@ mod binding;
 mod closing;
 mod connecting;
 mod directories;
+mod ending;
 pub mod laws;
 mod naming;
+mod sharing;
 
 pub use binding::bind_number;
 pub use closing::{close_number, close_open};
 pub use connecting::connect_number;
+pub use ending::{close_at_exec, close_each};
 pub use naming::name_freed;
+pub use sharing::dup_number;

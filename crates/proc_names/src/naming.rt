@@ -18,8 +18,9 @@ ghost use Rattle.proc_descs.specs.Queues.{QueuesStand};
 ghost use Rattle.proc_files.specs.Holding.{HoldFiles};
 ghost use Rattle.usock_core.specs.Standing.{IsSocketIn, LeavesOthers, QueuesStay, StandsFor as SocketsStandFor};
 ghost use Rattle.proc_socks.specs.Owning.{SocketsChange};
-ghost use Rattle.proc_names.specs.Bound.{AreBound, freed_from, name_of};
-ghost use Rattle.proc_names.specs.Holding.{HaveNamesBut, HoldNames};
+ghost use Rattle.holding_laws.specs.Names.{AreBound, freed_from, name_of};
+ghost use Rattle.proc_names.specs.Holding.{HoldNames};
+ghost use Rattle.holding_laws.specs.Holders.{HaveNamesBut};
 
 use bound_table::BoundTable;
 use kheap_slabs::KHeap;
@@ -76,6 +77,7 @@ pub fn name_freed(heap: &mut KHeap, names: &mut BoundTable, freed: Option<u32>)
         → table_nodes files.tree.blocks < length names.old
         → HoldNames numbers others heap.new kept fs names.new (with_sockets files (after_freeing files.sockets freed)) }
     ensures names { names.new ≡ freed_from names.old freed }
+    ensures places { length names.new ≡ length names.old }
     ensures listed { (kept : TableView) → AreListed heap.old kept → AreListed heap.new kept }
     ensures owners { HasItsOwners heap.new [] }
     ensures beside { heap.new

@@ -50,6 +50,7 @@ pub fn make_pipe(
     ensures owners { HasItsOwners heap.new [] }
     ensures changes { ChangesNumbers heap.old heap.new procs.now pid }
     ensures queues { QueuesStand heap.old heap.new }
+    ensures sockets { heap.new.socks ≡ heap.old.socks }
     ensures unchanged { OnErr result ((heap.new ≡ heap.old) × (purse.new ≡ purse.old)) }
     ensures paid { IsPaid heap.old purse.old heap.new purse.new }
     ensures pays { CanPay heap.new purse.new }

@@ -1,6 +1,5 @@
 pub mod Opening
 pub mod Finding
-pub mod Refusing
 pub mod Settled
 pub mod Fronts
 pub mod Turning

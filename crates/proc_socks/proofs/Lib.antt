@@ -6,3 +6,4 @@ pub mod Pairing
 pub mod Moved
 pub mod SocketReads
 pub mod SocketWrites
+pub mod StillUsed

@@ -3,7 +3,7 @@ use Rattle.std.specs.Prelude.{ℕ, ◌≡◌, ◌+◌, ◌++◌, [], ◌∷◌, 
 use Rattle.kabi_types.specs.declared.scripts.Script.{Script}
 use Rattle.kabi_values.specs.declared.errnos.Errno.{Errno}
 use Rattle.kabi_values.specs.declared.replies.Reply.TheVariants.{Fail, Val}
-use Rattle.kheap_shelves.specs.Objects.{object}
+use Rattle.kheap_shelves.specs.Objects.{InUse, object}
 use Rattle.kheap_slabs.specs.Heap.{Heap}
 use Rattle.place_laws.specs.Placed.{Numbers, numbered}
 use Rattle.posix_defs.specs.Answer.{Answer, Blocked}
@@ -75,3 +75,7 @@ abbrev pub IfTaken : Result (Option ℕ) Errno → Type 0 → Type 0
 IfTaken (Ok (Some fd)) Holds = Holds
 IfTaken (Ok None) Holds = Unit {0}
 IfTaken (Err errno) Holds = Unit {0}
+
+-- each socket that was in use is in use still
+abbrev pub StillUsed : Heap → Heap → Type 0
+StillUsed old new = (key : ℕ) → InUse old.socks key → InUse new.socks key

@@ -18,7 +18,7 @@ ghost use Rattle.proc_descs.specs.Having.{AreListed, HaveOpen, OpensNoNode};
 ghost use Rattle.proc_descs.specs.Naming.{ChangesNumbers};
 ghost use Rattle.proc_descs.specs.Queues.{QueuesStand};
 ghost use Rattle.proc_socks.specs.Finding.{FindsSocket};
-ghost use Rattle.proc_socks.specs.Opening.{Accepts, IfTaken, UnlessTaken};
+ghost use Rattle.proc_socks.specs.Opening.{Accepts, IfTaken, StillUsed, UnlessTaken};
 
 use crate::describing::open_on;
 use crate::finding::{Found, lowest_from, socket_of};
@@ -53,6 +53,7 @@ pub fn accept_number(
     ensures listed { AreListed heap.new procs.now }
     ensures owners { HasItsOwners heap.new [] }
     ensures changes { ChangesNumbers heap.old heap.new procs.now pid }
+    ensures still { StillUsed heap.old heap.new }
     ensures queues { QueuesStand heap.old heap.new }
     ensures unchanged { UnlessTaken result ((heap.new ≡ heap.old) × (purse.new ≡ purse.old)) }
     ensures paid { IsPaid heap.old purse.old heap.new purse.new }
@@ -102,6 +103,7 @@ fn accept_on(
     ensures listed { AreListed heap.new procs.now }
     ensures owners { HasItsOwners heap.new [] }
     ensures changes { ChangesNumbers heap.old heap.new procs.now pid }
+    ensures still { StillUsed heap.old heap.new }
     ensures queues { QueuesStand heap.old heap.new }
     ensures unchanged { UnlessTaken result ((heap.new ≡ heap.old) × (purse.new ≡ purse.old)) }
     ensures paid { IsPaid heap.old purse.old heap.new purse.new }

@@ -45,6 +45,7 @@ pub(crate) fn open_on(
     ensures nodes { OpensNoNode heap.old.descs → OpensNoNode heap.new.descs }
     ensures listed { AreListed heap.new procs.now }
     ensures changes { ChangesNumbers heap.old heap.new procs.now pid }
+    ensures socks { heap.new.socks ≡ heap.old.socks }
     ensures queues { QueuesStand heap.old heap.new }
     ensures paid { IsPaid heap.old purse.old heap.new purse.new }
     ensures pays { CanPay heap.new purse.new }

@@ -16,7 +16,7 @@ ghost use Rattle.proc_descs.specs.Naming.{ChangesNumbers};
 ghost use Rattle.proc_descs.specs.Queues.{QueuesStand};
 ghost use Rattle.proc_pipes.specs.Answering.{pair_of, value_of};
 ghost use Rattle.proc_pipes.specs.Opening.{AnswersAnew};
-ghost use Rattle.proc_socks.specs.Opening.{OpensBoth};
+ghost use Rattle.proc_socks.specs.Opening.{OpensBoth, StillUsed};
 
 use crate::describing::{describe, open_on};
 use crate::finding::lowest_from;
@@ -50,6 +50,7 @@ pub fn make_socket(
     ensures listed { AreListed heap.new procs.now }
     ensures owners { HasItsOwners heap.new [] }
     ensures changes { ChangesNumbers heap.old heap.new procs.now pid }
+    ensures still { StillUsed heap.old heap.new }
     ensures queues { QueuesStand heap.old heap.new }
     ensures unchanged { OnErr result ((heap.new ≡ heap.old) × (purse.new ≡ purse.old)) }
     ensures paid { IsPaid heap.old purse.old heap.new purse.new }
@@ -90,6 +91,7 @@ pub fn make_pair(
     ensures listed { AreListed heap.new procs.now }
     ensures owners { HasItsOwners heap.new [] }
     ensures changes { ChangesNumbers heap.old heap.new procs.now pid }
+    ensures still { StillUsed heap.old heap.new }
     ensures queues { QueuesStand heap.old heap.new }
     ensures unchanged { OnErr result ((heap.new ≡ heap.old) × (purse.new ≡ purse.old)) }
     ensures paid { IsPaid heap.old purse.old heap.new purse.new }
@@ -137,6 +139,7 @@ fn open_both(heap: &mut KHeap, purse: &mut Purse) -> Ends
         → HaveOpen numbers heap.old kept files
         → OpensBoth numbers heap.old heap.new kept files result.one result.other }
     ensures owners { HasItsOwners heap.new (result.one ∷ result.other ∷ []) }
+    ensures still { StillUsed heap.old heap.new }
     ensures nodes { OpensNoNode heap.old.descs → OpensNoNode heap.new.descs }
     ensures kept { heap.new ≡ record heap.old {
       descs = heap.new.descs;

@@ -1,9 +1,9 @@
 -- A child is made, which goes on behind its parent's call.
-use Rattle.std.proofs.Common.{◌≡◌, ◌≢◌, ◌⊎◌, ℕ, zero, suc, ◌+◌, ◌<◌, ◌≤◌, ◌==◌, ◌||◌, nat_le, Bool, true, false, cond, List, [], ◌∷◌, ◌++◌, length, Option, None, Some, is_some, unwrap_or, pos, refl, ap, sym, ◌∙◌, subst, inl, inr, arith, length-append}
+use Rattle.std.proofs.Common.{◌≡◌, ◌≢◌, ◌⊎◌, ℕ, zero, suc, ◌+◌, ◌<◌, ◌≤◌, ◌==◌, Bool, true, false, cond, List, [], ◌∷◌, ◌++◌, length, Option, None, Some, is_some, unwrap_or, pos, refl, ap, sym, ◌∙◌, subst, inl, inr, arith, length-append}
 use Rattle.std.specs.Prelude.{Ok, Err, count_by, slice_index}
 use Rattle.std.specs.List.{AllByRecursion}
 use Rattle.std.specs.Option.{option_map}
-use Rattle.std.proofs.lemmas.Bool.Decides.{eqb_tells, leb_tells}
+use Rattle.std.proofs.lemmas.Bool.Decides.{eqb_tells}
 use Rattle.kabi_calls.specs.declared.calls.Call.TheVariants as call
 use Rattle.kabi_values.specs.declared.errnos.Errno.{Errno}
 use Rattle.kabi_values.specs.declared.errnos.Errno.TheVariants.{EAGAIN}
@@ -13,7 +13,7 @@ use Rattle.kabi_types.specs.declared.scripts.Script.{Script}
 use Rattle.kheap_shelves.specs.Objects.{object}
 use Rattle.kheap_shelves.specs.declared.objects.Desc.{Desc}
 use Rattle.kheap_shelves.specs.declared.objects.Proc.{Proc}
-use Rattle.kheap_slabs.specs.Heap.{Heap}
+use Rattle.kheap_slabs.specs.Heap.{Heap, IsWellFormed}
 use Rattle.kern_laws.proofs.EnabledEvents.{get_behind}
 use Rattle.kern_laws.proofs.TablePlaces.{get_front}
 use Rattle.posix_defs.specs.Account.{Account, with_frames}
@@ -21,16 +21,18 @@ use Rattle.posix_defs.specs.Answer.{replied}
 use Rattle.posix_defs.specs.ByPid.{at_pid}
 use Rattle.posix_defs.specs.Control.{after, settled}
 use Rattle.posix_defs.specs.Files.State.{Files, with_heir}
-use Rattle.posix_defs.specs.Forking.{child_of, fork, with_child}
+use Rattle.posix_defs.specs.Forking.{fork, with_child}
 use Rattle.posix_defs.specs.Memory.{Frames, after_fork}
 use Rattle.posix_defs.specs.Plain.{Plain, at_start, control_of, root}
-use Rattle.posix_defs.specs.Process.{Process, Table, is_alive, process_at}
+use Rattle.posix_defs.specs.Process.{Table, is_alive}
 use Rattle.posix_defs.specs.Tree.{Tree, is_directory}
 use Rattle.posix_defs.specs.World.{World}
 use Rattle.posix_defs.specs.declared.turner.Turned.{Turned}
 use Rattle.posix_defs.specs.declared.turner.Turned.TheVariants.{Done}
 use Rattle.prog_ctl.specs.Runnable.{Rests, Stands}
 use Rattle.memfs_ops.specs.FileTree.{Stands as TreeStands}
+use Rattle.holding_laws.specs.Holders.{holders, openings, times}
+use Rattle.holding_laws.proofs.Openings.{same_nodes}
 use Rattle.proc_table.specs.Accounting.{HasAccount}
 use Rattle.proc_table.specs.Changes.{child_proc, forked_as, is_full_at, replaced}
 use Rattle.open_laws.specs.Open.{AreOpen}
@@ -44,21 +46,22 @@ use Rattle.proc_table.specs.Standing.{IsTable, answered_fork, forked_in}
 use Rattle.proc_table.specs.Table.{TableView}
 use Rattle.proc_table.proofs.AccountLemmas.{pids_within}
 use Rattle.proc_table.proofs.FamilyLemmas.{proc_has_pid}
-use Rattle.proc_table.proofs.LawLemmas.{fork_is, length-procs_at, on-account, on-table}
+use Rattle.proc_table.proofs.LawLemmas.{fork_is, on-account, on-table}
 use Rattle.proc_table.proofs.OwnLemmas.{all_append, has_it}
 use Rattle.proc_table.proofs.PlaceLemmas.{eqb_other, eqb_same}
 use Rattle.store_objects.specs.declared.objects.Objects.{Objects}
 use Rattle.store_objects.specs.Files.{HaveFiles}
 use Rattle.store_objects.specs.Objects.{AreAtCalls, AreKept, IsAtCall, MovesOn, Runs, procs_of}
 use Rattle.store_objects.specs.Standing.{AreProcesses, Performs, StandsFor, WorldAfter}
+use Rattle.store_objects.proofs.FewPins.{few_pins}
 use Rattle.store_objects.proofs.GoingOn.{descriptors_moved, kept_moved, led_to, mapped_from, moves_then, proc_made, procs_then, replaced_at, rising_in, some_same}
 use Rattle.store_objects.proofs.Keeping.{kept_with, moved_caches}
 use Rattle.store_objects.proofs.Pinning.{kept_then, kept_where, pinned_account, pinned_files, pinned_kept, pinned_procs, pinned_stays, pinned_table, stands_where}
-use Rattle.store_objects.proofs.TreesOn.{caches_then, same_pins, tree_worked, worked_in, works_worked}
-use Rattle.store_objects.proofs.WorkPlaces.{directories_from}
-use Rattle.store_objects.proofs.WorkingOn.{all_and, entered_by_one, few_hold, works_among}
-use Rattle.store_objects.specs.Trees.{TreeStays, but_root}
-use Rattle.store_objects.specs.Working.{AreDirectories, IsWorkedIn, OnlyPins, directories_in, entered_pins, pins_by}
+use Rattle.store_objects.proofs.TreesOn.{caches_then, held_by_procs, same_pins, works_in, works_worked}
+use Rattle.store_objects.proofs.WorkPlaces.{count, directories_from, entered_others, holds_it, others_by}
+use Rattle.store_objects.proofs.WorkingOn.{all_and, entered_by_one, works_among}
+use Rattle.store_objects.specs.Trees.{TreeStays, but_root, pins_in}
+use Rattle.store_objects.specs.Working.{AreDirectories, OnlyPins, directories_in, entered_pins}
 use Rattle.store_objects.proofs.Namings.{names_by, names_forked, names_in, names_in_hand}
 use Rattle.store_objects.proofs.Opening.{by_pids, by_procs, files_moved, settled_on}
 use Rattle.store_objects.proofs.Leading.{led_on}
@@ -116,9 +119,10 @@ at_last controls last d (suc i) h =
     ∙ ap (λ found. unwrap_or found d) (get_behind controls last [])
 
 -- where neither has changed the objects are the same
-pub same_objects : (old : Objects) (heap : Heap) (procs : TableView) → heap ≡ old.heap → procs ≡ old.procs → record { heap = heap; procs = procs; tree = old.tree } ≡ old
+pub same_objects : (old : Objects) (heap : Heap) (procs : TableView) → heap ≡ old.heap → procs ≡ old.procs → record { heap = heap; procs = procs; tree = old.tree; names = old.names } ≡ old
 same_objects old heap procs same_heap same_procs =
-    ap (λ (h : Heap). record { heap = h; procs = procs; tree = old.tree }) same_heap ∙ ap (λ (t : TableView). record { heap = old.heap; procs = t; tree = old.tree }) same_procs
+    ap (λ (h : Heap). record { heap = h; procs = procs; tree = old.tree; names = old.names }) same_heap
+    ∙ ap (λ (t : TableView). record { heap = old.heap; procs = t; tree = old.tree; names = old.names }) same_procs
 
 -- the child's pid is the one behind the last
 pub number_of : (there last child : ℕ) → Ok child ≡ forked_as there last → child ≡ last + 1
@@ -134,7 +138,7 @@ forked_world script world pid = record world { plain = with_child script world.p
 
 -- The table has made a child.
 module _ (script : Script) (old mid : Objects) (pid child : ℕ) (control : Control) (kept : AreKept script old) (runs : Runs old pid control)
-    (moves : TableMoves (sharing old.heap mid.heap) old.procs mid.heap mid.procs) (tree : mid.tree ≡ old.tree) (shared : HasShared old mid runs.proc)
+    (moves : TableMoves (sharing old.heap mid.heap) old.procs mid.heap mid.procs) (tree : mid.tree ≡ old.tree) (names : mid.names ≡ old.names) (shared : HasShared old mid runs.proc)
     (forked : IsForked old.heap old.procs mid.heap mid.procs pid child) where
   same_parent : forked.parent ≡ runs.proc
   same_parent = some_same (proc_of (procs_of old) pid) forked.parent runs.proc forked.parent_is runs.found
@@ -145,7 +149,7 @@ module _ (script : Script) (old mid : Objects) (pid child : ℕ) (control : Cont
 
   pub kept_forked : AreKept script mid
   kept_forked =
-      kept_with script (sharing old.heap mid.heap) old.procs old.tree mid (hand_with runs.proc.descriptors []) (keeps_shared script old mid runs.proc kept shared) tree moves
+      kept_with script (sharing old.heap mid.heap) old.procs old.tree old.names mid (hand_with runs.proc.descriptors []) (keeps_shared script old mid runs.proc kept shared) tree names moves
       (subst (AllByRecursion (λ proc. length proc.nodes ≡ 4)) (sym forked.processes_are)
       (all_append (λ proc. length proc.nodes ≡ 4) (procs_of old) (child_proc forked.parent child forked.nodes ∷ []) kept.groups (forked.groups, tt)))
       (subst (AreAtCalls script) (sym forked.processes_are)
@@ -174,11 +178,11 @@ module _ (script : Script) (old mid : Objects) (pid child : ℕ) (control : Cont
 
 -- The child goes on at another control.
 module _ (script : Script) (old mid moved : Objects) (pid child : ℕ) (control next : Control) (kept : AreKept script old) (runs : Runs old pid control)
-    (moves : TableMoves (sharing old.heap mid.heap) old.procs mid.heap mid.procs) (tree : mid.tree ≡ old.tree) (shared : HasShared old mid runs.proc)
+    (moves : TableMoves (sharing old.heap mid.heap) old.procs mid.heap mid.procs) (tree : mid.tree ≡ old.tree) (names : mid.names ≡ old.names) (shared : HasShared old mid runs.proc)
     (forked : IsForked old.heap old.procs mid.heap mid.procs pid child)
     (number : child ≡ old.procs.last + 1) (turned : MovesOn mid child next moved) where
   pub between : AreKept script mid
-  between = kept_forked script old mid pid child control kept runs moves tree shared forked
+  between = kept_forked script old mid pid child control kept runs moves tree names shared forked
 
   abbrev pub now : Proc
   now = record turned.proc { control = next }
@@ -190,7 +194,7 @@ module _ (script : Script) (old mid moved : Objects) (pid child : ℕ) (control 
   own = proc_has_pid (procs_of mid) child turned.proc turned.found
 
   apart : pid ≢ child
-  apart = made_before script old mid pid child control kept runs moves tree shared forked number
+  apart = made_before script old mid pid child control kept runs moves tree names shared forked number
 
   pub kept_child : Stands script next → Rests script next → AreKept script moved
   kept_child stands rests = kept_moved script mid moved child next between turned stands rests
@@ -266,20 +270,39 @@ module _ (script : Script) (old mid moved : Objects) (pid child : ℕ) (control 
       let then = moved_caches mid.heap moved.heap mid.procs moved.procs (moves_then script mid moved child next between turned) in
       record {
         tree = turned.tree ∙ tree;
+        names = turned.names ∙ names;
         caches = caches_then old.heap mid.heap moved.heap (record { vnodes = first.vnodes; names = first.names; blocks = first.blocks; size = first.size }) then;
       }
 
+  -- one more may hold the directory in which the parent works
+  pub may_hold : (directory : ℕ) → directory ≡ runs.proc.cwd → directory ≢ root → (world : World) → StandsFor script old world → IsWellFormed old.heap
+      → (tree : Tree) × (pins : ℕ → ℕ) × TreeStands moved.heap moved.tree tree pins × (0 < pins directory) × (pins directory < 4294967295)
+  may_hold directory at other world stands whole = (
+    world.plain.files.tree,
+    pins_in world.plain,
+    stands_where old moved world.plain.files.tree (pins_in world.plain) tree_stays stands.tree.stands,
+    held,
+    few_pins script old world stands whole directory,
+  )
+    where
+      held : 0 < pins_in world.plain directory
+      held =
+          let all = held_by_procs old world.plain stands.processes.table directory in
+          let works : 0 < others_by (procs_of old) directory =
+          subst (λ n. 0 < others_by (procs_of old) n) (sym at) (holds_it pid (procs_of old) 0 runs.proc (rising_in script old kept) runs.found runs.up (λ same. other (at ∙ same))) in
+          omega (arith, all, works)
+
 -- The child holds the directory that it works in.
 module _ (script : Script) (old mid moved pinned : Objects) (pid child directory : ℕ) (control next : Control) (kept : AreKept script old) (runs : Runs old pid control)
-    (moves : TableMoves (sharing old.heap mid.heap) old.procs mid.heap mid.procs) (same_tree : mid.tree ≡ old.tree) (shared : HasShared old mid runs.proc)
+    (moves : TableMoves (sharing old.heap mid.heap) old.procs mid.heap mid.procs) (same_tree : mid.tree ≡ old.tree) (same_names : mid.names ≡ old.names) (shared : HasShared old mid runs.proc)
     (forked : IsForked old.heap old.procs mid.heap mid.procs pid child)
     (number : child ≡ old.procs.last + 1) (turned : MovesOn mid child next moved) (at : directory ≡ runs.proc.cwd) (only : OnlyPins moved pinned)
     (lets : (tree : Tree) (pins : ℕ → ℕ) → TreeStands moved.heap moved.tree tree pins → TreeStands pinned.heap pinned.tree tree (entered_pins pins directory)) where
   mid_kept : AreKept script mid
-  mid_kept = between script old mid moved pid child control next kept runs moves same_tree shared forked number turned
+  mid_kept = between script old mid moved pid child control next kept runs moves same_tree same_names shared forked number turned
 
   stays : TreeStays old moved
-  stays = tree_stays script old mid moved pid child control next kept runs moves same_tree shared forked number turned
+  stays = tree_stays script old mid moved pid child control next kept runs moves same_tree same_names shared forked number turned
 
   abbrev heir : Proc
   heir = child_proc forked.parent child forked.nodes
@@ -288,40 +311,56 @@ module _ (script : Script) (old mid moved pinned : Objects) (pid child directory
   further = record turned.proc { control = next }
 
   works_there : heir.cwd ≡ directory
-  works_there = ap (λ (p : Proc). p.cwd) (same_parent script old mid pid child control kept runs moves same_tree shared forked) ∙ sym at
+  works_there = ap (λ (p : Proc). p.cwd) (same_parent script old mid pid child control kept runs moves same_tree same_names shared forked) ∙ sym at
 
   runs_there : heir.status ≡ None
-  runs_there = ap (λ (p : Proc). p.status) (same_parent script old mid pid child control kept runs moves same_tree shared forked) ∙ runs.up
+  runs_there = ap (λ (p : Proc). p.status) (same_parent script old mid pid child control kept runs moves same_tree same_names shared forked) ∙ runs.up
 
   pub kept_pinned : Stands script next → Rests script next → AreKept script pinned
   kept_pinned stands rests =
-      pinned_kept moved pinned only script (kept_child script old mid moved pid child control next kept runs moves same_tree shared forked number turned stands rests)
+      pinned_kept moved pinned only script (kept_child script old mid moved pid child control next kept runs moves same_tree same_names shared forked number turned stands rests)
       (kept.caches.0, entered_pins kept.caches.1 directory, lets kept.caches.0 kept.caches.1 (stands_where old moved kept.caches.0 kept.caches.1 stays kept.caches.2))
 
   pub runs_pinned : Runs pinned pid control
   runs_pinned =
-      let still = runs_still script old mid moved pid child control next kept runs moves same_tree shared forked number turned in
+      let still = runs_still script old mid moved pid child control next kept runs moves same_tree same_names shared forked number turned in
       record { proc = still.proc; found = ap (λ procs. proc_of procs pid) (pinned_procs moved pinned only) ∙ still.found; up = still.up; at_call = still.at_call }
 
-  -- the tree is worked in by one more
-  worked : (tree : Tree) (table : Table) → IsTable mid.heap mid.procs table → IsTable moved.heap moved.procs table → IsWorkedIn old tree → IsWorkedIn pinned tree
-  worked tree table before after was = record {
-    stands = same_pins pinned.heap pinned.tree tree (entered_pins (pins_by (procs_of old)) directory) (pins_by (procs_of pinned)) pins
-        (lets tree (pins_by (procs_of old)) (stands_where old moved tree (pins_by (procs_of old)) stays was.stands));
-    works = subst (AreDirectories tree) (sym (ap directories_in (pinned_procs moved pinned only) ∙ directories))
-        (all_and (λ node. is_directory tree node ≡ true) (procs_of old) heir
-        (subst (λ node. is_directory tree node ≡ true) (sym (works_there ∙ at)) (works_among (λ node. is_directory tree node ≡ true) (procs_of old) pid runs.proc was.works runs.found runs.up)) was.works);
-  }
-    where
-      directories : directories_in (procs_of moved) ≡ directories_in (procs_of old ++ heir ∷ [])
-      directories = sym (directories_from after.present) ∙ directories_from before.present ∙ ap directories_in forked.processes_are
+  -- one more works in the tree
+  module _ (world : World) (stands : StandsFor script old world) (table : Table) (before : IsTable mid.heap mid.procs table) (after : IsTable moved.heap moved.procs table) where
+    abbrev tree : Tree
+    tree = world.plain.files.tree
 
-      pins : (number : ℕ) → entered_pins (pins_by (procs_of old)) directory number ≡ pins_by (procs_of pinned) number
-      pins number =
-          ap (λ n. entered_pins (pins_by (procs_of old)) n number) (sym works_there)
-          ∙ entered_by_one (procs_of old) heir runs_there number
-          ∙ ap (λ nodes. count_by (λ node. node == number) (root ∷ but_root nodes)) (sym directories)
-          ∙ ap (λ procs. pins_by procs number) (sym (pinned_procs moved pinned only))
+    abbrev files : Files
+    files = world.plain.files
+
+    directories : directories_in (procs_of pinned) ≡ directories_in (procs_of old ++ heir ∷ [])
+    directories = ap directories_in (pinned_procs moved pinned only) ∙ sym (directories_from after.present) ∙ directories_from before.present ∙ ap directories_in forked.processes_are
+
+    works_forked : AreDirectories tree (directories_in (procs_of pinned))
+    works_forked =
+        let works = works_in old tree world.plain.table stands.processes.table stands.works in
+        subst (AreDirectories tree) (sym directories)
+        (all_and (λ node. is_directory tree node ≡ true) (procs_of old) heir
+        (subst (λ node. is_directory tree node ≡ true) (sym (works_there ∙ at)) (works_among (λ node. is_directory tree node ≡ true) (procs_of old) pid runs.proc works runs.found runs.up)) works)
+
+    -- who holds what
+    held_forked : (n : ℕ) → entered_pins (holders (others_by (procs_of old)) files) directory n ≡ holders (others_by (procs_of pinned)) (with_heir files pid) n
+    held_forked n =
+        let all = entered_others (others_by (procs_of old)) files directory n in
+        let more : entered_pins (others_by (procs_of old)) directory n ≡ others_by (procs_of pinned) n =
+        ap (λ d. entered_pins (others_by (procs_of old)) d n) (sym works_there) ∙ entered_by_one (procs_of old) heir runs_there n
+        ∙ ap (λ nodes. count n (root ∷ but_root nodes)) (sym directories) in
+        let opened : openings (with_heir files pid) n ≡ openings files n = ap (times n) (same_nodes (with_heir files pid) files files.descriptions) in
+        omega (arith, all, more, opened)
+
+    tree_forked : (next : Plain) → next.files ≡ with_heir files pid → IsTable pinned.heap pinned.procs next.table → TreeStands pinned.heap pinned.tree tree (pins_in next)
+    tree_forked next same is =
+        same_pins pinned.heap pinned.tree tree (entered_pins (holders (others_by (procs_of old)) files) directory) (pins_in next)
+        (λ n. held_forked n ∙ ap (λ (f : Files). holders (others_by (procs_of pinned)) f n) (sym same) ∙ sym (held_by_procs pinned next is n))
+        (lets tree (holders (others_by (procs_of old)) files)
+        (stands_where old moved tree (holders (others_by (procs_of old)) files) stays
+        (same_pins old.heap old.tree tree (pins_in world.plain) (holders (others_by (procs_of old)) files) (held_by_procs old world.plain stands.processes.table) stands.tree.stands)))
 
   -- the objects stand for the world with the child
   pub stands_forked : (world : World) → StandsFor script old world → is_alive world.plain.table pid ≡ true
@@ -341,8 +380,7 @@ module _ (script : Script) (old mid moved pinned : Objects) (pid child directory
       (files_moved mid moved (with_heir plain.files pid) (with_heir plain.files pid) (forked_world script world pid).account (forked_world script world pid).account
       (moves_then script mid moved child next mid_kept turned) refl refl refl refl refl
       (descriptors_moved script mid moved child next (with_heir plain.files pid) mid_kept turned at_call.0 at_call.1)
-      (opens_forked script old mid moved pid child control next kept runs moves same_tree shared forked number turned plain.files world.account (forked_world script world pid).account refl refl stands.files)) in
-      let now = worked plain.files.tree (with_child script plain pid).table table on (worked_in script old world stands) in
+      (opens_forked script old mid moved pid child control next kept runs moves same_tree same_names shared forked number turned plain.files world.account (forked_world script world pid).account refl refl stands.files)) in
       let caches = kept_then old.tree moved.tree pinned.tree (kept_where old moved stays) (pinned_stays moved pinned only) in
       record {
         runs = stands.runs;
@@ -352,17 +390,20 @@ module _ (script : Script) (old mid moved pinned : Objects) (pid child directory
           last = ap (λ k. k.last) only.procs ∙ ap (λ k. k.last) turned.same ∙ forked.last ∙ number ∙ ap (λ n. n + 1) stands.processes.last
               ∙ sym (length-append plain.controls (after script (control_of plain pid) (Val (pos 0)) ∷ []));
           controls = λ q it found up.
-              controls_then script old mid moved pid child control next kept runs moves same_tree shared forked number turned plain stands.processes leads q it
+              controls_then script old mid moved pid child control next kept runs moves same_tree same_names shared forked number turned plain stands.processes leads q it
               (ap (λ procs. proc_of procs q) (sym (pinned_procs moved pinned only)) ∙ found) up;
         };
         memory = pinned_account moved pinned only (after_fork world.account.frames pid)
             (subst (λ k. HasAccount moved.heap k (after_fork world.account.frames pid)) (sym turned.same)
             (on-account mid.heap moved.heap mid.procs child turned.key turned.proc further mid_kept.holds turned.turns (after_fork world.account.frames pid) has));
         files = files;
-        tree = tree_worked script pinned (forked_world script world pid) (kept_pinned at_call.0 at_call.1) files is now stands.tree.sockets
-            (stands.tree.kept ∙ sym caches.kept) (stands.tree.reads ∙ sym caches.reads);
+        tree = record {
+          stands = tree_forked world stands (with_child script plain pid).table table on (with_child script plain pid) refl is;
+          kept = stands.tree.kept ∙ sym caches.kept;
+          reads = stands.tree.reads ∙ sym caches.reads;
+        };
         family = family;
-        works = works_worked pinned plain.files.tree (with_child script plain pid).table is now;
+        works = works_worked pinned plain.files.tree (with_child script plain pid).table is (works_forked world stands (with_child script plain pid).table table on);
       }
 
   -- from each world to the one with the child, in which its parent is told the child's pid
@@ -381,25 +422,6 @@ module _ (script : Script) (old mid moved pinned : Objects) (pid child directory
       subst (λ answer. WorldAfter script new world pid call.Fork answer told) (sym answers)
       (led_on script pinned new world (forked_world script world pid) pid call.Fork (Val (pos child)) told with_it tells (goes (forked_world script world pid) with_it)
       refl refl refl refl refl)
-
--- where one more can be made fewer are there than may be
-room_for : (there last child : ℕ) → Ok child ≡ forked_as there last → there < 64
-room_for there last child is = elim (leb_tells 64 there) [
-  | inl many ↦ refused (nat_le 64 there) many.0 is
-  | inr few ↦ few.1
-]
-  where
-    refused : (b : Bool) → b ≡ true → Ok child ≡ cond (b || nat_le 4294967295 last) (Err EAGAIN) (Ok (last + 1)) → there < 64
-    refused true e f = cc
-    refused false e f = cc
-
--- and so one more may hold what is held
-pub may_hold : (script : Script) (old : Objects) (child n : ℕ) → AreKept script old → Ok child ≡ forked_as (length old.procs.listed) old.procs.last → pins_by (procs_of old) n < 4294967295
-may_hold script old child n kept answer =
-    let few : pins_by (procs_of old) n ≤ length (procs_of old) + 1 = few_hold (procs_of old) n in
-    let listed : length (procs_of old) ≡ length old.procs.listed = length-procs_at old.heap.procs old.procs.listed kept.holds.stored in
-    let room : length old.procs.listed < 64 = room_for (length old.procs.listed) old.procs.last child answer in
-    omega (arith, few, listed, room)
 
 -- From each world to itself, where nobody more can be made.
 pub does_full : (script : Script) (old new : Objects) (pid : ℕ) (errno : Errno) (told : Turned)

@@ -66,10 +66,10 @@ all_waited P (Took pid status) procs all = all_filter P (is_other pid) procs all
 all_waited P Nobody procs all = all
 all_waited P NoChild procs all = all
 
-pub kept_waited : (script : Script) (old mid : Objects) (parent : ℕ) (which : ℤ) (told : Reaped) → AreKept script old → TableMoves old.heap old.procs mid.heap mid.procs → mid.tree ≡ old.tree
+pub kept_waited : (script : Script) (old mid : Objects) (parent : ℕ) (which : ℤ) (told : Reaped) → AreKept script old → TableMoves old.heap old.procs mid.heap mid.procs → mid.tree ≡ old.tree → mid.names ≡ old.names
     → told ≡ reaped_of parent which (procs_of old) → procs_of mid ≡ after_wait told (procs_of old) → AreKept script mid
-kept_waited script old mid parent which told kept moves tree is procs =
-    kept_on script old mid kept tree moves
+kept_waited script old mid parent which told kept moves tree names is procs =
+    kept_on script old mid kept tree names moves
     (subst (AllByRecursion (λ proc. length proc.nodes ≡ 4)) (sym procs) (all_waited (λ proc. length proc.nodes ≡ 4) told (procs_of old) kept.groups))
     (subst (AreAtCalls script) (sym procs) (all_waited (λ proc. proc.status ≡ None → IsAtCall script proc) told (procs_of old) kept.calls))
     (λ key. ap (names_in key) procs ∙ names_waited key old.heap old.procs parent which told kept.holds is)
@@ -124,14 +124,14 @@ waits_leave frames pid which options _ = refl
 
 -- The table has answered a wait: who is told is gone from it.
 module _ (script : Script) (old mid : Objects) (pid : ℕ) (which options : ℤ) (told : Reaped) (moves : TableMoves old.heap old.procs mid.heap mid.procs)
-    (same_tree : mid.tree ≡ old.tree) (right : argument_fault (call.Waitpid which options) ≡ None) (is : told ≡ reaped_of pid which (procs_of old)) (procs : procs_of mid ≡ after_wait told (procs_of old))
+    (same_tree : mid.tree ≡ old.tree) (same_names : mid.names ≡ old.names) (right : argument_fault (call.Waitpid which options) ≡ None) (is : told ≡ reaped_of pid which (procs_of old)) (procs : procs_of mid ≡ after_wait told (procs_of old))
     (last : mid.procs.last ≡ old.procs.last) (table : (table : Table) → IsTable old.heap old.procs table → IsTable mid.heap mid.procs (waited_in table told))
     (has : (frames : Frames) → HasAccount old.heap old.procs frames → HasAccount mid.heap mid.procs frames) where
   -- the objects stand for the world without who was told
   waited_stands : (world : World) → StandsFor script old world → is_alive world.plain.table pid ≡ true → StandsFor script mid (waited_world world told)
   waited_stands world stands alive = record {
     runs = stands.runs;
-    kept = kept_waited script old mid pid which told stands.kept moves same_tree is procs;
+    kept = kept_waited script old mid pid which told stands.kept moves same_tree same_names is procs;
     processes = record {
       table = table world.plain.table stands.processes.table;
       last = last ∙ stands.processes.last;
@@ -139,8 +139,8 @@ module _ (script : Script) (old mid : Objects) (pid : ℕ) (which options : ℤ)
     };
     memory = has world.account.frames stands.memory;
     files = files;
-    tree = tree_goes_on script old mid world (waited_world world told) stands (kept_waited script old mid pid which told stands.kept moves same_tree is procs) files works
-        (record { tree = same_tree; caches = moved_caches old.heap mid.heap old.procs mid.procs moves }) refl refl refl;
+    tree = tree_goes_on script old mid world (waited_world world told) stands refl works
+        (record { tree = same_tree; names = same_names; caches = moved_caches old.heap mid.heap old.procs mid.procs moves }) refl refl refl;
     family = family told (waits_as script old world.plain pid which options told stands.processes is);
     works = works_on world.plain (with_table world.plain (waited_in world.plain.table told)) refl works stands.works;
   }

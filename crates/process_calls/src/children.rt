@@ -7,13 +7,11 @@ ghost use Rattle.kabi_types.specs.declared.scripts.Script.{Script};
 ghost use Rattle.kheap_slabs.specs.Paid.{CanPay, IsPaid, TakesNothing};
 ghost use Rattle.posix_defs.specs.Forking.{fork};
 ghost use Rattle.posix_defs.specs.Machine.{blocks};
-ghost use Rattle.posix_defs.specs.Tree.{Tree};
 ghost use Rattle.posix_defs.specs.Waiting.{is_nohang, waitpid};
 ghost use Rattle.posix_defs.specs.World.{World};
 ghost use Rattle.proc_table.specs.Table.{Holds};
 ghost use Rattle.store_objects.specs.Objects.{AreKept, Runs};
 ghost use Rattle.store_objects.specs.Standing.{Performs, StandsFor};
-ghost use Rattle.store_objects.specs.Working.{IsWorkedIn};
 
 use kabi_types::{Control, Errno, Reply, Script};
 use kheap_shelves::Purse;
@@ -24,8 +22,10 @@ use store_objects::{Objects, behind, directory_of, go_on, hold_directory};
 /// The only option of `waitpid`: not to wait.
 const WNOHANG: i64 = 1;
 
-/// Makes a child that goes on where its parent does, works there, has open what its parent has, and is told 0; EAGAIN where nobody more can
-/// be made.
+/// Makes a child that goes on where its parent does, works there, has open what its parent has, and is told 0; EAGAIN where nobody
+/// more can be made.
+///
+/// <https://pubs.opengroup.org/onlinepubs/9699919799/functions/fork.html>
 pub fn fork(
     script: &Script,
     objects: &mut Objects,
@@ -35,7 +35,7 @@ pub fn fork(
 ) -> Turned
     requires kept { AreKept script.now objects.old }
     requires runs { Runs objects.old pid control }
-    requires works { (tree : Tree) × IsWorkedIn objects.old tree }
+    requires stands { (world : World) × StandsFor script.now objects.old world }
     requires room { CanPay objects.old.heap purse.old }
     requires left_proc { 0 < purse.old.left.proc }
     requires left_nodes { 4 ≤ purse.old.left.node }
@@ -65,6 +65,8 @@ fn is_nohang(options: i64) -> bool
 
 /// Tells the ended child of the lowest pid that is asked for, which then goes; sleeps where one is there that hasn't ended,
 /// and answers ECHILD where none is.
+///
+/// <https://pubs.opengroup.org/onlinepubs/9699919799/functions/waitpid.html>
 pub fn wait(
     script: &Script,
     objects: &mut Objects,

@@ -3,3 +3,4 @@ pub mod Settling
 pub mod Staying
 pub mod ValidPrograms
 pub mod Waiting
+pub mod Asking

@@ -1,7 +1,10 @@
--- What a call waits for.
+-- What a call waits for, and what is asked for with it.
 use Rattle.std.specs.Prelude.{Option, None, Some}
 use Rattle.kabi_calls.specs.declared.calls.Call.{Call}
 use Rattle.kabi_calls.specs.declared.calls.Call.TheVariants as call
+use Rattle.kabi_calls.specs.Call.{kind_of}
+use Rattle.posix_defs.specs.Needs.{bound}
+use Rattle.posix_defs.specs.declared.phases.Asked.{Asked}
 use Rattle.prog_ctl.specs.declared.waits.Awaited.{Awaited}
 use Rattle.prog_ctl.specs.declared.waits.Awaited.TheVariants.{Child, Bytes, Room, Peer, Events}
 
@@ -14,3 +17,7 @@ wait_of (call.Write fd addr n done) = Some (Room fd addr n done)
 wait_of (call.Accept fd) = Some (Peer fd)
 wait_of (call.Poll timeout entries) = Some (Events timeout entries)
 wait_of _ = None
+
+-- who makes a call asks for its bound
+abbrev pub asked_for : Call → Asked
+asked_for call = record { kind = kind_of call; bound = bound call }

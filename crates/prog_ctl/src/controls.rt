@@ -5,12 +5,14 @@ ghost use Rattle.kabi_types.specs.declared.scripts.Script.{Script};
 ghost use Rattle.posix_defs.specs.Control as spec;
 ghost use Rattle.posix_defs.specs.ValidScript.{IsValid};
 ghost use Rattle.prog_ctl.specs.Runnable.{IsRunnable, IsRunnableAt, Rests, Stands};
-ghost use Rattle.prog_ctl.specs.Waits.{wait_of};
+ghost use Rattle.prog_ctl.specs.Waits.{asked_for, wait_of};
 
 use crate::Awaited;
+use crate::asked::asked_at;
 use crate::made::{call_at, wait_at};
 use crate::statements::{go_back, local, take_reply};
 use kabi_types::{Call, Control, Reply, Script, Statement};
+use posix_defs::Asked;
 
 /// The statements of the control's program.
 fn body_of<'a>(script: &'a Script, control: &Control) -> &'a [Statement]
@@ -74,6 +76,18 @@ pub fn call_here(script: &Script, control: &Control) -> Call
     ensures { result ≡ spec.call_of script.now control.now }
 {
     call_at(
+        control,
+        statement_at(body_of(script, control), control.place),
+    )
+}
+
+/// What a process that stands at its next call asks for with it.
+pub fn asked_here(script: &Script, control: &Control) -> Asked
+    requires stands { Stands script.now control.now }
+    requires rests { Rests script.now control.now }
+    ensures { result ≡ asked_for (spec.call_of script.now control.now) }
+{
+    asked_at(
         control,
         statement_at(body_of(script, control), control.place),
     )

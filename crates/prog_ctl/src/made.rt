@@ -306,7 +306,7 @@ fn made_on_files(control: &Control, kind: CallKind, operands: &[Operand], texts:
 /// would be copied for each function that hands it on. So the calls of processes and memory, `read` and `write`, which are made
 /// most, have their cases here.
 #[inline(never)]
-fn made(control: &Control, kind: CallKind, operands: &[Operand], texts: &[Text]) -> Call
+pub(crate) fn made(control: &Control, kind: CallKind, operands: &[Operand], texts: &[Text]) -> Call
     requires count { length operands.now ≤ 17 }
     requires each { AllByRecursion IsOperand operands.now }
     requires texts { AllByRecursion (λ text. length text ≤ most_text (shape_of kind)) texts.now }

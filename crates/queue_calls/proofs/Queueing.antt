@@ -1,5 +1,5 @@
 -- The objects of a store after a call that changed queues and its caller's memory.
-use Rattle.std.proofs.Common.{◌≡◌, ℕ, List, Option, length, unwrap_or, ap, refl, sym, subst, ◌∙◌}
+use Rattle.std.proofs.Common.{◌≡◌, ℕ, ℤ, false, List, Option, length, unwrap_or, ap, refl, sym, subst, ◌∙◌}
 use Rattle.std.specs.List.{AllByRecursion}
 use Rattle.std.specs.Prelude.{IsSome}
 use Rattle.kabi_types.specs.declared.scripts.Control.{Control}
@@ -8,10 +8,14 @@ use Rattle.kheap_shelves.specs.declared.objects.Proc.{Proc}
 use Rattle.kheap_slabs.specs.Heap.{Heap}
 use Rattle.posix_defs.specs.Account.{Account}
 use Rattle.posix_defs.specs.ByPid.{at_pid}
+use Rattle.posix_defs.specs.Calls.Opened.{opened_at}
 use Rattle.posix_defs.specs.Control.{settled}
 use Rattle.posix_defs.specs.Plain.{Plain, at_start}
+use Rattle.posix_defs.specs.Reaching.{is_on_node}
 use Rattle.posix_defs.specs.World.{World}
-use Rattle.proc_descs.specs.Having.{OpensNoNode}
+use Rattle.proc_files.specs.Reading.{IsOffNodes}
+use Rattle.holding_laws.specs.Names.{name_of}
+use Rattle.holding_laws.proofs.Bindings.{bound_on}
 use Rattle.proc_queues.specs.Standing.{IsKept, StandsFor as QueuesStandFor}
 use Rattle.proc_queues.proofs.Finding.{alive_listed}
 use Rattle.proc_table.specs.Procs.{IsAlive, proc_of}
@@ -23,7 +27,7 @@ use Rattle.store_objects.specs.Standing.{StandsFor}
 use Rattle.store_objects.proofs.TreesOn.{caches_on, tree_goes_on, works_on}
 use Rattle.store_objects.specs.Trees.{CachesStay}
 use Rattle.store_objects.proofs.Keeping.{listed_in}
-use Rattle.store_objects.proofs.TreeStays.{OffNodes, off_by_heap}
+use Rattle.queue_calls.proofs.Choosing.{off_in}
 use Rattle.queue_calls.proofs.Remaining.{Remains}
 
 -- ---- what calls ask
@@ -39,9 +43,11 @@ runs_alive objects pid control runs = record { proc = runs.proc; there = runs.fo
 pub has_key : (script : Script) (objects : Objects) (pid : ℕ) → AreKept script objects → IsAlive (procs_of objects) pid → IsSome (key_of objects.procs.listed pid)
 has_key script objects pid kept alive = alive_listed objects.heap objects.procs pid kept.holds.stored alive
 
-pub off_nodes : (script : Script) (objects : Objects) (world : World) → StandsFor script objects world → OffNodes world.plain.files.descriptions
-off_nodes script objects world stands =
-    off_by_heap stands.files.numbers objects.heap stands.files.opened.list world.plain.files stands.files.opened.opened stands.kept.nodes
+-- what a number is open on is no node of the machine either
+pub off_world : (script : Script) (objects : Objects) (world : World) (pid : ℕ) (fd : ℤ) → StandsFor script objects world → IsOffNodes objects.heap objects.procs pid fd
+    → is_on_node world.plain.files (opened_at world.plain.files pid fd) ≡ false
+off_world script objects world pid fd stands off =
+    off_in stands.files.numbers objects.heap objects.procs world.plain.files pid fd (listed_in script objects stands.kept) stands.kept.owners stands.files.opened off
 
 -- they stand for the machine, by the store's numbers
 pub queues_stand : (script : Script) (objects : Objects) (world : World) → (stands : StandsFor script objects world)
@@ -55,10 +61,9 @@ queues_stand script objects world stands = record {
 
 -- ---- what they leave
 
--- A heap but for nodes, pages, pipes, sockets, chunks, and how high it was.
+-- A heap but for descriptions, nodes, pages, pipes, sockets, chunks, and how high it was.
 pub record LeavesRest (old new : Heap) : Type 0 where
   pub procs : new.procs ≡ old.procs
-  pub descs : new.descs ≡ old.descs
   pub vnodes : new.vnodes ≡ old.vnodes
   pub names : new.names ≡ old.names
   pub blocks : new.blocks ≡ old.blocks
@@ -67,7 +72,6 @@ pub record LeavesRest (old new : Heap) : Type 0 where
 pub leaves_rest : (old new : Heap) → new ≡ record old { nodes = new.nodes; pages = new.pages; pipes = new.pipes; chunks = new.chunks; socks = new.socks; high = new.high } → LeavesRest old new
 leaves_rest old new beside = record {
   procs = ap (λ (h : Heap). h.procs) beside;
-  descs = ap (λ (h : Heap). h.descs) beside;
   vnodes = ap (λ (h : Heap). h.vnodes) beside;
   names = ap (λ (h : Heap). h.names) beside;
   blocks = ap (λ (h : Heap). h.blocks) beside;
@@ -77,16 +81,15 @@ leaves_rest old new beside = record {
 pub leaves_more : (old new : Heap) → new ≡ record old { pipes = new.pipes; chunks = new.chunks; socks = new.socks; high = new.high } → LeavesRest old new
 leaves_more old new beside = record {
   procs = ap (λ (h : Heap). h.procs) beside;
-  descs = ap (λ (h : Heap). h.descs) beside;
   vnodes = ap (λ (h : Heap). h.vnodes) beside;
   names = ap (λ (h : Heap). h.names) beside;
   blocks = ap (λ (h : Heap). h.blocks) beside;
   size = ap (λ (h : Heap). h.heap) beside;
 }
 
-module _ (script : Script) (old : Objects) (new : Heap) (is : IsKept new old.procs) (rest : LeavesRest old.heap new) where
+module _ (script : Script) (old : Objects) (new : Heap) (is : IsKept new old.procs) (rest : LeavesRest old.heap new) (names : (key : ℕ) → name_of new.socks key ≡ name_of old.heap.socks key) where
   abbrev pub mid : Objects
-  mid = record { heap = new; procs = old.procs; tree = old.tree }
+  mid = record { heap = new; procs = old.procs; tree = old.tree; names = old.names }
 
   caches : CachesStay old.heap new
   caches = record { vnodes = rest.vnodes; names = rest.names; blocks = rest.blocks; size = rest.size }
@@ -99,7 +102,8 @@ module _ (script : Script) (old : Objects) (new : Heap) (is : IsKept new old.pro
     owners = is.owners;
     groups = subst (λ (procs : List (Option Proc)). AllByRecursion (λ proc. length proc.nodes ≡ 4) (procs_at procs old.procs.listed)) (sym rest.procs) kept.groups;
     calls = subst (λ (procs : List (Option Proc)). AreAtCalls script (procs_at procs old.procs.listed)) (sym rest.procs) kept.calls;
-    nodes = subst OpensNoNode (sym rest.descs) kept.nodes;
+    bound = bound_on (name_of old.heap.socks) (name_of new.socks) old.names kept.bound names;
+    places = kept.places;
     caches = caches_on old.heap new old.tree old.tree refl caches kept.caches;
     size = rest.size ∙ kept.size;
   }
@@ -126,10 +130,10 @@ module _ (script : Script) (old : Objects) (new : Heap) (is : IsKept new old.pro
     };
     memory = leads.frames;
     files = files;
-    tree = tree_goes_on script old mid world (record world { plain = next; account = account }) stands (kept_mid stands.kept) files remains.works
-        (record { tree = refl; caches = caches }) remains.tree refl refl;
+    tree = tree_goes_on script old mid world (record world { plain = next; account = account }) stands remains.nodes.opens remains.works
+        (record { tree = refl; names = refl; caches = caches }) remains.nodes.tree refl refl;
     family = remains.family stands.family;
-    works = works_on world.plain next remains.tree remains.works stands.works;
+    works = works_on world.plain next remains.nodes.tree remains.works stands.works;
   }
     where
       files : HaveFiles mid next.files account

@@ -1,7 +1,6 @@
--- What an answer of a call that goes by what is open leaves of the machine, where nothing is open on a node.
-use Rattle.std.proofs.Common.{◌≡◌, ℕ, ◌+◌, ◌-◌, ◌≤◌, ◌==◌, ◌&&◌, ℤ, pos, Bool, true, false, cond, List, take, Option, None, Some, refl, sym, subst, ◌∙◌, arith, inl, inr}
+-- What an answer of a call that goes by what is open leaves of the machine, where that is no node.
+use Rattle.std.proofs.Common.{◌≡◌, ℕ, ◌+◌, ◌-◌, ◌≤◌, ◌++◌, ◌==◌, ◌&&◌, ℤ, pos, Bool, true, false, cond, List, drop, take, Option, None, Some, is_some, refl, ap, sym, ◌∙◌, arith, inl, inr}
 use Rattle.std.specs.Prelude.{nat_le}
-use Rattle.std.specs.Option.{option_map}
 use Rattle.std.proofs.lemmas.Bool.Decides.{eqb_tells, leb_tells}
 use Rattle.kabi_calls.specs.Arguments.{count_of, is_minus_one}
 use Rattle.kabi_values.specs.declared.errnos.Errno.TheVariants.{EAGAIN, EBADF, EFAULT, EISDIR, ENOTCONN, EPIPE}
@@ -11,30 +10,30 @@ use Rattle.kabi_values.specs.declared.short_lists.PollEntry.{PollEntry}
 use Rattle.kabi_types.specs.declared.scripts.Script.{Script}
 use Rattle.kern_laws.proofs.Remembering.{remembers_family}
 use Rattle.posix_defs.specs.Answer.{Answer, Blocked, Done, Ended, Part, replied}
-use Rattle.posix_defs.specs.Calls.Opened.{Opened, answer_on, if_readable, if_writable, opened_at, opened_by}
+use Rattle.posix_defs.specs.Calls.Opened.{Opened, answer_on, if_readable, if_writable, opened_at}
 use Rattle.posix_defs.specs.Calls.Polling.{hits_of, poll, revents_of}
 use Rattle.posix_defs.specs.Calls.Reading.{is_directory_target, of_bytes, put, read, read_from_pipe, read_from_socket, read_target, unless_directory}
 use Rattle.posix_defs.specs.Calls.Writing.{bytes_left, did_part, put_in_pipe, put_in_socket, write, write_queue, write_target}
 use Rattle.posix_defs.specs.Family.{IsFamily}
-use Rattle.posix_defs.specs.Files.Descriptions.{Target, OnNode, OnPipe, OnSocket, Description, description_at, may_read, may_write}
-use Rattle.posix_defs.specs.Files.Descriptors.{Descriptor, descriptor_of}
-use Rattle.posix_defs.specs.Files.State.{Files, descriptors_of, pipe_at, with_pipe, with_sockets}
+use Rattle.posix_defs.specs.Files.Descriptions.{Target, OnNode, OnPipe, OnSocket, may_read, may_write}
+use Rattle.posix_defs.specs.Files.State.{Files, node_of, pipe_at, with_pipe, with_sockets}
 use Rattle.posix_defs.specs.Memory.{Memory, is_mapped_range, stored}
-use Rattle.posix_defs.specs.Pipe.{Moving, Moves, Blocks, Fails, Pipe, after_read, free_in, not_now, pipe_read, pipe_write, whole}
+use Rattle.posix_defs.specs.Pipe.{Moving, Moves, Blocks, Fails, Pipe, after_read, after_write, free_in, not_now, pipe_read, pipe_write, whole}
 use Rattle.posix_defs.specs.Plain.{Plain, with_files}
 use Rattle.posix_defs.specs.Process.{memory_of}
-use Rattle.posix_defs.specs.Socket.{Stage, Idle, Listening, Connected, is_connected, is_shut_read}
-use Rattle.posix_defs.specs.Sockets.{Sockets, after_read as socket_after_read, free_at, sock_read, sock_write, socket_at, stage_at, write_in_stage, write_to, write_within}
+use Rattle.posix_defs.specs.Reaching.{is_on_node}
+use Rattle.posix_defs.specs.Socket.{Stage, Idle, Listening, Connected, is_connected, is_shut_read, peer_of}
+use Rattle.posix_defs.specs.Sockets.{Sockets, after_read as socket_after_read, after_write as socket_after_write, free_at, sent_to, sock_read, sock_write, socket_at, stage_at, write_in_stage, write_to, write_within}
 use Rattle.posix_defs.specs.World.{directories_of}
-use Rattle.store_objects.proofs.TreeStays.{OffNodes}
 use Rattle.store_objects.proofs.WorkingOn.{works_remembered}
+use Rattle.open_moves.proofs.Leaving.{LeavesNodes, files_in, same_named, same_opened}
 
--- The machine becomes another: who is whose child, who works where, on what descriptions are open, and the tree are what they were.
+-- The machine becomes another: who is whose child, who works where, the tree, which nodes of it are open, and the names of sockets
+-- are what they were.
 pub record Remains (plain next : Plain) : Type 0 where
   pub family : IsFamily plain.table → IsFamily next.table
   pub works : directories_of next.table ≡ directories_of plain.table
-  pub descriptions : next.files.descriptions ≡ plain.files.descriptions
-  pub tree : next.files.tree ≡ plain.files.tree
+  pub nodes : LeavesNodes plain.files next.files
 
 -- so does whatever an answer leads to, whose caller doesn't end; of the parts that a call does this is true
 abbrev pub Leaves : (ℕ → Type 0) → Plain → Answer → Type 0
@@ -43,23 +42,12 @@ Leaves Parts plain (Done reply next) = Remains plain next
 Leaves Parts plain (Part moved next) = Parts moved × Remains plain next
 Leaves Parts plain (Ended status next) = ⊥
 
--- the description that a number names is there
-opened_there : (files : Files) (o : Option Descriptor) (opened : Opened) → opened_by files o ≡ Some opened → description_at files.descriptions opened.place ≡ Some opened.is
-opened_there files None opened e = cc
-opened_there files (Some descriptor) opened e = by_description (description_at files.descriptions descriptor.description) refl e
-  where
-    named : Description → Opened
-    named description = record { place = descriptor.description; is = description }
-
-    same : (description : Description) → Some (named description) ≡ Some opened → named description ≡ opened
-    same description e = cc
-
-    by_description : (o : Option Description) → description_at files.descriptions descriptor.description ≡ o
-        → option_map (λ description. record { place = descriptor.description; is = description }) o ≡ Some opened
-        → description_at files.descriptions opened.place ≡ Some opened.is
-    by_description None is e = cc
-    by_description (Some description) is e =
-        subst (λ (one : Opened). description_at files.descriptions one.place ≡ Some one.is) (same description e) is
+-- so the files that it leads to have the same nodes
+pub nodes_left : (Parts : ℕ → Type 0) (plain : Plain) (answer : Answer) → Leaves Parts plain answer → LeavesNodes plain.files (files_in plain.files answer)
+nodes_left Parts plain Blocked leaves = record { tree = refl; opens = refl; names = λ place. refl }
+nodes_left Parts plain (Done reply next) leaves = leaves.nodes
+nodes_left Parts plain (Part moved next) leaves = leaves.1.nodes
+nodes_left Parts plain (Ended status next) leaves = absurd leaves
 
 -- of bytes that go as far as there is room none is more than are left
 fits_within : (free m k : ℕ) (nonblock : Bool) → cond (nat_le m free) (Moves m) (cond (free == 0) (not_now nonblock) (Moves free)) ≡ Moves k → k ≤ m
@@ -136,23 +124,38 @@ module _ (Parts : ℕ → Type 0) (script : Script) (plain : Plain) (pid : ℕ) 
 
   -- what changes the caller's control alone
   tells : (reply : Reply) → Left (replied script plain pid reply)
-  tells reply = record { family = λ is. is; works = refl; descriptions = refl; tree = refl }
+  tells reply = record { family = λ is. is; works = refl; nodes = record { tree = refl; opens = refl; names = λ place. refl } }
 
   -- and what changes pipes or sockets
-  tells_with : (files : Files) (reply : Reply) → files.descriptions ≡ plain.files.descriptions → files.tree ≡ plain.files.tree
-      → Left (replied script (with_files plain files) pid reply)
-  tells_with files reply descriptions tree = record { family = λ is. is; works = refl; descriptions = descriptions; tree = tree }
+  tells_with : (files : Files) (reply : Reply) → LeavesNodes plain.files files → Left (replied script (with_files plain files) pid reply)
+  tells_with files reply nodes = record { family = λ is. is; works = refl; nodes = record { tree = nodes.tree; opens = nodes.opens; names = nodes.names } }
 
   -- and what puts bytes in memory
-  puts : (files : Files) (addr : ℤ) (bytes : List ℕ) → files.descriptions ≡ plain.files.descriptions → files.tree ≡ plain.files.tree
-      → Left (put script (with_files plain files) pid addr bytes)
-  puts files addr bytes descriptions tree =
+  puts : (files : Files) (addr : ℤ) (bytes : List ℕ) → LeavesNodes plain.files files → Left (put script (with_files plain files) pid addr bytes)
+  puts files addr bytes nodes =
       let memory : Memory = stored (memory_of plain.table pid) (count_of addr) bytes in record {
         family = λ is. remembers_family plain.table pid memory is;
         works = works_remembered plain.table pid memory;
-        descriptions = descriptions;
-        tree = tree;
+        nodes = record { tree = nodes.tree; opens = nodes.opens; names = nodes.names };
       }
+
+  -- a pipe with other bytes leaves them
+  in_pipe : (place : ℕ) (pipe : Pipe) → LeavesNodes plain.files (with_pipe plain.files place (Some pipe))
+  in_pipe place pipe = record { tree = refl; opens = same_opened plain.files (with_pipe plain.files place (Some pipe)) refl; names = λ at. refl }
+
+  -- and so do sockets with other bytes
+  in_sockets : (sockets : Sockets) → ((place : ℕ) → (socket_at sockets place).node ≡ (socket_at plain.files.sockets place).node)
+      → LeavesNodes plain.files (with_sockets plain.files sockets)
+  in_sockets sockets named = record { tree = refl; opens = same_opened plain.files (with_sockets plain.files sockets) refl; names = named }
+
+  read_named : (place k at : ℕ) → (socket_at (socket_after_read plain.files.sockets place k) at).node ≡ (socket_at plain.files.sockets at).node
+  read_named place k at =
+      let socket = socket_at plain.files.sockets place in same_named plain.files.sockets place (record socket { bytes = drop k socket.bytes }) refl at
+
+  sent_named : (peer : Option ℕ) (bytes : List ℕ) (at : ℕ) → (socket_at (sent_to plain.files.sockets peer bytes) at).node ≡ (socket_at plain.files.sockets at).node
+  sent_named None bytes at = refl
+  sent_named (Some peer) bytes at =
+      let socket = socket_at plain.files.sockets peer in same_named plain.files.sockets peer (record socket { bytes = socket.bytes ++ bytes }) refl at
 
   -- ---- poll
 
@@ -162,33 +165,34 @@ module _ (Parts : ℕ → Type 0) (script : Script) (plain : Plain) (pid : ℕ) 
       let revents = revents_of plain.files pid entries in
       choose ((hits_of revents == 0) && is_minus_one timeout) Blocked _ tt (tells (Polled (record { hits = hits_of revents; revents = revents })))
 
-  module _ (nodes : OffNodes plain.files.descriptions) where
+  module _ (fd : ℤ) (off : is_on_node plain.files (opened_at plain.files pid fd) ≡ false) where
     -- what is open is open on a pipe or a socket
-    on_queue : (fd : ℤ) (opened : Opened) (on : Target) (X : Target → Type 0) → opened_at plain.files pid fd ≡ Some opened → opened.is.target ≡ on
+    on_queue : (opened : Opened) (on : Target) (X : Target → Type 0) → opened_at plain.files pid fd ≡ Some opened → opened.is.target ≡ on
         → ((place : ℕ) → X (OnPipe place)) → ((place : ℕ) → X (OnSocket place)) → X on
-    on_queue fd opened (OnNode number) X is at by_pipe by_socket =
-        absurd (nodes opened.place opened.is number (opened_there plain.files (descriptor_of (descriptors_of plain.files pid) fd) opened is) at)
-    on_queue fd opened (OnPipe place) X is at by_pipe by_socket = by_pipe place
-    on_queue fd opened (OnSocket place) X is at by_pipe by_socket = by_socket place
+    on_queue opened (OnNode number) X is at by_pipe by_socket =
+        absurd (let both : true ≡ false = sym (ap (is_on_node plain.files) is ∙ ap (λ what. is_some (node_of plain.files what)) at) ∙ off in cc)
+    on_queue opened (OnPipe place) X is at by_pipe by_socket = by_pipe place
+    on_queue opened (OnSocket place) X is at by_pipe by_socket = by_socket place
 
     -- ---- read
 
     from_pipe : (place : ℕ) (addr : ℤ) (moving : Moving) → Left (read_from_pipe script plain pid place addr moving)
     from_pipe place addr (Moves k) =
         let pipe = pipe_at plain.files place in
-        puts (with_pipe plain.files place (Some (after_read pipe k))) addr (take k pipe.bytes) refl refl
+        puts (with_pipe plain.files place (Some (after_read pipe k))) addr (take k pipe.bytes) (in_pipe place (after_read pipe k))
     from_pipe place addr Blocks = tt
     from_pipe place addr (Fails errno) = tells (Fail errno)
 
     from_socket : (place : ℕ) (addr : ℤ) (moving : Moving) → Left (read_from_socket script plain pid place addr moving)
     from_socket place addr (Moves k) =
-        puts (with_sockets plain.files (socket_after_read plain.files.sockets place k)) addr (take k (socket_at plain.files.sockets place).bytes) refl refl
+        puts (with_sockets plain.files (socket_after_read plain.files.sockets place k)) addr (take k (socket_at plain.files.sockets place).bytes)
+        (in_sockets (socket_after_read plain.files.sockets place k) (read_named place k))
     from_socket place addr Blocks = tt
     from_socket place addr (Fails errno) = tells (Fail errno)
 
-    pub read_leaves : (fd addr n : ℤ) → Left (read script plain pid fd addr n)
+    pub read_leaves : (addr n : ℤ) → Left (read script plain pid fd addr n)
     unfolding read
-    read_leaves fd addr n = by_opened (opened_at plain.files pid fd) refl
+    read_leaves addr n = by_opened (opened_at plain.files pid fd) refl
       where
         by_opened : (o : Option Opened) → opened_at plain.files pid fd ≡ o
             → Left (answer_on script plain pid
@@ -201,7 +205,7 @@ module _ (Parts : ℕ → Type 0) (script : Script) (plain : Plain) (pid : ℕ) 
             (choose (is_directory_target plain.files.tree opened.is.target) _ _ (tells (Fail EISDIR))
             (choose (is_mapped_range (memory_of plain.table pid) (count_of addr) (count_of n)) _ _
             (choose (count_of n == 0) _ _ (tells (Val (pos 0)))
-            (on_queue fd opened opened.is.target (λ on. Left (read_target script plain pid opened addr (count_of n) on)) is refl
+            (on_queue opened opened.is.target (λ on. Left (read_target script plain pid opened addr (count_of n) on)) is refl
             (λ place. from_pipe place addr (pipe_read (pipe_at plain.files place) opened.is.nonblock (count_of n)))
             (λ place. from_socket place addr (sock_read plain.files.sockets place opened.is.nonblock (count_of n)))))
             (tells (Fail EFAULT))))
@@ -210,25 +214,25 @@ module _ (Parts : ℕ → Type 0) (script : Script) (plain : Plain) (pid : ℕ) 
     -- ---- write
 
     -- k of the bytes that are left were put in a queue
-    put_k : (files : Files) (n done k : ℕ) (nonblock : Bool) → files.descriptions ≡ plain.files.descriptions → files.tree ≡ plain.files.tree
+    put_k : (files : Files) (n done k : ℕ) (nonblock : Bool) → LeavesNodes plain.files files
         → ((moved : ℕ) → done + moved ≤ n → Parts moved) → k ≤ n - done → (all : Bool) → (k == n - done) ≡ all
         → Left (cond all (replied script (with_files plain files) pid (Val (pos n)))
         (cond nonblock (replied script (with_files plain files) pid (Val (pos (done + k)))) (did_part (with_files plain files) pid k)))
-    put_k files n done k nonblock descriptions tree parts less true is = tells_with files (Val (pos n)) descriptions tree
-    put_k files n done k true descriptions tree parts less false is = tells_with files (Val (pos (done + k))) descriptions tree
-    put_k files n done k false descriptions tree parts less false is = (
+    put_k files n done k nonblock nodes parts less true is = tells_with files (Val (pos n)) nodes
+    put_k files n done k true nodes parts less false is = tells_with files (Val (pos (done + k))) nodes
+    put_k files n done k false nodes parts less false is = (
       parts k (elim (eqb_tells k (n - done)) [
         | inl same ↦ absurd (let g : true ≡ false = sym same.0 ∙ is in cc)
         | inr other ↦ (let apart = other.1 in omega arith)
       ]),
-      record { family = λ is. is; works = refl; descriptions = descriptions; tree = tree },
+      record { family = λ is. is; works = refl; nodes = record { tree = nodes.tree; opens = nodes.opens; names = nodes.names } },
     )
 
     to_pipe : (place : ℕ) (n done : ℕ) (nonblock : Bool) (bytes : List ℕ) → ((moved : ℕ) → done + moved ≤ n → Parts moved)
         → (moving : Moving) → pipe_write (pipe_at plain.files place) nonblock n (n - done) ≡ moving
         → Left (write_queue script plain pid nonblock n done (put_in_pipe plain.files place bytes) moving)
     to_pipe place n done nonblock bytes parts (Moves k) is =
-        put_k (put_in_pipe plain.files place bytes k) n done k nonblock refl refl parts (pipe_within (pipe_at plain.files place) nonblock n (n - done) k is) (k == n - done) refl
+        put_k (put_in_pipe plain.files place bytes k) n done k nonblock (in_pipe place (after_write (pipe_at plain.files place) bytes k)) parts (pipe_within (pipe_at plain.files place) nonblock n (n - done) k is) (k == n - done) refl
     to_pipe place n done nonblock bytes parts Blocks is = tt
     to_pipe place n done nonblock bytes parts (Fails errno) is = choose (done == 0) _ _ (tells (Fail errno)) (tells (Val (pos done)))
 
@@ -236,13 +240,14 @@ module _ (Parts : ℕ → Type 0) (script : Script) (plain : Plain) (pid : ℕ) 
         → (moving : Moving) → sock_write plain.files.sockets place nonblock (n - done) ≡ moving
         → Left (write_queue script plain pid nonblock n done (put_in_socket plain.files place bytes) moving)
     to_socket place n done nonblock bytes parts (Moves k) is =
-        put_k (put_in_socket plain.files place bytes k) n done k nonblock refl refl parts (socket_within plain.files.sockets place nonblock (n - done) k is) (k == n - done) refl
+        put_k (put_in_socket plain.files place bytes k) n done k nonblock
+        (in_sockets (socket_after_write plain.files.sockets place bytes k) (sent_named (peer_of (stage_at plain.files.sockets place)) (take k bytes))) parts (socket_within plain.files.sockets place nonblock (n - done) k is) (k == n - done) refl
     to_socket place n done nonblock bytes parts Blocks is = tt
     to_socket place n done nonblock bytes parts (Fails errno) is = choose (done == 0) _ _ (tells (Fail errno)) (tells (Val (pos done)))
 
-    pub write_leaves : (fd addr n : ℤ) (done : ℕ) → ((moved : ℕ) → done + moved ≤ count_of n → Parts moved) → Left (write script plain pid fd addr n done)
+    pub write_leaves : (addr n : ℤ) (done : ℕ) → ((moved : ℕ) → done + moved ≤ count_of n → Parts moved) → Left (write script plain pid fd addr n done)
     unfolding write
-    write_leaves fd addr n done parts = by_opened (opened_at plain.files pid fd) refl
+    write_leaves addr n done parts = by_opened (opened_at plain.files pid fd) refl
       where
         by_opened : (o : Option Opened) → opened_at plain.files pid fd ≡ o
             → Left (answer_on script plain pid
@@ -253,7 +258,7 @@ module _ (Parts : ℕ → Type 0) (script : Script) (plain : Plain) (pid : ℕ) 
             choose (may_write opened.is.access) _ _
             (choose (is_mapped_range (memory_of plain.table pid) (count_of addr) (count_of n)) _ _
             (choose (count_of n == 0) _ _ (tells (Val (pos 0)))
-            (on_queue fd opened opened.is.target (λ on. Left (write_target script plain pid opened addr (count_of n) done on)) is refl
+            (on_queue opened opened.is.target (λ on. Left (write_target script plain pid opened addr (count_of n) done on)) is refl
             (λ place. to_pipe place (count_of n) done opened.is.nonblock (bytes_left plain pid addr (count_of n) done) parts
             (pipe_write (pipe_at plain.files place) opened.is.nonblock (count_of n) (count_of n - done)) refl)
             (λ place. choose (is_connected (stage_at plain.files.sockets place)) _ _

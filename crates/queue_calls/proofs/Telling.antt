@@ -13,6 +13,7 @@ use Rattle.posix_defs.specs.Turn.{account_after, touched}
 use Rattle.posix_defs.specs.World.{World}
 use Rattle.posix_defs.specs.declared.turner.Turned.{Turned}
 use Rattle.posix_defs.specs.declared.turner.Turned.TheVariants as turned
+use Rattle.holding_laws.specs.Names.{name_of}
 use Rattle.proc_queues.specs.Standing.{IsKept, IsTold, Leads, StandsFor as QueuesStandFor}
 use Rattle.store_objects.specs.declared.objects.Objects.{Objects}
 use Rattle.store_objects.specs.Standing.{Performs, StandsFor, WorldAfter, answered_in}
@@ -54,10 +55,10 @@ pub part_told : (script : Script) (plain : Plain) (pid : ℕ) (Parts : ℕ → T
     → IsTold script plain pid answer (turned.Part moved) next → Leaves Parts plain answer → Parts moved
 part_told script plain pid Parts answer moved next is leaves = (subst (Leaves Parts plain) is leaves).0
 
-module _ (script : Script) (old : Objects) (heap : Heap) (kept : IsKept heap old.procs) (rest : LeavesRest old.heap heap) (pid : ℕ) (which : Call)
-    (Parts : ℕ → Type 0) (new : Objects) where
+module _ (script : Script) (old : Objects) (heap : Heap) (kept : IsKept heap old.procs) (rest : LeavesRest old.heap heap) (names : (key : ℕ) → name_of heap.socks key ≡ name_of old.heap.socks key)
+    (pid : ℕ) (which : Call) (Parts : ℕ → Type 0) (new : Objects) where
   abbrev between : Objects
-  between = mid script old heap kept rest
+  between = mid script old heap kept rest names
 
   told_world : (world : World) → (stands : StandsFor script old world) → (answer : Answer) (told : Turned) (next : Plain) → IsTold script world.plain pid answer told next
       → QueuesStandFor stands.files.numbers heap old.procs next (account_after world.account world.plain pid which answer)
@@ -72,8 +73,8 @@ module _ (script : Script) (old : Objects) (heap : Heap) (kept : IsKept heap old
       record {
         next = answered_in script base pid reply;
         stands = follows.done reply refl base
-            (stands_mid script old heap kept rest world stands next account leads controls
-            (record { family = leaves.family; works = leaves.works; descriptions = leaves.descriptions; tree = leaves.tree })
+            (stands_mid script old heap kept rest names world stands next account leads controls
+            (record { family = leaves.family; works = leaves.works; nodes = record { tree = leaves.nodes.tree; opens = leaves.nodes.opens; names = leaves.nodes.names } })
             (settled_after world.plain (answered script next pid reply) (touched world.account pid which reply)));
         tells = (refl, refl);
         account = refl;
@@ -90,8 +91,8 @@ module _ (script : Script) (old : Objects) (heap : Heap) (kept : IsKept heap old
       record {
         next = partly_in base pid moved;
         stands = follows.part moved refl leaves.0 base
-            (stands_mid script old heap kept rest world stands next account leads controls
-            (record { family = leaves.1.family; works = leaves.1.works; descriptions = leaves.1.descriptions; tree = leaves.1.tree })
+            (stands_mid script old heap kept rest names world stands next account leads controls
+            (record { family = leaves.1.family; works = leaves.1.works; nodes = record { tree = leaves.1.nodes.tree; opens = leaves.1.nodes.opens; names = leaves.1.nodes.names } })
             (settled_after world.plain after world.account));
         tells = (refl, refl);
         account = refl;
@@ -103,9 +104,9 @@ module _ (script : Script) (old : Objects) (heap : Heap) (kept : IsKept heap old
       → WorldAfter script new world pid which a turned.Sleep) (sym is.0)
       (λ leads.
       led_blocked script new world pid which (follows.sleeps refl world
-      (stands_mid script old heap kept rest world stands world.plain world.account
+      (stands_mid script old heap kept rest names world stands world.plain world.account
       (subst (λ plain. QueuesStandFor stands.files.numbers heap old.procs plain world.account) is.1 leads) refl
-      (record { family = λ family. family; works = refl; descriptions = refl; tree = refl }) stands.files.settled))) leads
+      (record { family = λ family. family; works = refl; nodes = record { tree = refl; opens = refl; names = λ place. refl } }) stands.files.settled))) leads
   told_world world stands answer (turned.Ended status) next is leads controls leaves follows = absurd is
   told_world world stands answer turned.Gone next is leads controls leaves follows = absurd is
 

@@ -12,7 +12,7 @@ ghost use Rattle.posix_defs.specs.Calls.Writing.{write as plain_write};
 ghost use Rattle.posix_defs.specs.Machine.{blocks};
 ghost use Rattle.posix_defs.specs.Needs.{chunks_for, pages_touched};
 ghost use Rattle.posix_defs.specs.Plain.{Plain};
-ghost use Rattle.proc_descs.specs.Having.{OpensNoNode};
+ghost use Rattle.proc_files.specs.Reading.{IsOffNodes};
 ghost use Rattle.proc_queues.specs.Standing.{IsKept, Leads, StandsFor};
 ghost use Rattle.proc_table.specs.Procs.{IsAlive};
 ghost use Rattle.proc_table.specs.Table.{processes};
@@ -20,6 +20,7 @@ ghost use Rattle.proc_table.specs.Table.{processes};
 use kheap_shelves::Purse;
 use kheap_slabs::KHeap;
 use posix_defs::Turned;
+use proc_files::is_on_node;
 use proc_queues::{Buffer, read, read_waits, write, write_waits};
 use proc_socks::{is_on_socket, read_socket, read_socket_waits, write_socket, write_socket_waits};
 use proc_table::ProcTable;
@@ -37,7 +38,7 @@ pub(crate) fn read_queue(
 ) -> Turned
     requires kept { IsKept heap.old procs.now }
     requires alive { IsAlive (processes heap.old procs.now) pid }
-    requires nodes { OpensNoNode heap.old.descs }
+    requires off { IsOffNodes heap.old procs.now pid fd }
     requires right { argument_fault (Call.Read fd addr n) ≡ None }
     requires room { CanPay heap.old purse.old }
     requires left { pages_touched (count_of addr) (count_of n) ≤ purse.old.left.page }
@@ -77,7 +78,7 @@ pub(crate) fn write_queue(
 ) -> Turned
     requires kept { IsKept heap.old procs.now }
     requires alive { IsAlive (processes heap.old procs.now) pid }
-    requires nodes { OpensNoNode heap.old.descs }
+    requires off { IsOffNodes heap.old procs.now pid fd }
     requires right { argument_fault (Call.Write fd addr n done) ≡ None }
     requires room { CanPay heap.old purse.old }
     requires left { chunks_for (count_of n - done) ≤ purse.old.left.chunk }
@@ -101,7 +102,7 @@ pub(crate) fn write_queue(
     }
 }
 
-/// Whether a `read` would sleep, whatever its number is open on.
+/// Whether a `read` would sleep, whatever its number is open on; one of a file or a directory never does.
 pub(crate) fn read_queue_waits(
     heap: &KHeap,
     procs: &ProcTable,
@@ -112,20 +113,21 @@ pub(crate) fn read_queue_waits(
 ) -> bool
     requires kept { IsKept heap.now procs.now }
     requires alive { IsAlive (processes heap.now procs.now) pid }
-    requires nodes { OpensNoNode heap.now.descs }
     requires right { argument_fault (Call.Read fd addr n) ≡ None }
     ensures { (script : Script) (numbers : Numbers) (plain : Plain) (account : Account)
         → StandsFor numbers heap.now procs.now plain account
         → result ≡ blocks (plain_read script plain pid fd addr n) }
 {
-    if is_on_socket(heap, procs, pid, fd) {
+    if is_on_node(heap, procs, pid, fd) {
+        false
+    } else if is_on_socket(heap, procs, pid, fd) {
         read_socket_waits(heap, procs, pid, fd, addr, n)
     } else {
         read_waits(heap, procs, pid, fd, addr, n)
     }
 }
 
-/// Whether a `write` would sleep, whatever its number is open on.
+/// Whether a `write` would sleep, whatever its number is open on; one of a file never does.
 pub(crate) fn write_queue_waits(
     heap: &KHeap,
     procs: &ProcTable,
@@ -137,13 +139,14 @@ pub(crate) fn write_queue_waits(
 ) -> bool
     requires kept { IsKept heap.now procs.now }
     requires alive { IsAlive (processes heap.now procs.now) pid }
-    requires nodes { OpensNoNode heap.now.descs }
     requires right { argument_fault (Call.Write fd addr n done) ≡ None }
     ensures { (script : Script) (numbers : Numbers) (plain : Plain) (account : Account)
         → StandsFor numbers heap.now procs.now plain account
         → result ≡ blocks (plain_write script plain pid fd addr n done) }
 {
-    if is_on_socket(heap, procs, pid, fd) {
+    if is_on_node(heap, procs, pid, fd) {
+        false
+    } else if is_on_socket(heap, procs, pid, fd) {
         write_socket_waits(heap, procs, pid, fd, addr, n, done)
     } else {
         write_waits(heap, procs, pid, fd, addr, n, done)

@@ -10,6 +10,7 @@ ghost use Rattle.posix_defs.specs.Machine.{blocks, machine};
 ghost use Rattle.posix_defs.specs.Needs.{pages_touched};
 ghost use Rattle.posix_defs.specs.Process.{is_alive};
 ghost use Rattle.posix_defs.specs.World.{World};
+ghost use Rattle.proc_files.specs.Reading.{IsOffNodes};
 ghost use Rattle.store_objects.specs.Objects.{AreKept, Runs};
 ghost use Rattle.store_objects.specs.Standing.{Performs, StandsFor};
 
@@ -40,6 +41,7 @@ pub fn read(
 ) -> Turned
     requires stands { (world : World) × StandsFor script.now objects.old world }
     requires runs { Runs objects.old pid control }
+    requires off { IsOffNodes objects.old.heap objects.old.procs pid fd }
     requires right { argument_fault (Call.Read fd addr n) ≡ None }
     requires room { CanPay objects.old.heap purse.old }
     requires left { pages_touched (count_of addr) (count_of n) ≤ purse.old.left.page }
@@ -60,7 +62,7 @@ pub fn read(
     go_on_done(script, objects, pid, control, told)
 }
 
-/// Whether a `read` of a live process would sleep, whatever its operands are.
+/// Whether a `read` of a live process would sleep, whatever its operands are and its number is open on.
 pub fn read_would_block(objects: &Objects, pid: u32, fd: i64, addr: i64, n: i64) -> bool
     requires { (script : Script) × (world : World) × StandsFor script objects.now world × (is_alive world.plain.table pid ≡ true) }
     ensures { (script : Script) (world : World) → StandsFor script objects.now world

@@ -10,6 +10,7 @@ ghost use Rattle.posix_defs.specs.Machine.{blocks, machine};
 ghost use Rattle.posix_defs.specs.Needs.{chunks_for};
 ghost use Rattle.posix_defs.specs.Process.{is_alive};
 ghost use Rattle.posix_defs.specs.World.{World};
+ghost use Rattle.proc_files.specs.Reading.{IsOffNodes};
 ghost use Rattle.store_objects.specs.Objects.{AreKept, Runs};
 ghost use Rattle.store_objects.specs.Standing.{Performs, StandsFor};
 
@@ -44,6 +45,7 @@ pub fn write(
     requires stands { (world : World) × StandsFor script.now objects.old world }
     requires runs { Runs objects.old pid control }
     requires so_far { control.done ≡ done }
+    requires off { IsOffNodes objects.old.heap objects.old.procs pid fd }
     requires right { argument_fault (Call.Write fd addr n done) ≡ None }
     requires room { CanPay objects.old.heap purse.old }
     requires left { chunks_for (count_of n - done) ≤ purse.old.left.chunk }
@@ -68,7 +70,7 @@ pub fn write(
     }
 }
 
-/// Whether a `write` of a live process would sleep, of which so many bytes were moved before, whatever its operands are.
+/// Whether a `write` of a live process would sleep, of which so many bytes were moved before, whatever its operands are and its number is open on.
 pub fn write_would_block(objects: &Objects, pid: u32, fd: i64, addr: i64, n: i64, done: u32) -> bool
     requires { (script : Script) × (world : World) × StandsFor script objects.now world × (is_alive world.plain.table pid ≡ true) }
     ensures { (script : Script) (world : World) → StandsFor script objects.now world

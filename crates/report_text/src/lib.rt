@@ -9,5 +9,5 @@ mod words;
 
 pub use lines::{
     end_line_sim, end_line_threads, entry_line, event_line, push_end_sim, push_end_threads,
-    push_entry_line, push_event, push_events,
+    push_end_word, push_entry_line, push_event, push_events,
 };

@@ -130,7 +130,8 @@ pub fn push_end_threads(
     write!(out, " entries {entries} charged {charged} reads {reads}\n")
 }
 
-fn push_end_word(out: &mut String, end: &End) -> Result<(), AllocError>
+/// Adds how a run ended, in the words of an end line. Where memory is wanting, a part of them may have been added.
+pub fn push_end_word(out: &mut String, end: &End) -> Result<(), AllocError>
     ensures { OnOk result (string_bytes out.new ≡ string_bytes out.old ++ end_text end.now) }
 {
     match end {

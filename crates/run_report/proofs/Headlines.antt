@@ -25,6 +25,7 @@ use Rattle.kern_core.specs.RunOver.{IsRunOver, boots, goes_on}
 use Rattle.kern_core.proofs.PickedRuns.{is_picked, is_stood_for}
 use Rattle.run_report.specs.Headline.{EntryKeeps, EventKeeps, IsLastResort, KeepsHeadline, KeepsToRoom}
 use Rattle.run_report.specs.Reports.{IsReport}
+use Rattle.run_report.specs.Summaries.{IsSummary, KeepsSummary}
 
 -- an item of a list that grew by one is of the list before, or the last one
 before_or_last : {X : Type 0} (xs : List X) (x y : X) (i : ℕ) → slice_get (xs ++ x ∷ []) i ≡ Some y
@@ -162,3 +163,10 @@ keeps_headline stands_for marks high script store end text valid it =
       account = found.account_is;
       entries = entry_keeps script (entries_of it.run) found.past found.is_run;
     }
+
+-- and so does the run that a summary sums up
+pub keeps_summary : {T : Type 0} (stands_for : T → World → Type 0) (marks high : T → ℕ) (script : Script) (store : T) (end : End) (rounds : ℕ) (text : List ℕ)
+    → IsValid script → IsSummary stands_for marks high script store end rounds text → KeepsSummary stands_for marks high script store end rounds text
+unfolding keeps_headline
+keeps_summary stands_for marks high script store end rounds text valid it =
+    record { report = it.report; keeps = keeps_headline stands_for marks high script store end it.report valid it.is; told = it.text_is }

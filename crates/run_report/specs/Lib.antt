@@ -1,3 +1,4 @@
 pub mod Reports
 pub mod Headline
 pub mod Histories
+pub mod Summaries

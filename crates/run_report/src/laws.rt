@@ -8,6 +8,7 @@ ghost use Rattle.posix_defs.specs.History.{IsRun, Past};
 ghost use Rattle.posix_defs.specs.ValidScript.{IsValid};
 ghost use Rattle.run_report.specs.Headline.{EntryKeeps, KeepsHeadline};
 ghost use Rattle.run_report.specs.Reports.{IsReport};
+ghost use Rattle.run_report.specs.Summaries.{IsSummary, KeepsSummary};
 
 use posix_defs::Turner;
 
@@ -16,6 +17,12 @@ use posix_defs::Turner;
 pub fn a_report_keeps_the_headline<T: Turner>()
     ensures { (script : Script) (store : T) (end : End) (text : List ℕ) → IsValid script
         → IsReport T.stands T.marks T.high script store end text → KeepsHeadline T.stands T.marks T.high script store end text }
+{}
+
+/// The summary of a valid script's run sums up such a run, over any store.
+pub fn a_summary_keeps_the_headline<T: Turner>()
+    ensures { (script : Script) (store : T) (end : End) (rounds : ℕ) (text : List ℕ) → IsValid script
+        → IsSummary T.stands T.marks T.high script store end rounds text → KeepsSummary T.stands T.marks T.high script store end rounds text }
 {}
 
 /// Each entry of a legal history is one that a machine with unlimited memory allows behind those before it. A call is refused exactly

@@ -4,8 +4,12 @@
 
 mod laws;
 mod runs;
+mod summaries;
 mod texts;
 
-pub use laws::{a_history_keeps_to_the_room, a_report_keeps_the_headline};
+pub use laws::{
+    a_history_keeps_to_the_room, a_report_keeps_the_headline, a_summary_keeps_the_headline,
+};
 pub use runs::{Reported, run_core};
+pub use summaries::sum_up_core;
 pub use texts::{report, report_history};

@@ -47,54 +47,10 @@ fn script(alloc: Global, first: CallKind, second: CallKind) -> Result<Script, Fa
     })
 }
 
-/// The calls of processes, of memory, on pipes, on names of the tree of files, and on sockets without a name.
-const BUILT: &[CallKind] = &[
-    CallKind::Getpid,
-    CallKind::Getppid,
-    CallKind::SchedYield,
-    CallKind::Fork,
-    CallKind::Exit,
-    CallKind::Waitpid,
-    CallKind::Kill,
-    CallKind::Mmap,
-    CallKind::Munmap,
-    CallKind::Store,
-    CallKind::Load,
-    CallKind::Pipe,
-    CallKind::Close,
-    CallKind::Dup,
-    CallKind::Dup2,
-    CallKind::Fcntl,
-    CallKind::Fstat,
-    CallKind::Read,
-    CallKind::Write,
-    CallKind::Poll,
-    CallKind::Pread,
-    CallKind::Pwrite,
-    CallKind::Lseek,
-    CallKind::Readdir,
-    CallKind::Ftruncate,
-    CallKind::Stat,
-    CallKind::Chdir,
-    CallKind::Mkdir,
-    CallKind::Rmdir,
-    CallKind::Unlink,
-    CallKind::Link,
-    CallKind::Rename,
-    CallKind::Socket,
-    CallKind::Socketpair,
-    CallKind::Listen,
-    CallKind::Accept,
-    CallKind::Shutdown,
-];
-
 #[test]
-fn thirty_seven_of_the_calls_can_be_run(rt: HostRuntime) {
-    for kind in BUILT {
-        assert!(rt; is_built(*kind), "{kind:?}");
-    }
+fn each_call_can_be_run(rt: HostRuntime) {
     let count = CallKind::ALL.iter().filter(|kind| is_built(**kind)).count();
-    assert!(rt; count == 37);
+    assert!(rt; count == 41);
 }
 
 #[test]
@@ -110,16 +66,7 @@ fn scripts_of_such_calls_can_be_run(rt: HostRuntime) -> Result<(), Fail> {
     };
     assert!(rt; can_run(&none));
     assert!(rt; can_run(&script(alloc, CallKind::Getpid, CallKind::Fork)?));
-    assert!(rt; can_run(&script(alloc, CallKind::Pipe, CallKind::Poll)?));
-    assert!(rt; can_run(&script(alloc, CallKind::Socketpair, CallKind::Accept)?));
-    Ok(())
-}
-
-#[test]
-fn one_call_of_any_program_is_enough(rt: HostRuntime) -> Result<(), Fail> {
-    let alloc = rt.alloc();
-    assert!(rt; !can_run(&script(alloc, CallKind::Bind, CallKind::Fork)?));
-    assert!(rt; !can_run(&script(alloc, CallKind::Fork, CallKind::Exec)?));
-    assert!(rt; !can_run(&script(alloc, CallKind::Pipe, CallKind::OpenFile)?));
+    assert!(rt; can_run(&script(alloc, CallKind::OpenFile, CallKind::Connect)?));
+    assert!(rt; can_run(&script(alloc, CallKind::Bind, CallKind::Exec)?));
     Ok(())
 }

@@ -3,9 +3,10 @@
 ghost use Rattle.std.specs.Prelude.{◌≡◌, ◌≤◌, ◌-◌, ◌+◌, ◌*◌, ◌%◌, ◌^◌, max};
 ghost use Rattle.shared_trials.specs.Sample.{caching, caching_at, next_blocks, next_place};
 
+use crate::asking::asked_of;
 use kabi_types::{Cached, Call, Chooser, Entry, Errno, Event, Need, Noted, Path, Reply};
 use kern_core::{Choosing, Core, Relief, picked};
-use posix_defs::{Turned, Turner};
+use posix_defs::{Asked, Turned, Turner};
 use std::test::Fail;
 
 /// A store of one process, which binds a name, writes much and reads a byte, over and over: it has nothing open, so each is
@@ -91,6 +92,10 @@ impl Turner for Caching {
                 path: Path::of(b"/d").unwrap(),
             },
         }
+    }
+
+    fn asks(&self, pid: u32) -> Asked {
+        asked_of(&self.next(pid))
     }
 
     fn turn(&mut self, pid: u32, _call: &Call, _need: Need) -> Turned {

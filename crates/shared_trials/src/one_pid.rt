@@ -3,8 +3,9 @@ ghost use Rattle.std.specs.Prelude.{◌≡◌, ℕ, ◌+◌, ◌%◌, ◌^◌, �
 ghost use Rattle.posix_defs.specs.World.{boot_kept};
 ghost use Rattle.shared_trials.specs.Sample.{live_at, sample, world_at};
 
+use crate::asking::asked_of;
 use kabi_types::{Cached, Call, Need, Reply};
-use posix_defs::{Turned, Turner};
+use posix_defs::{Asked, Turned, Turner};
 
 /// A store of one process, which asks for its pid and exits.
 #[derive(Drop)]
@@ -67,6 +68,10 @@ impl Turner for OnePid {
         } else {
             Call::Exit { status: 0 }
         }
+    }
+
+    fn asks(&self, pid: u32) -> Asked {
+        asked_of(&self.next(pid))
     }
 
     fn turn(&mut self, pid: u32, _call: &Call, _need: Need) -> Turned {

@@ -4,9 +4,10 @@ ghost use Rattle.std.specs.Prelude.{◌≡◌, ◌≤◌, ◌+◌, ◌%◌, ◌^
 ghost use Rattle.shared_trials.specs.declared.scenes.Scene.TheVariants.{Young};
 ghost use Rattle.shared_trials.specs.Pair.{act_as, act_of, cached_by, cached_without, call_as, can_lose, first_act, first_after, last_in, live_at, pair, scene_after, scene_killed, scene_refused, second_act, told_of, victim_in, who, world_at};
 
+use crate::asking::asked_of;
 use crate::{Act, Next, Scene, Who};
 use kabi_types::{Cached, Call, Errno, Need, Path, Reply};
-use posix_defs::{Turned, Turner};
+use posix_defs::{Asked, Turned, Turner};
 
 /// A process that forks; then it and its child bind a name to what isn't open, and end. To bind the name a block is cached. The store
 /// has the heap of its script, how far the processes have come, whether a block is cached, and of the heap how often that was
@@ -253,6 +254,10 @@ impl Turner for Pair {
             Some(act) => call_as(act),
             None => Call::Fork,
         }
+    }
+
+    fn asks(&self, pid: u32) -> Asked {
+        asked_of(&self.next(pid))
     }
 
     fn turn(&mut self, pid: u32, _call: &Call, _need: Need) -> Turned {

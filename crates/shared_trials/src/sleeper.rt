@@ -5,8 +5,9 @@ ghost use Rattle.shared_trials.specs.declared.stages.Stage.TheVariants.{Map};
 ghost use Rattle.shared_trials.specs.Sleeper.{blocks_at, call_at, is_first, live_in, sleeper, stage_after, stage_refused, stage_to, told_at, told_to, world_in};
 
 use crate::Stage;
+use crate::asking::asked_of;
 use kabi_types::{Cached, Call, Need, Reply};
-use posix_defs::{Turned, Turner};
+use posix_defs::{Asked, Turned, Turner};
 
 /// A process that maps two pages and makes a pipe, each until it may, reads from the empty pipe, and then writes a byte more than
 /// the pipe holds. The store has the heap of its script, how far the process has come, and of the heap how often that was marked,
@@ -152,6 +153,10 @@ impl Turner for Sleeper {
 
     fn next(&self, _pid: u32) -> Call {
         call_at(self.stage)
+    }
+
+    fn asks(&self, pid: u32) -> Asked {
+        asked_of(&self.next(pid))
     }
 
     fn turn(&mut self, pid: u32, _call: &Call, _need: Need) -> Turned {

@@ -1,4 +1,5 @@
 pub mod Holding
 pub mod Staying
+pub mod Naming
 pub mod Taking
 pub mod Waiting

@@ -33,7 +33,7 @@ pub fn accept(
     control: Control,
     fd: i64,
 ) -> Turned
-    requires kept { AreKept script.now objects.old }
+    requires stands { (world : World) × StandsFor script.now objects.old world }
     requires runs { Runs objects.old pid control }
     requires room { CanPay objects.old.heap purse.old }
     requires left_desc { 0 < purse.old.left.desc }

@@ -4,8 +4,9 @@ ghost use Rattle.std.specs.Prelude.{◌<◌, ◌≤◌};
 ghost use Rattle.kabi_calls.specs.declared.calls.Call.{Call};
 ghost use Rattle.kheap_slabs.specs.Paid.{CanPay, IsPaid};
 ghost use Rattle.posix_defs.specs.Calls.OnSockets.{socket, socketpair};
+ghost use Rattle.posix_defs.specs.World.{World};
 ghost use Rattle.store_objects.specs.Objects.{AreKept, Runs};
-ghost use Rattle.store_objects.specs.Standing.{Performs};
+ghost use Rattle.store_objects.specs.Standing.{Performs, StandsFor};
 
 use kabi_types::{Control, Script};
 use kheap_shelves::Purse;
@@ -24,7 +25,7 @@ pub fn socket(
     pid: u32,
     control: Control,
 ) -> Turned
-    requires kept { AreKept script.now objects.old }
+    requires stands { (world : World) × StandsFor script.now objects.old world }
     requires runs { Runs objects.old pid control }
     requires room { CanPay objects.old.heap purse.old }
     requires left_sock { 0 < purse.old.left.sock }
@@ -48,7 +49,7 @@ pub fn socketpair(
     pid: u32,
     control: Control,
 ) -> Turned
-    requires kept { AreKept script.now objects.old }
+    requires stands { (world : World) × StandsFor script.now objects.old world }
     requires runs { Runs objects.old pid control }
     requires room { CanPay objects.old.heap purse.old }
     requires left_socks { 2 ≤ purse.old.left.sock }

@@ -5,8 +5,9 @@ ghost use Rattle.kabi_calls.specs.declared.calls.Call.{Call};
 ghost use Rattle.kheap_slabs.specs.Paid.{TakesNothing};
 ghost use Rattle.posix_defs.specs.Calls.OnSockets.{listen, shutdown};
 ghost use Rattle.proc_pipes.specs.Answering.{zero_of};
+ghost use Rattle.posix_defs.specs.World.{World};
 ghost use Rattle.store_objects.specs.Objects.{AreKept, Runs};
-ghost use Rattle.store_objects.specs.Standing.{Performs};
+ghost use Rattle.store_objects.specs.Standing.{Performs, StandsFor};
 
 use kabi_types::{Control, Errno, Reply, Script};
 use posix_defs::Turned;
@@ -18,7 +19,7 @@ use store_objects::{Objects, go_on};
 ///
 /// <https://pubs.opengroup.org/onlinepubs/9699919799/functions/listen.html>
 pub fn listen(script: &Script, objects: &mut Objects, pid: u32, control: Control, fd: i64) -> Turned
-    requires kept { AreKept script.now objects.old }
+    requires stands { (world : World) × StandsFor script.now objects.old world }
     requires runs { Runs objects.old pid control }
     ensures kept { AreKept script.now objects.new }
     ensures takes { TakesNothing objects.old.heap objects.new.heap }
@@ -40,7 +41,7 @@ pub fn shutdown(
     fd: i64,
     how: i64,
 ) -> Turned
-    requires kept { AreKept script.now objects.old }
+    requires stands { (world : World) × StandsFor script.now objects.old world }
     requires runs { Runs objects.old pid control }
     ensures kept { AreKept script.now objects.new }
     ensures takes { TakesNothing objects.old.heap objects.new.heap }

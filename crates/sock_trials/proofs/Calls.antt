@@ -1,25 +1,22 @@
 -- The first process's calls may be made still, whatever one has changed.
-use Rattle.std.proofs.Common.{◌≡◌, ℕ, ◌+◌, ◌-◌, ◌/◌, ◌≤◌, ◌==◌, Bool, true, false, cond, List, [], count_by, Option, Some, refl, ap, sym, subst, ◌∙◌, arith, None, w64, Contains, ℤ, zero, suc, replicate}
+use Rattle.std.proofs.Common.{◌≡◌, ℕ, ◌+◌, ◌-◌, ◌/◌, ◌≤◌, ◌==◌, Bool, true, false, cond, List, [], count_by, Option, Some, refl, ap, sym, subst, ◌∙◌, arith, None, w64, Contains, ℤ}
 use Rattle.std.specs.Int.{cast_unsigned}
+use Rattle.std.specs.Option.{option_map}
 use Rattle.kabi_calls.specs.Arguments.{count_of, moved_fault}
-use Rattle.kabi_values.specs.Class.{size}
-use Rattle.kabi_values.specs.declared.classes.Class.TheVariants as class
 use Rattle.kheap_shelves.specs.Objects.{object, put}
 use Rattle.kheap_shelves.specs.Purse.{Purse}
-use Rattle.kheap_shelves.specs.declared.objects.Desc.{Desc}
 use Rattle.kheap_shelves.specs.declared.objects.Proc.{Proc}
 use Rattle.kheap_shelves.specs.declared.objects.Sock.{Sock}
 use Rattle.kheap_shelves.specs.declared.objects.SockState.TheVariants as state
-use Rattle.kheap_slabs.specs.Heap.{Heap, empty_heap}
+use Rattle.kheap_slabs.specs.Heap.{Heap}
 use Rattle.kheap_slabs.specs.Owners.{OwnsItsObjects}
 use Rattle.open_laws.specs.Owned.{HasItsOwners, socks_named}
-use Rattle.open_moves.specs.Moves.{OpenMoves}
-use Rattle.open_moves.proofs.Moving.{alive_opened}
-use Rattle.open_moves.proofs.Numbers.{moves_opened}
+use Rattle.open_moves.specs.Moves.{opening}
+use Rattle.open_moves.proofs.Numbers.{each, holds_opened}
 use Rattle.page_space.specs.Contents.{SpaceMoves}
 use Rattle.page_space.specs.Putting.{Puts}
 use Rattle.posix_defs.specs.Needs.{chunks_for, pages_touched}
-use Rattle.proc_descs.specs.Having.{AreListed, OpensNoNode}
+use Rattle.proc_descs.specs.Having.{AreListed}
 use Rattle.proc_descs.specs.Naming.{ChangesNumbers}
 use Rattle.proc_descs.proofs.Listing.{found_now}
 use Rattle.proc_queues.specs.Spaces.{HasSpace}
@@ -32,10 +29,6 @@ use Rattle.proc_table.specs.Moves.{SpaceTurns, TableMoves}
 use Rattle.proc_table.specs.Procs.{IsAlive, proc_of}
 use Rattle.proc_table.specs.Table.{AreStored, TableView, processes, procs_at}
 use Rattle.proc_table.proofs.LawLemmas.{back-moves, back-procs}
-use Rattle.lru_index.specs.Order.{order}
-use Rattle.vnode_cache.specs.Nodes.{nodes}
-use Rattle.memfs_ops.specs.FileTree.{TreeView}
-use Rattle.store_objects.specs.declared.objects.Objects.{Objects}
 use Rattle.store_objects.proofs.Keeping.{listed_on, owners_on}
 use Rattle.store_objects.proofs.Namings.{names_in, names_nodes}
 use Rattle.usock_core.specs.Standing.{IsHeldIn, IsListeningIn, LeavesOthers}
@@ -46,52 +39,39 @@ use Rattle.sock_trials.specs.Calling.{CanCall, HasSpaceAt}
 pub is_kept : (h : Heap) (kept : TableView) → CanCall h kept → IsKept h kept
 is_kept h kept can = record { holds = can.holds; listed = can.listed; owners = can.owners }
 
--- processes and what is open are the same
-pub called_on : (old new : Heap) (kept : TableView) → new.procs ≡ old.procs → new.descs ≡ old.descs → IsKept new kept → CanCall old kept → CanCall new kept
-called_on old new kept same descs is can = record {
+-- processes are the same
+pub called_on : (old new : Heap) (kept : TableView) → new.procs ≡ old.procs → IsKept new kept → CanCall old kept → CanCall new kept
+called_on old new kept same is can = record {
   holds = is.holds;
   listed = is.listed;
   owners = is.owners;
-  nodes = subst OpensNoNode (sym descs) can.nodes;
   alive = subst (λ (objects : List (Option Proc)). IsAlive (procs_at objects kept.listed) 1) (sym same) can.alive;
   there = can.there;
 }
 
--- a tree of nothing, for the objects whose heap and table alone are asked about
-no_tree : TreeView
-no_tree = record { names = order [] 0; vnodes = nodes [] 0 0; blocks = order [] 0; disk = record { blocks = []; reads = 0 } }
-
 -- other numbers are open
-pub called_changed : (old new : Heap) (kept : TableView) → CanCall old kept → ChangesNumbers old new kept 1 → AreListed new kept → HasItsOwners new [] → (OpensNoNode old.descs → OpensNoNode new.descs) → CanCall new kept
-called_changed old new kept can changes listed owners nodes = record {
-  holds = moves.holds;
-  listed = listed;
-  owners = owners;
-  nodes = nodes can.nodes;
-  alive = alive_opened before after 1 moves can.alive;
-  there = can.there;
-}
-  where
-    before : Objects
-    before = record { heap = old; procs = kept; tree = no_tree }
-
-    after : Objects
-    after = record { heap = new; procs = kept; tree = no_tree }
-
-    moves : OpenMoves before after
-    moves = moves_opened before after 1 can.holds refl refl can.alive changes listed owners (nodes can.nodes)
+pub called_changed : (old new : Heap) (kept : TableView) → CanCall old kept → ChangesNumbers old new kept 1 → AreListed new kept → HasItsOwners new [] → CanCall new kept
+called_changed old new kept can changes listed owners =
+    let one = each old new kept 1 can.holds changes 1 in
+    record {
+      holds = holds_opened old new kept 1 can.holds changes can.alive listed owners.objects;
+      listed = listed;
+      owners = owners;
+      alive = record { proc = opening one.0 can.alive.proc; there = one.1 ∙ ap (option_map (opening one.0)) can.alive.there; runs = can.alive.runs };
+      there = can.there;
+    }
 
 -- sockets are others
 pub called_sockets : (old new : Heap) (kept : TableView) → CanCall old kept → LeavesOthers old new → OwnsItsObjects new → ((named : List ℕ) → IsHeldIn old named → IsHeldIn new named) → CanCall new kept
 called_sockets old new kept can others owns held =
-    called_on old new kept (ap (λ (h : Heap). h.procs) others.kept) (ap (λ (h : Heap). h.descs) others.kept)
+    called_on old new kept (ap (λ (h : Heap). h.procs) others.kept)
     (kept_changed old new (record { others = others; objects = owns; held = held }) kept (is_kept old kept can)) can
 
 -- bytes are put in memory
 pub called_put : (old : Heap) (before : Purse) (new : Heap) (after : Purse) (kept : TableView) (key : ℕ) (space : List (Option ℕ)) (addr : ℕ) (bytes : List ℕ) → CanCall old kept
     → HasSpaceAt old kept key space → Puts old before new after space addr bytes → CanCall new kept
 called_put old before new after kept key space addr bytes can at puts =
-    called_on old new kept (put_procs old before new after kept 1 space addr bytes (is_kept old kept can) has puts) (ap (λ (h : Heap). h.descs) puts.moves.kept)
+    called_on old new kept (put_procs old before new after kept 1 space addr bytes (is_kept old kept can) has puts)
     (kept_put old before new after kept 1 space addr bytes (is_kept old kept can) has puts) can
   where
     has : HasSpace old kept 1 space
@@ -104,7 +84,6 @@ called_mapped old mid new kept key space now can at moves after = record {
   holds = goes.holds;
   listed = listed_on old new kept kept can.listed goes;
   owners = owners_on old new kept kept [] can.listed goes can.owners names;
-  nodes = subst OpensNoNode (sym (ap (λ (h : Heap). h.descs) after ∙ ap (λ (h : Heap). h.descs) moves.kept)) can.nodes;
   alive = record {
     proc = then;
     there = ap (λ (h : Heap). proc_of (processes h kept) 1) after ∙ found_now mid.procs key at.proc then there refl kept.listed 1 stored at.named;
@@ -137,21 +116,6 @@ called_mapped old mid new kept key space now can at moves after = record {
         let two = names_nodes k 1 now (processes old kept) in
         let none : count_by (λ (other : ℕ). other == k) [] ≡ 0 = refl in
         omega (arith, one, two, none)
-
--- ---- at boot
-
-no_desc : (n key : ℕ) → object {X = Desc} (replicate n None) key ≡ None
-no_desc zero key = refl
-no_desc (suc n) zero = refl
-no_desc (suc n) (suc key) = no_desc n key
-
-never : (o : Option Desc) (desc : Desc) → o ≡ None → o ≡ Some desc → ⊥
-never o desc none some = cc
-
-pub boots_no_node : (bytes : ℕ) (old new : Heap) → old ≡ empty_heap bytes → new.descs ≡ old.descs → OpensNoNode new.descs
-boots_no_node bytes old new empty same key desc is =
-    absurd (never (object new.descs key) desc
-    (ap (λ (d : List (Option Desc)). object d key) same ∙ ap (λ (h : Heap). object h.descs key) empty ∙ no_desc (bytes / size class.Desc) key) is)
 
 -- ---- operands
 

@@ -7,14 +7,13 @@ use Rattle.open_laws.specs.Owned.{HasItsOwners}
 use Rattle.page_space.specs.Contents.{IsOwnedWith}
 use Rattle.proc_table.specs.Procs.{IsAlive, proc_of}
 use Rattle.proc_table.specs.Table.{Holds, TableView, key_of, processes}
-use Rattle.proc_descs.specs.Having.{AreListed, OpensNoNode}
+use Rattle.proc_descs.specs.Having.{AreListed}
 
--- It runs, in a heap and a table that keep what they keep, and nothing is open on a node.
+-- It runs, in a heap and a table that keep what they keep.
 pub record CanCall (h : Heap) (kept : TableView) : Type 0 where
   pub holds : Holds h kept
   pub listed : AreListed h kept
   pub owners : HasItsOwners h []
-  pub nodes : OpensNoNode h.descs
   pub alive : IsAlive (processes h kept) 1
   pub there : IsSome (key_of kept.listed 1)
 

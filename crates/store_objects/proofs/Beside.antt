@@ -32,7 +32,7 @@ beside_in h vnodes names blocks high marks = record h { vnodes = vnodes; names =
 -- the objects with that heap, and another tree of files
 abbrev pub beside_as : Objects → List (Option Vnode) → List (Option Name) → List (Option Block) → ℕ → ℕ → TreeView → Objects
 beside_as objects vnodes names blocks high marks fs =
-    record { heap = beside_in objects.heap vnodes names blocks high marks; procs = objects.procs; tree = fs }
+    record { heap = beside_in objects.heap vnodes names blocks high marks; procs = objects.procs; tree = fs; names = objects.names }
 
 -- a world with another tree, in which other things are kept and more was read
 abbrev pub treed_in : World → Tree → Kept → ℕ → World
@@ -62,7 +62,8 @@ module _ (script : Script) (objects : Objects) (vnodes : List (Option Vnode)) (n
     };
     groups = kept.groups;
     calls = kept.calls;
-    nodes = kept.nodes;
+    bound = kept.bound;
+    places = kept.places;
     caches = keeps;
     size = kept.size;
   }
@@ -106,7 +107,6 @@ module _ (script : Script) (objects : Objects) (vnodes : List (Option Vnode)) (n
     files = files_beside world.plain.files world.plain.files.tree world.account stands.files;
     tree = now;
     entered = is;
-    sockets = stands.tree.sockets;
     same = refl;
     reads = refl;
     family = stands.family;

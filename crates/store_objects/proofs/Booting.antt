@@ -4,6 +4,7 @@ use Rattle.std.specs.Prelude.{codes, count_by, if◌then◌else◌, slice_get}
 use Rattle.std.specs.List.{AllByRecursion}
 use Rattle.std.specs.Str.{bytes_eq}
 use Rattle.std.proofs.lemmas.Bool.Decides.{eqb_tells}
+use Rattle.std.proofs.lemmas.List.{length-replicate}
 use Rattle.std.proofs.lemmas.Slice.Eq.{bytes_eq-Decides}
 use Rattle.kabi_values.specs.Class.{size}
 use Rattle.kabi_values.specs.declared.classes.Class.TheVariants as class
@@ -39,9 +40,6 @@ use Rattle.posix_defs.specs.Account.{no_account}
 use Rattle.posix_defs.specs.Files.Bare.{IsBare}
 use Rattle.posix_defs.specs.Files.Descriptors.{none_open}
 use Rattle.posix_defs.specs.Files.State.{boot_files, descriptors_of}
-use Rattle.posix_defs.proofs.TreeNodes.{none_in}
-use Rattle.posix_defs.specs.DiskFormat.{table_nodes}
-use Rattle.posix_defs.specs.PathCalls.{is_socket_kind, kind_in}
 use Rattle.posix_defs.specs.Tree.{Tree, new_tree, root as root_node}
 use Rattle.posix_defs.specs.World.{boot_kept as kept_at_boot, boot_world, is_in}
 use Rattle.kabi_values.specs.declared.inodes.Inode.{Inode}
@@ -55,6 +53,7 @@ use Rattle.proc_table.specs.Accounting.{HasAccount}
 use Rattle.proc_table.specs.Changes.{replaced}
 use Rattle.proc_table.specs.Moves.{TableMoves}
 use Rattle.proc_descs.specs.Having.{AreListed, places_in}
+use Rattle.holding_laws.specs.Names.{AreBound, name_in, name_of}
 use Rattle.proc_table.specs.Procs.{first_proc, proc_of}
 use Rattle.proc_table.specs.Standing.{IsTable}
 use Rattle.proc_table.specs.Table.{no_table, processes}
@@ -62,8 +61,8 @@ use Rattle.proc_table.proofs.LawLemmas.{on-account, on-moves, on-procs, on-table
 use Rattle.store_objects.specs.declared.objects.Objects.{Objects}
 use Rattle.store_objects.specs.Booting.{HasBooted}
 use Rattle.store_objects.specs.Files.{HaveFiles}
-use Rattle.store_objects.specs.Objects.{AreAtCalls, AreKept, MovesOn, no_owners, procs_of}
-use Rattle.store_objects.specs.Trees.{CachesStay, HasTree, NamesNoSocket, kept_by, name_in, pins_in}
+use Rattle.store_objects.specs.Objects.{AreAtCalls, AreKept, MovesOn, most_nodes, no_owners, procs_of}
+use Rattle.store_objects.specs.Trees.{CachesStay, HasTree, kept_by, name_in as name_said, pins_in}
 use Rattle.store_objects.specs.Standing.{StandsFor}
 use Rattle.store_objects.proofs.GoingOn.{some_same}
 use Rattle.store_objects.proofs.HeldNodes.{alone_pins, held_alone}
@@ -206,7 +205,7 @@ module _ (heap : ℕ) (inode : Inode) (empty rooted : Heap) (is_empty : empty �
       blocks = ap count (same (λ h. h.blocks) (λ h vnodes high. refl)) ∙ count-none _ (heap / size class.Block) refl
 
       no_names : (kept_by fs).names ≡ []
-      no_names = ap (map name_in) (none_kept (keys_in fs.names.pairs) (length-keys_of fs.names.pairs ∙ stands.names.many ∙ names))
+      no_names = ap (map name_said) (none_kept (keys_in fs.names.pairs) (length-keys_of fs.names.pairs ∙ stands.names.many ∙ names))
 
       no_blocks : (kept_by fs).blocks ≡ []
       no_blocks = none_kept (kept_by fs).blocks (length-keys_of fs.blocks.pairs ∙ stands.blocks.many ∙ blocks)
@@ -222,7 +221,7 @@ module _ (heap : ℕ) (inode : Inode) (empty rooted : Heap) (is_empty : empty �
 module _ (heap disk : ℕ) (control : Control) (rooted : Heap) (fs : TreeView) (mid new : Objects)
     (no_pages : (k : ℕ) → object rooted.pages k ≡ None) (no_procs : AreKeysOf rooted.procs []) (owned : IsOwned rooted no_owners)
     (bare : IsUnopened heap rooted) (owners : HasItsOwners rooted []) (stands : TreeStands rooted fs (new_tree disk) root_alone) (kept : kept_by fs ≡ kept_at_boot)
-    (unread : fs.disk.reads ≡ 0) (tree : mid.tree ≡ fs) (bytes : rooted.heap ≡ heap)
+    (unread : fs.disk.reads ≡ 0) (tree : mid.tree ≡ fs) (unbound : mid.names ≡ replicate (most_nodes + 1) None) (bytes : rooted.heap ≡ heap)
     (procs : procs_of mid ≡ first_proc ∷ []) (last : mid.procs.last ≡ 1)
     (moves : (others : Owners) → IsOwned rooted others → TableMoves rooted no_table mid.heap mid.procs)
     (table : IsTable mid.heap mid.procs (Some first_process ∷ []))
@@ -297,13 +296,13 @@ module _ (heap disk : ℕ) (control : Control) (rooted : Heap) (fs : TreeView) (
     all = all_on mid.heap new.heap mid.procs new.procs has_first.all goes;
     owners = owners_on mid.heap new.heap mid.procs new.procs [] has_first goes first_owners
         (λ key. let now : names_in key (procs_of new) ≡ 0 = ap (names_in key) first in let was = first_names key in let hand = none_in_hand key in omega (arith, now, was, hand));
-    nodes = λ key desc is. absurd (object-none (heap / size class.Desc) key desc (ap (λ objects. object objects key) (sym unopened.descs) ∙ is));
     opened = λ numbers files none. open_on numbers (empty_heap heap) new.heap [] files files unopened.descs unopened.pipes unopened.socks unopened.chunks refl refl refl
         (boot_open numbers heap files none);
     stands = subst (λ (t : TreeView). TreeStands new.heap t (new_tree disk) root_alone) (sym same_tree) (stands_on rooted new.heap fs (new_tree disk) root_alone caches stands);
     kept = ap kept_by same_tree ∙ kept;
     unread = ap (λ (t : TreeView). t.disk.reads) same_tree ∙ unread;
     size = as_was (λ h. h.heap) (λ h procs nodes pages high. refl) ∙ bytes;
+    names = turned.names ∙ unbound;
     first = first;
     last = ap (λ t. t.last) turned.same ∙ last;
     table = subst (λ k. IsTable new.heap k (Some first_process ∷ [])) (sym turned.same)
@@ -342,6 +341,38 @@ pub boot_stands : (script : Script) (control : Control) → IsValid script → c
 boot_stands script control is program place =
     record { valid = is; program = subst (λ p. p < length script.programs) (sym program) (first_program script is); place = omega (arith, place) }
 
+-- nothing was made in the machine, and the first process has nothing open
+nothing_at : {Y : Type 0} (place : ℕ) (y : Y) → object {X = Y} [] place ≡ Some y → ⊥
+nothing_at zero y is = cc
+nothing_at (suc place) y is = cc
+
+boot_numbers : Numbers
+boot_numbers = record { descs = λ key. key; pipes = λ key. key; socks = λ key. key; frames = λ key. key }
+
+-- a table of places in which nobody is, where nobody has a name
+nobody_bound : (name : ℕ → Option ℕ) (places : ℕ) → ((key node : ℕ) → name key ≡ Some node → ⊥) → AreBound name (replicate {A = Option ℕ} places None)
+nobody_bound name places nobody = record {
+  bound = λ node key is. absurd (object-none places node key is);
+  named = λ key node is. absurd (nobody key node is);
+}
+
+one_behind : (places : ℕ) → places < length (replicate {A = Option ℕ} (places + 1) None)
+one_behind places = let many = length-replicate {A = Option ℕ} (places + 1) None in omega (arith, many)
+
+-- Nobody is bound, since no socket is there.
+boot_bound : (script : Script) (objects : Objects) (control : Control) → HasBooted objects script.heap script.disk control → AreBound (name_of objects.heap.socks) objects.names
+boot_bound script objects control booted =
+    subst (AreBound (name_of objects.heap.socks)) (sym booted.names) (nobody_bound (name_of objects.heap.socks) (most_nodes + 1) (λ key node. no_name key node (object objects.heap.socks key) refl))
+  where
+    none_there : (key : ℕ) (sock : Sock) → object objects.heap.socks key ≡ Some sock → ⊥
+    none_there key sock is =
+        let opened = booted.opened boot_numbers (boot_files script.disk) (boot_bare script.disk) in
+        let there = sock_there boot_numbers objects.heap [] opened.socketed key sock is in nothing_at (boot_numbers.socks key) there.socket there.there
+
+    no_name : (key node : ℕ) (o : Option Sock) → object objects.heap.socks key ≡ o → name_in o ≡ Some node → ⊥
+    no_name key node None there is = cc
+    no_name key node (Some sock) there is = none_there key sock there
+
 -- what is kept where the first process stands at its call
 pub boot_kept : (script : Script) (objects : Objects) (control : Control) → HasBooted objects script.heap script.disk control → Stands script control → Rests script control
     → AreKept script objects
@@ -351,18 +382,11 @@ boot_kept script objects control booted stands rests = record {
   owners = booted.owners;
   groups = subst (AllByRecursion (λ proc. length proc.nodes ≡ 4)) (sym booted.first) (refl, tt);
   calls = subst (AreAtCalls script) (sym booted.first) ((λ up. record { stands = stands; rests = rests }), tt);
-  nodes = booted.nodes;
+  bound = boot_bound script objects control booted;
+  places = subst (λ (list : List (Option ℕ)). most_nodes < length list) (sym booted.names) (one_behind most_nodes);
   caches = (new_tree script.disk, root_alone, booted.stands);
   size = booted.size;
 }
-
--- nothing was made in the machine, and the first process has nothing open
-nothing_at : {Y : Type 0} (place : ℕ) (y : Y) → object {X = Y} [] place ≡ Some y → ⊥
-nothing_at zero y is = cc
-nothing_at (suc place) y is = cc
-
-boot_numbers : Numbers
-boot_numbers = record { descs = λ key. key; pipes = λ key. key; socks = λ key. key; frames = λ key. key }
 
 boot_opens : (script : Script) (objects : Objects) (control : Control) → HasBooted objects script.heap script.disk control → HaveFiles objects (boot_files script.disk) no_account
 boot_opens script objects control booted = record {
@@ -411,19 +435,12 @@ boot_controls script control leads pid proc is = elim (eqb_tells 1 pid) [
     nobody_else : None ≡ Some proc → ⊥
     nobody_else e = cc
 
--- a new disk has no name of a socket
-unnamed : (blocks : ℕ) → NamesNoSocket (new_tree blocks)
-unnamed blocks zero = refl
-unnamed blocks (suc zero) = refl
-unnamed blocks (suc (suc place)) = ap (λ there. is_socket_kind (kind_in there)) (none_in (table_nodes blocks - 1) place)
-
 -- the tree is a new disk's, whose root alone is held
 boot_has_tree : (script : Script) (objects : Objects) → TreeStands objects.heap objects.tree (new_tree script.disk) root_alone → kept_by objects.tree ≡ kept_at_boot
     → objects.tree.disk.reads ≡ 0 → HasTree objects (boot_world script)
 boot_has_tree script objects stands kept unread = record {
   stands = same_pins objects.heap objects.tree (new_tree script.disk) root_alone (pins_in (boot_plain script))
       (alone_pins (boot_plain script) (held_alone (boot_plain script) refl refl)) stands;
-  sockets = unnamed script.disk;
   kept = sym kept;
   reads = sym unread;
 }

@@ -122,7 +122,7 @@ module _ (script : Script) (old new : Objects) (pid : ℕ) (change : Proc → Pr
   -- what is kept then, where it stands at its call if it runs
   pub kept_changed : (became.status ≡ None → IsAtCall script became) → AreKept script new
   kept_changed at =
-      kept_on script old new kept changes.tree moves_changed
+      kept_on script old new kept changes.tree changes.names moves_changed
       (subst (AllByRecursion (λ proc. length proc.nodes ≡ 4)) (sym procs_changed)
       (all_replaced (λ proc. length proc.nodes ≡ 4) (procs_of old) pid became kept.groups
       (subst (λ nodes. length nodes ≡ 4) (sym (ap (λ proc. proc.nodes) changes.turns.same))
@@ -188,7 +188,7 @@ goes_to script old new world pid then control stands moves at rests leads = reco
   files = files_moved old new world.plain.files world.plain.files world.account world.account (moves_then script old new pid control stands.kept moves)
       refl refl refl refl refl (descriptors_moved script old new pid control world.plain.files stands.kept moves at rests) stands.files;
   tree = tree_on old new world (record world { plain = with_control world.plain pid then })
-      (record { tree = moves.tree; caches = moved_caches old.heap new.heap old.procs new.procs (moves_then script old new pid control stands.kept moves) })
+      (record { tree = moves.tree; names = moves.names; caches = moved_caches old.heap new.heap old.procs new.procs (moves_then script old new pid control stands.kept moves) })
       refl refl refl refl stands.tree;
   family = stands.family;
   works = stands.works;

@@ -1,14 +1,16 @@
--- The nodes that are held are those that are pinned; and where one works in the root and no node is opened, the root alone.
+-- The nodes that are held are those that are pinned; descriptions hold them and others; and where one works in the root and no node
+-- is opened, the root alone is held.
 use Rattle.std.proofs.Common.{◌≡◌, ℕ, ◌+◌, ◌<◌, ◌==◌, ◌||◌, Bool, true, false, cond, List, [], ◌∷◌, ◌++◌, refl, ap, sym, ◌∙◌, inl, inr, arith}
 use Rattle.std.specs.Prelude.{count_by}
 use Rattle.std.proofs.lemmas.Bool.Decides.{eqb_tells}
 use Rattle.std.proofs.lemmas.List.Folds.{list_any-append}
-use Rattle.std.proofs.lemmas.List.Sums.{sum_by-cons}
+use Rattle.std.proofs.lemmas.List.Sums.{sum_by-append, sum_by-cons}
 use Rattle.memfs_ops.specs.FileTree.{root_alone}
 use Rattle.posix_defs.specs.Files.State.{opened_nodes}
 use Rattle.posix_defs.specs.Plain.{Plain, root}
 use Rattle.posix_defs.specs.World.{directories_of, distinct, is_in, pinned_nodes}
-use Rattle.store_objects.specs.Trees.{but_root, held_nodes, pins_in}
+use Rattle.holding_laws.specs.Holders.{holders}
+use Rattle.store_objects.specs.Trees.{but_root, held_nodes, others_in, pins_in}
 
 -- 1 for what passes
 abbrev pub one_if : Bool → ℕ
@@ -90,6 +92,17 @@ pinned_held plain n e = in_counts n (held_nodes plain) (sym (pinned_same plain n
 
 pub held_pinned : (plain : Plain) (n : ℕ) → 0 < pins_in plain n → is_in n (pinned_nodes plain) ≡ true
 held_pinned plain n some = pinned_same plain n ∙ counts_in n (held_nodes plain) some
+
+-- ---- who holds them
+
+-- who holds a node is a description, or another
+pub pins_split : (plain : Plain) (n : ℕ) → pins_in plain n ≡ holders (others_in plain) plain.files n
+pins_split plain n =
+    let away = but_root (directories_of plain.table) in
+    let all = whole n root (opened_nodes plain.files ++ away) in
+    let both = sum_by-append (λ node. one_if (node == n)) (opened_nodes plain.files) away in
+    let rest = whole n root away in
+    omega (arith, all, both, rest)
 
 -- ---- the root alone
 

@@ -5,6 +5,7 @@ use Rattle.std.specs.List.{AllByRecursion, Contains}
 use Rattle.kabi_types.specs.declared.scripts.Script.{Script}
 use Rattle.kheap_shelves.specs.Objects.{InUse, object}
 use Rattle.kheap_shelves.specs.declared.objects.Proc.{Proc}
+use Rattle.kheap_shelves.specs.declared.objects.Sock.{Sock}
 use Rattle.kheap_slabs.specs.Heap.{Heap}
 use Rattle.kheap_slabs.specs.Keys.{AreKeysOf, IsOnce}
 use Rattle.kheap_slabs.specs.Owners.{pipe_queues, sock_queues}
@@ -12,13 +13,14 @@ use Rattle.kheap_laws.proofs.KeyLemmas.{AreKeysOf-changes}
 use Rattle.kheap_laws.proofs.OnceLemmas.{IsOnce-cons}
 use Rattle.open_laws.specs.Owned.{HasItsOwners, desc_count_at, namings_of}
 use Rattle.open_laws.proofs.GoingLemmas.{held_open_on}
-use Rattle.proc_descs.specs.Having.{AreListed, OpensNoNode}
+use Rattle.proc_descs.specs.Having.{AreListed}
+use Rattle.holding_laws.specs.Names.{AreBound, name_of}
 use Rattle.proc_table.specs.Moves.{TableMoves}
 use Rattle.proc_table.specs.Table.{AreBetween, AreStored, TableView, keys_of, processes}
 use Rattle.proc_table.specs.declared.places.Listed.{Listed}
 use Rattle.proc_table.proofs.PlaceLemmas.{Contains-cases, IsAt, Misses, Misses-lower, stored_is}
 use Rattle.store_objects.specs.declared.objects.Objects.{Objects}
-use Rattle.store_objects.specs.Objects.{AreAtCalls, AreKept, procs_of}
+use Rattle.store_objects.specs.Objects.{AreAtCalls, AreKept, most_nodes, procs_of}
 use Rattle.store_objects.specs.Trees.{CachesStay, KeepsTree}
 use Rattle.memfs_ops.specs.FileTree.{TreeView}
 use Rattle.store_objects.proofs.TreesOn.{caches_on}
@@ -108,42 +110,47 @@ moved_caches old new was now moves = record {
   size = ap (λ (h : Heap). h.heap) moves.kept;
 }
 
--- What is kept of a heap, a table and a tree of files, with some Descs named in hand.
-pub record KeepsHeap (script : Script) (h : Heap) (kept : TableView) (fs : TreeView) (hand : List ℕ) : Type 0 where
+-- What is kept of a heap, a table, a tree of files and a table of names, with some Descs named in hand.
+pub record KeepsHeap (script : Script) (h : Heap) (kept : TableView) (fs : TreeView) (names : List (Option ℕ)) (hand : List ℕ) : Type 0 where
   pub listed : AreListed h kept
   pub owners : HasItsOwners h hand
-  pub nodes : OpensNoNode h.descs
+  pub bound : AreBound (name_of h.socks) names
+  pub places : most_nodes < length names
   pub caches : KeepsTree h fs
   pub size : h.heap ≡ script.heap
 
-pub keeps_heap : (script : Script) (objects : Objects) → AreKept script objects → KeepsHeap script objects.heap objects.procs objects.tree []
+pub keeps_heap : (script : Script) (objects : Objects) → AreKept script objects → KeepsHeap script objects.heap objects.procs objects.tree objects.names []
 keeps_heap script objects kept = record {
   listed = listed_in script objects kept;
   owners = kept.owners;
-  nodes = kept.nodes;
+  bound = kept.bound;
+  places = kept.places;
   caches = kept.caches;
   size = kept.size;
 }
 
 -- The objects are kept where a table moves on, each process has four groups and stands at its call, and all Descs that were in
 -- hand are named by one.
-pub kept_with : (script : Script) (old : Heap) (was : TableView) (fs : TreeView) (new : Objects) (hand : List ℕ) → KeepsHeap script old was fs hand → new.tree ≡ fs → TableMoves old was new.heap new.procs
+pub kept_with : (script : Script) (old : Heap) (was : TableView) (fs : TreeView) (names : List (Option ℕ)) (new : Objects) (hand : List ℕ) → KeepsHeap script old was fs names hand → new.tree ≡ fs → new.names ≡ names
+    → TableMoves old was new.heap new.procs
     → AllByRecursion (λ proc. length proc.nodes ≡ 4) (procs_of new) → AreAtCalls script (procs_of new)
     → ((key : ℕ) → names_in key (procs_of new) ≡ names_in key (processes old was) + count_by (λ other. other == key) hand) → AreKept script new
-kept_with script old was fs new hand keeps tree moves groups calls names = record {
+kept_with script old was fs table new hand keeps tree same moves groups calls names = record {
   holds = moves.holds;
   all = all_on old new.heap was new.procs keeps.listed.all moves;
   owners = owners_on old new.heap was new.procs hand keeps.listed moves keeps.owners names;
   groups = groups;
   calls = calls;
-  nodes = subst OpensNoNode (sym (ap (λ (h : Heap). h.descs) moves.kept)) keeps.nodes;
+  bound = subst (λ (list : List (Option ℕ)). AreBound (name_of new.heap.socks) list) (sym same)
+      (subst (λ (socks : List (Option Sock)). AreBound (name_of socks) table) (sym (ap (λ (h : Heap). h.socks) moves.kept)) keeps.bound);
+  places = subst (λ (list : List (Option ℕ)). most_nodes < length list) (sym same) keeps.places;
   caches = caches_on old new.heap fs new.tree tree (moved_caches old new.heap was new.procs moves) keeps.caches;
   size = ap (λ (h : Heap). h.heap) moves.kept ∙ keeps.size;
 }
 
-pub kept_on : (script : Script) (old new : Objects) → AreKept script old → new.tree ≡ old.tree → TableMoves old.heap old.procs new.heap new.procs
+pub kept_on : (script : Script) (old new : Objects) → AreKept script old → new.tree ≡ old.tree → new.names ≡ old.names → TableMoves old.heap old.procs new.heap new.procs
     → AllByRecursion (λ proc. length proc.nodes ≡ 4) (procs_of new) → AreAtCalls script (procs_of new)
     → ((key : ℕ) → names_in key (procs_of new) ≡ names_in key (procs_of old)) → AreKept script new
-kept_on script old new kept tree moves groups calls names =
-    kept_with script old.heap old.procs old.tree new [] (keeps_heap script old kept) tree moves groups calls
+kept_on script old new kept tree same moves groups calls names =
+    kept_with script old.heap old.procs old.tree old.names new [] (keeps_heap script old kept) tree same moves groups calls
     (λ key. let same = names key in let nothing : count_by (λ (other : ℕ). other == key) [] ≡ 0 = refl in omega (arith, same, nothing))

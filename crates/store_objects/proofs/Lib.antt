@@ -3,7 +3,6 @@ pub mod Namings
 pub mod PlacedSums
 pub mod SocketPlaces
 pub mod Fronts
-pub mod TreeStays
 pub mod HeldNodes
 pub mod OnceKept
 pub mod KeptNow
@@ -14,6 +13,7 @@ pub mod WorkingOn
 pub mod PidSums
 pub mod LiveIs
 pub mod FewPins
+pub mod HoldsFiles
 pub mod PageNamings
 pub mod Families
 pub mod Keeping
@@ -28,13 +28,6 @@ pub mod Opening
 pub mod Paying
 pub mod Replies
 pub mod Callers
-pub mod LowestBehind
 pub mod WithoutOne
-pub mod Shutting
-pub mod EndingProcs
-pub mod EndingOthers
-pub mod Closing
-pub mod EndingOne
 pub mod Moving
-pub mod Dying
 pub mod Booting

@@ -11,7 +11,7 @@ use Rattle.store_objects.proofs.TreesOn.{caches_on, tree_on}
 
 -- the objects with another mark of their heap
 abbrev pub marked_as : Objects → ℕ → ℕ → Objects
-marked_as objects high marks = record { heap = record objects.heap { high = high; marks = marks }; procs = objects.procs; tree = objects.tree }
+marked_as objects high marks = record { heap = record objects.heap { high = high; marks = marks }; procs = objects.procs; tree = objects.tree; names = objects.names }
 
 -- a mark leaves what caches have in the heap
 marked_caches : (objects : Objects) (high marks : ℕ) → CachesStay objects.heap (marked_as objects high marks).heap
@@ -25,7 +25,7 @@ kept_marked script objects high marks kept =
 pub stands_marked : (script : Script) (objects : Objects) (high marks : ℕ) (world : World) → StandsFor script objects world → StandsFor script (marked_as objects high marks) world
 stands_marked script objects high marks world stands =
     stands_beside script objects objects.heap.vnodes objects.heap.names objects.heap.blocks high marks objects.tree world world.plain.files.tree world.kept world.reads stands stands.works
-    (tree_on objects (marked_as objects high marks) world world (record { tree = refl; caches = marked_caches objects high marks }) refl refl refl refl stands.tree)
+    (tree_on objects (marked_as objects high marks) world world (record { tree = refl; names = refl; caches = marked_caches objects high marks }) refl refl refl refl stands.tree)
 
 -- from a mark on high is no less than what was taken at it
 pub since_mark : (old marked high of : ℕ) → marked ≡ old → old ≡ of → marked ≤ high → of ≤ high

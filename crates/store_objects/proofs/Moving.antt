@@ -14,6 +14,7 @@ use Rattle.posix_defs.specs.Plain.{Plain, control_of, root}
 use Rattle.posix_defs.specs.Process.{Process, Table, process_at, with_directory, working_in as working}
 use Rattle.posix_defs.specs.Tree.{Tree, is_directory}
 use Rattle.posix_defs.specs.World.{World}
+use Rattle.holding_laws.specs.Holders.{openings}
 use Rattle.proc_table.specs.Changes.{is_other, replaced}
 use Rattle.proc_table.specs.Procs.{proc_of, process_of}
 use Rattle.proc_table.specs.Standing.{AreFrom, IsTable, gone, nobody, there}
@@ -29,50 +30,17 @@ use Rattle.store_objects.specs.Files.{HaveFiles}
 use Rattle.store_objects.specs.Objects.{AreKept, IsAtCall, Runs, WorksElsewhere, procs_of}
 use Rattle.store_objects.specs.Standing.{HasEntered, StandsFor, working_in}
 use Rattle.store_objects.specs.Trees.{KeptStays, TreeStays, but_root, held_nodes, pins_in}
-use Rattle.store_objects.specs.Working.{AreDirectories, IsWorkedIn, OnlyPins, directories_in, entered_pins, left_pins, pins_by}
+use Rattle.store_objects.specs.Working.{AreDirectories, OnlyPins, directories_in, entered_pins, left_pins}
 use Rattle.store_objects.proofs.Families.{SameMemory, processes_on}
 use Rattle.store_objects.proofs.GoingOn.{account_changed, descriptors_changed, kept_changed, mapped_from, moves_changed, proc_made, procs_changed, replaced_at, rising_in, some_same}
 use Rattle.store_objects.proofs.HeldNodes.{in_counts, one_if}
 use Rattle.store_objects.proofs.Keeping.{moved_caches}
 use Rattle.store_objects.proofs.Opening.{files_moved}
 use Rattle.store_objects.proofs.Pinning.{kept_then, kept_where, pinned_account, pinned_files, pinned_kept, pinned_procs, pinned_stays, pinned_table, stands_where}
-use Rattle.store_objects.proofs.TreesOn.{held_by_procs, same_pins, tree_worked, works_worked}
-use Rattle.store_objects.proofs.WorkPlaces.{away, count, directories_from, holds_it, others_hold}
+use Rattle.store_objects.proofs.TreesOn.{held_by_procs, same_pins, works_in, works_worked}
+use Rattle.store_objects.proofs.WorkPlaces.{away, count, entered_more, holds_it, left_less, others_by, others_hold}
 
 -- ---- how often a node is held
-
--- who enters a directory holds it once more than before, but for the root
-entered_more : (pins : ℕ → ℕ) (directory n : ℕ) → entered_pins pins directory n ≡ pins n + away directory n
-entered_more pins directory n = by_root (directory == root)
-  where
-    nothing : (k : ℕ) → k ≡ k + 0
-    nothing k = omega arith
-
-    by_node : (b : Bool) → cond b (pins n + 1) (pins n) ≡ pins n + one_if b
-    by_node true = refl
-    by_node false = nothing (pins n)
-
-    by_root : (b : Bool) → cond b pins (one_more pins directory) n ≡ pins n + cond b 0 (one_if (directory == n))
-    by_root true = nothing (pins n)
-    by_root false = by_node (directory == n)
-
--- and who leaves one holds it once less
-left_less : (pins : ℕ → ℕ) (directory n rest : ℕ) → pins n ≡ away directory n + rest → left_pins pins directory n ≡ rest
-left_less pins directory n rest e = by_root (directory == root) e
-  where
-    none : (all rest : ℕ) → all ≡ 0 + rest → all ≡ rest
-    none all rest e = omega arith
-
-    one : (all rest : ℕ) → all ≡ 1 + rest → all - 1 ≡ rest
-    one all rest e = omega arith
-
-    by_node : (b : Bool) → pins n ≡ one_if b + rest → cond b (pins n - 1) (pins n) ≡ rest
-    by_node true e = one (pins n) rest e
-    by_node false e = none (pins n) rest e
-
-    by_root : (b : Bool) → pins n ≡ cond b 0 (one_if (directory == n)) + rest → cond b pins (one_less pins directory) n ≡ rest
-    by_root true e = none (pins n) rest e
-    by_root false e = by_node (directory == n) e
 
 -- once more and once less
 pub one_back : (pins : ℕ → ℕ) (directory n : ℕ) → one_less (one_more pins directory) directory n ≡ pins n
@@ -219,7 +187,7 @@ module _ (script : Script) (old mid : Objects) (world : World) (directory : ℕ)
       it_was proc found = some_same (proc_of (procs_of mid) pid) moves.proc proc moves.found (ap (λ procs. proc_of procs pid) (pinned_procs old mid once) ∙ found)
 
       stays : TreeStays mid moved
-      stays = record { tree = moves.tree; caches = moved_caches mid.heap moved.heap mid.procs moved.procs (moves_changed script mid moved pid at_directory kept_mid moves) }
+      stays = record { tree = moves.tree; names = moves.names; caches = moved_caches mid.heap moved.heap mid.procs moved.procs (moves_changed script mid moved pid at_directory kept_mid moves) }
 
       pub stands_moved : Stands moved.heap moved.tree tree entering
       stands_moved = stands_where mid moved tree entering stays stands_mid
@@ -258,9 +226,12 @@ module _ (script : Script) (old mid : Objects) (world : World) (directory : ℕ)
       pub is_held : (left : ℕ) → left ≡ moves.proc.cwd → moves.proc.status ≡ None → left ≢ root → 0 < entering left
       is_held left at up other =
           some_more (pins_in world.plain) directory left
-          (subst (λ n. 0 < n) (sym (held_by_procs script old world.plain world.account has.kept has.files has.processes.table left))
-          (subst (λ n. 0 < pins_by (procs_of old) n) (sym at)
-          (holds_it pid (procs_of old) 0 moves.proc (rising_in script old has.kept) found_old up (λ same. other (at ∙ same)))))
+          (let held = held_by_procs old world.plain has.processes.table left in let one : 0 < others_by (procs_of old) left = holds_left in omega (arith, held, one))
+        where
+          holds_left : 0 < others_by (procs_of old) left
+          holds_left =
+              subst (λ n. 0 < others_by (procs_of old) n) (sym at)
+              (holds_it pid (procs_of old) 0 moves.proc (rising_in script old has.kept) found_old up (λ same. other (at ∙ same)))
 
       module _ (new : Objects) (left : ℕ) (lets : OnlyPins moved new) (gone : (tree : Tree) (pins : ℕ → ℕ) → Stands moved.heap moved.tree tree pins → Stands new.heap new.tree tree (left_pins pins left))
           (at : left ≡ moves.proc.cwd) (up : moves.proc.status ≡ None) where
@@ -320,36 +291,39 @@ module _ (script : Script) (old mid : Objects) (world : World) (directory : ℕ)
 
         -- ---- who holds what
 
-        pins_new : (n : ℕ) → left_pins entering left n ≡ pins_by (procs_of new) n
+        abbrev next : Plain
+        next = (working_in world pid directory).plain
+
+        pins_new : (n : ℕ) → left_pins entering left n ≡ pins_in next n
         pins_new n =
-            left_less entering left n (here + (away directory n + others)) as_many
-            ∙ sym (others_hold pid (procs_of new) 0 became (rising_in script new kept_new) found_new up n
-            ∙ ap (λ procs. here + (away directory n + count n (but_root (directories_in procs)))) (ap (filter (is_other pid)) procs_new ∙ others_same pid became (procs_of old) own))
+            left_less entering left n (here + (away directory n + others) + opens) as_many
+            ∙ sym (held_by_procs new next table_new n
+            ∙ ap (λ k. k + opens) (others_hold pid (procs_of new) 0 became (rising_in script new kept_new) found_new up n
+            ∙ ap (λ procs. here + (away directory n + count n (but_root (directories_in procs)))) (ap (filter (is_other pid)) procs_new ∙ others_same pid became (procs_of old) own)))
           where
             here : ℕ
             here = one_if (root == n)
 
+            opens : ℕ
+            opens = openings world.plain.files n
+
             others : ℕ
             others = count n (but_root (directories_in (filter (is_other pid) (procs_of old))))
 
-            group : (all was here away enters rest : ℕ) → all ≡ was + enters → was ≡ here + (away + rest) → all ≡ away + (here + (enters + rest))
-            group all was here away enters rest e f = omega arith
+            group : (all was here away enters rest more : ℕ) → all ≡ was + enters → was ≡ here + (away + rest) + more → all ≡ away + (here + (enters + rest) + more)
+            group all was here away enters rest more e f = omega arith
 
-            were : pins_in world.plain n ≡ here + (away moves.proc.cwd n + others)
-            were = held_by_procs script old world.plain world.account has.kept has.files has.processes.table n
-                ∙ others_hold pid (procs_of old) 0 moves.proc (rising_in script old has.kept) found_old up n
+            were : pins_in world.plain n ≡ here + (away moves.proc.cwd n + others) + opens
+            were = held_by_procs old world.plain has.processes.table n
+                ∙ ap (λ k. k + opens) (others_hold pid (procs_of old) 0 moves.proc (rising_in script old has.kept) found_old up n)
 
-            as_many : entering n ≡ away left n + (here + (away directory n + others))
-            as_many = subst (λ cwd. entering n ≡ away cwd n + (here + (away directory n + others))) (sym at)
-                (group (entering n) (pins_in world.plain n) here (away moves.proc.cwd n) (away directory n) others (entered_more (pins_in world.plain) directory n) were)
+            as_many : entering n ≡ away left n + (here + (away directory n + others) + opens)
+            as_many = subst (λ cwd. entering n ≡ away cwd n + (here + (away directory n + others) + opens)) (sym at)
+                (group (entering n) (pins_in world.plain n) here (away moves.proc.cwd n) (away directory n) others opens (entered_more (pins_in world.plain) directory n) were)
 
-        worked_new : IsWorkedIn new tree
-        worked_new = record {
-          stands = same_pins new.heap new.tree tree (left_pins entering left) (pins_by (procs_of new)) pins_new stands_new;
-          works = subst (λ procs. AreDirectories tree (directories_in procs)) (sym procs_new)
-              (all_work (λ node. is_directory tree node ≡ true) pid became (procs_of old) has.entered
-              (subst (AreDirectories tree) (directories_from has.processes.table.present) has.works));
-        }
+        works_new : AreDirectories tree (directories_in (procs_of new))
+        works_new = subst (λ procs. AreDirectories tree (directories_in procs)) (sym procs_new)
+            (all_work (λ node. is_directory tree node ≡ true) pid became (procs_of old) has.entered (works_in old tree world.plain.table has.processes.table has.works))
 
         kept_same : KeptStays old.tree new.tree
         kept_same = kept_then old.tree moved.tree new.tree
@@ -367,7 +341,11 @@ module _ (script : Script) (old mid : Objects) (world : World) (directory : ℕ)
           memory = pinned_account moved new lets world.account.frames
               (account_changed script mid moved pid at_directory kept_mid moves world.account.frames (pinned_account old mid once world.account.frames has.memory));
           files = files_new;
-          tree = tree_worked script new (working_in world pid directory) kept_new files_new table_new worked_new has.sockets (has.same ∙ sym kept_same.kept) (has.reads ∙ sym kept_same.reads);
+          tree = record {
+            stands = same_pins new.heap new.tree tree (left_pins entering left) (pins_in next) pins_new stands_new;
+            kept = has.same ∙ sym kept_same.kept;
+            reads = has.reads ∙ sym kept_same.reads;
+          };
           family = (moves_on world.plain pid directory (record { family = has.family; counted = has.processes.table.made ∙ has.processes.last })).family;
-          works = works_worked new tree (with_directory world.plain.table pid directory) table_new worked_new;
+          works = works_worked new tree (with_directory world.plain.table pid directory) table_new works_new;
         }

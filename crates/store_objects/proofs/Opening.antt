@@ -20,7 +20,7 @@ use Rattle.proc_table.proofs.OwnLemmas.{AreRising, has_it}
 use Rattle.store_objects.specs.declared.objects.Objects.{Objects}
 use Rattle.store_objects.specs.Files.{AreSettled, HaveFiles}
 use Rattle.store_objects.specs.Objects.{procs_of}
-use Rattle.store_objects.proofs.EndingProcs.{all_found}
+use Rattle.store_objects.proofs.RunningProcs.{all_found}
 
 -- ---- descriptors
 

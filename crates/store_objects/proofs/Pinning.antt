@@ -1,5 +1,5 @@
 -- Objects of which nothing has changed but how often nodes are held.
-use Rattle.std.proofs.Common.{◌≡◌, ℕ, refl, ap, sym, ◌∙◌, subst}
+use Rattle.std.proofs.Common.{◌≡◌, ℕ, List, Option, refl, ap, sym, ◌∙◌, subst}
 use Rattle.std.specs.Map.{keys_of}
 use Rattle.kabi_types.specs.declared.scripts.Script.{Script}
 use Rattle.kheap_slabs.specs.Heap.{Heap}
@@ -28,8 +28,8 @@ use Rattle.store_objects.proofs.Beside.{kept_beside}
 use Rattle.store_objects.proofs.Opening.{files_on}
 use Rattle.store_objects.proofs.TreesOn.{stands_on}
 
-abbrev objects_of : Heap → TableView → TreeView → Objects
-objects_of heap procs tree = record { heap = heap; procs = procs; tree = tree }
+abbrev objects_of : Heap → TableView → TreeView → List (Option ℕ) → Objects
+objects_of heap procs tree names = record { heap = heap; procs = procs; tree = tree; names = names }
 
 -- what it stands for it stands for where it stays
 pub stands_where : (old new : Objects) (tree : Tree) (pins : ℕ → ℕ) → TreeStays old new → Stands old.heap old.tree tree pins → Stands new.heap new.tree tree pins
@@ -83,7 +83,9 @@ module _ (old new : Objects) (only : OnlyPins old new) where
   pub pinned_kept : (script : Script) → AreKept script old → KeepsTree new.heap new.tree → AreKept script new
   pinned_kept script kept keeps =
       subst (AreKept script)
-      (sym (ap (λ (h : Heap). objects_of h new.procs new.tree) only.heap ∙ ap (λ (view : TableView). objects_of (record old.heap { vnodes = new.heap.vnodes }) view new.tree) only.procs))
+      (sym (ap (λ (h : Heap). objects_of h new.procs new.tree new.names) only.heap
+      ∙ ap (λ (view : TableView). objects_of (record old.heap { vnodes = new.heap.vnodes }) view new.tree new.names) only.procs
+      ∙ ap (objects_of (record old.heap { vnodes = new.heap.vnodes }) old.procs new.tree) only.names))
       (kept_beside script old new.heap.vnodes old.heap.names old.heap.blocks old.heap.high old.heap.marks new.tree kept (subst (λ (h : Heap). KeepsTree h new.tree) only.heap keeps))
 
   pub pinned_stays : KeptStays old.tree new.tree

@@ -1,5 +1,7 @@
--- Who runs among the processes.
-use Rattle.std.proofs.Common.{◌≡◌, ◌==◌, not, ℕ, Bool, true, false, cond, List, [], ◌∷◌, Option, None, Some, is_some, refl, ap, sym, ◌∙◌}
+-- Who is there and runs among the processes.
+use Rattle.std.proofs.Common.{◌≡◌, ◌<◌, ◌==◌, not, ℕ, Bool, true, false, cond, List, [], ◌∷◌, Option, None, Some, is_some, refl, ap, sym, ◌∙◌, arith}
+use Rattle.std.specs.Prelude.{IsSome}
+use Rattle.std.specs.List.{AllByRecursion}
 use Rattle.std.specs.Option.{option_map}
 use Rattle.kheap_shelves.specs.declared.objects.Proc.{Proc}
 use Rattle.kheap_slabs.specs.Heap.{Heap}
@@ -7,10 +9,14 @@ use Rattle.kabi_types.specs.declared.scripts.Control.{Control}
 use Rattle.kabi_types.specs.declared.scripts.Script.{Script}
 use Rattle.posix_defs.specs.Plain.{Plain}
 use Rattle.posix_defs.specs.Process.{is_alive, is_alive_in, runs}
+use Rattle.proc_descs.proofs.Listing.{found_by_pid}
 use Rattle.proc_table.specs.Procs.{IsAlive, proc_of, process_of, status_of}
+use Rattle.proc_table.specs.Table.{key_of}
 use Rattle.proc_table.proofs.FamilyLemmas.{process_is}
+use Rattle.proc_table.proofs.OwnLemmas.{AreRising}
+use Rattle.proc_table.proofs.PlaceLemmas.{eqb_other, eqb_same}
 use Rattle.store_objects.specs.declared.objects.Objects.{Objects}
-use Rattle.store_objects.specs.Objects.{Runs, is_running, procs_of}
+use Rattle.store_objects.specs.Objects.{AreKept, Runs, is_running, procs_of}
 use Rattle.store_objects.specs.Standing.{AreProcesses}
 
 runs_in : Option Proc → Bool
@@ -74,3 +80,19 @@ pub alive_there : (script : Script) (objects : Objects) (plain : Plain) (pid : �
     → AreProcesses script objects plain → is_alive plain.table pid ≡ true
 alive_there script objects plain pid control runs are =
     alive_is script objects plain pid are ∙ running_as (procs_of objects) pid runs.proc false runs.found (ap is_some runs.up)
+
+-- the table has its key
+pub has_key : (script : Script) (objects : Objects) (pid : ℕ) → AreKept script objects → IsAlive (procs_of objects) pid → IsSome (key_of objects.procs.listed pid)
+has_key script objects pid kept alive =
+    let found = found_by_pid objects.heap.procs objects.procs.listed pid alive.proc kept.holds.stored alive.there in ap is_some found.named
+
+-- what holds of whoever is found holds of all
+pub all_found : (P : Proc → Type 0) (procs : List Proc) (before : ℕ) → AreRising before procs
+    → ((pid : ℕ) (proc : Proc) → before < pid → proc_of procs pid ≡ Some proc → P proc) → AllByRecursion P procs
+all_found P [] before rising each = tt
+all_found P (proc ∷ procs) before rising each = (
+  each proc.pid proc rising.0 (ap (λ b. cond b (Some proc) (proc_of procs proc.pid)) (eqb_same proc.pid proc.pid refl)),
+  all_found P procs proc.pid rising.1
+      (λ pid other above is. each pid other (let first : before < proc.pid = rising.0 in omega arith)
+      (ap (λ b. cond b (Some proc) (proc_of procs pid)) (eqb_other proc.pid pid (λ same. omega arith)) ∙ is)),
+)

@@ -1,6 +1,6 @@
 -- The tree of files goes on where its caches have the same in the heap, and the machine has the same tree, whose nodes are held as
 -- before.
-use Rattle.std.proofs.Common.{◌≡◌, ℕ, ◌<◌, ◌==◌, List, [], ◌∷◌, ◌++◌, ap, sym, ◌∙◌, subst}
+use Rattle.std.proofs.Common.{◌≡◌, ℕ, ◌+◌, ◌<◌, ◌==◌, List, [], ◌∷◌, ◌++◌, ap, sym, ◌∙◌, subst}
 use Rattle.std.specs.Prelude.{count_by}
 use Rattle.kabi_types.specs.declared.scripts.Script.{Script}
 use Rattle.kheap_slabs.specs.Heap.{Heap}
@@ -9,22 +9,21 @@ use Rattle.name_cache.specs.Names.{KeepsNames, TrueNames}
 use Rattle.vnode_cache.specs.Nodes.{KeepsNodes, TrueNodes}
 use Rattle.cached_disk.specs.TreeLent.{HasPins}
 use Rattle.memfs_ops.specs.FileTree.{HasRoom, Stands, TreeView}
-use Rattle.posix_defs.specs.Account.{Account}
-use Rattle.posix_defs.specs.Files.State.{Files, opened_nodes}
+use Rattle.posix_defs.specs.Files.State.{opened_nodes}
 use Rattle.posix_defs.specs.Plain.{Plain, root}
 use Rattle.posix_defs.specs.SoundDisk.{HasNode}
 use Rattle.posix_defs.specs.Tree.{Tree, found}
 use Rattle.posix_defs.specs.Process.{Table}
 use Rattle.posix_defs.specs.World.{World, directories_of}
+use Rattle.holding_laws.specs.Holders.{holders, openings}
 use Rattle.proc_table.specs.Standing.{IsTable}
 use Rattle.store_objects.specs.declared.objects.Objects.{Objects}
-use Rattle.store_objects.specs.Files.{HaveFiles}
-use Rattle.store_objects.specs.Objects.{AreKept, procs_of}
+use Rattle.store_objects.specs.Objects.{procs_of}
 use Rattle.store_objects.specs.Standing.{StandsFor}
-use Rattle.store_objects.specs.Trees.{CachesStay, HasTree, KeepsTree, NamesNoSocket, TreeStays, but_root, held_nodes, kept_by, pins_in}
-use Rattle.store_objects.specs.Working.{AreDirectories, IsWorkedIn, pins_by}
-use Rattle.store_objects.proofs.WorkPlaces.{directories_from}
-use Rattle.store_objects.proofs.TreeStays.{off_by_heap, off_nodes}
+use Rattle.store_objects.specs.Trees.{CachesStay, HasTree, KeepsTree, TreeStays, but_root, held_nodes, kept_by, others_in, pins_in}
+use Rattle.store_objects.specs.Working.{AreDirectories, directories_in}
+use Rattle.store_objects.proofs.HeldNodes.{pins_split}
+use Rattle.store_objects.proofs.WorkPlaces.{directories_from, others_by}
 
 -- over a heap that is as large, and has the same of the three classes
 pub stands_on : (old new : Heap) (fs : TreeView) (tree : Tree) (pins : ℕ → ℕ) → CachesStay old new → Stands old fs tree pins → Stands new fs tree pins
@@ -84,7 +83,6 @@ tree_on old new world next stays tree held kept reads has = record {
       (subst (λ (t : Tree). Stands new.heap old.tree t (pins_in next.plain)) (sym tree)
       (same_pins new.heap old.tree world.plain.files.tree (pins_in world.plain) (pins_in next.plain) (λ number. ap (counted number) (sym held))
       (stands_on old.heap new.heap old.tree world.plain.files.tree (pins_in world.plain) stays.caches has.stands)));
-  sockets = subst (λ (t : Tree). NamesNoSocket t) (sym tree) has.sockets;
   kept = kept ∙ has.kept ∙ ap kept_by (sym stays.tree);
   reads = reads ∙ has.reads ∙ ap (λ (fs : TreeView). fs.disk.reads) (sym stays.tree);
 }
@@ -99,54 +97,34 @@ caches_then old mid new first then = record {
 }
 
 pub tree_then : (old mid new : Objects) → TreeStays old mid → TreeStays mid new → TreeStays old new
-tree_then old mid new first then = record { tree = then.tree ∙ first.tree; caches = caches_then old.heap mid.heap new.heap first.caches then.caches }
+tree_then old mid new first then = record { tree = then.tree ∙ first.tree; names = then.names ∙ first.names; caches = caches_then old.heap mid.heap new.heap first.caches then.caches }
 
 -- ---- who works where
 
--- a store has no node open
-pub none_opened : (objects : Objects) (files : Files) (account : Account) (script : Script) → AreKept script objects → HaveFiles objects files account → opened_nodes files ≡ []
-none_opened objects files account script kept have =
-    off_nodes files (off_by_heap have.numbers objects.heap have.opened.list files have.opened.opened kept.nodes)
+-- others than descriptions hold nodes as the machine says
+pub others_held : (objects : Objects) (plain : Plain) → IsTable objects.heap objects.procs plain.table → (number : ℕ) → others_in plain number ≡ others_by (procs_of objects) number
+others_held objects plain is number = ap (λ nodes. counted number (root ∷ but_root nodes)) (directories_from is.present)
 
--- so each node is held by who works in it
-pub held_by_procs : (script : Script) (objects : Objects) (plain : Plain) (account : Account) → AreKept script objects → HaveFiles objects plain.files account
-    → IsTable objects.heap objects.procs plain.table → (number : ℕ) → pins_in plain number ≡ pins_by (procs_of objects) number
-held_by_procs script objects plain account kept have is number =
-    ap (λ opened. counted number (root ∷ opened ++ but_root (directories_of plain.table))) (none_opened objects plain.files account script kept have)
-    ∙ ap (λ nodes. counted number (root ∷ but_root nodes)) (directories_from is.present)
+-- so each node is held by descriptions that open it, and by who works in it
+pub held_by_procs : (objects : Objects) (plain : Plain) → IsTable objects.heap objects.procs plain.table → (number : ℕ)
+    → pins_in plain number ≡ holders (others_by (procs_of objects)) plain.files number
+held_by_procs objects plain is number = pins_split plain number ∙ ap (λ others. others + openings plain.files number) (others_held objects plain is number)
 
--- the tree of a store is worked in as the machine's is
-pub worked_in : (script : Script) (objects : Objects) (world : World) → StandsFor script objects world → IsWorkedIn objects world.plain.files.tree
-worked_in script objects world stands = record {
-  stands = same_pins objects.heap objects.tree world.plain.files.tree (pins_in world.plain) (pins_by (procs_of objects))
-      (held_by_procs script objects world.plain world.account stands.kept stands.files stands.processes.table) stands.tree.stands;
-  works = subst (AreDirectories world.plain.files.tree) (directories_from stands.processes.table.present) stands.works;
-}
+-- the processes in the heap work in directories as the machine's do
+pub works_in : (objects : Objects) (tree : Tree) (table : Table) → IsTable objects.heap objects.procs table → AreDirectories tree (directories_of table) → AreDirectories tree (directories_in (procs_of objects))
+works_in objects tree table is works = subst (AreDirectories tree) (directories_from is.present) works
 
 -- and the other way round
-pub works_worked : (objects : Objects) (tree : Tree) (table : Table) → IsTable objects.heap objects.procs table → IsWorkedIn objects tree → AreDirectories tree (directories_of table)
-works_worked objects tree table is worked = subst (AreDirectories tree) (sym (directories_from is.present)) worked.works
+pub works_worked : (objects : Objects) (tree : Tree) (table : Table) → IsTable objects.heap objects.procs table → AreDirectories tree (directories_in (procs_of objects)) → AreDirectories tree (directories_of table)
+works_worked objects tree table is works = subst (AreDirectories tree) (sym (directories_from is.present)) works
 
-pub tree_worked : (script : Script) (objects : Objects) (world : World) → AreKept script objects → HaveFiles objects world.plain.files world.account
-    → IsTable objects.heap objects.procs world.plain.table → IsWorkedIn objects world.plain.files.tree → NamesNoSocket world.plain.files.tree
-    → world.kept ≡ kept_by objects.tree → world.reads ≡ objects.tree.disk.reads → HasTree objects world
-tree_worked script objects world kept have is worked sockets same reads = record {
-  stands = same_pins objects.heap objects.tree world.plain.files.tree (pins_by (procs_of objects)) (pins_in world.plain)
-      (λ number. sym (held_by_procs script objects world.plain world.account kept have is number)) worked.stands;
-  sockets = sockets;
-  kept = same;
-  reads = reads;
-}
-
--- so the tree goes on with each step that leaves it, who works where, what is kept and the reads
-pub tree_goes_on : (script : Script) (old new : Objects) (world next : World) → StandsFor script old world → AreKept script new → HaveFiles new next.plain.files next.account
+-- so the tree goes on with each step that leaves it, which nodes are open, who works where, what is kept and the reads
+pub tree_goes_on : (script : Script) (old new : Objects) (world next : World) → StandsFor script old world → opened_nodes next.plain.files ≡ opened_nodes world.plain.files
     → directories_of next.plain.table ≡ directories_of world.plain.table → TreeStays old new → next.plain.files.tree ≡ world.plain.files.tree → next.kept ≡ world.kept → next.reads ≡ world.reads
     → HasTree new next
-tree_goes_on script old new world next stands kept have works stays tree same reads =
+tree_goes_on script old new world next stands opens works stays tree same reads =
     tree_on old new world next stays tree
-    (ap (λ opened. root ∷ opened ++ but_root (directories_of next.plain.table)) (none_opened new next.plain.files next.account script kept have)
-    ∙ ap (λ nodes. root ∷ but_root nodes) works
-    ∙ sym (ap (λ opened. root ∷ opened ++ but_root (directories_of world.plain.table)) (none_opened old world.plain.files world.account script stands.kept stands.files)))
+    (ap (λ opened. root ∷ opened ++ but_root (directories_of next.plain.table)) opens ∙ ap (λ nodes. root ∷ opened_nodes world.plain.files ++ but_root nodes) works)
     same reads stands.tree
 
 -- and everybody works in a directory of it still

@@ -1,22 +1,24 @@
 -- Where the processes of a heap work, and who holds these directories, also once one has ended.
-use Rattle.std.proofs.Common.{◌≡◌, ◌≢◌, ℕ, ◌+◌, ◌-◌, ◌<◌, ◌==◌, not, Bool, true, false, cond, List, [], ◌∷◌, filter, map, Option, None, Some, is_none, refl, ap, sym, ◌∙◌, subst, inl, inr, arith}
+use Rattle.std.proofs.Common.{◌≡◌, ◌≢◌, ℕ, ◌+◌, ◌-◌, ◌<◌, ◌==◌, not, Bool, true, false, cond, List, [], ◌∷◌, filter, Option, None, Some, is_none, refl, ap, sym, ◌∙◌, subst, inl, inr, arith}
 use Rattle.std.specs.Prelude.{count_by}
 use Rattle.std.specs.List.{AllByRecursion, cons_option}
 use Rattle.std.proofs.lemmas.Bool.Decides.{eqb_tells}
 use Rattle.kheap_shelves.specs.declared.objects.Proc.{Proc}
 use Rattle.kheap_slabs.specs.Heap.{Heap}
 use Rattle.memfs_ops.specs.Closing.{one_less}
+use Rattle.memfs_ops.specs.FileTree.{one_more}
+use Rattle.posix_defs.specs.Files.State.{Files}
 use Rattle.posix_defs.specs.Plain.{root}
 use Rattle.posix_defs.specs.Process.{Table, runs}
 use Rattle.posix_defs.specs.World.{directories_of}
+use Rattle.holding_laws.specs.Holders.{holders, openings}
 use Rattle.proc_table.specs.Changes.{ended, is_alone, is_other, left_behind, left_by, left_child}
-use Rattle.proc_table.specs.Procs.{no_descriptors, no_nodes, proc_of, status_of}
+use Rattle.proc_table.specs.Procs.{no_nodes, proc_of, status_of}
 use Rattle.proc_table.specs.Standing.{AreFrom, gone, nobody, there}
 use Rattle.proc_table.proofs.OwnLemmas.{AreRising, others_above}
 use Rattle.proc_table.proofs.PlaceLemmas.{eqb_other, eqb_same, some_same}
-use Rattle.store_objects.specs.Endings.{shut}
 use Rattle.store_objects.specs.Trees.{but_root}
-use Rattle.store_objects.specs.Working.{directories_in, left_pins, pins_by}
+use Rattle.store_objects.specs.Working.{directories_in, entered_pins, left_pins}
 use Rattle.store_objects.proofs.HeldNodes.{one_if, whole}
 
 -- they are those of the machine
@@ -107,31 +109,13 @@ left_without pid status (proc ∷ procs) = by_pid (proc.pid == pid) refl (left_w
         ap (λ b. directories_in (filter (is_other pid) (cons_option (cond b (Some (record proc { status = Some status }))
         (cond (proc.parent == pid) (left_child proc.status proc) (Some proc))) rest))) e ∙ by_parent (proc.parent == pid) e same
 
--- who has closed what it had open works where it worked
-shut_work : (pid : ℕ) (procs : List Proc) → directories_in (filter (is_other pid) (map (shut pid) procs)) ≡ directories_in (filter (is_other pid) procs)
-shut_work pid [] = refl
-shut_work pid (proc ∷ procs) = by_pid (proc.pid == pid) refl (shut_work pid procs)
-  where
-    rest : List Proc
-    rest = filter (is_other pid) (map (shut pid) procs)
-
-    others : List Proc
-    others = filter (is_other pid) procs
-
-    by_pid : (b : Bool) → (proc.pid == pid) ≡ b → directories_in rest ≡ directories_in others
-        → directories_in (cond (is_other pid (cond b (record proc { descriptors = no_descriptors }) proc)) (cond b (record proc { descriptors = no_descriptors }) proc ∷ rest) rest)
-        ≡ directories_in (cond (not b) (proc ∷ others) others)
-    by_pid true e same = ap (λ b. directories_in (cond (not b) (record proc { descriptors = no_descriptors } ∷ rest) rest)) e ∙ same
-    by_pid false e same = ap (λ b. directories_in (cond (not b) (proc ∷ rest) rest)) e ∙ ap (behind proc) same
-
 -- so once one has ended all others work where they worked
-pub ended_work : (pid status : ℕ) (procs : List Proc) → directories_in (ended pid status (map (shut pid) procs)) ≡ directories_in (filter (is_other pid) procs)
-ended_work pid status procs = by_alone (is_alone pid (map (shut pid) procs)) ∙ shut_work pid procs
+pub ended_work : (pid status : ℕ) (procs : List Proc) → directories_in (ended pid status procs) ≡ directories_in (filter (is_other pid) procs)
+ended_work pid status procs = by_alone (is_alone pid procs)
   where
-    by_alone : (b : Bool) → directories_in (cond b (filter (is_other pid) (left_by pid status (map (shut pid) procs))) (left_by pid status (map (shut pid) procs)))
-        ≡ directories_in (filter (is_other pid) (map (shut pid) procs))
-    by_alone true = left_without pid status (map (shut pid) procs)
-    by_alone false = left_work pid status (map (shut pid) procs)
+    by_alone : (b : Bool) → directories_in (cond b (filter (is_other pid) (left_by pid status procs)) (left_by pid status procs)) ≡ directories_in (filter (is_other pid) procs)
+    by_alone true = left_without pid status procs
+    by_alone false = left_work pid status procs
 
 -- what holds of all of these holds of all others
 pub all_others : (P : ℕ → Type 0) (pid : ℕ) (procs : List Proc) → AllByRecursion P (directories_in procs) → AllByRecursion P (directories_in (filter (is_other pid) procs))
@@ -161,6 +145,10 @@ count n nodes = count_by (λ node. node == n) nodes
 
 none : (k : ℕ) → k ≡ 0 + k
 none k = omega arith
+
+-- how many hold a node beside descriptions: the root by itself, and who works in another directory
+abbrev pub others_by : List Proc → ℕ → ℕ
+others_by procs number = count number (root ∷ but_root (directories_in procs))
 
 -- how often a node is held by who works in a directory
 abbrev pub away : ℕ → ℕ → ℕ
@@ -209,14 +197,14 @@ without_one n pid (first ∷ procs) before proc rising is = elim (eqb_tells firs
     swap a b c = omega arith
 
 module _ (pid : ℕ) (procs : List Proc) (before : ℕ) (proc : Proc) (rising : AreRising before procs) (is : proc_of procs pid ≡ Some proc) (up : proc.status ≡ None) where
-  pub others_hold : (n : ℕ) → pins_by procs n ≡ one_if (root == n) + (away proc.cwd n + count n (but_root (directories_in (filter (is_other pid) procs))))
+  pub others_hold : (n : ℕ) → others_by procs n ≡ one_if (root == n) + (away proc.cwd n + count n (but_root (directories_in (filter (is_other pid) procs))))
   others_hold n =
       whole n root (but_root (directories_in procs))
       ∙ ap (λ k. one_if (root == n) + k) (without_one n pid procs before proc rising is
       ∙ ap (λ o. cond (is_none o) (away proc.cwd n) 0 + count n (but_root (directories_in (filter (is_other pid) procs)))) up)
 
   -- all others hold it once less
-  pub left_by_one : (n : ℕ) → left_pins (pins_by procs) proc.cwd n ≡ pins_by (filter (is_other pid) procs) n
+  pub left_by_one : (n : ℕ) → left_pins (others_by procs) proc.cwd n ≡ others_by (filter (is_other pid) procs) n
   left_by_one n = by_root (proc.cwd == root) refl ∙ sym (whole n root (but_root (directories_in (filter (is_other pid) procs))))
     where
       others : ℕ
@@ -228,19 +216,19 @@ module _ (pid : ℕ) (procs : List Proc) (before : ℕ) (proc : Proc) (rising : 
       one : (here all rest : ℕ) → all ≡ here + (1 + rest) → all - 1 ≡ here + rest
       one here all rest e = omega arith
 
-      by_node : (b : Bool) → (proc.cwd == n) ≡ b → (proc.cwd == root) ≡ false → cond b (pins_by procs n - 1) (pins_by procs n) ≡ one_if (root == n) + others
-      by_node true same other = one (one_if (root == n)) (pins_by procs n) others
+      by_node : (b : Bool) → (proc.cwd == n) ≡ b → (proc.cwd == root) ≡ false → cond b (others_by procs n - 1) (others_by procs n) ≡ one_if (root == n) + others
+      by_node true same other = one (one_if (root == n)) (others_by procs n) others
           (others_hold n ∙ ap (λ b. one_if (root == n) + (cond b 0 (one_if (proc.cwd == n)) + others)) other ∙ ap (λ b. one_if (root == n) + (one_if b + others)) same)
-      by_node false same other = nowhere (one_if (root == n)) (pins_by procs n) others
+      by_node false same other = nowhere (one_if (root == n)) (others_by procs n) others
           (others_hold n ∙ ap (λ b. one_if (root == n) + (cond b 0 (one_if (proc.cwd == n)) + others)) other ∙ ap (λ b. one_if (root == n) + (one_if b + others)) same)
 
-      by_root : (b : Bool) → (proc.cwd == root) ≡ b → cond b (pins_by procs) (one_less (pins_by procs) proc.cwd) n ≡ one_if (root == n) + others
-      by_root true at = nowhere (one_if (root == n)) (pins_by procs n) others (others_hold n ∙ ap (λ b. one_if (root == n) + (cond b 0 (one_if (proc.cwd == n)) + others)) at)
+      by_root : (b : Bool) → (proc.cwd == root) ≡ b → cond b (others_by procs) (one_less (others_by procs) proc.cwd) n ≡ one_if (root == n) + others
+      by_root true at = nowhere (one_if (root == n)) (others_by procs n) others (others_hold n ∙ ap (λ b. one_if (root == n) + (cond b 0 (one_if (proc.cwd == n)) + others)) at)
       by_root false at = by_node (proc.cwd == n) refl at
 
   -- who works elsewhere than in the root holds that
-  pub holds_it : proc.cwd ≢ root → 0 < pins_by procs proc.cwd
-  holds_it other = some (pins_by procs proc.cwd) (one_if (root == proc.cwd)) (count proc.cwd (but_root (directories_in (filter (is_other pid) procs))))
+  pub holds_it : proc.cwd ≢ root → 0 < others_by procs proc.cwd
+  holds_it other = some (others_by procs proc.cwd) (one_if (root == proc.cwd)) (count proc.cwd (but_root (directories_in (filter (is_other pid) procs))))
       (others_hold proc.cwd
       ∙ ap (λ b. one_if (root == proc.cwd) + (cond b 0 (one_if (proc.cwd == proc.cwd)) + count proc.cwd (but_root (directories_in (filter (is_other pid) procs))))) (eqb_other proc.cwd root other)
       ∙ ap (λ b. one_if (root == proc.cwd) + (one_if b + count proc.cwd (but_root (directories_in (filter (is_other pid) procs))))) (eqb_same proc.cwd proc.cwd refl))
@@ -249,10 +237,53 @@ module _ (pid : ℕ) (procs : List Proc) (before : ℕ) (proc : Proc) (rising : 
       some all here rest e = omega arith
 
 -- the root is held by itself
-pub root_stays : (procs : List Proc) (directory : ℕ) → directory ≢ root → 0 < one_less (pins_by procs) directory root
+pub root_stays : (procs : List Proc) (directory : ℕ) → directory ≢ root → 0 < one_less (others_by procs) directory root
 root_stays procs directory other =
-    subst (λ b. 0 < cond b (pins_by procs root - 1) (pins_by procs root)) (sym (eqb_other directory root other))
-    (some (pins_by procs root) (count root (but_root (directories_in procs))) (whole root root (but_root (directories_in procs))))
+    subst (λ b. 0 < cond b (others_by procs root - 1) (others_by procs root)) (sym (eqb_other directory root other))
+    (some (others_by procs root) (count root (but_root (directories_in procs))) (whole root root (but_root (directories_in procs))))
   where
     some : (all rest : ℕ) → all ≡ 1 + rest → 0 < all
     some all rest e = omega arith
+
+-- ---- who enters and who leaves
+
+-- who enters a directory holds it once more than before, but for the root
+pub entered_more : (pins : ℕ → ℕ) (directory n : ℕ) → entered_pins pins directory n ≡ pins n + away directory n
+entered_more pins directory n = by_root (directory == root)
+  where
+    nothing : (k : ℕ) → k ≡ k + 0
+    nothing k = omega arith
+
+    by_node : (b : Bool) → cond b (pins n + 1) (pins n) ≡ pins n + one_if b
+    by_node true = refl
+    by_node false = nothing (pins n)
+
+    by_root : (b : Bool) → cond b pins (one_more pins directory) n ≡ pins n + cond b 0 (one_if (directory == n))
+    by_root true = nothing (pins n)
+    by_root false = by_node (directory == n)
+
+-- and who leaves one holds it once less
+pub left_less : (pins : ℕ → ℕ) (directory n rest : ℕ) → pins n ≡ away directory n + rest → left_pins pins directory n ≡ rest
+left_less pins directory n rest e = by_root (directory == root) e
+  where
+    none : (all rest : ℕ) → all ≡ 0 + rest → all ≡ rest
+    none all rest e = omega arith
+
+    one : (all rest : ℕ) → all ≡ 1 + rest → all - 1 ≡ rest
+    one all rest e = omega arith
+
+    by_node : (b : Bool) → pins n ≡ one_if b + rest → cond b (pins n - 1) (pins n) ≡ rest
+    by_node true e = one (pins n) rest e
+    by_node false e = none (pins n) rest e
+
+    by_root : (b : Bool) → pins n ≡ cond b 0 (one_if (directory == n)) + rest → cond b pins (one_less pins directory) n ≡ rest
+    by_root true e = none (pins n) rest e
+    by_root false e = by_node (directory == n) e
+
+-- whoever else holds nodes
+pub entered_others : (others : ℕ → ℕ) (files : Files) (directory n : ℕ) → entered_pins (holders others files) directory n ≡ holders (entered_pins others directory) files n
+entered_others others files directory n =
+    let all = entered_more (holders others files) directory n in let these = entered_more others directory n in omega (arith, all, these)
+
+pub left_others : (others : ℕ → ℕ) (files : Files) (directory n rest : ℕ) → others n ≡ away directory n + rest → left_pins (holders others files) directory n ≡ rest + openings files n
+left_others others files directory n rest e = left_less (holders others files) directory n (rest + openings files n) (omega (arith, e))

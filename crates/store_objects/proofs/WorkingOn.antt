@@ -17,9 +17,9 @@ use Rattle.proc_table.proofs.PlaceLemmas.{some_same}
 use Rattle.store_objects.specs.declared.objects.Objects.{Objects}
 use Rattle.store_objects.specs.Objects.{procs_of}
 use Rattle.store_objects.specs.Trees.{but_root}
-use Rattle.store_objects.specs.Working.{directories_in, entered_pins, pins_by}
+use Rattle.store_objects.specs.Working.{directories_in, entered_pins}
 use Rattle.store_objects.proofs.HeldNodes.{one_if, whole}
-use Rattle.store_objects.proofs.WorkPlaces.{away, behind, count, directories_from, of_proc, proc_cons}
+use Rattle.store_objects.proofs.WorkPlaces.{away, behind, count, directories_from, of_proc, others_by, proc_cons}
 
 -- who is found and runs works in one of these directories
 pub works_among : (P : ℕ → Type 0) (procs : List Proc) (pid : ℕ) (proc : Proc) → AllByRecursion P (directories_in procs) → proc_of procs pid ≡ Some proc → proc.status ≡ None → P proc.cwd
@@ -107,13 +107,13 @@ with_one n (proc ∷ procs) child up =
     group a b c = omega arith
 
 -- and holds the directory that it works in
-pub entered_by_one : (procs : List Proc) (child : Proc) → child.status ≡ None → (n : ℕ) → entered_pins (pins_by procs) child.cwd n ≡ pins_by (procs ++ child ∷ []) n
+pub entered_by_one : (procs : List Proc) (child : Proc) → child.status ≡ None → (n : ℕ) → entered_pins (others_by procs) child.cwd n ≡ others_by (procs ++ child ∷ []) n
 entered_by_one procs child up n = by_root (child.cwd == root) refl
   where
-    all : pins_by (procs ++ child ∷ []) n ≡ one_if (root == n) + (count n (but_root (directories_in procs)) + away child.cwd n)
+    all : others_by (procs ++ child ∷ []) n ≡ one_if (root == n) + (count n (but_root (directories_in procs)) + away child.cwd n)
     all = whole n root (but_root (directories_in (procs ++ child ∷ []))) ∙ ap (λ k. one_if (root == n) + k) (with_one n procs child up)
 
-    were : pins_by procs n ≡ one_if (root == n) + count n (but_root (directories_in procs))
+    were : others_by procs n ≡ one_if (root == n) + count n (but_root (directories_in procs))
     were = whole n root (but_root (directories_in procs))
 
     as_many : (was is here rest : ℕ) → was ≡ here + rest → is ≡ here + (rest + 0) → was ≡ is
@@ -122,22 +122,22 @@ entered_by_one procs child up n = by_root (child.cwd == root) refl
     one : (was is here rest : ℕ) → was ≡ here + rest → is ≡ here + (rest + 1) → was + 1 ≡ is
     one was is here rest e f = omega arith
 
-    by_node : (b : Bool) → (child.cwd == n) ≡ b → (child.cwd == root) ≡ false → cond b (pins_by procs n + 1) (pins_by procs n) ≡ pins_by (procs ++ child ∷ []) n
-    by_node true same other = one (pins_by procs n) (pins_by (procs ++ child ∷ []) n) (one_if (root == n)) (count n (but_root (directories_in procs))) were
+    by_node : (b : Bool) → (child.cwd == n) ≡ b → (child.cwd == root) ≡ false → cond b (others_by procs n + 1) (others_by procs n) ≡ others_by (procs ++ child ∷ []) n
+    by_node true same other = one (others_by procs n) (others_by (procs ++ child ∷ []) n) (one_if (root == n)) (count n (but_root (directories_in procs))) were
         (all ∙ ap (λ b. one_if (root == n) + (count n (but_root (directories_in procs)) + cond b 0 (one_if (child.cwd == n)))) other
         ∙ ap (λ b. one_if (root == n) + (count n (but_root (directories_in procs)) + one_if b)) same)
-    by_node false same other = as_many (pins_by procs n) (pins_by (procs ++ child ∷ []) n) (one_if (root == n)) (count n (but_root (directories_in procs))) were
+    by_node false same other = as_many (others_by procs n) (others_by (procs ++ child ∷ []) n) (one_if (root == n)) (count n (but_root (directories_in procs))) were
         (all ∙ ap (λ b. one_if (root == n) + (count n (but_root (directories_in procs)) + cond b 0 (one_if (child.cwd == n)))) other
         ∙ ap (λ b. one_if (root == n) + (count n (but_root (directories_in procs)) + one_if b)) same)
 
-    by_root : (b : Bool) → (child.cwd == root) ≡ b → cond b (pins_by procs) (one_more (pins_by procs) child.cwd) n ≡ pins_by (procs ++ child ∷ []) n
-    by_root true at = as_many (pins_by procs n) (pins_by (procs ++ child ∷ []) n) (one_if (root == n)) (count n (but_root (directories_in procs))) were
+    by_root : (b : Bool) → (child.cwd == root) ≡ b → cond b (others_by procs) (one_more (others_by procs) child.cwd) n ≡ others_by (procs ++ child ∷ []) n
+    by_root true at = as_many (others_by procs n) (others_by (procs ++ child ∷ []) n) (one_if (root == n)) (count n (but_root (directories_in procs))) were
         (all ∙ ap (λ b. one_if (root == n) + (count n (but_root (directories_in procs)) + cond b 0 (one_if (child.cwd == n)))) at)
     by_root false at = by_node (child.cwd == n) refl at
 
 -- ---- no more hold a node than there are
 
-pub few_hold : (procs : List Proc) (n : ℕ) → pins_by procs n ≤ length procs + 1
+pub few_hold : (procs : List Proc) (n : ℕ) → others_by procs n ≤ length procs + 1
 few_hold procs n = omega (arith, whole n root (but_root (directories_in procs)), at_most (root == n), each procs)
   where
     at_most : (b : Bool) → one_if b ≤ 1

@@ -1,5 +1,5 @@
 -- A store at boot.
-use Rattle.std.specs.Prelude.{ℕ, ◌≡◌, [], ◌∷◌}
+use Rattle.std.specs.Prelude.{ℕ, ◌≡◌, ◌+◌, [], ◌∷◌, None, replicate}
 use Rattle.kabi_types.specs.declared.scripts.Control.{Control}
 use Rattle.kheap_slabs.specs.Keys.{AreKeysOf}
 use Rattle.open_laws.specs.Open.{AreOpen}
@@ -14,9 +14,8 @@ use Rattle.proc_table.specs.Accounting.{HasAccount}
 use Rattle.proc_table.specs.Procs.{first_proc}
 use Rattle.proc_table.specs.Standing.{IsTable}
 use Rattle.proc_table.specs.Table.{Holds, keys_of}
-use Rattle.proc_descs.specs.Having.{OpensNoNode}
 use Rattle.store_objects.specs.declared.objects.Objects.{Objects}
-use Rattle.store_objects.specs.Objects.{procs_of}
+use Rattle.store_objects.specs.Objects.{most_nodes, procs_of}
 use Rattle.store_objects.specs.Trees.{kept_by}
 use Rattle.memfs_ops.specs.FileTree.{Stands, root_alone}
 use Rattle.posix_defs.specs.Tree.{new_tree}
@@ -28,12 +27,12 @@ pub record HasBooted (objects : Objects) (heap blocks : ℕ) (control : Control)
   pub holds : Holds objects.heap objects.procs
   pub all : AreKeysOf objects.heap.procs (keys_of objects.procs.listed)
   pub owners : HasItsOwners objects.heap []
-  pub nodes : OpensNoNode objects.heap.descs
   pub opened : (numbers : Numbers) (files : Files) → IsBare files → AreOpen numbers objects.heap [] files
   pub stands : Stands objects.heap objects.tree (new_tree blocks) root_alone
   pub kept : kept_by objects.tree ≡ boot_kept
   pub unread : objects.tree.disk.reads ≡ 0
   pub size : objects.heap.heap ≡ heap
+  pub names : objects.names ≡ replicate (most_nodes + 1) None
   pub first : procs_of objects ≡ record first_proc { control = control } ∷ []
   pub last : objects.procs.last ≡ 1
   pub table : IsTable objects.heap objects.procs (Some first_process ∷ [])

@@ -3,7 +3,7 @@ pub mod Trees
 pub mod Working
 pub mod Files
 pub mod Standing
+pub mod Walking
 pub mod Uses
-pub mod Endings
 pub mod Booting
 pub mod Purses

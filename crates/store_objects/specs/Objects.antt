@@ -1,5 +1,5 @@
 -- The objects of a store: which processes stand in its heap, and what else.
-use Rattle.std.specs.Prelude.{ℕ, ◌≡◌, ◌==◌, Bool, false, not, if◌then◌else◌, List, [], ◌∷◌, None, Some, is_some, length}
+use Rattle.std.specs.Prelude.{ℕ, ◌≡◌, ◌==◌, ◌<◌, Bool, false, not, if◌then◌else◌, List, [], ◌∷◌, None, Some, is_some, length}
 use Rattle.std.specs.List.{AllByRecursion}
 use Rattle.kabi_types.specs.declared.scripts.Control.{Control}
 use Rattle.kabi_types.specs.declared.scripts.Script.{Script}
@@ -9,7 +9,7 @@ use Rattle.kheap_slabs.specs.Owners.{Owners}
 use Rattle.open_laws.specs.Owned.{HasItsOwners}
 use Rattle.kheap_slabs.specs.Paid.{TakesNothing}
 use Rattle.proc_table.specs.Moves.{ProcTurns}
-use Rattle.proc_descs.specs.Having.{OpensNoNode}
+use Rattle.holding_laws.specs.Names.{AreBound, name_of}
 use Rattle.proc_table.specs.Procs.{proc_of}
 use Rattle.proc_table.specs.Table.{Holds, keys_of, processes}
 use Rattle.prog_ctl.specs.Runnable.{Rests, Stands}
@@ -41,6 +41,7 @@ pub record OneChanges (old : Objects) (pid : ℕ) (change : Proc → Proc) (new 
   pub turns : ProcTurns old.heap new.heap old.procs pid key proc (change proc)
   pub same : new.procs ≡ old.procs
   pub tree : new.tree ≡ old.tree
+  pub names : new.names ≡ old.names
   pub takes : TakesNothing old.heap new.heap
 
 -- it has gone on at another control
@@ -73,15 +74,20 @@ AreAtCalls script procs = AllByRecursion (λ proc. proc.status ≡ None → IsAt
 abbrev pub no_owners : Owners
 no_owners = record { spaces = []; queues = [] }
 
+-- the greatest number of a node, which the greatest disk has
+abbrev pub most_nodes : ℕ
+most_nodes = 4096
+
 -- What the objects of a store keep, whatever they stand for: the table has every process that is in the heap, all nodes,
--- descriptions, pipes, sockets and chunks have their owners, no description is open on a node, and the rest is what the tree of
--- files keeps in its caches. Who runs stands at its next call.
+-- descriptions, pipes, sockets and chunks have their owners, and the rest is what the tree of files keeps in its caches. The table
+-- of names has for each node the socket that is bound to it. Who runs stands at its next call.
 pub record AreKept (script : Script) (objects : Objects) : Type 0 where
   pub holds : Holds objects.heap objects.procs
   pub all : AreKeysOf objects.heap.procs (keys_of objects.procs.listed)
   pub owners : HasItsOwners objects.heap []
   pub groups : AllByRecursion (λ proc. length proc.nodes ≡ 4) (procs_of objects)
   pub calls : AreAtCalls script (procs_of objects)
-  pub nodes : OpensNoNode objects.heap.descs
+  pub bound : AreBound (name_of objects.heap.socks) objects.names
+  pub places : most_nodes < length objects.names
   pub caches : KeepsTree objects.heap objects.tree
   pub size : objects.heap.heap ≡ script.heap

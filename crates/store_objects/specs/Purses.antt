@@ -2,6 +2,7 @@
 use Rattle.std.specs.Prelude.{[]}
 use Rattle.kabi_values.specs.declared.classes.Need.{Need}
 use Rattle.kheap_shelves.specs.Purse.{Purse}
+use Rattle.posix_defs.specs.Sizes.{no_need}
 use Rattle.store_objects.specs.declared.purses.Target.{Target}
 use Rattle.store_objects.specs.declared.purses.Target.TheVariants.{File, Queue}
 
@@ -14,3 +15,7 @@ need_for Queue need = record need { block = 0 }
 -- a purse of this need of which nothing is spent, and through which nothing was filled
 abbrev pub unspent : Need → Purse
 unspent need = record { need = need; left = need; vnodes = []; names = []; blocks = [] }
+
+-- what all that is closed in one call or at one end may ask for together
+abbrev pub closing_need : Need
+closing_need = record no_need { block = 2 }

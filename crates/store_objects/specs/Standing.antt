@@ -20,13 +20,14 @@ use Rattle.posix_defs.specs.Turn.{Tells, account_after}
 use Rattle.posix_defs.specs.ValidScript.{IsValid}
 use Rattle.posix_defs.specs.World.{World, directories_of}
 use Rattle.posix_defs.specs.declared.turner.Turned.{Turned}
+use Rattle.holding_laws.specs.Holders.{AreOpenNodes, HaveNames}
 use Rattle.proc_table.specs.Accounting.{HasAccount}
 use Rattle.proc_table.specs.Procs.{proc_of}
 use Rattle.proc_table.specs.Standing.{IsTable}
 use Rattle.store_objects.specs.declared.objects.Objects.{Objects}
 use Rattle.store_objects.specs.Files.{HaveFiles}
 use Rattle.store_objects.specs.Objects.{AreKept, procs_of}
-use Rattle.store_objects.specs.Trees.{HasTree, NamesNoSocket, kept_by, pins_in}
+use Rattle.store_objects.specs.Trees.{HasTree, kept_by, pins_in}
 use Rattle.store_objects.specs.Working.{AreDirectories}
 
 -- A store: its script, and its objects.
@@ -72,11 +73,16 @@ pub record HasEntered (script : Script) (objects : Objects) (world : World) (dir
   pub files : HaveFiles objects world.plain.files world.account
   pub tree : Stands objects.heap objects.tree world.plain.files.tree (one_more (pins_in world.plain) directory)
   pub entered : is_directory world.plain.files.tree directory ≡ true
-  pub sockets : NamesNoSocket world.plain.files.tree
   pub same : world.kept ≡ kept_by objects.tree
   pub reads : world.reads ≡ objects.tree.disk.reads
   pub family : IsFamily world.plain.table
   pub works : AreDirectories world.plain.files.tree (directories_of world.plain.table)
+
+-- What each machine that is reached has, of which calls on files and names make use: descriptions open nodes as they may, and who
+-- is bound is bound to a socket's name, but nobody who waits.
+pub record IsSound (plain : Plain) : Type 0 where
+  pub nodes : AreOpenNodes plain.files
+  pub names : HaveNames plain.files
 
 -- ---- worlds after a step
 

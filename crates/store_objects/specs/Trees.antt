@@ -5,7 +5,6 @@ use Rattle.kheap_slabs.specs.Heap.{Heap}
 use Rattle.lru_index.specs.declared.keys.NameKey.{NameKey}
 use Rattle.memfs_ops.specs.FileTree.{TreeView, Stands}
 use Rattle.posix_defs.specs.Files.State.{opened_nodes}
-use Rattle.posix_defs.specs.PathCalls.{is_socket}
 use Rattle.posix_defs.specs.Plain.{Plain, root}
 use Rattle.posix_defs.specs.Tree.{Tree}
 use Rattle.posix_defs.specs.World.{Kept, World, directories_of}
@@ -22,6 +21,10 @@ but_root (node ∷ nodes) = if node == root then but_root nodes else node ∷ bu
 -- processes. Who works in the root holds nothing more, since the root stays cached anyway.
 abbrev pub held_nodes : Plain → List ℕ
 held_nodes plain = root ∷ opened_nodes plain.files ++ but_root (directories_of plain.table)
+
+-- how many hold a node beside descriptions: the root by itself, and each that works in another directory
+abbrev pub others_in : Plain → ℕ → ℕ
+others_in plain number = count_by (λ node. node == number) (root ∷ but_root (directories_of plain.table))
 
 -- how many hold a node
 abbrev pub pins_in : Plain → ℕ → ℕ
@@ -47,15 +50,10 @@ kept_by fs = record {
 abbrev pub KeepsTree : Heap → TreeView → Type 0
 KeepsTree h fs = (tree : Tree) × (pins : ℕ → ℕ) × Stands h fs tree pins
 
--- no node of a tree is a socket's name, as none is until a call that can be run makes one
-abbrev pub NamesNoSocket : Tree → Type 0
-NamesNoSocket tree = (number : ℕ) → is_socket tree number ≡ false
-
--- It stands for a world's tree, whose nodes are held as the machine holds them, and none of which is a socket's name; its caches
--- keep what is kept in the world, and its disk was read as often as the world says.
+-- It stands for a world's tree, whose nodes are held as the machine holds them; its caches keep what is kept in the world, and its
+-- disk was read as often as the world says.
 pub record HasTree (objects : Objects) (world : World) : Type 0 where
   pub stands : Stands objects.heap objects.tree world.plain.files.tree (pins_in world.plain)
-  pub sockets : NamesNoSocket world.plain.files.tree
   pub kept : world.kept ≡ kept_by objects.tree
   pub reads : world.reads ≡ objects.tree.disk.reads
 
@@ -73,7 +71,8 @@ pub record CachesStay (old new : Heap) : Type 0 where
   pub blocks : new.blocks ≡ old.blocks
   pub size : new.heap ≡ old.heap
 
--- the tree is the same, and so is what its caches have in the heap
+-- the tree is the same with the table of names, and so is what its caches have in the heap
 pub record TreeStays (old new : Objects) : Type 0 where
   pub tree : new.tree ≡ old.tree
+  pub names : new.names ≡ old.names
   pub caches : CachesStay old.heap new.heap

@@ -1,13 +1,11 @@
--- Where the processes of a heap work, and the tree of files whose directories these are.
-use Rattle.std.specs.Prelude.{ℕ, ◌≡◌, ◌==◌, true, if◌then◌else◌, List, [], ◌∷◌, count_by, is_none}
+-- Where the processes of a heap work, and who holds the directories that these are.
+use Rattle.std.specs.Prelude.{ℕ, ◌≡◌, ◌==◌, true, if◌then◌else◌, List, [], ◌∷◌, is_none}
 use Rattle.std.specs.List.{AllByRecursion}
 use Rattle.kheap_shelves.specs.declared.objects.Proc.{Proc}
 use Rattle.memfs_ops.specs.Closing.{one_less}
-use Rattle.memfs_ops.specs.FileTree.{Stands, one_more}
+use Rattle.memfs_ops.specs.FileTree.{one_more}
 use Rattle.posix_defs.specs.Plain.{root}
 use Rattle.posix_defs.specs.Tree.{Tree, is_directory}
-use Rattle.store_objects.specs.Objects.{procs_of}
-use Rattle.store_objects.specs.Trees.{but_root}
 use Rattle.store_objects.specs.declared.objects.Objects.{Objects}
 
 -- the working directories of those that run
@@ -18,15 +16,6 @@ directories_in (proc ∷ procs) = if is_none proc.status then proc.cwd ∷ direc
 -- each of these is a directory of the tree
 abbrev pub AreDirectories : Tree → List ℕ → Type 0
 AreDirectories tree nodes = AllByRecursion (λ node. is_directory tree node ≡ true) nodes
-
--- how many hold a node, where none is opened: the root by itself, and who works elsewhere
-abbrev pub pins_by : List Proc → ℕ → ℕ
-pins_by procs number = count_by (λ node. node == number) (root ∷ but_root (directories_in procs))
-
--- The tree of files stands for this tree, whose nodes are held by those that work in them, and everybody works in a directory.
-pub record IsWorkedIn (objects : Objects) (tree : Tree) : Type 0 where
-  pub stands : Stands objects.heap objects.tree tree (pins_by (procs_of objects))
-  pub works : AreDirectories tree (directories_in (procs_of objects))
 
 -- ---- who holds what
 
@@ -44,3 +33,4 @@ pub record OnlyPins (old new : Objects) : Type 0 where
   pub procs : new.procs ≡ old.procs
   pub tree : new.tree ≡ record old.tree { vnodes = new.tree.vnodes }
   pub order : new.tree.vnodes.order ≡ old.tree.vnodes.order
+  pub names : new.names ≡ old.names

@@ -48,7 +48,7 @@ pub fn hold_directory(objects: &mut Objects, directory: u32)
 }
 
 /// Who worked in a directory lets it go. It has a name, since nobody removes a directory that is worked in, and so it stays.
-pub(crate) fn let_go(objects: &mut Objects, directory: u32)
+pub fn let_go(objects: &mut Objects, directory: u32)
     requires held { directory ≢ root → (tree : Tree) × (pins : ℕ → ℕ) × Stands objects.old.heap objects.old.tree tree pins
         × (0 < pins directory) × (0 < one_less pins directory root) }
     ensures only { OnlyPins objects.old objects.new }

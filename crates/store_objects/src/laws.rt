@@ -1,6 +1,6 @@
 //! Laws of stores. Each is the contract of a function that does nothing.
 
-ghost use Rattle.std.specs.Prelude.{◌≡◌, ℕ, sum_by};
+ghost use Rattle.std.specs.Prelude.{◌≡◌, ◌<◌, ℕ, sum_by};
 ghost use Rattle.kabi_types.specs.declared.scripts.Script.{Script};
 ghost use Rattle.kheap_slabs.specs.Heap.{IsWellFormed, live_bytes};
 ghost use Rattle.kheap_slabs.specs.Spaces.{count_at};
@@ -8,6 +8,7 @@ ghost use Rattle.page_space.specs.Sequences.{entries_naming};
 ghost use Rattle.posix_defs.specs.World.{World, live_of};
 ghost use Rattle.store_objects.specs.Objects.{procs_of};
 ghost use Rattle.store_objects.specs.Standing.{StandsFor};
+ghost use Rattle.store_objects.specs.Trees.{pins_in};
 ghost use Rattle.store_objects.specs.declared.objects.Objects.{Objects};
 
 /// What a store's heap has in use is what the world that it stands for takes: 512 bytes for each process that is there and for
@@ -21,4 +22,10 @@ pub fn the_heap_is_the_worlds()
 pub fn each_page_is_named_as_often_as_it_counts()
     ensures { (script : Script) (objects : Objects) (world : World) (key : ℕ) → StandsFor script objects world → IsWellFormed objects.heap
         → count_at objects.heap.pages key ≡ sum_by (λ proc. entries_naming objects.heap.nodes key proc.nodes) (procs_of objects) }
+{}
+
+/// Whatever is open, and whoever works where, one more may hold each node of the tree of files.
+pub fn one_more_may_hold_each_node()
+    ensures { (script : Script) (objects : Objects) (world : World) (number : ℕ) → StandsFor script objects world → IsWellFormed objects.heap
+        → pins_in world.plain number < 4294967295 }
 {}

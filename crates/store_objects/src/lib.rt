@@ -1,11 +1,10 @@
-//! The objects of a store: the heap with the processes in it, and the tree of files beside it; what they keep, and which worlds
-//! they stand for. A process goes on behind its call and ends here, and what is cached goes; what each call does else stands in
-//! the crates of its family.
+//! The objects of a store: the heap with the processes in it, the tree of files beside it, and the table of who is bound to its
+//! nodes; what they keep, and which worlds they stand for. A process goes on behind its call here, and what is cached goes; how
+//! processes end, and what each call does else, stands in the crates of its family.
 #![tactic(auto)]
 
 mod boot;
 mod directories;
-mod endings;
 mod evicting;
 mod going_on;
 pub mod laws;
@@ -13,9 +12,8 @@ mod objects;
 mod purses;
 
 pub use boot::booted;
-pub use directories::{directory_of, hold_directory, work_in};
-pub use endings::{INIT, SIGKILL, end};
+pub use directories::{directory_of, hold_directory, let_go, work_in};
 pub use evicting::{evict, evictable};
 pub use going_on::{behind, go_on};
 pub use objects::{Caller, Objects};
-pub use purses::{Target, purse_for};
+pub use purses::{Target, kept_back, purse_for};

@@ -1,4 +1,4 @@
-//! The objects of a store: the heap, the processes that stand in it, and the tree of files.
+//! The objects of a store: the heap, the processes that stand in it, the tree of files, and names of sockets in it.
 
 ghost use Rattle.std.specs.Prelude.{◌≡◌, ◌<◌, IfSome, IsSome, false, None};
 ghost use Rattle.std.specs.Option.{option_copied};
@@ -7,13 +7,15 @@ ghost use Rattle.proc_table.specs.Procs.{proc_of};
 ghost use Rattle.proc_table.specs.Table.{AreStored};
 ghost use Rattle.store_objects.specs.Objects.{IsCaller, MovesOn, WorksElsewhere, is_running, procs_of};
 
+use bound_table::BoundTable;
 use kabi_types::Control;
 use kheap_shelves::Proc;
 use kheap_slabs::KHeap;
 use memfs_ops::FileTree;
 use proc_table::ProcTable;
 
-/// The heap, the table of the processes that stand in it, and the tree of files, whose caches stand in it too.
+/// The heap, the table of the processes that stand in it, the tree of files, whose caches stand in it too, and the table of the
+/// sockets that have names in the tree.
 #[derive(Drop)]
 pub struct Objects {
     /// The heap.
@@ -22,6 +24,8 @@ pub struct Objects {
     pub procs: ProcTable,
     /// The disk, and what of it is cached in the heap.
     pub tree: FileTree,
+    /// Which socket is bound to each node of the tree.
+    pub names: BoundTable,
 }
 
 /// Who makes a call: a process that runs.

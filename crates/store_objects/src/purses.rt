@@ -4,7 +4,8 @@ ghost use Rattle.std.specs.Prelude.{◌≡◌, ◌≤◌};
 ghost use Rattle.kabi_calls.specs.declared.calls.Call.{Call};
 ghost use Rattle.kheap_shelves.specs.Purse.{left_bytes};
 ghost use Rattle.posix_defs.specs.Needs.{bound, need_of};
-ghost use Rattle.store_objects.specs.Purses.{need_for, unspent};
+ghost use Rattle.posix_defs.specs.Sizes.{reserve};
+ghost use Rattle.store_objects.specs.Purses.{closing_need, need_for, unspent};
 
 use kabi_types::Need;
 use kheap_shelves::Purse;
@@ -28,4 +29,15 @@ pub fn purse_for(need: Need, target: Target) -> Purse
         Target::File => Purse::of(Need { chunk: 0, ..need }),
         Target::Queue => Purse::of(Need { block: 0, ..need }),
     }
+}
+
+/// The purse of what is closed in one call or at one end: the blocks that are kept back for it, whatever is admitted.
+pub fn kept_back() -> Purse
+    ensures value { result ≡ unspent closing_need }
+    ensures bytes { left_bytes result ≡ reserve }
+{
+    Purse::of(Need {
+        block: 2,
+        ..Need::default()
+    })
 }

@@ -1,13 +1,11 @@
-use Rattle.std.proofs.Common.{◌≡◌, ◌∙◌, ap, pos, refl, rules, subst, sym, w64}
+use Rattle.std.proofs.Common.{◌≡◌, ◌∙◌, ap, pos, refl, rules, sym, w64}
 use Rattle.std.proofs.lemmas.Int.{to_z-of_z}
 use mir.Val.{of_z, to_z}
 use Rattle.kabi_calls.specs.declared.calls.Call.TheVariants as call
-use Rattle.posix_defs.specs.Needs.{slack}
 use Rattle.posix_defs.specs.Process.{parent_of}
-use Rattle.store_objects.specs.Uses.{UsesAtMost}
 use Rattle.store_objects.proofs.Paying.{uses_nothing}
 use Rattle.store_objects.proofs.Replies.{does_tell, parent_is}
-use Rattle.call_run.proofs.Dispatch.{does_one, does_that, does_two, open_left}
+use Rattle.call_run.proofs.Dispatch.{does_that, does_two, open_left}
 use Rattle.call_run.proofs.calls.run_free.Goals as goal
 
 pub returns-in-Getpid-clause-does : goal.returns-in-Getpid-clause-does
@@ -35,26 +33,10 @@ returns-in-SchedYield-clause-does c =
     (does_tell c.args.script.now c.args.objects.now c.go_on-in-SchedYield.new.objects c.args.caller.now.pid call.SchedYield (pos 0) c.go_on-in-SchedYield.result _ (λ plain. pos 0)
     c.go_on-in-SchedYield.ensures.told c.go_on-in-SchedYield.ensures.goes (λ frames. refl) (λ world stands. refl) (λ plain. refl))
 
-pub exit-requires-clause-kept : goal.exit-requires-clause-kept
-exit-requires-clause-kept c = (c.args.script.now, c.requires.kept)
-
-pub returns-in-Exit-clause-kept : goal.returns-in-Exit-clause-kept
-returns-in-Exit-clause-kept c = c.exit.ensures.kept c.args.script.now c.requires.kept
-
-pub returns-in-Exit-clause-does : goal.returns-in-Exit-clause-does
-returns-in-Exit-clause-does c =
-    does_one c.args.script.now c.args.objects.now c.exit.new.objects c.args.caller.now.pid c.args.call.now c.exit.result call.Exit c.in-Exit.status c.in-Exit.is
-    (search (rules, to_z-of_z)) (c.exit.ensures.does c.args.script.now)
-
 pub returns-in-Waitpid-clause-does : goal.returns-in-Waitpid-clause-does
 returns-in-Waitpid-clause-does c =
     does_two c.args.script.now c.args.objects.now c.wait.new.objects c.args.caller.now.pid c.args.call.now c.wait.result call.Waitpid c.in-Waitpid.which c.in-Waitpid.options c.in-Waitpid.is
     (search (rules, to_z-of_z)) (search (rules, to_z-of_z)) c.wait.ensures.does
-
-pub returns-in-Kill-clause-does : goal.returns-in-Kill-clause-does
-returns-in-Kill-clause-does c =
-    does_two c.args.script.now c.args.objects.now c.signal_process.new.objects c.args.caller.now.pid c.args.call.now c.signal_process.result call.Kill c.in-Kill.target c.in-Kill.signal c.in-Kill.is
-    (search (rules, to_z-of_z)) (search (rules, to_z-of_z)) c.signal_process.ensures.does
 
 pub returns-in-Munmap-clause-does : goal.returns-in-Munmap-clause-does
 returns-in-Munmap-clause-does c =
@@ -68,9 +50,8 @@ returns-in-Load-clause-does c =
 
 pub run_open-requires-clause-among : goal.run_open-requires-clause-among
 run_open-requires-clause-among c =
-    open_left c.args.call.now c.requires.built c.requires.unnamed c.requires.other c.requires.queued c.requires.socketed
-    c.in_default.not-Getpid c.in_default.not-Getppid c.in_default.not-SchedYield
-    c.in_default.not-Exit c.in_default.not-Waitpid c.in_default.not-Kill c.in_default.not-Munmap c.in_default.not-Load
+    open_left c.args.call.now c.requires.unnamed c.requires.stays c.requires.unfiled c.requires.other c.requires.queued c.requires.socketed
+    c.in_default.not-Getpid c.in_default.not-Getppid c.in_default.not-SchedYield c.in_default.not-Waitpid c.in_default.not-Munmap c.in_default.not-Load
 
 pub returns-in-Getpid-clause-uses : goal.returns-in-Getpid-clause-uses
 returns-in-Getpid-clause-uses c = uses_nothing c.args.objects.now.heap c.go_on.new.objects.heap 0 _ c.go_on.ensures.takes
@@ -89,9 +70,3 @@ returns-in-Munmap-clause-uses c = uses_nothing c.args.objects.now.heap c.munmap.
 
 pub returns-in-Load-clause-uses : goal.returns-in-Load-clause-uses
 returns-in-Load-clause-uses c = uses_nothing c.args.objects.now.heap c.load.new.objects.heap 0 _ c.load.ensures.takes
-
-pub returns-in-Exit-clause-uses : goal.returns-in-Exit-clause-uses
-returns-in-Exit-clause-uses c = subst (λ which. UsesAtMost c.args.objects.now.heap c.exit.new.objects.heap 0 (slack which)) (sym c.in-Exit.is) c.exit.ensures.uses
-
-pub returns-in-Kill-clause-uses : goal.returns-in-Kill-clause-uses
-returns-in-Kill-clause-uses c = subst (λ which. UsesAtMost c.args.objects.now.heap c.signal_process.new.objects.heap 0 (slack which)) (sym c.in-Kill.is) c.signal_process.ensures.uses

@@ -2,16 +2,8 @@ use Rattle.std.proofs.Common.{rules}
 use Rattle.std.proofs.lemmas.Int.{to_z-of_z}
 use Rattle.kabi_calls.specs.declared.calls.Call.TheVariants as call
 use Rattle.store_objects.proofs.Paying.{uses_nothing}
-use Rattle.call_run.proofs.Dispatch.{does_one, does_three, does_two, refused_left}
+use Rattle.call_run.proofs.Dispatch.{does_one, does_three, none_open}
 use Rattle.call_run.proofs.calls.run_open.Goals as goal
-
-pub returns-in-Close-clause-does : goal.returns-in-Close-clause-does
-returns-in-Close-clause-does c =
-    does_one c.args.script.now c.args.objects.now c.close.new.objects c.args.caller.now.pid c.args.call.now c.close.result call.Close c.in-Close.fd c.in-Close.is
-    (search (rules, to_z-of_z)) c.close.ensures.does
-
-pub returns-in-Close-clause-uses : goal.returns-in-Close-clause-uses
-returns-in-Close-clause-uses c = uses_nothing c.args.objects.now.heap c.close.new.objects.heap 0 _ c.close.ensures.takes
 
 pub returns-in-Dup-clause-does : goal.returns-in-Dup-clause-does
 returns-in-Dup-clause-does c =
@@ -21,14 +13,6 @@ returns-in-Dup-clause-does c =
 pub returns-in-Dup-clause-uses : goal.returns-in-Dup-clause-uses
 returns-in-Dup-clause-uses c = uses_nothing c.args.objects.now.heap c.dup.new.objects.heap 0 _ c.dup.ensures.takes
 
-pub returns-in-Dup2-clause-does : goal.returns-in-Dup2-clause-does
-returns-in-Dup2-clause-does c =
-    does_two c.args.script.now c.args.objects.now c.dup2.new.objects c.args.caller.now.pid c.args.call.now c.dup2.result call.Dup2 c.in-Dup2.fd c.in-Dup2.to c.in-Dup2.is
-    (search (rules, to_z-of_z)) (search (rules, to_z-of_z)) c.dup2.ensures.does
-
-pub returns-in-Dup2-clause-uses : goal.returns-in-Dup2-clause-uses
-returns-in-Dup2-clause-uses c = uses_nothing c.args.objects.now.heap c.dup2.new.objects.heap 0 _ c.dup2.ensures.takes
-
 pub returns-in-Fcntl-clause-does : goal.returns-in-Fcntl-clause-does
 returns-in-Fcntl-clause-does c =
     does_three c.args.script.now c.args.objects.now c.fcntl.new.objects c.args.caller.now.pid c.args.call.now c.fcntl.result call.Fcntl c.in-Fcntl.fd c.in-Fcntl.cmd c.in-Fcntl.arg c.in-Fcntl.is
@@ -36,14 +20,6 @@ returns-in-Fcntl-clause-does c =
 
 pub returns-in-Fcntl-clause-uses : goal.returns-in-Fcntl-clause-uses
 returns-in-Fcntl-clause-uses c = uses_nothing c.args.objects.now.heap c.fcntl.new.objects.heap 0 _ c.fcntl.ensures.takes
-
-pub returns-in-Fstat-clause-does : goal.returns-in-Fstat-clause-does
-returns-in-Fstat-clause-does c =
-    does_one c.args.script.now c.args.objects.now c.fstat.new.objects c.args.caller.now.pid c.args.call.now c.fstat.result call.Fstat c.in-Fstat.fd c.in-Fstat.is
-    (search (rules, to_z-of_z)) c.fstat.ensures.does
-
-pub returns-in-Fstat-clause-uses : goal.returns-in-Fstat-clause-uses
-returns-in-Fstat-clause-uses c = uses_nothing c.args.objects.now.heap c.fstat.new.objects.heap 0 _ c.fstat.ensures.takes
 
 pub returns-in-Poll-clause-does : goal.returns-in-Poll-clause-does
 returns-in-Poll-clause-does c =
@@ -53,6 +29,5 @@ returns-in-Poll-clause-does c =
 pub returns-in-Poll-clause-uses : goal.returns-in-Poll-clause-uses
 returns-in-Poll-clause-uses c = uses_nothing c.args.objects.now.heap c.poll.new.objects.heap 0 _ c.poll.ensures.takes
 
-pub run_refused-requires-clause-refused : goal.run_refused-requires-clause-refused
-run_refused-requires-clause-refused c =
-    refused_left c.args.call.now c.requires.among c.in_default.not-Close c.in_default.not-Dup c.in_default.not-Dup2 c.in_default.not-Fcntl c.in_default.not-Fstat c.in_default.not-Poll
+pub unreachable-requires : goal.unreachable-requires
+unreachable-requires c = none_open c.args.call.now c.requires.among c.in_default.not-Dup c.in_default.not-Fcntl c.in_default.not-Poll

@@ -7,7 +7,8 @@ use Rattle.kabi_values.specs.declared.classes.Need.{Need}
 use Rattle.posix_defs.specs.Needs.{bound, chunks_for, pages_touched}
 use Rattle.store_objects.specs.declared.purses.Target.TheVariants.{Queue}
 use Rattle.store_objects.proofs.Paying.{can_pay, left_is, uses_paid}
-use Rattle.call_run.proofs.Dispatch.{does_that, does_three, done_is, queued_left}
+use Rattle.call_run.specs.Families.{IsOffFiles}
+use Rattle.call_run.proofs.Dispatch.{does_that, does_three, done_is, queued_left, spelt_three}
 use Rattle.call_run.proofs.calls.run_queued.Goals as goal
 
 pub pipe-requires-clause-room : goal.pipe-requires-clause-room
@@ -77,6 +78,12 @@ pub returns-in-Write-clause-does : goal.returns-in-Write-clause-does
 returns-in-Write-clause-does c =
     does_three c.args.script.now c.args.objects.now c.write.new.objects c.args.caller.now.pid c.args.call.now c.write.result (λ x y z. call.Write x y z c.in-Write.done) c.in-Write.fd c.in-Write.addr c.in-Write.n c.in-Write.is
     (search (rules, to_z-of_z)) (search (rules, to_z-of_z)) (search (rules, to_z-of_z)) c.write.ensures.does
+
+pub read-requires-clause-off : goal.read-requires-clause-off
+read-requires-clause-off c = subst (IsOffFiles c.args.objects.now.heap c.args.objects.now.procs c.args.caller.now.pid) (spelt_three c.args.call.now call.Read c.in-Read.fd c.in-Read.addr c.in-Read.n c.in-Read.is (search (rules, to_z-of_z)) (search (rules, to_z-of_z)) (search (rules, to_z-of_z))) c.requires.off
+
+pub write-requires-clause-off : goal.write-requires-clause-off
+write-requires-clause-off c = subst (IsOffFiles c.args.objects.now.heap c.args.objects.now.procs c.args.caller.now.pid) (spelt_three c.args.call.now (λ x y z. call.Write x y z c.in-Write.done) c.in-Write.fd c.in-Write.addr c.in-Write.n c.in-Write.is (search (rules, to_z-of_z)) (search (rules, to_z-of_z)) (search (rules, to_z-of_z))) c.requires.off
 
 pub unreachable-requires : goal.unreachable-requires
 unreachable-requires c = both c.requires.among (queued_left c.args.call.now c.in_default.not-Pipe c.in_default.not-Read c.in_default.not-Write)

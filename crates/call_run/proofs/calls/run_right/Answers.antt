@@ -1,85 +1,69 @@
-use Rattle.std.proofs.Common.{◌≡◌, ◌<◌, ◌≤◌, le_refl, length, rules, subst, sym, w64, arith}
-use Rattle.std.proofs.lemmas.Int.{to_z-of_z}
-use mir.Val.{of_z, to_z}
-use Rattle.kabi_calls.specs.Arguments.{count_of}
-use Rattle.kabi_calls.specs.declared.calls.Call.TheVariants as call
-use Rattle.kabi_values.specs.declared.classes.Need.{Need}
-use Rattle.posix_defs.specs.Needs.{bound, nodes_for, pages_in, pages_touched}
-use Rattle.store_objects.specs.declared.purses.Target.TheVariants.{File}
-use Rattle.store_objects.proofs.Paying.{can_pay, left_is, uses_paid}
-use Rattle.store_objects.proofs.TreesOn.{worked_in}
-use Rattle.call_run.proofs.Dispatch.{does_one, does_that, others_left}
+use Rattle.std.proofs.Common.{◌∙◌, sym}
+use Rattle.posix_defs.specs.Machine.{answer_to}
+use Rattle.store_objects.proofs.Callers.{caller_lives}
+use Rattle.store_objects.proofs.Paying.{uses_more}
+use Rattle.call_run.proofs.Naming.{room_kept, room_less}
+use Rattle.call_run.proofs.Reaching.{unnamed_served}
 use Rattle.call_run.proofs.calls.run_right.Goals as goal
 
-pub fork-requires-clause-works : goal.fork-requires-clause-works
-fork-requires-clause-works c =
-    let some = c.requires.stands in (some.0.plain.files.tree, worked_in c.args.script.now c.args.objects.now some.0 some.1)
+pub run_named-requires-clause-stands : goal.run_named-requires-clause-stands
+run_named-requires-clause-stands c = let some = c.requires.stands in (some.0, some.1, some.2)
 
-pub fork-requires-clause-room : goal.fork-requires-clause-room
-fork-requires-clause-room c =
-    can_pay c.args.objects.now.heap c.purse_for-purse.result c.args.call.now (c.purse_for-purse.ensures.within c.args.call.now c.requires.needed) c.requires.room
+pub run_named-requires-clause-among : goal.run_named-requires-clause-among
+run_named-requires-clause-among c = sym c.is_named.ensures ∙ c.if-is_named.true
 
-pub returns-in-Fork-clause-uses : goal.returns-in-Fork-clause-uses
-returns-in-Fork-clause-uses c =
-    uses_paid c.args.objects.now.heap c.fork.new.objects.heap c.purse_for-purse.result c.fork.new.purse (bound c.args.call.now) _ c.fork.ensures.paid
-    (c.purse_for-purse.ensures.within c.args.call.now c.requires.needed)
+pub run_closing-requires-clause-stands : goal.run_closing-requires-clause-stands
+run_closing-requires-clause-stands c = let some = c.requires.stands in (some.0, some.1, some.2)
 
-pub mmap-requires-clause-room : goal.mmap-requires-clause-room
-mmap-requires-clause-room c =
-    can_pay c.args.objects.now.heap c.purse_for-purse.result c.args.call.now (c.purse_for-purse.ensures.within c.args.call.now c.requires.needed) c.requires.room
+pub run_closing-requires-clause-among : goal.run_closing-requires-clause-among
+run_closing-requires-clause-among c = sym c.is_closing.ensures ∙ c.if-is_closing.true
 
-pub returns-in-Mmap-clause-uses : goal.returns-in-Mmap-clause-uses
-returns-in-Mmap-clause-uses c =
-    uses_paid c.args.objects.now.heap c.mmap.new.objects.heap c.purse_for-purse.result c.mmap.new.purse (bound c.args.call.now) _ c.mmap.ensures.paid
-    (c.purse_for-purse.ensures.within c.args.call.now c.requires.needed)
+pub run_closing-requires-clause-room : goal.run_closing-requires-clause-room
+run_closing-requires-clause-room c = room_kept c.args.objects.now.heap c.args.call.now c.requires.room
 
-pub store-requires-clause-room : goal.store-requires-clause-room
-store-requires-clause-room c =
-    can_pay c.args.objects.now.heap c.purse_for-purse.result c.args.call.now (c.purse_for-purse.ensures.within c.args.call.now c.requires.needed) c.requires.room
+pub returns-then-is_closing-clause-uses : goal.returns-then-is_closing-clause-uses
+returns-then-is_closing-clause-uses c = uses_more c.args.objects.now.heap c.run_closing.new.objects.heap _ _ c.run_closing.ensures.uses
 
-pub returns-in-Store-clause-uses : goal.returns-in-Store-clause-uses
-returns-in-Store-clause-uses c =
-    uses_paid c.args.objects.now.heap c.store.new.objects.heap c.purse_for-purse.result c.store.new.purse (bound c.args.call.now) _ c.store.ensures.paid
-    (c.purse_for-purse.ensures.within c.args.call.now c.requires.needed)
+pub is_on_file-requires-clause-kept : goal.is_on_file-requires-clause-kept
+is_on_file-requires-clause-kept c = let some = c.requires.stands in (c.args.script.now, some.1.kept)
 
-pub fork-requires-clause-left_proc : goal.fork-requires-clause-left_proc
-fork-requires-clause-left_proc c =
-    subst (λ (n : Need). 0 < n.proc)
-    (sym (left_is c.purse_for-purse.result File c.args.need c.args.call.now call.Fork c.purse_for-purse.ensures.value c.requires.needed c.requires.right c.in-Fork.is)) (omega arith)
+pub is_on_file-requires-clause-alive : goal.is_on_file-requires-clause-alive
+is_on_file-requires-clause-alive c = caller_lives c.args.objects.now c.args.caller.now.pid c.args.caller.now c.requires.caller
 
-pub fork-requires-clause-left_nodes : goal.fork-requires-clause-left_nodes
-fork-requires-clause-left_nodes c =
-    subst (λ (n : Need). 4 ≤ n.node)
-    (sym (left_is c.purse_for-purse.result File c.args.need c.args.call.now call.Fork c.purse_for-purse.ensures.value c.requires.needed c.requires.right c.in-Fork.is)) (omega arith)
+pub run_filed-requires-clause-stands : goal.run_filed-requires-clause-stands
+run_filed-requires-clause-stands c = let some = c.requires.stands in (some.0, some.1, some.2)
 
-pub returns-in-Fork-clause-does : goal.returns-in-Fork-clause-does
-returns-in-Fork-clause-does c =
-    does_that c.args.script.now c.args.objects.now c.fork.new.objects c.args.caller.now.pid c.args.call.now (call.Fork) c.fork.result c.in-Fork.is
-    c.fork.ensures.does
+pub run_filed-requires-clause-among : goal.run_filed-requires-clause-among
+run_filed-requires-clause-among c = (c.is_on_file.ensures.on c.if-is_on_file.true).0
 
-pub mmap-requires-clause-left : goal.mmap-requires-clause-left
-mmap-requires-clause-left c =
-    let length : to_z w64 (of_z w64 c.in-Mmap.length) ≡ c.in-Mmap.length = search (rules, to_z-of_z) in
-    subst (λ z. nodes_for (pages_in (count_of z)) ≤ c.purse_for-purse.result.left.node) (sym length)
-    (subst (λ (n : Need). nodes_for (pages_in (count_of c.in-Mmap.length)) ≤ n.node)
-    (sym (left_is c.purse_for-purse.result File c.args.need c.args.call.now (call.Mmap c.in-Mmap.length) c.purse_for-purse.ensures.value c.requires.needed c.requires.right c.in-Mmap.is)) (le_refl _))
+pub run_filed-requires-clause-on : goal.run_filed-requires-clause-on
+run_filed-requires-clause-on c = (c.is_on_file.ensures.on c.if-is_on_file.true).1
 
-pub returns-in-Mmap-clause-does : goal.returns-in-Mmap-clause-does
-returns-in-Mmap-clause-does c =
-    does_one c.args.script.now c.args.objects.now c.mmap.new.objects c.args.caller.now.pid c.args.call.now c.mmap.result call.Mmap c.in-Mmap.length c.in-Mmap.is
-    (search (rules, to_z-of_z)) c.mmap.ensures.does
+pub run_filed-requires-clause-fresh : goal.run_filed-requires-clause-fresh
+run_filed-requires-clause-fresh c = let some = c.requires.stands in c.is_on_file.ensures.fresh c.if-is_on_file.true c.args.script.now some.0 some.1 some.3
 
-pub store-requires-clause-left : goal.store-requires-clause-left
-store-requires-clause-left c =
-    let addr : to_z w64 (of_z w64 c.in-Store.addr) ≡ c.in-Store.addr = search (rules, to_z-of_z) in
-    subst (λ z. pages_touched (count_of z) (length c.in-Store.bytes) ≤ c.purse_for-purse.result.left.page) (sym addr)
-    (subst (λ (n : Need). pages_touched (count_of c.in-Store.addr) (length c.in-Store.bytes) ≤ n.page)
-    (sym (left_is c.purse_for-purse.result File c.args.need c.args.call.now (call.Store c.in-Store.addr c.in-Store.bytes) c.purse_for-purse.ensures.value c.requires.needed c.requires.right c.in-Store.is)) (le_refl _))
+pub run_filed-requires-clause-room : goal.run_filed-requires-clause-room
+run_filed-requires-clause-room c = room_less c.args.objects.now.heap c.args.call.now c.requires.room
 
-pub returns-in-Store-clause-does : goal.returns-in-Store-clause-does
-returns-in-Store-clause-does c =
-    does_one c.args.script.now c.args.objects.now c.store.new.objects c.args.caller.now.pid c.args.call.now c.store.result (λ z. call.Store z c.in-Store.bytes) c.in-Store.addr c.in-Store.is
-    (search (rules, to_z-of_z)) c.store.ensures.does
+pub run_beside-requires-clause-stands : goal.run_beside-requires-clause-stands
+run_beside-requires-clause-stands c = let some = c.requires.stands in (some.0, some.1)
 
-pub run_others-requires-clause-other : goal.run_others-requires-clause-other
-run_others-requires-clause-other c = others_left c.args.call.now c.in_default.not-Fork c.in_default.not-Mmap c.in_default.not-Store
+pub run_beside-requires-clause-unnamed : goal.run_beside-requires-clause-unnamed
+run_beside-requires-clause-unnamed c = sym c.is_named.ensures ∙ c.if-is_named.false
+
+pub run_beside-requires-clause-stays : goal.run_beside-requires-clause-stays
+run_beside-requires-clause-stays c = sym c.is_closing.ensures ∙ c.if-is_closing.false
+
+pub run_beside-requires-clause-unfiled : goal.run_beside-requires-clause-unfiled
+run_beside-requires-clause-unfiled c = (c.is_on_file.ensures.off c.if-is_on_file.false).0
+
+pub run_beside-requires-clause-off : goal.run_beside-requires-clause-off
+run_beside-requires-clause-off c = (c.is_on_file.ensures.off c.if-is_on_file.false).1
+
+pub run_beside-requires-clause-room : goal.run_beside-requires-clause-room
+run_beside-requires-clause-room c = room_less c.args.objects.now.heap c.args.call.now c.requires.room
+
+pub returns-else-is_on_file-clause-does : goal.returns-else-is_on_file-clause-does
+returns-else-is_on_file-clause-does c =
+    unnamed_served c.args.script.now c.args.objects.now c.run_beside.new.objects c.args.caller.now.pid c.args.call.now c.run_beside.result
+    (λ plain. answer_to c.args.script.now plain c.args.caller.now.pid c.args.call.now) (sym c.is_named.ensures ∙ c.if-is_named.false) c.run_beside.ensures.does

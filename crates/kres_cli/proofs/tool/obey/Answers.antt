@@ -19,6 +19,12 @@ returns-in-Gen-clause-ends g c =
     subst (λ command. CommandEnds i o c.args.store_out.now command c.tell-in-Gen.result) (sym c.in-Gen.is)
     (c.tell-in-Gen.ensures (canonical (generated c.in-Gen.rounds)) c.generated_text.ensures, c.requires.none)
 
+pub returns-in-Load-clause-ends : goal.returns-in-Load-clause-ends
+returns-in-Load-clause-ends g c =
+    let i : Input = input g.S.Source.left g.S.Source.faults c.args.source.now c.args.source.now in
+    let o : Output = output g.K.Sink.held g.K.Sink.faults g.K.Sink.put_gives c.args.sink.now c.load.new.sink in
+    subst (λ command. CommandEnds i o c.load.new.store_out command c.load.result) (sym c.in-Load.is) c.load.ensures
+
 pub returns-in-OnScript-clause-untouched : goal.returns-in-OnScript-clause-untouched
 returns-in-OnScript-clause-untouched g c = λ other. absurd (other c.in-OnScript.task c.in-OnScript.is)
 

@@ -1,10 +1,10 @@
 use Rattle.std.proofs.Common.{refl, subst}
-use Rattle.kres_cli.specs.declared.commands.Command.TheVariants.{OnScript}
+use Rattle.kres_cli.specs.declared.commands.Command.TheVariants.{OnScript, Load}
 use Rattle.kres_cli.specs.declared.commands.Task.TheVariants.{Sim}
 use Rattle.kres_cli.specs.Tool.{CommandEnds, Input, Obeys, Output, input, output}
 use Rattle.kres_cli.specs.Words.{Asks}
 use Rattle.kres_cli.proofs.Causing.{command_cause, completes, others_cause}
-use Rattle.kres_cli.proofs.Headlines.{sim_keeps}
+use Rattle.kres_cli.proofs.Headlines.{load_keeps, sim_keeps}
 use Rattle.kres_cli.proofs.Asking.{asks_once}
 use Rattle.kres_cli.proofs.tool.run_plain.Goals as goal
 
@@ -69,3 +69,14 @@ returns-in-None-clause-complete g c =
 
 pub returns-in-None-clause-headline : goal.returns-in-None-clause-headline
 returns-in-None-clause-headline g c = λ asks. absurd (c.in-None.ensures (OnScript Sim) asks)
+
+pub returns-in-Some-clause-loads : goal.returns-in-Some-clause-loads
+returns-in-Some-clause-loads g c = λ rounds asks.
+    load_keeps (output g.K.Sink.held g.K.Sink.faults g.K.Sink.put_gives c.args.sink.now c.obey.new.sink) rounds c.obey.new.store_out c.obey.result asks.1
+    (subst
+    (λ asked. CommandEnds (input g.S.Source.left g.S.Source.faults c.args.source.now c.obey.new.source)
+    (output g.K.Sink.held g.K.Sink.faults g.K.Sink.put_gives c.args.sink.now c.obey.new.sink) c.obey.new.store_out asked c.obey.result)
+    (asks_once c.args.words.now c.in-Some.command (Load rounds) c.in-Some.ensures asks) c.obey.ensures.ends)
+
+pub returns-in-None-clause-loads : goal.returns-in-None-clause-loads
+returns-in-None-clause-loads g c = λ rounds asks. absurd (c.in-None.ensures (Load rounds) asks)

@@ -1,6 +1,6 @@
 use Rattle.std.proofs.Common.{◌≡◌, ◌≤◌, arith, subst}
 use Rattle.kres_cli.specs.declared.commands.Command.{Command}
-use Rattle.kres_cli.specs.declared.commands.Command.TheVariants.{OnScript}
+use Rattle.kres_cli.specs.declared.commands.Command.TheVariants.{OnScript, Load}
 use Rattle.kres_cli.specs.declared.commands.Task.TheVariants.{Sim, Threads}
 use Rattle.kres_cli.specs.Tool.{CommandEnds, input, output}
 use Rattle.kres_cli.proofs.Causing.{command_cause, completes}
@@ -37,6 +37,10 @@ returns-in-Some-clause-causes g c =
 pub returns-in-Some-clause-headline : goal.returns-in-Some-clause-headline
 returns-in-Some-clause-headline g c = λ asks.
     absurd (let same : OnScript Sim ≡ OnScript (Threads c.in-Some.workers) = asks_once c.args.words.now (OnScript Sim) (OnScript (Threads c.in-Some.workers)) asks c.in-Some.ensures in cc)
+
+pub returns-in-Some-clause-loads : goal.returns-in-Some-clause-loads
+returns-in-Some-clause-loads g c = λ rounds asks.
+    absurd (let same : Load rounds ≡ OnScript (Threads c.in-Some.workers) = asks_once c.args.words.now (Load rounds) (OnScript (Threads c.in-Some.workers)) asks c.in-Some.ensures in cc)
 
 pub returns-in-Some-clause-threads : goal.returns-in-Some-clause-threads
 returns-in-Some-clause-threads g c = λ workers asks.

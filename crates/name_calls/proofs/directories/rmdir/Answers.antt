@@ -5,11 +5,8 @@ use Rattle.store_objects.specs.Trees.{pins_in}
 use Rattle.name_calls.specs.Nodes.{has_node}
 use Rattle.name_calls.proofs.Changed.{kept_mid, leads, paid_on}
 use Rattle.name_calls.proofs.Led.{at_directory, led_keeps, rmdir_changes, rmdir_leads}
-use Rattle.name_calls.proofs.Working.{all_within, held_works}
+use Rattle.name_calls.proofs.HeldBy.{told_held}
 use Rattle.name_calls.proofs.directories.rmdir.Goals as goal
-
-pub worked_in-held-requires-clause-within : goal.worked_in-held-requires-clause-within
-worked_in-held-requires-clause-within c = all_within c.args.script.now c.args.objects.now c.requires.stands.0 c.requires.stands.1
 
 pub remove_dir-gone-requires-clause-stands : goal.remove_dir-gone-requires-clause-stands
 remove_dir-gone-requires-clause-stands c =
@@ -19,8 +16,8 @@ remove_dir-gone-requires-clause-stands c =
       some.1.tree.stands,
       at_directory c.args.script.now c.args.objects.now c.args.pid c.directory_of-cwd.result c.requires.runs.proc c.requires.runs.found c.requires.runs.up (c.directory_of-cwd.ensures c.requires.runs.proc c.requires.runs.found) some.0 some.1,
       λ number answer told other.
-          let said : answer ≡ has_node c.worked_in-held.result number = search rules in
-          said ∙ c.worked_in-held.ensures number ∙ held_works c.args.script.now c.args.objects.now some.0 some.1 number other,
+          let said : answer ≡ has_node c.held_nodes-held.result number = search rules in
+          said ∙ c.held_nodes-held.ensures number ∙ told_held c.args.script.now c.args.objects.now some.0 some.1 number other,
     )
 
 pub go_on-requires-clause-kept : goal.go_on-requires-clause-kept

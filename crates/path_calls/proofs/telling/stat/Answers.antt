@@ -3,8 +3,9 @@ use Rattle.posix_defs.specs.declared.turner.Turned.TheVariants.{Done}
 use Rattle.kheap_laws.proofs.PaidLemmas.{IsPaid-nothing, IsPaid-trans}
 use Rattle.posix_defs.specs.Tree.{is_directory}
 use Rattle.store_objects.proofs.Replies.{GoesOn}
+use Rattle.store_objects.proofs.HoldsFiles.{works_in_directory}
 use Rattle.path_calls.proofs.Stated.{does_stat, stat_reply}
-use Rattle.path_calls.proofs.Walked.{keeps_looked, kept_mid, mid, runs_mid, works_in_directory}
+use Rattle.path_calls.proofs.Walked.{keeps_looked, kept_mid, mid, runs_mid}
 use Rattle.path_calls.proofs.telling.stat.Goals as goal
 
 pub directory_of-cwd-requires-clause-stored : goal.directory_of-cwd-requires-clause-stored

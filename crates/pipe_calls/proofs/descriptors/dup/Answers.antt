@@ -5,6 +5,7 @@ use Rattle.kheap_laws.proofs.PaidLemmas.{TakesNothing-trans}
 use Rattle.kheap_slabs.specs.Heap.{Heap}
 use Rattle.posix_defs.specs.Calls.OnDescriptors.{dup}
 use Rattle.proc_descs.proofs.Fronts.{queues_same}
+use Rattle.holding_laws.specs.Names.{name_of}
 use Rattle.proc_pipes.specs.Answering.{Answers, value_of}
 use Rattle.store_objects.proofs.Keeping.{listed_in}
 use Rattle.open_moves.proofs.Replying.{no_frames}
@@ -24,12 +25,12 @@ dup_one-requires-clause-there c = key_who_runs c.args.script.now c.args.objects.
 pub go_on-requires-clause-kept : goal.go_on-requires-clause-kept
 go_on-requires-clause-kept c =
     let done = c.dup_one.ensures in
-    kept_then c.args.script.now c.args.objects.now c.dup_one.new.heap c.args.pid c.args.control c.requires.kept c.requires.runs done.changes done.listed done.owners done.nodes
+    kept_then c.args.script.now c.args.objects.now c.dup_one.new.heap c.args.pid c.args.control c.requires.kept c.requires.runs done.changes done.listed done.owners (λ key. ap (λ (h : Heap). name_of h.socks key) done.beside)
 
 pub go_on-requires-clause-runs : goal.go_on-requires-clause-runs
 go_on-requires-clause-runs c =
     let done = c.dup_one.ensures in
-    runs_then c.args.script.now c.args.objects.now c.dup_one.new.heap c.args.pid c.args.control c.requires.kept c.requires.runs done.changes done.listed done.owners done.nodes
+    runs_then c.args.script.now c.args.objects.now c.dup_one.new.heap c.args.pid c.args.control c.requires.kept c.requires.runs done.changes done.listed done.owners (λ key. ap (λ (h : Heap). name_of h.socks key) done.beside)
 
 pub returns-clause-takes : goal.returns-clause-takes
 returns-clause-takes c = TakesNothing-trans c.args.objects.now.heap c.dup_one.new.heap c.go_on.new.objects.heap c.dup_one.ensures.takes c.go_on.ensures.takes
@@ -43,10 +44,10 @@ returns-clause-does c =
     let done = c.dup_one.ensures in
     let said = c.value-reply.result in
     let which = call.Dup c.args.fd in
-    performs script old heap pid c.args.control c.requires.kept c.requires.runs done.changes done.listed done.owners done.nodes
+    performs script old heap pid c.args.control c.requires.kept c.requires.runs done.changes done.listed done.owners (λ key. ap (λ (h : Heap). name_of h.socks key) done.beside)
     c.go_on.new.objects which said c.go_on.result (λ plain. dup script plain pid c.args.fd)
     (queues_same old.heap heap (ap (λ (h : Heap). h.pipes) done.beside) (ap (λ (h : Heap). h.socks) done.beside))
-    (λ plain off. dup_stay script plain pid c.args.fd) c.go_on.ensures.told c.go_on.ensures.goes (no_frames which (λ frames pid value. refl) pid said)
+    (λ plain. dup_stay script plain pid c.args.fd) c.go_on.ensures.told c.go_on.ensures.goes (no_frames which (λ frames pid value. refl) pid said)
     (λ numbers plain have.
     subst (Answers numbers heap old.procs script plain pid (dup script plain pid c.args.fd)) (sym c.value-reply.ensures)
     (subst (λ z. Answers numbers heap old.procs script plain pid (dup script plain pid z) (value_of c.dup_one.result)) (to_z-of_z w64 c.args.fd c.ranges.fd)

@@ -1,7 +1,9 @@
-use Rattle.std.proofs.Common.{refl, subst, sym}
+use Rattle.std.proofs.Common.{List, Option, ap, refl, subst, sym}
 use Rattle.kabi_calls.specs.declared.calls.Call.TheVariants as call
 use Rattle.kheap_laws.proofs.PaidLemmas.{IsPaid-nothing, IsPaid-trans}
+use Rattle.kheap_shelves.specs.declared.objects.Sock.{Sock}
 use Rattle.posix_defs.specs.Calls.OnPipes.{pipe}
+use Rattle.holding_laws.specs.Names.{name_of}
 use Rattle.proc_pipes.specs.Opening.{AnswersAnew}
 use Rattle.store_objects.proofs.Keeping.{listed_in}
 use Rattle.open_moves.proofs.Replying.{no_frames}
@@ -21,12 +23,12 @@ make_pipe-requires-clause-there c = key_who_runs c.args.script.now c.args.object
 pub go_on-requires-clause-kept : goal.go_on-requires-clause-kept
 go_on-requires-clause-kept c =
     let done = c.make_pipe.ensures in
-    kept_then c.args.script.now c.args.objects.now c.make_pipe.new.heap c.args.pid c.args.control c.requires.kept c.requires.runs done.changes done.listed done.owners done.nodes
+    kept_then c.args.script.now c.args.objects.now c.make_pipe.new.heap c.args.pid c.args.control c.requires.kept c.requires.runs done.changes done.listed done.owners (λ key. ap (λ (socks : List (Option Sock)). name_of socks key) done.sockets)
 
 pub go_on-requires-clause-runs : goal.go_on-requires-clause-runs
 go_on-requires-clause-runs c =
     let done = c.make_pipe.ensures in
-    runs_then c.args.script.now c.args.objects.now c.make_pipe.new.heap c.args.pid c.args.control c.requires.kept c.requires.runs done.changes done.listed done.owners done.nodes
+    runs_then c.args.script.now c.args.objects.now c.make_pipe.new.heap c.args.pid c.args.control c.requires.kept c.requires.runs done.changes done.listed done.owners (λ key. ap (λ (socks : List (Option Sock)). name_of socks key) done.sockets)
 
 pub returns-clause-paid : goal.returns-clause-paid
 returns-clause-paid c =
@@ -41,10 +43,10 @@ returns-clause-does c =
     let pid = c.args.pid in
     let done = c.make_pipe.ensures in
     let said = c.pair-reply.result in
-    performs_anew script old heap pid c.args.control c.requires.kept c.requires.runs done.changes done.listed done.owners done.nodes
+    performs_anew script old heap pid c.args.control c.requires.kept c.requires.runs done.changes done.listed done.owners (λ key. ap (λ (socks : List (Option Sock)). name_of socks key) done.sockets)
     c.go_on.new.objects call.Pipe said c.go_on.result (λ plain. pipe script plain pid)
     done.queues
-    (λ plain off. pipe_stay script plain pid) c.go_on.ensures.told c.go_on.ensures.goes (no_frames call.Pipe (λ frames pid value. refl) pid said)
+    (λ plain. pipe_stay script plain pid) c.go_on.ensures.told c.go_on.ensures.goes (no_frames call.Pipe (λ frames pid value. refl) pid said)
     (λ numbers plain have.
     subst (AnswersAnew numbers old.heap heap old.procs script plain pid (pipe script plain pid)) (sym c.pair-reply.ensures)
     (done.answers numbers script plain have))

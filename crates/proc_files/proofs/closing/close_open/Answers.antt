@@ -1,9 +1,10 @@
 use Rattle.std.proofs.Common.{◌≡◌, ◌∙◌, [], None, Some, refl, sym, subst}
 use Rattle.kheap_laws.proofs.PaidLemmas.{IsPaid-nothing, IsPaid-trans}
+use Rattle.memfs_ops.proofs.CachedLemmas.{cached_still}
 use Rattle.posix_defs.specs.Files.Closing.{after_close}
 use Rattle.proc_descs.proofs.Fronts.{queues_same, queues_then}
 use Rattle.proc_pipes.proofs.Changes.{node_of_number}
-use Rattle.proc_files.specs.Holding.{holders}
+use Rattle.holding_laws.specs.Holders.{holders}
 use Rattle.proc_files.proofs.Beside.{listed_beside, owners_beside, same_pipes, same_socks}
 use Rattle.proc_files.proofs.Closed.{close_again, close_on, closed_gone, closed_none, held_to_close, number_caches, stands_mid}
 use Rattle.proc_files.proofs.Closed as steps
@@ -135,3 +136,11 @@ pub returns-clause-stays : goal.returns-clause-stays
 returns-clause-stays c = λ none.
     let node = node_of_number c.args.heap.now c.close_one.new.heap c.args.procs.now c.args.pid c.args.fd c.close_one.result c.requires.listed c.close_one.ensures.closes c.close_one.ensures.node in
     absurd (let both : Some c.in-Some.node ≡ None = sym c.in-Some.is ∙ node ∙ none in cc)
+
+-- ---- what stays cached
+
+pub returns-in_default-clause-cached : goal.returns-in_default-clause-cached
+returns-in_default-clause-cached c = cached_still c.args.tree.now
+
+pub returns-clause-cached : goal.returns-clause-cached
+returns-clause-cached c = c.close_node.ensures.cached

@@ -86,3 +86,6 @@ returns-clause-fills c =
     (ap (λ (h : Heap). h.names) names.after ∙ ap (λ (h : Heap). h.names) makes.kept)
     (ap (λ (h : Heap). h.blocks) names.after ∙ ap (λ (h : Heap). h.blocks) makes.kept)
     c.describe-desc.ensures.spent c.requires.fills
+
+pub returns-clause-socks : goal.returns-clause-socks
+returns-clause-socks c = ap (λ (h : Heap). h.socks) c.open_one.ensures.names.after ∙ ap (λ (h : Heap). h.socks) c.describe-desc.ensures.makes.kept

@@ -20,7 +20,7 @@ use Rattle.proc_descs.proofs.Fronts.{queues_same, queues_then}
 use Rattle.proc_descs.proofs.NumberCloses.{no_some}
 use Rattle.proc_pipes.proofs.Changes.{changes_nothing}
 use Rattle.proc_pipes.proofs.Lowest.{IsLowest}
-use Rattle.proc_files.specs.Holding.{holders}
+use Rattle.holding_laws.specs.Holders.{holders}
 use Rattle.proc_files.specs.Opening.{HaveAnew}
 use Rattle.proc_files.proofs.Beside.{listed_beside, owners_beside, same_pipes, same_socks}
 use Rattle.proc_files.proofs.Changing.{caches_before, holding_of}
@@ -230,3 +230,11 @@ pub returns-in-Ok-clause-kept : goal.returns-in-Ok-clause-kept
 returns-in-Ok-clause-kept c = λ proc plain pins found stands.
     subst (λ n. KeepsLast c.open_node.new.self (resolve plain n c.args.path.now)) (c.directory_of-cwd.ensures.works proc found)
     (subst (KeepsOpened c.open_node.new.self (resolve plain c.directory_of-cwd.result c.args.path.now)) c.in-Ok.is (c.open_node.ensures.kept plain pins stands)).0
+
+-- ---- sockets
+
+pub returns-in-Err-clause-socks : goal.returns-in-Err-clause-socks
+returns-in-Err-clause-socks c = same_socks c.args.heap.now c.open_node.new.heap c.open_node.ensures.pays.only
+
+pub returns-in-Ok-clause-socks : goal.returns-in-Ok-clause-socks
+returns-in-Ok-clause-socks c = c.open_new.ensures.socks ∙ same_socks c.args.heap.now c.open_node.new.heap c.open_node.ensures.pays.only

@@ -8,7 +8,7 @@ use Rattle.posix_defs.specs.Needs.{pages_touched}
 use Rattle.posix_defs.specs.PathCalls.{read_node}
 use Rattle.proc_queues.proofs.Finding.{alive_listed}
 use Rattle.proc_queues.proofs.RightBytes.{touched_at}
-use Rattle.proc_files.specs.Holding.{holders}
+use Rattle.holding_laws.specs.Holders.{holders}
 use Rattle.proc_files.proofs.Holding.{as_found, held_some, hold_on, no_node, on_node}
 use Rattle.proc_files.proofs.Leading.{leads_nowhere}
 use Rattle.proc_files.proofs.OpenFiles.{holds_file, used_reads}

@@ -13,7 +13,7 @@ use Rattle.posix_defs.specs.PathCalls.{list_node}
 use Rattle.proc_queues.specs.Found.{IsNamed, opened_in}
 use Rattle.proc_queues.proofs.Finding.{alive_listed}
 use Rattle.proc_queues.proofs.RightBytes.{touched_at}
-use Rattle.proc_files.specs.Holding.{holders}
+use Rattle.holding_laws.specs.Holders.{holders}
 use Rattle.proc_files.proofs.Holding.{as_found, held_some, hold_on, no_node, on_node, open_node}
 use Rattle.proc_files.proofs.Leading.{leads_nowhere}
 use Rattle.proc_files.proofs.Lengths.{list_between, list_ends}

@@ -1,5 +1,6 @@
-use Rattle.std.proofs.Common.{◌∙◌, ℕ, [], List, Option, Result, ap, refl, subst, sym, w64}
+use Rattle.std.proofs.Common.{◌∙◌, ℕ, [], List, Option, Some, Result, ap, length, refl, subst, sym, w64}
 use Rattle.std.proofs.lemmas.Int.{to_z-of_z}
+use Rattle.std.proofs.lemmas.List.{length-set}
 use Rattle.kabi_values.specs.declared.errnos.Errno.{Errno}
 use Rattle.kheap_laws.proofs.PaidLemmas.{IsPaid-nothing, IsPaid-trans}
 use Rattle.kheap_shelves.specs.declared.objects.Sock.{Sock}
@@ -14,14 +15,14 @@ use Rattle.posix_defs.specs.Tree.{is_directory}
 use Rattle.usock_core.specs.Answers.{Answers as IsFault}
 use Rattle.proc_descs.proofs.Fronts.{queues_same, queues_then}
 use Rattle.proc_descs.proofs.NumberCloses.{listed_on}
-use Rattle.proc_files.specs.Holding.{holders}
+use Rattle.holding_laws.specs.Holders.{holders}
 use Rattle.proc_files.proofs.Beside.{listed_beside, owners_beside, same_pipes, same_socks}
 use Rattle.proc_pipes.specs.Answering.{zero_of}
 use Rattle.proc_socks.specs.Finding.{FindsSocket}
 use Rattle.proc_socks.proofs.Owners.{owners_change}
 use Rattle.proc_socks.proofs.Told.{queues_changed, socket_there}
 use Rattle.proc_names.specs.Answering.{AnswersNaming}
-use Rattle.proc_names.specs.Bound.{name_of}
+use Rattle.holding_laws.specs.Names.{name_of}
 use Rattle.proc_names.proofs.BindAnswers.{bind_as, bind_done, bind_failed, bind_lost, bind_refused, directory_there, err_is, fills_on, led_makes, made_free, made_place, may_bind, named_beside, no_fault, one_fault}
 use Rattle.proc_names.proofs.Tables.{name_says}
 use Rattle.proc_names.proofs.binding.bind_number.Goals as goal
@@ -188,3 +189,6 @@ returns-clause-paid c =
 
 pub returns-clause-fills : goal.returns-clause-fills
 returns-clause-fills c = fills_on c.bind_name.new.heap c.give_name.new.heap c.bind_name.new.purse c.give_name.ensures.change.others c.bind_name.ensures.pays.fills
+
+pub returns-clause-places : goal.returns-clause-places
+returns-clause-places c = ap length c.give_name.ensures.names ∙ length-set c.args.names.now c.in_ok-node.node (Some c.in_ok-found.found.key)

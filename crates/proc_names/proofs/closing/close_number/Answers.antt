@@ -3,10 +3,13 @@ use Rattle.std.proofs.lemmas.Int.{to_z-of_z}
 use Rattle.kabi_calls.specs.Arguments.{count_of}
 use Rattle.posix_defs.specs.Calls.OnDescriptors.{close}
 use Rattle.posix_defs.specs.Files.Closing.{after_close}
-use Rattle.proc_descs.specs.Naming.{named_by}
+use Rattle.proc_descs.specs.Having.{node_closed}
+use Rattle.proc_descs.specs.Naming.{named_at, named_by}
 use Rattle.proc_descs.proofs.NumberCloses.{no_some}
 use Rattle.proc_descs.proofs.NumberNames.{desc_named_by}
 use Rattle.proc_pipes.proofs.Answered.{on_it, on_nothing}
+use Rattle.proc_pipes.proofs.Changes.{changes_nothing, named_count}
+use Rattle.proc_files.proofs.Changing.{holding_closed, holding_of}
 use Rattle.proc_names.specs.Holding.{HoldNames}
 use Rattle.proc_names.proofs.closing.close_number.Goals as goal
 
@@ -51,3 +54,21 @@ returns-clause-answers c = λ numbers others script plain hold.
       holds = subst (λ n. HoldNames numbers others c.close_open.new.heap c.args.procs.now c.close_open.new.tree c.close_open.new.names (after_close plain.files c.args.pid n)) count
           (c.close_open.ensures.closed numbers others plain.files hold);
     }
+
+pub returns-in_default-clause-changes : goal.returns-in_default-clause-changes
+returns-in_default-clause-changes c =
+    holding_of c.args.heap.now c.args.heap.now c.args.procs.now c.args.pid (changes_nothing c.args.heap.now c.args.procs.now c.args.pid c.requires.listed c.requires.there)
+
+pub returns-clause-changes : goal.returns-clause-changes
+returns-clause-changes c = holding_closed c.args.heap.now c.close_open.new.heap c.args.procs.now c.args.pid _ c.close_open.ensures.closes
+
+pub returns-clause-stays : goal.returns-clause-stays
+returns-clause-stays c = λ none.
+    let fd = to_z-of_z w64 c.args.fd c.ranges.fd in
+    let held : c.descriptor_of.result ≡ named_by c.args.heap.now c.args.procs.now c.args.pid c.args.fd =
+    subst (λ z. c.descriptor_of.result ≡ named_by c.args.heap.now c.args.procs.now c.args.pid z) fd c.descriptor_of.ensures.held in
+    let count : c.count_of-number.result ≡ count_of c.args.fd = subst (λ z. c.count_of-number.result ≡ count_of z) fd c.count_of-number.ensures in
+    c.close_open.ensures.stays
+    (ap (node_closed c.args.heap.now.descs)
+    (ap (named_at c.args.heap.now c.args.procs.now c.args.pid) count ∙ sym (named_count c.args.heap.now c.args.procs.now c.args.pid c.args.fd c.in-Some._held (sym held ∙ c.in-Some.is)))
+    ∙ none)

@@ -1,11 +1,14 @@
-use Rattle.std.proofs.Common.{ap, refl}
+use Rattle.std.proofs.Common.{◌∙◌, ap, refl}
 use Rattle.kheap_laws.proofs.PaidLemmas.{IsPaid-nothing, IsPaid-trans}
 use Rattle.kheap_slabs.specs.Heap.{Heap}
 use Rattle.proc_descs.proofs.NumberCloses.{listed_on}
 use Rattle.proc_files.proofs.Closed.{close_on}
 use Rattle.proc_names.specs.Closing.{socket_going, unnamed}
+use Rattle.posix_defs.specs.Files.Closing.{after_close}
+use Rattle.proc_descs.specs.Having.{node_closed}
 use Rattle.proc_descs.specs.Naming.{named_at}
 use Rattle.proc_names.proofs.Closed.{closed_names_hold}
+use Rattle.proc_names.proofs.Unnaming.{closes_before}
 use Rattle.proc_names.proofs.closing.close_open.Goals as goal
 
 pub close_open-requires-clause-hold : goal.close_open-requires-clause-hold
@@ -40,3 +43,24 @@ pub returns-clause-paid : goal.returns-clause-paid
 returns-clause-paid c =
     IsPaid-trans c.args.heap.now c.args.purse.now c.unname_going.new.heap c.args.purse.now c.close_open.new.heap c.close_open.new.purse
     (IsPaid-nothing c.args.heap.now c.unname_going.new.heap c.args.purse.now c.args.purse.now c.unname_going.ensures.takes refl refl) c.close_open.ensures.paid
+
+pub returns-clause-hold : goal.returns-clause-hold
+returns-clause-hold c =
+    let some = c.requires.hold in
+    record {
+      numbers = some.numbers;
+      others = some.others;
+      files = after_close some.files c.args.pid c.args.fd;
+      hold = closed_names_hold some.numbers some.others c.args.heap.now c.unname_going.new.heap c.close_open.new.heap c.args.procs.now c.args.tree.now c.close_open.new.tree c.args.names.now c.unname_going.new.names
+          some.files c.args.pid c.args.fd c.requires.listed c.requires.owners some.hold (ap (λ (h : Heap). h.procs) c.unname_going.ensures.beside) (ap (λ (h : Heap). h.descs) c.unname_going.ensures.beside)
+          (listed_on c.args.heap.now c.unname_going.new.heap c.args.procs.now (ap (λ (h : Heap). h.procs) c.unname_going.ensures.beside) c.requires.listed)
+          c.unname_going.ensures.owners (c.unname_going.ensures.hold some.numbers some.others c.args.tree.now some.files some.hold) c.close_open.ensures.closes c.close_open.ensures.listed c.close_open.ensures.closed;
+    }
+
+pub returns-clause-closes : goal.returns-clause-closes
+returns-clause-closes c =
+    closes_before c.args.heap.now c.unname_going.new.heap c.close_open.new.heap c.args.procs.now c.args.pid c.args.fd c.unname_going.ensures.beside c.unname_going.ensures.takes.high c.close_open.ensures.closes
+
+pub returns-clause-stays : goal.returns-clause-stays
+returns-clause-stays c = λ none.
+    c.close_open.ensures.stays (ap (λ (h : Heap). node_closed h.descs (named_at h c.args.procs.now c.args.pid c.args.fd)) c.unname_going.ensures.beside ∙ none)

@@ -1,8 +1,9 @@
-use Rattle.std.proofs.Common.{◌≡◌, ◌∙◌, ℕ, [], Option, None, Some, ap, subst, sym}
+use Rattle.std.proofs.Common.{◌≡◌, ◌∙◌, ℕ, [], Option, None, Some, ap, length, subst, sym}
+use Rattle.std.proofs.lemmas.List.{length-set}
 use Rattle.proc_descs.specs.Naming.{named_at}
 use Rattle.proc_socks.proofs.Owners.{owners_change}
 use Rattle.proc_socks.proofs.Told.{keyed_there}
-use Rattle.proc_names.specs.Bound.{name_in, name_of}
+use Rattle.holding_laws.specs.Names.{name_in, name_of}
 use Rattle.proc_names.specs.Closing.{socket_going, unnamed}
 use Rattle.proc_names.specs.Holding.{HoldNames}
 use Rattle.proc_names.proofs.Freed.{name_taken, nothing_taken}
@@ -29,3 +30,6 @@ returns-clause-hold c = λ numbers others fs files hold.
 
 pub returns-clause-owners : goal.returns-clause-owners
 returns-clause-owners c = owners_change c.args.heap.now c.take_name.new.heap [] c.take_name.ensures.change c.requires.owners
+
+pub returns-clause-places : goal.returns-clause-places
+returns-clause-places c = ap length c.take_name.ensures.names ∙ length-set c.args.names.now c.in-Some-node.node None

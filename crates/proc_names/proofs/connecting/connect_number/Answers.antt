@@ -17,7 +17,7 @@ use Rattle.usock_core.specs.Answers.{Answers as IsFault, IsConnectedBy}
 use Rattle.usock_core.proofs.StandingLemmas.{stands_same}
 use Rattle.proc_descs.proofs.Fronts.{queues_same, queues_then}
 use Rattle.proc_descs.proofs.NumberCloses.{listed_on}
-use Rattle.proc_files.specs.Holding.{holders}
+use Rattle.holding_laws.specs.Holders.{holders}
 use Rattle.proc_files.proofs.Beside.{listed_beside, owners_beside, same_chunks, same_pipes, same_socks}
 use Rattle.proc_pipes.specs.Answering.{zero_of}
 use Rattle.proc_socks.specs.Finding.{FindsSocket}

@@ -1,5 +1,5 @@
 use Rattle.std.proofs.Common.{ℕ, List, Option, Some, subst, sym}
-use Rattle.proc_names.specs.Bound.{AreBound, name_of}
+use Rattle.holding_laws.specs.Names.{AreBound, name_of}
 use Rattle.proc_names.proofs.Tables.{named_now, named_others}
 use Rattle.proc_names.proofs.Ties.{bound_given}
 use Rattle.proc_names.proofs.naming.give_name.Goals as goal

@@ -1,9 +1,11 @@
-use Rattle.std.proofs.Common.{◌∙◌, ℕ, [], Option, subst, sym}
+use Rattle.std.proofs.Common.{◌∙◌, ℕ, [], Option, None, ap, length, subst, sym}
+use Rattle.std.proofs.lemmas.List.{length-set}
 use Rattle.posix_defs.specs.Files.SocketNames.{after_freeing}
 use Rattle.posix_defs.specs.Files.State.{with_sockets}
 use Rattle.proc_socks.proofs.Owners.{owners_change}
 use Rattle.proc_socks.proofs.Told.{queues_changed}
-use Rattle.proc_names.specs.Holding.{HaveNamesBut, HoldNames}
+use Rattle.proc_names.specs.Holding.{HoldNames}
+use Rattle.holding_laws.specs.Holders.{HaveNamesBut}
 use Rattle.proc_names.proofs.Freed.{bound_freed, bound_there, unbound_freed}
 use Rattle.proc_names.proofs.naming.name_freed.Goals as goal
 
@@ -33,3 +35,6 @@ returns-clause-owners c = owners_change c.args.heap.now c.take_name.new.heap [] 
 
 pub returns-clause-queues : goal.returns-clause-queues
 returns-clause-queues c = queues_changed c.args.heap.now c.take_name.new.heap c.take_name.ensures.change.others c.take_name.ensures.queues
+
+pub returns-clause-places : goal.returns-clause-places
+returns-clause-places c = ap length c.take_name.ensures.names ∙ length-set c.args.names.now c.in-Some.node None

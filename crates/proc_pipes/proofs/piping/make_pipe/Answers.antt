@@ -144,3 +144,8 @@ returns-clause-queues c =
     (queues_then c.open_ends-ends.new.heap c.open_one.new.heap c.open_one-2.new.heap
     (queues_same c.open_ends-ends.new.heap c.open_one.new.heap (ap (λ (h : Heap). h.pipes) c.open_one.ensures.names.after) (ap (λ (h : Heap). h.socks) c.open_one.ensures.names.after))
     (queues_same c.open_one.new.heap c.open_one-2.new.heap (ap (λ (h : Heap). h.pipes) c.open_one-2.ensures.names.after) (ap (λ (h : Heap). h.socks) c.open_one-2.ensures.names.after)))
+
+pub returns-clause-sockets : goal.returns-clause-sockets
+returns-clause-sockets c =
+    ap (λ (h : Heap). h.socks) c.open_one-2.ensures.names.after ∙ ap (λ (h : Heap). h.socks) c.open_one.ensures.names.after
+    ∙ ap (λ (h : Heap). h.socks) c.open_ends-ends.ensures.opens.beside

@@ -16,6 +16,7 @@ use Rattle.proc_pipes.proofs.Lowest.{IsLowest}
 use Rattle.proc_socks.specs.Opening.{with_desc}
 use Rattle.proc_socks.proofs.Owners.{owners_one}
 use Rattle.proc_socks.proofs.Renaming.{accept_renamed}
+use Rattle.proc_socks.proofs.StillUsed.{still_on, still_taken}
 use Rattle.proc_socks.proofs.Told.{accept_answer, beside_changed, have_after, keeps_desc, keeps_same, keyed_there, queues_changed, refuses_so, socket_there, taken_apart, vacant_changed, waits_so}
 use Rattle.proc_socks.proofs.accepting.accept_on.Goals as goal
 
@@ -132,3 +133,8 @@ returns-in-Fault-clause-changes c =
 
 pub returns-in-Fault-clause-queues : goal.returns-in-Fault-clause-queues
 returns-in-Fault-clause-queues c = queues_changed c.args.heap.now c.accept.new.heap c.in-Fault.ensures.others c.in-Fault.ensures.queues
+
+pub returns-in-Some-clause-still : goal.returns-in-Some-clause-still
+returns-in-Some-clause-still c =
+    still_on c.args.heap.now c.accept.new.heap c.open_on.new.heap c.open_on.ensures.socks
+    (still_taken c.args.heap.now c.accept.new.heap c.requires.owners c.args.on.key c.in-Took.ensures.stands)

@@ -60,3 +60,6 @@ returns-clause-pays c =
     CanPay-kept c.describe-desc.new.heap c.open_one.new.heap c.describe-desc.new.purse c.describe-desc.new.purse
     (IsPaid-nothing c.describe-desc.new.heap c.open_one.new.heap c.describe-desc.new.purse c.describe-desc.new.purse c.open_one.ensures.takes refl refl)
     c.describe-desc.ensures.pays
+
+pub returns-clause-socks : goal.returns-clause-socks
+returns-clause-socks c = ap (λ (h : Heap). h.socks) c.open_one.ensures.names.after ∙ ap (λ (h : Heap). h.socks) c.describe-desc.ensures.kept

@@ -18,6 +18,7 @@ use Rattle.proc_pipes.proofs.Changes.{changes_after, changes_nothing, changes_th
 use Rattle.proc_pipes.proofs.Lowest.{IsLowest}
 use Rattle.proc_pipes.proofs.PipeAnswers.{none_free, one_free, two_free}
 use Rattle.proc_socks.specs.Opening.{with_both}
+use Rattle.proc_socks.proofs.StillUsed.{still_on}
 use Rattle.proc_socks.proofs.Told.{keeps_same, pair_fails, pair_makes, paired_so}
 use Rattle.proc_socks.proofs.making.make_pair.Goals as goal
 
@@ -134,3 +135,7 @@ returns-clause-queues c =
     (queues_then c.open_both-ends.new.heap c.open_one.new.heap c.open_one-2.new.heap
     (queues_same c.open_both-ends.new.heap c.open_one.new.heap (ap (λ (h : Heap). h.pipes) c.open_one.ensures.names.after) (ap (λ (h : Heap). h.socks) c.open_one.ensures.names.after))
     (queues_same c.open_one.new.heap c.open_one-2.new.heap (ap (λ (h : Heap). h.pipes) c.open_one-2.ensures.names.after) (ap (λ (h : Heap). h.socks) c.open_one-2.ensures.names.after)))
+
+pub returns-clause-still : goal.returns-clause-still
+returns-clause-still c =
+    still_on c.args.heap.now c.open_both-ends.new.heap c.open_one-2.new.heap (ap (λ (h : Heap). h.socks) c.open_one-2.ensures.names.after ∙ ap (λ (h : Heap). h.socks) c.open_one.ensures.names.after) c.open_both-ends.ensures.still

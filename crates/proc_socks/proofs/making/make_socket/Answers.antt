@@ -19,6 +19,7 @@ use Rattle.proc_pipes.proofs.Lowest.{IsLowest}
 use Rattle.proc_socks.specs.Opening.{with_desc, with_sock}
 use Rattle.proc_socks.proofs.Owners.{free_apart, owners_one}
 use Rattle.proc_socks.proofs.Renaming.{given}
+use Rattle.proc_socks.proofs.StillUsed.{still_made, still_on}
 use Rattle.proc_socks.proofs.Told.{beside_changed, have_socket, keeps_desc, keeps_same, keeps_sock, queues_changed, socket_fails, socket_makes, vacant_changed}
 use Rattle.proc_socks.proofs.making.make_socket.Goals as goal
 
@@ -103,3 +104,8 @@ returns-clause-queues c =
 pub returns-clause-paid : goal.returns-clause-paid
 returns-clause-paid c =
     IsPaid-trans c.args.heap.now c.args.purse.now c.sock_make-made.new.heap c.sock_make-made.new.purse c.open_on.new.heap c.open_on.new.purse c.sock_make-made.ensures.paid c.open_on.ensures.paid
+
+pub returns-clause-still : goal.returns-clause-still
+returns-clause-still c =
+    still_on c.args.heap.now c.sock_make-made.new.heap c.open_on.new.heap c.open_on.ensures.socks
+    (still_made c.args.heap.now c.sock_make-made.new.heap c.requires.owners c.sock_make-made.result c.sock_make-made.ensures.stands)

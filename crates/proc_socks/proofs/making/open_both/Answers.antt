@@ -1,8 +1,9 @@
-use Rattle.std.proofs.Common.{subst, sym}
+use Rattle.std.proofs.Common.{◌∙◌, ap, subst, sym}
 use Rattle.kheap_slabs.specs.Heap.{Heap}
 use Rattle.kheap_laws.proofs.PaidLemmas.{IsPaid-trans}
 use Rattle.proc_descs.specs.Having.{OpensNoNode}
 use Rattle.proc_socks.proofs.Pairing.{kept_both, opens_both, owners_both, queues_both, spent_both}
+use Rattle.proc_socks.proofs.StillUsed.{still_on, still_paired}
 use Rattle.proc_socks.proofs.making.open_both.Goals as goal
 
 pub returns-clause-opened : goal.returns-clause-opened
@@ -45,3 +46,8 @@ returns-clause-paid c =
 pub returns-clause-spent : goal.returns-clause-spent
 returns-clause-spent c =
     spent_both c.args.purse.now c.sock_pair-one.new.purse c.describe-on_one.new.purse c.describe-on_other.new.purse c.sock_pair-one.ensures.spent c.describe-on_one.ensures.spent c.describe-on_other.ensures.spent
+
+pub returns-clause-still : goal.returns-clause-still
+returns-clause-still c =
+    still_on c.args.heap.now c.sock_pair-one.new.heap c.describe-on_other.new.heap (ap (λ (h : Heap). h.socks) c.describe-on_other.ensures.kept ∙ ap (λ (h : Heap). h.socks) c.describe-on_one.ensures.kept)
+    (still_paired c.args.heap.now c.sock_pair-one.new.heap c.requires.owners c.sock_pair-one.result.0 c.sock_pair-one.result.1 c.sock_pair-one.ensures.stands)

@@ -1,4 +1,4 @@
-use Rattle.std.proofs.Common.{◌≡◌, ◌<◌, ◌∙◌, ap, is_some, pos, refl, subst, sym, w64}
+use Rattle.std.proofs.Common.{◌≡◌, ◌∙◌, ap, is_some, pos, refl, subst, sym, w64}
 use Rattle.std.specs.Prelude.{Ok}
 use Rattle.std.proofs.lemmas.Int.{to_z-of_z}
 use Rattle.kabi_values.specs.declared.replies.Reply.TheVariants.{Fail, Val}
@@ -8,14 +8,11 @@ use Rattle.proc_table.specs.Accounting.{HasAccount, forked_account}
 use Rattle.proc_table.specs.Changes.{forked_as}
 use Rattle.proc_table.specs.Standing.{IsTable, forked_in}
 use Rattle.store_objects.specs.declared.objects.Objects.{Objects}
-use Rattle.store_objects.specs.Objects.{AreKept, Runs, procs_of}
-use Rattle.store_objects.specs.Working.{pins_by}
+use Rattle.store_objects.specs.Objects.{AreKept, Runs}
 use Rattle.store_objects.proofs.Replies.{GoesOn}
-use Rattle.process_calls.proofs.Forking.{child_there, does_fork, does_full, kept_pinned, may_hold, number_of, runs_pinned, same_objects, tree_stays}
+use Rattle.process_calls.proofs.Forking.{child_there, does_fork, does_full, kept_pinned, may_hold, number_of, runs_pinned, same_objects}
 use Rattle.process_calls.proofs.Sharing.{can_share}
-use Rattle.store_objects.proofs.GoingOn.{at_its_call, rising_in}
-use Rattle.store_objects.proofs.Pinning.{stands_where}
-use Rattle.store_objects.proofs.WorkPlaces.{holds_it}
+use Rattle.store_objects.proofs.GoingOn.{at_its_call}
 use Rattle.process_calls.proofs.children.fork.Goals as goal
 
 pub fork-requires-clause-alive : goal.fork-requires-clause-alive
@@ -35,8 +32,8 @@ move_on-requires-clause-stored c = c.fork.ensures.moves.holds.stored
 
 pub move_on-requires-clause-there : goal.move_on-requires-clause-there
 move_on-requires-clause-there c =
-    child_there c.args.script.now c.args.objects.now (record { heap = c.fork.new.heap; procs = c.fork.new.self; tree = c.args.objects.now.tree }) c.args.pid c.in-Ok.child c.args.control
-    c.requires.kept c.requires.runs c.fork.ensures.moves refl
+    child_there c.args.script.now c.args.objects.now (record { heap = c.fork.new.heap; procs = c.fork.new.self; tree = c.args.objects.now.tree; names = c.args.objects.now.names }) c.args.pid c.in-Ok.child c.args.control
+    c.requires.kept c.requires.runs c.fork.ensures.moves refl refl
     (record { can = can_share c.args.script.now c.args.objects.now c.args.pid c.requires.runs.proc c.requires.kept c.heap_is_well_formed.ensures c.requires.runs.found; descs = c.in-Ok.ensures.shared c.requires.runs.proc c.requires.runs.found })
     c.in-Ok.ensures.child
 
@@ -49,32 +46,25 @@ directory_of-directory-requires-clause-there c = ap is_some c.requires.runs.foun
 pub hold_directory-requires : goal.hold_directory-requires
 hold_directory-requires c = record {
   held = λ other.
-      let old = c.args.objects.now in
-      let worked = c.requires.works in
-      let at = c.directory_of-directory.ensures c.requires.runs.proc c.requires.runs.found in (
-        worked.0,
-        pins_by (procs_of old),
-        stands_where old c.move_on.new.self worked.0 (pins_by (procs_of old))
-            (tree_stays c.args.script.now c.args.objects.now (record { heap = c.fork.new.heap; procs = c.fork.new.self; tree = c.args.objects.now.tree }) c.move_on.new.self c.args.pid c.in-Ok.child c.args.control c.behind.result
-            c.requires.kept c.requires.runs c.fork.ensures.moves refl (record { can = can_share c.args.script.now c.args.objects.now c.args.pid c.requires.runs.proc c.requires.kept c.heap_is_well_formed.ensures c.requires.runs.found; descs = c.in-Ok.ensures.shared c.requires.runs.proc c.requires.runs.found })
-            c.in-Ok.ensures.child (number_of _ _ c.in-Ok.child (sym c.in-Ok.is ∙ c.fork.ensures.answer)) c.move_on.ensures) worked.1.stands,
-        subst (λ n. 0 < pins_by (procs_of old) n) (sym at)
-            (holds_it c.args.pid (procs_of old) 0 c.requires.runs.proc (rising_in c.args.script.now old c.requires.kept) c.requires.runs.found c.requires.runs.up (λ same. other (at ∙ same))),
-        may_hold c.args.script.now old c.in-Ok.child c.directory_of-directory.result c.requires.kept (sym c.in-Ok.is ∙ c.fork.ensures.answer),
-      );
+      let some = c.requires.stands in
+      may_hold c.args.script.now c.args.objects.now (record { heap = c.fork.new.heap; procs = c.fork.new.self; tree = c.args.objects.now.tree; names = c.args.objects.now.names }) c.move_on.new.self c.args.pid c.in-Ok.child c.args.control c.behind.result
+      c.requires.kept c.requires.runs c.fork.ensures.moves refl refl
+      (record { can = can_share c.args.script.now c.args.objects.now c.args.pid c.requires.runs.proc c.requires.kept c.heap_is_well_formed.ensures c.requires.runs.found; descs = c.in-Ok.ensures.shared c.requires.runs.proc c.requires.runs.found })
+      c.in-Ok.ensures.child (number_of _ _ c.in-Ok.child (sym c.in-Ok.is ∙ c.fork.ensures.answer)) c.move_on.ensures
+      c.directory_of-directory.result (c.directory_of-directory.ensures c.requires.runs.proc c.requires.runs.found) other some.0 some.1 c.heap_is_well_formed.ensures;
 }
 
 pub go_on-requires-clause-kept : goal.go_on-requires-clause-kept
 go_on-requires-clause-kept c =
-    kept_pinned c.args.script.now c.args.objects.now (record { heap = c.fork.new.heap; procs = c.fork.new.self; tree = c.args.objects.now.tree }) c.move_on.new.self c.hold_directory.new.objects c.args.pid c.in-Ok.child c.directory_of-directory.result c.args.control c.behind.result
-    c.requires.kept c.requires.runs c.fork.ensures.moves refl (record { can = can_share c.args.script.now c.args.objects.now c.args.pid c.requires.runs.proc c.requires.kept c.heap_is_well_formed.ensures c.requires.runs.found; descs = c.in-Ok.ensures.shared c.requires.runs.proc c.requires.runs.found })
+    kept_pinned c.args.script.now c.args.objects.now (record { heap = c.fork.new.heap; procs = c.fork.new.self; tree = c.args.objects.now.tree; names = c.args.objects.now.names }) c.move_on.new.self c.hold_directory.new.objects c.args.pid c.in-Ok.child c.directory_of-directory.result c.args.control c.behind.result
+    c.requires.kept c.requires.runs c.fork.ensures.moves refl refl (record { can = can_share c.args.script.now c.args.objects.now c.args.pid c.requires.runs.proc c.requires.kept c.heap_is_well_formed.ensures c.requires.runs.found; descs = c.in-Ok.ensures.shared c.requires.runs.proc c.requires.runs.found })
     c.in-Ok.ensures.child (number_of _ _ c.in-Ok.child (sym c.in-Ok.is ∙ c.fork.ensures.answer)) c.move_on.ensures
     (c.directory_of-directory.ensures c.requires.runs.proc c.requires.runs.found) c.hold_directory.ensures.only c.hold_directory.ensures.stands c.behind.ensures.stands c.behind.ensures.rests
 
 pub go_on-requires-clause-runs : goal.go_on-requires-clause-runs
 go_on-requires-clause-runs c =
-    runs_pinned c.args.script.now c.args.objects.now (record { heap = c.fork.new.heap; procs = c.fork.new.self; tree = c.args.objects.now.tree }) c.move_on.new.self c.hold_directory.new.objects c.args.pid c.in-Ok.child c.directory_of-directory.result c.args.control c.behind.result
-    c.requires.kept c.requires.runs c.fork.ensures.moves refl (record { can = can_share c.args.script.now c.args.objects.now c.args.pid c.requires.runs.proc c.requires.kept c.heap_is_well_formed.ensures c.requires.runs.found; descs = c.in-Ok.ensures.shared c.requires.runs.proc c.requires.runs.found })
+    runs_pinned c.args.script.now c.args.objects.now (record { heap = c.fork.new.heap; procs = c.fork.new.self; tree = c.args.objects.now.tree; names = c.args.objects.now.names }) c.move_on.new.self c.hold_directory.new.objects c.args.pid c.in-Ok.child c.directory_of-directory.result c.args.control c.behind.result
+    c.requires.kept c.requires.runs c.fork.ensures.moves refl refl (record { can = can_share c.args.script.now c.args.objects.now c.args.pid c.requires.runs.proc c.requires.kept c.heap_is_well_formed.ensures c.requires.runs.found; descs = c.in-Ok.ensures.shared c.requires.runs.proc c.requires.runs.found })
     c.in-Ok.ensures.child (number_of _ _ c.in-Ok.child (sym c.in-Ok.is ∙ c.fork.ensures.answer)) c.move_on.ensures
     (c.directory_of-directory.ensures c.requires.runs.proc c.requires.runs.found) c.hold_directory.ensures.only c.hold_directory.ensures.stands
 
@@ -103,11 +93,11 @@ returns-in-Err-clause-paid c =
 pub returns-in-Ok-clause-does : goal.returns-in-Ok-clause-does
 returns-in-Ok-clause-does c =
     let script = c.args.script.now in
-    let mid : Objects = record { heap = c.fork.new.heap; procs = c.fork.new.self; tree = c.args.objects.now.tree } in
+    let mid : Objects = record { heap = c.fork.new.heap; procs = c.fork.new.self; tree = c.args.objects.now.tree; names = c.args.objects.now.names } in
     let answer : Ok c.in-Ok.child ≡ forked_as _ c.args.objects.now.procs.last = sym c.in-Ok.is ∙ c.fork.ensures.answer in
     let value : _ ≡ pos c.in-Ok.child = to_z-of_z w64 c.from.result (record { sfits = c.from.type_inv }) ∙ c.from.ensures in
     does_fork script c.args.objects.now mid c.move_on.new.self c.hold_directory.new.objects c.args.pid c.in-Ok.child c.directory_of-directory.result c.args.control c.behind.result
-    c.requires.kept c.requires.runs c.fork.ensures.moves refl
+    c.requires.kept c.requires.runs c.fork.ensures.moves refl refl
     (record { can = can_share c.args.script.now c.args.objects.now c.args.pid c.requires.runs.proc c.requires.kept c.heap_is_well_formed.ensures c.requires.runs.found; descs = c.in-Ok.ensures.shared c.requires.runs.proc c.requires.runs.found })
     c.in-Ok.ensures.child (number_of _ _ c.in-Ok.child answer) c.move_on.ensures
     (c.directory_of-directory.ensures c.requires.runs.proc c.requires.runs.found) c.hold_directory.ensures.only c.hold_directory.ensures.stands

@@ -4,8 +4,8 @@ use Rattle.kabi_calls.specs.declared.calls.Call.TheVariants as call
 use Rattle.posix_defs.specs.Answer.{Ended}
 use Rattle.posix_defs.specs.Ending.{die, exit_status}
 use Rattle.posix_defs.specs.declared.turner.Turned.TheVariants as turned
-use Rattle.store_objects.specs.Standing.{Performs}
-use Rattle.store_objects.proofs.Leading.{led_ended}
+use Rattle.store_objects.specs.Walking.{Serves}
+use Rattle.process_calls.proofs.Striking.{serves_ended}
 use Rattle.process_calls.proofs.ends.exit.Goals as goal
 
 pub returns-clause-does : goal.returns-clause-does
@@ -13,7 +13,5 @@ returns-clause-does c = λ script.
     let old = c.args.objects.now in
     let status : c.exit_status-status.result ≡ exit_status c.args.status =
     subst (λ z. c.exit_status-status.result ≡ exit_status z) (to_z-of_z w64 c.args.status c.ranges.status) c.exit_status-status.ensures in
-    subst (λ n. Performs script old c.args.pid (call.Exit c.args.status) (λ plain. Ended n (die plain c.args.pid n)) (turned.Ended c.exit_status-status.result) c.end.new.objects) status
-    (λ world stands alive.
-    led_ended script c.end.new.objects world c.args.pid (call.Exit c.args.status) c.exit_status-status.result
-    (turned.Ended c.exit_status-status.result) refl (c.end.ensures.dies script world stands))
+    subst (λ n. Serves script old c.args.pid (call.Exit c.args.status) (λ plain. Ended n (die plain c.args.pid n)) (turned.Ended c.exit_status-status.result) c.end.new.objects) status
+    (serves_ended script old c.end.new.objects c.args.pid c.exit_status-status.result (call.Exit c.args.status) (turned.Ended c.exit_status-status.result) refl refl (c.end.ensures.dies script) refl)

@@ -9,8 +9,8 @@ use Rattle.posix_defs.specs.Sizes.{reserve}
 use Rattle.proc_table.specs.Procs.{IsAlive}
 use Rattle.proc_table.specs.Standing.{IsTable, answered_by, pid_of}
 use Rattle.store_objects.specs.Objects.{procs_of}
-use Rattle.store_objects.specs.Standing.{Performs}
-use Rattle.store_objects.proofs.EndingOthers.{alive_made}
+use Rattle.store_objects.specs.Walking.{Serves}
+use Rattle.process_ends.proofs.EndingOthers.{alive_made}
 use Rattle.store_objects.proofs.Paying.{uses_nothing}
 use Rattle.process_calls.proofs.Striking.{IsStruck, answered_as, does_strike, does_tell, number_of, struck_by}
 use Rattle.process_calls.proofs.ends.signal_process.Goals as goal
@@ -23,7 +23,7 @@ overflow_cast-cast_unsigned c =
     c.may_kill.ensures.verdict c.in-Ok-true.is c.in-Ok-true.field-0-test in
     let number : c.cast_unsigned.result ≡ pid_of c.args.target =
     number_of c.args.target c.cast_unsigned.result (c.cast_unsigned.ensures ∙ ap (cast_unsigned w64) (to_z-of_z w64 c.args.target c.ranges.target)) it.same in
-    let made : pid_of c.args.target ≤ objects.procs.last = alive_made objects (pid_of c.args.target) c.requires.kept.holds it.alive in
+    let made : pid_of c.args.target ≤ objects.procs.last = alive_made objects (pid_of c.args.target) c.requires.stands.1.kept.holds it.alive in
     let most : objects.procs.last < 4294967296 = c.pids_have_32_bits.ensures in
     record { fits = omega arith }
 
@@ -84,7 +84,7 @@ returns-in-Ok-true-clause-does c =
     (c.may_kill.ensures.kill script plain is) in
     does_strike script objects c.strike.new.objects pid c.args.target c.args.signal c.strike.result
     (λ plain is. answers plain is ∙ ap (answered_by script plain pid c.args.target) (c.in-Ok-true.is ∙ ap Ok c.in-Ok-true.field-0-test))
-    (subst (λ n. Performs script objects pid (call.Kill c.args.target c.args.signal) (λ plain. struck script plain pid n) c.strike.result c.strike.new.objects) number
+    (subst (λ n. Serves script objects pid (call.Kill c.args.target c.args.signal) (λ plain. struck script plain pid n) c.strike.result c.strike.new.objects) number
     (c.strike.ensures.does c.args.target c.args.signal))
 
 pub returns-in-Err-clause-uses : goal.returns-in-Err-clause-uses

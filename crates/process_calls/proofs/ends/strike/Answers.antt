@@ -1,22 +1,21 @@
 use Rattle.std.proofs.Common.{refl, sym}
-use Rattle.kabi_calls.specs.declared.calls.Call.TheVariants.{Kill}
 use Rattle.posix_defs.specs.Sizes.{reserve}
 use Rattle.store_objects.proofs.Paying.{uses_nothing, uses_then}
 use Rattle.process_calls.proofs.Striking.{does_another, does_itself}
 use Rattle.process_calls.proofs.ends.strike.Goals as goal
 
-pub end-requires-clause-kept : goal.end-requires-clause-kept
-end-requires-clause-kept c = (c.args.script.now, c.requires.kept)
+pub end-requires-clause-stands : goal.end-requires-clause-stands
+end-requires-clause-stands c = let some = c.requires.stands in (c.args.script.now, some.0, some.1, some.2)
 
 pub returns-then-target-pid-clause-kept : goal.returns-then-target-pid-clause-kept
-returns-then-target-pid-clause-kept c = c.end.ensures.kept c.args.script.now c.requires.kept
+returns-then-target-pid-clause-kept c = c.end.ensures.kept c.args.script.now c.requires.stands.1.kept
 
 pub returns-then-target-pid-clause-does : goal.returns-then-target-pid-clause-does
 returns-then-target-pid-clause-does c = λ number signal.
-    does_itself c.args.script.now c.args.objects.now c.end.new.objects c.args.pid c.args.target (Kill number signal) _ c.if-target-pid.true (c.end.ensures.dies c.args.script.now) refl
+    does_itself c.args.script.now c.args.objects.now c.end.new.objects c.args.pid c.args.target number signal _ c.if-target-pid.true (c.end.ensures.dies c.args.script.now) refl
 
 pub go_on-requires-clause-kept : goal.go_on-requires-clause-kept
-go_on-requires-clause-kept c = c.end.ensures.kept c.args.script.now c.requires.kept
+go_on-requires-clause-kept c = c.end.ensures.kept c.args.script.now c.requires.stands.1.kept
 
 pub go_on-requires-clause-runs : goal.go_on-requires-clause-runs
 go_on-requires-clause-runs c = c.end.ensures.others c.requires.other c.args.pid c.args.control (λ same. c.if-target-pid.false (sym same)) c.requires.runs

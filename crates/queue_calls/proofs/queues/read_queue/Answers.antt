@@ -1,7 +1,8 @@
-use Rattle.std.proofs.Common.{w64}
+use Rattle.std.proofs.Common.{subst, sym, w64}
 use Rattle.std.proofs.lemmas.Int.{to_z-of_z}
 use Rattle.kabi_calls.specs.declared.calls.Call.TheVariants as call
 use Rattle.posix_defs.specs.Calls.Reading.{read}
+use Rattle.proc_files.specs.Reading.{IsOffNodes}
 use Rattle.proc_queues.specs.Standing.{Leads}
 use Rattle.proc_queues.proofs.Finding.{alive_listed}
 use Rattle.queue_calls.proofs.Choosing.{beside_socks, beside_pipes, on_pipe_else}
@@ -15,7 +16,7 @@ pub read_socket-requires-clause-on : goal.read_socket-requires-clause-on
 read_socket-requires-clause-on c = c.is_on_socket.ensures.on c.if-is_on_socket.true
 
 pub read-requires-clause-on : goal.read-requires-clause-on
-read-requires-clause-on c = on_pipe_else c.args.heap.now c.args.procs.now c.args.pid _ c.is_on_socket.result c.requires.nodes c.is_on_socket.ensures.tells c.if-is_on_socket.false
+read-requires-clause-on c = on_pipe_else c.args.heap.now c.args.procs.now c.args.pid _ c.is_on_socket.result (subst (IsOffNodes c.args.heap.now c.args.procs.now c.args.pid) (sym (to_z-of_z w64 c.args.fd c.ranges.fd)) c.requires.off) c.is_on_socket.ensures.tells c.if-is_on_socket.false
 
 pub returns-then-is_on_socket-clause-leads : goal.returns-then-is_on_socket-clause-leads
 returns-then-is_on_socket-clause-leads c = λ script numbers plain account stands.

@@ -3,10 +3,12 @@ use Rattle.std.proofs.lemmas.Int.{to_z-of_z}
 use Rattle.kabi_calls.specs.declared.calls.Call.TheVariants as call
 use Rattle.kheap_laws.proofs.PaidLemmas.{IsPaid-nothing, IsPaid-trans}
 use Rattle.posix_defs.specs.Calls.Reading.{read}
+use Rattle.proc_files.specs.Reading.{IsOffNodes}
 use Rattle.proc_queues.specs.Standing.{Leads}
 use Rattle.store_objects.specs.Standing.{Performs}
 use Rattle.queue_calls.proofs.MovedNumbers.{of_three}
-use Rattle.queue_calls.proofs.Queueing.{is_kept, kept_mid, leaves_rest, off_nodes, runs_alive, runs_mid}
+use Rattle.queue_calls.proofs.Naming.{names_read}
+use Rattle.queue_calls.proofs.Queueing.{is_kept, kept_mid, leaves_rest, off_world, runs_alive, runs_mid}
 use Rattle.queue_calls.proofs.Remaining.{read_leaves}
 use Rattle.queue_calls.proofs.Telling.{follows_done, performs}
 use Rattle.queue_calls.proofs.reading.read.Goals as goal
@@ -17,17 +19,21 @@ read_queue-told-requires-clause-kept c = let some = c.requires.stands in is_kept
 pub read_queue-told-requires-clause-alive : goal.read_queue-told-requires-clause-alive
 read_queue-told-requires-clause-alive c = runs_alive c.args.objects.now c.args.pid c.args.control c.requires.runs
 
-pub read_queue-told-requires-clause-nodes : goal.read_queue-told-requires-clause-nodes
-read_queue-told-requires-clause-nodes c = let some = c.requires.stands in some.1.kept.nodes
+pub read_queue-told-requires-clause-off : goal.read_queue-told-requires-clause-off
+read_queue-told-requires-clause-off c = subst (IsOffNodes c.args.objects.now.heap c.args.objects.now.procs c.args.pid) (sym (to_z-of_z w64 c.args.fd c.ranges.fd)) c.requires.off
 
 pub go_on_done-requires-clause-kept : goal.go_on_done-requires-clause-kept
 go_on_done-requires-clause-kept c =
     let some = c.requires.stands in
-    kept_mid c.args.script.now c.args.objects.now c.read_queue-told.new.heap c.read_queue-told.ensures.kept (leaves_rest c.args.objects.now.heap c.read_queue-told.new.heap c.read_queue-told.ensures.beside) some.1.kept
+    let names = names_read c.args.script.now c.args.objects.now c.read_queue-told.new.heap c.args.pid _ _ _ c.read_queue-told.result (c.read_queue-told.ensures.leads c.args.script.now) c.requires.stands
+    (subst (IsOffNodes c.args.objects.now.heap c.args.objects.now.procs c.args.pid) (sym (to_z-of_z w64 c.args.fd c.ranges.fd)) c.requires.off) in
+    kept_mid c.args.script.now c.args.objects.now c.read_queue-told.new.heap c.read_queue-told.ensures.kept (leaves_rest c.args.objects.now.heap c.read_queue-told.new.heap c.read_queue-told.ensures.beside) names some.1.kept
 
 pub go_on_done-requires-clause-runs : goal.go_on_done-requires-clause-runs
 go_on_done-requires-clause-runs c =
-    runs_mid c.args.script.now c.args.objects.now c.read_queue-told.new.heap c.read_queue-told.ensures.kept (leaves_rest c.args.objects.now.heap c.read_queue-told.new.heap c.read_queue-told.ensures.beside)
+    let names = names_read c.args.script.now c.args.objects.now c.read_queue-told.new.heap c.args.pid _ _ _ c.read_queue-told.result (c.read_queue-told.ensures.leads c.args.script.now) c.requires.stands
+    (subst (IsOffNodes c.args.objects.now.heap c.args.objects.now.procs c.args.pid) (sym (to_z-of_z w64 c.args.fd c.ranges.fd)) c.requires.off) in
+    runs_mid c.args.script.now c.args.objects.now c.read_queue-told.new.heap c.read_queue-told.ensures.kept (leaves_rest c.args.objects.now.heap c.read_queue-told.new.heap c.read_queue-told.ensures.beside) names
     c.args.pid c.args.control c.requires.runs
 
 pub returns-clause-paid : goal.returns-clause-paid
@@ -43,11 +49,13 @@ returns-clause-does c =
     let new = c.go_on_done.new.objects in
     let pid = c.args.pid in
     let told = c.read_queue-told.result in
+    let names = names_read c.args.script.now c.args.objects.now c.read_queue-told.new.heap c.args.pid _ _ _ c.read_queue-told.result (c.read_queue-told.ensures.leads c.args.script.now) c.requires.stands
+    (subst (IsOffNodes c.args.objects.now.heap c.args.objects.now.procs c.args.pid) (sym (to_z-of_z w64 c.args.fd c.ranges.fd)) c.requires.off) in
     subst (λ t. Performs script old pid (call.Read c.args.fd c.args.addr c.args.n) (λ plain. read script plain pid c.args.fd c.args.addr c.args.n) t new) (sym c.go_on_done.ensures.told)
-    (performs script old heap c.read_queue-told.ensures.kept (leaves_rest old.heap heap c.read_queue-told.ensures.beside) pid (call.Read c.args.fd c.args.addr c.args.n) (λ moved. ⊥) new
+    (performs script old heap c.read_queue-told.ensures.kept (leaves_rest old.heap heap c.read_queue-told.ensures.beside) names pid (call.Read c.args.fd c.args.addr c.args.n) (λ moved. ⊥) new
     (λ plain. read script plain pid c.args.fd c.args.addr c.args.n) told
     (λ numbers plain account stands.
     of_three (λ fd addr n. Leads script numbers heap old.procs plain account pid (call.Read fd addr n) (read script plain pid fd addr n) told) _ _ _ c.args.fd c.args.addr c.args.n
     (to_z-of_z w64 c.args.fd c.ranges.fd) (to_z-of_z w64 c.args.addr c.ranges.addr) (to_z-of_z w64 c.args.n c.ranges.n) (c.read_queue-told.ensures.leads script numbers plain account stands))
-    (λ world stands. read_leaves (λ moved. ⊥) script world.plain pid (off_nodes script old world stands) c.args.fd c.args.addr c.args.n)
-    (follows_done script (record { heap = heap; procs = old.procs; tree = old.tree }) pid (λ moved. ⊥) told new c.go_on_done.ensures.goes (λ moved is never. never)))
+    (λ world stands. read_leaves (λ moved. ⊥) script world.plain pid c.args.fd (off_world script old world pid c.args.fd stands c.requires.off) c.args.addr c.args.n)
+    (follows_done script (record { heap = heap; procs = old.procs; tree = old.tree; names = old.names }) pid (λ moved. ⊥) told new c.go_on_done.ensures.goes (λ moved is never. never)))

@@ -16,9 +16,6 @@ read_queue_waits-requires-clause-kept c = let some = c.requires in is_kept some.
 pub read_queue_waits-requires-clause-alive : goal.read_queue_waits-requires-clause-alive
 read_queue_waits-requires-clause-alive c = let some = c.requires in alive_runs some.0 c.args.objects.now some.1.plain c.args.pid some.2.processes some.3
 
-pub read_queue_waits-requires-clause-nodes : goal.read_queue_waits-requires-clause-nodes
-read_queue_waits-requires-clause-nodes c = let some = c.requires in some.2.kept.nodes
-
 pub read_queue_waits-requires-clause-right : goal.read_queue_waits-requires-clause-right
 read_queue_waits-requires-clause-right c = no_fault _ (sym c.may_move.ensures ∙ c.if-may_move.true)
 

@@ -11,11 +11,14 @@ use Rattle.posix_defs.specs.Calls.Writing.{write}
 use Rattle.posix_defs.specs.Plain.{Plain}
 use Rattle.posix_defs.specs.declared.turner.Turned.{Turned}
 use Rattle.posix_defs.specs.declared.turner.Turned.TheVariants as turned
+use Rattle.proc_files.specs.Reading.{IsOffNodes}
+use Rattle.holding_laws.specs.Names.{name_of}
 use Rattle.proc_queues.specs.Standing.{IsKept, IsTold, Leads, StandsFor as QueuesStandFor}
 use Rattle.store_objects.specs.declared.objects.Objects.{Objects}
 use Rattle.store_objects.specs.Standing.{Performs}
 use Rattle.queue_calls.proofs.MovedNumbers.{count_few, of_three}
-use Rattle.queue_calls.proofs.Queueing.{is_kept, kept_mid, leaves_more, off_nodes, queues_stand, runs_alive, runs_mid}
+use Rattle.queue_calls.proofs.Naming.{names_written}
+use Rattle.queue_calls.proofs.Queueing.{is_kept, kept_mid, leaves_more, off_world, queues_stand, runs_alive, runs_mid}
 use Rattle.queue_calls.proofs.Remaining.{write_leaves}
 use Rattle.queue_calls.proofs.Telling.{Follows, follows_done, follows_part, part_told, performs}
 use Rattle.queue_calls.proofs.writing.write.Goals as goal
@@ -26,17 +29,23 @@ write_queue-told-requires-clause-kept c = let some = c.requires.stands in is_kep
 pub write_queue-told-requires-clause-alive : goal.write_queue-told-requires-clause-alive
 write_queue-told-requires-clause-alive c = runs_alive c.args.objects.now c.args.pid c.args.control c.requires.runs
 
-pub write_queue-told-requires-clause-nodes : goal.write_queue-told-requires-clause-nodes
-write_queue-told-requires-clause-nodes c = let some = c.requires.stands in some.1.kept.nodes
+pub write_queue-told-requires-clause-off : goal.write_queue-told-requires-clause-off
+write_queue-told-requires-clause-off c = subst (IsOffNodes c.args.objects.now.heap c.args.objects.now.procs c.args.pid) (sym (to_z-of_z w64 c.args.fd c.ranges.fd)) c.requires.off
 
 pub do_part-requires-clause-kept : goal.do_part-requires-clause-kept
 do_part-requires-clause-kept c =
     let some = c.requires.stands in
-    (c.args.script.now, kept_mid c.args.script.now c.args.objects.now c.write_queue-told.new.heap c.write_queue-told.ensures.kept (leaves_more c.args.objects.now.heap c.write_queue-told.new.heap c.write_queue-told.ensures.beside) some.1.kept)
+    let names = names_written c.args.script.now c.args.objects.now c.write_queue-told.new.heap c.args.pid _ _ _ c.args.done c.write_queue-told.result
+    (c.write_queue-told.ensures.leads c.args.script.now) c.requires.stands
+    (subst (IsOffNodes c.args.objects.now.heap c.args.objects.now.procs c.args.pid) (sym (to_z-of_z w64 c.args.fd c.ranges.fd)) c.requires.off) in
+    (c.args.script.now, kept_mid c.args.script.now c.args.objects.now c.write_queue-told.new.heap c.write_queue-told.ensures.kept (leaves_more c.args.objects.now.heap c.write_queue-told.new.heap c.write_queue-told.ensures.beside) names some.1.kept)
 
 pub do_part-requires-clause-runs : goal.do_part-requires-clause-runs
 do_part-requires-clause-runs c =
-    runs_mid c.args.script.now c.args.objects.now c.write_queue-told.new.heap c.write_queue-told.ensures.kept (leaves_more c.args.objects.now.heap c.write_queue-told.new.heap c.write_queue-told.ensures.beside)
+    let names = names_written c.args.script.now c.args.objects.now c.write_queue-told.new.heap c.args.pid _ _ _ c.args.done c.write_queue-told.result
+    (c.write_queue-told.ensures.leads c.args.script.now) c.requires.stands
+    (subst (IsOffNodes c.args.objects.now.heap c.args.objects.now.procs c.args.pid) (sym (to_z-of_z w64 c.args.fd c.ranges.fd)) c.requires.off) in
+    runs_mid c.args.script.now c.args.objects.now c.write_queue-told.new.heap c.write_queue-told.ensures.kept (leaves_more c.args.objects.now.heap c.write_queue-told.new.heap c.write_queue-told.ensures.beside) names
     c.args.pid c.args.control c.requires.runs
 
 -- a part is less than the bytes that are left
@@ -55,7 +64,7 @@ do_part-requires-clause-fits c =
     subst (λ t. IsTold script plain pid (write script plain pid c.args.fd c.args.addr c.args.n c.args.done) t led.next) c.in-Part.is led.told_so in
     let more : c.args.done + c.in-Part.moved ≤ count_of c.args.n =
     part_told script plain pid within _ c.in-Part.moved led.next told
-    (write_leaves within script plain pid (off_nodes script old some.0 some.1) c.args.fd c.args.addr c.args.n c.args.done (λ moved less. less)) in
+    (write_leaves within script plain pid c.args.fd (off_world script old some.0 pid c.args.fd some.1 c.requires.off) c.args.addr c.args.n c.args.done (λ moved less. less)) in
     let few = count_few c.args.addr c.args.n c.requires.right in
     let same = c.requires.so_far in
     omega arith
@@ -63,18 +72,27 @@ do_part-requires-clause-fits c =
 pub go_on_done-requires-clause-kept : goal.go_on_done-requires-clause-kept
 go_on_done-requires-clause-kept c =
     let some = c.requires.stands in
-    kept_mid c.args.script.now c.args.objects.now c.write_queue-told.new.heap c.write_queue-told.ensures.kept (leaves_more c.args.objects.now.heap c.write_queue-told.new.heap c.write_queue-told.ensures.beside) some.1.kept
+    let names = names_written c.args.script.now c.args.objects.now c.write_queue-told.new.heap c.args.pid _ _ _ c.args.done c.write_queue-told.result
+    (c.write_queue-told.ensures.leads c.args.script.now) c.requires.stands
+    (subst (IsOffNodes c.args.objects.now.heap c.args.objects.now.procs c.args.pid) (sym (to_z-of_z w64 c.args.fd c.ranges.fd)) c.requires.off) in
+    kept_mid c.args.script.now c.args.objects.now c.write_queue-told.new.heap c.write_queue-told.ensures.kept (leaves_more c.args.objects.now.heap c.write_queue-told.new.heap c.write_queue-told.ensures.beside) names some.1.kept
 
 pub go_on_done-requires-clause-runs : goal.go_on_done-requires-clause-runs
 go_on_done-requires-clause-runs c =
-    runs_mid c.args.script.now c.args.objects.now c.write_queue-told.new.heap c.write_queue-told.ensures.kept (leaves_more c.args.objects.now.heap c.write_queue-told.new.heap c.write_queue-told.ensures.beside)
+    let names = names_written c.args.script.now c.args.objects.now c.write_queue-told.new.heap c.args.pid _ _ _ c.args.done c.write_queue-told.result
+    (c.write_queue-told.ensures.leads c.args.script.now) c.requires.stands
+    (subst (IsOffNodes c.args.objects.now.heap c.args.objects.now.procs c.args.pid) (sym (to_z-of_z w64 c.args.fd c.ranges.fd)) c.requires.off) in
+    runs_mid c.args.script.now c.args.objects.now c.write_queue-told.new.heap c.write_queue-told.ensures.kept (leaves_more c.args.objects.now.heap c.write_queue-told.new.heap c.write_queue-told.ensures.beside) names
     c.args.pid c.args.control c.requires.runs
 
 pub returns-in-Part-clause-kept : goal.returns-in-Part-clause-kept
 returns-in-Part-clause-kept c =
     let some = c.requires.stands in
+    let names = names_written c.args.script.now c.args.objects.now c.write_queue-told.new.heap c.args.pid _ _ _ c.args.done c.write_queue-told.result
+    (c.write_queue-told.ensures.leads c.args.script.now) c.requires.stands
+    (subst (IsOffNodes c.args.objects.now.heap c.args.objects.now.procs c.args.pid) (sym (to_z-of_z w64 c.args.fd c.ranges.fd)) c.requires.off) in
     c.do_part.ensures.kept c.args.script.now
-    (kept_mid c.args.script.now c.args.objects.now c.write_queue-told.new.heap c.write_queue-told.ensures.kept (leaves_more c.args.objects.now.heap c.write_queue-told.new.heap c.write_queue-told.ensures.beside) some.1.kept)
+    (kept_mid c.args.script.now c.args.objects.now c.write_queue-told.new.heap c.write_queue-told.ensures.kept (leaves_more c.args.objects.now.heap c.write_queue-told.new.heap c.write_queue-told.ensures.beside) names some.1.kept)
 
 pub returns-in-Part-clause-paid : goal.returns-in-Part-clause-paid
 returns-in-Part-clause-paid c =
@@ -89,17 +107,18 @@ returns-in_default-clause-paid c =
 -- what it leads to, whatever was told
 leads : (script : Script) (old new : Objects) (heap : Heap) (pid : ℕ) (fd addr n as_fd as_addr as_n : ℤ) (done : ℕ) (told : Turned) → as_fd ≡ fd → as_addr ≡ addr → as_n ≡ n
     → (kept : IsKept heap old.procs) → (beside : heap ≡ record old.heap { pipes = heap.pipes; chunks = heap.chunks; socks = heap.socks; high = heap.high })
+    → ((key : ℕ) → name_of heap.socks key ≡ name_of old.heap.socks key) → IsOffNodes old.heap old.procs pid fd
     → ((numbers : Numbers) (plain : Plain) (account : Account) → QueuesStandFor numbers old.heap old.procs plain account
     → Leads script numbers heap old.procs plain account pid (call.Write as_fd as_addr as_n done) (write script plain pid as_fd as_addr as_n done) told)
-    → Follows script (record { heap = heap; procs = old.procs; tree = old.tree }) pid (λ moved. done + moved ≤ count_of n) told new
+    → Follows script (record { heap = heap; procs = old.procs; tree = old.tree; names = old.names }) pid (λ moved. done + moved ≤ count_of n) told new
     → Performs script old pid (call.Write fd addr n done) (λ plain. write script plain pid fd addr n done) told new
-leads script old new heap pid fd addr n as_fd as_addr as_n done told first second third kept beside each follows =
-    performs script old heap kept (leaves_more old.heap heap beside) pid (call.Write fd addr n done) (λ moved. done + moved ≤ count_of n) new
+leads script old new heap pid fd addr n as_fd as_addr as_n done told first second third kept beside names off each follows =
+    performs script old heap kept (leaves_more old.heap heap beside) names pid (call.Write fd addr n done) (λ moved. done + moved ≤ count_of n) new
     (λ plain. write script plain pid fd addr n done) told
     (λ numbers plain account stands.
     of_three (λ x y z. Leads script numbers heap old.procs plain account pid (call.Write x y z done) (write script plain pid x y z done) told) as_fd as_addr as_n fd addr n
     first second third (each numbers plain account stands))
-    (λ world stands. write_leaves (λ moved. done + moved ≤ count_of n) script world.plain pid (off_nodes script old world stands) fd addr n done (λ moved less. less))
+    (λ world stands. write_leaves (λ moved. done + moved ≤ count_of n) script world.plain pid fd (off_world script old world pid fd stands off) addr n done (λ moved less. less))
     follows
 
 pub returns-in-Part-clause-does : goal.returns-in-Part-clause-does
@@ -108,12 +127,15 @@ returns-in-Part-clause-does c =
     let old = c.args.objects.now in
     let pid = c.args.pid in
     let new = c.do_part.new.objects in
+    let names = names_written c.args.script.now c.args.objects.now c.write_queue-told.new.heap c.args.pid _ _ _ c.args.done c.write_queue-told.result
+    (c.write_queue-told.ensures.leads c.args.script.now) c.requires.stands
+    (subst (IsOffNodes c.args.objects.now.heap c.args.objects.now.procs c.args.pid) (sym (to_z-of_z w64 c.args.fd c.ranges.fd)) c.requires.off) in
     subst (λ t. Performs script old pid (call.Write c.args.fd c.args.addr c.args.n c.args.done) (λ plain. write script plain pid c.args.fd c.args.addr c.args.n c.args.done) t new)
     (c.in-Part.is ∙ sym c.do_part.ensures.told)
     (leads script old new c.write_queue-told.new.heap pid c.args.fd c.args.addr c.args.n _ _ _ c.args.done c.write_queue-told.result
-    (to_z-of_z w64 c.args.fd c.ranges.fd) (to_z-of_z w64 c.args.addr c.ranges.addr) (to_z-of_z w64 c.args.n c.ranges.n) c.write_queue-told.ensures.kept c.write_queue-told.ensures.beside
+    (to_z-of_z w64 c.args.fd c.ranges.fd) (to_z-of_z w64 c.args.addr c.ranges.addr) (to_z-of_z w64 c.args.n c.ranges.n) c.write_queue-told.ensures.kept c.write_queue-told.ensures.beside names c.requires.off
     (c.write_queue-told.ensures.leads script)
-    (follows_part script (record { heap = c.write_queue-told.new.heap; procs = old.procs; tree = old.tree }) pid (λ moved. c.args.done + moved ≤ count_of c.args.n) c.write_queue-told.result new c.in-Part.moved
+    (follows_part script (record { heap = c.write_queue-told.new.heap; procs = old.procs; tree = old.tree; names = old.names }) pid (λ moved. c.args.done + moved ≤ count_of c.args.n) c.write_queue-told.result new c.in-Part.moved
     c.in-Part.is (c.do_part.ensures.goes script)))
 
 pub returns-in_default-clause-does : goal.returns-in_default-clause-does
@@ -122,10 +144,13 @@ returns-in_default-clause-does c =
     let old = c.args.objects.now in
     let pid = c.args.pid in
     let new = c.go_on_done.new.objects in
+    let names = names_written c.args.script.now c.args.objects.now c.write_queue-told.new.heap c.args.pid _ _ _ c.args.done c.write_queue-told.result
+    (c.write_queue-told.ensures.leads c.args.script.now) c.requires.stands
+    (subst (IsOffNodes c.args.objects.now.heap c.args.objects.now.procs c.args.pid) (sym (to_z-of_z w64 c.args.fd c.ranges.fd)) c.requires.off) in
     subst (λ t. Performs script old pid (call.Write c.args.fd c.args.addr c.args.n c.args.done) (λ plain. write script plain pid c.args.fd c.args.addr c.args.n c.args.done) t new)
     (sym c.go_on_done.ensures.told)
     (leads script old new c.write_queue-told.new.heap pid c.args.fd c.args.addr c.args.n _ _ _ c.args.done c.write_queue-told.result
-    (to_z-of_z w64 c.args.fd c.ranges.fd) (to_z-of_z w64 c.args.addr c.ranges.addr) (to_z-of_z w64 c.args.n c.ranges.n) c.write_queue-told.ensures.kept c.write_queue-told.ensures.beside
+    (to_z-of_z w64 c.args.fd c.ranges.fd) (to_z-of_z w64 c.args.addr c.ranges.addr) (to_z-of_z w64 c.args.n c.ranges.n) c.write_queue-told.ensures.kept c.write_queue-told.ensures.beside names c.requires.off
     (c.write_queue-told.ensures.leads script)
-    (follows_done script (record { heap = c.write_queue-told.new.heap; procs = old.procs; tree = old.tree }) pid (λ moved. c.args.done + moved ≤ count_of c.args.n) c.write_queue-told.result new
+    (follows_done script (record { heap = c.write_queue-told.new.heap; procs = old.procs; tree = old.tree; names = old.names }) pid (λ moved. c.args.done + moved ≤ count_of c.args.n) c.write_queue-told.result new
     c.go_on_done.ensures.goes (λ moved is some. c.in_default.not-Part moved is)))

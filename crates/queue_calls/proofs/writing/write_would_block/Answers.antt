@@ -16,9 +16,6 @@ write_queue_waits-requires-clause-kept c = let some = c.requires in is_kept some
 pub write_queue_waits-requires-clause-alive : goal.write_queue_waits-requires-clause-alive
 write_queue_waits-requires-clause-alive c = let some = c.requires in alive_runs some.0 c.args.objects.now some.1.plain c.args.pid some.2.processes some.3
 
-pub write_queue_waits-requires-clause-nodes : goal.write_queue_waits-requires-clause-nodes
-write_queue_waits-requires-clause-nodes c = let some = c.requires in some.2.kept.nodes
-
 pub write_queue_waits-requires-clause-right : goal.write_queue_waits-requires-clause-right
 write_queue_waits-requires-clause-right c = no_fault _ (sym c.may_move.ensures ∙ c.if-may_move.true)
 

@@ -3,8 +3,7 @@ use Rattle.std.proofs.lemmas.Int.{to_z-of_z}
 use Rattle.posix_defs.specs.Calls.OnSockets.{accept}
 use Rattle.posix_defs.specs.Machine.{blocks}
 use Rattle.store_objects.proofs.Keeping.{listed_in}
-use Rattle.store_objects.proofs.EndingOne.{has_key}
-use Rattle.store_objects.proofs.RunningProcs.{alive_runs}
+use Rattle.store_objects.proofs.RunningProcs.{alive_runs, has_key}
 use Rattle.sock_calls.proofs.accepting.accept_would_block.Goals as goal
 
 pub accept_waits-requires-clause-listed : goal.accept_waits-requires-clause-listed

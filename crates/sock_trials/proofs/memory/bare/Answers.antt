@@ -4,7 +4,6 @@ use Rattle.kheap_slabs.specs.Owners.{IsOwned}
 use Rattle.kheap_laws.proofs.OwnerLemmas.{empty_heap-owned}
 use Rattle.proc_pipes.proofs.Booted.{boot_listed, boot_owned, boot_there}
 use Rattle.proc_table.specs.Procs.{first_proc, proc_of}
-use Rattle.sock_trials.proofs.Calls.{boots_no_node}
 use Rattle.sock_trials.proofs.memory.bare.Goals as goal
 
 pub returns : goal.returns
@@ -15,7 +14,6 @@ returns c =
       holds = moves.holds;
       listed = boot_listed 65536 c.in_ok-heap.heap c.boot-table.new.heap c.boot-table.result c.in_ok-heap.ensures.empty c.boot-table.ensures.moves c.boot-table.ensures.processes;
       owners = boot_owned 65536 c.in_ok-heap.heap c.boot-table.new.heap c.boot-table.result c.in_ok-heap.ensures.empty c.boot-table.ensures.moves c.boot-table.ensures.processes;
-      nodes = boots_no_node 65536 c.in_ok-heap.heap c.boot-table.new.heap c.in_ok-heap.ensures.empty (ap (λ (h : Heap). h.descs) moves.kept);
       alive = record { proc = first_proc; there = ap (λ procs. proc_of procs 1) c.boot-table.ensures.processes; runs = refl };
       there = boot_there 65536 c.in_ok-heap.heap c.boot-table.new.heap c.boot-table.result c.in_ok-heap.ensures.empty c.boot-table.ensures.moves c.boot-table.ensures.processes;
     }

@@ -3,4 +3,4 @@ use Rattle.sock_trials.proofs.steps.accept.Goals as goal
 
 pub returns : goal.returns
 returns g c =
-    called_changed c.args.heap.now c.accept_number.new.heap c.args.table.now c.requires c.accept_number.ensures.changes c.accept_number.ensures.listed c.accept_number.ensures.owners c.accept_number.ensures.nodes
+    called_changed c.args.heap.now c.accept_number.new.heap c.args.table.now c.requires c.accept_number.ensures.changes c.accept_number.ensures.listed c.accept_number.ensures.owners

@@ -3,4 +3,4 @@ use Rattle.sock_trials.proofs.steps.pipe.Goals as goal
 
 pub returns : goal.returns
 returns g c =
-    called_changed c.args.heap.now c.make_pipe.new.heap c.args.table.now c.requires c.make_pipe.ensures.changes c.make_pipe.ensures.listed c.make_pipe.ensures.owners c.make_pipe.ensures.nodes
+    called_changed c.args.heap.now c.make_pipe.new.heap c.args.table.now c.requires c.make_pipe.ensures.changes c.make_pipe.ensures.listed c.make_pipe.ensures.owners

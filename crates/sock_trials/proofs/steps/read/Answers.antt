@@ -17,4 +17,4 @@ read_socket-requires-clause-on g c = c.is_on_socket.ensures.on c.if-not-is_on_so
 
 pub returns : goal.returns
 returns g c = called_on c.args.heap.now c.read_socket.new.heap c.args.table.now (ap (λ (h : Heap). h.procs) c.read_socket.ensures.beside)
-    (ap (λ (h : Heap). h.descs) c.read_socket.ensures.beside) c.read_socket.ensures.kept c.requires
+    c.read_socket.ensures.kept c.requires

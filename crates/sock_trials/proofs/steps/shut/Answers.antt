@@ -1,10 +1,6 @@
-use Rattle.std.proofs.Common.{ap, subst, sym}
-use Rattle.kheap_slabs.specs.Heap.{Heap}
-use Rattle.proc_descs.specs.Having.{OpensNoNode}
 use Rattle.sock_trials.proofs.Calls.{called_changed}
 use Rattle.sock_trials.proofs.steps.shut.Goals as goal
 
 pub returns : goal.returns
 returns c =
     called_changed c.args.heap.now c.shut_number.new.heap c.args.table.now c.requires c.shut_number.ensures.changes c.shut_number.ensures.listed c.shut_number.ensures.owners
-    (subst OpensNoNode (sym (ap (λ (h : Heap). h.descs) c.shut_number.ensures.beside)))

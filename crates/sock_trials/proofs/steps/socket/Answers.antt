@@ -3,4 +3,4 @@ use Rattle.sock_trials.proofs.steps.socket.Goals as goal
 
 pub returns : goal.returns
 returns g c =
-    called_changed c.args.heap.now c.make_socket.new.heap c.args.table.now c.requires c.make_socket.ensures.changes c.make_socket.ensures.listed c.make_socket.ensures.owners c.make_socket.ensures.nodes
+    called_changed c.args.heap.now c.make_socket.new.heap c.args.table.now c.requires c.make_socket.ensures.changes c.make_socket.ensures.listed c.make_socket.ensures.owners

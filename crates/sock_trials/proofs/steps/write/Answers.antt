@@ -17,4 +17,4 @@ write_socket-requires-clause-on g c = c.is_on_socket.ensures.on c.if-not-is_on_s
 
 pub returns : goal.returns
 returns g c = called_on c.args.heap.now c.write_socket.new.heap c.args.table.now (ap (λ (h : Heap). h.procs) c.write_socket.ensures.beside)
-    (ap (λ (h : Heap). h.descs) c.write_socket.ensures.beside) c.write_socket.ensures.kept c.requires
+    c.write_socket.ensures.kept c.requires

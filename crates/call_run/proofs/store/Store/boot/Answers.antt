@@ -1,16 +1,44 @@
-use Rattle.std.proofs.Common.{◌∙◌, ap, refl, subst, sym}
+use Rattle.std.proofs.Common.{◌≡◌, ℕ, ◌+◌, ◌≤◌, ◌∙◌, ap, arith, refl, subst, sym}
 use Rattle.std.specs.Prelude.{codes}
+use Rattle.kabi_types.specs.declared.scripts.Script.{Script}
+use Rattle.machine_laws.specs.Reached.{boots}
+use Rattle.posix_defs.specs.Memory.{no_places}
 use Rattle.posix_defs.specs.Plain.{place_of}
+use Rattle.posix_defs.specs.Sizes.{reserve}
 use Rattle.posix_defs.specs.ValidScript.{IsValid}
+use Rattle.posix_defs.specs.World.{boot_world, live_of}
+use Rattle.store_objects.specs.Objects.{AreKept}
 use Rattle.store_objects.proofs.Booting.{boot_stands, boot_stands_for}
+use Rattle.call_run.proofs.CanRun.{each_script}
 use Rattle.call_run.proofs.store.Store.boot.Goals as goal
 
 pub go_to_call-requires : goal.go_to_call-requires
 go_to_call-requires g c =
     boot_stands c.in_ok-script.script _ (subst IsValid (sym c.in_ok-script.ensures) c.requires.valid) (c.place_of.ensures ∙ ap (place_of (codes "init")) c.items.ensures) refl
 
+-- a store that has just begun has room for what is kept back
+boot_live : (script : Script) → live_of (boot_world script) ≡ 640
+unfolding no_places
+boot_live script = refl
+
+begins : (script : Script) → IsValid script → live_of (boot_world script) + reserve ≤ script.heap
+begins script valid = few (live_of (boot_world script)) script.heap (boot_live script) valid.least_heap
+  where
+    few : (live size : ℕ) → live ≡ 640 → 8192 ≤ size → live + reserve ≤ size
+    few live size is least = omega (arith, is, least)
+
 pub returns-clause-booted : goal.returns-clause-booted
-returns-clause-booted g c =
-    boot_stands_for c.args.script.now c.in_ok-script.script c.in_ok-objects.objects c.place_of.result c.go_to_call.new.control c.requires.valid c.requires.can c.in_ok-script.ensures
+returns-clause-booted g c = record {
+  stands = boot_stands_for c.args.script.now c.in_ok-script.script c.in_ok-objects.objects c.place_of.result c.go_to_call.new.control c.requires.valid (each_script c.args.script.now) c.in_ok-script.ensures
+      (c.place_of.ensures ∙ ap (place_of (codes "init")) c.items.ensures) c.go_to_call.ensures.settled
+      c.go_to_call.ensures.stands c.go_to_call.ensures.rests c.in_ok-objects.ensures;
+  reached = boots;
+  spare = begins c.args.script.now c.requires.valid;
+}
+
+pub invariant_of-result : goal.invariant_of-result
+invariant_of-result g c =
+    let stands = boot_stands_for c.args.script.now c.in_ok-script.script c.in_ok-objects.objects c.place_of.result c.go_to_call.new.control c.requires.valid (each_script c.args.script.now) c.in_ok-script.ensures
     (c.place_of.ensures ∙ ap (place_of (codes "init")) c.items.ensures) c.go_to_call.ensures.settled
-    c.go_to_call.ensures.stands c.go_to_call.ensures.rests c.in_ok-objects.ensures
+    c.go_to_call.ensures.stands c.go_to_call.ensures.rests c.in_ok-objects.ensures in
+    subst (λ script. AreKept script c.in_ok-objects.objects) (sym c.in_ok-script.ensures) stands.kept

@@ -1,26 +1,26 @@
 use Rattle.std.proofs.Common.{sym, subst}
-use Rattle.store_objects.specs.Standing.{StandsFor}
+use Rattle.call_run.specs.Stores.{IsStoreOf}
 use Rattle.call_run.proofs.store.StoreTurner.kill.Goals as goal
 
 pub invariant_of-self : goal.invariant_of-self
-invariant_of-self g c = c.kill.ensures.kept c.self.inside.script c.self.invariant
+invariant_of-self g c =
+    let some = c.requires in c.kill.ensures.kept c.self.inside.script some.0 (subst (λ store. IsStoreOf store.script store.objects some.0) (sym c.self.view_is) some.1)
+
+pub kill-requires : goal.kill-requires
+kill-requires g c =
+    let some = c.requires in (c.self.inside.script, some.0, subst (λ store. IsStoreOf store.script store.objects some.0) (sym c.self.view_is) some.1)
 
 pub returns-clause-killed : goal.returns-clause-killed
-returns-clause-killed g c = λ world stands.
-    c.kill.ensures.killed c.self.inside.script world (subst (λ store. StandsFor store.script store.objects world) (sym c.self.view_is) stands)
+returns-clause-killed g c = λ world stands. c.kill.ensures.killed c.self.inside.script world (subst (λ store. IsStoreOf store.script store.objects world) (sym c.self.view_is) stands)
 
 pub returns-clause-gone : goal.returns-clause-gone
-returns-clause-gone g c = λ world stands.
-    c.kill.ensures.gone c.self.inside.script world (subst (λ store. StandsFor store.script store.objects world) (sym c.self.view_is) stands)
+returns-clause-gone g c = λ world stands. c.kill.ensures.gone c.self.inside.script world (subst (λ store. IsStoreOf store.script store.objects world) (sym c.self.view_is) stands)
 
 pub returns-clause-first : goal.returns-clause-first
-returns-clause-first g c = λ world stands.
-    c.kill.ensures.first c.self.inside.script world (subst (λ store. StandsFor store.script store.objects world) (sym c.self.view_is) stands)
+returns-clause-first g c = λ world stands. c.kill.ensures.first c.self.inside.script world (subst (λ store. IsStoreOf store.script store.objects world) (sym c.self.view_is) stands)
 
 pub returns-clause-high : goal.returns-clause-high
-returns-clause-high g c = λ world stands.
-    c.kill.ensures.high c.self.inside.script world (subst (λ store. StandsFor store.script store.objects world) (sym c.self.view_is) stands)
+returns-clause-high g c = λ world stands. c.kill.ensures.high c.self.inside.script world (subst (λ store. IsStoreOf store.script store.objects world) (sym c.self.view_is) stands)
 
 pub returns-clause-since : goal.returns-clause-since
-returns-clause-since g c = λ world stands.
-    c.kill.ensures.since c.self.inside.script world (subst (λ store. StandsFor store.script store.objects world) (sym c.self.view_is) stands)
+returns-clause-since g c = λ world stands. c.kill.ensures.since c.self.inside.script world (subst (λ store. IsStoreOf store.script store.objects world) (sym c.self.view_is) stands)

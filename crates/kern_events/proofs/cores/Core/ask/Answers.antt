@@ -6,8 +6,8 @@ use Rattle.kern_laws.proofs.Tasks.{found_fits}
 use Rattle.kern_tasks.specs.View.{MayTake}
 use Rattle.kern_events.proofs.cores.Core.ask.Goals as goal
 
-pub next-requires : goal.next-requires
-next-requires g c =
+pub asks-asked-requires : goal.asks-asked-requires
+asks-asked-requires g c =
     let may = subst (λ core. MayTake g.T.Turner.stands (g.T.Turner.script core.store) core (Ask c.args.pid)) (sym c.self.view_is) c.requires in
     let fits = found_fits _ _ may.state.tasks c.args.pid User (is_sound may.runs).each may.enabled (λ e. (cc)) in
     (may.state.world, may.is_at.stands, fits.phase)

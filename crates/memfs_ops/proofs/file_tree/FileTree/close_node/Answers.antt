@@ -6,7 +6,8 @@ use Rattle.memfs_ops.specs.FileTree.{TreeView, Stands}
 use Rattle.memfs_ops.specs.Closing.{one_less}
 use Rattle.memfs_ops.proofs.PaysLemmas.{pays_on, pays_used}
 use Rattle.memfs_ops.proofs.StepLemmas.{free_kept}
-use Rattle.memfs_ops.proofs.CloseLemmas.{pays_vnodes, none_left, left_gone, left_held, left_linked, goes_then}
+use Rattle.memfs_ops.proofs.CloseLemmas.{pays_vnodes, none_left, left_gone, left_held, left_linked, goes_then, links_of, used_of}
+use Rattle.memfs_ops.proofs.CachedLemmas.{cached_freed, cached_then, still_cached}
 use Rattle.memfs_ops.proofs.file_tree.FileTree.close_node.Goals as goal
 
 pub held_inode-inode-requires : goal.held_inode-inode-requires
@@ -99,3 +100,24 @@ returns-clause-stays c = λ tree pins stands not.
     let s = h.ensures.stands tree pins stands in
     let last = sym (c.release-last.ensures.last tree pins s) ∙ c.if-not-last.false in
     absurd (not (goes_then tree pins c.args.node h.result last c.if-inode-ne0.false (h.ensures.value tree pins stands)))
+
+-- ---- what stays cached
+
+pub returns-then-not-last-clause-cached : goal.returns-then-not-last-clause-cached
+returns-then-not-last-clause-cached c = still_cached c.args.self.now c.held_inode-inode.new.self c.release-last.new.self c.held_inode-inode.ensures.used c.release-last.ensures.rest c.release-last.ensures.same
+
+pub returns-then-inode-ne0-clause-cached : goal.returns-then-inode-ne0-clause-cached
+returns-then-inode-ne0-clause-cached c = still_cached c.args.self.now c.held_inode-inode.new.self c.release-last.new.self c.held_inode-inode.ensures.used c.release-last.ensures.rest c.release-last.ensures.same
+
+pub returns-clause-cached : goal.returns-clause-cached
+returns-clause-cached c =
+    let r = c.requires.stands in
+    let h = c.held_inode-inode in
+    let l = c.release-last in
+    let f = c.free_closed in
+    let s = h.ensures.stands r.tree r.pins r.stands in
+    let now = l.ensures.stands r.tree r.pins s in
+    let is = h.ensures.value r.tree r.pins r.stands in
+    cached_then c.args.self.now l.new.self f.new.self (still_cached c.args.self.now h.new.self l.new.self h.ensures.used l.ensures.rest l.ensures.same)
+    (cached_freed l.new.heap f.new.heap l.new.self f.new.self r.tree (one_less r.pins c.args.node) (one_less r.pins c.args.node) c.args.node now (f.ensures.stands r.tree (one_less r.pins c.args.node) now)
+    (sym (links_of r.tree c.args.node h.result is) ∙ c.if-inode-ne0.false) (used_of r.tree c.args.node h.result is) f.ensures.names f.ensures.others)

@@ -1,4 +1,4 @@
-use Rattle.std.proofs.Common.{sym, subst}
+use Rattle.std.proofs.Common.{ap, sym, subst}
 use Rattle.memfs_ops.specs.FileTree.{TreeView, Stands, Pays}
 use Rattle.memfs_ops.specs.declared.file_tree.FileTree.TheInside.{Inside}
 use Rattle.memfs_ops.proofs.ForgetLemmas.{dropped_stands, dropped_pays}
@@ -28,3 +28,6 @@ returns-clause-pays c =
 
 pub returns-clause-dropped : goal.returns-clause-dropped
 returns-clause-dropped c = c.drop_fills.ensures.dropped.purse
+
+pub returns-clause-rest : goal.returns-clause-rest
+returns-clause-rest c = ap (λ (v : TreeView). record v { blocks = c.drop_fills.new.self }) c.self.view_is

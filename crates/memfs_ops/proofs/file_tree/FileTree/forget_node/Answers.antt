@@ -1,4 +1,6 @@
-use Rattle.std.proofs.Common.{sym, ap, subst}
+use Rattle.std.proofs.Common.{◌∙◌, cond, None, sym, ap, subst}
+use Rattle.std.proofs.lemmas.Bool.{ne_eqb}
+use Rattle.vnode_cache.specs.Nodes.{node_slot}
 use Rattle.memfs_ops.specs.FileTree.{TreeView, Pays}
 use Rattle.memfs_ops.specs.Changing.{Between}
 use Rattle.memfs_ops.specs.declared.file_tree.FileTree.TheInside.{Inside}
@@ -47,3 +49,7 @@ pub returns-clause-same : goal.returns-clause-same
 returns-clause-same c = λ none.
     let l = c.let_go in
     taken_none c.args.heap.now l.new.heap c.args.purse.now l.new.purse (view c.self.inside) l.new.self c.args.number l.ensures.gone l.ensures.slots l.ensures.keeps none
+
+pub returns-clause-others : goal.returns-clause-others
+returns-clause-others c = λ other apart.
+    c.let_go.ensures.slots other ∙ ap (λ b. cond b None (node_slot c.self.inside.vnodes other)) (ne_eqb c.args.number other apart) ∙ ap (λ (v : TreeView). node_slot v.vnodes other) c.self.view_is

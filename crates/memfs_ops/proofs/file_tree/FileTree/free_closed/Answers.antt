@@ -1,4 +1,6 @@
-use Rattle.std.proofs.Common.{ap}
+use Rattle.std.proofs.Common.{◌∙◌, ap}
+use Rattle.vnode_cache.specs.Nodes.{node_slot}
+use Rattle.memfs_ops.specs.FileTree.{TreeView}
 use Rattle.posix_defs.specs.TreeChanges.{closed}
 use Rattle.memfs_ops.proofs.ChangeLemmas.{stands_all}
 use Rattle.memfs_ops.proofs.PaysLemmas.{pays_on}
@@ -52,3 +54,11 @@ returns-clause-pays c =
 pub returns-clause-dropped : goal.returns-clause-dropped
 returns-clause-dropped c = λ no_nodes no_blocks.
     purse_back c.args.purse.now c.free_in.new.purse c.forget_node.new.purse c.drop_blocks.new.purse c.free_in.ensures.goes_on.purse c.free_in.ensures.goes_on.filled c.forget_node.ensures.same c.drop_blocks.ensures.dropped no_nodes no_blocks
+
+pub returns-clause-names : goal.returns-clause-names
+returns-clause-names c =
+    ap (λ (v : TreeView). v.names) c.drop_blocks.ensures.rest ∙ ap (λ (v : TreeView). v.names) c.forget_node.ensures.rest ∙ ap (λ (v : TreeView). v.names) c.free_in.ensures.rest
+
+pub returns-clause-others : goal.returns-clause-others
+returns-clause-others c = λ other apart.
+    ap (λ (v : TreeView). node_slot v.vnodes other) c.drop_blocks.ensures.rest ∙ c.forget_node.ensures.others other apart ∙ ap (λ (v : TreeView). node_slot v.vnodes other) c.free_in.ensures.rest

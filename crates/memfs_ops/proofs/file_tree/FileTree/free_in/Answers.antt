@@ -1,4 +1,4 @@
-use Rattle.std.proofs.Common.{sym, subst}
+use Rattle.std.proofs.Common.{ap, sym, subst}
 use Rattle.posix_defs.specs.SoundDisk.{HasNode}
 use Rattle.cached_disk.specs.Lent.{parts, GoesOn}
 use Rattle.memfs_ops.specs.FileTree.{TreeView, Stands}
@@ -39,3 +39,8 @@ pub returns-clause-may : goal.returns-clause-may
 returns-clause-may c =
     let t = c.free_through in
     still_may_fetch c.args.heap.now t.new.heap c.args.purse.now t.new.purse (view c.self.inside) t.new.cache t.new.disk t.ensures.goes_on t.ensures.lent c.requires.may
+
+pub returns-clause-rest : goal.returns-clause-rest
+returns-clause-rest c =
+    let t = c.free_through in
+    ap (λ (v : TreeView). record v { blocks = t.new.cache; disk = t.new.disk }) c.self.view_is

@@ -27,5 +27,6 @@ returns c =
       turns = record { found = sym c.key_of.ensures ∙ c.in-Some.is; there = named.1; same = refl; after = c.set_proc_control.ensures.kept named.0 named.1 };
       same = refl;
       tree = refl;
+      names = refl;
       takes = c.set_proc_control.ensures.takes;
     }

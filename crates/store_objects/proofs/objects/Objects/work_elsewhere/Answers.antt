@@ -29,5 +29,6 @@ returns c =
       turns = record { found = sym c.key_of.ensures ∙ c.in-Some.is; there = c.get_proc-proc.ensures; same = refl; after = c.set_proc.ensures.kept };
       same = refl;
       tree = refl;
+      names = refl;
       takes = c.set_proc.ensures.takes;
     }

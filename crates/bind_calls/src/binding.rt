@@ -1,0 +1,61 @@
+//! `bind`.
+
+ghost use Rattle.std.specs.Prelude.{◌≡◌, ◌<◌, ◌^◌, None};
+ghost use Rattle.std.specs.List.{All};
+ghost use Rattle.kabi_calls.specs.Arguments.{argument_fault};
+ghost use Rattle.kabi_calls.specs.declared.calls.Call.{Call};
+ghost use Rattle.kheap_slabs.specs.Paid.{IsPaid};
+ghost use Rattle.memfs_ops.specs.FileTree.{MayWalk};
+ghost use Rattle.posix_defs.specs.Calls.OnSockets.{bind};
+ghost use Rattle.posix_defs.specs.Needs.{need_of};
+ghost use Rattle.posix_defs.specs.World.{World};
+ghost use Rattle.store_objects.specs.Objects.{AreKept, Runs};
+ghost use Rattle.store_objects.specs.Standing.{IsSound, StandsFor};
+ghost use Rattle.store_objects.specs.Walking.{Serves};
+
+use crate::replies::zero;
+use kabi_types::{Control, Script};
+use kheap_shelves::Purse;
+use posix_defs::Turned;
+use proc_names::bind_number;
+use store_objects::{Objects, go_on};
+
+/// Gives the socket that a number is open on a new name in the tree of files.
+///
+/// EBADF where the number isn't open, ENOTSOCK where it is open on something else, EINVAL where the socket has a name, EISCONN where
+/// it is connected; then EADDRINUSE where something is under the path, ENOENT where a slash stands behind a free name, ENOSPC where
+/// there is no room, else the faults of the walk.
+///
+/// <https://pubs.opengroup.org/onlinepubs/9699919799/functions/bind.html>
+pub fn bind(
+    script: &Script,
+    objects: &mut Objects,
+    purse: &mut Purse,
+    pid: u32,
+    control: Control,
+    fd: i64,
+    path: &[u8],
+) -> Turned
+    requires stands { (world : World) × StandsFor script.now objects.old world × IsSound world.plain }
+    requires runs { Runs objects.old pid control }
+    requires right { argument_fault (Call.Bind fd path.now) ≡ None }
+    requires bytes { All (λ byte. (0 < byte) × (byte < 2 ^ 8)) path.now }
+    requires may { MayWalk objects.old.heap purse.old }
+    requires needed { purse.old.left ≡ need_of (Call.Bind fd path.now) }
+    ensures kept { AreKept script.now objects.new }
+    ensures paid { IsPaid objects.old.heap purse.old objects.new.heap purse.new }
+    ensures does { Serves script.now objects.old pid (Call.Bind fd path.now) (λ plain. bind script.now plain pid fd path.now) result objects.new }
+{
+    objects.heap_is_well_formed();
+    let done = bind_number(
+        &mut objects.heap,
+        purse,
+        &objects.procs,
+        &mut objects.tree,
+        &mut objects.names,
+        pid,
+        fd,
+        path,
+    );
+    go_on(script, objects, pid, control, zero(done))
+}

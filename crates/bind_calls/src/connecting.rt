@@ -1,0 +1,60 @@
+//! `connect`.
+
+ghost use Rattle.std.specs.Prelude.{◌≡◌, None};
+ghost use Rattle.kabi_calls.specs.Arguments.{argument_fault};
+ghost use Rattle.kabi_calls.specs.declared.calls.Call.{Call};
+ghost use Rattle.kheap_slabs.specs.Paid.{IsPaid};
+ghost use Rattle.memfs_ops.specs.FileTree.{MayWalk};
+ghost use Rattle.posix_defs.specs.Calls.OnSockets.{connect};
+ghost use Rattle.posix_defs.specs.Needs.{need_of};
+ghost use Rattle.posix_defs.specs.World.{World};
+ghost use Rattle.store_objects.specs.Objects.{AreKept, Runs};
+ghost use Rattle.store_objects.specs.Standing.{IsSound, StandsFor};
+ghost use Rattle.store_objects.specs.Walking.{Serves};
+
+use crate::replies::zero;
+use kabi_types::{Control, Script};
+use kheap_shelves::Purse;
+use posix_defs::Turned;
+use proc_names::connect_number;
+use store_objects::{Objects, go_on};
+
+/// Connects the socket that a number is open on to a new one, which waits behind the others for the socket that listens under a
+/// path.
+///
+/// EBADF where the number isn't open, ENOTSOCK where it is open on something else, EISCONN where the socket is connected, EOPNOTSUPP
+/// where it listens; then ENOENT where the path's name is free, else the faults of the walk; and ECONNREFUSED where the path leads
+/// to no socket's name, nobody listens under it, or 8 wait.
+///
+/// <https://pubs.opengroup.org/onlinepubs/9699919799/functions/connect.html>
+pub fn connect(
+    script: &Script,
+    objects: &mut Objects,
+    purse: &mut Purse,
+    pid: u32,
+    control: Control,
+    fd: i64,
+    path: &[u8],
+) -> Turned
+    requires stands { (world : World) × StandsFor script.now objects.old world × IsSound world.plain }
+    requires runs { Runs objects.old pid control }
+    requires right { argument_fault (Call.Connect fd path.now) ≡ None }
+    requires may { MayWalk objects.old.heap purse.old }
+    requires needed { purse.old.left ≡ need_of (Call.Connect fd path.now) }
+    ensures kept { AreKept script.now objects.new }
+    ensures paid { IsPaid objects.old.heap purse.old objects.new.heap purse.new }
+    ensures does { Serves script.now objects.old pid (Call.Connect fd path.now) (λ plain. connect script.now plain pid fd path.now) result objects.new }
+{
+    objects.heap_is_well_formed();
+    let done = connect_number(
+        &mut objects.heap,
+        purse,
+        &objects.procs,
+        &mut objects.tree,
+        &objects.names,
+        pid,
+        fd,
+        path,
+    );
+    go_on(script, objects, pid, control, zero(done))
+}

@@ -1,0 +1,13 @@
+use Rattle.std.proofs.Common.{◌∙◌, ap, subst, sym}
+use Rattle.posix_defs.specs.Plain.{call_of}
+use Rattle.store_objects.specs.Standing.{StandsFor}
+use Rattle.call_run.proofs.store.StoreTurner.next.Goals as goal
+
+pub next-requires : goal.next-requires
+next-requires g c =
+    let some = c.requires in (some.0, subst (λ store. StandsFor store.script store.objects some.0) (sym c.self.view_is) some.1.stands, some.2)
+
+pub returns : goal.returns
+returns g c = λ world stands alive.
+    c.next.ensures world (subst (λ store. StandsFor store.script store.objects world) (sym c.self.view_is) stands.stands) alive
+    ∙ ap (λ store. call_of store.script world.plain c.args.pid) c.self.view_is

@@ -1,0 +1,5 @@
+pub mod Kin
+pub mod Cached
+pub mod Sought
+pub mod Needed
+pub mod Calling

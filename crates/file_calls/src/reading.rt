@@ -1,0 +1,150 @@
+//! The calls that read bytes of files and entries of directories: `read`, `pread` and `readdir`.
+
+ghost use Rattle.std.specs.Prelude.{◌≡◌, None};
+ghost use Rattle.kabi_calls.specs.Arguments.{argument_fault};
+ghost use Rattle.kabi_calls.specs.declared.calls.Call.{Call};
+ghost use Rattle.kheap_slabs.specs.Paid.{IsPaid};
+ghost use Rattle.memfs_ops.specs.Fetching.{MayFetch};
+ghost use Rattle.posix_defs.specs.Calls.Reading.{pread, read, readdir};
+ghost use Rattle.posix_defs.specs.Needs.{need_of};
+ghost use Rattle.posix_defs.specs.World.{World};
+ghost use Rattle.proc_files.specs.Reading.{IsOnNode};
+ghost use Rattle.store_objects.specs.Objects.{AreKept, Runs};
+ghost use Rattle.store_objects.specs.Purses.{need_for};
+ghost use Rattle.store_objects.specs.Standing.{IsSound, StandsFor};
+ghost use Rattle.store_objects.specs.Walking.{Serves};
+ghost use Rattle.store_objects.specs.declared.purses.Target.TheVariants.{File};
+
+use crate::replies::count;
+use kabi_types::{Control, Script};
+use kheap_shelves::Purse;
+use posix_defs::Turned;
+use proc_files::{FileBuffer, pread_file, read_entries, read_file};
+use store_objects::{Objects, go_on};
+
+/// Reads at most n bytes of the file that a number is open on into memory, from the description's offset on, as many as are there;
+/// the offset moves behind them. Tells how many; none are the end of the file.
+///
+/// EBADF where the number isn't open for reading, EISDIR of a directory, EFAULT where a page that n bytes would touch isn't mapped.
+///
+/// <https://pubs.opengroup.org/onlinepubs/9699919799/functions/read.html>
+pub fn read(
+    script: &Script,
+    objects: &mut Objects,
+    purse: &mut Purse,
+    buffer: &mut FileBuffer,
+    pid: u32,
+    control: Control,
+    fd: i64,
+    addr: i64,
+    n: i64,
+) -> Turned
+    requires stands { (world : World) × StandsFor script.now objects.old world × IsSound world.plain }
+    requires runs { Runs objects.old pid control }
+    requires on { IsOnNode objects.old.heap objects.old.procs pid fd }
+    requires right { argument_fault (Call.Read fd addr n) ≡ None }
+    requires may { MayFetch objects.old.heap purse.old }
+    requires needed { purse.old.left ≡ need_for File (need_of (Call.Read fd addr n)) }
+    ensures kept { AreKept script.now objects.new }
+    ensures paid { IsPaid objects.old.heap purse.old objects.new.heap purse.new }
+    ensures does { Serves script.now objects.old pid (Call.Read fd addr n) (λ plain. read script.now plain pid fd addr n) result objects.new }
+{
+    objects.heap_is_well_formed();
+    let moved = read_file(
+        &mut objects.heap,
+        purse,
+        &objects.procs,
+        &mut objects.tree,
+        buffer,
+        pid,
+        fd,
+        addr,
+        n,
+    );
+    go_on(script, objects, pid, control, count(moved))
+}
+
+/// Reads at most n bytes of the file that a number is open on into memory, from a place of the file on, as many as are there; the
+/// offset stays. Tells how many; none are the end of the file.
+///
+/// EBADF where the number isn't open for reading, ESPIPE of a pipe and a socket, EISDIR of a directory, EFAULT where a page that n
+/// bytes would touch isn't mapped.
+///
+/// <https://pubs.opengroup.org/onlinepubs/9699919799/functions/pread.html>
+pub fn pread(
+    script: &Script,
+    objects: &mut Objects,
+    purse: &mut Purse,
+    buffer: &mut FileBuffer,
+    pid: u32,
+    control: Control,
+    fd: i64,
+    addr: i64,
+    n: i64,
+    at: i64,
+) -> Turned
+    requires stands { (world : World) × StandsFor script.now objects.old world × IsSound world.plain }
+    requires runs { Runs objects.old pid control }
+    requires right { argument_fault (Call.Pread fd addr n at) ≡ None }
+    requires may { MayFetch objects.old.heap purse.old }
+    requires needed { purse.old.left ≡ need_for File (need_of (Call.Pread fd addr n at)) }
+    ensures kept { AreKept script.now objects.new }
+    ensures paid { IsPaid objects.old.heap purse.old objects.new.heap purse.new }
+    ensures does { Serves script.now objects.old pid (Call.Pread fd addr n at) (λ plain. pread script.now plain pid fd addr n at) result objects.new }
+{
+    objects.heap_is_well_formed();
+    let moved = pread_file(
+        &mut objects.heap,
+        purse,
+        &objects.procs,
+        &mut objects.tree,
+        buffer,
+        pid,
+        fd,
+        addr,
+        n,
+        at,
+    );
+    go_on(script, objects, pid, control, count(moved))
+}
+
+/// Reads entries of the directory that a number is open on into memory, of 32 bytes each, from the description's offset on, as many
+/// whole ones as n bytes and the end allow; the offset moves behind them. Tells how many bytes; none are the end.
+///
+/// EBADF where the number isn't open, ENOTDIR of all but a directory, EFAULT where a page that n bytes would touch isn't mapped.
+///
+/// <https://pubs.opengroup.org/onlinepubs/9699919799/functions/readdir.html>
+pub fn readdir(
+    script: &Script,
+    objects: &mut Objects,
+    purse: &mut Purse,
+    buffer: &mut FileBuffer,
+    pid: u32,
+    control: Control,
+    fd: i64,
+    addr: i64,
+    n: i64,
+) -> Turned
+    requires stands { (world : World) × StandsFor script.now objects.old world × IsSound world.plain }
+    requires runs { Runs objects.old pid control }
+    requires right { argument_fault (Call.Readdir fd addr n) ≡ None }
+    requires may { MayFetch objects.old.heap purse.old }
+    requires needed { purse.old.left ≡ need_for File (need_of (Call.Readdir fd addr n)) }
+    ensures kept { AreKept script.now objects.new }
+    ensures paid { IsPaid objects.old.heap purse.old objects.new.heap purse.new }
+    ensures does { Serves script.now objects.old pid (Call.Readdir fd addr n) (λ plain. readdir script.now plain pid fd addr n) result objects.new }
+{
+    objects.heap_is_well_formed();
+    let moved = read_entries(
+        &mut objects.heap,
+        purse,
+        &objects.procs,
+        &mut objects.tree,
+        buffer,
+        pid,
+        fd,
+        addr,
+        n,
+    );
+    go_on(script, objects, pid, control, count(moved))
+}

@@ -1,0 +1,5 @@
+pub mod Moving
+pub mod Staying
+pub mod Within
+pub mod Answered
+pub mod Serving

@@ -1,0 +1,10 @@
+pub mod Purses
+pub mod Reached
+pub mod Calling
+pub mod Opened
+pub mod Opens
+pub mod Closed
+pub mod Programs
+pub mod Forgotten
+pub mod Shed
+pub mod Execs

@@ -1,0 +1,10 @@
+pub mod LowestBehind
+pub mod Shutting
+pub mod EndedProcs
+pub mod Going
+pub mod Purses
+pub mod EndingOthers
+pub mod Closing
+pub mod Holding
+pub mod EndingOne
+pub mod Dying

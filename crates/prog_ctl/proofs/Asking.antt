@@ -1,0 +1,85 @@
+-- The kind of a call that is made of a statement, and the bound of one whose price is nothing.
+use Rattle.std.proofs.Common.{◌≡◌, ℕ, ℤ, pos, List, Bool, true, false, cond, Option, Some, refl, ap, is_some}
+use Rattle.kabi_calls.specs.Arguments.{argument_fault}
+use Rattle.kabi_calls.specs.Call.{kind_of}
+use Rattle.kabi_calls.specs.declared.calls.Call.{Call}
+use Rattle.kabi_calls.specs.declared.calls.Call.TheVariants as call
+use Rattle.kabi_calls.specs.declared.calls.CallKind.{CallKind}
+use Rattle.kabi_calls.specs.declared.calls.CallKind.TheVariants as kind
+use Rattle.kabi_types.specs.declared.scripts.Control.{Control}
+use Rattle.kabi_types.specs.declared.scripts.Operand.{Operand}
+use Rattle.kabi_types.specs.declared.scripts.Statement.{Statement}
+use Rattle.kabi_types.specs.declared.scripts.Statement.TheVariants as statement
+use Rattle.posix_defs.specs.Control.{call_at}
+use Rattle.posix_defs.specs.Made.{made}
+use Rattle.posix_defs.specs.Needs.{bound, cost}
+use Rattle.posix_defs.specs.PriceList.{price_of}
+use Rattle.posix_defs.specs.declared.prices.Price.{Price}
+use Rattle.posix_defs.specs.declared.prices.Price.TheVariants.{Always}
+use Rattle.prog_ctl.specs.Waits.{asked_for}
+
+-- a call is of the kind of which it was made
+pub kind_made : (which : CallKind) (numbers : List ℤ) (texts : List (List ℕ)) (done : ℕ) → kind_of (made which numbers texts done) ≡ which
+kind_made kind.Getpid numbers texts done = refl
+kind_made kind.Getppid numbers texts done = refl
+kind_made kind.SchedYield numbers texts done = refl
+kind_made kind.Fork numbers texts done = refl
+kind_made kind.Exec numbers texts done = refl
+kind_made kind.Exit numbers texts done = refl
+kind_made kind.Waitpid numbers texts done = refl
+kind_made kind.Kill numbers texts done = refl
+kind_made kind.Mmap numbers texts done = refl
+kind_made kind.Munmap numbers texts done = refl
+kind_made kind.Store numbers texts done = refl
+kind_made kind.Load numbers texts done = refl
+kind_made kind.OpenFile numbers texts done = refl
+kind_made kind.Close numbers texts done = refl
+kind_made kind.Dup numbers texts done = refl
+kind_made kind.Dup2 numbers texts done = refl
+kind_made kind.Fcntl numbers texts done = refl
+kind_made kind.Read numbers texts done = refl
+kind_made kind.Write numbers texts done = refl
+kind_made kind.Pread numbers texts done = refl
+kind_made kind.Pwrite numbers texts done = refl
+kind_made kind.Lseek numbers texts done = refl
+kind_made kind.Readdir numbers texts done = refl
+kind_made kind.Ftruncate numbers texts done = refl
+kind_made kind.Fstat numbers texts done = refl
+kind_made kind.Stat numbers texts done = refl
+kind_made kind.Chdir numbers texts done = refl
+kind_made kind.Mkdir numbers texts done = refl
+kind_made kind.Rmdir numbers texts done = refl
+kind_made kind.Unlink numbers texts done = refl
+kind_made kind.Link numbers texts done = refl
+kind_made kind.Rename numbers texts done = refl
+kind_made kind.Pipe numbers texts done = refl
+kind_made kind.Socket numbers texts done = refl
+kind_made kind.Socketpair numbers texts done = refl
+kind_made kind.Bind numbers texts done = refl
+kind_made kind.Listen numbers texts done = refl
+kind_made kind.Connect numbers texts done = refl
+kind_made kind.Accept numbers texts done = refl
+kind_made kind.Shutdown numbers texts done = refl
+kind_made kind.Poll numbers texts done = refl
+
+-- a call whose price is nothing, whatever its operands are, may use nothing
+pub bound_free : (call : Call) → price_of (kind_of call) ≡ Always 0 → bound call ≡ 0
+unfolding bound
+bound_free call free = go (is_some (argument_fault call)) (ap (λ (price : Price). cost price call) free)
+  where
+    go : (wrong : Bool) → cost (price_of (kind_of call)) call ≡ 0 → cond wrong 0 (cost (price_of (kind_of call)) call) ≡ 0
+    go true none = refl
+    go false none = none
+
+-- so nothing is asked for at the end of a program, and where a loop goes round again
+pub asked_to_exit : asked_for (call.Exit (pos 0)) ≡ record { kind = kind.Exit; bound = 0 }
+asked_to_exit = ap (λ (most : ℕ). record { kind = kind.Exit; bound = most }) (bound_free (call.Exit (pos 0)) refl)
+
+pub asked_to_yield : asked_for call.SchedYield ≡ record { kind = kind.SchedYield; bound = 0 }
+asked_to_yield = ap (λ (most : ℕ). record { kind = kind.SchedYield; bound = most }) (bound_free call.SchedYield refl)
+
+-- a statement that isn't a call of the kernel by name makes a loop's
+pub asked_elsewhere : (control : Control) (here : Statement) → ((which : CallKind) (operands : List Operand) (texts : List (List ℕ)) (first second : Option ℕ) → here ≡ statement.Invoke which operands texts first second → ⊥)
+    → asked_for (call_at control (Some here)) ≡ record { kind = kind.SchedYield; bound = 0 }
+asked_elsewhere control (statement.Invoke which operands texts first second) other = absurd (other which operands texts first second refl)
+asked_elsewhere control _ other = asked_to_yield
