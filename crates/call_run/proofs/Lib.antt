@@ -14,4 +14,3 @@ pub mod Choosing
 pub mod Killing
 pub mod Ends
 pub mod Naming
-pub mod CanRun

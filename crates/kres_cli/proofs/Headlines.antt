@@ -19,7 +19,7 @@ use Rattle.kres_cli.specs.Words.{most_rounds}
 told : (text whole : List ℕ) (handed : Option StoreView) (st : Status) → AnswersText text whole Sim handed st
     → (st ≡ status.BadScript) ⊎ ((script : Script) × ReadsText text (Ok script) × IsRunOf script whole handed st)
 told text whole handed _ (refuses fault why is none) = inl refl
-told text whole handed _ (makes script st said ran) = inr (script, said, ran.1)
+told text whole handed _ (makes script st said ran) = inr (script, said, ran)
 
 simulated : (i : Input) (o : Output) (handed : Option StoreView) (st : Status) → Answered i o handed Sim st
     → (st ≡ status.BadScript → ⊥) → HasSimulated i o handed st

@@ -9,7 +9,6 @@ use Rattle.posix_defs.specs.ValidScript.{IsValid}
 use Rattle.posix_defs.specs.World.{boot_world, live_of}
 use Rattle.store_objects.specs.Objects.{AreKept}
 use Rattle.store_objects.proofs.Booting.{boot_stands, boot_stands_for}
-use Rattle.call_run.proofs.CanRun.{each_script}
 use Rattle.call_run.proofs.store.Store.boot.Goals as goal
 
 pub go_to_call-requires : goal.go_to_call-requires
@@ -29,7 +28,7 @@ begins script valid = few (live_of (boot_world script)) script.heap (boot_live s
 
 pub returns-clause-booted : goal.returns-clause-booted
 returns-clause-booted g c = record {
-  stands = boot_stands_for c.args.script.now c.in_ok-script.script c.in_ok-objects.objects c.place_of.result c.go_to_call.new.control c.requires.valid (each_script c.args.script.now) c.in_ok-script.ensures
+  stands = boot_stands_for c.args.script.now c.in_ok-script.script c.in_ok-objects.objects c.place_of.result c.go_to_call.new.control c.requires.valid c.in_ok-script.ensures
       (c.place_of.ensures ∙ ap (place_of (codes "init")) c.items.ensures) c.go_to_call.ensures.settled
       c.go_to_call.ensures.stands c.go_to_call.ensures.rests c.in_ok-objects.ensures;
   reached = boots;
@@ -38,7 +37,7 @@ returns-clause-booted g c = record {
 
 pub invariant_of-result : goal.invariant_of-result
 invariant_of-result g c =
-    let stands = boot_stands_for c.args.script.now c.in_ok-script.script c.in_ok-objects.objects c.place_of.result c.go_to_call.new.control c.requires.valid (each_script c.args.script.now) c.in_ok-script.ensures
+    let stands = boot_stands_for c.args.script.now c.in_ok-script.script c.in_ok-objects.objects c.place_of.result c.go_to_call.new.control c.requires.valid c.in_ok-script.ensures
     (c.place_of.ensures ∙ ap (place_of (codes "init")) c.items.ensures) c.go_to_call.ensures.settled
     c.go_to_call.ensures.stands c.go_to_call.ensures.rests c.in_ok-objects.ensures in
     subst (λ script. AreKept script c.in_ok-objects.objects) (sym c.in_ok-script.ensures) stands.kept
