@@ -158,13 +158,13 @@ says_one : (text : List ℕ) (script other : Script) → ReadsText text (Ok scri
 says_one text script other says too = let same = sym (reads_as text (Ok script) says) ∙ reads_as text (Ok other) too in cc
 
 -- and has no fault
-no_fault : (text : List ℕ) (script : Script) (fault : ScriptFault) → ReadsText text (Ok script) → ReadsText text (Err fault) → ⊥
-no_fault text script fault says has = let same = sym (reads_as text (Err fault) has) ∙ reads_as text (Ok script) says in cc
+has_none : (text : List ℕ) (script : Script) (fault : ScriptFault) → ReadsText text (Ok script) → ReadsText text (Err fault) → ⊥
+has_none text script fault says has = let same = sym (reads_as text (Err fault) has) ∙ reads_as text (Ok script) says in cc
 
 -- so what answers it is what the task makes of its script
 makes_it : (text whole : List ℕ) (asked : Task) (handed : Option StoreView) (st : Status) (script : Script) → AnswersText text whole asked handed st
     → ReadsText text (Ok script) → Makes asked script whole handed st
-makes_it text whole asked handed _ script (refuses fault has is none) says = absurd (no_fault text script fault says has)
+makes_it text whole asked handed _ script (refuses fault has is none) says = absurd (has_none text script fault says has)
 makes_it text whole asked handed _ script (makes other st said so) says =
     subst (λ s. Makes asked s whole handed st) (says_one text other script said says) so
 
