@@ -1,4 +1,4 @@
-ghost use Rattle.std.specs.Prelude.{◌≡◌, ◌≢◌, ◌≤◌, true, false, List, ℕ, IfOk, Ok, None, Some, length, string_bytes};
+ghost use Rattle.std.specs.Prelude.{◌≡◌, ◌≢◌, ◌≤◌, List, ℕ, IfOk, None, Some, string_bytes};
 ghost use Rattle.kabi_types.specs.declared.scripts.Policy.TheVariants.{Heaviest, Youngest};
 ghost use Rattle.posix_defs.specs.Canonical.{canonical};
 ghost use Rattle.posix_defs.specs.Generated.{generated};

@@ -1,6 +1,5 @@
 use Rattle.std.proofs.Common.{sym, subst}
 use Rattle.posix_defs.specs.Canonical.{canonical}
-use Rattle.kres_cli.specs.declared.commands.Task.TheVariants.{Print, Sim}
 use Rattle.kres_cli.specs.Tool.{Output, ScriptEnds, output}
 use Rattle.kres_cli.proofs.Outcomes.{print_ends}
 use Rattle.kres_cli.proofs.tool.answer_script.Goals as goal
