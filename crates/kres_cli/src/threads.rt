@@ -52,8 +52,9 @@ pub fn run_by_threads<
 {
     match read_script(alloc, source) {
         Ok(Reading::Script(script)) => {
-            let status =
-                answer_by_threads(rt, alloc, workers, &script, sink, door, score, store_out);
+            let status = answer_by_threads(
+                rt, alloc, workers, &script, sink, door, score, store_out,
+            );
             drop(script);
             status
         }
