@@ -22,6 +22,7 @@ FITTING = {"read": ["file", "reader", "socket"], "write": ["file", "writer", "so
            "bind": ["socket"], "connect": ["socket"], "shutdown": ["socket"], "pread": ["file"], "pwrite": ["file"],
            "lseek": ["file"], "ftruncate": ["file"], "readdir": ["directory", "file"]}
 DESCRIPTORS = ["file", "directory", "reader", "writer", "socket"]
+EDGES = ["-9223372036854775808", "-2147483649", "4294967295", "4294967296", "9223372036854775807", "SIGKILL|O_APPEND", "r15"]
 
 
 class Program:
@@ -39,7 +40,7 @@ class Program:
         held = [register for register, kind in self.holds.items() if kind in kinds]
         if held and self.rng.random() < 0.9:
             return self.rng.choice(held)
-        return str(self.rng.randint(least, most))
+        return str(self.rng.randint(least, most)) if self.rng.random() < 0.9 else self.rng.choice(EDGES)
 
     def fd(self, call=None):
         fitting = FITTING.get(call, DESCRIPTORS) if self.rng.random() < 0.85 else DESCRIPTORS
@@ -70,7 +71,7 @@ class Program:
             "exit": lambda: str(rng.choice([0, 1, 3, 256])),
             "waitpid": lambda: f"{rng.choice([self.some(['child'], -2, 5), '-1'])} {rng.choice(['0', '0', 'WNOHANG', '2'])}",
             "kill": lambda: f"{self.some(['child'], -1, 6)} {rng.choice(['SIGKILL', 'SIGKILL', '0', '15'])}",
-            "mmap": self.length,
+            "mmap": lambda: rng.choice([self.length(), self.length(), "100000", "1044480", "1048577"]),
             "munmap": lambda: f"{self.address()} {self.length()}",
             "store": lambda: f"{self.address()} {self.text()}",
             "load": lambda: f"{self.address()} {rng.choice(['0', '1', '5', '64', '65'])}",
@@ -163,6 +164,16 @@ class Program:
             self.call(3)
         self.lines.append(f"loop r15 {again}")
 
+    def turn(self):
+        """Registers that change, and calls that are made where a test holds."""
+        behind = self.label("past")
+        self.lines.append(f"{self.rng.choice(['set', 'add'])} {self.register()} {self.some(['child', *DESCRIPTORS], -2, 9)}")
+        test = self.rng.choice(["==", "!=", "<", "<="])
+        self.lines.append(f"if {self.some(['child', *DESCRIPTORS], -1, 3)} {test} {self.some(DESCRIPTORS, -1, 3)} {behind}")
+        for _ in range(self.rng.randint(1, 3)):
+            self.call(3)
+        self.lines += [f"jump {behind}"] * (self.rng.random() < 0.2) + [f"label {behind}"]
+
     # Pieces.
 
     def piece(self):
@@ -182,6 +193,8 @@ class Program:
                 self.piece()
             elif how < 0.32:
                 self.round()
+            elif how < 0.36:
+                self.turn()
             self.call(0)
         self.lines.append("exit 0")
         return self.lines

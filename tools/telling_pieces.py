@@ -78,6 +78,22 @@ bind $s @other
 ? connect $s @sock
 connect $t @other
 
+# Bound names that are moved over one another, or that something else takes.
+$s = socket
+$t = socket
+bind $s @sock
+bind $t @other
+listen $t
+rename @sock @other
+$c = socket
+connect $c @other
+listen $s
+? rename @file @other
+? rename @other @file
+connect $c @other
+? bind $t @sock
+$p = accept $t
+
 # What is left of a connection where one side is shut.
 $a $b = socketpair
 write $a r0 #
@@ -105,6 +121,35 @@ write $w r0 9000
 write $w r0 ##
 ? fcntl $w F_SETFL O_NONBLOCK
 write $w r0 5000
+
+# A writer who sleeps, and what wakes it.
+$a $b = socketpair
+child
+write $a r0 9000
+write $a r0 #
+? shutdown $a SHUT_WR
+done
+write $b r0 ##
+? sched_yield
+? shutdown $b SHUT_RD
+? fcntl $a F_SETFL O_NONBLOCK
+? read $b r0 #
+? close $a
+? close $b
+read $b r0 9000
+
+# A reader who sleeps, and a flag that is set under it.
+$r $w = pipe
+child
+read $r r0 5
+read $r r0 5
+done
+? sched_yield
+fcntl $r F_SETFL O_NONBLOCK
+? write $w r0 3
+? dup2 $r $w
+waitpid -1 WNOHANG
+read $r r0 1
 
 # Ends of a pipe that others take the place of.
 $r $w = pipe
@@ -162,6 +207,9 @@ write $f r0 9000
 again
 pwrite $f r0 # 270000
 ? pwrite $f r0 # 272384
+? lseek $f 272384 SEEK_SET
+? fcntl $f F_SETFL O_APPEND
+write $f r0 #
 ftruncate $f 60000
 ? ftruncate $f 272385
 open @other O_RDWR|O_CREAT
@@ -217,6 +265,29 @@ rename "dir/sub" "sub"
 rename @file @dir
 rename @dir @file
 rmdir @dir
+
+# A long way down, and up again while it is moved.
+mkdir "u"
+mkdir "u/v"
+mkdir "u/v/w"
+mkdir "u/v/w/x"
+open "u/v/w/x/a" O_RDWR|O_CREAT
+chdir "u/v/w"
+stat "../../../u/./v/w/x/.."
+rename "/u/v/w" "/w"
+stat "../u/v"
+rename "/u" "x/u"
+? chdir "x/u/v"
+stat ".."
+rename "/w" "/w/x/u/v/w"
+rmdir "/w/x/u/v"
+? chdir "/"
+rmdir "/w/x/u/v"
+rmdir "/w/x/u"
+stat "w/x/a"
+rename "w/x/a" "a"
+rmdir "w/x"
+rmdir "/w"
 
 # A directory that somebody is in, or has open.
 mkdir "dir"
@@ -337,6 +408,25 @@ store $m "two"
 load $m 7
 store 4094 "over the edge"
 load 4090 20
+
+# More memory than there are places, and one page at its end.
+$m = mmap 700000
+mmap 700000
+munmap $m 348160
+mmap 340000
+mmap 9000
+$n = mmap 4096
+store $n "x"
+store 1048570 "over"
+store 1044480 "end"
+child
+store 1044480 "END"
+load 1044480 3
+done
+mmap 1048576
+load 1044480 3
+munmap 1044480 4096
+munmap 4096 1044481
 
 # Memory that another has filled or read through a descriptor.
 $m = mmap 8192
