@@ -15,3 +15,4 @@ pub mod Killing
 pub mod Ends
 pub mod Naming
 pub mod CanRun
+pub mod Needing
