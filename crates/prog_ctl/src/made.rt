@@ -360,7 +360,7 @@ struct Said<'a> {
     texts: &'a [Text],
 }
 
-fn said(statement: Option<&Statement>) -> Said<'_>
+fn said_by(statement: Option<&Statement>) -> Said<'_>
     requires { (place : ℕ) × IfSome (option_copied statement) (IsRunnableAt place) }
     ensures count { length result.operands.now ≤ 17 }
     ensures each { AllByRecursion IsOperand result.operands.now }
@@ -399,7 +399,7 @@ pub fn call_at(control: &Control, statement: Option<&Statement>) -> Call
     requires { IfSome (option_copied statement) (IsRunnableAt control.now.place) }
     ensures { result ≡ call_at control.now (option_copied statement.entry) }
 {
-    let said = said(statement);
+    let said = said_by(statement);
     // the one way to a call, since what two ways give is copied where they meet
     made(control, said.kind, said.operands, said.texts)
 }
