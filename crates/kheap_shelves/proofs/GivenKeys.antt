@@ -31,6 +31,9 @@ never_given limit given lt =
 pub free_again : (limit given : ℕ) (free : List ℕ) (key : ℕ) → all_free limit given (free ++ key ∷ []) ≡ all_free limit given free ++ key ∷ []
 free_again limit given free key = sym (append_assoc (falling (limit - given) given) free (key ∷ []))
 
+pub none_given : (limit : ℕ) (places : List (Option ℕ)) → places ≡ [] → all_places limit places ≡ replicate limit None
+none_given limit places none = let all : limit - 0 ≡ limit = omega arith in ap (all_places limit) none ∙ ap (λ n. replicate n None) all
+
 pub length-all : (limit : ℕ) (places : List (Option ℕ)) → length places ≤ limit → length (all_places limit places) ≡ limit
 length-all limit places le = length-append places (replicate (limit - length places) None) ∙ ap (λ n. length places + n) (length-replicate (limit - length places) None) ∙ omega (arith, le)
 

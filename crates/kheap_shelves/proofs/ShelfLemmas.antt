@@ -10,7 +10,7 @@ use Rattle.slab.specs.Slab.{Slab, get, slab_len, ContainsKey, Updates, with_valu
 use Rattle.slab.proofs.SlabLemmas.{Updates-with_value}
 use Rattle.kheap_shelves.specs.Objects.{InUse}
 use Rattle.kheap_shelves.specs.Places.{found_at, shelved, IsSound, TakesPlace, all_places, all_free, falling, TakesKey, IsShelf}
-use Rattle.kheap_shelves.proofs.GivenKeys.{length-falling, get_or-falling, length-all, get_or-all, set-all, free_again, next_free, next_places, still_within, still_given}
+use Rattle.kheap_shelves.proofs.GivenKeys.{none_given, length-falling, get_or-falling, length-all, get_or-all, set-all, free_again, next_free, next_places, still_within, still_given}
 use Rattle.kheap_shelves.proofs.ObjectLemmas.{count-without, InUse-within}
 
 module _ {X Y : Type 0} where
@@ -366,15 +366,13 @@ module _ {T : Type 0} where
         }
 
   -- The same of a shelf, whose table has the keys that were given out alone.
-  pub none_given : (limit : ℕ) (places : List (Option ℕ)) → places ≡ [] → all_places limit places ≡ replicate limit None
-  none_given limit places none = ap (all_places limit) none
-
   pub IsShelf-boot : (slab : Slab T) (places : List (Option ℕ)) (free spare : List ℕ) (limit places_room room spare_room : ℕ) → slab.slots ≡ [] → limit ≤ slab.capacity → places ≡ [] → limit ≤ places_room → free ≡ [] → limit ≤ room → spare ≡ [] → limit ≤ spare_room → IsShelf slab limit places places_room free room spare spare_room
   IsShelf-boot slab places free spare limit places_room room spare_room empty slab_room none places_fit no_free free_room unused spare_fits =
       let given : length places ≡ 0 = ap length none in
-      let keys : all_free limit (length places) free ≡ falling limit 0 = ap (λ n. all_free limit n free) given ∙ ap (all_free limit 0) no_free ∙ append-nil (falling limit 0) in
+      let all : limit - 0 ≡ limit = omega arith in
+      let keys : all_free limit (length places) free ≡ falling limit 0 = ap (λ n. all_free limit n free) given ∙ ap (all_free limit 0) no_free ∙ append-nil (falling (limit - 0) 0) ∙ ap (λ n. falling n 0) all in
       record {
-        sound = rw (none_given limit places none, keys) (IsSound-boot slab (falling limit 0) spare limit room spare_room empty slab_room (length-falling limit 0) (λ i lt. get_or-falling limit 0 i lt ∙ omega arith) free_room unused spare_fits);
+        sound = subst (λ l. IsSound slab l (all_free limit (length places) free) room spare spare_room) (sym (none_given limit places none)) (subst (λ l. IsSound slab (replicate limit None) l room spare spare_room) (sym keys) (IsSound-boot slab (falling limit 0) spare limit room spare_room empty slab_room (length-falling limit 0) (λ i lt. get_or-falling limit 0 i lt ∙ omega arith) free_room unused spare_fits));
         given = λ i lt. absurd (let long : length free ≡ 0 = ap length no_free in omega (arith, lt, long));
         within = omega (arith, given);
         fits = places_fit;

@@ -48,9 +48,9 @@ module _ {K : Type 0} (eq : K → K → Bool) (scatter : K → ℕ) where
     some = rw length-replicate (omega arith);
     firsts = λ b. ap (λ xs. get_or xs b None) firsts ∙ none_first (count + 1) b ∙ sym (ap first_place (nothing_in {X = K × ℕ} (count + 1) b));
     strung = λ b. subst (AreStrung (node_at table.nodes.items)) (sym (nothing_in {X = K × ℕ} (count + 1) b)) tt;
-    own = λ b. subst (λ ps. AllByRecursion (λ key. scatter key % length (no_chains {K} (count + 1)) ≡ b) (keys_of ps)) (sym (nothing_in {X = K × ℕ} (count + 1) b)) tt;
+    own = λ b. subst (λ ps. AllByRecursion (λ key. scatter key % length (no_chains {K = K} (count + 1)) ≡ b) (keys_of ps)) (sym (nothing_in {X = K × ℕ} (count + 1) b)) tt;
     distinct = λ b. subst (λ ps. IsDistinct eq (keys_of ps)) (sym (nothing_in {X = K × ℕ} (count + 1) b)) tt;
-    few = let none : all_keys (no_chains {K} (count + 1)) ≡ 0 = sum_by-replicate length (count + 1) [] ∙ mul-zero (count + 1) in omega (arith, none);
+    few = let none : all_keys (no_chains {K = K} (count + 1)) ≡ 0 = sum_by-replicate length (count + 1) [] ∙ mul-zero (count + 1) in omega (arith, none);
   }
 
   -- the same table with a place more, at which nothing stands

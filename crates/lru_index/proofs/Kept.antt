@@ -333,7 +333,7 @@ kept_empty {K} eq scatter table chain free most none filed chained links nodes =
 }
   where
     all_are : all_free most (vec_len chain.links) free ≡ falling most 0
-    all_are = ap (λ n. all_free most n free) links ∙ ap (all_free most 0) none ∙ append-nil (falling most 0)
+    all_are = let all : most - 0 ≡ most = omega arith in ap (λ n. all_free most n free) links ∙ ap (all_free most 0) none ∙ append-nil (falling (most - 0) 0) ∙ ap (λ n. falling n 0) all
 
     each_free : (places : List ℕ) → AllByRecursion (IsFree table []) places
     each_free [] = tt

@@ -107,9 +107,13 @@ impl<K: Key> Buckets<K> {
     {
         let bucket = self.bucket(key);
         let found = self.seek(bucket, key);
-        let place = found.place?;
-        let next = self.node(place)?.next;
-        self.link(bucket, found.before, next);
+        let Some(place) = found.place else {
+            return None;
+        };
+        let Some(node) = self.node(place) else {
+            return None;
+        };
+        self.link(bucket, found.before, node.next);
         self.set_node(place, None);
         Some(place)
     }

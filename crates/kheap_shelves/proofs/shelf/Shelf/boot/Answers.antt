@@ -2,7 +2,8 @@ use Rattle.std.proofs.Common.{◌≡◌, [], ap, ◌∙◌, length, sym}
 use Rattle.std.specs.Prelude.{None}
 use Rattle.std.proofs.lemmas.List.{length-replicate}
 use Rattle.kheap_shelves.proofs.ObjectLemmas.{count-none}
-use Rattle.kheap_shelves.proofs.ShelfLemmas.{shelved-boot, IsShelf-boot, none_given}
+use Rattle.kheap_shelves.proofs.GivenKeys.{none_given}
+use Rattle.kheap_shelves.proofs.ShelfLemmas.{shelved-boot, IsShelf-boot}
 use Rattle.kheap_shelves.proofs.shelf.Shelf.boot.Goals as goal
 
 pub invariant_of-result : goal.invariant_of-result

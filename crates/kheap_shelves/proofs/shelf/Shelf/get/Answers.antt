@@ -8,4 +8,4 @@ place_at-requires g c = rw c.deref.ensures.value (used_given c.self.inside.slab 
 pub returns : goal.returns
 returns g c =
     let placed : get_or c.self.inside.places.items c.args.key None ≡ Some c.place_at.result = rw c.deref.ensures.value at c.place_at.ensures in
-    rw (← c.self.view_is) (object_named c.self.inside.slab c.self.inside.limit c.self.inside.places.items _ c.self.inside.free.items _ c.self.inside.spare.items _ c.self.invariant c.args.key c.place_at.result placed ∙ c.index.ensures)
+    record { value = rw (← c.self.view_is) (object_named c.self.inside.slab c.self.inside.limit c.self.inside.places.items _ c.self.inside.free.items _ c.self.inside.spare.items _ c.self.invariant c.args.key c.place_at.result placed ∙ c.index.ensures) }

@@ -2,11 +2,11 @@ use Rattle.std.proofs.Common.{◌≡◌, arith, length, None, ap, ◌∙◌, ref
 use Rattle.std.proofs.lemmas.List.{length-map, get_or-map}
 use Rattle.kheap_shelves.specs.Objects.{object, count}
 use Rattle.kheap_shelves.specs.Places.{found_at, all_places}
-use Rattle.kheap_shelves.proofs.ObjectLemmas.{object-put, count-put_new}
+use Rattle.kheap_shelves.proofs.ObjectLemmas.{object-put, count-put_new, length-put}
 use Rattle.kheap_shelves.proofs.ShelfLemmas.{key_is_left, object_fits, IsShelf-insert, key_was_free, objects-insert}
 use Rattle.kheap_shelves.proofs.shelf.Shelf.insert.Goals as goal
 
-room_left : (g : _) (c : goal.After-put_in-place g) → length c.self.inside.free.items ≡ 0 → length c.self.inside.places.items < c.self.inside.limit
+room_left : (g : _) (c : goal.After-take_key g) → length c.self.inside.free.items ≡ 0 → length c.self.inside.places.items < c.self.inside.limit
 room_left g c = key_is_left c.self.inside.slab c.self.inside.limit c.self.inside.places.items _ c.self.inside.free.items _ c.self.inside.spare.items _ c.self.invariant (rw (← c.self.view_is) at c.requires)
 
 pub put_in-place-requires-clause-left_there : goal.put_in-place-requires-clause-left_there
@@ -19,7 +19,7 @@ pub take_key-requires-clause-given : goal.take_key-requires-clause-given
 take_key-requires-clause-given g c = λ i lt. let given = c.self.invariant.given i (omega (arith, c.self.inside.free.ok, lt)) in omega (arith, given, c.self.inside.places.ok)
 
 pub take_key-requires-clause-room : goal.take_key-requires-clause-room
-take_key-requires-clause-room g c = λ none. let left = room_left g c (omega (arith, c.self.inside.free.ok, none)) in omega (arith, left, c.self.invariant.fits, c.self.inside.places.ok)
+take_key-requires-clause-room g c = λ none. let left = key_is_left c.self.inside.slab c.self.inside.limit c.self.inside.places.items _ c.self.inside.free.items _ c.self.inside.spare.items _ c.self.invariant (rw (← c.self.view_is) at c.requires) (omega (arith, c.self.inside.free.ok, none)) in omega (arith, left, c.self.invariant.fits, c.self.inside.places.ok)
 
 pub invariant_of-self : goal.invariant_of-self
 invariant_of-self g c =
@@ -42,3 +42,6 @@ returns-clause-stored g c = ap (λ objects. object objects c.take_key.result) (r
 
 pub returns-clause-counted : goal.returns-clause-counted
 returns-clause-counted g c = ap count (returns-clause-kept g c) ∙ count-put_new c.args.self.now c.take_key.result c.args.value (returns-clause-in_range g c) (returns-clause-vacant g c)
+
+pub returns-clause-len : goal.returns-clause-len
+returns-clause-len g c = ap length (returns-clause-kept g c) ∙ length-put c.args.self.now c.take_key.result c.args.value
