@@ -4,9 +4,9 @@ use Rattle.std.specs.Option.{option_map}
 use Rattle.std.specs.List.{AllByRecursion, IsDistinct, sum_by}
 use Rattle.std.specs.Map.{keys_of, lookup, remove_entry}
 use Rattle.std.specs.Cmp.{IsEquivalence, nat_eq_equiv}
-use Rattle.std.proofs.lemmas.Bool.{cases_lt, false≢true}
+use Rattle.std.proofs.lemmas.Bool.{cases_eq, cases_lt, false≢true}
 use Rattle.std.proofs.lemmas.Nat.{mod_below}
-use Rattle.std.proofs.lemmas.List.{length-set, length-replicate, get_or-set_same, get_or-set_other, get_or_past, get_or-replicate}
+use Rattle.std.proofs.lemmas.List.{length_push, get_or_push, get_or_append_left, length-set, length-replicate, get_or-set_same, get_or-set_other, get_or_past, get_or-replicate}
 use Rattle.std.proofs.lemmas.List.Sums.{sum_by-set}
 use Rattle.std.proofs.lemmas.List.Folds.{sum_by-replicate}
 use Rattle.std.proofs.lemmas.Map.Keys.{IsDistinct-cons}
@@ -38,6 +38,40 @@ none_first n b = elim (cases_lt b n) [
   | inl lt ↦ get_or-replicate n b None None lt
   | inr le ↦ get_or_past _ b None (rw length-replicate le)
 ]
+
+module _ {K : Type 0} where
+  -- a place more, at which nothing stands
+  pub grown_same : (nodes : List (Option (Node K))) (q : ℕ) → node_at (nodes ++ None ∷ []) q ≡ node_at nodes q
+  grown_same nodes q = elim (cases_lt q (length nodes)) [
+    | inl lt ↦ get_or_append_left nodes (None ∷ []) None q lt
+    | inr le ↦ (elim (cases_eq q (length nodes)) [
+      | inl e ↦ get_or_push nodes None None q (sym e)
+      | inr d ↦ get_or_past (nodes ++ None ∷ []) q None (let long = length_push nodes None in omega (arith, le, d, long))
+    ]) ∙ sym (get_or_past nodes q None le)
+  ]
+
+  -- a node that gets another one behind it, and a place that has none
+  pub changed_node : (at now : ℕ → Option (Node K)) (place : ℕ) (node : Node K) (next : Option ℕ) → at place ≡ Some node → ((q : ℕ) → now q ≡ cond (nat_eq place q) (Some (with_next next node)) (at q)) → (q : ℕ) → now q ≡ cond (nat_eq place q) (option_map (with_next next) (at q)) (at q)
+  changed_node at now place node next there writes q = writes q ∙ (elim (nat_eq place q) as (λ b. nat_eq place q ≡ b → cond b (Some (with_next next node)) (at q) ≡ cond b (option_map (with_next next) (at q)) (at q)) [
+    | true ↦ λ t. sym (ap (λ k. option_map (with_next next) (at k)) (sym (eqb-true place q t)) ∙ ap (option_map (with_next next)) there)
+    | false ↦ λ t. refl
+  ]) refl
+
+  pub unchanged_node : (at : ℕ → Option (Node K)) (place : ℕ) (next : Option ℕ) → at place ≡ None → (q : ℕ) → at q ≡ cond (nat_eq place q) (option_map (with_next next) (at q)) (at q)
+  unchanged_node at place next there q = (elim (nat_eq place q) as (λ b. nat_eq place q ≡ b → at q ≡ cond b (option_map (with_next next) (at q)) (at q)) [
+    | true ↦ λ t. let none : at q ≡ None = ap at (sym (eqb-true place q t)) ∙ there in none ∙ sym (ap (option_map (with_next next)) none)
+    | false ↦ λ t. refl
+  ]) refl
+
+  -- a place that had no node has none where another one's was changed or went
+  pub still_none : (at now : ℕ → Option (Node K)) (gone : ℕ) (before : Option ℕ) (next : Option ℕ) → ((q : ℕ) → now q ≡ cond (nat_eq gone q) None (cond (hits before q) (option_map (with_next next) (at q)) (at q))) → (q : ℕ) → at q ≡ None → now q ≡ None
+  still_none at now gone before next goes q none = goes q ∙ (elim (nat_eq gone q) as (λ b. cond b None (cond (hits before q) (option_map (with_next next) (at q)) (at q)) ≡ None) [
+    | true ↦ refl
+    | false ↦ (elim (hits before q) as (λ b. cond b (option_map (with_next next) (at q)) (at q) ≡ None) [
+      | true ↦ ap (option_map (with_next next)) none
+      | false ↦ none
+    ])
+  ])
 
 module _ {K : Type 0} (eq : K → K → Bool) (scatter : K → ℕ) where
   -- a table with nothing in it
@@ -251,3 +285,32 @@ module _ {K : Type 0} {eq : K → K → Bool} (laws : IsEquivalence eq) (same : 
         (all_removed (eq key) (λ k. scatter k % length chains ≡ its) ps (filed.own its))
         (distinct_removed (eq key) eq ps (filed.distinct its))
         (omega (arith, keys_taken chains key filed.some (rw there refl), filed.few, places))
+
+  -- The same from what a call found in the key's bucket.
+  pub taken_by : (old new : Buckets K) (chains : List (List (K × ℕ))) (key : K) → AreFiled eq scatter old chains → (found : Found) (gone : ℕ) (node : Node K) → IsSought eq (in_bucket chains (bucket_of eq scatter chains key)) key found → found.place ≡ Some gone → node_at old.nodes.items gone ≡ Some node
+      → new.firsts.items ≡ cond (is_some found.before) old.firsts.items (set old.firsts.items (bucket_of eq scatter chains key) node.next) → vec_len new.firsts ≡ vec_len old.firsts
+      → Goes (node_at old.nodes.items) (node_at new.nodes.items) gone node.next found.before → vec_len new.nodes ≡ vec_len old.nodes
+      → AreFiled eq scatter new (taken_out eq scatter chains key)
+  taken_by old new chains key filed found gone node s there stands firsts buckets goes places = by_case s.back refl
+    where
+      no_first : None ≡ Some gone → ⊥
+      no_first e = cc
+
+      some_same : {a b : ℕ} → Some a ≡ Some b → a ≡ b
+      some_same e = cc
+
+      some_node : {a b : Node K} → Some a ≡ Some b → a ≡ b
+      some_node e = cc
+
+      by_case : (back : List (K × ℕ)) → s.back ≡ back → AreFiled eq scatter new (taken_out eq scatter chains key)
+      by_case [] is = absurd (no_first (sym (s.place ∙ ap first_place is) ∙ there))
+      by_case (p ∷ back) is =
+          let at_p : p.1 ≡ gone = some_same (sym (s.place ∙ ap first_place is) ∙ there) in
+          let whole = s.is ∙ ap (λ l. s.front ++ l) is in
+          let mine = (rest_strung (node_at old.nodes.items) s.front (p ∷ back) (subst (AreStrung (node_at old.nodes.items)) whole (filed.strung (bucket_of eq scatter chains key)))).0 in
+          let node_is = some_node (sym stands ∙ ap (node_at old.nodes.items) (sym at_p) ∙ mine) in
+          filed_taken old new chains key filed found.before node.next s.front back p whole s.passed (subst (IsHit eq key) is s.hit) s.before (ap (λ (n : Node K). n.next) node_is) firsts buckets (subst (λ x. Goes (node_at old.nodes.items) (node_at new.nodes.items) x node.next found.before) (sym at_p) goes) places
+
+      rest_strung : (at : ℕ → Option (Node K)) (front back : List (K × ℕ)) → AreStrung at (front ++ back) → AreStrung at back
+      rest_strung at [] back s = s
+      rest_strung at (f ∷ front) back s = rest_strung at front back s.1

@@ -3,7 +3,7 @@
 //!
 //! A key is in the bucket that its scattered number names, so a call looks at the keys of one bucket. All others of its
 //! places are as they were.
-ghost use Rattle.std.specs.Prelude.{◌≡◌, ℕ, ◌+◌, ◌/◌, ◌%◌, ◌<◌, ◌≤◌, false, List, None, Some, IfOk, IsSome, is_some, cond, nat_eq, slice_index_or, slice_set, vec_len, vec_capacity};
+ghost use Rattle.std.specs.Prelude.{◌≡◌, ℕ, ◌+◌, ◌/◌, ◌%◌, ◌<◌, ◌≤◌, false, List, None, Some, IfOk, IsSome, is_some, cond, nat_eq, replicate, slice_index_or, slice_set, vec_len, vec_capacity};
 ghost use Rattle.std.specs.Option.{option_map};
 ghost use Rattle.lru_index.specs.Chain.{hits};
 ghost use Rattle.lru_index.specs.Buckets.{AreFiled, IsSought, all_keys, in_bucket, no_chains, node_at, place_of, put_first, taken_out, with_next};
@@ -44,7 +44,7 @@ impl<K: Key> Buckets<K> {
         ensures places { IfOk result (λ made. vec_len made.nodes ≡ 0) }
         ensures room { IfOk result (λ made. places ≤ vec_capacity made.nodes) }
     {
-        let firsts = vec![in alloc; None; (places / SHARE) as usize + 1]?;
+        let firsts = no_places(alloc, (places / SHARE) as usize + 1)?;
         let nodes = Vec::with_capacity(alloc, places as usize)?;
         Ok(Buckets { firsts, nodes })
     }
@@ -85,9 +85,9 @@ impl<K: Key> Buckets<K> {
         ensures capacity { vec_capacity self.new.nodes ≡ vec_capacity self.old.nodes }
     {
         let bucket = self.bucket(&key);
-        let next = self.firsts[bucket];
+        let next = self.first(bucket);
         self.set_node(place, Some(Node { key, next }));
-        self.firsts[bucket] = Some(place);
+        self.set_first(bucket, Some(place));
     }
 
     /// Takes a key that is there out, and answers its place, at which nothing stands then.
@@ -134,7 +134,7 @@ impl<K: Key> Buckets<K> {
             → IsSought K.eq (in_bucket chains bucket) key.now result }
     {
         let mut before = None;
-        let mut at = self.firsts[bucket];
+        let mut at = self.first(bucket);
         for _ in 0..self.nodes.len() {
             let Some(place) = at else {
                 return Found {
@@ -170,14 +170,43 @@ impl<K: Key> Buckets<K> {
         ensures places { vec_len self.new.nodes ≡ vec_len self.old.nodes }
         ensures capacity { vec_capacity self.new.nodes ≡ vec_capacity self.old.nodes }
     {
-        let Some(place) = before else {
-            self.firsts[bucket] = next;
-            return;
-        };
+        match before {
+            None => self.set_first(bucket, next),
+            Some(place) => self.set_next(place, next),
+        }
+    }
+
+    /// Lets another place come behind a place, where a node stands there.
+    fn set_next(&mut self, place: u32, next: Option<u32>)
+        ensures firsts { self.new.firsts ≡ self.old.firsts }
+        ensures nodes { (other : ℕ) → node_at self.new.nodes.items other
+            ≡ cond (nat_eq place other)
+            (option_map (with_next next) (node_at self.old.nodes.items other))
+            (node_at self.old.nodes.items other) }
+        ensures places { vec_len self.new.nodes ≡ vec_len self.old.nodes }
+        ensures capacity { vec_capacity self.new.nodes ≡ vec_capacity self.old.nodes }
+    {
         if let Some(mut node) = self.node(place) {
             node.next = next;
             self.set_node(place, Some(node));
         }
+    }
+
+    /// The first place of a bucket.
+    fn first(&self, bucket: usize) -> Option<u32>
+        requires { bucket < vec_len self.now.firsts }
+        ensures { result ≡ slice_index_or self.now.firsts.items bucket None }
+    {
+        self.firsts[bucket]
+    }
+
+    fn set_first(&mut self, bucket: usize, first: Option<u32>)
+        requires { bucket < vec_len self.old.firsts }
+        ensures firsts { self.new.firsts.items ≡ slice_set self.old.firsts.items bucket first }
+        ensures buckets { vec_len self.new.firsts ≡ vec_len self.old.firsts }
+        ensures nodes { self.new.nodes ≡ self.old.nodes }
+    {
+        self.firsts[bucket] = first;
     }
 
     /// What stands at a place.
@@ -201,4 +230,11 @@ impl<K: Key> Buckets<K> {
     {
         self.nodes[place as usize] = node;
     }
+}
+
+/// So many buckets, of which none has a first place.
+fn no_places(alloc: Global, count: usize) -> Result<Vec<Option<u32>>, Memory>
+    ensures { IfOk result (λ firsts. firsts.items ≡ replicate count None) }
+{
+    Ok(vec![in alloc; None; count]?)
 }

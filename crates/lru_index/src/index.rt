@@ -75,7 +75,10 @@ impl<K: Key> Index<K> {
         ensures { MatchBool result (self.now.capacity ≡ length self.now.pairs)
             (length self.now.pairs < self.now.capacity) }
     {
-        self.free.is_empty() && self.chain.places() == self.capacity as usize
+        if !self.free.is_empty() {
+            return false;
+        }
+        self.chain.places() == self.capacity as usize
     }
 
     /// The slot of a key, or None where it is absent.

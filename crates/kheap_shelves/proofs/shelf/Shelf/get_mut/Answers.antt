@@ -1,4 +1,4 @@
-use Rattle.std.proofs.Common.{◌≡◌, get_or, None, Some, refl, ap, ◌∙◌}
+use Rattle.std.proofs.Common.{◌≡◌, get_or, None, Some, refl, ◌∙◌}
 use Rattle.kheap_shelves.proofs.ShelfLemmas.{used_given, object_named, objects-changed}
 use Rattle.kheap_shelves.proofs.shelf.Shelf.get_mut.Goals as goal
 

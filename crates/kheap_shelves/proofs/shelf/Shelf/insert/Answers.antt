@@ -1,4 +1,4 @@
-use Rattle.std.proofs.Common.{◌≡◌, arith, length, None, ap, ◌∙◌, refl}
+use Rattle.std.proofs.Common.{◌≡◌, ◌<◌, arith, length, None, ap, ◌∙◌}
 use Rattle.std.proofs.lemmas.List.{length-map, get_or-map}
 use Rattle.kheap_shelves.specs.Objects.{object, count}
 use Rattle.kheap_shelves.specs.Places.{found_at, all_places}
