@@ -19,10 +19,10 @@ use std::marker::Model;
 /// A disk in memory, of 16 to 4096 blocks.
 #[derive(Drop)]
 pub struct RamDisk {
-    // The map and the table of nodes. Of these and of the data the first ones are written first, so that each stands in a
+    // The map and the table of nodes. Of these and of the contents of files the first ones are written first, so that each stands in a
     // region of its own.
     table: Region,
-    data: Region,
+    contents: Region,
     reads: u64,
 }
 
@@ -32,9 +32,9 @@ impl Model for RamDisk {
 
     ghost Value = { Disk };
 
-    ghost view = { λ disk. record { blocks = disk.table ++ disk.data; reads = disk.reads } };
+    ghost view = { λ disk. record { blocks = disk.table ++ disk.contents; reads = disk.reads } };
 
-    ghost invariant = { λ disk. length disk.table + length disk.data ≤ 4096 };
+    ghost invariant = { λ disk. length disk.table + length disk.contents ≤ 4096 };
 }
 
 impl RamDisk {
@@ -51,13 +51,13 @@ impl RamDisk {
     {
         let first = blocks / 16 + 1;
         let mut table = Region::boot(alloc, first)?;
-        let mut data = Region::boot(alloc, blocks - first)?;
+        let mut contents = Region::boot(alloc, blocks - first)?;
         table.write(0, &map_of(first + 1));
         table.write(1, &block_of(&bytes_of(&root_of(blocks))));
-        data.write(0, &root_entries());
+        contents.write(0, &root_entries());
         Ok(RamDisk {
             table,
-            data,
+            contents,
             reads: 0,
         })
     }
@@ -74,7 +74,7 @@ impl RamDisk {
         if number < first {
             self.table.read(number)
         } else {
-            self.data.read(number - first)
+            self.contents.read(number - first)
         }
     }
 
@@ -95,7 +95,7 @@ impl RamDisk {
         if number < first {
             self.table.write(number, bytes);
         } else {
-            self.data.write(number - first, bytes);
+            self.contents.write(number - first, bytes);
         }
     }
 }
@@ -115,7 +115,7 @@ impl Blocks for RamDisk {
     ghost follows_trans = { λ a b c one other. Prim.omega arith };
 
     fn count(&self) -> u32 {
-        self.table.count() + self.data.count()
+        self.table.count() + self.contents.count()
     }
 
     fn get(&mut self, number: u32) -> [u8; 1024] {

@@ -167,7 +167,7 @@ module _ {K : Type 0} where
           found = k.found;
           distinct = k.distinct;
           room = k.room;
-          free = all_from (IsFree table (items_of chain most)) (IsFree now (items_of chain most)) (λ p f. record { no_item = f.no_item; no_key = same p ∙ f.no_key }) (all_free most (vec_len chain.links) free) k.free;
+          are_free = all_from (IsFree table (items_of chain most)) (IsFree now (items_of chain most)) (λ p f. record { no_item = f.no_item; no_key = same p ∙ f.no_key }) (all_free most (vec_len chain.links) free) k.are_free;
           apart = k.apart;
         });
         there = omega (arith, next, more);
@@ -209,7 +209,7 @@ module _ {K : Type 0} {eq : K → K → Bool} (laws : IsEquivalence eq) (same : 
       → IsKept eq scatter now new front most (items ++ (place, (key, slot)) ∷ [])
   kept_put table now chain new front place most items key slot k absent filed others chained =
       let item : ℕ × (K × ℕ) = (place, (key, slot)) in
-      let free = all_last (IsFree table items) front place k.free in
+      let free = all_last (IsFree table items) front place k.are_free in
       let more : length (items ++ item ∷ []) ≡ length items + 1 = length-append items (item ∷ []) in
       let fewer : length (front ++ place ∷ []) ≡ length front + 1 = length-append front (place ∷ []) in
       record {
@@ -220,10 +220,10 @@ module _ {K : Type 0} {eq : K → K → Bool} (laws : IsEquivalence eq) (same : 
         found = λ q. place_put laws same scatter k.chains key k.filed.some place q ∙ ap (cond (eq key q) (Some place)) (k.found q) ∙ sym (ap (lookup (eq q)) (places_append items (item ∷ [])) ∙ found_put laws (places_in items) key place (none_placed (eq key) items absent) q);
         distinct = subst (λ l. IsDistinct eq (keys_of l)) (sym (pairs_append items (item ∷ []))) (distinct_put laws (pairs_in items) key slot absent k.distinct);
         room = omega (arith, k.room, more, fewer);
-        free = all_both (λ other. nat_eq place other ≡ false) (IsFree table items) (IsFree now (items ++ item ∷ [])) (λ other a f. record {
+        are_free = all_both (λ other. nat_eq place other ≡ false) (IsFree table items) (IsFree now (items ++ item ∷ [])) (λ other a f. record {
           no_item = found_put nat_eq_equiv items place (key, slot) free.no_item other ∙ ap (λ b. cond b (Some (key, slot)) (lookup (nat_eq other) items)) a ∙ f.no_item;
           no_key = others other a ∙ f.no_key;
-        }) front (apart_last front place k.apart) (all_before _ front (place ∷ []) k.free);
+        }) front (apart_last front place k.apart) (all_before _ front (place ∷ []) k.are_free);
         apart = apart_before front place k.apart;
       }
 
@@ -243,7 +243,7 @@ module _ {K : Type 0} {eq : K → K → Bool} (laws : IsEquivalence eq) (same : 
       let others = all_from (IsFree table items) (λ other. nat_eq place other ≡ false) (λ other f. (elim (nat_eq place other) as (λ y. nat_eq place other ≡ y → y ≡ false) [
         | true ↦ λ t. let here : lookup (nat_eq place) items ≡ None = ap (λ p. lookup (nat_eq p) items) (eqb-true place other t) ∙ f.no_item in cc
         | false ↦ λ t. refl
-      ]) refl) free k.free in
+      ]) refl) free k.are_free in
       record {
         chains = taken_out eq scatter k.chains key;
         filed = filed;
@@ -252,10 +252,10 @@ module _ {K : Type 0} {eq : K → K → Bool} (laws : IsEquivalence eq) (same : 
         found = λ q. place_taken laws same scatter k.chains key k.filed.some (k.filed.distinct (bucket_of eq scatter k.chains key)) q ∙ ap (cond (eq key q) None) (k.found q) ∙ sym (ap (lookup (eq q)) (places_removed (eq key) place items agrees) ∙ found_removed laws (places_in items) key placed q);
         distinct = subst (λ l. IsDistinct eq (keys_of l)) (sym (pairs_removed (eq key) place items agrees)) (distinct_removed (eq key) eq (pairs_in items) k.distinct);
         room = omega (arith, k.room, shorter, longer);
-        free = all_push _ free place (all_both (λ other. nat_eq place other ≡ false) (IsFree table items) (IsFree now rest) (λ other a f. record {
+        are_free = all_push _ free place (all_both (λ other. nat_eq place other ≡ false) (IsFree table items) (IsFree now rest) (λ other a f. record {
           no_item = gone other ∙ ap (λ b. cond b None (lookup (nat_eq other) items)) a ∙ f.no_item;
           no_key = still other f.no_key;
-        }) free others k.free) (record { no_item = gone place ∙ ap (λ b. cond b None (lookup (nat_eq place) items)) (nat_eq_equiv.refl place); no_key = freed });
+        }) free others k.are_free) (record { no_item = gone place ∙ ap (λ b. cond b None (lookup (nat_eq place) items)) (nat_eq_equiv.refl place); no_key = freed });
         apart = apart_push free place k.apart others;
       }
 
@@ -277,7 +277,7 @@ module _ {K : Type 0} {eq : K → K → Bool} (laws : IsEquivalence eq) (same : 
         found = λ q. k.found q ∙ sym (ap (lookup (eq q)) (places_touched (eq key) place items agrees) ∙ touched_found laws same (places_in items) key place placed (sym (k.found key) ∙ there) q);
         distinct = subst (λ l. IsDistinct eq (keys_of l)) (sym (pairs_touched (eq key) place items agrees)) (distinct_touched laws same (pairs_in items) key slot k.distinct slot_is);
         room = omega (arith, k.room, long);
-        free = all_from (IsFree table items) (IsFree table (touched (nat_eq place) items)) (λ other f. record { no_item = as_before other ∙ f.no_item; no_key = f.no_key }) free k.free;
+        are_free = all_from (IsFree table items) (IsFree table (touched (nat_eq place) items)) (λ other f. record { no_item = as_before other ∙ f.no_item; no_key = f.no_key }) free k.are_free;
         apart = k.apart;
       }
 
@@ -328,7 +328,7 @@ kept_empty {K} eq scatter table chain free most none filed chained links nodes =
   found = λ q. ap (lookup (eq q)) (nothing_in {X = K × ℕ} (most / 8 + 1) (bucket_of eq scatter (no_chains (most / 8 + 1)) q));
   distinct = tt;
   room = omega (arith, ap length all_are, length-falling most 0);
-  free = subst (AllByRecursion (IsFree table [])) (sym all_are) (each_free (falling most 0));
+  are_free = subst (AllByRecursion (IsFree table [])) (sym all_are) (each_free (falling most 0));
   apart = subst AreApart (sym all_are) (falling_apart most 0);
 }
   where

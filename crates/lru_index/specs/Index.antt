@@ -51,7 +51,7 @@ module _ {K : Type 0} where
     pub found : (key : K) → place_of eq scatter chains key ≡ lookup (eq key) (places_in items)
     pub distinct : IsDistinct eq (keys_of (pairs_in items))
     pub room : length free + length items ≡ most
-    pub free : AllByRecursion (IsFree table items) free
+    pub are_free : AllByRecursion (IsFree table items) free
     pub apart : AreApart free
 
   -- The items that the chain has are kept; the chain and the table of keys have as many places as were made.

@@ -14,11 +14,11 @@ pub trait Key: Ord + Copy {
     /// A number that keys rarely share, however alike they are.
     ghost scatter: { Self → ℕ };
 
-    ghost same: { (a b : Self) → Self.eq a b ≡ true → a ≡ b };
-
     /// The number of a key.
     fn scattered(&self) -> u64
         ensures { result ≡ scatter self.now };
+
+    ghost same: { (a b : Self) → Self.eq a b ≡ true → a ≡ b };
 }
 
 impl Key for u64 {

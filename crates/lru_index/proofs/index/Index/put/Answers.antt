@@ -32,7 +32,7 @@ add-requires-clause-within g c = c.free_place-place.ensures.there
 pub add-requires-clause-free : goal.add-requires-clause-free
 add-requires-clause-free g c =
     let kept = c.free_place-place.ensures.kept in
-    kept.chained.others c.free_place-place.result (all_last _ (all_free c.self.inside.capacity (vec_len c.free_place-place.new.chain.links) c.free_place-place.new.free.items) c.free_place-place.result kept.free).no_item
+    kept.chained.others c.free_place-place.result (all_last _ (all_free c.self.inside.capacity (vec_len c.free_place-place.new.chain.links) c.free_place-place.new.free.items) c.free_place-place.result kept.are_free).no_item
 
 -- the pair stands last, at the place that was free
 now_seen : (g : _) (c : goal.After-add g) → IsSeen g.K.PartialEq.eq g.K.Key.scatter c.put.new.self c.add.new.self c.free_place-place.new.free.items (vec_capacity c.free_place-place.new.free) c.self.inside.capacity (items_of c.self.inside.chain c.self.inside.capacity ++ (c.free_place-place.result, (c.args.key, c.args.slot)) ∷ [])
@@ -46,7 +46,7 @@ now_seen g c =
     let chain = c.free_place-place.new.chain in
     let free = c.free_place-place.new.free.items in
     let links = c.add.ensures.places in
-    let none = (all_last _ (all_free most (vec_len chain.links) free) place kept.free).no_key in
+    let none = (all_last _ (all_free most (vec_len chain.links) free) place kept.are_free).no_key in
     let filed = c.put.ensures.put kept.chains kept.filed none (place_absent g.K.PartialEq.eq g.K.Key.scatter table chain (all_free most (vec_len chain.links) free ++ place ∷ []) most items c.args.key kept (absent g c))
     (keys_fit g.K.PartialEq.eq g.K.Key.scatter table chain free most place items at.within at.places kept) in
     let made = kept_put g.met.K.Eq.laws g.met.K.Key.same g.K.Key.scatter table c.put.new.self chain c.add.new.self (all_free most (vec_len chain.links) free) place most items c.args.key c.args.slot kept (absent g c) filed c.put.ensures.others (c.add.ensures.added items kept.chained) in
