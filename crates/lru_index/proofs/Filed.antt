@@ -314,3 +314,27 @@ module _ {K : Type 0} {eq : K → K → Bool} (laws : IsEquivalence eq) (same : 
       rest_strung : (at : ℕ → Option (Node K)) (front back : List (K × ℕ)) → AreStrung at (front ++ back) → AreStrung at back
       rest_strung at [] back s = s
       rest_strung at (f ∷ front) back s = rest_strung at front back s.1
+
+  -- at the place that was found stands a node
+  pub sought_stands : (table : Buckets K) (chains : List (List (K × ℕ))) (bucket : ℕ) (key : K) → AreFiled eq scatter table chains → (found : Found) (place : ℕ) → IsSought eq (in_bucket chains bucket) key found → found.place ≡ Some place → node_at table.nodes.items place ≡ None → ⊥
+  sought_stands table chains bucket key filed found place s there none = by_case s.back refl
+    where
+      no_first : None ≡ Some place → ⊥
+      no_first e = cc
+
+      some_same : {a b : ℕ} → Some a ≡ Some b → a ≡ b
+      some_same e = cc
+
+      no_node : (n : Node K) → Some n ≡ None → ⊥
+      no_node n e = cc
+
+      behind : (at : ℕ → Option (Node K)) (front back : List (K × ℕ)) → AreStrung at (front ++ back) → AreStrung at back
+      behind at [] back h = h
+      behind at (f ∷ front) back h = behind at front back h.1
+
+      by_case : (back : List (K × ℕ)) → s.back ≡ back → ⊥
+      by_case [] is = no_first (sym (s.place ∙ ap first_place is) ∙ there)
+      by_case (p ∷ back) is =
+          let at_p : p.1 ≡ place = some_same (sym (s.place ∙ ap first_place is) ∙ there) in
+          let mine = (behind (node_at table.nodes.items) s.front (p ∷ back) (subst (AreStrung (node_at table.nodes.items)) (s.is ∙ ap (λ l. s.front ++ l) is) (filed.strung bucket))).0 in
+          no_node _ (sym mine ∙ ap (node_at table.nodes.items) at_p ∙ none)

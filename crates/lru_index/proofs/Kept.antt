@@ -308,14 +308,10 @@ module _ {K : Type 0} {eq : K → K → Bool} (laws : IsEquivalence eq) where
   coldest_there None ps = first_there ps
   coldest_there (Some q) ps = warmer_there q ps
 
--- Whether there is room for one more: no place is free, and all are made.
-pub full : (b : Bool) (free made pairs most : ℕ) → b ≡ (nat_eq free 0 && nat_eq made most) → made ≤ most → most - made + free + pairs ≡ most → MatchBool b (most ≡ pairs) (pairs < most)
-full b free made pairs most e within room = by_case (nat_eq free 0) (nat_eq made most) refl refl
-  where
-    by_case : (x y : Bool) → nat_eq free 0 ≡ x → nat_eq made most ≡ y → MatchBool b (most ≡ pairs) (pairs < most)
-    by_case true true f m = let none : free ≡ 0 = eqb-true free 0 f in let all : made ≡ most = eqb-true made most m in subst (λ c. MatchBool c (most ≡ pairs) (pairs < most)) (sym (e ∙ ap (λ x. x && nat_eq made most) f ∙ m)) (omega (arith, none, all, room))
-    by_case true false f m = let fewer : made ≢ most = λ same. false≢true (sym m ∙ ap (λ n. nat_eq made n) (sym same) ∙ nat_eq_equiv.refl made) in subst (λ c. MatchBool c (most ≡ pairs) (pairs < most)) (sym (e ∙ ap (λ x. x && nat_eq made most) f ∙ m)) (omega (arith, fewer, within, room))
-    by_case false y f m = let some : free ≢ 0 = λ z. false≢true (sym f ∙ ap (λ n. nat_eq n 0) z) in subst (λ c. MatchBool c (most ≡ pairs) (pairs < most)) (sym (e ∙ ap (λ x. x && nat_eq made most) f)) (omega (arith, some, within, room))
+-- whether there is room for one more, by whether a place is left
+pub full : (b : Bool) (free made pairs most : ℕ) → MatchBool b ((free ≡ 0) × (made ≡ most)) (made < most + free) → made ≤ most → most - made + free + pairs ≡ most → MatchBool b (most ≡ pairs) (pairs < most)
+full true free made pairs most h within room = omega (arith, h.0, h.1, room)
+full false free made pairs most h within room = omega (arith, h, within, room)
 
 -- an index with no pair
 pub kept_empty : {K : Type 0} (eq : K → K → Bool) (scatter : K → ℕ) (table : Buckets K) (chain : Chain (K × ℕ)) (free : List ℕ) (most : ℕ) → free ≡ [] → AreFiled eq scatter table (no_chains (most / 8 + 1)) → IsChain chain [] → vec_len chain.links ≡ 0 → vec_len table.nodes ≡ 0 → IsKept eq scatter table chain (all_free most (vec_len chain.links) free) most []

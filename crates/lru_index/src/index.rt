@@ -1,6 +1,6 @@
 //! `Index` and its calls. A clause sees an index as its `pairs`, the coldest first, and its
 //! `capacity`.
-ghost use Rattle.std.specs.Prelude.{◌≡◌, ◌<◌, [], ◌∷◌, ◌++◌, length, Some, None, IfOk, IfSome, IsSome, cond, vec_capacity};
+ghost use Rattle.std.specs.Prelude.{◌≡◌, ◌+◌, ◌<◌, ◌≤◌, [], ◌∷◌, ◌++◌, length, Some, None, IfOk, IfSome, IsSome, cond, vec_len, vec_capacity};
 ghost use Rattle.std.specs.Bool.{MatchBool};
 ghost use Rattle.std.specs.Option.{ForSome, option_map};
 ghost use Rattle.std.specs.Map.{lookup, remove_entry};
@@ -75,10 +75,7 @@ impl<K: Key> Index<K> {
         ensures { MatchBool result (self.now.capacity ≡ length self.now.pairs)
             (length self.now.pairs < self.now.capacity) }
     {
-        if !self.free.is_empty() {
-            return false;
-        }
-        self.chain.places() == self.capacity as usize
+        none_left(self.chain.places(), &self.free, self.capacity)
     }
 
     /// The slot of a key, or None where it is absent.
@@ -174,6 +171,14 @@ impl<K: Key> Index<K> {
             },
         }
     }
+}
+
+/// Whether none is free of so many places that are made, and no more may be made.
+fn none_left(made: usize, free: &Vec<u32>, most: u32) -> bool
+    requires { made ≤ most }
+    ensures { MatchBool result ((vec_len free.now ≡ 0) × (made ≡ most)) (made < most + vec_len free.now) }
+{
+    free.is_empty() && made == most as usize
 }
 
 /// A place of the table of keys and of the chain that is free: one that was used before, or where there is none a new one of both.
