@@ -148,7 +148,7 @@ impl<K: Key> Buckets<K> {
                     place: None,
                 };
             };
-            if node.key == *key {
+            if node.key.cmp(key).is_eq() {
                 return Found { before, place: at };
             }
             before = at;
