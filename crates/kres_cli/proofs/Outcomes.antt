@@ -10,7 +10,7 @@ use Rattle.posix_defs.specs.Generated.{generated}
 use Rattle.posix_defs.specs.Lines.{fault_line}
 use Rattle.posix_defs.specs.ScriptText.{ReadsText, reads, too_long}
 use Rattle.calls_built.specs.Built.{can_run}
-use Rattle.store_objects.specs.Standing.{StoreView}
+use Rattle.call_run.specs.Stores.{StoreView}
 use Rattle.unbuilt_lines.specs.Unbuilt.{IsUnbuiltLine}
 use Rattle.run_report.specs.Reports.{IsReport}
 use Rattle.run_report.specs.Summaries.{IsSummary}

@@ -7,16 +7,16 @@ invariant_of-self g c = c.evict.ensures.kept c.self.inside.script c.self.invaria
 
 pub evict-requires : goal.evict-requires
 evict-requires g c =
-    let some = c.requires in (c.self.inside.script, some.0, subst (λ store. IsStoreOf store.script store.objects some.0) (sym c.self.view_is) some.1)
+    let some = c.requires in (c.self.inside.script, some.0, subst (λ store. IsStoreOf store.script store.objects some.0) (sym c.self.view_is) some.1.objects)
 
 pub returns-clause-evicted : goal.returns-clause-evicted
-returns-clause-evicted g c = λ world stands can. c.evict.ensures.evicted c.self.inside.script world (subst (λ store. IsStoreOf store.script store.objects world) (sym c.self.view_is) stands) can
+returns-clause-evicted g c = λ world stands can. c.evict.ensures.evicted c.self.inside.script world (subst (λ store. IsStoreOf store.script store.objects world) (sym c.self.view_is) stands.objects) can
 
 pub returns-clause-kept : goal.returns-clause-kept
-returns-clause-kept g c = λ world stands none. c.evict.ensures.same c.self.inside.script world (subst (λ store. IsStoreOf store.script store.objects world) (sym c.self.view_is) stands) none
+returns-clause-kept g c = λ world stands none. c.evict.ensures.same c.self.inside.script world (subst (λ store. IsStoreOf store.script store.objects world) (sym c.self.view_is) stands.objects) none
 
 pub returns-clause-high : goal.returns-clause-high
-returns-clause-high g c = λ world stands. c.evict.ensures.high c.self.inside.script world (subst (λ store. IsStoreOf store.script store.objects world) (sym c.self.view_is) stands)
+returns-clause-high g c = λ world stands. c.evict.ensures.high c.self.inside.script world (subst (λ store. IsStoreOf store.script store.objects world) (sym c.self.view_is) stands.objects)
 
 pub returns-clause-since : goal.returns-clause-since
-returns-clause-since g c = λ world stands. c.evict.ensures.since c.self.inside.script world (subst (λ store. IsStoreOf store.script store.objects world) (sym c.self.view_is) stands)
+returns-clause-since g c = λ world stands. c.evict.ensures.since c.self.inside.script world (subst (λ store. IsStoreOf store.script store.objects world) (sym c.self.view_is) stands.objects)

@@ -6,15 +6,15 @@ use Rattle.call_run.proofs.store.StoreTurner.ready.Goals as goal
 
 pub returns : goal.returns
 returns g c = λ world stands alive.
-    let at : StandsFor c.self.inside.script c.self.inside.objects world = subst (λ store. StandsFor store.script store.objects world) (sym c.self.view_is) stands.stands in
+    let at : StandsFor c.self.inside.script c.self.inside.objects world = subst (λ store. StandsFor store.script store.objects world) (sym c.self.view_is) stands.objects.stands in
     ap not (c.would_block.ensures c.self.inside.script world at (call_of c.self.inside.script world.plain c.args.pid)
     (c.waits_for-wait.ensures world at alive))
     ∙ ap (λ store. not (would_block store.script world.plain c.args.pid)) c.self.view_is
 
 pub waits_for-wait-requires : goal.waits_for-wait-requires
 waits_for-wait-requires g c =
-    let some = c.requires in (some.0, subst (λ store. StandsFor store.script store.objects some.0) (sym c.self.view_is) some.1.stands, some.2)
+    let some = c.requires in (some.0, subst (λ store. StandsFor store.script store.objects some.0) (sym c.self.view_is) some.1.objects.stands, some.2)
 
 pub would_block-requires : goal.would_block-requires
 would_block-requires g c =
-    let some = c.requires in (c.self.inside.script, some.0, subst (λ store. StandsFor store.script store.objects some.0) (sym c.self.view_is) some.1.stands, some.2)
+    let some = c.requires in (c.self.inside.script, some.0, subst (λ store. StandsFor store.script store.objects some.0) (sym c.self.view_is) some.1.objects.stands, some.2)
