@@ -1,5 +1,5 @@
 -- A place of which nothing is known tells nothing.
-use Rattle.std.proofs.Common.{◌≡◌, ℕ, List, [], ◌∷◌, ◌++◌, Option, None, Some, slice_get, zero, suc, refl}
+use Rattle.std.proofs.Common.{◌≡◌, ℕ, List, [], ◌∷◌, ◌++◌, Option, None, slice_get, zero, suc, refl}
 use Rattle.call_run.specs.Sleepers.{told_at, told_in}
 use Rattle.call_run.specs.declared.sleepers.Told.{Told}
 

@@ -2,7 +2,8 @@
 use Rattle.std.proofs.Math.Nat.{eq-or-lt_of_le}
 use Rattle.std.proofs.lemmas.Bool.Decides.{eqb_tells}
 use Rattle.std.proofs.lemmas.Option.{slice_get_past}
-use Rattle.std.proofs.Common.{◌≡◌, ◌≢◌, ◌⊎◌, inl, inr, ℕ, ◌+◌, ◌%◌, ◌<◌, ◌≤◌, ◌==◌, Bool, true, false, List, Option, None, Some, length, slice_get, ap, arith, refl, subst, sym, ◌∙◌}
+use Rattle.std.proofs.Common.{◌≡◌, ◌≢◌, ◌⊎◌, inl, inr, ℕ, ◌+◌, ◌%◌, ◌<◌, ◌≤◌, ◌==◌, Bool, true, false, List, [], ◌∷◌, Option, None, Some, length, slice_get, ap, arith, refl, subst, sym, ◌∙◌}
+use Rattle.std.specs.List.{refill}
 use Rattle.std.specs.Prelude.{if◌then◌else◌, slice_set}
 use Rattle.kabi_calls.specs.declared.calls.Call.{Call}
 use Rattle.kabi_calls.specs.declared.calls.Call.TheVariants as call
@@ -22,6 +23,13 @@ use Rattle.store_objects.specs.Standing.{StandsFor}
 use Rattle.call_run.specs.Sleepers.{AreTold, IsTrulyTold, told_at, told_in, wakes_nobody}
 use Rattle.call_run.specs.declared.sleepers.Told.{Told}
 use Rattle.call_run.proofs.Waking.{blocks_still}
+
+-- as many as there are in their place are just these
+pub all_refilled : {X : Type 0} (xs ws : List X) → length ws ≡ length xs → refill (length xs) xs ws ≡ ws
+all_refilled [] [] e = refl
+all_refilled (x ∷ xs) [] e = absurd (omega (arith, e))
+all_refilled [] (w ∷ ws) e = absurd (omega (arith, e))
+all_refilled (x ∷ xs) (w ∷ ws) e = ap (λ rest. w ∷ rest) (all_refilled xs ws (omega (arith, e)))
 
 -- ---- a look at all
 

@@ -16,7 +16,7 @@ use Rattle.answer_laws.proofs.Blocking.{blocked_may}
 use Rattle.kern_laws.proofs.TablePlaces.{get_set_other}
 use Rattle.posix_defs.specs.Answer.{Answer, Blocked, failed, replied}
 use Rattle.posix_defs.specs.ByPid.{at_pid, with_pid}
-use Rattle.posix_defs.specs.Calls.OnSockets.{accept, accept_at, accepted_under, socket_target}
+use Rattle.posix_defs.specs.Calls.OnSockets.{accept, accepted_under, socket_target}
 use Rattle.posix_defs.specs.Calls.Opened.{Opened, answer_on, opened_at}
 use Rattle.posix_defs.specs.Calls.Polling.{hits_of, poll, polled, revents_of}
 use Rattle.posix_defs.specs.Calls.Reading.{is_directory_target, of_bytes, read, read_from_pipe, read_from_socket, read_target, unless_directory}
@@ -24,7 +24,7 @@ use Rattle.posix_defs.specs.Calls.Writing.{bytes_left, did_part, put_in_socket, 
 use Rattle.posix_defs.specs.Control as program
 use Rattle.posix_defs.specs.Files.Descriptions.{Target, OnNode, OnPipe, OnSocket, may_read, may_write}
 use Rattle.posix_defs.specs.Files.State.{Files}
-use Rattle.posix_defs.specs.Machine.{answer_to, blocks, machine, unless_wrong, would_block}
+use Rattle.posix_defs.specs.Machine.{blocks, machine, unless_wrong, would_block}
 use Rattle.posix_defs.specs.Memory.{is_mapped_range}
 use Rattle.posix_defs.specs.Pipe.{Moving, Moves, Blocks, Fails}
 use Rattle.posix_defs.specs.Plain.{Plain, at_start, call_of, with_control, with_files}

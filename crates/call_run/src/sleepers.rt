@@ -57,11 +57,11 @@ pub fn note(known: &mut ArrayVec<Option<Told>, 64>, pid: u32)
 }
 
 /// Nothing is known of a process any more.
-pub fn forget(known: &mut [Option<Told>], pid: u32)
-    ensures gone { told_in known.new pid ≡ None }
-    ensures others { (other : ℕ) → other ≢ pid → told_in known.new other ≡ told_in known.old other }
+pub fn forget(known: &mut ArrayVec<Option<Told>, 64>, pid: u32)
+    ensures gone { told_in known.new.items pid ≡ None }
+    ensures others { (other : ℕ) → other ≢ pid → told_in known.new.items other ≡ told_in known.old.items other }
 {
-    if find(known, pid).is_some() {
+    if find(known.as_slice(), pid).is_some() {
         known[place_of(pid)] = None;
     }
 }
@@ -89,9 +89,9 @@ fn look_at(script: &Script, objects: &Objects, pid: u32) -> Option<Told>
 }
 
 /// Looks again at all of which something is known.
-pub fn look_again(script: &Script, objects: &Objects, known: &mut [Option<Told>])
+pub fn look_again(script: &Script, objects: &Objects, known: &mut ArrayVec<Option<Told>, 64>)
     requires { (world : World) × StandsFor script.now objects.now world }
-    ensures { (world : World) → StandsFor script.now objects.now world → AreTold script.now world.plain known.new }
+    ensures { (world : World) → StandsFor script.now objects.now world → AreTold script.now world.plain known.new.items }
 {
     for place in 0..known.len() {
         if let Some(it) = known[place] {
@@ -126,9 +126,9 @@ pub fn keep_in_mind(
     if matches!(turned, Turned::Sleep) {
         return note(known, pid);
     }
-    forget(known.as_mut_slice(), pid);
+    forget(known, pid);
     if !wakes_nobody(call) {
-        look_again(script, objects, known.as_mut_slice());
+        look_again(script, objects, known);
         trim(known);
     }
 }

@@ -124,7 +124,7 @@ impl<F: Scorer, G: Scorer> Turner for Store<F, G> {
 
     fn refuse(&mut self, pid: u32) {
         turns::refuse(&self.script, &mut self.objects, pid);
-        sleepers::forget(self.known.as_mut_slice(), pid);
+        sleepers::forget(&mut self.known, pid);
     }
 
     fn ready(&self, pid: u32) -> bool {
@@ -149,8 +149,7 @@ impl<F: Scorer, G: Scorer> Turner for Store<F, G> {
 
     fn kill(&mut self, pid: u32) {
         turns::kill(&mut self.objects, pid);
-        let known = self.known.as_mut_slice();
-        sleepers::look_again(&self.script, &self.objects, known);
+        sleepers::look_again(&self.script, &self.objects, &mut self.known);
     }
 
     fn alive(&self, pid: u32) -> bool {
