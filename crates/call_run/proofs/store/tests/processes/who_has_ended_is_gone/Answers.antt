@@ -1,4 +1,5 @@
 use Rattle.std.proofs.Common.{◌≡◌, ◌+◌, ◌≤◌, ◌∙◌, true, false, subst, sym, arith}
+use Rattle.kabi_calls.specs.declared.calls.Call.TheVariants.{Fork}
 use Rattle.posix_defs.specs.Needs.{bound}
 use Rattle.posix_defs.specs.Sizes.{reserve}
 use Rattle.posix_defs.specs.World.{live_of}
@@ -19,5 +20,5 @@ turn-turned-requires-clause-may g c =
       some.0,
       some.1,
       (λ alive. never (sym alive ∙ sym (c.alive.ensures some.0 some.1) ∙ over)),
-      subst (λ store. live_of some.0 + bound c.call + reserve ≤ store.script.heap) c.store.view_is (omega arith),
+      subst (λ store. live_of some.0 + bound Fork + reserve ≤ store.script.heap) c.store.view_is (omega arith),
     )
