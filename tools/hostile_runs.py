@@ -1,10 +1,11 @@
 #!/usr/bin/env python3
-"""Runs hostile scripts: tools/hostile_runs.py KRES JUDGE SEED COUNT [CALLS..]
+"""Runs scripts before a judge: tools/hostile_runs.py [-r] KRES JUDGE SEED COUNT [CALLS..]
 
-Runs the built program KRES on COUNT of the scripts of tools/hostile_scripts.py, from SEED on, by `sim` and each fourth by
-`threads 3` too, and looks at what came of each: the status is the one of the report's end line, or 1 with the line of a
-fault; and JUDGE SCRIPT REPORT, a program that knows the machine by itself, prints `legal`. Scripts that call what isn't built
-are counted apart. Tells each that isn't right with its number, and ends with 1 where there is one.
+Runs the built program KRES on COUNT of the scripts of tools/hostile_scripts.py, from SEED on, or with -r on those of
+tools/random_scripts.py, by `sim` and each fourth by `threads 3` too, and looks at what came of each: the status is the one of
+the report's end line, or 1 with the line of a fault; and JUDGE SCRIPT REPORT, a program that knows the machine by itself,
+prints `legal`. Scripts that call what isn't built are counted apart. Tells each that isn't right with its number, how the runs
+ended, and what the calls were answered, and ends with 1 where one isn't right. JOBS runs stand side by side, 2 without it.
 """
 import collections
 import os
@@ -16,8 +17,10 @@ from concurrent.futures import ThreadPoolExecutor
 
 import hostile_scripts
 import random_scripts
+import reply_counts
 
 SIDE_BY_SIDE = int(os.environ.get("JOBS", "2"))
+LONGEST = 120  # seconds of a run, and of its judgement
 STATUSES = {"finished": 0, "starved": 3, "asleep": 4, "spent": 5}
 FAULT = re.compile(r"bad script: line \d+: ([a-z0-9 -]+)\n")
 END = re.compile(r"end (\w+) ")
@@ -35,50 +38,69 @@ def wanted_status(report):
 
 
 class Runner:
-    def __init__(self, kres, judge, calls, folder):
-        self.kres, self.judge, self.calls, self.folder = kres, judge, calls, folder
+    def __init__(self, kres, judge, script, calls, folder):
+        self.kres, self.judge, self.script, self.calls, self.folder = kres, judge, script, calls, folder
+
+    def judged(self, name, words):
+        """How a run ended, what is wrong with it, if anything is, and its report."""
+        with open(f"{name}.kres", "rb") as text, open(f"{name}.out", "wb") as report:
+            status = subprocess.run([self.kres, *words], stdin=text, stdout=report, timeout=LONGEST).returncode
+        with open(f"{name}.out", encoding="utf-8", errors="replace") as file:
+            report = file.read()
+        wanted, how = wanted_status(report)
+        if status != wanted:
+            return how, f"status {status}, and {wanted} goes with its report", report
+        if how == "not built":
+            return how, None, report
+        ran = subprocess.run([self.judge, f"{name}.kres", f"{name}.out", words[0]], capture_output=True, text=True, timeout=LONGEST)
+        said = ran.stdout.strip()
+        return how, None if said == "legal" else said or ran.stderr[-300:], report
 
     def run(self, number, words):
-        """How a run ended, and what is wrong with it, if anything is."""
+        """How a run ended, what is wrong with it, if anything is, and what its calls were answered."""
         name = f"{self.folder}/{number}.{words[0]}"
         with open(f"{name}.kres", "wb") as file:
-            file.write(hostile_scripts.script(number, self.calls))
-        with open(f"{name}.kres", "rb") as text, open(f"{name}.out", "wb") as report:
-            status = subprocess.run([self.kres, *words], stdin=text, stdout=report, timeout=60).returncode
-        with open(f"{name}.out", encoding="utf-8", errors="replace") as file:
-            wanted, how = wanted_status(file.read())
-        if status != wanted:
-            return how, f"status {status}, and {wanted} goes with its report"
-        if how == "not built":
-            return how, None
-        said = subprocess.run([self.judge, f"{name}.kres", f"{name}.out", words[0]], capture_output=True, text=True).stdout.strip()
-        if said != "legal":
-            return how, said
+            file.write(self.script(number, self.calls))
+        try:
+            how, why, report = self.judged(name, words)
+        except subprocess.TimeoutExpired as late:
+            how, why, report = "late", f"{late.cmd[0]} took more than {LONGEST} seconds", ""
         for kind in ("kres", "out"):
             os.remove(f"{name}.{kind}")
-        return how, None
+        return how, why, reply_counts.counts_of(report)
 
     def runs_of(self, number):
         ways = [["sim"]] + [["threads", "3"]] * (number % 4 == 1)
         return [(number, words, *self.run(number, words)) for words in ways]
 
 
+def run_all(runner, numbers):
+    """Runs the scripts of these numbers, tells of each that isn't right, and counts."""
+    ends, replies, wrong = collections.Counter(), collections.Counter(), 0
+    with ThreadPoolExecutor(SIDE_BY_SIDE) as pool:
+        for number, way, how, why, counts in (it for runs in pool.map(runner.runs_of, numbers) for it in runs):
+            ends[f"{way[0]} {how}"] += 1
+            replies += counts
+            if why is not None:
+                wrong += 1
+                print(f"{number} {' '.join(way)}: {why}", flush=True)
+    return ends, replies, wrong
+
+
 def main(words):
+    make = hostile_scripts.script
+    if words[:1] == ["-r"]:
+        make, words = random_scripts.script, words[1:]
     if len(words) < 4 or not all(it.isdigit() for it in words[2:4]):
         print(__doc__.split("\n")[0])
         return 2
     seed, count = int(words[2]), int(words[3])
-    calls = random_scripts.calls_of(words[4:] or ["memory", "pipes", "paths"])
-    counts, wrong = collections.Counter(), 0
-    with tempfile.TemporaryDirectory() as folder, ThreadPoolExecutor(SIDE_BY_SIDE) as pool:
-        runner = Runner(os.path.abspath(words[0]), os.path.abspath(words[1]), calls, folder)
-        for runs in pool.map(runner.runs_of, range(seed, seed + count)):
-            for number, way, how, why in runs:
-                counts[f"{way[0]} {how}"] += 1
-                if why is not None:
-                    wrong += 1
-                    print(f"{number} {' '.join(way)}: {why}", flush=True)
-    print(", ".join(f"{how} {n}" for how, n in sorted(counts.items())), f"of which wrong {wrong}")
+    calls = random_scripts.calls_of(words[4:] or ["all"])
+    with tempfile.TemporaryDirectory() as folder:
+        runner = Runner(os.path.abspath(words[0]), os.path.abspath(words[1]), make, calls, folder)
+        ends, replies, wrong = run_all(runner, range(seed, seed + count))
+    print("\n".join(reply_counts.lines_of(replies)))
+    print(", ".join(f"{how} {n}" for how, n in sorted(ends.items())), f"of which wrong {wrong}")
     return 1 if wrong else 0
 
 

@@ -7,7 +7,6 @@ evicted and killed, and with every policy and way to choose. Of four scripts one
 goes, comes twice or changes places, a word becomes another or a number on the edge of what is allowed, a few bytes
 change, or the text is cut. Such a text mostly has a fault, and has to be told it.
 """
-import os
 import random
 import sys
 
@@ -20,15 +19,10 @@ WORDS = ["init", "r0", "r15", "r16", "exit", "fork", "label", "loop", "end", "pr
 
 def settings(rng):
     """A small heap, and each policy and way to choose in its turn."""
-    lines = [f"heap {rng.choice(HEAPS)}", f"steps {rng.choice([60, 200, 400, 1000])}"]
-    lines += [f"disk {rng.choice([16, 17, 32])}"] * (rng.random() < 0.3)
+    lines = [f"heap {rng.choice(HEAPS)}", f"steps {rng.choice([60, 200, 400, 1000, 3000])}"]
+    lines += [f"disk {rng.choice([16, 17, 32])}"] * (rng.random() < 0.6)
     lines.append(f"policy {rng.choice(['heaviest', 'youngest'])}")
-    how = rng.randrange(3)
-    if how == 1:
-        lines.append(f"seed {rng.randint(0, 2147483647)}")
-    elif how == 2:
-        lines.append("choices " + " ".join(str(rng.randint(0, 9)) for _ in range(rng.randint(1, 60))))
-    return lines
+    return lines + random_scripts.choosing(rng, rng.randrange(3))
 
 
 def other_word(rng, line):
@@ -61,11 +55,7 @@ def mutated(rng, text):
 def script(number, calls):
     """The text of a number, as bytes."""
     rng = random.Random(f"hostile {number}")
-    lines = settings(rng)
-    names = ["init"] + (["prog"] if "exec" in calls else [])
-    for name in names:
-        lines += [f"program {name}", *random_scripts.Program(rng, calls, names).body(rng.randint(4, 40)), "end"]
-    text = "\n".join(lines) + "\n"
+    text = "\n".join([*settings(rng), *random_scripts.programs(rng, calls)]) + "\n"
     if number % 4 == 3:
         for _ in range(rng.randint(1, 5)):
             text = mutated(rng, text)
@@ -76,12 +66,7 @@ def main(words):
     if len(words) < 3 or not all(it.isdigit() for it in words[1:3]):
         print(__doc__.split("\n")[0])
         return 2
-    folder, seed, count = words[0], int(words[1]), int(words[2])
-    calls = random_scripts.calls_of(words[3:] or ["memory", "pipes", "paths"])
-    os.makedirs(folder, exist_ok=True)
-    for number in range(seed, seed + count):
-        with open(f"{folder}/{number}.kres", "wb") as file:
-            file.write(script(number, calls))
+    random_scripts.write_all(words, script, ["all"])
     return 0
 
 

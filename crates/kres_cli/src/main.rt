@@ -23,6 +23,8 @@ mod tests_print;
 #[cfg(test)]
 mod tests_processes;
 #[cfg(test)]
+mod tests_shell;
+#[cfg(test)]
 mod tests_threads;
 #[cfg(test)]
 mod tests_words;

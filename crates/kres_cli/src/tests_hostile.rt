@@ -1,9 +1,9 @@
-//! Streams that fail at each of their calls, scripts that end before their time, and processes that are killed in each phase.
+//! Streams that fail at each of their calls, processes that are killed in each phase, and a read that the smallest heap refuses.
 
 use crate::statuses::Status;
 use crate::tests::{
-    NONE, Outcome, PID_REPORT, PID_SCRIPT, ROOM, Trouble, check, expect_answer, expect_answers,
-    outcome_of, outcome_over,
+    NONE, Outcome, PID_REPORT, PID_SCRIPT, ROOM, Trouble, check, expect_answers, outcome_of,
+    outcome_over,
 };
 use kabi_types::Memory;
 use kio_ports::{MemSink, MemSource};
@@ -96,41 +96,6 @@ fn a_sink_may_take_nothing(rt: HostRuntime) -> Result<(), Fail> {
     let right = outcome.status == Status::WriteFault && outcome.sink.bytes().is_empty();
     check(&rt, right, "a sink that takes nothing");
     Ok(())
-}
-
-/// Settings, a program that hands a line on to a child, and one that the child becomes.
-const WHOLE: &[&str] = &[
-    "heap 65536\n",
-    "steps 500\n",
-    "program init\n",
-    "r1 = mmap 4096\n",
-    "r2 r3 = pipe\n",
-    "r4 = fork\n",
-    "if r4 == 0 reader\n",
-    "r0 = store r1 \"a line\\n\"\n",
-    "r0 = write r3 r1 7\n",
-    "r0 r5 = waitpid r4 0\n",
-    "exit r5\n",
-    "label reader\n",
-    "exec \"/bin/reader\"\n",
-    "end\n",
-];
-
-/// Behind each of its lines but the last of its first program the script has no first program yet, or one that doesn't end.
-#[test]
-fn a_script_may_end_behind_each_line(rt: HostRuntime) -> Result<(), Fail> {
-    let mut text = Vec::new(rt.alloc());
-    for (number, line) in WHOLE.iter().enumerate() {
-        let wanted = if number < 3 {
-            "bad script: line 0: no init\n"
-        } else {
-            "bad script: line 3: unended\n"
-        };
-        expect_answer(&rt, "sim", text.as_slice(), Status::BadScript, wanted)?;
-        text.extend_from_slice(line.as_bytes())?;
-    }
-    let cut = "bad script: line 1: out of range\n";
-    expect_answer(&rt, "sim", b"heap 6", Status::BadScript, cut)
 }
 
 /// A script in which the first process kills its child, what its report has, and whether a call is abandoned: the child has made no
