@@ -23,8 +23,10 @@ would_block-requires c =
 
 pub returns : goal.returns
 returns c =
-    let lives : c.runs.result ≡ true = cc in
-    (refl, λ world stands.
-    let alive : is_alive world.plain.table c.args.pid ≡ true =
-    alive_is c.args.script.now c.args.objects.now world.plain c.args.pid stands.processes ∙ sym c.runs.ensures ∙ lives in
-    (alive, sym (c.would_block.ensures c.args.script.now world stands (call_of c.args.script.now world.plain c.args.pid) (c.waits_for-wait.ensures world stands alive))))
+    let lives : c.runs.result ≡ true = cc in (
+      refl,
+      λ world stands.
+          let alive : is_alive world.plain.table c.args.pid ≡ true =
+          alive_is c.args.script.now c.args.objects.now world.plain c.args.pid stands.processes ∙ sym c.runs.ensures ∙ lives in
+          (alive, sym (c.would_block.ensures c.args.script.now world stands (call_of c.args.script.now world.plain c.args.pid) (c.waits_for-wait.ensures world stands alive))),
+    )
