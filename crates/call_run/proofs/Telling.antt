@@ -10,14 +10,12 @@ use Rattle.kabi_calls.specs.declared.calls.Call.TheVariants as call
 use Rattle.kabi_types.specs.declared.scripts.Control.{Control}
 use Rattle.kabi_types.specs.declared.scripts.Script.{Script}
 use Rattle.kern_laws.proofs.TablePlaces.{below_or_not, get_set_other, get_set_same}
-use Rattle.posix_defs.specs.Answer.{Answer, Blocked, Done, Ended, Part}
-use Rattle.posix_defs.specs.Machine.{blocks, machine, would_block}
-use Rattle.posix_defs.specs.Plain.{Plain, call_of, with_control}
+use Rattle.posix_defs.specs.Machine.{machine, would_block}
+use Rattle.posix_defs.specs.Plain.{Plain, with_control}
 use Rattle.posix_defs.specs.Process.{is_alive}
 use Rattle.posix_defs.specs.Turn.{Tells, TurnsTo, TurnsWhere}
 use Rattle.posix_defs.specs.World.{World}
 use Rattle.posix_defs.specs.declared.turner.Turned.{Turned}
-use Rattle.posix_defs.specs.declared.turner.Turned.TheVariants as turned
 use Rattle.store_objects.specs.declared.objects.Objects.{Objects}
 use Rattle.store_objects.specs.Standing.{StandsFor}
 use Rattle.call_run.specs.Sleepers.{AreTold, IsTrulyTold, told_at, told_in, wakes_nobody}
@@ -97,56 +95,6 @@ all_told script known to plain out before pid does told alive = elim (below_or_n
   where
     never : None ≡ Some does → would_block script plain pid ≡ does
     never e = cc
-
--- ---- a call that sleeps
-
--- it would block, and nothing has changed
-record Slept (script : Script) (old new : World) (pid : ℕ) (which : Call) : Type 0 where
-  alive : is_alive old.plain.table pid ≡ true
-  same : new.plain ≡ old.plain
-  blocked : blocks (machine script old.plain pid which) ≡ true
-
-slept : (script : Script) (old new : World) (pid : ℕ) (which : Call) → TurnsTo script old pid which turned.Sleep new → Slept script old new pid which
-slept script old new pid which turns = by (is_alive old.plain.table pid) refl turns
-  where
-    told_so : (answer : Answer) → machine script old.plain pid which ≡ answer → is_alive old.plain.table pid ≡ true → Tells answer old.plain turned.Sleep new.plain
-        → Slept script old new pid which
-    told_so Blocked is lives tells = record { alive = lives; same = tells.1; blocked = ap blocks is }
-    told_so (Done reply next) is lives tells = absurd (let e : turned.Sleep ≡ turned.Done reply = tells.0 in cc)
-    told_so (Part moved next) is lives tells = absurd (let e : turned.Sleep ≡ turned.Part moved = tells.0 in cc)
-    told_so (Ended status next) is lives tells = absurd (let e : turned.Sleep ≡ turned.Ended status = tells.0 in cc)
-
-    by : (lives : Bool) → is_alive old.plain.table pid ≡ lives → TurnsWhere lives script old pid which turned.Sleep new → Slept script old new pid which
-    by true is answers = told_so (machine script old.plain pid which) refl is answers.answer
-    by false is gone = absurd (let e : turned.Sleep ≡ turned.Gone = gone.0 in cc)
-
--- who sleeps is known to
-pub told_asleep : (script : Script) (old new : World) (pid : ℕ) (which : Call) (known changed : List (Option Told)) → told_in changed pid ≡ Some true
-    → ((other : ℕ) → other % 64 ≢ pid % 64 → told_in changed other ≡ told_in known other)
-    → ((other : ℕ) → other % 64 ≡ pid % 64 → other ≢ pid → told_in changed other ≡ None) → AreTold script old.plain known
-    → (is_alive old.plain.table pid ≡ true → which ≡ call_of script old.plain pid) → TurnsTo script old pid which turned.Sleep new → AreTold script new.plain changed
-told_asleep script old new pid which known changed own others place before call_is turns other does told alive = elim (eqb_tells (other % 64) (pid % 64)) [
-  | inl one_place ↦ elim (eqb_tells other pid) [
-    | inl same ↦
-        let own_too : told_in changed other ≡ Some true = ap (told_in changed) same.1 ∙ own in
-        let is : true ≡ does = one _ _ (sym own_too ∙ told) in
-        let would : would_block script old.plain pid ≡ true = ap (λ w. blocks (machine script old.plain pid w)) (sym (call_is it.alive)) ∙ it.blocked in
-        ap (λ plain. would_block script plain other) it.same ∙ ap (would_block script old.plain) same.1 ∙ would ∙ is
-    | inr apart ↦ absurd (none does (sym (place other one_place.1 apart.1) ∙ told))
-  ]
-  | inr elsewhere ↦
-      ap (λ plain. would_block script plain other) it.same
-      ∙ before other does (sym (others other elsewhere.1) ∙ told) (ap (λ plain. is_alive plain.table other) (sym it.same) ∙ alive)
-]
-  where
-    it : Slept script old new pid which
-    it = slept script old new pid which turns
-
-    one : (a b : Bool) → Some a ≡ Some b → a ≡ b
-    one a b e = cc
-
-    none : (b : Bool) → None ≡ Some b → ⊥
-    none b e = cc
 
 -- ---- a call that wakes nobody
 

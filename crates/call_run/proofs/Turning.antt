@@ -26,7 +26,7 @@ use Rattle.store_objects.specs.declared.objects.Objects.{Objects}
 use Rattle.store_objects.specs.Objects.{IsAtCall, procs_of}
 use Rattle.store_objects.specs.Standing.{StandsFor}
 use Rattle.store_objects.proofs.GoingOn.{some_same}
-use Rattle.store_objects.proofs.RunningProcs.{alive_is, alive_runs}
+use Rattle.store_objects.proofs.RunningProcs.{alive_runs}
 use Rattle.call_run.specs.Families.{HasDone, HasPaths}
 
 -- who is found isn't missing
@@ -52,15 +52,6 @@ next_is script objects world pid proc stands alive found =
     let leads = stands.processes.controls pid proc found (up script objects world pid proc stands alive found) in
     ap (λ here. call_at here (statement_of script here))
     (rests_settled script proc.control (up_at_call script objects world pid proc stands alive found).rests ∙ sym leads)
-
--- in all worlds that the objects stand for it is the same
-pub same_call : (script : Script) (objects : Objects) (one other : World) (pid : ℕ) → StandsFor script objects one → StandsFor script objects other
-    → is_alive other.plain.table pid ≡ true → (is_alive one.plain.table pid ≡ true) × (call_of script one.plain pid ≡ call_of script other.plain pid)
-same_call script objects one other pid stands also alive =
-    let runs = alive_runs script objects other.plain pid also.processes alive in
-    let lives : is_alive one.plain.table pid ≡ true =
-    alive_is script objects one.plain pid stands.processes ∙ sym (alive_is script objects other.plain pid also.processes) ∙ alive in
-    (lives, sym (next_is script objects one pid runs.proc stands lives runs.there) ∙ next_is script objects other pid runs.proc also alive runs.there)
 
 -- ---- what is done of it
 

@@ -1,11 +1,11 @@
 //! What the store keeps in mind of calls that sleep, so that it looks at each again only where a turn or a kill may have woken it.
 
-ghost use Rattle.std.specs.Prelude.{◌≡◌, ◌≢◌, ◌%◌, ℕ, Bool, true, None, Some, length};
+ghost use Rattle.std.specs.Prelude.{◌≡◌, ◌≢◌, ◌%◌, ℕ, true, false, None, Some};
+ghost use Rattle.answer_laws.specs.Shapes.{may_block};
 ghost use Rattle.kabi_types.specs.declared.scripts.Script.{Script};
-ghost use Rattle.posix_defs.specs.Plain.{call_of};
-ghost use Rattle.posix_defs.specs.Process.{is_alive};
 ghost use Rattle.posix_defs.specs.Turn.{TurnsTo};
 ghost use Rattle.posix_defs.specs.World.{World};
+ghost use Rattle.posix_defs.specs.declared.turner.Turned.{Turned};
 ghost use Rattle.store_objects.specs.Standing.{StandsFor};
 ghost use Rattle.call_run.specs.Sleepers.{AreTold, IsTrulyTold, told_in, wakes_nobody};
 
@@ -13,7 +13,6 @@ use crate::calls::would_block;
 use crate::turns::waits_for;
 use arrayvec::ArrayVec;
 use kabi_types::{Call, Script};
-use posix_defs::Turned;
 use store_objects::Objects;
 
 /// How many places there are. Two processes whose pids leave the same by this number have one place, which is the later one's.
@@ -44,7 +43,7 @@ pub fn find(known: &[Option<Told>], pid: u32) -> Option<bool>
 }
 
 /// Keeps in mind that the next call of a process would block.
-pub fn note(known: &mut ArrayVec<Option<Told>, 64>, pid: u32)
+fn note(known: &mut ArrayVec<Option<Told>, 64>, pid: u32)
     ensures told { told_in known.new.items pid ≡ Some true }
     ensures others { (other : ℕ) → other % 64 ≢ pid % 64 → told_in known.new.items other ≡ told_in known.old.items other }
     ensures place { (other : ℕ) → other % 64 ≡ pid % 64 → other ≢ pid → told_in known.new.items other ≡ None }
@@ -67,10 +66,24 @@ pub fn forget(known: &mut ArrayVec<Option<Told>, 64>, pid: u32)
 }
 
 /// Whether a turn of this call changes nothing but how far its own process is.
-pub fn wakes_nobody(call: &Call) -> bool
+fn wakes_nobody(call: &Call) -> bool
     ensures { result ≡ wakes_nobody call.now }
 {
     matches!(call, Call::Getpid | Call::Getppid | Call::SchedYield)
+}
+
+/// Whether this call may block.
+fn may_sleep(call: &Call) -> bool
+    ensures { result ≡ may_block call.now }
+{
+    matches!(
+        call,
+        Call::Waitpid { .. }
+            | Call::Read { .. }
+            | Call::Write { .. }
+            | Call::Accept { .. }
+            | Call::Poll { .. }
+    )
 }
 
 /// What is known of a process behind a look at it; None where it has ended.
@@ -89,7 +102,7 @@ fn look_at(script: &Script, objects: &Objects, pid: u32) -> Option<Told>
 }
 
 /// Looks again at all of which something is known.
-pub fn look_again(script: &Script, objects: &Objects, known: &mut ArrayVec<Option<Told>, 64>)
+fn look_again(script: &Script, objects: &Objects, known: &mut ArrayVec<Option<Told>, 64>)
     requires { (world : World) × StandsFor script.now objects.now world }
     ensures { (world : World) → StandsFor script.now objects.now world → AreTold script.now world.plain known.new.items }
 {
@@ -101,7 +114,7 @@ pub fn look_again(script: &Script, objects: &Objects, known: &mut ArrayVec<Optio
 }
 
 /// Gives up the places behind the last process of which something is known.
-pub fn trim(known: &mut ArrayVec<Option<Told>, 64>)
+fn trim(known: &mut ArrayVec<Option<Told>, 64>)
     ensures { (pid : ℕ) → told_in known.new.items pid ≡ told_in known.old.items pid }
 {
     while let Some(None) = known.last() {
@@ -109,26 +122,31 @@ pub fn trim(known: &mut ArrayVec<Option<Told>, 64>)
     }
 }
 
-/// Keeps in mind what is known of calls that sleep behind a turn of this call of a process.
+/// Before a turn of this call of a process: what is known of others is so behind a turn that wakes nobody, and is looked at again
+/// first where it is stale; behind any other turn it is stale. Whose call may sleep is kept in mind.
 pub fn keep_in_mind(
     script: &Script,
     objects: &Objects,
     known: &mut ArrayVec<Option<Told>, 64>,
+    stale: &mut bool,
     pid: u32,
     call: &Call,
-    turned: &Turned,
 )
     requires { (world : World) × StandsFor script.now objects.now world }
-    ensures { (old new : World) → AreTold script.now old.plain known.old.items → StandsFor script.now objects.now new
-        → (is_alive old.plain.table pid ≡ true → call.now ≡ call_of script.now old.plain pid) → TurnsTo script.now old pid call.now turned.now new
-        → AreTold script.now new.plain known.new.items }
+    ensures { (old new : World) (told : Turned) → (stale.old ≡ false → AreTold script.now old.plain known.old.items) → StandsFor script.now objects.now old
+        → TurnsTo script.now old pid call.now told new → stale.new ≡ false → AreTold script.now new.plain known.new.items }
 {
-    if matches!(turned, Turned::Sleep) {
-        return note(known, pid);
-    }
-    forget(known, pid);
     if !wakes_nobody(call) {
+        if may_sleep(call) {
+            note(known, pid);
+        }
+        *stale = true;
+        return;
+    }
+    if *stale {
         look_again(script, objects, known);
         trim(known);
+        *stale = false;
     }
+    forget(known, pid);
 }

@@ -31,6 +31,8 @@ pub struct Store<F: Scorer, G: Scorer> {
     score: Score<F, G>,
     // Of calls that sleep, whether they would go on, as far as that is known.
     known: ArrayVec<Option<Told>, 64>,
+    // Something may have woken one of them since the store looked at them.
+    stale: bool,
 }
 
 impl<F: Scorer, G: Scorer> Model for Store<F, G> {
@@ -39,7 +41,7 @@ impl<F: Scorer, G: Scorer> Model for Store<F, G> {
 
     ghost Value = { StoreView };
 
-    ghost view = { λ store. record { script = store.script; objects = store.objects; known = store.known.items } };
+    ghost view = { λ store. record { script = store.script; objects = store.objects; known = store.known.items; stale = store.stale } };
 
     ghost invariant = { λ store. AreKept store.script store.objects };
 }
@@ -68,6 +70,7 @@ impl<F: Scorer, G: Scorer> Store<F, G> {
             buffers,
             score,
             known: ArrayVec::new(),
+            stale: true,
         })
     }
 }
@@ -109,17 +112,17 @@ impl<F: Scorer, G: Scorer> Turner for Store<F, G> {
     }
 
     fn turn(&mut self, pid: u32, call: &Call, need: Need) -> Turned {
-        let turned = turns::turn(
+        let known = &mut self.known;
+        let stale = &mut self.stale;
+        sleepers::keep_in_mind(&self.script, &self.objects, known, stale, pid, call);
+        turns::turn(
             &self.script,
             &mut self.objects,
             &mut self.buffers,
             pid,
             call,
             need,
-        );
-        let known = &mut self.known;
-        sleepers::keep_in_mind(&self.script, &self.objects, known, pid, call, &turned);
-        turned
+        )
     }
 
     fn refuse(&mut self, pid: u32) {
@@ -128,8 +131,10 @@ impl<F: Scorer, G: Scorer> Turner for Store<F, G> {
     }
 
     fn ready(&self, pid: u32) -> bool {
-        if let Some(blocks) = sleepers::find(self.known.as_slice(), pid) {
-            return !blocks;
+        if !self.stale {
+            if let Some(blocks) = sleepers::find(self.known.as_slice(), pid) {
+                return !blocks;
+            }
         }
         let wait = turns::waits_for(&self.script, &self.objects, pid);
         !would_block(&self.objects, pid, wait)
@@ -149,7 +154,7 @@ impl<F: Scorer, G: Scorer> Turner for Store<F, G> {
 
     fn kill(&mut self, pid: u32) {
         turns::kill(&mut self.objects, pid);
-        sleepers::look_again(&self.script, &self.objects, &mut self.known);
+        self.stale = true;
     }
 
     fn alive(&self, pid: u32) -> bool {

@@ -1,17 +1,15 @@
-use Rattle.std.proofs.Common.{◌≡◌, ℕ, List, [], Option, None, Some, ◌+◌, ◌≤◌, ◌∙◌, ap, arith, refl, subst, sym}
+use Rattle.std.proofs.Common.{◌≡◌, ℕ, true, false, ◌+◌, ◌≤◌, ◌∙◌, ap, arith, refl, subst, sym}
 use Rattle.std.specs.Prelude.{codes}
 use Rattle.kabi_types.specs.declared.scripts.Script.{Script}
 use Rattle.machine_laws.specs.Reached.{boots}
 use Rattle.posix_defs.specs.Memory.{no_places}
-use Rattle.posix_defs.specs.Plain.{boot_plain, place_of}
+use Rattle.posix_defs.specs.Plain.{place_of}
 use Rattle.posix_defs.specs.Sizes.{reserve}
 use Rattle.posix_defs.specs.ValidScript.{IsValid}
 use Rattle.posix_defs.specs.World.{boot_world, live_of}
 use Rattle.store_objects.specs.Objects.{AreKept}
 use Rattle.store_objects.proofs.Booting.{boot_stands, boot_stands_for}
-use Rattle.call_run.specs.Sleepers.{AreTold, told_in}
 use Rattle.call_run.specs.Stores.{Stands}
-use Rattle.call_run.specs.declared.sleepers.Told.{Told}
 use Rattle.call_run.proofs.CanRun.{each_script}
 use Rattle.call_run.proofs.store.Store.boot.Goals as goal
 
@@ -30,16 +28,13 @@ begins script valid = few (live_of (boot_world script)) script.heap (boot_live s
     few : (live size : ℕ) → live ≡ 640 → 8192 ≤ size → live + reserve ≤ size
     few live size is least = omega (arith, is, least)
 
--- nothing is known of a process before any had a turn
-knows_none : (script : Script) (known : List (Option Told)) → known ≡ [] → AreTold script (boot_plain script) known
-knows_none script known is pid does told alive = never (sym (ap (λ all. told_in all pid) is) ∙ told)
-  where
-    never : {X : Type 0} → None ≡ Some does → X
-    never e = cc
+-- what is known at boot is stale
+never : {X : Type 0} → true ≡ false → X
+never e = cc
 
 pub returns-clause-booted : goal.returns-clause-booted
 returns-clause-booted g c =
-    subst (λ script. Stands (record { script = script; objects = c.in_ok-objects.objects; known = c.new-2.result.items }) (boot_world c.args.script.now)) (sym c.in_ok-script.ensures)
+    subst (λ script. Stands (record { script = script; objects = c.in_ok-objects.objects; known = c.new-2.result.items; stale = true }) (boot_world c.args.script.now)) (sym c.in_ok-script.ensures)
     (record {
       objects = record {
         stands = boot_stands_for c.args.script.now c.in_ok-script.script c.in_ok-objects.objects c.place_of.result c.go_to_call.new.control c.requires.valid (each_script c.args.script.now) c.in_ok-script.ensures
@@ -48,7 +43,7 @@ returns-clause-booted g c =
         reached = boots;
         spare = begins c.args.script.now c.requires.valid;
       };
-      told = knows_none c.args.script.now c.new-2.result.items c.new-2.ensures;
+      told = λ fresh. never fresh;
     })
 
 pub invariant_of-result : goal.invariant_of-result

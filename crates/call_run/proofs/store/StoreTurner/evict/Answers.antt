@@ -15,7 +15,7 @@ returns-clause-evicted g c = λ world stands can.
     let before = subst (λ store. Stands store world) (sym c.self.view_is) stands in
     let evicted = c.evict.ensures.evicted c.self.inside.script world before.objects can in (
       evicted.0,
-      record { objects = evicted.1; told = subst (λ plain. AreTold c.self.inside.script plain c.self.inside.known.items) (sym evicted.2.plain) before.told },
+      record { objects = evicted.1; told = λ fresh. subst (λ plain. AreTold c.self.inside.script plain c.self.inside.known.items) (sym evicted.2.plain) (before.told fresh) },
       evicted.2,
     )
 

@@ -1,4 +1,4 @@
-use Rattle.std.proofs.Common.{ap, not, subst, sym, ◌∙◌}
+use Rattle.std.proofs.Common.{◌≡◌, false, ap, not, subst, sym, ◌∙◌}
 use Rattle.posix_defs.specs.Machine.{would_block}
 use Rattle.posix_defs.specs.Plain.{call_of}
 use Rattle.store_objects.specs.Standing.{StandsFor}
@@ -24,4 +24,5 @@ would_block-requires g c =
 pub returns-in-Some : goal.returns-in-Some
 returns-in-Some g c = λ world stands alive.
     let before = subst (λ store. Stands store world) (sym c.self.view_is) stands in
-    sym (ap not (before.told c.args.pid c.in-Some.blocks (ap (λ items. told_in items c.args.pid) (sym c.as_slice.ensures.value) ∙ sym c.find.ensures ∙ c.in-Some.is) alive)) ∙ ap (λ store. not (would_block store.script world.plain c.args.pid)) c.self.view_is
+    let fresh : c.self.inside.stale ≡ false = cc in
+    sym (ap not (before.told fresh c.args.pid c.in-Some.blocks (ap (λ items. told_in items c.args.pid) (sym c.as_slice.ensures.value) ∙ sym c.find.ensures ∙ c.in-Some.is) alive)) ∙ ap (λ store. not (would_block store.script world.plain c.args.pid)) c.self.view_is

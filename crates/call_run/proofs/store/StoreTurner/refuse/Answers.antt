@@ -14,11 +14,11 @@ returns-clause-since g c = λ world stands. c.refuse.ensures.since world (subst 
 pub returns-clause-refused : goal.returns-clause-refused
 returns-clause-refused g c = λ world stands alive.
     let before = subst (λ store. Stands store world) (sym c.self.view_is) stands in
-    let refused : Stands (record { script = c.self.inside.script; objects = c.refuse.new.objects; known = c.forget.new.known.items }) (refused_in c.self.inside.script world c.args.pid) =
+    let refused : Stands (record { script = c.self.inside.script; objects = c.refuse.new.objects; known = c.forget.new.known.items; stale = c.self.inside.stale }) (refused_in c.self.inside.script world c.args.pid) =
     record {
       objects = c.refuse.ensures.refused world before.objects alive;
-      told =
+      told = λ fresh.
           told_further c.self.inside.script world.plain c.args.pid (program.after c.self.inside.script (control_of world.plain c.args.pid) (Fail ENOMEM)) c.self.inside.known.items
-          c.forget.new.known.items c.forget.ensures.gone c.forget.ensures.others before.told;
+          c.forget.new.known.items c.forget.ensures.gone c.forget.ensures.others (before.told fresh);
     } in
-    subst (λ store. Stands (record { script = c.self.inside.script; objects = c.refuse.new.objects; known = c.forget.new.known.items }) (refused_in store.script world c.args.pid)) c.self.view_is refused
+    subst (λ store. Stands (record { script = c.self.inside.script; objects = c.refuse.new.objects; known = c.forget.new.known.items; stale = c.self.inside.stale }) (refused_in store.script world c.args.pid)) c.self.view_is refused
