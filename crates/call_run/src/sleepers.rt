@@ -43,6 +43,7 @@ pub fn find(known: &[Option<Told>], pid: u32) -> Option<bool>
 }
 
 /// Keeps in mind that the next call of a process would block.
+#[inline(never)]
 fn note(known: &mut ArrayVec<Option<Told>, 64>, pid: u32)
     ensures told { told_in known.new.items pid ≡ Some true }
     ensures others { (other : ℕ) → other % 64 ≢ pid % 64 → told_in known.new.items other ≡ told_in known.old.items other }
@@ -102,6 +103,7 @@ fn look_at(script: &Script, objects: &Objects, pid: u32) -> Option<Told>
 }
 
 /// Looks again at all of which something is known.
+#[inline(never)]
 fn look_again(script: &Script, objects: &Objects, known: &mut ArrayVec<Option<Told>, 64>)
     requires { (world : World) × StandsFor script.now objects.now world }
     ensures { (world : World) → StandsFor script.now objects.now world → AreTold script.now world.plain known.new.items }
@@ -114,6 +116,7 @@ fn look_again(script: &Script, objects: &Objects, known: &mut ArrayVec<Option<To
 }
 
 /// Gives up the places behind the last process of which something is known.
+#[inline(never)]
 fn trim(known: &mut ArrayVec<Option<Told>, 64>)
     ensures { (pid : ℕ) → told_in known.new.items pid ≡ told_in known.old.items pid }
 {

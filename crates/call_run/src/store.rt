@@ -130,6 +130,7 @@ impl<F: Scorer, G: Scorer> Turner for Store<F, G> {
         sleepers::forget(&mut self.known, pid);
     }
 
+    #[inline(never)]
     fn ready(&self, pid: u32) -> bool {
         if !self.stale {
             if let Some(blocks) = sleepers::find(self.known.as_slice(), pid) {
