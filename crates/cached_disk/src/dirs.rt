@@ -159,7 +159,7 @@ fn entry_key(dir: u32, name: &[u8]) -> Option<NameKey>
         (λ key. (key ≡ name_key dir name.now) × (length name.now ≤ 27)
         × (name.now ≢ own_name) × (name.now ≢ parent_name)) }
 {
-    if name == b".".as_slice() || name == b"..".as_slice() || name.len() > 27 {
+    if matches!(name, b"." | b"..") || name.len() > 27 {
         return None;
     }
     Some(NameKey::of_bytes(dir, name))

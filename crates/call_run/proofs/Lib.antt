@@ -14,3 +14,4 @@ pub mod Choosing
 pub mod Killing
 pub mod Ends
 pub mod Naming
+pub mod Needing
