@@ -6,9 +6,10 @@ each run. Each run has to end as it does with ample memory and with the same tex
 wasn't started), or with 8 and a beginning of that text. Tells each run that isn't right, and how many were tried, and ends with 1
 where one isn't.
 
-With KRES it runs that built program, under a malloc that refuses one call: each that the run makes, in its turn, or where these are
-very many the first and the last of them and some between. The cases are sim, threads and load; all of them where none is named.
-This wants a C compiler (CC, else cc) and glibc. With two numbers it runs the sources, unproved, by `rt try --fail-alloc N` for each
+With KRES it runs that built program, under a malloc that refuses one call: each that the run makes, in its turn. Of load's, which are
+very many, each is refused in a copy of one process, which goes on from there; a copy that ends as most do, with 8 and no text, is
+right, and what another refused is refused once more in a run of its own. The cases are sim, threads and load; all of them where none
+is named. This wants a C compiler (CC, else cc) and glibc. With two numbers it runs the sources, unproved, by `rt try --fail-alloc N` for each
 N from FIRST to LAST; the toolchain builds anew for each, so each takes a minute or two.
 """
 import os
@@ -22,19 +23,23 @@ WORDS = {"sim": ["sim"], "threads": ["threads", "2"], "load": ["load", "1"]}
 CRATE = os.path.join(os.path.dirname(os.path.realpath(__file__)), "..", "crates", "kres_cli")
 MEMORY = 8
 AMPLE = 10 ** 9  # the number of an allocation that no run makes
-EACH = 2000  # so many of the first allocations, and of the last, are refused each in its turn
-BETWEEN = 2000  # and about so many between these
 MORE = 20  # in so many runs more the number is one that was never reached; threads don't make the same number each time
 CASE = re.compile(r"^case=(\w+) run=ended status=(\d+) ", re.M)
 
-# A malloc that answers NULL to the call whose number REFUSED tells, from 1, and counts its calls in the file COUNTED.
+# A malloc that answers NULL to the call whose number REFUSED tells, from 1, and counts its calls in the file COUNTED. Where COPIES
+# names a file, it makes a copy of the process at each call instead, and refuses the call there; the file gets the number of the call,
+# the status that the copy ended with, and how much it wrote.
 REFUSING = r"""
+#define _GNU_SOURCE
 #include <errno.h>
 #include <fcntl.h>
 #include <stdatomic.h>
 #include <stddef.h>
+#include <stdio.h>
 #include <stdlib.h>
 #include <sys/mman.h>
+#include <sys/wait.h>
+#include <unistd.h>
 
 extern void *__libc_malloc(size_t);
 extern void *__libc_calloc(size_t, size_t);
@@ -43,15 +48,37 @@ extern void *__libc_memalign(size_t, size_t);
 
 static _Atomic long *made;
 static long refused = -1;
+static int copies = -1;
 
 __attribute__((constructor)) static void begin(void) {
     made = mmap(NULL, sizeof *made, PROT_READ | PROT_WRITE, MAP_SHARED, open(getenv("COUNTED"), O_RDWR), 0);
     if (made == MAP_FAILED) abort();
+    if (getenv("COPIES")) copies = open(getenv("COPIES"), O_WRONLY | O_APPEND);
     refused = atol(getenv("REFUSED"));
 }
 
+/* Whether this is the copy, in which the call is refused, and no other is. */
+static int is_copy(long number) {
+    char line[80];
+    int text = memfd_create("text", 0), status = 0;
+    pid_t copy = fork();
+    if (copy < 0) abort();
+    if (copy == 0) {
+        dup2(text, 1);
+        copies = refused = -1;
+        return 1;
+    }
+    waitpid(copy, &status, 0);
+    int size = snprintf(line, sizeof line, "%ld %d %ld\n", number, WIFEXITED(status) ? WEXITSTATUS(status) : -1, (long)lseek(text, 0, SEEK_END));
+    if (write(copies, line, size) != size) abort();
+    close(text);
+    return 0;
+}
+
 static int is_refused(void) {
-    if (refused < 0 || atomic_fetch_add(made, 1) + 1 != refused) return 0;
+    if (refused < 0) return 0;
+    long number = atomic_fetch_add(made, 1) + 1;
+    if (copies >= 0 ? !is_copy(number) : number != refused) return 0;
     errno = ENOMEM;
     return 1;
 }
@@ -79,15 +106,23 @@ class Built:
             file.write(REFUSING)
         subprocess.run([os.environ.get("CC", "cc"), "-O1", "-shared", "-fPIC", "-o", self.library, f"{folder}/refusing.c"], check=True)
 
-    def outcome(self, name, number):
+    def outcome(self, name, number, **more):
         """The status of a case and what it wrote, where this allocation is refused, and how many were asked for."""
         with open(self.counted, "wb") as file:
             file.write(bytes(8))
-        room = {**os.environ, "LD_PRELOAD": self.library, "REFUSED": str(number), "COUNTED": self.counted}
+        room = {**os.environ, "LD_PRELOAD": self.library, "REFUSED": str(number), "COUNTED": self.counted, **more}
         ran = subprocess.run([self.kres, *WORDS[name]], input=self.script, capture_output=True, env=room)
         with open(self.counted, "rb") as file:
             made = int.from_bytes(file.read(), sys.byteorder)
         return (ran.returncode, ran.stdout.decode()), made
+
+    def copies(self, name):
+        """Of each allocation of a case its number, how the copy of the process in which it was refused ended, and how much that wrote."""
+        kept = f"{os.path.dirname(self.counted)}/copies"
+        open(kept, "w", encoding="utf-8").close()
+        self.outcome(name, AMPLE, COPIES=kept)
+        with open(kept, encoding="utf-8") as file:
+            return [tuple(map(int, line.split())) for line in file]
 
 
 class Tried:
@@ -118,19 +153,14 @@ def is_right(outcome, ample):
     return outcome == ample
 
 
-def chosen(made):
-    """Which of so many allocations are refused."""
-    if made <= 2 * EACH + BETWEEN:
-        return range(1, made + MORE + 1)
-    last = made - EACH
-    return [*range(1, EACH + 1), *range(EACH + 1, last + 1, (last - EACH) // BETWEEN), *range(last + 1, made + MORE + 1)]
-
-
 def refuse_built(built, name):
-    """Refuses allocations of a case of the built program, and tells what came of it."""
+    """Refuses each allocation of a case of the built program, and tells what came of it."""
     ample, made = built.outcome(name, AMPLE)
-    tried = wanted = wrong = 0
-    for number in chosen(made):
+    copies = built.copies(name) if name == "load" else []
+    right = [number for number, status, size in copies if (status, size) == (MEMORY, 0)]
+    left = sorted(set(range(1, made + MORE + 1)) - set(right))
+    tried, wanted, wrong = len(right), len(right), 0
+    for number in left:
         outcome, reached = built.outcome(name, number)
         tried += number <= reached
         wanted += outcome[0] == MEMORY
