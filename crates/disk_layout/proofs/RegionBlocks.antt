@@ -60,8 +60,8 @@ written_next count place blocks bytes at lt =
     append_assoc blocks (bytes ∷ []) (replicate (count - length (blocks ++ bytes ∷ [])) (zeros 1024))
     ∙ ap (λ n. blocks ++ bytes ∷ replicate n (zeros 1024)) long
     ∙ sym (set-append_right blocks (replicate (count - length blocks) (zeros 1024)) (length blocks) place bytes refl (omega (arith, at))
-      ∙ ap (λ n. blocks ++ set (replicate (count - length blocks) (zeros 1024)) n bytes) none
-      ∙ ap (λ n. blocks ++ set (replicate n (zeros 1024)) 0 bytes) one)
+    ∙ ap (λ n. blocks ++ set (replicate (count - length blocks) (zeros 1024)) n bytes) none
+    ∙ ap (λ n. blocks ++ set (replicate n (zeros 1024)) 0 bytes) one)
 
 -- What a write leaves, where the blocks before it came to be there.
 module _ (count place : ℕ) (old now : List (List ℕ)) (bytes : List ℕ) (lt : place < count) (within : length old ≤ count) (is : now ≡ old ++ replicate (place - length old) (zeros 1024)) where
@@ -90,7 +90,7 @@ two_regions blocks first zero map table entries two lt =
     let len2 : length (set (set front 0 map) 1 table) ≡ first = length-set (set front 0 map) 1 table ∙ len1 in
     let none : first - first ≡ 0 = omega arith in
     sym (ap (λ x. set (set (set x 0 map) 1 table) first entries) (sym all)
-      ∙ ap (λ x. set (set x 1 table) first entries) (set-append_left front back 0 map (omega (arith, len0, two)))
-      ∙ ap (λ x. set x first entries) (set-append_left (set front 0 map) back 1 table (omega (arith, len1, two)))
-      ∙ set-append_right (set (set front 0 map) 1 table) back first first entries len2 (omega arith)
-      ∙ ap (λ n. set (set front 0 map) 1 table ++ set back n entries) none)
+    ∙ ap (λ x. set (set x 1 table) first entries) (set-append_left front back 0 map (omega (arith, len0, two)))
+    ∙ ap (λ x. set x first entries) (set-append_left (set front 0 map) back 1 table (omega (arith, len1, two)))
+    ∙ set-append_right (set (set front 0 map) 1 table) back first first entries len2 (omega arith)
+    ∙ ap (λ n. set (set front 0 map) 1 table ++ set back n entries) none)

@@ -62,8 +62,8 @@ push-all limit places place lt =
     append_assoc places (place ∷ []) (replicate (limit - length (places ++ place ∷ [])) None)
     ∙ ap (λ n. places ++ place ∷ replicate n None) long
     ∙ sym (set-append_right places (replicate (limit - length places) None) (length places) (length places) place refl (omega arith)
-      ∙ ap (λ n. places ++ set (replicate (limit - length places) None) n place) none
-      ∙ ap (λ n. places ++ set (replicate n None) 0 place) one)
+    ∙ ap (λ n. places ++ set (replicate (limit - length places) None) n place) none
+    ∙ ap (λ n. places ++ set (replicate n None) 0 place) one)
 
 -- What is free, and where keys have their places, once a key was given out.
 module _ (limit : ℕ) (old new : List (Option ℕ)) (free rest : List ℕ) (key place : ℕ) (given : (i : ℕ) → i < length free → get_or free i 0 < length old) (room : length free ≡ 0 → length old < limit) (takes : TakesKey old new free rest key place) where

@@ -36,10 +36,13 @@ module _ {K : Type 0} where
   -- a place at which nothing stands is none of theirs
   pub free_apart : (at : ℕ → Option (Node K)) (place : ℕ) (ps : List (K × ℕ)) → at place ≡ None → AreStrung at ps → AllByRecursion (λ p. nat_eq place p.1 ≡ false) ps
   free_apart at place [] none s = tt
-  free_apart at place (p ∷ ps) none s = ((elim (nat_eq place p.1) as (λ b. nat_eq place p.1 ≡ b → b ≡ false) [
-    | true ↦ λ e. let both = sym (ap at (eqb-true place p.1 e)) ∙ none in absurd (no_node p.0 (first_place ps) (sym s.0 ∙ both))
-    | false ↦ λ e. refl
-  ]) refl, free_apart at place ps none s.1)
+  free_apart at place (p ∷ ps) none s = (
+    (elim (nat_eq place p.1) as (λ b. nat_eq place p.1 ≡ b → b ≡ false) [
+      | true ↦ λ e. let both = sym (ap at (eqb-true place p.1 e)) ∙ none in absurd (no_node p.0 (first_place ps) (sym s.0 ∙ both))
+      | false ↦ λ e. refl
+    ]) refl,
+    free_apart at place ps none s.1,
+  )
     where
       no_node : (key : K) (next : Option ℕ) → Some (node_of key next) ≡ None → ⊥
       no_node key next e = cc
@@ -87,14 +90,16 @@ module _ {K : Type 0} where
         behind before back goes (subst (λ x. AllByRecursion (λ q. nat_eq x q.1 ≡ false) back) is apart.0) beside.1 s.1
     first_behind (f ∷ []) p back before is leads goes beside apart s =
         let away : nat_eq gone f.1 ≡ false = subst (λ x. nat_eq x f.1 ≡ false) is (nat_eq_equiv.symm p.1 f.1 ∙ apart.0.0) in
-        let here = goes f.1 ∙ ap (λ b. cond b None (cond (nat_eq f.1 f.1) (option_map (with_next next) (at f.1)) (at f.1))) away ∙ ap (λ b. cond b (option_map (with_next next) (at f.1)) (at f.1)) (nat_eq_equiv.refl f.1) ∙ ap (option_map (with_next next)) s.0 in
-        (here ∙ ap (λ n. Some (node_of f.0 n)) leads,
-          behind (Some f.1) back goes (subst (λ x. AllByRecursion (λ q. nat_eq x q.1 ≡ false) back) is apart.1.0) apart.0.1 s.1.1)
+        let here = goes f.1 ∙ ap (λ b. cond b None (cond (nat_eq f.1 f.1) (option_map (with_next next) (at f.1)) (at f.1))) away ∙ ap (λ b. cond b (option_map (with_next next) (at f.1)) (at f.1)) (nat_eq_equiv.refl f.1) ∙ ap (option_map (with_next next)) s.0 in (
+          here ∙ ap (λ n. Some (node_of f.0 n)) leads,
+          behind (Some f.1) back goes (subst (λ x. AllByRecursion (λ q. nat_eq x q.1 ≡ false) back) is apart.1.0) apart.0.1 s.1.1,
+        )
     first_behind (f ∷ (g ∷ front)) p back before is leads goes beside apart s =
         let away : nat_eq gone f.1 ≡ false = subst (λ x. nat_eq x f.1 ≡ false) is (nat_eq_equiv.symm p.1 f.1 ∙ middle (g ∷ front) p back apart.0) in
-        let first : hits (last_place (Some g.1) front) f.1 ≡ false = last_apart f.1 (Some g.1) front (nat_eq_equiv.symm g.1 f.1 ∙ apart.0.0) (all_of _ (λ q. nat_eq q.1 f.1 ≡ false) (λ q e. nat_eq_equiv.symm q.1 f.1 ∙ e) front (front_of front p back apart.0.1)) in
-        (goes_beside (last_place (Some g.1) front) goes f.1 away first ∙ s.0,
-          first_behind (g ∷ front) p back (Some f.1) is leads goes apart.0 apart.1 s.1)
+        let first : hits (last_place (Some g.1) front) f.1 ≡ false = last_apart f.1 (Some g.1) front (nat_eq_equiv.symm g.1 f.1 ∙ apart.0.0) (all_of _ (λ q. nat_eq q.1 f.1 ≡ false) (λ q e. nat_eq_equiv.symm q.1 f.1 ∙ e) front (front_of front p back apart.0.1)) in (
+          goes_beside (last_place (Some g.1) front) goes f.1 away first ∙ s.0,
+          first_behind (g ∷ front) p back (Some f.1) is leads goes apart.0 apart.1 s.1,
+        )
       where
         middle : (xs : List (K × ℕ)) (p : K × ℕ) (ys : List (K × ℕ)) → AllByRecursion (λ q. nat_eq f.1 q.1 ≡ false) (xs ++ p ∷ ys) → nat_eq f.1 p.1 ≡ false
         middle [] p ys a = a.0
@@ -115,9 +120,10 @@ module _ {K : Type 0} where
 module _ {K : Type 0} {eq : K → K → Bool} (laws : IsEquivalence eq) where
   key_apart : (at : ℕ → Option (Node K)) (key : K) (place : ℕ) (node : Node K) (ps : List (K × ℕ)) → at place ≡ Some node → node.key ≡ key → AllByRecursion (λ k. eq key k ≡ false) (keys_of ps) → AreStrung at ps → AllByRecursion (λ p. nat_eq place p.1 ≡ false) ps
   key_apart at key place node [] there is a s = tt
-  key_apart at key place node (p ∷ ps) there is a s =
-      (places_differ at (λ k. eq key k ≡ true) place p.1 node (node_of p.0 (first_place ps)) there s.0 (λ t. no_both (sym t ∙ a.0)) (subst (λ k. eq key k ≡ true) (sym is) (laws.refl key)),
-        key_apart at key place node ps there is a.1 s.1)
+  key_apart at key place node (p ∷ ps) there is a s = (
+    places_differ at (λ k. eq key k ≡ true) place p.1 node (node_of p.0 (first_place ps)) there s.0 (λ t. no_both (sym t ∙ a.0)) (subst (λ k. eq key k ≡ true) (sym is) (laws.refl key)),
+    key_apart at key place node ps there is a.1 s.1,
+  )
     where
       no_both : true ≡ false → ⊥
       no_both e = cc
@@ -125,6 +131,7 @@ module _ {K : Type 0} {eq : K → K → Bool} (laws : IsEquivalence eq) where
   -- keys that are distinct stand at places apart
   pub places_apart : (at : ℕ → Option (Node K)) (ps : List (K × ℕ)) → IsDistinct eq (keys_of ps) → AreStrung at ps → PlacesApart ps
   places_apart at [] d s = tt
-  places_apart at (p ∷ ps) d s =
-      (key_apart at p.0 p.1 (node_of p.0 (first_place ps)) ps s.0 refl (IsDistinct-head eq p.0 (keys_of ps) d) s.1,
-        places_apart at ps (IsDistinct-tail eq p.0 (keys_of ps) d) s.1)
+  places_apart at (p ∷ ps) d s = (
+    key_apart at p.0 p.1 (node_of p.0 (first_place ps)) ps s.0 refl (IsDistinct-head eq p.0 (keys_of ps) d) s.1,
+    places_apart at ps (IsDistinct-tail eq p.0 (keys_of ps) d) s.1,
+  )
