@@ -14,9 +14,9 @@ module _ {X : Type 0} where
   get_front (y ∷ xs) ys (suc n) x is = get_front xs ys n x is
 
   pub get_back : (xs ys : List X) (n : ℕ) (x : X) → length xs ≤ n → slice_get ys (n - length xs) ≡ Some x → slice_get (xs ++ ys) n ≡ Some x
-  get_back [] ys n x le is = is
+  get_back [] ys n x le is = let all : n - 0 ≡ n = omega arith in ap (slice_get ys) (sym all) ∙ is
   get_back (y ∷ xs) ys zero x le is = absurd (omega (arith, le))
-  get_back (y ∷ xs) ys (suc n) x le is = get_back xs ys n x (omega (arith, le)) is
+  get_back (y ∷ xs) ys (suc n) x le is = let less : suc n - suc (length xs) ≡ n - length xs = omega arith in get_back xs ys n x (omega (arith, le)) (ap (slice_get ys) (sym less) ∙ is)
 
   past : (xs : List X) (n : ℕ) → slice_get xs n ≡ None → length xs ≤ n
   past [] n is = omega arith
@@ -25,6 +25,10 @@ module _ {X : Type 0} where
 
 pub length-all : (count : ℕ) (blocks : List (List ℕ)) → length blocks ≤ count → length (all_blocks count blocks) ≡ count
 length-all count blocks le = length-append blocks (replicate (count - length blocks) (zeros 1024)) ∙ ap (λ n. length blocks + n) (length-replicate (count - length blocks) (zeros 1024)) ∙ omega (arith, le)
+
+-- a number that a region is asked for is below its count
+pub below_count : (count number : ℕ) (blocks now : List (List ℕ)) → all_blocks count blocks ≡ now → length blocks ≤ count → number < length now → number < count
+below_count count number blocks now is le lt = let all : length now ≡ count = sym (ap length is) ∙ length-all count blocks le in omega (arith, lt, all)
 
 pub read_there : (count : ℕ) (blocks : List (List ℕ)) (number : ℕ) (block : List ℕ) → slice_get blocks number ≡ Some block → slice_get (all_blocks count blocks) number ≡ Some block
 read_there count blocks number block is = get_front blocks (replicate (count - length blocks) (zeros 1024)) number block is
@@ -78,14 +82,14 @@ module _ (count place : ℕ) (old now : List (List ℕ)) (bytes : List ℕ) (lt 
   write_next behind = written_next count place now bytes (omega (arith, reached_length, behind)) lt ∙ ap (λ x. set x place bytes) same_blocks
 
 -- the two regions of a new disk are its blocks
-pub two_regions : (blocks first : ℕ) (zero map table entries : List ℕ) → 1 < first → first < blocks
-    → set (set (replicate first zero) 0 map) 1 table ++ set (replicate (blocks - first) zero) 0 entries ≡ set (set (set (replicate blocks zero) 0 map) 1 table) first entries
-two_regions blocks first zero map table entries two lt =
-    let front : List (List ℕ) = replicate first zero in
-    let back : List (List ℕ) = replicate (blocks - first) zero in
+pub two_regions : (blocks first : ℕ) (blank map table entries : List ℕ) → 1 < first → first < blocks
+    → set (set (replicate first blank) 0 map) 1 table ++ set (replicate (blocks - first) blank) 0 entries ≡ set (set (set (replicate blocks blank) 0 map) 1 table) first entries
+two_regions blocks first blank map table entries two lt =
+    let front : List (List ℕ) = replicate first blank in
+    let back : List (List ℕ) = replicate (blocks - first) blank in
     let sum : first + (blocks - first) ≡ blocks = omega (arith, lt) in
-    let all : front ++ back ≡ replicate blocks zero = replicate-append-replicate first (blocks - first) zero ∙ ap (λ n. replicate n zero) sum in
-    let len0 : length front ≡ first = length-replicate first zero in
+    let all : front ++ back ≡ replicate blocks blank = replicate-append-replicate first (blocks - first) blank ∙ ap (λ n. replicate n blank) sum in
+    let len0 : length front ≡ first = length-replicate first blank in
     let len1 : length (set front 0 map) ≡ first = length-set front 0 map ∙ len0 in
     let len2 : length (set (set front 0 map) 1 table) ≡ first = length-set (set front 0 map) 1 table ∙ len1 in
     let none : first - first ≡ 0 = omega arith in
