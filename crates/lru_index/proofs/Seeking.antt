@@ -1,16 +1,15 @@
 -- Going along the keys of a bucket.
-use Rattle.std.proofs.Common.{◌≡◌, ℕ, ◌+◌, ◌<◌, ◌≤◌, Bool, true, false, cond, List, [], ◌∷◌, ◌++◌, length, get_or, set, Option, Some, None, IsSome, nat_eq, vec_len, refl, sym, ap, ◌∙◌, subst, inl, inr, arith, append_assoc}
-use Rattle.std.specs.List.{AllByRecursion, sum_by}
-use Rattle.std.specs.Map.{keys_of, lookup}
+use Rattle.std.proofs.Common.{◌≡◌, ℕ, ◌+◌, ◌≤◌, Bool, true, false, List, [], ◌∷◌, ◌++◌, length, get_or, Option, Some, None, vec_len, refl, sym, ap, ◌∙◌, subst, inl, inr, arith, append_assoc}
+use Rattle.std.specs.List.{AllByRecursion}
+use Rattle.std.specs.Map.{keys_of}
 use Rattle.std.specs.Cmp.{IsEquivalence}
 use Rattle.std.proofs.lemmas.Bool.{cases_lt}
-use Rattle.std.proofs.lemmas.List.{append-nil, get_or_past}
+use Rattle.std.proofs.lemmas.List.{get_or_past}
 use Rattle.std.proofs.lemmas.List.Sums.{sum_by-set}
 use Rattle.lru_index.specs.Buckets.{AreFiled, AreStrung, IsHit, IsSought, all_keys, first_place, in_bucket, last_place, node_at}
 use Rattle.lru_index.proofs.Strung.{strung_back}
 use Rattle.lru_index.specs.declared.buckets.Node.{Node}
 use Rattle.lru_index.specs.declared.buckets.Buckets.{Buckets}
-use Rattle.lru_index.specs.declared.buckets.Found.{Found}
 
 -- The key isn't in the front of what a bucket has, and what is left behind it begins at a place.
 pub record IsPassing {K : Type 0} (eq : K → K → Bool) (chain : List (K × ℕ)) (key : K) (last start : Option ℕ) (most counter : ℕ) : Type 0 where

@@ -1,6 +1,6 @@
-use Rattle.std.proofs.Common.{◌≡◌, ◌%◌, None, Some, cond, get_or, nat_eq, vec_len, sym, ap, ◌∙◌, subst}
+use Rattle.std.proofs.Common.{None, Some, cond, get_or, nat_eq, vec_len, ap, ◌∙◌}
 use Rattle.std.specs.Prelude.{slice_set}
-use Rattle.lru_index.specs.Buckets.{bucket_of, node_at}
+use Rattle.lru_index.specs.Buckets.{node_at}
 use Rattle.lru_index.proofs.Filed.{filed_put, own_bucket}
 use Rattle.lru_index.proofs.buckets.Buckets.put.Goals as goal
 

@@ -1,10 +1,7 @@
-use Rattle.std.proofs.Common.{◌≡◌, ◌%◌, ℕ, List, Option, None, Some, IsSome, cond, is_some, nat_eq, vec_len, refl, sym, ap, ◌∙◌, subst}
+use Rattle.std.proofs.Common.{◌≡◌, ℕ, List, Option, None, Some, IsSome, cond, is_some, nat_eq, vec_len, sym, ap, ◌∙◌, subst}
 use Rattle.std.specs.Prelude.{slice_set}
-use Rattle.std.specs.Option.{option_map}
-use Rattle.std.specs.Map.{lookup}
 use Rattle.std.specs.Cmp.{nat_eq_equiv}
-use Rattle.lru_index.specs.Chain.{hits}
-use Rattle.lru_index.specs.Buckets.{AreFiled, IsSought, bucket_of, in_bucket, node_at, place_of, with_next}
+use Rattle.lru_index.specs.Buckets.{AreFiled, IsSought, in_bucket, node_at}
 use Rattle.lru_index.proofs.Filed.{found_place, own_bucket, sought_stands, taken_by, still_none}
 use Rattle.lru_index.proofs.Strung.{Goes}
 use Rattle.lru_index.proofs.buckets.Buckets.take.Goals.{After-set_node, In_default-node}
