@@ -112,38 +112,6 @@ module _ {K : Type 0} {eq : K → K → Bool} (laws : IsEquivalence eq) (scatter
         hit = subst (IsHit eq key) (sym h.is) (laws.symm key node.key ∙ same);
       }
 
-  -- nothing is left
-  pub sought_end : (before at : Option ℕ) (counter : ℕ) → IsPassing eq chain key before at (vec_len table.nodes) counter → at ≡ None → IsSought eq chain key (record { before = before; place = None })
-  sought_end before at counter p none = by_case p.back refl
-    where
-      by_case : (back : List (K × ℕ)) → p.back ≡ back → IsSought eq chain key (record { before = before; place = None })
-      by_case [] is = record {
-        front = p.front;
-        back = [];
-        is = p.is ∙ ap (λ l. p.front ++ l) is;
-        passed = p.passed;
-        before = p.before;
-        place = refl;
-        hit = tt;
-      }
-      by_case (q ∷ qs) is = let some : None ≡ Some q.1 = sym none ∙ p.at ∙ ap first_place is in cc
-
-  -- each key was passed
-  pub sought_out : (before at : Option ℕ) (counter : ℕ) → IsPassing eq chain key before at (vec_len table.nodes) counter → vec_len table.nodes ≤ counter → IsSought eq chain key (record { before = before; place = at })
-  sought_out before at counter p all = by_case p.back refl
-    where
-      by_case : (back : List (K × ℕ)) → p.back ≡ back → IsSought eq chain key (record { before = before; place = at })
-      by_case [] is = record {
-        front = p.front;
-        back = [];
-        is = p.is ∙ ap (λ l. p.front ++ l) is;
-        passed = p.passed;
-        before = p.before;
-        place = p.at ∙ ap first_place is;
-        hit = tt;
-      }
-      by_case (q ∷ qs) is = let long : length p.back ≡ length qs + 1 = ap length is ∙ omega arith in absurd (omega (arith, p.fits, all, long))
-
   -- a place at which nothing stands is not where what is left begins
   pub stands_there : (before at : Option ℕ) (place counter : ℕ) → IsPassing eq chain key before at (vec_len table.nodes) counter → at ≡ Some place → node_at table.nodes.items place ≡ None → ⊥
   stands_there before at place counter p is none = by_case p.back refl
