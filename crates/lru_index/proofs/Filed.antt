@@ -1,7 +1,7 @@
 -- A table of keys in buckets after a key was put, and after one was taken out.
-use Rattle.std.proofs.Common.{◌≡◌, ℕ, suc, ◌+◌, ◌*◌, ◌%◌, ◌<◌, ◌≤◌, Bool, true, false, cond, List, [], ◌∷◌, ◌++◌, length, get_or, set, replicate, Option, Some, None, IsSome, is_some, nat_eq, eqb-true, vec_len, refl, sym, ap, ◌∙◌, subst, inl, inr, arith, mul-zero}
+use Rattle.std.proofs.Common.{◌≡◌, ℕ, ◌+◌, ◌%◌, ◌<◌, ◌≤◌, Bool, true, false, cond, List, [], ◌∷◌, ◌++◌, length, get_or, set, replicate, Option, Some, None, IsSome, is_some, nat_eq, eqb-true, vec_len, refl, sym, ap, ◌∙◌, subst, inl, inr, arith, mul-zero}
 use Rattle.std.specs.Option.{option_map}
-use Rattle.std.specs.List.{AllByRecursion, IsDistinct, sum_by}
+use Rattle.std.specs.List.{AllByRecursion, IsDistinct}
 use Rattle.std.specs.Map.{keys_of, lookup, remove_entry}
 use Rattle.std.specs.Cmp.{IsEquivalence, nat_eq_equiv}
 use Rattle.std.proofs.lemmas.Bool.{cases_eq, cases_lt, false≢true}
@@ -17,7 +17,7 @@ use Rattle.lru_index.specs.declared.buckets.Buckets.{Buckets}
 use Rattle.lru_index.specs.declared.buckets.Found.{Found}
 use Rattle.lru_index.proofs.Pairs.{all_removed, distinct_removed, found_removed, length_removed}
 use Rattle.lru_index.proofs.Sides.{found_second, removed_second, none_apart, all_front, at_middle}
-use Rattle.lru_index.proofs.Strung.{StandAt, free_apart, strung_put, strung_frame, strung_gone, places_apart, stand, places_differ, goes_beside, Goes, last_apart}
+use Rattle.lru_index.proofs.Strung.{StandAt, strung_back, free_apart, strung_put, strung_frame, strung_gone, places_apart, stand, places_differ, goes_beside, Goes, last_apart}
 
 module _ {X : Type 0} where
   -- what is read after another place was written
@@ -200,12 +200,20 @@ module _ {K : Type 0} {eq : K → K → Bool} (laws : IsEquivalence eq) (same : 
       (omega (arith, few, places, keys_put chains key filed.some place))
 
   -- the place of what was sought is that of the key
-  pub sought_place : (chain : List (K × ℕ)) (key : K) (found : Found) → IsSought eq chain key found → found.place ≡ lookup (eq key) chain
+  sought_place : (chain : List (K × ℕ)) (key : K) (found : Found) → IsSought eq chain key found → found.place ≡ lookup (eq key) chain
   sought_place chain key found s = s.place ∙ sym (ap (lookup (eq key)) s.is ∙ found_second (eq key) s.front s.back s.passed ∙ at_first s.back s.hit)
     where
       at_first : (back : List (K × ℕ)) → IsHit eq key back → lookup (eq key) back ≡ first_place back
       at_first [] h = refl
       at_first (p ∷ ps) h = rw h refl
+
+  -- the bucket that a call seeks a key in is the key's own
+  pub own_bucket : (table : Buckets K) (chains : List (List (K × ℕ))) (bucket : ℕ) (key : K) → AreFiled eq scatter table chains → bucket ≡ scatter key % vec_len table.firsts → bucket ≡ bucket_of eq scatter chains key
+  own_bucket table chains bucket key filed is = is ∙ ap (λ n. scatter key % n) (sym filed.buckets)
+
+  -- so the place of what it found there is that of the key
+  pub found_place : (table : Buckets K) (chains : List (List (K × ℕ))) (bucket : ℕ) (key : K) (found : Found) → AreFiled eq scatter table chains → bucket ≡ scatter key % vec_len table.firsts → IsSought eq (in_bucket chains bucket) key found → found.place ≡ place_of eq scatter chains key
+  found_place table chains bucket key found filed is s = sought_place (in_bucket chains bucket) key found s ∙ ap (λ b. lookup (eq key) (in_bucket chains b)) (own_bucket table chains bucket key filed is)
 
   -- A key less, whose place was found behind the front of its bucket.
   module _ (old new : Buckets K) (chains : List (List (K × ℕ))) (key : K) (filed : AreFiled eq scatter old chains) (before next : Option ℕ) (front back : List (K × ℕ)) (p : K × ℕ)
@@ -262,18 +270,18 @@ module _ {K : Type 0} {eq : K → K → Bool} (laws : IsEquivalence eq) (same : 
 
     all_apart : (b y : ℕ) (ny : Node K) (ps : List (K × ℕ)) → nat_eq its b ≡ false → at y ≡ Some ny → scatter ny.key % length chains ≡ b → AtHome ps → AllByRecursion (λ f. nat_eq f.1 y ≡ false) ps
     all_apart b y ny [] t here theirs a = tt
-    all_apart b y ny (f ∷ fs) t here theirs a = (home_apart b f.1 y a.0.0 ny t a.0.1.0 a.0.1.1 here theirs, all_apart b y ny fs t here theirs a.1)
+    all_apart b y ny (f ∷ fs) t here theirs a = (home_apart b f.1 y a.0.0 ny t a.0.1 a.0.2 here theirs, all_apart b y ny fs t here theirs a.1)
 
     each_beside : (b : ℕ) → nat_eq its b ≡ false → (qs : List (K × ℕ)) → StandAt at (λ k. scatter k % length chains ≡ b) qs → AllByRecursion (λ q. now q.1 ≡ at q.1) qs
     each_beside b t [] a = tt
     each_beside b t (q ∷ qs) a =
         let home = at_middle _ front p back home_stands in
-        let away = home_apart b p.1 q.1 home.0 a.0.0 t home.1.0 home.1.1 a.0.1.0 a.0.1.1 in
-        let aside = last_apart q.1 None front refl (all_apart b q.1 a.0.0 front t a.0.1.0 a.0.1.1 (all_front _ front (p ∷ back) home_stands)) in
+        let away = home_apart b p.1 q.1 home.0 a.0.0 t home.1 home.2 a.0.1 a.0.2 in
+        let aside = last_apart q.1 None front refl (all_apart b q.1 a.0.0 front t a.0.1 a.0.2 (all_front _ front (p ∷ back) home_stands)) in
         (goes_beside at now p.1 next (last_place None front) goes_here q.1 away aside, each_beside b t qs a.1)
 
-    there : place_of eq scatter chains key ≡ Some p.1
-    there = ap (lookup (eq key)) is ∙ found_second (eq key) front (p ∷ back) passed ∙ ap (λ b. cond b (Some p.1) (lookup (eq key) back)) hit
+    placed : place_of eq scatter chains key ≡ Some p.1
+    placed = ap (lookup (eq key)) is ∙ found_second (eq key) front (p ∷ back) passed ∙ ap (λ b. cond b (Some p.1) (lookup (eq key) back)) hit
 
     pub filed_taken : AreFiled eq scatter new (taken_out eq scatter chains key)
     filed_taken =
@@ -284,7 +292,7 @@ module _ {K : Type 0} {eq : K → K → Bool} (laws : IsEquivalence eq) (same : 
         (λ b t. strung_frame at now (in_bucket chains b) (each_beside b t (in_bucket chains b) (stand at (λ k. scatter k % length chains ≡ b) (in_bucket chains b) (filed.strung b) (filed.own b))) (filed.strung b))
         (all_removed (eq key) (λ k. scatter k % length chains ≡ its) ps (filed.own its))
         (distinct_removed (eq key) eq ps (filed.distinct its))
-        (omega (arith, keys_taken chains key filed.some (rw there refl), filed.few, places))
+        (omega (arith, keys_taken chains key filed.some (rw placed refl), filed.few, places))
 
   -- The same from what a call found in the key's bucket.
   pub taken_by : (old new : Buckets K) (chains : List (List (K × ℕ))) (key : K) → AreFiled eq scatter old chains → (found : Found) (gone : ℕ) (node : Node K) → IsSought eq (in_bucket chains (bucket_of eq scatter chains key)) key found → found.place ≡ Some gone → node_at old.nodes.items gone ≡ Some node
@@ -307,13 +315,9 @@ module _ {K : Type 0} {eq : K → K → Bool} (laws : IsEquivalence eq) (same : 
       by_case (p ∷ back) is =
           let at_p : p.1 ≡ gone = some_same (sym (s.place ∙ ap first_place is) ∙ there) in
           let whole = s.is ∙ ap (λ l. s.front ++ l) is in
-          let mine = (rest_strung (node_at old.nodes.items) s.front (p ∷ back) (subst (AreStrung (node_at old.nodes.items)) whole (filed.strung (bucket_of eq scatter chains key)))).0 in
+          let mine = (strung_back (node_at old.nodes.items) s.front (p ∷ back) (subst (AreStrung (node_at old.nodes.items)) whole (filed.strung (bucket_of eq scatter chains key)))).0 in
           let node_is = some_node (sym stands ∙ ap (node_at old.nodes.items) (sym at_p) ∙ mine) in
           filed_taken old new chains key filed found.before node.next s.front back p whole s.passed (subst (IsHit eq key) is s.hit) s.before (ap (λ (n : Node K). n.next) node_is) firsts buckets (subst (λ x. Goes (node_at old.nodes.items) (node_at new.nodes.items) x node.next found.before) (sym at_p) goes) places
-
-      rest_strung : (at : ℕ → Option (Node K)) (front back : List (K × ℕ)) → AreStrung at (front ++ back) → AreStrung at back
-      rest_strung at [] back s = s
-      rest_strung at (f ∷ front) back s = rest_strung at front back s.1
 
   -- at the place that was found stands a node
   pub sought_stands : (table : Buckets K) (chains : List (List (K × ℕ))) (bucket : ℕ) (key : K) → AreFiled eq scatter table chains → (found : Found) (place : ℕ) → IsSought eq (in_bucket chains bucket) key found → found.place ≡ Some place → node_at table.nodes.items place ≡ None → ⊥
@@ -328,13 +332,9 @@ module _ {K : Type 0} {eq : K → K → Bool} (laws : IsEquivalence eq) (same : 
       no_node : (n : Node K) → Some n ≡ None → ⊥
       no_node n e = cc
 
-      behind : (at : ℕ → Option (Node K)) (front back : List (K × ℕ)) → AreStrung at (front ++ back) → AreStrung at back
-      behind at [] back h = h
-      behind at (f ∷ front) back h = behind at front back h.1
-
       by_case : (back : List (K × ℕ)) → s.back ≡ back → ⊥
       by_case [] is = no_first (sym (s.place ∙ ap first_place is) ∙ there)
       by_case (p ∷ back) is =
           let at_p : p.1 ≡ place = some_same (sym (s.place ∙ ap first_place is) ∙ there) in
-          let mine = (behind (node_at table.nodes.items) s.front (p ∷ back) (subst (AreStrung (node_at table.nodes.items)) (s.is ∙ ap (λ l. s.front ++ l) is) (filed.strung bucket))).0 in
+          let mine = (strung_back (node_at table.nodes.items) s.front (p ∷ back) (subst (AreStrung (node_at table.nodes.items)) (s.is ∙ ap (λ l. s.front ++ l) is) (filed.strung bucket))).0 in
           no_node _ (sym mine ∙ ap (node_at table.nodes.items) at_p ∙ none)

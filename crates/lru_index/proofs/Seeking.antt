@@ -1,25 +1,29 @@
 -- Going along the keys of a bucket.
-use Rattle.std.proofs.Common.{◌≡◌, ℕ, ◌+◌, ◌<◌, ◌≤◌, Bool, true, false, cond, List, [], ◌∷◌, ◌++◌, length, get_or, set, Option, Some, None, IsSome, nat_eq, vec_len, refl, sym, ap, ◌∙◌, subst, inl, inr, arith, append_assoc}
-use Rattle.std.specs.List.{AllByRecursion, sum_by}
-use Rattle.std.specs.Map.{keys_of, lookup}
+use Rattle.std.proofs.Common.{◌≡◌, ℕ, ◌+◌, ◌≤◌, Bool, true, false, List, [], ◌∷◌, ◌++◌, length, get_or, Option, Some, None, vec_len, refl, sym, ap, ◌∙◌, subst, inl, inr, arith, append_assoc}
+use Rattle.std.specs.List.{AllByRecursion}
+use Rattle.std.specs.Map.{keys_of}
 use Rattle.std.specs.Cmp.{IsEquivalence}
 use Rattle.std.proofs.lemmas.Bool.{cases_lt}
-use Rattle.std.proofs.lemmas.List.{append-nil, get_or_past}
+use Rattle.std.proofs.lemmas.List.{get_or_past}
 use Rattle.std.proofs.lemmas.List.Sums.{sum_by-set}
 use Rattle.lru_index.specs.Buckets.{AreFiled, AreStrung, IsHit, IsSought, all_keys, first_place, in_bucket, last_place, node_at}
+use Rattle.lru_index.proofs.Strung.{strung_back}
 use Rattle.lru_index.specs.declared.buckets.Node.{Node}
 use Rattle.lru_index.specs.declared.buckets.Buckets.{Buckets}
-use Rattle.lru_index.specs.declared.buckets.Found.{Found}
 
 -- The key isn't in the front of what a bucket has, and what is left behind it begins at a place.
-pub record IsPassing {K : Type 0} (eq : K → K → Bool) (chain : List (K × ℕ)) (key : K) (before at : Option ℕ) (most counter : ℕ) : Type 0 where
+pub record IsPassing {K : Type 0} (eq : K → K → Bool) (chain : List (K × ℕ)) (key : K) (last start : Option ℕ) (most counter : ℕ) : Type 0 where
   pub front : List (K × ℕ)
   pub back : List (K × ℕ)
   pub is : chain ≡ front ++ back
   pub passed : AllByRecursion (λ other. eq key other ≡ false) (keys_of front)
-  pub before : before ≡ last_place None front
-  pub at : at ≡ first_place back
+  pub before : last ≡ last_place None front
+  pub at : start ≡ first_place back
   pub fits : length back + counter ≤ most
+
+-- A call has gone so far along a bucket, whatever the table stands for.
+abbrev pub Passes : {K : Type 0} → (K → K → Bool) → (K → ℕ) → Buckets K → ℕ → K → Option ℕ → Option ℕ → ℕ → Type 0
+Passes {K} eq scatter table bucket key last start counter = (chains : List (List (K × ℕ))) → AreFiled eq scatter table chains → IsPassing eq (in_bucket chains bucket) key last start (vec_len table.nodes) counter
 
 module _ {K : Type 0} where
   keys_push : (P : K → Type 0) (front : List (K × ℕ)) (p : K × ℕ) → AllByRecursion P (keys_of front) → P p.0 → AllByRecursion P (keys_of (front ++ p ∷ []))
@@ -29,10 +33,6 @@ module _ {K : Type 0} where
   last_push : (before : Option ℕ) (front : List (K × ℕ)) (p : K × ℕ) → last_place before (front ++ p ∷ []) ≡ Some p.1
   last_push before [] p = refl
   last_push before (f ∷ front) p = last_push (Some f.1) front p
-
-  strung_back : (at : ℕ → Option (Node K)) (front back : List (K × ℕ)) → AreStrung at (front ++ back) → AreStrung at back
-  strung_back at [] back s = s
-  strung_back at (f ∷ front) back s = strung_back at front back s.1
 
   -- no bucket has more keys than all have
   bucket_few : (chains : List (List (K × ℕ))) (b : ℕ) → length (in_bucket chains b) ≤ all_keys chains
@@ -84,7 +84,7 @@ module _ {K : Type 0} {eq : K → K → Bool} (laws : IsEquivalence eq) (scatter
       some_node e = cc
 
   -- one key more that it isn't
-  pub passing_step : (before at : Option ℕ) (place counter : ℕ) (node : Node K) → IsPassing eq chain key before at (vec_len table.nodes) counter → at ≡ Some place → node_at table.nodes.items place ≡ Some node → eq node.key key ≡ false → IsPassing eq chain key at node.next (vec_len table.nodes) (counter + 1)
+  pub passing_step : (before at : Option ℕ) (place counter : ℕ) (node : Node K) → IsPassing eq chain key before at (vec_len table.nodes) counter → at ≡ Some place → node_at table.nodes.items place ≡ Some node → eq node.key key ≡ false → IsPassing eq chain key (Some place) node.next (vec_len table.nodes) (counter + 1)
   passing_step before at place counter node p is there other =
       let h = here p.front p.back place node p.is (sym p.at ∙ is) there in
       let long : length p.back ≡ length h.rest + 1 = ap length h.is ∙ omega arith in
@@ -93,13 +93,13 @@ module _ {K : Type 0} {eq : K → K → Bool} (laws : IsEquivalence eq) (scatter
         back = h.rest;
         is = p.is ∙ ap (λ l. p.front ++ l) h.is ∙ sym (append_assoc p.front ((node.key, place) ∷ []) h.rest);
         passed = keys_push (λ k. eq key k ≡ false) p.front (node.key, place) p.passed (laws.symm key node.key ∙ other);
-        before = is ∙ sym (last_push None p.front (node.key, place));
+        before = sym (last_push None p.front (node.key, place));
         at = h.next;
         fits = omega (arith, p.fits, long);
       }
 
   -- it is there
-  pub sought_hit : (before at : Option ℕ) (place counter : ℕ) (node : Node K) → IsPassing eq chain key before at (vec_len table.nodes) counter → at ≡ Some place → node_at table.nodes.items place ≡ Some node → eq node.key key ≡ true → IsSought eq chain key (record { before = before; place = at })
+  pub sought_hit : (before at : Option ℕ) (place counter : ℕ) (node : Node K) → IsPassing eq chain key before at (vec_len table.nodes) counter → at ≡ Some place → node_at table.nodes.items place ≡ Some node → eq node.key key ≡ true → IsSought eq chain key (record { before = before; place = Some place })
   sought_hit before at place counter node p is there same =
       let h = here p.front p.back place node p.is (sym p.at ∙ is) there in
       record {
@@ -108,41 +108,9 @@ module _ {K : Type 0} {eq : K → K → Bool} (laws : IsEquivalence eq) (scatter
         is = p.is;
         passed = p.passed;
         before = p.before;
-        place = p.at;
+        place = sym is ∙ p.at;
         hit = subst (IsHit eq key) (sym h.is) (laws.symm key node.key ∙ same);
       }
-
-  -- nothing is left
-  pub sought_end : (before at : Option ℕ) (counter : ℕ) → IsPassing eq chain key before at (vec_len table.nodes) counter → at ≡ None → IsSought eq chain key (record { before = before; place = None })
-  sought_end before at counter p none = by_case p.back refl
-    where
-      by_case : (back : List (K × ℕ)) → p.back ≡ back → IsSought eq chain key (record { before = before; place = None })
-      by_case [] is = record {
-        front = p.front;
-        back = [];
-        is = p.is ∙ ap (λ l. p.front ++ l) is;
-        passed = p.passed;
-        before = p.before;
-        place = refl;
-        hit = tt;
-      }
-      by_case (q ∷ qs) is = let some : None ≡ Some q.1 = sym none ∙ p.at ∙ ap first_place is in cc
-
-  -- each key was passed
-  pub sought_out : (before at : Option ℕ) (counter : ℕ) → IsPassing eq chain key before at (vec_len table.nodes) counter → vec_len table.nodes ≤ counter → IsSought eq chain key (record { before = before; place = at })
-  sought_out before at counter p all = by_case p.back refl
-    where
-      by_case : (back : List (K × ℕ)) → p.back ≡ back → IsSought eq chain key (record { before = before; place = at })
-      by_case [] is = record {
-        front = p.front;
-        back = [];
-        is = p.is ∙ ap (λ l. p.front ++ l) is;
-        passed = p.passed;
-        before = p.before;
-        place = p.at ∙ ap first_place is;
-        hit = tt;
-      }
-      by_case (q ∷ qs) is = let long : length p.back ≡ length qs + 1 = ap length is ∙ omega arith in absurd (omega (arith, p.fits, all, long))
 
   -- a place at which nothing stands is not where what is left begins
   pub stands_there : (before at : Option ℕ) (place counter : ℕ) → IsPassing eq chain key before at (vec_len table.nodes) counter → at ≡ Some place → node_at table.nodes.items place ≡ None → ⊥

@@ -23,10 +23,10 @@ module _ {K : Type 0} where
 
   -- where two places have keys of two kinds, they are two places
   pub places_differ : (at : ℕ → Option (Node K)) (P : K → Type 0) (x y : ℕ) (one other : Node K) → at x ≡ Some one → at y ≡ Some other → (P other.key → ⊥) → P one.key → nat_eq x y ≡ false
-  places_differ at P x y one other there here no yes = (elim (nat_eq x y) as (λ b. nat_eq x y ≡ b → b ≡ false) [
+  places_differ at P x y one other there here unlike fits = (elim (nat_eq x y) as (λ b. nat_eq x y ≡ b → b ≡ false) [
     | true ↦ λ e.
         let same : one ≡ other = some_same (sym there ∙ ap at (eqb-true x y e) ∙ here) in
-        absurd (no (subst (λ n. P n.key) same yes))
+        absurd (unlike (subst (λ n. P n.key) same fits))
     | false ↦ λ e. refl
   ]) refl
     where
@@ -51,6 +51,11 @@ module _ {K : Type 0} where
   pub strung_frame : (at now : ℕ → Option (Node K)) (ps : List (K × ℕ)) → AllByRecursion (λ p. now p.1 ≡ at p.1) ps → AreStrung at ps → AreStrung now ps
   strung_frame at now [] a s = tt
   strung_frame at now (p ∷ ps) a s = (a.0 ∙ s.0, strung_frame at now ps a.1 s.1)
+
+  -- what comes behind some of them stands too
+  pub strung_back : (at : ℕ → Option (Node K)) (front back : List (K × ℕ)) → AreStrung at (front ++ back) → AreStrung at back
+  strung_back at [] back s = s
+  strung_back at (f ∷ front) back s = strung_back at front back s.1
 
   pub all_of : (P Q : K × ℕ → Type 0) → ((p : K × ℕ) → P p → Q p) → (ps : List (K × ℕ)) → AllByRecursion P ps → AllByRecursion Q ps
   all_of P Q f [] a = tt

@@ -1,4 +1,4 @@
-use Rattle.std.proofs.Common.{◌≡◌, None, Some, sym, ◌∙◌}
+use Rattle.std.proofs.Common.{sym, ◌∙◌}
 use Rattle.lru_index.specs.Buckets.{node_at}
 use Rattle.lru_index.proofs.Filed.{changed_node, unchanged_node}
 use Rattle.lru_index.proofs.buckets.Buckets.set_next.Goals as goal
