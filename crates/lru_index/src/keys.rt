@@ -1,7 +1,6 @@
 //! What an index may be kept by.
 ghost use Rattle.std.specs.Prelude.{◌≡◌, ℕ, ◌*◌, ◌%◌, ◌^◌, ◌≤◌, true, List, length};
 ghost use Rattle.std.proofs.Common.{eqb-true};
-
 ghost use Rattle.lru_index.specs.NameKeys.{scattered_on};
 
 use kabi_types::Name27;
@@ -68,7 +67,6 @@ impl NameKey {
 
 impl Key for NameKey {
     ghost use Rattle.lru_index.specs.NameKeys.{name_scatter};
-
     ghost use Rattle.lru_index.specs.Keys.{same_name};
 
     ghost scatter = { name_scatter };
