@@ -1,8 +1,7 @@
 -- What an index keeps, and what a pair that is put, taken out or touched leaves of it.
-use Rattle.std.proofs.Common.{◌≡◌, ◌≢◌, ℕ, zero, suc, ◌+◌, ◌-◌, ◌/◌, ◌<◌, ◌≤◌, Bool, true, false, ◌&&◌, cond, List, [], ◌∷◌, ◌++◌, length, Option, Some, None, IsSome, IfSome, vec_len, nat_eq, eqb-true, ne_eqb, refl, sym, ap, ◌∙◌, subst, arith, length-append}
+use Rattle.std.proofs.Common.{◌≡◌, ◌≢◌, ℕ, zero, suc, ◌+◌, ◌-◌, ◌/◌, ◌<◌, ◌≤◌, Bool, true, false, cond, List, [], ◌∷◌, ◌++◌, length, Option, Some, None, IsSome, IfSome, vec_len, nat_eq, eqb-true, ne_eqb, refl, sym, ap, ◌∙◌, subst, arith, length-append}
 use Rattle.std.specs.Bool.{MatchBool}
 use Rattle.std.specs.Option.{option_map, option_map_or}
-use Rattle.std.proofs.lemmas.Bool.{false≢true}
 use Rattle.std.proofs.lemmas.List.{append_assoc, append-nil, get_or_past}
 use Rattle.std.specs.Prelude.{vec_capacity}
 use Rattle.std.specs.List.{AllByRecursion, IsDistinct}
@@ -10,7 +9,7 @@ use Rattle.std.specs.Map.{keys_of, lookup, remove_entry}
 use Rattle.std.specs.Cmp.{IsEquivalence, nat_eq_equiv}
 use Rattle.lru_index.specs.Order.{order, IsOrder, touched, warmer, first_key, coldest_of}
 use Rattle.lru_index.specs.Chain.{IsChain, AreLinked, link_at, first_or, walk, items_of}
-use Rattle.lru_index.specs.Buckets.{AreFiled, node_at, place_of, put_first, taken_out, no_chains, all_keys, in_bucket, bucket_of}
+use Rattle.lru_index.specs.Buckets.{AreFiled, node_at, place_of, put_first, taken_out, no_chains, all_keys, bucket_of}
 use Rattle.lru_index.specs.Index.{IsKept, IsIndex, IsFree, IsPlaceApart, AreApart, HasPlace, falling, all_free, pairs_in, places_in}
 use Rattle.lru_index.specs.declared.buckets.Buckets.{Buckets}
 use Rattle.lru_index.specs.declared.chain.Link.{Link}
@@ -19,7 +18,6 @@ use Rattle.lru_index.proofs.Chained.{chain_item}
 use Rattle.lru_index.proofs.Filed.{nothing_in, place_put, place_taken, keys_put, keys_taken}
 use Rattle.lru_index.proofs.Pairs.{length_removed, distinct_put, distinct_removed, found_put, found_removed, touched_found, distinct_touched, length_touched}
 use Rattle.lru_index.proofs.Placed.{length_pairs, keys_same, pairs_append, places_append, none_placed, pairs_removed, places_removed, pairs_touched, places_touched, agree}
-use Rattle.lru_index.proofs.Table.{within_table}
 
 pub all_before : {A : Type 0} (P : A → Type 0) (xs ys : List A) → AllByRecursion P (xs ++ ys) → AllByRecursion P xs
 all_before P [] ys a = tt

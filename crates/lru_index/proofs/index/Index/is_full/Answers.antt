@@ -1,4 +1,4 @@
-use Rattle.std.proofs.Common.{◌≡◌, ◌+◌, ◌-◌, ◌<◌, ◌≤◌, length, vec_len, subst, ap, ◌∙◌, arith, length-append}
+use Rattle.std.proofs.Common.{◌≡◌, ◌+◌, ◌-◌, ◌<◌, length, vec_len, subst, ap, ◌∙◌, arith, length-append}
 use Rattle.std.specs.Bool.{MatchBool}
 use Rattle.lru_index.specs.Chain.{items_of}
 use Rattle.lru_index.specs.Index.{falling, pairs_in}

@@ -2,13 +2,13 @@ use Rattle.std.proofs.Common.{◌≡◌, ◌<◌, ◌∷◌, ◌++◌, [], None,
 use Rattle.std.specs.Prelude.{vec_capacity}
 use Rattle.std.specs.List.{AllByRecursion}
 use Rattle.std.specs.Map.{lookup}
-use Rattle.lru_index.specs.Buckets.{place_of, all_keys}
 use Rattle.lru_index.specs.Chain.{items_of}
 use Rattle.lru_index.specs.Order.{order}
-use Rattle.lru_index.specs.Index.{IsFree, IsKept, all_free, pairs_in}
+use Rattle.lru_index.specs.Index.{IsKept, all_free, pairs_in}
 use Rattle.lru_index.proofs.Kept.{IsSeen, seen, kept_put, kept_order, all_last, keys_fit, place_absent}
 use Rattle.lru_index.proofs.Pairs.{found_put}
 use Rattle.lru_index.proofs.Placed.{length_pairs, pairs_append}
+use Rattle.lru_index.proofs.index.Index.put.Goals.{After-free_place-place}
 use Rattle.lru_index.proofs.index.Index.put.Goals as goal
 
 pub free_place-place-requires-clause-room : goal.free_place-place-requires-clause-room
@@ -17,7 +17,7 @@ free_place-place-requires-clause-room g c =
     let less : length (pairs_in items) < c.self.inside.capacity = subst (λ o. length o.pairs < o.capacity) (sym c.self.view_is) c.requires.room in
     omega (arith, less, length_pairs items)
 
-absent : (g : _) (c : goal.After-free_place-place g) → lookup (g.K.PartialEq.eq c.args.key) (pairs_in (items_of c.self.inside.chain c.self.inside.capacity)) ≡ None
+absent : (g : _) (c : After-free_place-place g) → lookup (g.K.PartialEq.eq c.args.key) (pairs_in (items_of c.self.inside.chain c.self.inside.capacity)) ≡ None
 absent g c = ap (λ o. lookup (g.K.PartialEq.eq c.args.key) o.pairs) c.self.view_is ∙ c.requires.absent
 
 pub put-requires-clause-buckets : goal.put-requires-clause-buckets
@@ -47,9 +47,9 @@ now_seen g c =
     let free = c.free_place-place.new.free.items in
     let links = c.add.ensures.places in
     let none = (all_last _ (all_free most (vec_len chain.links) free) place kept.are_free).no_key in
-    let filed = c.put.ensures.put kept.chains kept.filed none (place_absent g.K.PartialEq.eq g.K.Key.scatter table chain (all_free most (vec_len chain.links) free ++ place ∷ []) most items c.args.key kept (absent g c))
+    let filed = c.put.ensures.put kept.chains kept.filed none (place_absent g.K.PartialEq.eq g.K.Key.scatter table chain (all_free most (vec_len chain.links) free ++ place ∷ []) most items c.args.key kept (absent g (goal.at.invariant_of-self g c).After-free_place-place))
     (keys_fit g.K.PartialEq.eq g.K.Key.scatter table chain free most place items at.within at.places kept) in
-    let made = kept_put g.met.K.Eq.laws g.met.K.Key.same g.K.Key.scatter table c.put.new.self chain c.add.new.self (all_free most (vec_len chain.links) free) place most items c.args.key c.args.slot kept (absent g c) filed c.put.ensures.others (c.add.ensures.added items kept.chained) in
+    let made = kept_put g.met.K.Eq.laws g.met.K.Key.same g.K.Key.scatter table c.put.new.self chain c.add.new.self (all_free most (vec_len chain.links) free) place most items c.args.key c.args.slot kept (absent g (goal.at.invariant_of-self g c).After-free_place-place) filed c.put.ensures.others (c.add.ensures.added items kept.chained) in
     seen _ _ _ _ _ _ _ _ (subst (λ n. IsKept g.K.PartialEq.eq g.K.Key.scatter c.put.new.self c.add.new.self (all_free most n free) most (items ++ (place, (c.args.key, c.args.slot)) ∷ [])) (sym links) made)
     (subst (λ n. AllByRecursion (λ other. other < n) free) (sym links) at.made) (c.put.ensures.places ∙ at.places ∙ sym links) (omega (arith, at.within, links)) at.free_fits (omega (arith, at.links_fit, c.add.ensures.capacity)) (omega (arith, at.nodes_fit, c.put.ensures.capacity))
 
