@@ -13,10 +13,13 @@ if_first now (Some x) Short xs Fact is gives = gives x is
 pub whole : (index at : ℕ) (bytes chunk : List ℕ) → at ≤ 1024 * index → IsFirstChunk (drop (1024 * index - at) bytes) chunk 1024
     → (at ≤ 1024 * index) × (1024 * (index + 1) ≤ at + length bytes) × ((k : ℕ) → k < 1024 → get_or chunk k 0 ≡ get_or bytes (1024 * index + k - at) 0)
 whole index at bytes chunk low is =
-    let long : length (drop (1024 * index - at) bytes) ≡ length bytes - (1024 * index - at) = length-drop (1024 * index - at) bytes in
-    (low, omega (arith, low, is.enough, long), λ k lt.
-        let place : 1024 * index - at + k ≡ 1024 * index + k - at = omega (arith, low) in
-        ap (λ (xs : List ℕ). get_or xs k 0) is.same ∙ get_or-take 1024 (drop (1024 * index - at) bytes) k 0 lt ∙ get_or-drop (1024 * index - at) bytes k 0 ∙ ap (λ (n : ℕ). get_or bytes n 0) place)
+    let long : length (drop (1024 * index - at) bytes) ≡ length bytes - (1024 * index - at) = length-drop (1024 * index - at) bytes in (
+      low,
+      omega (arith, low, is.enough, long),
+      λ k lt.
+          let place : 1024 * index - at + k ≡ 1024 * index + k - at = omega (arith, low) in
+          ap (λ (xs : List ℕ). get_or xs k 0) is.same ∙ get_or-take 1024 (drop (1024 * index - at) bytes) k 0 lt ∙ get_or-drop (1024 * index - at) bytes k 0 ∙ ap (λ (n : ℕ). get_or bytes n 0) place,
+    )
 
 -- where it is written it has them
 pub whole_here : (index at number : ℕ) (disk : List (List ℕ)) (bytes chunk : List ℕ) (place : ℕ) → number < length disk → ((k : ℕ) → k < 1024 → get_or chunk k 0 ≡ get_or bytes (1024 * index + k - at) 0) → place / 1024 ≡ index

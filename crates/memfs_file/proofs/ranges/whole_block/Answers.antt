@@ -11,4 +11,4 @@ returns c =
     let rest : List ℕ = drop from bytes in
     let fits : length rest ≤ length bytes - from = omega (arith, length-drop from bytes) in
     if_first (λ x. x.now) c.first_chunk.result _ (take (length bytes - from) rest) _ c.first_chunk.ensures.cases (λ x is.
-        whole c.args.index c.args.at bytes x.now (omega arith) (subst (λ (xs : List ℕ). IsFirstChunk xs x.now 1024) (take_all (length bytes - from) rest fits) is))
+    whole c.args.index c.args.at bytes x.now (omega arith) (subst (λ (xs : List ℕ). IsFirstChunk xs x.now 1024) (take_all (length bytes - from) rest fits) is))
