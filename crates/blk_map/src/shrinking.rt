@@ -1,4 +1,4 @@
-ghost use Rattle.std.specs.Prelude.{◌≡◌, ℕ, ◌≤◌};
+ghost use Rattle.std.specs.Prelude.{ℕ, ◌≤◌};
 ghost use Rattle.posix_defs.specs.SoundDisk.{HasNode, IsMarked, Sound};
 ghost use Rattle.posix_defs.specs.NodeChange.{Resizes};
 ghost use Rattle.blk_map.specs.Named.{MayHaveSize};

@@ -1,5 +1,5 @@
 -- A block of which a range has all bytes.
-use Rattle.std.proofs.Common.{◌≡◌, ℕ, ◌+◌, ◌-◌, ◌*◌, ◌/◌, ◌%◌, ◌<◌, ◌≤◌, List, [], Option, None, Some, IfSome, length, get_or, take, drop, set, sym, ap, ◌∙◌, arith, length-drop}
+use Rattle.std.proofs.Common.{◌≡◌, ℕ, ◌+◌, ◌-◌, ◌*◌, ◌/◌, ◌%◌, ◌<◌, ◌≤◌, List, [], Option, None, Some, IfSome, length, get_or, drop, set, ap, ◌∙◌, arith, length-drop}
 use Rattle.std.specs.Prelude.{MatchOption}
 use Rattle.std.proofs.lemmas.List.{get_or-take, get_or-drop, get_or-set_same}
 use Rattle.core.specs.Array.{IsFirstChunk}

@@ -1,11 +1,10 @@
 //! Room for bytes that are to be written: how many of them fit, and the growth that they take.
 
-ghost use Rattle.std.specs.Prelude.{◌≡◌, ◌≢◌, ℕ, ◌+◌, ◌-◌, ◌*◌, ◌/◌, ◌<◌, ◌≤◌, ◌⊎◌, ◌↔◌, Err, IfErr, IfOk, length, max, slice_index};
+ghost use Rattle.std.specs.Prelude.{◌≡◌, ℕ, ◌+◌, ◌*◌, ◌/◌, ◌<◌, ◌≤◌, IfErr, IfOk, max};
 ghost use Rattle.kabi_values.specs.declared.errnos.Errno.TheVariants.{ENOSPC};
 ghost use Rattle.posix_defs.specs.DiskFormat.{block_size, greatest_size, data_blocks, blocks_of};
-ghost use Rattle.posix_defs.specs.FileBytes.{capacity, fitting};
+ghost use Rattle.posix_defs.specs.FileBytes.{fitting};
 ghost use Rattle.posix_defs.specs.SoundDisk.{HasNode, Sound, free_in_map};
-ghost use Rattle.posix_defs.specs.DiskContents.{byte_at};
 ghost use Rattle.blk_map.specs.Found.{free_below};
 ghost use Rattle.blk_map.specs.Growing.{GrowsBut};
 ghost use Rattle.blk_map.specs.Named.{file};

@@ -1,7 +1,5 @@
-use Rattle.std.proofs.Common.{ℕ, Result, Ok, Err, OnOk}
+use Rattle.std.proofs.Common.{Result, Ok, Err, OnOk}
 use Rattle.kabi_values.specs.declared.errnos.Errno.{Errno}
-use Rattle.posix_defs.specs.NodeChange.{Grows}
-use Rattle.blk_map.specs.Growing.{GrowsBut}
 use Rattle.blk_map.proofs.Growth.{all_zeros}
 use Rattle.blk_map.proofs.growing.grow.Goals as goal
 

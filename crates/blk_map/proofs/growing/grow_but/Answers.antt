@@ -1,10 +1,10 @@
-use Rattle.std.proofs.Common.{◌≡◌, ◌≢◌, ℕ, ◌<◌, ◌-◌, inl, inr, List, length, get_or, take, sym, ap, ◌∙◌, arith}
-use Rattle.std.proofs.lemmas.List.{get_or-take}
+use Rattle.std.proofs.Common.{◌≡◌, ◌≢◌, ℕ, ◌<◌, ◌-◌, inl, inr, List, length, get_or, take, sym, ap, ◌≤◌, ◌∙◌, arith}
+use Rattle.std.proofs.lemmas.List.{get_or-take, length-take-le}
 use Rattle.posix_defs.specs.DiskFormat.{blocks_of}
 use Rattle.posix_defs.specs.SoundDisk.{bit_of, block_bytes, free_in_map}
 use Rattle.blk_map.specs.Found.{free_below}
 use Rattle.blk_map.proofs.Blocks.{got}
-use Rattle.blk_map.proofs.Counted.{given_none}
+use Rattle.blk_map.proofs.Counted.{given_none, one_more_at_most}
 use Rattle.blk_map.proofs.SameBlocks.{same_grows}
 use Rattle.blk_map.proofs.growing.grow_but.Goals as goal
 
@@ -35,7 +35,8 @@ take_blocks-requires-clause-lowest g c = λ block free.
     let found : List ℕ = c.lowest_free-count.new.found in
     let full : c.lowest_free-count.result ≡ need = omega (arith, c.lowest_free-count.ensures.many, c.if-count-need.false) in
     let long : length found ≡ 267 = c.lowest_free-count.array_long in
-    let len : length (take need found) ≡ need = omega (arith, long) in
+    let within : need ≤ length found = omega (arith, long, one_more_at_most c.args.size, c.data_count.ensures, c.block_count.ensures) in
+    let len : length (take need found) ≡ need = length-take-le need found within in
     let at : (k : ℕ) → k < need → get_or (take need found) k 0 ≡ get_or found k 0 = λ k lt. get_or-take need found k 0 lt in
     let map : block_bytes (g.B.Blocks.blocks c.get-map.new.self) 0 ≡ c.get-map.result =
     ap (λ (disk : List (List ℕ)). block_bytes disk 0) c.get-map.ensures.kept ∙ got (g.B.Blocks.blocks c.args.b.now) 0 c.get-map.result c.get-map.ensures.value in

@@ -1,4 +1,4 @@
-use Rattle.std.proofs.Common.{ℕ, ◌<◌, arith}
+use Rattle.std.proofs.Common.{arith}
 use Rattle.blk_map.proofs.settling.zero_range.Goals as goal
 
 pub returns-clause-others : goal.returns-clause-others

@@ -1,4 +1,4 @@
-use Rattle.std.proofs.Common.{◌≡◌, ◌%◌, inl, inr, List, ℕ, get_or, ap, ◌∙◌, arith}
+use Rattle.std.proofs.Common.{◌%◌, inl, inr, List, ℕ, get_or, ap, ◌∙◌, arith}
 use Rattle.posix_defs.specs.SoundDisk.{block_bytes}
 use Rattle.memfs_file.proofs.Whole.{whole_here}
 use Rattle.memfs_file.proofs.putting.put_part.Goals as goal

@@ -1,6 +1,14 @@
-use Rattle.std.proofs.Common.{drop, ◌-◌, ◌*◌, arith}
+use Rattle.std.proofs.Common.{◌≤◌, ℕ, ◌-◌, ◌*◌, List, length, take, drop, subst, arith, length-drop}
+use Rattle.std.proofs.lemmas.List.{take_all}
+use Rattle.core.specs.Array.{IsFirstChunk}
 use Rattle.memfs_file.proofs.Whole.{if_first, whole}
 use Rattle.memfs_file.proofs.ranges.whole_block.Goals as goal
 
 pub returns : goal.returns
-returns c = if_first (λ x. x.now) c.first_chunk.result _ (drop (1024 * c.args.index - c.args.at) c.args.bytes.now) _ c.first_chunk.ensures.cases (λ x is. whole c.args.index c.args.at c.args.bytes.now x.now (omega arith) is)
+returns c =
+    let bytes : List ℕ = c.args.bytes.now in
+    let from : ℕ = 1024 * c.args.index - c.args.at in
+    let rest : List ℕ = drop from bytes in
+    let fits : length rest ≤ length bytes - from = omega (arith, length-drop from bytes) in
+    if_first (λ x. x.now) c.first_chunk.result _ (take (length bytes - from) rest) _ c.first_chunk.ensures.cases (λ x is.
+    whole c.args.index c.args.at bytes x.now (omega arith) (subst (λ (xs : List ℕ). IsFirstChunk xs x.now 1024) (take_all (length bytes - from) rest fits) is))
