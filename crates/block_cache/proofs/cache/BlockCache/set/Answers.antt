@@ -1,4 +1,4 @@
-use Rattle.std.proofs.Common.{◌≡◌, ℕ, List, Option, Some, None, IsSome, nat_eq, eqb-true, refl, sym, ap, ◌∙◌, subst}
+use Rattle.std.proofs.Common.{◌≡◌, ℕ, Option, Some, None, IsSome, eqb-true, refl, sym, subst}
 use Rattle.std.specs.Prelude.{MatchOption}
 use Rattle.std.specs.Cmp.{nat_eq_equiv}
 use Rattle.kheap_shelves.specs.Objects.{put}
@@ -11,10 +11,6 @@ use Rattle.block_cache.proofs.cache.BlockCache.set.Goals as goal
 a_slot : (o : Option ℕ) → IsSome o → (slot : ℕ) × (o ≡ Some slot)
 a_slot None some = absurd (cc)
 a_slot (Some slot) some = (slot, refl)
-
-pub returns-clause-stored : goal.returns-clause-stored
-returns-clause-stored c = λ slot at.
-    subst (λ o. MatchOption o (c.renew.new.heap ≡ c.args.heap.now) (λ s. c.renew.new.heap ≡ record c.args.heap.now { blocks = put c.args.heap.now.blocks s (block c.args.number c.args.bytes.now) })) at c.renew.ensures.stored
 
 pub returns-clause-value : goal.returns-clause-value
 returns-clause-value c =

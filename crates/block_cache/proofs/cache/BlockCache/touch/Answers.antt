@@ -13,7 +13,9 @@ unmoved old new number (Some slot) at is = tt
 unmoved old new number None at is = is ∙ ap (λ (ps : List (ℕ × ℕ)). order ps old.capacity) (touched_absent nat_eq_equiv old.pairs number (sym at))
 
 pub returns-clause-absent : goal.returns-clause-absent
-returns-clause-absent c = rw c.self.view_is (unmoved c.self.inside.slots c.used.new.self c.args.number c.used.result c.used.ensures.slot c.used.ensures.pairs)
+returns-clause-absent c =
+    subst (λ (o : Order ℕ). IfNone c.used.result (c.used.new.self ≡ o)) c.self.view_is (
+    unmoved c.self.inside.slots c.used.new.self c.args.number c.used.result c.used.ensures.slot c.used.ensures.pairs)
 
 pub returns-clause-keeps : goal.returns-clause-keeps
 returns-clause-keeps c =
