@@ -12,6 +12,6 @@ pub right_by_need : (call : Call) (need : Need) → need ≡ need_of call → ne
 unfolding need_of
 right_by_need call need is some = go (argument_fault call) (ap (λ (n : Need). n.name) (sym is))
   where
-    go : (fault : Option Errno) → (cond (is_some fault) no_need (objects_of call)).name ≡ need.name → None ≡ fault
+    go : (told : Option Errno) → (cond (is_some told) no_need (objects_of call)).name ≡ need.name → None ≡ told
     go None same = refl
-    go (Some fault) same = absurd (some (sym same))
+    go (Some which) same = absurd (some (sym same))
