@@ -1,5 +1,5 @@
 -- What a need tells of the operands.
-use Rattle.std.proofs.Common.{◌≡◌, ◌≢◌, ℕ, Option, None, Some, cond, is_some, refl, sym, ap, ◌∙◌}
+use Rattle.std.proofs.Common.{◌≡◌, ◌≢◌, Option, None, Some, cond, is_some, refl, sym, ap}
 use Rattle.kabi_values.specs.declared.classes.Need.{Need}
 use Rattle.kabi_values.specs.declared.errnos.Errno.{Errno}
 use Rattle.kabi_calls.specs.Arguments.{argument_fault}
