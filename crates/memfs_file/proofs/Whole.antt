@@ -1,13 +1,14 @@
 -- A block of which a range has all bytes.
-use Rattle.std.proofs.Common.{◌≡◌, ℕ, ◌+◌, ◌-◌, ◌*◌, ◌/◌, ◌%◌, ◌<◌, ◌≤◌, List, [], Option, None, Some, IfSome, length, get_or, drop, set, ap, ◌∙◌, arith, length-drop}
+use Rattle.std.proofs.Common.{◌≡◌, ℕ, ◌+◌, ◌-◌, ◌*◌, ◌/◌, ◌%◌, ◌<◌, ◌≤◌, List, [], Option, None, Some, length, get_or, drop, set, ap, ◌∙◌, arith, length-drop}
 use Rattle.std.specs.Prelude.{MatchOption}
 use Rattle.std.proofs.lemmas.List.{get_or-take, get_or-drop, get_or-set_same}
 use Rattle.core.specs.Array.{IsFirstChunk}
 use Rattle.posix_defs.specs.SoundDisk.{block_bytes}
 
-pub if_first : {X : Type 0} (now : X → List ℕ) (result : Option X) (Short : Type 0) (xs : List ℕ) (Fact : X → Type 0) → MatchOption result Short (λ x. IsFirstChunk xs (now x) 1024) → ((x : X) → IsFirstChunk xs (now x) 1024 → Fact x) → IfSome result Fact
-if_first now None Short xs Fact is gives = tt
-if_first now (Some x) Short xs Fact is gives = gives x is
+pub if_first : {X : Type 0} (now : X → List ℕ) (result : Option X) (Short Less : Type 0) (xs : List ℕ) (Fact : X → Type 0) → MatchOption result Short (λ x. IsFirstChunk xs (now x) 1024) → (Short → Less) → ((x : X) → IsFirstChunk xs (now x) 1024 → Fact x)
+    → MatchOption result Less Fact
+if_first now None Short Less xs Fact is lacks gives = lacks is
+if_first now (Some x) Short Less xs Fact is lacks gives = gives x is
 
 -- the first bytes of what stands behind the bytes before the block are the block's
 pub whole : (index at : ℕ) (bytes chunk : List ℕ) → at ≤ 1024 * index → IsFirstChunk (drop (1024 * index - at) bytes) chunk 1024

@@ -1,6 +1,6 @@
 //! A range of bytes, of which a block has a part.
 
-ghost use Rattle.std.specs.Prelude.{◌≡◌, ◌≢◌, ℕ, ◌+◌, ◌-◌, ◌*◌, ◌/◌, ◌%◌, ◌^◌, ◌<◌, ◌≤◌, ◌⊎◌, IfSome, length, slice_index};
+ghost use Rattle.std.specs.Prelude.{◌≡◌, ◌≢◌, ℕ, ◌+◌, ◌-◌, ◌*◌, ◌/◌, ◌%◌, ◌^◌, ◌<◌, ◌≤◌, ◌⊎◌, MatchOption, length, slice_index};
 ghost use Rattle.posix_defs.specs.Asking.{AskedInTurn};
 ghost use Rattle.posix_defs.specs.DiskFormat.{block_size, direct_pointers, block_pointers};
 ghost use Rattle.posix_defs.specs.SoundDisk.{block_bytes, pointer_at};
@@ -74,7 +74,8 @@ pub fn copy_in(block: &mut [u8; 1024], index: u32, at: u32, bytes: &[u8])
 /// The bytes of the block from `index` blocks on, where the range has all of them.
 pub fn whole_block(index: u32, at: u32, bytes: &[u8]) -> Option<&[u8; 1024]>
     requires block { block_size * (index + 1) < 2 ^ 32 }
-    ensures { IfSome result (λ whole. (at ≤ block_size * index) × (block_size * (index + 1) ≤ at + length bytes.now)
+    ensures { MatchOption result ((block_size * index < at) ⊎ (at + length bytes.now < block_size * (index + 1)))
+        (λ whole. (at ≤ block_size * index) × (block_size * (index + 1) ≤ at + length bytes.now)
         × ((k : ℕ) → k < block_size → slice_index whole.now k ≡ slice_index bytes.now (block_size * index + k - at))) }
 {
     let first = BLOCK_SIZE * index;

@@ -1,4 +1,4 @@
-use Rattle.std.proofs.Common.{◌≤◌, ℕ, ◌-◌, ◌*◌, List, length, take, drop, subst, arith, length-drop}
+use Rattle.std.proofs.Common.{◌≡◌, ◌≤◌, inr, ap, ℕ, ◌-◌, ◌*◌, List, length, take, drop, subst, arith, length-drop}
 use Rattle.std.proofs.lemmas.List.{take_all}
 use Rattle.core.specs.Array.{IsFirstChunk}
 use Rattle.memfs_file.proofs.Whole.{if_first, whole}
@@ -10,5 +10,7 @@ returns c =
     let from : ℕ = 1024 * c.args.index - c.args.at in
     let rest : List ℕ = drop from bytes in
     let fits : length rest ≤ length bytes - from = omega (arith, length-drop from bytes) in
-    if_first (λ x. x.now) c.first_chunk.result _ (take (length bytes - from) rest) _ c.first_chunk.ensures.cases (λ x is.
-    whole c.args.index c.args.at bytes x.now (omega arith) (subst (λ (xs : List ℕ). IsFirstChunk xs x.now 1024) (take_all (length bytes - from) rest fits) is))
+    let whole_rest : take (length bytes - from) rest ≡ rest = take_all (length bytes - from) rest fits in
+    if_first (λ x. x.now) c.first_chunk.result _ _ (take (length bytes - from) rest) _ c.first_chunk.ensures.cases
+    (λ short. inr (omega (arith, short, ap length whole_rest, length-drop from bytes)))
+    (λ x is. whole c.args.index c.args.at bytes x.now (omega arith) (subst (λ (xs : List ℕ). IsFirstChunk xs x.now 1024) whole_rest is))
