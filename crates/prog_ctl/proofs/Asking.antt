@@ -80,7 +80,7 @@ bound_fixed call bytes fixed = go (argument_fault call) (ap (λ (price : Price).
   where
     go : (fault : Option Errno) → cost (price_of (kind_of call)) call ≡ bytes → cond (is_some fault) 0 (cost (price_of (kind_of call)) call) ≡ cond (is_none fault) bytes 0
     go None is = is
-    go (Some fault) is = refl
+    go (Some _) is = refl
 
 -- what is wrong with a call that takes one path and nothing else is wrong with the path
 pub fault_on_path : (which : CallKind) (numbers : List ℤ) (texts : List (List ℕ)) (done : ℕ) → TakesPath which → argument_fault (made which numbers texts done) ≡ path_fault (text_at texts 0)

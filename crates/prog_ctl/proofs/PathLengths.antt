@@ -6,7 +6,7 @@ use Rattle.kabi_calls.specs.PathParts.{components, has_bytes, is_long, is_slash}
 
 -- none of these parts is longer
 abbrev AreWithin : ℕ → List (List ℕ) → Type 0
-AreWithin most [] = ⊤
+AreWithin most [] = Unit {0}
 AreWithin most (part ∷ parts) = (length part ≤ most) × AreWithin most parts
 
 one_more : (most : ℕ) (parts : List (List ℕ)) → AreWithin most parts → AreWithin (suc most) parts

@@ -1,4 +1,4 @@
-use Rattle.std.proofs.Common.{map, ap, sym, subst, refl, ◌∙◌}
+use Rattle.std.proofs.Common.{map, ap, ◌∙◌}
 use Rattle.kabi_calls.specs.Arguments.{argument_fault, path_fault, paths_fault, renamed_fault}
 use Rattle.posix_defs.specs.Control.{value_of}
 use Rattle.posix_defs.specs.Made.{made, text_at}

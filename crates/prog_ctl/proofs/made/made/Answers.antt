@@ -1,4 +1,4 @@
-use Rattle.std.proofs.Common.{map, subst, sym}
+use Rattle.std.proofs.Common.{map, rules, subst, sym}
 use Rattle.posix_defs.specs.Control.{value_of}
 use Rattle.prog_ctl.specs.Runnable.{MovesBytes, TakesMore, TakesPath}
 use Rattle.prog_ctl.proofs.made.made.Goals as goal
@@ -38,3 +38,6 @@ returns-in-Link c = c.made_with_texts-in-Link.ensures c.args.control.now.done (s
 
 pub returns-in-Rename : goal.returns-in-Rename
 returns-in-Rename c = c.made_with_texts-in-Rename.ensures c.args.control.now.done (subst TakesMore (sym c.in-Rename.is) tt)
+
+pub returns-in_default : goal.returns-in_default
+returns-in_default c = c.made_on_files.ensures (search rules)

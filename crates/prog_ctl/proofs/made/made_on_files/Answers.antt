@@ -1,6 +1,5 @@
-use Rattle.std.proofs.Common.{map, subst, sym}
-use Rattle.posix_defs.specs.Control.{value_of}
-use Rattle.prog_ctl.specs.Runnable.{MovesBytes, TakesDescriptor, TakesMore, TakesPath, TakesSocket}
+use Rattle.std.proofs.Common.{subst, sym}
+use Rattle.prog_ctl.specs.Runnable.{MovesBytes, TakesDescriptor, TakesMore, TakesSocket}
 use Rattle.prog_ctl.proofs.made.made_on_files.Goals as goal
 
 pub returns-in-Close : goal.returns-in-Close
@@ -55,4 +54,4 @@ pub returns-in-Shutdown : goal.returns-in-Shutdown
 returns-in-Shutdown c = λ _. c.made_on_socket-in-Shutdown.ensures c.args.control.now.done (subst TakesSocket (sym c.in-Shutdown.is) tt)
 
 pub returns-in-Poll : goal.returns-in-Poll
-returns-in-Poll c = λ _. c.made_with_texts-in-Poll.ensures c.args.control.now.done (subst TakesMore (sym c.in-Poll.is) tt)
+returns-in-Poll c = λ _. c.made_with_texts.ensures c.args.control.now.done (subst TakesMore (sym c.in-Poll.is) tt)
