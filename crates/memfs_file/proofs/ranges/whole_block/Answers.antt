@@ -1,6 +1,5 @@
-use Rattle.std.proofs.Common.{◌≡◌, ◌≤◌, inr, ap, ℕ, ◌-◌, ◌*◌, List, length, take, drop, subst, arith, length-drop}
+use Rattle.std.proofs.Common.{◌≡◌, ◌≤◌, inr, ap, ℕ, ◌-◌, ◌*◌, List, length, take, drop, subst, ◌∙◌, arith, length-drop}
 use Rattle.std.proofs.lemmas.List.{take_all}
-use Rattle.core.specs.Array.{IsFirstChunk}
 use Rattle.memfs_file.proofs.Whole.{if_first, whole}
 use Rattle.memfs_file.proofs.ranges.whole_block.Goals as goal
 
@@ -11,6 +10,6 @@ returns c =
     let rest : List ℕ = drop from bytes in
     let fits : length rest ≤ length bytes - from = omega (arith, length-drop from bytes) in
     let whole_rest : take (length bytes - from) rest ≡ rest = take_all (length bytes - from) rest fits in
-    if_first (λ x. x.now) c.first_chunk.result _ _ (take (length bytes - from) rest) _ c.first_chunk.ensures.cases
+    if_first c.first_chunk.result _ _ _ _ c.first_chunk.ensures.cases
     (λ short. inr (omega (arith, short, ap length whole_rest, length-drop from bytes)))
-    (λ x is. whole c.args.index c.args.at bytes x.now (omega arith) (subst (λ (xs : List ℕ). IsFirstChunk xs x.now 1024) whole_rest is))
+    (λ x is. whole c.args.index c.args.at bytes x.now (omega arith) (subst (λ (xs : List ℕ). 1024 ≤ length xs) whole_rest is.enough) (is.same ∙ ap (take 1024) whole_rest))
