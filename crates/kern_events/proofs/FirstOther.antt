@@ -1,7 +1,6 @@
 -- The first of the events that are of no process.
-use Rattle.std.proofs.Common.{◌≡◌, ℕ, Bool, true, false, cond, if◌then◌else◌, List, [], ◌∷◌, ◌++◌, Option, None, Some, slice_get, refl}
+use Rattle.std.proofs.Common.{◌≡◌, Bool, true, false, cond, if◌then◌else◌, List, [], ◌∷◌, ◌++◌, Option, None, Some, slice_get, refl}
 use Rattle.std.specs.Option.{option_map, option_to_list}
-use Rattle.kabi_types.specs.declared.entries.Cached.{Cached}
 use Rattle.kabi_types.specs.declared.entries.Cached.TheVariants.{Name, Block, Vnode}
 use Rattle.kabi_types.specs.declared.entries.Event.{Event}
 use Rattle.kabi_types.specs.declared.entries.Event.TheVariants.{Evict}
