@@ -2,10 +2,10 @@ use Rattle.std.proofs.Common.{rules, subst}
 use Rattle.std.specs.Prelude.{None, Some}
 use Rattle.turn_words.specs.declared.items.Item.TheVariants.{Back}
 use Rattle.turn_words.specs.Items.{heard}
-use Rattle.turn_words.specs.Worked.{IsDesk}
-use Rattle.turn_words.proofs.Desks.{found, goes_back}
+use Rattle.shared_trials.specs.Desk.{IsDesk}
+use Rattle.shared_trials.proofs.Desks.{found, goes_back}
 use Rattle.turn_words.proofs.Notes.{may_put}
-use Rattle.turn_words.proofs.worked.give_back.Goals as goal
+use Rattle.shared_trials.proofs.desk.give_back.Goals as goal
 
 pub put-requires-clause-stands : goal.put-requires-clause-stands
 put-requires-clause-stands c =

@@ -5,7 +5,7 @@ use Rattle.std.specs.Prelude.{Option, Some, None}
 use Rattle.turn_words.specs.declared.items.Item.{Item}
 use Rattle.turn_words.specs.declared.items.Item.TheVariants.{Given, Back, Quiet}
 use Rattle.turn_words.specs.Items.{Placed, is_given, heard, holds}
-use Rattle.turn_words.specs.Worked.{IsDesk}
+use Rattle.shared_trials.specs.Desk.{IsDesk}
 use Rattle.turn_words.proofs.Held.{given_more, holds_more}
 use Rattle.turn_words.proofs.Notes.{heard_more}
 

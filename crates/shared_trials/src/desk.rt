@@ -1,11 +1,11 @@
-//! A worked use of the calls: a seat is given a process in one turn, and gives it back in its next one.
+//! A worked use of turns: a seat is given a process in one turn, and gives it back in its next one.
 ghost use Rattle.std.specs.Prelude.{◌≡◌, true, false, IfOk, IfSome};
 ghost use Rattle.turn_words.specs.Items.{holds};
 
-use crate::rule::Chronicle;
-use crate::{Item, TurnSeat, Turns};
 use kabi_types::Memory;
 use std::alloc::Global;
+use std::test::Fail;
+use turn_words::{Chronicle, Item, TurnSeat, Turns};
 
 /// A value that keeps which process is given out.
 #[derive(Drop)]
@@ -14,7 +14,7 @@ struct Desk {
 }
 
 impl Chronicle for Desk {
-    ghost use Rattle.turn_words.specs.Worked.{IsDesk};
+    ghost use Rattle.shared_trials.specs.Desk.{IsDesk};
 
     ghost stands = { λ desk items. IsDesk desk.given items };
 }
@@ -79,7 +79,7 @@ fn give_and_give_back(turns: &Turns<Desk>, seat: &mut TurnSeat<Desk>, pid: u32) 
 
 /// What a seat was given is what the value has given out when that seat gives it back, whoever had a turn in between. The
 /// answer is that process; None where a ticket wasn't served at once, which doesn't come with one thread.
-pub fn given_and_given_back(alloc: Global, pid: u32) -> Result<Option<u32>, Memory>
+fn given_and_given_back(alloc: Global, pid: u32) -> Result<Option<u32>, Memory>
     ensures { IfOk result (λ found. IfSome found (λ given. given ≡ pid)) }
 {
     let (turns, mut boot) = Turns::boot(alloc, Desk { given: None })?;
@@ -90,4 +90,10 @@ pub fn given_and_given_back(alloc: Global, pid: u32) -> Result<Option<u32>, Memo
     turns.join(seat, &mut boot);
     let _desk = turns.close(boot);
     Ok(Some(found))
+}
+
+#[test]
+fn what_is_given_is_given_back(rt: HostRuntime) -> Result<(), Fail> {
+    assert!(rt; given_and_given_back(rt.alloc(), 7)? == Some(7));
+    Ok(())
 }

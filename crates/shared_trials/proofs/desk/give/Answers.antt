@@ -2,10 +2,10 @@ use Rattle.std.proofs.Common.{rules, ◌≡◌, length, subst}
 use Rattle.std.specs.Prelude.{None, Some}
 use Rattle.turn_words.specs.declared.items.Item.TheVariants.{Given}
 use Rattle.turn_words.specs.Items.{heard}
-use Rattle.turn_words.specs.Worked.{IsDesk}
-use Rattle.turn_words.proofs.Desks.{gives_out, held_now, stays}
+use Rattle.shared_trials.specs.Desk.{IsDesk}
+use Rattle.shared_trials.proofs.Desks.{gives_out, held_now, stays}
 use Rattle.turn_words.proofs.Notes.{may_put}
-use Rattle.turn_words.proofs.worked.give.Goals as goal
+use Rattle.shared_trials.proofs.desk.give.Goals as goal
 
 pub pass_on-requires-clause-more : goal.pass_on-requires-clause-more
 pass_on-requires-clause-more c = rw c.put.ensures.seat (stays c.take-desk.result.given c.take-desk.new.seat.known.seen c.take-desk.ensures.value)
