@@ -1,5 +1,5 @@
 -- What the store that the core runs stands for.
-use Rattle.std.specs.Prelude.{◌≡◌, ◌+◌, ◌≤◌, Bool, false, List, Option}
+use Rattle.std.specs.Prelude.{ℕ, ◌≡◌, ◌+◌, ◌≤◌, Bool, false, List, Option}
 use Rattle.kabi_types.specs.declared.scripts.Script.{Script}
 use Rattle.machine_laws.specs.Reached.{IsReached}
 use Rattle.posix_defs.specs.Sizes.{reserve}
@@ -7,7 +7,6 @@ use Rattle.posix_defs.specs.World.{World, live_of}
 use Rattle.store_objects.specs.declared.objects.Objects.{Objects}
 use Rattle.store_objects.specs.Standing.{StandsFor}
 use Rattle.call_run.specs.Sleepers.{AreTold}
-use Rattle.call_run.specs.declared.sleepers.Told.{Told}
 
 -- A store stands for the worlds that its objects stand for and whose machine calls lead to from the beginning. What is kept back
 -- for closings is free.
@@ -20,7 +19,7 @@ pub record IsStoreOf (script : Script) (objects : Objects) (world : World) : Typ
 pub record StoreView : Type 0 where
   pub script : Script
   pub objects : Objects
-  pub known : List (Option Told)
+  pub known : List (Option ℕ)
   pub stale : Bool
 
 -- What the core's store stands for: what its objects do, and what is kept in mind of the calls that sleep is so, unless it is stale.

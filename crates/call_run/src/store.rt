@@ -10,8 +10,8 @@ ghost use Rattle.call_run.specs.Stores.{Stands};
 #[cfg(test)]
 mod tests;
 
-use crate::calls::{Buffers, would_block};
-use crate::sleepers::{self, Told};
+use crate::calls::Buffers;
+use crate::sleepers;
 use crate::{turns, victims};
 use arrayvec::ArrayVec;
 use kabi_types::{Cached, Call, Control, Memory, Need, Program, Script};
@@ -29,8 +29,8 @@ pub struct Store<F: Scorer, G: Scorer> {
     objects: Objects,
     buffers: Buffers,
     score: Score<F, G>,
-    // Of calls that sleep, whether they would go on, as far as that is known.
-    known: ArrayVec<Option<Told>, 64>,
+    // Of calls that sleep, those of which it is known that they would block still.
+    known: ArrayVec<Option<u32>, 64>,
     // Something may have woken one of them since the store looked at them.
     stale: bool,
 }
@@ -112,17 +112,18 @@ impl<F: Scorer, G: Scorer> Turner for Store<F, G> {
     }
 
     fn turn(&mut self, pid: u32, call: &Call, need: Need) -> Turned {
-        let known = &mut self.known;
-        let stale = &mut self.stale;
-        sleepers::keep_in_mind(&self.script, &self.objects, known, stale, pid, call);
-        turns::turn(
+        let turned = turns::turn(
             &self.script,
             &mut self.objects,
             &mut self.buffers,
             pid,
             call,
             need,
-        )
+        );
+        let known = &mut self.known;
+        let stale = &mut self.stale;
+        sleepers::keep_in_mind(&self.script, &self.objects, known, stale, pid, call, &turned);
+        turned
     }
 
     fn refuse(&mut self, pid: u32) {
@@ -130,15 +131,13 @@ impl<F: Scorer, G: Scorer> Turner for Store<F, G> {
         sleepers::forget(&mut self.known, pid);
     }
 
+    // It is asked at many places.
     #[inline(never)]
     fn ready(&self, pid: u32) -> bool {
-        if !self.stale {
-            if let Some(blocks) = sleepers::find(self.known.as_slice(), pid) {
-                return !blocks;
-            }
+        if !self.stale && sleepers::is_told(self.known.as_slice(), pid) {
+            return false;
         }
-        let wait = turns::waits_for(&self.script, &self.objects, pid);
-        !would_block(&self.objects, pid, wait)
+        sleepers::goes_on(&self.script, &self.objects, pid)
     }
 
     fn evictable(&self, what: Cached) -> bool {
