@@ -2,9 +2,9 @@
 use Rattle.std.proofs.Math.Nat.{eq-or-lt_of_le}
 use Rattle.std.proofs.lemmas.Bool.Decides.{eqb_tells}
 use Rattle.std.proofs.lemmas.Option.{slice_get_past}
-use Rattle.std.proofs.Common.{◌≡◌, ◌≢◌, ◌⊎◌, inl, inr, ℕ, ◌+◌, ◌%◌, ◌<◌, ◌≤◌, ◌==◌, Bool, true, false, List, [], ◌∷◌, Option, None, Some, length, slice_get, ap, arith, refl, subst, sym, ◌∙◌}
+use Rattle.std.proofs.Common.{◌≡◌, ◌⊎◌, inl, inr, ℕ, ◌+◌, ◌%◌, ◌<◌, ◌≤◌, Bool, true, false, List, [], ◌∷◌, Option, None, Some, length, slice_get, ap, arith, refl, subst, sym, ◌∙◌}
 use Rattle.std.specs.List.{refill}
-use Rattle.std.specs.Prelude.{if◌then◌else◌, slice_set}
+use Rattle.std.specs.Prelude.{slice_set}
 use Rattle.kabi_calls.specs.declared.calls.Call.{Call}
 use Rattle.kabi_calls.specs.declared.calls.Call.TheVariants as call
 use Rattle.kabi_types.specs.declared.scripts.Control.{Control}
@@ -18,8 +18,7 @@ use Rattle.posix_defs.specs.World.{World}
 use Rattle.posix_defs.specs.declared.turner.Turned.{Turned}
 use Rattle.store_objects.specs.declared.objects.Objects.{Objects}
 use Rattle.store_objects.specs.Standing.{StandsFor}
-use Rattle.call_run.specs.Sleepers.{AreTold, IsTrulyTold, told_at, told_in, wakes_nobody}
-use Rattle.call_run.specs.declared.sleepers.Told.{Told}
+use Rattle.call_run.specs.Sleepers.{AreTold, IsTrulyTold, is_there, is_told, wakes_nobody}
 use Rattle.call_run.proofs.Waking.{blocks_still}
 
 -- as many as there are in their place are just these
@@ -29,72 +28,59 @@ all_refilled (x ∷ xs) [] e = absurd (omega (arith, e))
 all_refilled [] (w ∷ ws) e = absurd (omega (arith, e))
 all_refilled (x ∷ xs) (w ∷ ws) e = ap (λ rest. w ∷ rest) (all_refilled xs ws (omega (arith, e)))
 
+both : {X : Type 0} {b : Bool} → b ≡ true → b ≡ false → X
+both e f = cc
+
 -- ---- a look at all
 
 -- what is known of the processes with the first places is so
-abbrev pub AreToldTo : Script → Plain → List (Option Told) → ℕ → Type 0
+abbrev pub AreToldTo : Script → Plain → List (Option ℕ) → ℕ → Type 0
 AreToldTo script plain known to =
-    (pid : ℕ) (blocks : Bool) → pid % 64 < to → told_in known pid ≡ Some blocks → is_alive plain.table pid ≡ true → would_block script plain pid ≡ blocks
+    (pid : ℕ) → pid % 64 < to → is_told known pid ≡ true → is_alive plain.table pid ≡ true → would_block script plain pid ≡ true
 
 at_or_before : (place to : ℕ) → place < to + 1 → (place ≡ to) ⊎ (place < to)
 at_or_before place to below = eq-or-lt_of_le (let upto : place ≤ to = omega arith in upto)
 
 -- what was seen of a process
-seen_is : (script : Script) (objects : Objects) (who pid : ℕ) (does : Bool) (seen : Option Told) (world : World) → IsTrulyTold script objects who seen
-    → told_at (Some seen) pid ≡ Some does → StandsFor script objects world → would_block script world.plain pid ≡ does
-seen_is script objects who pid does None world truly e stands = cc
-seen_is script objects who pid does (Some told) world truly e stands = elim (eqb_tells told.pid pid) [
-  | inl same ↦ let so = truly.1 world stands in
-      let now : (if (told.pid == pid) then Some told.blocks else None) ≡ Some told.blocks = ap (λ b. if b then Some told.blocks else None) same.0 in
-      let who_is : who ≡ pid = sym truly.0 ∙ same.1 in
-      let is : told.blocks ≡ does = one _ _ (sym now ∙ e) in
-      subst (λ n. would_block script world.plain n ≡ does) who_is (so.1 ∙ is)
-  | inr other ↦ absurd (none does (sym (ap (λ b. if b then Some told.blocks else None) other.0) ∙ e))
+seen_is : (script : Script) (objects : Objects) (who pid : ℕ) (seen : Option ℕ) (world : World) → IsTrulyTold script objects who seen
+    → is_there (Some seen) pid ≡ true → StandsFor script objects world → would_block script world.plain pid ≡ true
+seen_is script objects who pid None world truly there stands = both there refl
+seen_is script objects who pid (Some it) world truly there stands = elim (eqb_tells it pid) [
+  | inl same ↦ subst (λ n. would_block script world.plain n ≡ true) (sym truly.0 ∙ same.1) (truly.1 world stands).1
+  | inr other ↦ both there other.0
 ]
-  where
-    one : (a b : Bool) → Some a ≡ Some b → a ≡ b
-    one a b e = cc
-
-    none : (b : Bool) → None ≡ Some b → ⊥
-    none b e = cc
 
 -- one place further, where something was known
-pub looked_at : (script : Script) (objects : Objects) (known changed : List (Option Told)) (place who : ℕ) (seen : Option Told) (world : World) → place < length known
+pub looked_at : (script : Script) (objects : Objects) (known changed : List (Option ℕ)) (place who : ℕ) (seen : Option ℕ) (world : World) → place < length known
     → changed ≡ slice_set known place seen → IsTrulyTold script objects who seen → StandsFor script objects world → AreToldTo script world.plain known place
     → AreToldTo script world.plain changed (place + 1)
-looked_at script objects known changed place who seen world within is truly stands before pid does below told alive = go (at_or_before (pid % 64) place below)
+looked_at script objects known changed place who seen world within is truly stands before pid below told alive = go (at_or_before (pid % 64) place below)
   where
-    go : (pid % 64 ≡ place) ⊎ (pid % 64 < place) → would_block script world.plain pid ≡ does
+    go : (pid % 64 ≡ place) ⊎ (pid % 64 < place) → would_block script world.plain pid ≡ true
     go (inl same) =
         let there : slice_get changed (pid % 64) ≡ Some seen =
         ap (slice_get changed) same ∙ ap (λ all. slice_get all place) is ∙ get_set_same known place seen within in
-        seen_is script objects who pid does seen world truly (sym (ap (λ found. told_at found pid) there) ∙ told) stands
+        seen_is script objects who pid seen world truly (sym (ap (λ found. is_there found pid) there) ∙ told) stands
     go (inr less) =
         let there : slice_get changed (pid % 64) ≡ slice_get known (pid % 64) =
         ap (λ all. slice_get all (pid % 64)) is ∙ get_set_other known place (pid % 64) seen (λ same. let h : pid % 64 < place = less in let e : pid % 64 ≡ place = same in (omega arith)) in
-        before pid does less (sym (ap (λ found. told_at found pid) there) ∙ told) alive
+        before pid less (sym (ap (λ found. is_there found pid) there) ∙ told) alive
 
 -- or nothing was
-pub passed : (script : Script) (known : List (Option Told)) (place : ℕ) (plain : Plain) → slice_get known place ≡ Some None → AreToldTo script plain known place
+pub passed : (script : Script) (known : List (Option ℕ)) (place : ℕ) (plain : Plain) → slice_get known place ≡ Some None → AreToldTo script plain known place
     → AreToldTo script plain known (place + 1)
-passed script known place plain none before pid does below told alive = go (at_or_before (pid % 64) place below)
+passed script known place plain none before pid below told alive = go (at_or_before (pid % 64) place below)
   where
-    never : None ≡ Some does → would_block script plain pid ≡ does
-    never e = cc
-
-    go : (pid % 64 ≡ place) ⊎ (pid % 64 < place) → would_block script plain pid ≡ does
-    go (inl same) = never (sym (ap (λ found. told_at found pid) (ap (slice_get known) same ∙ none)) ∙ told)
-    go (inr less) = before pid does less told alive
+    go : (pid % 64 ≡ place) ⊎ (pid % 64 < place) → would_block script plain pid ≡ true
+    go (inl same) = both told (ap (λ found. is_there found pid) (ap (slice_get known) same ∙ none))
+    go (inr less) = before pid less told alive
 
 -- no process has a place behind the last
-pub all_told : (script : Script) (known : List (Option Told)) (to : ℕ) (plain : Plain) → length known ≤ to → AreToldTo script plain known to → AreTold script plain known
-all_told script known to plain out before pid does told alive = elim (below_or_not (pid % 64) to) [
-  | inl less ↦ before pid does less told alive
-  | inr behind ↦ never (sym (ap (λ found. told_at found pid) (slice_get_past known (pid % 64) (let past : length known ≤ pid % 64 = omega (arith, out, behind) in past))) ∙ told)
+pub all_told : (script : Script) (known : List (Option ℕ)) (to : ℕ) (plain : Plain) → length known ≤ to → AreToldTo script plain known to → AreTold script plain known
+all_told script known to plain out before pid told alive = elim (below_or_not (pid % 64) to) [
+  | inl less ↦ before pid less told alive
+  | inr behind ↦ both told (ap (λ found. is_there found pid) (slice_get_past known (pid % 64) (let past : length known ≤ pid % 64 = omega (arith, out, behind) in past)))
 ]
-  where
-    never : None ≡ Some does → would_block script plain pid ≡ does
-    never e = cc
 
 -- ---- a call that wakes nobody
 
@@ -114,32 +100,22 @@ quiet script old new pid which told wakes turns = by (is_alive old.plain.table p
     by true answers = inr (answered_so which wakes answers.answer)
     by false gone = inl (ap (λ (world : World). world.plain) gone.1)
 
--- where another process has come further, what is known is so still
-pub told_further : (script : Script) (old : Plain) (pid : ℕ) (control : Control) (known changed : List (Option Told)) → told_in changed pid ≡ None
-    → ((other : ℕ) → other ≢ pid → told_in changed other ≡ told_in known other) → AreTold script old known → AreTold script (with_control old pid control) changed
-told_further script old pid control known changed own others before other does told alive = elim (eqb_tells other pid) [
-  | inl same ↦ absurd (none does (sym (ap (told_in changed) same.1 ∙ own) ∙ told))
-  | inr apart ↦ blocks_still script old pid other control apart.1 ∙ before other does (sym (others other apart.1) ∙ told) alive
-]
-  where
-    none : (b : Bool) → None ≡ Some b → ⊥
-    none b e = cc
+-- nothing more is known, and nothing of this process
+abbrev pub Forgets : ℕ → List (Option ℕ) → List (Option ℕ) → Type 0
+Forgets pid known changed = (is_told changed pid ≡ false) × ((other : ℕ) → is_told changed other ≡ true → is_told known other ≡ true)
 
--- where nothing has changed too
-told_less : (script : Script) (plain : Plain) (pid : ℕ) (known changed : List (Option Told)) → told_in changed pid ≡ None
-    → ((other : ℕ) → other ≢ pid → told_in changed other ≡ told_in known other) → AreTold script plain known → AreTold script plain changed
-told_less script plain pid known changed own others before other does told alive = elim (eqb_tells other pid) [
-  | inl same ↦ absurd (none does (sym (ap (told_in changed) same.1 ∙ own) ∙ told))
-  | inr apart ↦ before other does (sym (others other apart.1) ∙ told) alive
+-- where that process has come further, what is known is so still
+pub told_further : (script : Script) (old : Plain) (pid : ℕ) (control : Control) (known changed : List (Option ℕ)) → Forgets pid known changed
+    → AreTold script old known → AreTold script (with_control old pid control) changed
+told_further script old pid control known changed forgets before other told alive = elim (eqb_tells other pid) [
+  | inl same ↦ both told (ap (is_told changed) same.1 ∙ forgets.0)
+  | inr apart ↦ blocks_still script old pid other control apart.1 ∙ before other (forgets.1 other told) alive
 ]
-  where
-    none : (b : Bool) → None ≡ Some b → ⊥
-    none b e = cc
 
-pub told_quiet : (script : Script) (old new : World) (pid : ℕ) (which : Call) (told : Turned) (known changed : List (Option Told)) → told_in changed pid ≡ None
-    → ((other : ℕ) → other ≢ pid → told_in changed other ≡ told_in known other) → AreTold script old.plain known → wakes_nobody which ≡ true
-    → TurnsTo script old pid which told new → AreTold script new.plain changed
-told_quiet script old new pid which told known changed own others before wakes turns = elim (quiet script old new pid which told wakes turns) [
-  | inl same ↦ subst (λ plain. AreTold script plain changed) (sym same) (told_less script old.plain pid known changed own others before)
-  | inr moved ↦ subst (λ plain. AreTold script plain changed) (sym moved.1) (told_further script old.plain pid moved.0 known changed own others before)
+-- where it took a turn that wakes nobody, too
+pub told_quiet : (script : Script) (old new : World) (pid : ℕ) (which : Call) (told : Turned) (known changed : List (Option ℕ)) → Forgets pid known changed
+    → AreTold script old.plain known → wakes_nobody which ≡ true → TurnsTo script old pid which told new → AreTold script new.plain changed
+told_quiet script old new pid which told known changed forgets before wakes turns = elim (quiet script old new pid which told wakes turns) [
+  | inl same ↦ subst (λ plain. AreTold script plain changed) (sym same) (λ other there alive. before other (forgets.1 other there) alive)
+  | inr moved ↦ subst (λ plain. AreTold script plain changed) (sym moved.1) (told_further script old.plain pid moved.0 known changed forgets before)
 ]

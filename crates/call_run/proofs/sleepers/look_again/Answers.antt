@@ -19,7 +19,7 @@ loop-place-preserved c = elim c.match-deref-place.branch [
       subst (λ n. c.loop-place.place < n) (c.len-place-end.ensures.value ∙ sym c.loop-place.invariant.room) c.loop-place-test.true in record {
         room = ap length is ∙ length-set c.loop-place.known.items c.loop-place.place w.look_at.result ∙ c.loop-place.invariant.room;
         told = λ world stands.
-            looked_at c.args.script.now c.args.objects.now c.loop-place.known.items c.match-deref-place.known.items c.loop-place.place w.in-Some.it.pid w.look_at.result world
+            looked_at c.args.script.now c.args.objects.now c.loop-place.known.items c.match-deref-place.known.items c.loop-place.place w.in-Some.pid w.look_at.result world
             within is w.look_at.ensures stands (c.loop-place.invariant.told world stands);
       }
   | in_default w ↦
