@@ -5,7 +5,7 @@ use Rattle.kabi_types.specs.declared.entries.End.{End}
 use Rattle.kabi_types.specs.declared.entries.End.TheVariants as end
 use Rattle.kabi_types.specs.declared.scripts.Script.{Script}
 use Rattle.kabi_types.specs.declared.scripts.ScriptFault.{ScriptFault}
-use Rattle.store_objects.specs.Standing.{StoreView}
+use Rattle.call_run.specs.Stores.{StoreView}
 use Rattle.posix_defs.specs.Lines.{fault_line}
 use Rattle.posix_defs.specs.ScriptText.{ReadsText}
 use Rattle.script_parse.proofs.TextReads.{reads_as}

@@ -1,7 +1,7 @@
 -- Why what `sim` and `load` have written keeps the headline.
 use Rattle.std.proofs.Common.{◌≡◌, ◌≤◌, ◌⊎◌, List, ℕ, Option, Ok, inl, inr, refl}
 use Rattle.kabi_types.specs.declared.scripts.Script.{Script}
-use Rattle.store_objects.specs.Standing.{StoreView}
+use Rattle.call_run.specs.Stores.{StoreView}
 use Rattle.posix_defs.specs.ScriptText.{ReadsText}
 use Rattle.posix_defs.specs.Generated.{generated}
 use Rattle.run_report.proofs.Headlines.{keeps_headline, keeps_summary}

@@ -13,7 +13,7 @@ use Rattle.kern_laws.proofs.Caches.{all_pinned, pins_kept}
 use Rattle.turn_words.specs.declared.items.Item.{Item}
 use Rattle.kern_shared.specs.Picks.{EndsAs}
 use Rattle.kern_shared.specs.Shared.{has_starved}
-use Rattle.store_objects.specs.Standing.{StoreView}
+use Rattle.call_run.specs.Stores.{StoreView}
 use Rattle.run_report.specs.Histories.{report_threads}
 use Rattle.run_report.specs.declared.runs.Reported.{Reported}
 use Rattle.run_report.proofs.Headlines.{entry_keeps}

@@ -8,7 +8,7 @@ use Rattle.posix_defs.specs.Canonical.{canonical}
 use Rattle.posix_defs.specs.Generated.{generated}
 use Rattle.posix_defs.specs.Lines.{fault_line}
 use Rattle.posix_defs.specs.ScriptText.{ReadsText, reads, too_long}
-use Rattle.store_objects.specs.Standing.{StoreView}
+use Rattle.call_run.specs.Stores.{StoreView}
 use Rattle.run_report.specs.Reports.{IsReport}
 use Rattle.run_report.specs.Summaries.{IsSummary}
 use Rattle.run_report.specs.declared.runs.Reported.{Reported}

@@ -3,7 +3,7 @@ use Rattle.std.specs.Prelude.{ℕ, ◌≡◌, ◌<◌, Bool, true, false, List, 
 use Rattle.std.specs.Io.KnownBytes.{Appends}
 use Rattle.kabi_types.specs.declared.scripts.Script.{Script}
 use Rattle.kabi_types.specs.declared.scripts.ScriptFault.{ScriptFault}
-use Rattle.store_objects.specs.Standing.{StoreView}
+use Rattle.call_run.specs.Stores.{StoreView}
 use Rattle.kio_ports.specs.declared.failed.Failed.{Failed}
 use Rattle.kio_ports.specs.Faults.{HasRisen}
 use Rattle.kio_ports.specs.Offers.{PutsAll}
