@@ -11,8 +11,7 @@ ghost use Rattle.call_run.specs.Stores.{Stands};
 mod tests;
 
 use crate::calls::Buffers;
-use crate::sleepers;
-use crate::{turns, victims};
+use crate::{sleepers, turns, victims};
 use arrayvec::ArrayVec;
 use kabi_types::{Cached, Call, Control, Memory, Need, Program, Script};
 use posix_defs::{Asked, Turned, Turner};
@@ -122,7 +121,15 @@ impl<F: Scorer, G: Scorer> Turner for Store<F, G> {
         );
         let known = &mut self.known;
         let stale = &mut self.stale;
-        sleepers::keep_in_mind(&self.script, &self.objects, known, stale, pid, call, &turned);
+        sleepers::keep_in_mind(
+            &self.script,
+            &self.objects,
+            known,
+            stale,
+            pid,
+            call,
+            &turned,
+        );
         turned
     }
 
