@@ -2,6 +2,7 @@
 //! some ten pieces, most of them a known word, so each is written where it is wanted: a call would cost more than the piece.
 
 ghost use Rattle.std.specs.Prelude.{◌≡◌, ◌++◌, ◌<◌, OnOk, decimal, string_bytes};
+ghost use Rattle.std.specs.Fmt.{signed_decimal};
 ghost use Rattle.posix_defs.specs.Lines.{pid_text};
 
 use itoa::{Buffer, Integer};
@@ -44,6 +45,17 @@ pub(crate) fn push_small(out: &mut String, number: u64) -> Result<(), AllocError
         return out.push_str(digit(number));
     }
     push_number(out, number)
+}
+
+/// The same of a value that may be below 0.
+#[inline(always)]
+pub(crate) fn push_value(out: &mut String, value: i64) -> Result<(), AllocError>
+    ensures { OnOk result (string_bytes out.new ≡ string_bytes out.old ++ signed_decimal value) }
+{
+    match u64::try_from(value) {
+        Ok(number) => push_small(out, number),
+        Err(_) => push_number(out, value),
+    }
 }
 
 /// A number behind a word that says what it is.

@@ -2,7 +2,7 @@ ghost use Rattle.std.specs.Prelude.{◌≡◌, ◌++◌, ◌<◌, OnOk, codes, d
 ghost use Rattle.std.specs.Fmt.{digits};
 ghost use Rattle.posix_defs.specs.Lines.{status_text, reply_text, cache_text, entry_text, kind_text, node_text, event_text};
 
-use crate::fields::{push_call, push_field, push_number, push_small};
+use crate::fields::{push_call, push_field, push_number, push_small, push_value};
 use kabi_types::{Cached, CallKind, Entry, Event, NodeKind, Noted, PollHits, Reply, StatInfo};
 use std::alloc::AllocError;
 
@@ -100,7 +100,7 @@ fn push_reply(out: &mut String, reply: &Reply) -> Result<(), AllocError>
     ensures { OnOk result (string_bytes out.new ≡ string_bytes out.old ++ reply_text reply.now) }
 {
     match reply {
-        Reply::Val(value) => push_number(out, *value),
+        Reply::Val(value) => push_value(out, *value),
         Reply::Pair(first, second) => {
             push_number(out, *first)?;
             push_field(out, " ", *second)
