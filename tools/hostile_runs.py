@@ -4,8 +4,8 @@
 Runs the built program KRES on COUNT of the scripts of tools/hostile_scripts.py, from SEED on, or with -r on those of
 tools/random_scripts.py, by `sim` and each fourth by `threads 3` too, and looks at what came of each: the status is the one of
 the report's end line, or 1 with the line of a fault; and JUDGE SCRIPT REPORT, a program that knows the machine by itself,
-prints `legal`. Scripts that call what isn't built are counted apart. Tells each that isn't right with its number, how the runs
-ended, and what the calls were answered, and ends with 1 where one isn't right. JOBS runs stand side by side, 2 without it.
+prints `legal`. Tells each that isn't right with its number, how the runs ended, and what the calls were answered, and ends
+with 1 where one isn't right. JOBS runs stand side by side, 2 without it.
 """
 import collections
 import os
@@ -22,15 +22,14 @@ import reply_counts
 SIDE_BY_SIDE = int(os.environ.get("JOBS", "2"))
 LONGEST = 120  # seconds of a run, and of its judgement
 STATUSES = {"finished": 0, "starved": 3, "asleep": 4, "spent": 5}
-FAULT = re.compile(r"bad script: line \d+: ([a-z0-9 -]+)\n")
+FAULT = re.compile(r"bad script: line \d+: [a-z0-9 -]+\n")
 END = re.compile(r"end (\w+) ")
 
 
 def wanted_status(report):
     """The status that goes with a report, and how it ended; None where it is no whole report."""
-    fault = FAULT.fullmatch(report)
-    if fault:
-        return 1, "not built" if fault[1] == "not built" else "fault"
+    if FAULT.fullmatch(report):
+        return 1, "fault"
     end = END.match(report.rstrip("\n").rsplit("\n", 1)[-1])
     if end and report.endswith("\n") and end[1] in STATUSES:
         return STATUSES[end[1]], end[1]
@@ -50,8 +49,6 @@ class Runner:
         wanted, how = wanted_status(report)
         if status != wanted:
             return how, f"status {status}, and {wanted} goes with its report", report
-        if how == "not built":
-            return how, None, report
         ran = subprocess.run([self.judge, f"{name}.kres", f"{name}.out", words[0]], capture_output=True, text=True, timeout=LONGEST)
         said = ran.stdout.strip()
         return how, None if said == "legal" else said or ran.stderr[-300:], report

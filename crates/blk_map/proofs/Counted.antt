@@ -29,3 +29,10 @@ given_least old size le = elim (cases_lt 10 (data_blocks old)) [
 -- who is given none has as many blocks of bytes
 pub given_none : (old size : ℕ) → old ≤ size → blocks_of size - blocks_of old ≡ 0 → data_blocks size ≡ data_blocks old
 given_none old size le none = omega (arith, le, none, given_least old size le)
+
+-- no more than one behind those of the bytes
+pub one_more_at_most : (size : ℕ) → blocks_of size ≤ data_blocks size + 1
+one_more_at_most size = elim (cases_lt 10 (data_blocks size)) [
+  | inl large ↦ omega (arith, one_for_pointers size large)
+  | inr few ↦ omega (arith, none_for_pointers size few)
+]

@@ -1,5 +1,5 @@
 -- Free blocks that are found one after another.
-use Rattle.std.proofs.Common.{◌≡◌, ◌≢◌, ℕ, zero, suc, ◌+◌, ◌-◌, ◌<◌, ◌≤◌, Bool, not, eqb, ◌⊎◌, inl, inr, List, length, get_or, set, refl, sym, ap, subst, ◌∙◌, arith}
+use Rattle.std.proofs.Common.{◌≡◌, ◌≢◌, ℕ, zero, suc, ◌+◌, ◌-◌, ◌<◌, ◌≤◌, Bool, not, eqb, ◌⊎◌, inl, inr, List, length, get_or, set, sym, ap, subst, ◌∙◌, arith}
 use Rattle.std.proofs.lemmas.Bool.{cases_eq, eq-eqb, ne_eqb}
 use Rattle.std.proofs.lemmas.List.{get_or-set_same, get_or-set_other}
 use Rattle.posix_defs.specs.SoundDisk.{bit_of}
@@ -45,15 +45,6 @@ pub record Searched (map found : List ℕ) (count number : ℕ) : Type 0 where
   pub apart : (j k : ℕ) → j < count → k < count → get_or found j 0 ≡ get_or found k 0 → j ≡ k
   pub all : (block : ℕ) → block < number → bit_of map block ≢ 1 → (k : ℕ) × (k < count) × (get_or found k 0 ≡ block)
   pub many : count ≡ free_below map number
-
-pub none_searched : (map found : List ℕ) → Searched map found 0 0
-none_searched map found =
-    record {
-      each = λ k lt. absurd (omega (arith, lt));
-      apart = λ j k lt also e. absurd (omega (arith, lt));
-      all = λ block lt free. absurd (omega (arith, lt));
-      many = refl;
-    }
 
 pub searched_past : (map found : List ℕ) (count number : ℕ) → bit_of map number ≡ 1 → Searched map found count number → Searched map found count (number + 1)
 searched_past map found count number used s =

@@ -8,6 +8,7 @@ use Rattle.posix_defs.specs.DiskContents.{data_block, zeros}
 use Rattle.posix_defs.specs.NodeChange.{Names, Replaces, Resizes, Grows}
 use Rattle.disk_laws.proofs.FreeBlocks.{named_is_for_files, direct_at, behind_at}
 use Rattle.disk_laws.proofs.OneNode.{named_is_marked, this_has, changes_node, free_after}
+use Rattle.blk_map.specs.Growing.{GrowsBut}
 use Rattle.blk_map.specs.Named.{MayHaveSize}
 use Rattle.blk_map.proofs.Inodes.{pointer_is, Points, is_inode}
 use Rattle.blk_map.proofs.Counted.{given_least, given_one_more, given_as_many}
@@ -45,7 +46,10 @@ pub record Growth : Type 0 where
   pub no_pointers : data_blocks size ≤ 10 → new.indirect ≡ 0
   pub untouched : (block : ℕ) → table_end (length before) < block → block < length before → ((k : ℕ) → k < length taken → get_or taken k 0 ≢ block)
       → (10 < data_blocks size → block ≢ new.indirect) → block_bytes after block ≡ block_bytes before block
-  pub zero : (k : ℕ) → k < data_blocks size - data_blocks old.size → block_bytes after (get_or taken k 0) ≡ zeros block_size
+  -- the new blocks from one up to another have any bytes
+  pub from : ℕ
+  pub to : ℕ
+  pub zero : (k : ℕ) → k < data_blocks size - data_blocks old.size → (k < from - data_blocks old.size) ⊎ (to - data_blocks old.size ≤ k) → block_bytes after (get_or taken k 0) ≡ zeros block_size
   pub marks : (k : ℕ) → k < length taken → IsMarked after (get_or taken k 0)
   pub stays : (block : ℕ) → IsMarked before block → IsMarked after block
   pub only : (block : ℕ) → IsMarked after block → IsMarked before block ⊎ ((k : ℕ) × (k < length taken) × (get_or taken k 0 ≡ block))
@@ -258,11 +262,17 @@ resizes g =
       free = ap (λ (n : ℕ). free_in_map g.after + blocks_of n) (sym g.fields.2) ∙ left;
     }
 
-pub grows : (g : Growth) → Grows g.number g.before g.old g.size g.after g.new
+pub grows : (g : Growth) → GrowsBut g.from g.to g.number g.before g.old g.size g.after g.new
 grows g =
     record {
       resizes = resizes g;
-      zero = λ index past lt. ap (block_bytes g.after) (g.new_names index past lt) ∙ g.zero (index - data_blocks g.old.size) (omega (arith, past, lt));
+      zero = λ index past lt off.
+          let k : ℕ = index - data_blocks g.old.size in
+          let outside : (k < g.from - data_blocks g.old.size) ⊎ (g.to - data_blocks g.old.size ≤ k) = elim off [
+            | inl below ↦ inl (omega (arith, past, below))
+            | inr behind ↦ inr (omega (arith, past, behind))
+          ] in
+          ap (block_bytes g.after) (g.new_names index past lt) ∙ g.zero k (omega (arith, past, lt)) outside;
       lowest = λ block other free marked stays_free. elim (g.only block marked) [
         | inl was ↦ absurd (free.1 was)
         | inr given ↦
@@ -273,3 +283,11 @@ grows g =
             ]
       ];
     }
+
+-- where none has any bytes all are zeros
+pub all_zeros : {number : ℕ} {before : List (List ℕ)} {old : Inode} {size : ℕ} {after : List (List ℕ)} {new : Inode} → GrowsBut 0 0 number before old size after new → Grows number before old size after new
+all_zeros g = record { resizes = g.resizes; zero = λ index past lt. g.zero index past lt (inr (omega arith)); lowest = g.lowest }
+
+-- and the other way round
+pub but_none : {number : ℕ} {before : List (List ℕ)} {old : Inode} {size : ℕ} {after : List (List ℕ)} {new : Inode} → Grows number before old size after new → GrowsBut 0 0 number before old size after new
+but_none g = record { resizes = g.resizes; zero = λ index past lt off. g.zero index past lt; lowest = g.lowest }

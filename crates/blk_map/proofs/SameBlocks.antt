@@ -4,9 +4,10 @@ use Rattle.std.proofs.lemmas.Bool.{cases_lt}
 use Rattle.kabi_values.specs.declared.inodes.Inode.{Inode}
 use Rattle.posix_defs.specs.DiskFormat.{block_size, table_end, data_blocks, IsForFiles, inode_bytes}
 use Rattle.posix_defs.specs.SoundDisk.{block_bytes, table_block, table_bytes, HasInode, pointer_at, Place, Data, Pointers, HasPlace, named_at, bit_of, IsMarked, Sound}
-use Rattle.posix_defs.specs.NodeChange.{Names, Replaces, Resizes, Grows}
+use Rattle.posix_defs.specs.NodeChange.{Names, Replaces, Resizes}
 use Rattle.disk_laws.proofs.FreeBlocks.{named_is_for_files, direct_at, behind_at}
 use Rattle.disk_laws.proofs.OneNode.{named_is_marked, this_has, changes_node, free_after}
+use Rattle.blk_map.specs.Growing.{GrowsBut}
 use Rattle.blk_map.specs.Named.{MayHaveSize}
 use Rattle.blk_map.proofs.Blocks.{in_table}
 use Rattle.blk_map.proofs.Inodes.{pointer_is, none_needed, Points, is_inode}
@@ -123,10 +124,10 @@ same_resizes s =
       free = free_after s.number s.before s.old s.after (resized s) s.sound change;
     }
 
-pub same_grows : (s : SameBlocks) → Grows s.number s.before s.old s.size s.after (resized s)
-same_grows s =
+pub same_grows : (from to : ℕ) (s : SameBlocks) → GrowsBut from to s.number s.before s.old s.size s.after (resized s)
+same_grows from to s =
     record {
       resizes = same_resizes s;
-      zero = λ index past lt. absurd (omega (arith, past, lt, s.same));
+      zero = λ index past lt off. absurd (omega (arith, past, lt, s.same));
       lowest = λ block other free marked stays. absurd (free.1 (sym (bit_stays s block) ∙ marked));
     }

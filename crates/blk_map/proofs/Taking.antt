@@ -6,14 +6,32 @@ use Rattle.kabi_values.specs.declared.inodes.Inode.{Inode}
 use Rattle.posix_defs.specs.DiskFormat.{block_size, table_end, table_nodes, data_blocks, blocks_of, IsForFiles, inode_bytes}
 use Rattle.posix_defs.specs.SoundDisk.{block_bytes, table_block, table_bytes, HasInode, pointer_at, Data, Pointers, named_at, bit_of, IsMarked, Sound, IsFreeBlock}
 use Rattle.posix_defs.specs.DiskContents.{zeros}
-use Rattle.posix_defs.specs.NodeChange.{Grows}
 use Rattle.disk_laws.proofs.FreeBlocks.{named_is_for_files, direct_at, behind_at}
 use Rattle.disk_laws.proofs.OneNode.{named_is_marked}
+use Rattle.blk_map.specs.Growing.{GrowsBut}
 use Rattle.blk_map.specs.Named.{MayHaveSize, pointer_to}
 use Rattle.blk_map.proofs.Inodes.{pointer_direct, pointer_behind, none_needed}
 use Rattle.blk_map.proofs.Counted.{given_least, given_one_more, given_as_many}
 use Rattle.blk_map.proofs.Blocks.{in_table, same_table}
 use Rattle.blk_map.proofs.Growth.{Growth, grows}
+
+-- where a node that grew has its block of pointers, that is for files: it had it before, or it was given
+pub pointers_files : (before : List (List ℕ)) (number : ℕ) (old : Inode) (size : ℕ) (taken : List ℕ) (indirect : ℕ) → Sound before → HasInode before number old → old.size ≤ size → length taken ≡ blocks_of size - blocks_of old.size
+    → ((k : ℕ) → k < length taken → IsFreeBlock before (get_or taken k 0)) → indirect ≡ get_or taken (data_blocks size - data_blocks old.size) old.indirect → 10 < data_blocks size → IsForFiles (length before) indirect
+pointers_files before number old size taken indirect sound had more many free is large =
+    let last : ℕ = data_blocks size - data_blocks old.size in
+    elim (cases_lt 10 (data_blocks old.size)) [
+      | inl was ↦
+          subst (IsForFiles (length before)) (sym (is ∙ get_or_past taken last old.indirect (omega (arith, many, given_as_many old.size size (inl was) more)))) (named_is_for_files before sound number old Pointers had was)
+      | inr few ↦
+          let within : last < length taken = omega (arith, many, given_one_more old.size size few large) in
+          let one = free last within in
+          let files : IsForFiles (length before) (get_or taken last 0) = elim (cases_lt (table_end (length before)) (get_or taken last 0)) [
+            | inl above ↦ (above, one.0)
+            | inr low ↦ absurd (one.1 ((sound.map (get_or taken last 0) one.0).1 (inl low)))
+          ] in
+          subst (IsForFiles (length before)) (sym (is ∙ get_or_default taken last old.indirect 0 within)) files
+    ]
 
 pub record Taking : Type 0 where
   pub number : ℕ
@@ -53,7 +71,10 @@ pub record Taking : Type 0 where
   pub ten : length direct_now ≡ 10
   pub indirect_is : indirect ≡ get_or taken (data_blocks size - data_blocks old.size) old.indirect
   pub cleared_count : length cleared ≡ length marked
-  pub cleared_these : (k : ℕ) → k < data_blocks size - data_blocks old.size → block_bytes cleared (get_or taken k 0) ≡ zeros block_size
+  -- the new blocks from one up to another have any bytes
+  pub from : ℕ
+  pub to : ℕ
+  pub cleared_these : (k : ℕ) → k < data_blocks size - data_blocks old.size → (k < from - data_blocks old.size) ⊎ (to - data_blocks old.size ≤ k) → block_bytes cleared (get_or taken k 0) ≡ zeros block_size
   pub cleared_others : (block : ℕ) → ((k : ℕ) → k < data_blocks size - data_blocks old.size → get_or taken k 0 ≢ block) → block_bytes cleared block ≡ block_bytes marked block
   pub after_count : length after ≡ length cleared
   pub after_slot : table_bytes after number ≡ inode_bytes (record { kind = old.kind; nlink = old.nlink; size = size; direct = direct_now; indirect = indirect })
@@ -221,14 +242,16 @@ growth t =
       no_pointers = λ few.
           old_indirect t (inr few) ∙ none_needed (length t.before) t.old.indirect (10 * block_size) t.old.size (omega (arith, few, t.more)) t.had.valid.pointers.indirect;
       untouched = λ block above below none other. stays_there t block above (λ k lt. none k (omega (arith, lt, enough t))) other;
-      zero = λ k lt.
+      from = t.from;
+      to = t.to;
+      zero = λ k lt off.
           let files = taken_files t k (omega (arith, lt, enough t)) in
-          t.after_others (get_or t.taken k 0) (λ e. omega (arith, e, files.0, (this_table t).1)) (data_apart t k lt) ∙ t.cleared_these k lt;
+          t.after_others (get_or t.taken k 0) (λ e. omega (arith, e, files.0, (this_table t).1)) (data_apart t k lt) ∙ t.cleared_these k lt off;
       marks = λ k lt. bit_now t (get_or t.taken k 0) ∙ t.map_these k lt;
       stays = λ block is. bit_now t block ∙ t.map_stays block is;
       only = λ block is. t.map_only block (sym (bit_now t block) ∙ is);
     }
 
-pub taken_grows : (t : Taking) → Grows t.number t.before t.old t.size t.after (now t)
+pub taken_grows : (t : Taking) → GrowsBut t.from t.to t.number t.before t.old t.size t.after (now t)
 unfolding growth
 taken_grows t = grows (growth t)

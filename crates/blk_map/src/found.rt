@@ -7,24 +7,23 @@ ghost use Rattle.blk_map.specs.Found.{free_below};
 
 use disk_layout::{is_marked, mark, unmark};
 
-/// The lowest free blocks of a map, as many as were wanted and are there.
+/// Blocks that a node drops.
 #[derive(Clone, Copy)]
 pub struct Found {
     pub blocks: [u32; 267],
     pub count: usize,
 }
 
-/// The lowest free blocks of a map of so many blocks, up to as many as are wanted.
-pub fn lowest_free(map: &[u8; 1024], blocks: u32, wanted: usize) -> Found
+/// Finds the lowest free blocks of a map of so many blocks, up to as many as are wanted, and answers how many.
+pub fn lowest_free(map: &[u8; 1024], blocks: u32, wanted: usize, found: &mut [u32; 267]) -> usize
     requires few { blocks ≤ 8 * block_size }
     requires room { wanted ≤ 267 }
-    ensures many { result.count ≡ min wanted (free_below map.now blocks) }
-    ensures each { (k : ℕ) → k < result.count → (slice_index result.blocks k < blocks) × (bit_of map.now (slice_index result.blocks k) ≢ 1) }
-    ensures apart { (j k : ℕ) → j < result.count → k < result.count → slice_index result.blocks j ≡ slice_index result.blocks k → j ≡ k }
+    ensures many { result ≡ min wanted (free_below map.now blocks) }
+    ensures each { (k : ℕ) → k < result → (slice_index found.new k < blocks) × (bit_of map.now (slice_index found.new k) ≢ 1) }
+    ensures apart { (j k : ℕ) → j < result → k < result → slice_index found.new j ≡ slice_index found.new k → j ≡ k }
     ensures lowest { (block : ℕ) → block < blocks → bit_of map.now block ≢ 1
-        → ((k : ℕ) × (k < result.count) × (slice_index result.blocks k ≡ block)) ⊎ ((k : ℕ) → k < result.count → slice_index result.blocks k < block) }
+        → ((k : ℕ) × (k < result) × (slice_index found.new k ≡ block)) ⊎ ((k : ℕ) → k < result → slice_index found.new k < block) }
 {
-    let mut found = [0; 267];
     let mut count = 0;
     let mut number = 0;
     while number < blocks && count < wanted {
@@ -34,10 +33,7 @@ pub fn lowest_free(map: &[u8; 1024], blocks: u32, wanted: usize) -> Found
         }
         number += 1;
     }
-    Found {
-        blocks: found,
-        count,
-    }
+    count
 }
 
 /// Has these blocks in use, and leaves all others.

@@ -1,14 +1,15 @@
-ghost use Rattle.std.specs.Prelude.{◌≡◌, ◌≢◌, ℕ, ◌+◌, ◌-◌, ◌<◌, ◌≤◌, ◌⊎◌, ◌↔◌, Err, IfErr, OnOk, length, slice_index, slice_index_or};
+ghost use Rattle.std.specs.Prelude.{◌≡◌, ℕ, ◌-◌, ◌<◌, ◌≤◌, ◌⊎◌, ◌↔◌, Err, IfErr, OnOk, length, min, slice_index, slice_index_or};
 ghost use Rattle.kabi_values.specs.declared.errnos.Errno.TheVariants.{EFBIG, ENOSPC};
 ghost use Rattle.posix_defs.specs.DiskFormat.{data_blocks, blocks_of};
 ghost use Rattle.posix_defs.specs.SoundDisk.{block_bytes, HasNode, IsFreeBlock, Sound, free_in_map};
 ghost use Rattle.posix_defs.specs.NodeChange.{Grows};
+ghost use Rattle.blk_map.specs.Growing.{GrowsBut};
 ghost use Rattle.blk_map.specs.Named.{MayHaveSize};
 
 use crate::counts::{MOST_BLOCKS, block_count, data_count};
 use crate::found::{lowest_free, mark_all};
 use crate::naming::{behind_of, name_all};
-use crate::settling::{put_in_table, settle, zero_all};
+use crate::settling::{put_in_table, settle, zero_range};
 use kabi_types::{Errno, Inode};
 use posix_defs::Blocks;
 
@@ -28,6 +29,29 @@ pub fn grow<B: Blocks>(b: &mut B, number: u32, inode: &mut Inode, size: u32) -> 
     ensures full { data_blocks size ≤ 266 → (result ≡ Err ENOSPC) ↔ (free_in_map (B.blocks b.old) < blocks_of size - blocks_of inode.old.size) }
     ensures follows { B.follows b.old b.new }
 {
+    grow_but(b, number, inode, size, 0, 0)
+}
+
+/// The same, but that of its new blocks of bytes those from `from` blocks on up to `to` are not written: they have any
+/// bytes until the caller writes all of them.
+pub fn grow_but<B: Blocks>(
+    b: &mut B,
+    number: u32,
+    inode: &mut Inode,
+    size: u32,
+    from: u32,
+    to: u32,
+) -> Result<(), Errno>
+    requires sound { Sound (B.blocks b.old) }
+    requires node { HasNode (B.blocks b.old) number inode.old }
+    requires kind { MayHaveSize inode.old.kind size }
+    requires size { inode.old.size ≤ size }
+    ensures ok { OnOk result (GrowsBut from to number (B.blocks b.old) inode.old size (B.blocks b.new) inode.new) }
+    ensures err { IfErr result (λ fault. ((fault ≡ EFBIG) ⊎ (fault ≡ ENOSPC)) × (B.blocks b.new ≡ B.blocks b.old) × (inode.new ≡ inode.old)) }
+    ensures big { (result ≡ Err EFBIG) ↔ (266 < data_blocks size) }
+    ensures full { data_blocks size ≤ 266 → (result ≡ Err ENOSPC) ↔ (free_in_map (B.blocks b.old) < blocks_of size - blocks_of inode.old.size) }
+    ensures follows { B.follows b.old b.new }
+{
     if data_count(size) > MOST_BLOCKS {
         return Err(Errno::EFBIG);
     }
@@ -37,12 +61,14 @@ pub fn grow<B: Blocks>(b: &mut B, number: u32, inode: &mut Inode, size: u32) -> 
         put_in_table(b, number, inode);
         return Ok(());
     }
-    let map = b.get(0);
-    let found = lowest_free(&map, b.count(), need as usize);
-    if found.count < need as usize {
+    let mut map = b.get(0);
+    let mut found = [0; 267];
+    let count = lowest_free(&map, b.count(), need as usize, &mut found);
+    if count < need as usize {
         return Err(Errno::ENOSPC);
     }
-    take_blocks(b, number, inode, size, map, &found.blocks[..need as usize]);
+    let taken = &found[..need as usize];
+    take_blocks(b, number, inode, size, &mut map, taken, from, to);
     Ok(())
 }
 
@@ -57,37 +83,50 @@ fn place_or(blocks: &[u32], place: usize, other: u32) -> u32
     }
 }
 
+/// Where the block from `index` blocks on stands among the `more` new ones of a node that had so many.
+fn place_among(index: u32, had: usize, more: usize) -> usize
+    ensures { result ≡ min more (index - had) }
+{
+    (index as usize).saturating_sub(had).min(more)
+}
+
 /// Gives a node these free blocks, as many as it takes more.
 fn take_blocks<B: Blocks>(
     b: &mut B,
     number: u32,
     inode: &mut Inode,
     size: u32,
-    mut map: [u8; 1024],
+    map: &mut [u8; 1024],
     blocks: &[u32],
+    from: u32,
+    to: u32,
 )
     requires sound { Sound (B.blocks b.old) }
     requires node { HasNode (B.blocks b.old) number inode.old }
     requires kind { MayHaveSize inode.old.kind size }
     requires size { inode.old.size ≤ size }
     requires most { data_blocks size ≤ 266 }
-    requires map { map ≡ block_bytes (B.blocks b.old) 0 }
+    requires map { map.old ≡ block_bytes (B.blocks b.old) 0 }
     requires many { length blocks.now ≡ blocks_of size - blocks_of inode.old.size }
     requires free { (k : ℕ) → k < length blocks.now → IsFreeBlock (B.blocks b.old) (slice_index blocks.now k) }
     requires apart { (j k : ℕ) → j < length blocks.now → k < length blocks.now → slice_index blocks.now j ≡ slice_index blocks.now k → j ≡ k }
     requires lowest { (block : ℕ) → IsFreeBlock (B.blocks b.old) block
         → ((k : ℕ) × (k < length blocks.now) × (slice_index blocks.now k ≡ block)) ⊎ ((k : ℕ) → k < length blocks.now → slice_index blocks.now k < block) }
-    ensures grows { Grows number (B.blocks b.old) inode.old size (B.blocks b.new) inode.new }
+    ensures grows { GrowsBut from to number (B.blocks b.old) inode.old size (B.blocks b.new) inode.new }
     ensures follows { B.follows b.old b.new }
 {
     let had = data_count(inode.size) as usize;
     let more = data_count(size) as usize - had;
-    mark_all(&mut map, blocks);
-    b.set(0, &map);
-    let mut behind = behind_of(b, inode);
+    mark_all(map, blocks);
+    b.set(0, map);
+    let mut behind = [0; 256];
+    behind_of(b, inode, &mut behind);
     name_all(&mut inode.direct, &mut behind, had, blocks, more);
     inode.indirect = place_or(blocks, more, inode.indirect);
     inode.size = size;
-    zero_all(b, blocks, more);
+    let first = place_among(from, had, more);
+    let last = place_among(to, had, more).max(first);
+    zero_range(b, blocks, 0, first);
+    zero_range(b, blocks, last, more);
     settle(b, number, inode, &behind);
 }

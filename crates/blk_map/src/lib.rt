@@ -14,7 +14,7 @@ mod settling;
 mod shrinking;
 
 pub use counts::{DIRECT_POINTERS, block_count, data_count};
-pub use growing::grow;
+pub use growing::{grow, grow_but};
 pub use laws::growing_and_shrinking_back_changes_nothing;
 pub use locating::block_at;
 pub use settling::put_in_table;

@@ -11,19 +11,20 @@ use disk_layout::pointers_in;
 use kabi_types::Inode;
 use posix_defs::Blocks;
 
-/// The pointers of a node's block of pointers, copied out; zeros where it has none.
-pub fn behind_of<B: Blocks>(b: &mut B, inode: &Inode) -> [u32; 256]
-    requires { direct_pointers < data_blocks inode.now.size → inode.now.indirect < length (B.blocks b.old) }
-    ensures large { direct_pointers < data_blocks inode.now.size → (k : ℕ) → k < block_pointers → slice_index result k ≡ pointer_at (block_bytes (B.blocks b.old) inode.now.indirect) k }
-    ensures small { data_blocks inode.now.size ≤ direct_pointers → (k : ℕ) → k < block_pointers → slice_index result k ≡ 0 }
+/// Copies the pointers of a node's block of pointers out, over zeros, which stay where it has none.
+pub fn behind_of<B: Blocks>(b: &mut B, inode: &Inode, behind: &mut [u32; 256])
+    requires within { direct_pointers < data_blocks inode.now.size → inode.now.indirect < length (B.blocks b.old) }
+    requires zeros { (k : ℕ) → k < block_pointers → slice_index behind.old k ≡ 0 }
+    ensures large { direct_pointers < data_blocks inode.now.size → (k : ℕ) → k < block_pointers → slice_index behind.new k ≡ pointer_at (block_bytes (B.blocks b.old) inode.now.indirect) k }
+    ensures small { data_blocks inode.now.size ≤ direct_pointers → (k : ℕ) → k < block_pointers → slice_index behind.new k ≡ 0 }
     ensures kept { B.blocks b.new ≡ B.blocks b.old }
     ensures follows { B.follows b.old b.new }
 {
     if data_count(inode.size) <= DIRECT_POINTERS {
-        return [0; 256];
+        return;
     }
     let block = b.get(inode.indirect);
-    pointers_in(&block)
+    *behind = pointers_in(&block);
 }
 
 fn pointer_of(direct: &[u32; 10], behind: &[u32; 256], index: usize) -> u32

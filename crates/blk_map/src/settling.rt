@@ -17,17 +17,19 @@ fn zero_block() -> [u8; 1024]
     [0; 1024]
 }
 
-/// Writes zeros into the first of these blocks, and leaves all others.
-pub fn zero_all<B: Blocks>(b: &mut B, blocks: &[u32], count: usize)
-    requires few { count ≤ length blocks.now }
-    requires within { (k : ℕ) → k < count → slice_index blocks.now k < length (B.blocks b.old) }
+/// Writes zeros into these blocks from one place up to another, and leaves all others.
+pub fn zero_range<B: Blocks>(b: &mut B, blocks: &[u32], from: usize, to: usize)
+    requires order { from ≤ to }
+    requires few { to ≤ length blocks.now }
+    requires within { (k : ℕ) → k < to → slice_index blocks.now k < length (B.blocks b.old) }
     ensures count { length (B.blocks b.new) ≡ length (B.blocks b.old) }
-    ensures these { (k : ℕ) → k < count → block_bytes (B.blocks b.new) (slice_index blocks.now k) ≡ zeros block_size }
-    ensures others { (block : ℕ) → ((k : ℕ) → k < count → slice_index blocks.now k ≢ block) → block_bytes (B.blocks b.new) block ≡ block_bytes (B.blocks b.old) block }
+    ensures these { (k : ℕ) → from ≤ k → k < to → block_bytes (B.blocks b.new) (slice_index blocks.now k) ≡ zeros block_size }
+    ensures others { (block : ℕ) → ((k : ℕ) → from ≤ k → k < to → slice_index blocks.now k ≢ block) → block_bytes (B.blocks b.new) block ≡ block_bytes (B.blocks b.old) block }
     ensures follows { B.follows b.old b.new }
 {
-    for k in 0..count {
-        b.set(blocks[k], &zero_block());
+    let zeros = zero_block();
+    for k in from..to {
+        b.set(blocks[k], &zeros);
     }
 }
 

@@ -1,4 +1,4 @@
-ghost use Rattle.std.specs.Prelude.{◌≡◌, ℕ, ◌≤◌};
+ghost use Rattle.std.specs.Prelude.{ℕ, ◌≤◌};
 ghost use Rattle.posix_defs.specs.SoundDisk.{HasNode, IsMarked, Sound};
 ghost use Rattle.posix_defs.specs.NodeChange.{Resizes};
 ghost use Rattle.blk_map.specs.Named.{MayHaveSize};
@@ -41,7 +41,8 @@ fn give_blocks<B: Blocks>(b: &mut B, number: u32, inode: &mut Inode, size: u32)
 {
     let had = data_count(inode.size);
     let left = data_count(size);
-    let mut behind = behind_of(b, inode);
+    let mut behind = [0; 256];
+    behind_of(b, inode, &mut behind);
     let mut dropped = forget_all(&mut inode.direct, &mut behind, left as usize, had as usize);
     forget_pointers(&mut dropped, &mut inode.indirect, left, had);
     inode.size = size;

@@ -1,6 +1,6 @@
 //! `BlockCache` and its calls. A clause sees a cache as its order of use: the pairs of a block's
 //! number and the key of its Block in the heap, the coldest first, and the capacity.
-ghost use Rattle.std.specs.Prelude.{◌≡◌, ◌↔◌, ℕ, ◌<◌, ◌≤◌, [], None, Some, IfOk, IsSome, IsTrue, MatchOption, cond, length, nat_eq, slice_index_or};
+ghost use Rattle.std.specs.Prelude.{◌≡◌, ◌↔◌, ℕ, ◌<◌, ◌≤◌, [], None, Some, IfNone, IfOk, IsSome, IsTrue, MatchOption, cond, length, nat_eq, slice_index_or};
 ghost use Rattle.std.specs.Bool.{MatchBool};
 ghost use Rattle.kheap_shelves.specs.Objects.{put};
 ghost use Rattle.kheap_slabs.specs.Paid.{CanPay, IsPaid, TakesNothing};
@@ -64,10 +64,32 @@ impl BlockCache {
         ensures same { (other : ℕ) → block_slot self.new other ≡ block_slot self.old other }
         ensures keeps { KeepsBlocks heap.now.blocks self.new }
     {
-        match self.slots.used(number as u64) {
+        match self.touch(heap, number) {
             Some(slot) => Some(heap.get_block(slot).bytes),
             None => None,
         }
+    }
+
+    /// The key of a block's Block in the heap, which is the warmest from then on; None where it isn't cached.
+    ///
+    /// Its bytes can so be copied out of the heap once, to where they are wanted.
+    pub fn touch(&mut self, heap: &KHeap, number: u32) -> Option<u32>
+        requires { KeepsBlocks heap.now.blocks self.old }
+        ensures slot { result ≡ block_slot self.old number }
+        ensures used { self.new
+            ≡ order (touched (nat_eq number) self.old.pairs) self.old.capacity }
+        ensures same { (other : ℕ) → block_slot self.new other ≡ block_slot self.old other }
+        ensures absent { IfNone result (self.new ≡ self.old) }
+        ensures keeps { KeepsBlocks heap.now.blocks self.new }
+    {
+        self.slots.used(number as u64)
+    }
+
+    /// The key of a block's Block in the heap; None where it isn't cached. The order of use stays.
+    pub fn slot(&self, number: u32) -> Option<u32>
+        ensures { result ≡ block_slot self.now number }
+    {
+        self.slots.find(number as u64)
     }
 
     /// Gives a cached block other bytes. Its place in the order of use stays.
@@ -82,16 +104,22 @@ impl BlockCache {
         ensures keeps { KeepsBlocks heap.new.blocks self.new }
         ensures takes { TakesNothing heap.old heap.new }
     {
+        self.renew(heap, number, bytes);
+    }
+
+    /// Gives a block other bytes where it is cached. Its place in the order of use stays.
+    pub fn renew(&self, heap: &mut KHeap, number: u32, bytes: &[u8; 1024])
+        requires { KeepsBlocks heap.old.blocks self.now }
+        ensures stored { MatchOption (block_slot self.now number) (heap.new ≡ heap.old)
+            (λ slot. heap.new
+            ≡ record heap.old { blocks = put heap.old.blocks slot (block number bytes.now) }) }
+        ensures keeps { KeepsBlocks heap.new.blocks self.now }
+        ensures takes { TakesNothing heap.old heap.new }
+    {
         let Some(slot) = self.slots.find(number as u64) else {
-            unreachable!()
+            return;
         };
-        heap.set_block(
-            slot,
-            Block {
-                number,
-                bytes: *bytes,
-            },
-        );
+        heap.write_block(slot, number, bytes);
     }
 
     /// Fills a block that isn't cached. Where the purse has no Block left, the one that was filled

@@ -111,6 +111,11 @@ fn go_in_turn(rt: &impl Abort, alloc: Global) -> Result<(), Memory> {
     assert!(rt; first_byte(&heap, &mut cache, 1) == Some(1));
     assert!(rt; cache.has(2));
     cache.set(&mut heap, 2, &[9; 1024]);
+    cache.renew(&mut heap, 3, &[8; 1024]);
+    cache.renew(&mut heap, 4, &[8; 1024]);
+    assert!(rt; !cache.has(4) && cache.slot(4) == None && cache.slot(3).is_some());
+    assert!(rt; cache.touch(&heap, 4) == None && cache.touch(&heap, 3).is_some());
+    assert!(rt; first_byte(&heap, &mut cache, 3) == Some(8));
     assert!(rt; cache.evict_coldest(&mut heap).is_some());
     assert!(rt; !cache.has(2) && heap.live() == 2176);
     cache.forget(&mut heap, 1);

@@ -1,5 +1,6 @@
 pub mod Few
 pub mod Filled
+pub mod Held
 pub mod InTurn
 pub mod LastBlock
 pub mod AtBoot

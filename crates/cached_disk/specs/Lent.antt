@@ -2,7 +2,9 @@
 use Rattle.std.specs.Prelude.{◌≡◌, ℕ, ◌+◌, ◌/◌, ◌<◌, ◌≤◌, List, length, min, slice_get, MatchOption, Option, Some, IsSome, nat_eq}
 use Rattle.kabi_values.specs.Class.{size}
 use Rattle.kabi_values.specs.declared.classes.Class.TheVariants as class
+use Rattle.kheap_shelves.specs.Objects.{object}
 use Rattle.kheap_shelves.specs.Purse.{Purse}
+use Rattle.kheap_shelves.specs.declared.objects.Block.{Block}
 use Rattle.kheap_slabs.specs.Heap.{Heap}
 use Rattle.kheap_slabs.specs.Paid.{CanPay, IsPaid}
 use Rattle.lru_index.specs.Order.{Order, order, touched}
@@ -70,3 +72,7 @@ Asked before number after = MatchOption (block_slot before.cache number) (IsFetc
 -- a block is cached
 abbrev pub IsCached : Order ℕ → ℕ → Type 0
 IsCached cache number = IsSome (block_slot cache number)
+
+-- a slot has a Block with the bytes that the disk has of a block
+abbrev pub HasBytes : List (Option Block) → ℕ → List (List ℕ) → ℕ → Type 0
+HasBytes objects slot disk number = (made : Block) × (object objects slot ≡ Some made) × (slice_get disk number ≡ Some made.bytes)

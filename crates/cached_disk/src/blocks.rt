@@ -1,9 +1,9 @@
 //! `CachedBlocks`, and what it does to what was lent.
-ghost use Rattle.std.specs.Prelude.{◌≡◌, ℕ, ◌<◌, ◌≤◌, length, slice_get, slice_set, Some};
+ghost use Rattle.std.specs.Prelude.{◌≡◌, ℕ, ◌<◌, ◌≤◌, length, slice_get, slice_set, None, Some};
 ghost use Rattle.kheap_shelves.specs.Objects.{InUse};
 ghost use Rattle.kheap_slabs.specs.Paid.{TakesNothing};
-ghost use Rattle.block_cache.specs.Blocks.{KeepsBlocks, TrueToDisk};
-ghost use Rattle.cached_disk.specs.Lent.{parts, AreLent, GoesOn, Asked};
+ghost use Rattle.block_cache.specs.Blocks.{block_slot, KeepsBlocks, TrueToDisk};
+ghost use Rattle.cached_disk.specs.Lent.{parts, AreLent, GoesOn, Asked, HasBytes};
 
 use block_cache::BlockCache;
 use disk_layout::RamDisk;
@@ -55,6 +55,8 @@ impl Blocks for CachedBlocks<'_> {
         self.disk.count()
     }
 
+    // In its caller's place its bytes are copied once, to where they are wanted.
+    #[inline(always)]
     fn get(&mut self, number: u32) -> [u8; 1024] {
         fetch(self.heap, self.purse, self.cache, self.disk, number)
     }
@@ -65,6 +67,7 @@ impl Blocks for CachedBlocks<'_> {
 }
 
 /// A block's bytes: as they are cached, else as they are read, and then they are cached.
+#[inline(always)]
 fn fetch(
     heap: &mut KHeap,
     purse: &mut Purse,
@@ -82,14 +85,60 @@ fn fetch(
         (parts heap.new purse.new cache.new disk.new) }
     ensures lent { AreLent heap.new purse.new cache.new disk.new }
 {
-    match cache.get(heap, number) {
-        Some(bytes) => bytes,
-        None => {
-            let bytes = disk.read(number);
-            cache.fill(heap, purse, number, &bytes);
-            bytes
-        }
+    let slot = cached(heap, purse, cache, disk, number);
+    heap.get_block(slot).bytes
+}
+
+/// The key in the heap of a block's Block, which was read and filled where it wasn't cached.
+fn cached(
+    heap: &mut KHeap,
+    purse: &mut Purse,
+    cache: &mut BlockCache,
+    disk: &mut RamDisk,
+    number: u32,
+) -> u32
+    requires lent { AreLent heap.old purse.old cache.old disk.old }
+    requires number { number < length disk.old.blocks }
+    ensures value { HasBytes heap.new.blocks result disk.old.blocks number }
+    ensures kept { disk.new.blocks ≡ disk.old.blocks }
+    ensures asked { Asked (parts heap.old purse.old cache.old disk.old) number
+        (parts heap.new purse.new cache.new disk.new) }
+    ensures goes_on { GoesOn (parts heap.old purse.old cache.old disk.old)
+        (parts heap.new purse.new cache.new disk.new) }
+    ensures lent { AreLent heap.new purse.new cache.new disk.new }
+{
+    match cache.touch(heap, number) {
+        Some(slot) => slot,
+        None => filled(heap, purse, cache, disk, number),
     }
+}
+
+/// The same of a block that isn't cached.
+#[cold]
+fn filled(
+    heap: &mut KHeap,
+    purse: &mut Purse,
+    cache: &mut BlockCache,
+    disk: &mut RamDisk,
+    number: u32,
+) -> u32
+    requires lent { AreLent heap.old purse.old cache.old disk.old }
+    requires number { number < length disk.old.blocks }
+    requires absent { block_slot cache.old number ≡ None }
+    ensures value { HasBytes heap.new.blocks result disk.old.blocks number }
+    ensures kept { disk.new.blocks ≡ disk.old.blocks }
+    ensures asked { Asked (parts heap.old purse.old cache.old disk.old) number
+        (parts heap.new purse.new cache.new disk.new) }
+    ensures goes_on { GoesOn (parts heap.old purse.old cache.old disk.old)
+        (parts heap.new purse.new cache.new disk.new) }
+    ensures lent { AreLent heap.new purse.new cache.new disk.new }
+{
+    let bytes = disk.read(number);
+    cache.fill(heap, purse, number, &bytes);
+    let Some(slot) = cache.slot(number) else {
+        unreachable!()
+    };
+    slot
 }
 
 /// Writes a block to the disk, and to the cache where it is cached.
@@ -113,7 +162,5 @@ fn store(
     ensures takes { TakesNothing heap.old heap.new }
 {
     disk.write(number, bytes);
-    if cache.has(number) {
-        cache.set(heap, number, bytes);
-    }
+    cache.renew(heap, number, bytes);
 }

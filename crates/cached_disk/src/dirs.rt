@@ -7,6 +7,7 @@ ghost use Rattle.posix_defs.specs.DiskContents.{own_name, parent_name};
 ghost use Rattle.posix_defs.specs.SoundDisk.{HasNode};
 ghost use Rattle.posix_defs.specs.Tree.{Tree, found, is_directory, is_in_use, parent_at};
 ghost use Rattle.name_cache.specs.Names.{name_slot};
+ghost use Rattle.vnode_cache.specs.Nodes.{node_slot};
 ghost use Rattle.cached_disk.specs.TreeLent.{tree_parts, AllLent, StandsThrough, TreeGoesOn, NodeAsked, NameAsked, Answered};
 
 use crate::through::{inode_through, name_through, parent_through};
@@ -77,6 +78,7 @@ impl Dirs for CachedDirs<'_> {
           (tree_parts c.heap.now c.purse.now c.names.now c.vnodes.now c.blocks.now c.disk.now) one.6 other.6,
     ) };
 
+    #[inline(always)]
     fn node(&mut self, number: u32) -> Inode {
         find_inode(
             self.heap,
@@ -114,6 +116,8 @@ impl Dirs for CachedDirs<'_> {
 }
 
 /// The inode of a node in use: as it is cached, else as the table has it, and then it is cached.
+// What its caller doesn't look at isn't copied.
+#[inline(always)]
 pub fn find_inode(
     heap: &mut KHeap,
     purse: &mut Purse,
@@ -143,12 +147,43 @@ pub fn find_inode(
 {
     match vnodes.get(heap, number) {
         Some(inode) => inode,
-        None => {
-            let inode = inode_through(heap, purse, blocks, disk, number);
-            vnodes.fill(heap, purse, number, inode);
-            inode
-        }
+        None => read_inode(heap, purse, vnodes, blocks, disk, number),
     }
+}
+
+/// The same of a node that isn't cached.
+#[cold]
+fn read_inode(
+    heap: &mut KHeap,
+    purse: &mut Purse,
+    vnodes: &mut VnodeCache,
+    blocks: &mut BlockCache,
+    disk: &mut RamDisk,
+    number: u32,
+) -> Inode
+    requires lent { (names : Order KeyOf)
+        × AllLent heap.old purse.old names vnodes.old blocks.old disk.old }
+    requires stands { (names : Order KeyOf) × (tree : Tree)
+        × StandsThrough (tree_parts heap.old purse.old names vnodes.old blocks.old disk.old) tree
+        × (is_in_use tree number ≡ true) }
+    requires absent { node_slot vnodes.old number ≡ None }
+    ensures has { HasNode disk.old.blocks number result }
+    ensures lent { (names : Order KeyOf)
+        → AllLent heap.old purse.old names vnodes.old blocks.old disk.old
+        → AllLent heap.new purse.new names vnodes.new blocks.new disk.new }
+    ensures stands { (names : Order KeyOf) (tree : Tree)
+        → StandsThrough (tree_parts heap.old purse.old names vnodes.old blocks.old disk.old) tree
+        → StandsThrough (tree_parts heap.new purse.new names vnodes.new blocks.new disk.new) tree }
+    ensures goes_on { (names : Order KeyOf)
+        → TreeGoesOn (tree_parts heap.old purse.old names vnodes.old blocks.old disk.old)
+        (tree_parts heap.new purse.new names vnodes.new blocks.new disk.new) }
+    ensures asked { (names : Order KeyOf)
+        → NodeAsked number (tree_parts heap.old purse.old names vnodes.old blocks.old disk.old)
+        (tree_parts heap.new purse.new names vnodes.new blocks.new disk.new) }
+{
+    let inode = inode_through(heap, purse, blocks, disk, number);
+    vnodes.fill(heap, purse, number, inode);
+    inode
 }
 
 /// The key of a name that an entry may have: 27 bytes at most, and neither `.` nor `..`.
@@ -159,7 +194,7 @@ fn entry_key(dir: u32, name: &[u8]) -> Option<NameKey>
         (λ key. (key ≡ name_key dir name.now) × (length name.now ≤ 27)
         × (name.now ≢ own_name) × (name.now ≢ parent_name)) }
 {
-    if name == b".".as_slice() || name == b"..".as_slice() || name.len() > 27 {
+    if matches!(name, b"." | b"..") || name.len() > 27 {
         return None;
     }
     Some(NameKey::of_bytes(dir, name))

@@ -6,7 +6,7 @@ ghost use Rattle.posix_defs.specs.DiskTree.{StandsFor};
 ghost use Rattle.posix_defs.specs.Tree.{Tree, found, is_directory, parent_at};
 
 use kabi_types::Inode;
-use memfs_dir::{dir_entry, dir_find};
+use memfs_dir::{dir_look, dir_node};
 use posix_defs::Blocks;
 
 /// The node under a name of a directory, other than `.` and `..`; None exactly where the name isn't there.
@@ -20,10 +20,10 @@ pub fn node_named<B: Blocks>(b: &mut B, dir: &Inode, name: &[u8]) -> Option<u32>
     ensures kept { B.blocks b.new ≡ B.blocks b.old }
     ensures follows { B.follows b.old b.new }
 {
-    let Some(place) = dir_find(b, dir, name) else {
-        return None;
-    };
-    Some(dir_entry(b, dir, place).node)
+    match dir_look(b, dir, name) {
+        Some(entry) => Some(entry.node),
+        None => None,
+    }
 }
 
 /// The directory that `..` of a directory names.
@@ -36,5 +36,5 @@ pub fn parent_of<B: Blocks>(b: &mut B, dir: &Inode) -> u32
     ensures kept { B.blocks b.new ≡ B.blocks b.old }
     ensures follows { B.follows b.old b.new }
 {
-    dir_entry(b, dir, 1).node
+    dir_node(b, dir, 1)
 }

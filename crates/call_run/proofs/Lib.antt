@@ -14,4 +14,7 @@ pub mod Choosing
 pub mod Killing
 pub mod Ends
 pub mod Naming
-pub mod CanRun
+pub mod Needing
+pub mod Waking
+pub mod Forgetting
+pub mod Telling

@@ -35,7 +35,7 @@ store_on script old new world after was whole stands reached whole_after less = 
     few a b c d size e f less spare = omega (arith, e, f, less, spare)
 
 pub sound_store : (script : Script) (objects : Objects) (world : World) → IsStoreOf script objects world → IsSound world.plain
-sound_store script objects world is = sound script world.plain is.stands.runs.valid is.reached
+sound_store script objects world is = sound script world.plain is.stands.valid is.reached
 
 -- ---- a turn
 
@@ -47,10 +47,10 @@ module _ (script : Script) (objects : Objects) (world : World) (pid : ℕ) (whic
 
   pub turn_half : HasHalf world.plain.files caller.pid which
   turn_half = subst (λ p. HasHalf world.plain.files p which) (sym is.same)
-      (subst (HasHalf world.plain.files pid) (sym (own turn_alive)) (half script world.plain pid stands.runs.valid reached turn_alive))
+      (subst (HasHalf world.plain.files pid) (sym (own turn_alive)) (half script world.plain pid stands.valid reached turn_alive))
 
   pub turn_paths : HasPaths which
-  turn_paths = subst HasPaths (sym (own turn_alive)) (next_paths script world.plain pid stands.runs.valid)
+  turn_paths = subst HasPaths (sym (own turn_alive)) (next_paths script world.plain pid stands.valid)
 
   pub turn_done : HasDone which caller.control.done
   turn_done = subst (λ (control : Control). HasDone which control.done) (sym is.control) (next_done script objects world pid is.proc which stands turn_alive is.found (own turn_alive))

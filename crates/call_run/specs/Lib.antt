@@ -1,3 +1,4 @@
+pub mod Sleepers
 pub mod Stores
 pub mod Families
 pub mod Weights

@@ -1,6 +1,7 @@
 //! A case for each call. A turn of each stands to the plain machine's definition of its call.
 
 ghost use Rattle.std.specs.Prelude.{◌≡◌, ◌+◌, ◌≤◌, None, false, true};
+ghost use Rattle.std.specs.Result.{result_err};
 ghost use Rattle.kabi_calls.specs.Arguments.{argument_fault};
 ghost use Rattle.kabi_calls.specs.Call.{kind_of};
 ghost use Rattle.kabi_calls.specs.declared.calls.Call.{Call};
@@ -21,7 +22,7 @@ ghost use Rattle.call_run.specs.Families.{HasDone, HasHalf, HasPaths, IsOffFiles
 use crate::closings::{is_closing, run_closing};
 use crate::files::{is_on_file, run_filed};
 use crate::names::{is_named, run_named};
-use kabi_types::{Call, Memory, Need, Reply, Script, may_wait};
+use kabi_types::{Call, Errno, Memory, Need, Reply, Script, may_wait};
 use memory_calls::{load, mmap, munmap, store};
 use pipe_calls::{dup, fcntl, pipe};
 use posix_defs::Turned;
@@ -309,6 +310,18 @@ fn run_open(script: &Script, objects: &mut Objects, caller: &Caller, call: &Call
     }
 }
 
+/// What is wrong with a call, if anything is: a call that may fill names has its operands right, as its need tells, and isn't checked
+/// once more.
+fn checked(call: &Call, need: &Need) -> Result<(), Errno>
+    requires { need.now ≡ need_of call.now }
+    ensures { result_err result ≡ argument_fault call.now }
+{
+    if need.name != 0 {
+        return Ok(());
+    }
+    call.checked()
+}
+
 /// Runs a call of a process that is alive, at which that process stands. A wrong operand is told before anything else is looked at.
 pub fn run(
     script: &Script,
@@ -328,7 +341,7 @@ pub fn run(
     ensures uses { UsesAtMost objects.old.heap objects.new.heap (bound call.now) (slack call.now) }
     ensures does { Serves script.now objects.old caller.now.pid call.now (λ plain. machine script.now plain caller.now.pid call.now) result objects.new }
 {
-    match call.checked() {
+    match checked(call, &need) {
         Ok(()) => run_right(script, objects, buffers, caller, call, need),
         Err(errno) => go_on(
             script,

@@ -6,6 +6,7 @@ mod closings;
 mod files;
 pub mod laws;
 mod names;
+mod sleepers;
 mod store;
 mod turns;
 mod victims;

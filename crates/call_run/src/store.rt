@@ -5,13 +5,14 @@ ghost use Rattle.kabi_types.specs.declared.scripts.Script.{Script};
 ghost use Rattle.posix_defs.specs.Plain as plain;
 ghost use Rattle.posix_defs.specs.ValidScript.{IsValid};
 ghost use Rattle.posix_defs.specs.World.{World, boot_world};
-ghost use Rattle.call_run.specs.Stores.{IsStoreOf};
+ghost use Rattle.call_run.specs.Stores.{Stands};
 
 #[cfg(test)]
 mod tests;
 
-use crate::calls::{Buffers, would_block};
-use crate::{turns, victims};
+use crate::calls::Buffers;
+use crate::{sleepers, turns, victims};
+use arrayvec::ArrayVec;
 use kabi_types::{Cached, Call, Control, Memory, Need, Program, Script};
 use posix_defs::{Asked, Turned, Turner};
 use std::alloc::Global;
@@ -27,15 +28,19 @@ pub struct Store<F: Scorer, G: Scorer> {
     objects: Objects,
     buffers: Buffers,
     score: Score<F, G>,
+    // Of calls that sleep, those of which it is known that they would block still.
+    known: ArrayVec<Option<u32>, 64>,
+    // Something may have woken one of them since the store looked at them.
+    stale: bool,
 }
 
 impl<F: Scorer, G: Scorer> Model for Store<F, G> {
     ghost use Rattle.store_objects.specs.Objects.{AreKept};
-    ghost use Rattle.store_objects.specs.Standing.{StoreView};
+    ghost use Rattle.call_run.specs.Stores.{StoreView};
 
     ghost Value = { StoreView };
 
-    ghost view = { λ store. record { script = store.script; objects = store.objects } };
+    ghost view = { λ store. record { script = store.script; objects = store.objects; known = store.known.items; stale = store.stale } };
 
     ghost invariant = { λ store. AreKept store.script store.objects };
 }
@@ -45,7 +50,7 @@ impl<F: Scorer, G: Scorer> Store<F, G> {
     pub fn boot(alloc: Global, script: &Script, score: Score<F, G>) -> Result<Store<F, G>, Memory>
         requires valid { IsValid script.now }
         ensures script { IfOk result (λ store. store.script ≡ script.now) }
-        ensures booted { IfOk result (λ store. IsStoreOf script.now store.objects (boot_world script.now)) }
+        ensures booted { IfOk result (λ store. Stands store (boot_world script.now)) }
     {
         // The greater, the later: where memory is wanting, what is there already is let go.
         let buffers = Buffers::new(alloc)?;
@@ -63,6 +68,8 @@ impl<F: Scorer, G: Scorer> Store<F, G> {
             objects,
             buffers,
             score,
+            known: ArrayVec::new(),
+            stale: true,
         })
     }
 }
@@ -87,7 +94,7 @@ fn place_of(programs: &[Program], name: &[u8]) -> u32
 impl<F: Scorer, G: Scorer> Turner for Store<F, G> {
     ghost script = { λ store. store.script };
 
-    ghost stands = { λ store world. IsStoreOf store.script store.objects world };
+    ghost stands = { λ store world. Stands store world };
 
     ghost marks = { λ store. store.objects.heap.marks };
 
@@ -104,23 +111,40 @@ impl<F: Scorer, G: Scorer> Turner for Store<F, G> {
     }
 
     fn turn(&mut self, pid: u32, call: &Call, need: Need) -> Turned {
-        turns::turn(
+        let turned = turns::turn(
             &self.script,
             &mut self.objects,
             &mut self.buffers,
             pid,
             call,
             need,
-        )
+        );
+        let known = &mut self.known;
+        let stale = &mut self.stale;
+        sleepers::keep_in_mind(
+            &self.script,
+            &self.objects,
+            known,
+            stale,
+            pid,
+            call,
+            &turned,
+        );
+        turned
     }
 
     fn refuse(&mut self, pid: u32) {
         turns::refuse(&self.script, &mut self.objects, pid);
+        sleepers::forget(&mut self.known, pid);
     }
 
+    // It is asked at many places.
+    #[inline(never)]
     fn ready(&self, pid: u32) -> bool {
-        let wait = turns::waits_for(&self.script, &self.objects, pid);
-        !would_block(&self.objects, pid, wait)
+        if !self.stale && sleepers::is_told(self.known.as_slice(), pid) {
+            return false;
+        }
+        sleepers::goes_on(&self.script, &self.objects, pid)
     }
 
     fn evictable(&self, what: Cached) -> bool {
@@ -137,6 +161,7 @@ impl<F: Scorer, G: Scorer> Turner for Store<F, G> {
 
     fn kill(&mut self, pid: u32) {
         turns::kill(&mut self.objects, pid);
+        self.stale = true;
     }
 
     fn alive(&self, pid: u32) -> bool {

@@ -3,3 +3,4 @@ pub mod InodeBytes
 pub mod EntryBytes
 pub mod MapBits
 pub mod NewDisk
+pub mod RegionBlocks

@@ -9,6 +9,7 @@ ghost use Rattle.posix_defs.specs.DiskTree.{StandsFor};
 
 use crate::entries::bytes_of_entry;
 use crate::inodes::bytes_of;
+use crate::regions::{Region, zero_block};
 use crate::words::put;
 use kabi_types::{DirEntry, Inode, Memory, Name27};
 use posix_defs::Blocks;
@@ -18,19 +19,22 @@ use std::marker::Model;
 /// A disk in memory, of 16 to 4096 blocks.
 #[derive(Drop)]
 pub struct RamDisk {
-    blocks: Vec<[u8; 1024]>,
+    // The map and the table of nodes. Of these and of the contents of files the first ones are written first, so that each stands in a
+    // region of its own.
+    table: Region,
+    contents: Region,
     reads: u64,
 }
 
 impl Model for RamDisk {
-    ghost use Rattle.std.specs.Prelude.{length, ◌≤◌};
+    ghost use Rattle.std.specs.Prelude.{length, ◌++◌, ◌+◌, ◌≤◌};
     ghost use Rattle.disk_layout.specs.Disk.{Disk};
 
     ghost Value = { Disk };
 
-    ghost view = { λ disk. record { blocks = disk.blocks.items; reads = disk.reads } };
+    ghost view = { λ disk. record { blocks = disk.table ++ disk.contents; reads = disk.reads } };
 
-    ghost invariant = { λ disk. length disk.blocks.items ≤ 4096 };
+    ghost invariant = { λ disk. length disk.table + length disk.contents ≤ 4096 };
 }
 
 impl RamDisk {
@@ -46,12 +50,14 @@ impl RamDisk {
         ensures unread { IfOk result (λ disk. disk.reads ≡ 0) }
     {
         let first = blocks / 16 + 1;
-        let mut disk = vec![in alloc; zero_block(); blocks as usize]?;
-        disk[0] = map_of(first + 1);
-        disk[1] = block_of(&bytes_of(&root_of(blocks)));
-        disk[first as usize] = root_entries();
+        let mut table = Region::boot(alloc, first)?;
+        let mut contents = Region::boot(alloc, blocks - first)?;
+        table.write(0, &map_of(first + 1));
+        table.write(1, &block_of(&bytes_of(&root_of(blocks))));
+        contents.write(0, &root_entries());
         Ok(RamDisk {
-            blocks: disk,
+            table,
+            contents,
             reads: 0,
         })
     }
@@ -64,7 +70,12 @@ impl RamDisk {
         ensures grows { self.old.reads ≤ self.new.reads }
     {
         self.reads = self.reads.saturating_add(1);
-        self.blocks[number as usize]
+        let first = self.table.count();
+        if number < first {
+            self.table.read(number)
+        } else {
+            self.contents.read(number - first)
+        }
     }
 
     /// How often a block was read, at most 18446744073709551615.
@@ -80,8 +91,12 @@ impl RamDisk {
         ensures after { self.new.blocks ≡ slice_set self.old.blocks number bytes.now }
         ensures reads { self.new.reads ≡ self.old.reads }
     {
-        let place = number as usize;
-        self.blocks[place] = *bytes;
+        let first = self.table.count();
+        if number < first {
+            self.table.write(number, bytes);
+        } else {
+            self.contents.write(number - first, bytes);
+        }
     }
 }
 
@@ -100,7 +115,7 @@ impl Blocks for RamDisk {
     ghost follows_trans = { λ a b c one other. Prim.omega arith };
 
     fn count(&self) -> u32 {
-        self.blocks.len() as u32
+        self.table.count() + self.contents.count()
     }
 
     fn get(&mut self, number: u32) -> [u8; 1024] {
@@ -115,13 +130,6 @@ impl Blocks for RamDisk {
     {
         self.write(number, bytes);
     }
-}
-
-#[tactic(auto, unfolding(posix_defs::specs::DiskContents::zeros))]
-fn zero_block() -> [u8; 1024]
-    ensures { result ≡ zeros 1024 }
-{
-    [0; 1024]
 }
 
 /// The bytes, and zeros behind them.

@@ -7,6 +7,7 @@ mod faults;
 mod inodes;
 mod maps;
 mod pointers;
+mod regions;
 mod slots;
 mod words;
 

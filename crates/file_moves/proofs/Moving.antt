@@ -44,7 +44,7 @@ alive_turned old new pid moves alive =
 pub stands_turned : (script : Script) (old new : Objects) (world next : World) → StandsFor script old world → FileMoves old new → HasTurned new world next
     → StandsFor script new next
 stands_turned script old new world next stands moves turned = record {
-  runs = stands.runs;
+  valid = stands.valid;
   kept = kept_turned script old new stands.kept moves;
   processes = processes_stay script old new world.plain next.plain moves.procs stands.processes turned.table turned.controls;
   memory = turned.memory;

@@ -123,9 +123,6 @@ pub enum FaultKind {
     NoInit,
     #[error("too long")]
     TooLong,
-    /// The line is right, but its call can't be run yet.
-    #[error("not built")]
-    NotBuilt,
 }
 
 /// Why a text is no script: the line, from 1, or 0 where no line is at fault, and what is wrong there.

@@ -1,4 +1,5 @@
 mod AtRest
+mod FirstOther
 mod Known
 mod Places
 mod ReliefSteps

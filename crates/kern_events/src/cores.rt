@@ -15,7 +15,7 @@ ghost use Rattle.posix_defs.specs.CoreEvent.{phase_after};
 ghost use Rattle.posix_defs.specs.declared.turner.Turned.TheVariants.{Sleep};
 ghost use Rattle.posix_defs.specs.Licence.{can_evict_any, is_licensed};
 ghost use Rattle.posix_defs.specs.Ends.{all_asleep, end_of, starves_for, sleeps_on};
-ghost use Rattle.posix_defs.specs.Choice.{asks_nothing, default_of, events_of, enabled_in, default_in, kills_in, named_by, others_in};
+ghost use Rattle.posix_defs.specs.Choice.{evicts_in, asks_nothing, default_of, events_of, enabled_in, default_in, kills_in, named_by, others_in};
 ghost use Rattle.posix_defs.specs.Machine.{would_block};
 ghost use Rattle.kern_tasks.specs.Room.{is_asleep};
 ghost use Rattle.kern_tasks.specs.View.{IsAt, IsAskedFor, IsSleep, HasRun, HasBooted, CanTake, GoesOn, IsInside, MayTake, StaysInside, Takes, Took};
@@ -517,6 +517,30 @@ impl<T: Turner + Drop> Core<T> {
         }
     }
 
+    /// The first eviction that may be taken.
+    fn first_eviction(&self) -> Option<Event>
+        ensures { (s : CoreState) → IsAt T.stands self.now s → result ≡ slice_get (evicts_in s) 0 }
+    {
+        let Some(what) = self.first_evictable() else {
+            return None;
+        };
+        if self.store.alive(1) {
+            Some(Event::Evict(what))
+        } else {
+            None
+        }
+    }
+
+    /// The first of the events that are of no process.
+    fn first_other(&self) -> Option<Event>
+        ensures { (s : CoreState) → IsAt T.stands self.now s → result ≡ slice_get (others_in (T.script self.now.store) s) 0 }
+    {
+        match self.first_eviction() {
+            Some(event) => Some(event),
+            None => self.kill_event(),
+        }
+    }
+
     /// The first event that may be taken and asks for no more heap.
     fn first_that_frees(&self) -> Option<Event>
         ensures { (s : CoreState) → IsAt T.stands self.now s → IsSound (T.script self.now.store) s
@@ -529,7 +553,7 @@ impl<T: Turner + Drop> Core<T> {
                 }
             }
         }
-        present_at(&self.others(), 0)
+        self.first_other()
     }
 
     /// The first event that may be taken, or where a call waits in vain the first that asks for no more heap. Whether an end

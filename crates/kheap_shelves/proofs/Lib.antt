@@ -1,3 +1,4 @@
+pub mod GivenKeys
 pub mod ObjectLemmas
 pub mod PurseLemmas
 pub mod ShelfLemmas

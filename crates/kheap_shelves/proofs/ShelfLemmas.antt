@@ -1,16 +1,17 @@
 -- What an insert, a removal and a write leave of a shelf's places and objects.
-use Rattle.std.proofs.Common.{◌≡◌, ◌≢◌, ℕ, suc, ◌+◌, ◌<◌, ◌≤◌, List, [], ◌∷◌, ◌++◌, length, get_or, set, Option, Some, None, is_some, count_by, map, refl, sym, ap, ◌∙◌, inl, inr, cond, replicate, mul-zero, arith, length-append}
+use Rattle.std.proofs.Common.{◌≡◌, ◌≢◌, ℕ, suc, ◌+◌, ◌<◌, ◌≤◌, List, [], ◌∷◌, ◌++◌, length, get_or, set, Option, Some, None, is_some, IsSome, subst, ◌-◌, count_by, map, refl, sym, ap, ◌∙◌, inl, inr, cond, replicate, mul-zero, arith, length-append}
 use Rattle.std.proofs.lemmas.Bool.{cases_eq}
 use Rattle.std.proofs.lemmas.Grind.{common_steps, get_or-set_at}
-use Rattle.std.proofs.lemmas.List.{length-replicate, get_or-replicate, get_or-set_same, get_or-set_other, get_or-map, map-set, length-set, length-map, same_lists, get_or_past, get_or_append_left, get_or_push, set-get_or}
+use Rattle.std.proofs.lemmas.List.{append-nil, length_push, length-replicate, get_or-replicate, get_or-set_same, get_or-set_other, get_or-map, map-set, length-set, length-map, same_lists, get_or_past, get_or_append_left, get_or_push, set-get_or}
 use Rattle.std.proofs.lemmas.List.Sums.{sum_by-set}
 use Rattle.std.proofs.lemmas.List.Folds.{sum_by-replicate}
 use Rattle.std.proofs.lemmas.Bool.{cases_lt}
 use Rattle.slab.specs.Slab.{Slab, get, slab_len, ContainsKey, Updates, with_value}
 use Rattle.slab.proofs.SlabLemmas.{Updates-with_value}
 use Rattle.kheap_shelves.specs.Objects.{InUse}
-use Rattle.kheap_shelves.specs.Places.{found_at, shelved, IsSound, TakesPlace}
-use Rattle.kheap_shelves.proofs.ObjectLemmas.{count-without}
+use Rattle.kheap_shelves.specs.Places.{found_at, shelved, IsSound, TakesPlace, all_places, all_free, falling, TakesKey, IsShelf}
+use Rattle.kheap_shelves.proofs.GivenKeys.{none_given, length-falling, get_or-falling, length-all, get_or-all, set-all, free_again, next_free, next_places, still_within, still_given}
+use Rattle.kheap_shelves.proofs.ObjectLemmas.{count-without, InUse-within}
 
 module _ {X Y : Type 0} where
   -- where two functions agree on all elements but one, mapping either and writing that one gives the same
@@ -363,3 +364,132 @@ module _ {T : Type 0} where
           free_room = rw length-set sound.free_room;
           spare_fits = rw length-set sound.spare_fits;
         }
+
+  -- The same of a shelf, whose table has the keys that were given out alone.
+  pub IsShelf-boot : (slab : Slab T) (places : List (Option ℕ)) (free spare : List ℕ) (limit places_room room spare_room : ℕ) → slab.slots ≡ [] → limit ≤ slab.capacity → places ≡ [] → limit ≤ places_room → free ≡ [] → limit ≤ room → spare ≡ [] → limit ≤ spare_room → IsShelf slab limit places places_room free room spare spare_room
+  IsShelf-boot slab places free spare limit places_room room spare_room empty slab_room none places_fit no_free free_room unused spare_fits =
+      let given : length places ≡ 0 = ap length none in
+      let all : limit - 0 ≡ limit = omega arith in
+      let keys : all_free limit (length places) free ≡ falling limit 0 = ap (λ n. all_free limit n free) given ∙ ap (all_free limit 0) no_free ∙ append-nil (falling (limit - 0) 0) ∙ ap (λ n. falling n 0) all in
+      record {
+        sound = subst (λ l. IsSound slab l (all_free limit (length places) free) room spare spare_room) (sym (none_given limit places none)) (subst (λ l. IsSound slab (replicate limit None) l room spare spare_room) (sym keys) (IsSound-boot slab (falling limit 0) spare limit room spare_room empty slab_room (length-falling limit 0) (λ i lt. get_or-falling limit 0 i lt ∙ omega arith) free_room unused spare_fits));
+        given = λ i lt. absurd (let long : length free ≡ 0 = ap length no_free in omega (arith, lt, long));
+        within = omega (arith, given);
+        fits = places_fit;
+      }
+
+  nothing_there : {o : Option T} → o ≡ None → IsSome o → ⊥
+  nothing_there none some = grind arith
+
+  module _ (slab : Slab T) (limit : ℕ) (places : List (Option ℕ)) (places_room : ℕ) (free : List ℕ) (room : ℕ) (spare : List ℕ) (spare_room : ℕ) (shelf : IsShelf slab limit places places_room free room spare spare_room) where
+    -- a key in use was given out, and its place stands in the table
+    pub used_given : (key : ℕ) → InUse (shelved slab (all_places limit places)) key → InUse places key
+    used_given key used = by_case (get_or places key None) refl
+      where
+        within : key < length (all_places limit places)
+        within = rw length-map at (InUse-within (shelved slab (all_places limit places)) key used)
+
+        named : get_or (shelved slab (all_places limit places)) key None ≡ found_at slab (get_or places key None)
+        named = get_or-map (found_at slab) (all_places limit places) key None None within ∙ ap (found_at slab) (get_or-all limit places key)
+
+        by_case : (o : Option ℕ) → get_or places key None ≡ o → InUse places key
+        by_case None is = absurd (let none = named ∙ ap (found_at slab) is in nothing_there none used)
+        by_case (Some place) is = rw is refl
+
+    -- as many keys are free, given out or not, as there is room for objects
+    pub key_is_left : count_by is_some (shelved slab (all_places limit places)) < length (shelved slab (all_places limit places)) → length free ≡ 0 → length places < limit
+    key_is_left less none =
+        let counted = count-shelved slab (all_places limit places) shelf.sound.filled in
+        let long = length-all limit places shelf.within in
+        let keys : length (all_free limit (length places) free) ≡ limit - length places + length free = length-append (falling (limit - length places) (length places)) free ∙ ap (λ n. n + length free) (length-falling (limit - length places) (length places)) in
+        let asked = rw (counted, length-map) at less in
+        omega (arith, asked, shelf.sound.counted, long, keys, none, shelf.within)
+
+    -- the place of a key that was given out is that of the whole table
+    pub place_in_all : (key place : ℕ) → get_or places key None ≡ Some place → get_or (all_places limit places) key None ≡ Some place
+    place_in_all key place is = get_or-all limit places key ∙ is
+
+    -- where some key has an object there is room for one more free key
+    pub freed_fits : (key : ℕ) → InUse (shelved slab (all_places limit places)) key → length free < room
+    freed_fits key used =
+        let more = free_has_room slab (all_places limit places) (all_free limit (length places) free) spare room spare_room key shelf.sound used in
+        let keys = length-append (falling (limit - length places) (length places)) free in
+        omega (arith, more, keys)
+
+    -- where no place is spare there is room for one more
+    pub object_fits : count_by is_some (shelved slab (all_places limit places)) < length (shelved slab (all_places limit places)) → length spare ≡ 0 → slab_len slab + 1 ≤ slab.capacity
+    object_fits less none =
+        let counted = count-shelved slab (all_places limit places) shelf.sound.filled in
+        let asked = rw (counted, length-map) at less in
+        omega (arith, asked, none, shelf.sound.placed, shelf.sound.slab_room)
+
+    -- what stands at the keys after a key was given out
+    module _ (new : Slab T) (rest : List ℕ) (place : ℕ) (value : T) (now : List (Option ℕ)) (keys : List ℕ) (key : ℕ) (takes : TakesPlace slab new spare rest place value) (room_left : length free ≡ 0 → length places < limit) (given : TakesKey places now free keys key place) where
+      pub IsShelf-insert : new.capacity ≡ slab.capacity → IsShelf new limit now places_room keys room rest spare_room
+      IsShelf-insert capacity =
+          let places_are = next_places limit places now free keys key place shelf.given room_left given in
+          record {
+            sound = subst (λ x. IsSound new x (all_free limit (length now) keys) room rest spare_room) (sym places_are) (IsSound-insert slab new (all_places limit places) (all_free limit (length places) free) (all_free limit (length now) keys) spare rest room spare_room key place value shelf.sound (next_free limit places now free keys key place shelf.given room_left given) takes capacity);
+            given = still_given limit places now free keys key place shelf.given room_left given;
+            within = still_within limit places now free keys key place shelf.given room_left given shelf.within;
+            fits = shelf.fits;
+          }
+
+      pub key_was_free : (key < length (all_places limit places)) × (get_or (all_places limit places) key None ≡ None)
+      key_was_free = next_key slab (all_places limit places) (all_free limit (length places) free) (all_free limit (length now) keys) spare room spare_room key shelf.sound (next_free limit places now free keys key place shelf.given room_left given)
+
+      pub objects-insert : shelved new (all_places limit now) ≡ set (shelved slab (all_places limit places)) key (Some value)
+      objects-insert =
+          ap (shelved new) (next_places limit places now free keys key place shelf.given room_left given)
+          ∙ shelved-insert slab new (all_places limit places) (all_free limit (length places) free) spare rest room spare_room key place value shelf.sound takes
+
+    -- what stands at the keys after one of them went
+    module _ (key place : ℕ) (placed : get_or places key None ≡ Some place) where
+      was_given : key < length places
+      was_given = placed_within places key place placed
+
+      one_went : all_places limit (set places key None) ≡ set (all_places limit places) key None
+      one_went = set-all limit places key None was_given
+
+      one_freed : all_free limit (length (set places key None)) (free ++ key ∷ []) ≡ all_free limit (length places) free ++ key ∷ []
+      one_freed = ap (λ n. all_free limit n (free ++ key ∷ [])) (length-set places key None) ∙ free_again limit (length places) free key
+
+      all_given : (i : ℕ) → i < length (free ++ key ∷ []) → get_or (free ++ key ∷ []) i 0 < length (set places key None)
+      all_given i lt = rw length-set (elim (cases_eq i (length free)) [
+        | inl e ↦ rw (get_or_push free key 0 i (sym e)) was_given
+        | inr d ↦
+            let short : i < length free = omega (arith, lt, length_push free key, d) in
+            rw (get_or_append_left free (key ∷ []) 0 i short) (shelf.given i short)
+      ])
+
+      pub freed_spare_fits : length spare < spare_room
+      freed_spare_fits = spare_has_room slab (all_places limit places) (all_free limit (length places) free) spare room spare_room key place shelf.sound (place_in_all key place placed)
+
+      shelf_of : (new : Slab T) (left : List ℕ) → IsSound new (set (all_places limit places) key None) (all_free limit (length places) free ++ key ∷ []) room left spare_room → IsShelf new limit (set places key None) places_room (free ++ key ∷ []) room left spare_room
+      shelf_of new left sound = record {
+        sound = subst (λ x. IsSound new x (all_free limit (length (set places key None)) (free ++ key ∷ [])) room left spare_room) (sym one_went) (subst (λ x. IsSound new (set (all_places limit places) key None) x room left spare_room) (sym one_freed) sound);
+        given = all_given;
+        within = rw length-set shelf.within;
+        fits = shelf.fits;
+      }
+
+      pub IsShelf-free : IsShelf slab limit (set places key None) places_room (free ++ key ∷ []) room (spare ++ place ∷ []) spare_room
+      IsShelf-free = shelf_of slab (spare ++ place ∷ []) (IsSound-free slab (all_places limit places) (all_free limit (length places) free) spare room spare_room key place shelf.sound (place_in_all key place placed))
+
+      pub objects-free : shelved slab (all_places limit (set places key None)) ≡ set (shelved slab (all_places limit places)) key None
+      objects-free = ap (shelved slab) one_went ∙ shelved-free slab (all_places limit places) key
+
+      pub IsShelf-removed : (new : Slab T) → Updates slab new place None → slab_len new + 1 ≡ slab_len slab → new.capacity ≡ slab.capacity → IsShelf new limit (set places key None) places_room (free ++ key ∷ []) room spare spare_room
+      IsShelf-removed new updates len capacity = shelf_of new spare (IsSound-removed slab new (all_places limit places) (all_free limit (length places) free) spare room spare_room key place shelf.sound (place_in_all key place placed) updates len capacity)
+
+      pub objects-removed : (new : Slab T) → Updates slab new place None → shelved new (all_places limit (set places key None)) ≡ set (shelved slab (all_places limit places)) key None
+      objects-removed new updates =
+          ap (shelved new) one_went ∙ shelved-removed slab new (all_places limit places) (all_free limit (length places) free) spare room spare_room key place shelf.sound (place_in_all key place placed) updates
+
+      -- an object is changed in its place
+      pub objects-changed : (now : T) → shelved (with_value slab place now) (all_places limit places) ≡ set (shelved slab (all_places limit places)) key (Some now)
+      objects-changed now = shelved-changed slab (all_places limit places) (all_free limit (length places) free) spare room spare_room key place now shelf.sound (place_in_all key place placed)
+
+      pub object_named : get_or (shelved slab (all_places limit places)) key None ≡ get slab place
+      object_named =
+          get_or-map (found_at slab) (all_places limit places) key None None (placed_within (all_places limit places) key place (place_in_all key place placed)) ∙ ap (found_at slab) (place_in_all key place placed)

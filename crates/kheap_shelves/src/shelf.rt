@@ -1,7 +1,7 @@
 ghost use Rattle.std.specs.Prelude.{◌≡◌, ◌+◌, ◌<◌, ◌≤◌, ◌++◌, [], ◌∷◌, length, IfOk, None, Some, replicate, slice_index_or, vec_len, vec_capacity};
 ghost use Rattle.std.specs.Borrow.{sem};
 ghost use Rattle.kheap_shelves.specs.Objects.{object, InUse, count, put, without};
-ghost use Rattle.kheap_shelves.specs.Places.{TakesPlace};
+ghost use Rattle.kheap_shelves.specs.Places.{TakesPlace, TakesKey};
 ghost use Rattle.slab.specs.Slab.{ContainsKey, HasRoomFor};
 
 mod pages;
@@ -14,16 +14,20 @@ use std::marker::Model;
 
 /// The objects of one class, under the keys from 0 below a limit that is fixed at boot.
 ///
-/// The slab picks places of its own, which nothing bounds, so a table has the place of each key.
+/// The slab picks places of its own, which nothing bounds, so a table has the place of each key. The table grows as
+/// keys are given out for the first time, the lowest first: boot reserves its memory and writes none of it.
 #[derive(Drop)]
 pub struct Shelf<T> {
     slab: Slab<T>,
+    // Of each key that was ever given out.
     places: Vec<Option<usize>>,
-    // The keys without an object. The last is the next to be given out.
+    // The keys that were given out and have no object any more. The last is the next to be given out.
     free: Vec<u32>,
     // Places of the slab whose objects are no key's any more. They are used again first; to remove such an object would clear
     // all its bytes.
     spare: Vec<usize>,
+    // How many keys there are, given out or not.
+    limit: u32,
 }
 
 impl<T> Model for Shelf<T> {
@@ -34,12 +38,12 @@ impl<T> Model for Shelf<T> {
 
     ghost coded = { coded_list (coded_option T.code) };
 
-    ghost use Rattle.kheap_shelves.specs.Places.{shelved, IsSound};
+    ghost use Rattle.kheap_shelves.specs.Places.{shelved, all_places, IsShelf};
 
-    ghost view = { λ shelf. shelved shelf.slab shelf.places.items };
+    ghost view = { λ shelf. shelved shelf.slab (all_places shelf.limit shelf.places.items) };
 
     ghost invariant = { λ shelf.
-        IsSound shelf.slab shelf.places.items shelf.free.items (vec_capacity shelf.free) shelf.spare.items (vec_capacity shelf.spare) };
+        IsShelf shelf.slab shelf.limit shelf.places.items (vec_capacity shelf.places) shelf.free.items (vec_capacity shelf.free) shelf.spare.items (vec_capacity shelf.spare) };
 }
 
 // The place of a key that has one.
@@ -61,6 +65,7 @@ fn let_go(places: &mut Vec<Option<usize>>, free: &mut Vec<u32>, key: u32) -> usi
     ensures gone { places.new.items ≡ without places.old.items key }
     ensures freed { free.new.items ≡ free.old.items ++ key ∷ [] }
     ensures capacity { vec_capacity free.new ≡ vec_capacity free.old }
+    ensures places_capacity { vec_capacity places.new ≡ vec_capacity places.old }
 {
     let place = place_at(places, key);
     places[key as usize] = None;
@@ -85,18 +90,26 @@ fn put_in<T: Drop>(slab: &mut Slab<T>, spare: &mut Vec<usize>, value: T) -> usiz
     }
 }
 
-// The keys below the limit, the lowest last.
-fn falling_keys(alloc: Global, limit: u32) -> Result<Vec<u32>, AllocError>
-    ensures len { IfOk result (λ keys. vec_len keys ≡ limit) }
-    ensures falling { IfOk result (λ keys. (i : _) → i < limit
-        → slice_index_or keys.items i 0 + i + 1 ≡ limit) }
-    ensures room { IfOk result (λ keys. limit ≤ vec_capacity keys) }
+// Gives a key out for an object at this place: one that was given out before, or where none is free the lowest that never was.
+fn take_key(places: &mut Vec<Option<usize>>, free: &mut Vec<u32>, place: usize) -> u32
+    requires given { (i : _) → i < vec_len free.old → slice_index_or free.old.items i 0 < vec_len places.old }
+    requires few { vec_len places.old ≤ 4294967295 }
+    requires room { vec_len free.old ≡ 0 → vec_len places.old < vec_capacity places.old }
+    ensures takes { TakesKey places.old.items places.new.items free.old.items free.new.items result place }
+    ensures capacity { vec_capacity places.new ≡ vec_capacity places.old }
+    ensures free_capacity { vec_capacity free.new ≡ vec_capacity free.old }
 {
-    let mut keys = Vec::with_capacity(alloc, limit as usize)?;
-    for i in 0..limit {
-        keys.push_reserved(limit - 1 - i);
+    match free.pop() {
+        Some(key) => {
+            places[key as usize] = Some(place);
+            key
+        }
+        None => {
+            let key = places.len() as u32;
+            places.push_reserved(Some(place));
+            key
+        }
     }
-    Ok(keys)
 }
 
 impl<T: Drop> Shelf<T> {
@@ -109,15 +122,15 @@ impl<T: Drop> Shelf<T> {
         ensures len { IfOk result (λ shelf. length shelf ≡ limit) }
     {
         let slab = Slab::with_capacity(alloc, limit as usize)?;
-        let mut places = Vec::with_capacity(alloc, limit as usize)?;
-        places.resize(limit as usize, None)?;
-        let free = falling_keys(alloc, limit)?;
+        let places = Vec::with_capacity(alloc, limit as usize)?;
+        let free = Vec::with_capacity(alloc, limit as usize)?;
         let spare = Vec::with_capacity(alloc, limit as usize)?;
         Ok(Shelf {
             slab,
             places,
             free,
             spare,
+            limit,
         })
     }
 
@@ -131,14 +144,8 @@ impl<T: Drop> Shelf<T> {
         ensures counted { count self.new ≡ count self.old + 1 }
         ensures len { length self.new ≡ length self.old }
     {
-        match self.free.pop() {
-            Some(key) => {
-                let place = put_in(&mut self.slab, &mut self.spare, value);
-                self.places[key as usize] = Some(place);
-                key
-            }
-            None => unreachable!(),
-        }
+        let place = put_in(&mut self.slab, &mut self.spare, value);
+        take_key(&mut self.places, &mut self.free, place)
     }
 
     /// The object of a key.

@@ -1,15 +1,14 @@
 -- Why each answer has its cause, and why a script that is there is done to its end.
-use Rattle.std.proofs.Common.{◌≡◌, ℕ, ◌+◌, ◌<◌, ◌≤◌, ◌⊎◌, true, false, List, ◌++◌, length, Option, None, Some, Ok, Err, inl, inr, refl, sym, ap, ◌∙◌, subst, arith, length-append, append-nil}
+use Rattle.std.proofs.Common.{◌≡◌, ℕ, ◌+◌, ◌<◌, ◌≤◌, ◌⊎◌, true, List, ◌++◌, length, Option, None, Some, Ok, Err, inl, inr, refl, sym, ap, ◌∙◌, subst, arith, length-append, append-nil}
 use Rattle.std.specs.Prelude.{String, []}
 use Rattle.kabi_types.specs.declared.entries.End.{End}
 use Rattle.kabi_types.specs.declared.entries.End.TheVariants as end
 use Rattle.kabi_types.specs.declared.scripts.Script.{Script}
 use Rattle.kabi_types.specs.declared.scripts.ScriptFault.{ScriptFault}
-use Rattle.store_objects.specs.Standing.{StoreView}
+use Rattle.call_run.specs.Stores.{StoreView}
 use Rattle.posix_defs.specs.Lines.{fault_line}
 use Rattle.posix_defs.specs.ScriptText.{ReadsText}
 use Rattle.script_parse.proofs.TextReads.{reads_as}
-use Rattle.calls_built.specs.Built.{can_run}
 use Rattle.kres_cli.specs.declared.commands.Command.{Command}
 use Rattle.kres_cli.specs.declared.commands.Command.TheVariants.{OnScript, Table, Gen, Load}
 use Rattle.kres_cli.specs.declared.commands.Task.{Task}
@@ -19,7 +18,7 @@ use Rattle.kres_cli.specs.declared.statuses.Status.TheVariants as status
 use Rattle.kres_cli.specs.Causes.{Completes, EndsRun, HasCause, HasScript, IsDone, IsTold, NoPutFailed, NothingFailed, TellsEnd, TellsFault}
 use Rattle.kres_cli.specs.Read.{HasTaken}
 use Rattle.kres_cli.specs.Status.{status_of}
-use Rattle.kres_cli.specs.Tool.{Answered, AnswersText, CommandEnds, Input, LoadEnds, Loaded, Makes, Obeys, OthersEnd, Output, Refuses, TaskEnds, TextEnds, Wrote, cannot_run, makes, no_script, refuses, runs, usage_line}
+use Rattle.kres_cli.specs.Tool.{Answered, AnswersText, CommandEnds, Input, LoadEnds, Loaded, Makes, Obeys, OthersEnd, Output, TaskEnds, TextEnds, Wrote, makes, refuses, runs, usage_line}
 use Rattle.kres_cli.specs.Words.{Asks}
 use Rattle.kres_cli.proofs.Outcomes.{says_short}
 
@@ -27,7 +26,7 @@ use Rattle.kres_cli.proofs.Outcomes.{says_short}
 
 -- what answers a text is the line of its fault, or what the task makes of its script
 answer_is : (text whole : List ℕ) (asked : Task) (handed : Option StoreView) (st : Status) → AnswersText text whole asked handed st
-    → ((st ≡ status.BadScript) × ((fault : ScriptFault) × Refuses text asked fault × (whole ≡ fault_line fault)))
+    → ((st ≡ status.BadScript) × ((fault : ScriptFault) × ReadsText text (Err fault) × (whole ≡ fault_line fault)))
     ⊎ ((script : Script) × ReadsText text (Ok script) × Makes asked script whole handed st)
 answer_is text whole asked handed _ (refuses fault why is none) = inl (refl, (fault, why, is))
 answer_is text whole asked handed _ (makes script st says so) = inr (script, says, so)
@@ -40,8 +39,8 @@ not_bad end.AllAsleep is = cc
 not_bad end.Spent is = cc
 
 makes_no_fault : (asked : Task) (script : Script) (whole : List ℕ) (handed : Option StoreView) → Makes asked script whole handed status.BadScript → ⊥
-makes_no_fault task.Sim script whole handed so = not_bad so.1.end so.1.status_is
-makes_no_fault (task.Threads workers) script whole handed so = not_bad so.1.end so.1.status_is
+makes_no_fault task.Sim script whole handed so = not_bad so.end so.status_is
+makes_no_fault (task.Threads workers) script whole handed so = not_bad so.end so.status_is
 makes_no_fault task.Print script whole handed so = let wrong : status.BadScript ≡ status.Finished = so.2 in cc
 
 -- what ends otherwise than finished is run
@@ -51,10 +50,10 @@ is_run task.Sim script whole handed st so other = refl
 is_run (task.Threads workers) script whole handed st so other = refl
 is_run task.Print script whole handed st so other = absurd (other so.2)
 
-tells_fault : (i : Input) (o : Output) (handed : Option StoreView) (asked : Task) → Answered i o handed asked status.BadScript → TellsFault i o asked
+tells_fault : (i : Input) (o : Output) (handed : Option StoreView) (asked : Task) → Answered i o handed asked status.BadScript → TellsFault i o
 tells_fault i o handed asked (whole, source, wrote) =
     elim (answer_is source.text whole asked handed status.BadScript source.answers) [
-      | inl bad ↦ record { text = source.text; taken = source.taken; fault = bad.1.0; refuses = bad.1.1; wrote = subst (Wrote o) bad.1.2 wrote }
+      | inl bad ↦ record { text = source.text; taken = source.taken; fault = bad.1.0; has = bad.1.1; wrote = subst (Wrote o) bad.1.2 wrote }
       | inr said ↦ absurd (makes_no_fault asked said.0 whole handed said.2)
     ]
 
@@ -158,33 +157,30 @@ took_all text got (Some rest) taken short =
 says_one : (text : List ℕ) (script other : Script) → ReadsText text (Ok script) → ReadsText text (Ok other) → script ≡ other
 says_one text script other says too = let same = sym (reads_as text (Ok script) says) ∙ reads_as text (Ok other) too in cc
 
--- and isn't refused where it can be run
-not_refused : (text : List ℕ) (asked : Task) (fault : ScriptFault) (script : Script) → Refuses text asked fault → ReadsText text (Ok script)
-    → (runs asked ≡ true → can_run script ≡ true) → ⊥
-not_refused text _ fault script (no_script asked _ bad) says can = let same = sym (reads_as text (Err fault) bad) ∙ reads_as text (Ok script) says in cc
-not_refused text _ _ script (cannot_run asked other line wanted said cannot first) says can =
-    let wrong : false ≡ true = sym cannot ∙ ap can_run (says_one text other script said says) ∙ can wanted in cc
+-- and has no fault
+has_none : (text : List ℕ) (script : Script) (fault : ScriptFault) → ReadsText text (Ok script) → ReadsText text (Err fault) → ⊥
+has_none text script fault says has = let same = sym (reads_as text (Err fault) has) ∙ reads_as text (Ok script) says in cc
 
 -- so what answers it is what the task makes of its script
 makes_it : (text whole : List ℕ) (asked : Task) (handed : Option StoreView) (st : Status) (script : Script) → AnswersText text whole asked handed st
-    → ReadsText text (Ok script) → (runs asked ≡ true → can_run script ≡ true) → Makes asked script whole handed st
-makes_it text whole asked handed _ script (refuses fault why is none) says can = absurd (not_refused text asked fault script why says can)
-makes_it text whole asked handed _ script (makes other st said so) says can =
+    → ReadsText text (Ok script) → Makes asked script whole handed st
+makes_it text whole asked handed _ script (refuses fault has is none) says = absurd (has_none text script fault says has)
+makes_it text whole asked handed _ script (makes other st said so) says =
     subst (λ s. Makes asked s whole handed st) (says_one text other script said says) so
 
 answered_done : (i : Input) (o : Output) (handed : Option StoreView) (asked : Task) (script : Script) (st : Status) → Answered i o handed asked st
-    → HasScript i asked script → IsDone o handed asked script st
+    → HasScript i script → IsDone o handed asked script st
 answered_done i o handed asked script st (whole, source, wrote) there =
     let same : source.text ≡ there.text =
     took_all there.text source.text i.left' (subst (λ left. HasTaken source.text left i.left') there.there source.taken) (says_short there.text script there.says) in
     inl (
       whole,
-      makes_it there.text whole asked handed st script (subst (λ text. AnswersText text whole asked handed st) same source.answers) there.says there.can,
+      makes_it there.text whole asked handed st script (subst (λ text. AnswersText text whole asked handed st) same source.answers) there.says,
       wrote,
     )
 
 task_done : (i : Input) (o : Output) (handed : Option StoreView) (asked : Task) (script : Script) (st : Status) → TaskEnds i o handed asked st
-    → HasScript i asked script → NothingFailed i o → IsDone o handed asked script st
+    → HasScript i script → NothingFailed i o → IsDone o handed asked script st
 task_done i o handed asked script status.Finished ends there none = answered_done i o handed asked script status.Finished ends there
 task_done i o handed asked script status.BadScript ends there none = answered_done i o handed asked script status.BadScript ends there
 task_done i o handed asked script status.Usage ends there none = absurd ends

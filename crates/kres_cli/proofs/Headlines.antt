@@ -1,7 +1,7 @@
 -- Why what `sim` and `load` have written keeps the headline.
 use Rattle.std.proofs.Common.{◌≡◌, ◌≤◌, ◌⊎◌, List, ℕ, Option, Ok, inl, inr, refl}
 use Rattle.kabi_types.specs.declared.scripts.Script.{Script}
-use Rattle.store_objects.specs.Standing.{StoreView}
+use Rattle.call_run.specs.Stores.{StoreView}
 use Rattle.posix_defs.specs.ScriptText.{ReadsText}
 use Rattle.posix_defs.specs.Generated.{generated}
 use Rattle.run_report.proofs.Headlines.{keeps_headline, keeps_summary}
@@ -19,7 +19,7 @@ use Rattle.kres_cli.specs.Words.{most_rounds}
 told : (text whole : List ℕ) (handed : Option StoreView) (st : Status) → AnswersText text whole Sim handed st
     → (st ≡ status.BadScript) ⊎ ((script : Script) × ReadsText text (Ok script) × IsRunOf script whole handed st)
 told text whole handed _ (refuses fault why is none) = inl refl
-told text whole handed _ (makes script st said ran) = inr (script, said, ran.1)
+told text whole handed _ (makes script st said ran) = inr (script, said, ran)
 
 simulated : (i : Input) (o : Output) (handed : Option StoreView) (st : Status) → Answered i o handed Sim st
     → (st ≡ status.BadScript → ⊥) → HasSimulated i o handed st

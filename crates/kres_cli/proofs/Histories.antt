@@ -13,7 +13,7 @@ use Rattle.kern_laws.proofs.Caches.{all_pinned, pins_kept}
 use Rattle.turn_words.specs.declared.items.Item.{Item}
 use Rattle.kern_shared.specs.Picks.{EndsAs}
 use Rattle.kern_shared.specs.Shared.{has_starved}
-use Rattle.store_objects.specs.Standing.{StoreView}
+use Rattle.call_run.specs.Stores.{StoreView}
 use Rattle.run_report.specs.Histories.{report_threads}
 use Rattle.run_report.specs.declared.runs.Reported.{Reported}
 use Rattle.run_report.proofs.Headlines.{entry_keeps}
@@ -130,7 +130,7 @@ tells_history script whole handed st ran =
 told : (text whole : List ℕ) (handed : Option StoreView) (workers : ℕ) (st : Status) → AnswersText text whole (task.Threads workers) handed st
     → (st ≡ status.BadScript) ⊎ ((script : Script) × ReadsText text (Ok script) × IsThreadsRunOf script whole handed st)
 told text whole handed workers _ (refuses fault why is none) = inl refl
-told text whole handed workers _ (makes script st said ran) = inr (script, said, ran.1)
+told text whole handed workers _ (makes script st said ran) = inr (script, said, ran)
 
 threaded : (i : Input) (o : Output) (handed : Option StoreView) (workers : ℕ) (st : Status) → Answered i o handed (task.Threads workers) st
     → (st ≡ status.BadScript → ⊥) → HasThreaded i o handed st

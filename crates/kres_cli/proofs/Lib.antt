@@ -5,4 +5,3 @@ pub mod Histories
 pub mod Numbers
 pub mod Outcomes
 pub mod Puts
-pub mod Runnable

@@ -1,17 +1,14 @@
 -- What a command ends with, from what was read, answered and put.
-use Rattle.std.proofs.Common.{◌≡◌, ℕ, ◌≤◌, true, false, List, [], ◌∷◌, length, Option, None, Some, Result, Ok, Err, IfOk, string_bytes, refl, sym, ap, ◌∙◌, subst, arith}
+use Rattle.std.proofs.Common.{◌≡◌, ℕ, ◌≤◌, List, [], ◌∷◌, length, Option, None, Some, Result, Ok, Err, IfOk, string_bytes, refl, sym, ap, ◌∙◌, subst, arith}
 use Rattle.kabi_types.specs.declared.entries.End.{End}
 use Rattle.kabi_types.specs.declared.entries.End.TheVariants as end
-use Rattle.kabi_types.specs.declared.scripts.FaultKind.TheVariants.{NotBuilt}
 use Rattle.kabi_types.specs.declared.scripts.Script.{Script}
 use Rattle.kabi_types.specs.declared.scripts.ScriptFault.{ScriptFault}
 use Rattle.posix_defs.specs.Canonical.{canonical}
 use Rattle.posix_defs.specs.Generated.{generated}
 use Rattle.posix_defs.specs.Lines.{fault_line}
 use Rattle.posix_defs.specs.ScriptText.{ReadsText, reads, too_long}
-use Rattle.calls_built.specs.Built.{can_run}
-use Rattle.store_objects.specs.Standing.{StoreView}
-use Rattle.unbuilt_lines.specs.Unbuilt.{IsUnbuiltLine}
+use Rattle.call_run.specs.Stores.{StoreView}
 use Rattle.run_report.specs.Reports.{IsReport}
 use Rattle.run_report.specs.Summaries.{IsSummary}
 use Rattle.run_report.specs.declared.runs.Reported.{Reported}
@@ -24,7 +21,7 @@ use Rattle.kres_cli.specs.Status.{status_of}
 use Rattle.kres_cli.specs.Read.{HasReadAs, HasTaken, IsReadAs, Says}
 use Rattle.kres_cli.specs.declared.reading.Reading.{Reading}
 use Rattle.kres_cli.specs.declared.reading.Reading.TheVariants as reading
-use Rattle.kres_cli.specs.Tool.{Input, Output, AnswerEnds, answers_so, lacks_memory, AnswersText, refuses, makes, AnswersSource, Broke, FaultEnds, HandsOut, LoadEnds, Makes, Refuses, cannot_run, no_script, ScriptEnds, TextEnds, Wrote, whole_text, beginning, ends_so, wants_memory, TaskEnds, runs}
+use Rattle.kres_cli.specs.Tool.{Input, Output, AnswersText, refuses, makes, AnswersSource, Broke, FaultEnds, HandsOut, LoadEnds, Makes, ScriptEnds, TextEnds, Wrote, whole_text, beginning, ends_so, wants_memory, TaskEnds}
 
 -- a run's report was written
 reported : (i : Input) (o : Output) (asked : Task) (whole : List ℕ) (handed : Option StoreView) (e : End)
@@ -37,11 +34,11 @@ reported i o asked whole handed end.Spent source wrote = (whole, source, wrote)
 made : (i : Input) (o : Output) (asked : Task) (script : Script) (whole : List ℕ) (handed : Option StoreView) (st : Status)
     → Makes asked script whole handed st → AnswersSource i asked whole handed st → Wrote o whole → TaskEnds i o handed asked st
 made i o task.Sim script whole handed st ran source wrote =
-    subst (TaskEnds i o handed task.Sim) (sym ran.1.status_is)
-    (reported i o task.Sim whole handed ran.1.end (subst (AnswersSource i task.Sim whole handed) ran.1.status_is source) wrote)
+    subst (TaskEnds i o handed task.Sim) (sym ran.status_is)
+    (reported i o task.Sim whole handed ran.end (subst (AnswersSource i task.Sim whole handed) ran.status_is source) wrote)
 made i o (task.Threads workers) script whole handed st ran source wrote =
-    subst (TaskEnds i o handed (task.Threads workers)) (sym ran.1.status_is)
-    (reported i o (task.Threads workers) whole handed ran.1.end (subst (AnswersSource i (task.Threads workers) whole handed) ran.1.status_is source) wrote)
+    subst (TaskEnds i o handed (task.Threads workers)) (sym ran.status_is)
+    (reported i o (task.Threads workers) whole handed ran.end (subst (AnswersSource i (task.Threads workers) whole handed) ran.status_is source) wrote)
 made i o task.Print script whole handed st printed source wrote =
     subst (TaskEnds i o handed task.Print) (sym printed.2)
     (whole, subst (AnswersSource i task.Print whole handed) printed.2 source, wrote)
@@ -65,55 +62,37 @@ nothing_handed o whole store handed st none broke = subst (λ h. HandsOut o whol
 -- what a text says that was taken
 pub read_as : (it : Reading) (text : List ℕ) (old new : Option (List ℕ)) (faults faults' : ℕ) → HasTaken text old new → faults' ≡ faults → Says text it
     → IsReadAs it old new faults faults'
-read_as (reading.Script bytes script) text old new faults faults' taken no_fault says = record {
-  taken = subst (λ t. HasTaken t old new) (sym says.0) taken;
-  no_fault = no_fault;
-  reads = subst (λ t. ReadsText t (Ok script)) (sym says.0) says.1;
-  valid = says.2;
-}
+read_as (reading.Script script) text old new faults faults' taken no_fault says =
+    (record { text = text; taken = taken; no_fault = no_fault; reads = says.0 }, says.1)
 read_as (reading.Bad fault) text old new faults faults' taken no_fault says = record { text = text; taken = taken; no_fault = no_fault; reads = says }
 read_as reading.Broken text old new faults faults' taken no_fault says = absurd says
 
--- the answer to a text that was taken answers the source
-pub text_ends : (i : Input) (o : Output) (asked : Task) (text : List ℕ) (handed : Option StoreView) (st : Status) → HasTaken text i.left i.left'
-    → i.takes' ≡ i.takes → AnswerEnds o asked text handed st → TaskEnds i o handed asked st
-text_ends i o asked text handed _ taken no_fault (answers_so whole store st told answers put) =
-    task_handed i o asked whole store handed st told (record { text = text; taken = taken; no_fault = no_fault; answers = answers }) put
-text_ends i o asked text handed _ taken no_fault (lacks_memory same none) = (same, none)
+-- what becomes of a script becomes of the source that had it
+pub script_ends : (i : Input) (o : Output) (asked : Task) (script : Script) (handed : Option StoreView) (st : Status)
+    → HasReadAs (Ok script) i.left i.left' i.takes i.takes' → ScriptEnds o asked script handed st → TaskEnds i o handed asked st
+script_ends i o asked script handed _ read (ends_so whole store st told made_so put) =
+    task_handed i o asked whole store handed st told
+    (record { text = read.text; taken = read.taken; no_fault = read.no_fault; answers = makes script st read.reads made_so }) put
+script_ends i o asked script handed _ read (wants_memory same none) = (same, none)
 
--- what becomes of a script becomes of the text that says it
-pub script_ends : (o : Output) (asked : Task) (text : List ℕ) (script : Script) (handed : Option StoreView) (st : Status)
-    → ReadsText text (Ok script) → ScriptEnds o asked script handed st → AnswerEnds o asked text handed st
-script_ends o asked text script handed _ says (ends_so whole store st told made_so put) = answers_so whole store st told (makes script st says made_so) put
-script_ends o asked text script handed _ says (wants_memory same none) = lacks_memory same none
-
--- and what becomes of a fault of it
-pub refusal_ends : (o : Output) (asked : Task) (text : List ℕ) (fault : ScriptFault) (st : Status) → Refuses text asked fault → FaultEnds o fault st
-    → AnswerEnds o asked text None st
-refusal_ends o asked text fault status.BadScript why wrote =
-    answers_so (fault_line fault) None status.BadScript status.BadScript (refuses fault why refl refl) (whole_text wrote)
-refusal_ends o asked text fault status.WriteFault why broke =
-    answers_so (fault_line fault) None status.BadScript status.WriteFault (refuses fault why refl refl) (beginning broke)
-refusal_ends o asked text fault status.Memory why same = lacks_memory same refl
-refusal_ends o asked text fault status.Finished why ends = absurd ends
-refusal_ends o asked text fault status.Usage why ends = absurd ends
-refusal_ends o asked text fault status.Starved why ends = absurd ends
-refusal_ends o asked text fault status.AllAsleep why ends = absurd ends
-refusal_ends o asked text fault status.Spent why ends = absurd ends
-refusal_ends o asked text fault status.ReadFault why ends = absurd ends
+-- the line of a fault answers the source that had it
+refused : (i : Input) (asked : Task) (fault : ScriptFault) → HasReadAs (Err fault) i.left i.left' i.takes i.takes'
+    → AnswersSource i asked (fault_line fault) None status.BadScript
+refused i asked fault read = record { text = read.text; taken = read.taken; no_fault = read.no_fault; answers = refuses fault read.reads refl refl }
 
 -- a text that is no script
 pub fault_ends : (i : Input) (o : Output) (asked : Task) (fault : ScriptFault) (handed : Option StoreView) (st : Status)
     → HasReadAs (Err fault) i.left i.left' i.takes i.takes' → handed ≡ None → FaultEnds o fault st → TaskEnds i o handed asked st
-fault_ends i o asked fault handed st read none ends =
-    subst (λ h. TaskEnds i o h asked st) (sym none)
-    (text_ends i o asked read.text None st read.taken read.no_fault (refusal_ends o asked read.text fault st (no_script asked fault read.reads) ends))
-
--- a script that can't be run
-pub unbuilt_ends : (o : Output) (asked : Task) (text : List ℕ) (script : Script) (line : ℕ) (st : Status) → runs asked ≡ true → ReadsText text (Ok script)
-    → can_run script ≡ false → IsUnbuiltLine text line → FaultEnds o (record { line = line; what = NotBuilt }) st → AnswerEnds o asked text None st
-unbuilt_ends o asked text script line st wanted says cannot first ends =
-    refusal_ends o asked text (record { line = line; what = NotBuilt }) st (cannot_run asked script line wanted says cannot first) ends
+fault_ends i o asked fault handed status.BadScript read none wrote =
+    subst (λ h. TaskEnds i o h asked status.BadScript) (sym none) (fault_line fault, refused i asked fault read, wrote)
+fault_ends i o asked fault handed status.WriteFault read none broke = (fault_line fault, None, status.BadScript, refused i asked fault read, broke, none)
+fault_ends i o asked fault handed status.Memory read none same = (same, none)
+fault_ends i o asked fault handed status.Finished read none ends = absurd ends
+fault_ends i o asked fault handed status.Usage read none ends = absurd ends
+fault_ends i o asked fault handed status.Starved read none ends = absurd ends
+fault_ends i o asked fault handed status.AllAsleep read none ends = absurd ends
+fault_ends i o asked fault handed status.Spent read none ends = absurd ends
+fault_ends i o asked fault handed status.ReadFault read none ends = absurd ends
 
 -- a text that says a script isn't too long
 pub says_short : (text : List ℕ) (script : Script) → ReadsText text (Ok script) → length text ≤ 1048576

@@ -1,15 +1,14 @@
 -- Why the tool answers as it does, and when its answer is the end of what it was asked for.
-use Rattle.std.specs.Prelude.{ℕ, ◌≡◌, ◌⊎◌, true, List, Option, Some, None, Ok, String}
+use Rattle.std.specs.Prelude.{ℕ, ◌≡◌, ◌⊎◌, true, List, Option, Some, None, Ok, Err, String}
 use Rattle.kabi_types.specs.declared.scripts.Script.{Script}
 use Rattle.kabi_types.specs.declared.scripts.ScriptFault.{ScriptFault}
-use Rattle.store_objects.specs.Standing.{StoreView}
+use Rattle.call_run.specs.Stores.{StoreView}
 use Rattle.kio_ports.specs.Faults.{HasRisen}
 use Rattle.posix_defs.specs.Canonical.{canonical}
 use Rattle.posix_defs.specs.Generated.{generated}
 use Rattle.posix_defs.specs.Lines.{fault_line}
 use Rattle.posix_defs.specs.PriceText.{table_text}
 use Rattle.posix_defs.specs.ScriptText.{ReadsText}
-use Rattle.calls_built.specs.Built.{can_run}
 use Rattle.kres_cli.specs.declared.commands.Command.{Command}
 use Rattle.kres_cli.specs.declared.commands.Command.TheVariants.{OnScript, Table, Gen, Load}
 use Rattle.kres_cli.specs.declared.commands.Task.{Task}
@@ -17,7 +16,7 @@ use Rattle.kres_cli.specs.declared.statuses.Status.{Status}
 use Rattle.kres_cli.specs.declared.statuses.Status.TheVariants.{Finished, BadScript, Usage, Starved, AllAsleep, Spent, ReadFault, WriteFault, Memory}
 use Rattle.kres_cli.specs.Read.{HasTaken}
 use Rattle.kres_cli.specs.Run.{IsLoadOf}
-use Rattle.kres_cli.specs.Tool.{AnswersSource, Broke, CommandEnds, Input, Loaded, Makes, Output, Refuses, Wrote, runs, usage_line}
+use Rattle.kres_cli.specs.Tool.{AnswersSource, Broke, CommandEnds, Input, Loaded, Makes, Output, Wrote, runs, usage_line}
 use Rattle.kres_cli.specs.Words.{Asks}
 
 -- The text that was taken says a script, and what the task makes of it was written whole.
@@ -30,12 +29,12 @@ pub record TellsEnd (i : Input) (o : Output) (handed : Option StoreView) (asked 
   pub makes : Makes asked script whole handed status
   pub wrote : Wrote o whole
 
--- The text that was taken is refused for a fault, and the line that tells it was written.
-pub record TellsFault (i : Input) (o : Output) (asked : Task) : Type 0 where
+-- The text that was taken is no script for a fault, and the line that tells it was written.
+pub record TellsFault (i : Input) (o : Output) : Type 0 where
   pub text : List ℕ
   pub taken : HasTaken text i.left i.left'
   pub fault : ScriptFault
-  pub refuses : Refuses text asked fault
+  pub has : ReadsText text (Err fault)
   pub wrote : Wrote o (fault_line fault)
 
 -- what is to be written for a command
@@ -65,7 +64,7 @@ module _ {A : Type 0} (words : List (String A)) where
   -- what was due, and it has a proper beginning of that. Want of memory is told for a command alone, and with nothing written.
   abbrev pub HasCause : Input → Output → Option StoreView → Status → Type 0
   HasCause i o handed Finished = (command : Command) × Asks words command × CommandEnds i o handed command Finished
-  HasCause i o handed BadScript = (asked : Task) × Asks words (OnScript asked) × TellsFault i o asked
+  HasCause i o handed BadScript = (asked : Task) × Asks words (OnScript asked) × TellsFault i o
   HasCause i o handed Usage = AskNothing × Wrote o usage_line × i.untouched
   HasCause i o handed Starved = EndsRun i o handed Starved
   HasCause i o handed AllAsleep = EndsRun i o handed AllAsleep
@@ -74,12 +73,11 @@ module _ {A : Type 0} (words : List (String A)) where
   HasCause i o handed WriteFault = HasRisen o.puts o.puts' × ((whole : List ℕ) × IsDue i whole × Broke o whole)
   HasCause i o handed Memory = (command : Command) × Asks words command × o.untouched
 
--- All that the source has says this script, which can be run where it is to be.
-pub record HasScript (i : Input) (asked : Task) (script : Script) : Type 0 where
+-- All that the source has says this script.
+pub record HasScript (i : Input) (script : Script) : Type 0 where
   pub text : List ℕ
   pub there : i.left ≡ Some text
   pub says : ReadsText text (Ok script)
-  pub can : runs asked ≡ true → can_run script ≡ true
 
 -- no put failed
 abbrev pub NoPutFailed : Output → Type 0
@@ -100,7 +98,7 @@ IsTold o whole wanted status = ((status ≡ wanted) × Wrote o whole) ⊎ (statu
 -- Where no stream fails, what was asked for is done to its end, but for want of memory: a script that is there is run to the end of
 -- its run, or printed; a text that needs no script is written whole, and so is the summary of a generated script's run. Words that ask for nothing are always told so.
 pub record Completes {A : Type 0} (words : List (String A)) (i : Input) (o : Output) (handed : Option StoreView) (status : Status) : Type 0 where
-  pub scripts : (asked : Task) (script : Script) → Asks words (OnScript asked) → HasScript i asked script → NothingFailed i o
+  pub scripts : (asked : Task) (script : Script) → Asks words (OnScript asked) → HasScript i script → NothingFailed i o
       → IsDone o handed asked script status
   pub table : Asks words Table → NoPutFailed o → IsTold o table_text Finished status
   pub gen : (rounds : ℕ) → Asks words (Gen rounds) → NoPutFailed o → IsTold o (canonical (generated rounds)) Finished status

@@ -7,7 +7,7 @@ use Rattle.kabi_types.specs.declared.scripts.Script.{Script}
 use Rattle.posix_defs.specs.Generated.{generated}
 use Rattle.posix_defs.specs.History.{IsRun, Past}
 use Rattle.posix_defs.specs.World.{World, base, pins}
-use Rattle.store_objects.specs.Standing.{StoreView}
+use Rattle.call_run.specs.Stores.{StoreView}
 use Rattle.run_report.specs.Headline.{EntryKeeps, KeepsHeadline}
 use Rattle.run_report.specs.Histories.{report_threads}
 use Rattle.run_report.specs.Summaries.{KeepsSummary}

@@ -35,19 +35,12 @@ pub record HasReadAs (outcome : Result Script ScriptFault) (old new : Option (Li
 
 -- the text says this script, which is valid, or has this fault
 abbrev pub Says : List ℕ → Reading → Type 0
-Says text (reading.Script bytes script) = (bytes.items ≡ text) × ReadsText text (Ok script) × IsValid script
+Says text (reading.Script script) = ReadsText text (Ok script) × IsValid script
 Says text (reading.Bad fault) = ReadsText text (Err fault)
 Says text reading.Broken = ⊥
 
--- The source had this text, which says this script, and no take failed.
-pub record HasReadScript (text : List ℕ) (script : Script) (old new : Option (List ℕ)) (faults faults' : ℕ) : Type 0 where
-  pub taken : HasTaken text old new
-  pub no_fault : faults' ≡ faults
-  pub reads : ReadsText text (Ok script)
-  pub valid : IsValid script
-
--- a script was read, or a text with a fault; or a take failed
+-- a script was read, which is valid, or a text with a fault; or a take failed
 abbrev pub IsReadAs : Reading → Option (List ℕ) → Option (List ℕ) → ℕ → ℕ → Type 0
-IsReadAs (reading.Script bytes script) old new faults faults' = HasReadScript bytes.items script old new faults faults'
+IsReadAs (reading.Script script) old new faults faults' = HasReadAs (Ok script) old new faults faults' × IsValid script
 IsReadAs (reading.Bad fault) old new faults faults' = HasReadAs (Err fault) old new faults faults'
 IsReadAs reading.Broken old new faults faults' = HasRisen faults faults'

@@ -5,8 +5,7 @@ use Rattle.kabi_types.specs.declared.entries.Entry.{Entry}
 use Rattle.kabi_types.specs.declared.scripts.Script.{Script}
 use Rattle.posix_defs.specs.Generated.{generated}
 use Rattle.posix_defs.specs.World.{World}
-use Rattle.call_run.specs.Stores.{IsStoreOf}
-use Rattle.store_objects.specs.Standing.{StoreView}
+use Rattle.call_run.specs.Stores.{Stands, StoreView}
 use Rattle.run_report.specs.Histories.{report_threads}
 use Rattle.run_report.specs.Reports.{IsReport}
 use Rattle.run_report.specs.Summaries.{IsSummary}
@@ -16,7 +15,7 @@ use Rattle.kres_cli.specs.Status.{status_of}
 
 -- what a store stands for, how often its heap was marked, and the most that was in use since
 abbrev pub stands : StoreView → World → Type 0
-stands store world = IsStoreOf store.script store.objects world
+stands = Stands
 
 abbrev pub marks : StoreView → ℕ
 marks store = store.objects.heap.marks

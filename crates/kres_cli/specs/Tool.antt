@@ -1,10 +1,9 @@
 -- What the tool answers to its words, and what it writes.
 use Rattle.std.specs.Prelude.{ℕ, ◌≡◌, ◌<◌, Bool, true, false, List, length, take, Option, None, Result, Ok, Err, String, codes}
 use Rattle.std.specs.Io.KnownBytes.{Appends}
-use Rattle.kabi_types.specs.declared.scripts.FaultKind.TheVariants.{NotBuilt}
 use Rattle.kabi_types.specs.declared.scripts.Script.{Script}
 use Rattle.kabi_types.specs.declared.scripts.ScriptFault.{ScriptFault}
-use Rattle.store_objects.specs.Standing.{StoreView}
+use Rattle.call_run.specs.Stores.{StoreView}
 use Rattle.kio_ports.specs.declared.failed.Failed.{Failed}
 use Rattle.kio_ports.specs.Faults.{HasRisen}
 use Rattle.kio_ports.specs.Offers.{PutsAll}
@@ -13,8 +12,6 @@ use Rattle.posix_defs.specs.Generated.{generated}
 use Rattle.posix_defs.specs.Lines.{fault_line}
 use Rattle.posix_defs.specs.PriceText.{table_text}
 use Rattle.posix_defs.specs.ScriptText.{ReadsText}
-use Rattle.calls_built.specs.Built.{can_run}
-use Rattle.unbuilt_lines.specs.Unbuilt.{IsUnbuiltLine}
 use Rattle.kres_cli.specs.declared.commands.Command.{Command}
 use Rattle.kres_cli.specs.declared.commands.Command.TheVariants.{OnScript, Table, Gen, Load}
 use Rattle.kres_cli.specs.declared.commands.Task.{Task}
@@ -71,11 +68,11 @@ module _ {K : Type 0} (held : K → Option (List ℕ)) (faults : K → ℕ) (giv
     untouched = new ≡ old;
   }
 
--- What a task makes of a script: the report of its run, where it can be run, with that end's status and the store as it was
--- left; the same of a run by workers; or the script in its canonical form.
+-- What a task makes of a script: the report of its run, with that end's status and the store as it was left; the same of a
+-- run by workers; or the script in its canonical form.
 abbrev pub Makes : Task → Script → List ℕ → Option StoreView → Status → Type 0
-Makes task.Sim script whole handed status = (can_run script ≡ true) × IsRunOf script whole handed status
-Makes (task.Threads _) script whole handed status = (can_run script ≡ true) × IsThreadsRunOf script whole handed status
+Makes task.Sim script whole handed status = IsRunOf script whole handed status
+Makes (task.Threads _) script whole handed status = IsThreadsRunOf script whole handed status
 Makes task.Print script whole handed status = (whole ≡ canonical script) × (handed ≡ None) × (status ≡ Finished)
 
 -- the task runs its script
@@ -84,17 +81,10 @@ runs task.Sim = true
 runs (task.Threads _) = true
 runs task.Print = false
 
--- A task refuses a text for this fault: the text is no script; or its script can't be run and is to be, and this is the first
--- line that calls what can't.
-pub data Refuses (text : List ℕ) : Task → ScriptFault → Type 0 where
-  no_script : (asked : Task) (fault : ScriptFault) → ReadsText text (Err fault) → Refuses text asked fault
-  cannot_run : (asked : Task) (script : Script) (line : ℕ) → runs asked ≡ true → ReadsText text (Ok script) → can_run script ≡ false
-      → IsUnbuiltLine text line → Refuses text asked (record { line = line; what = NotBuilt })
-
--- The text is answered by this one, with this store and this status: the line of its fault, or what the task makes of its
--- script.
+-- The text is answered by this one, with this store and this status: the line of its fault, where it is no script, or what
+-- the task makes of its script.
 pub data AnswersText (text whole : List ℕ) (asked : Task) (handed : Option StoreView) : Status → Type 0 where
-  refuses : (fault : ScriptFault) → Refuses text asked fault → whole ≡ fault_line fault → handed ≡ None
+  refuses : (fault : ScriptFault) → ReadsText text (Err fault) → whole ≡ fault_line fault → handed ≡ None
       → AnswersText text whole asked handed BadScript
   makes : (script : Script) (status : Status) → ReadsText text (Ok script) → Makes asked script whole handed status
       → AnswersText text whole asked handed status
@@ -133,12 +123,6 @@ pub data ScriptEnds (o : Output) (asked : Task) (script : Script) (handed : Opti
   ends_so : (whole : List ℕ) (store : Option StoreView) (status told : Status) → Makes asked script whole store status
       → HandsOut o whole store status handed told → ScriptEnds o asked script handed told
   wants_memory : o.untouched → handed ≡ None → ScriptEnds o asked script handed Memory
-
--- What a task may end with where it has a text: the answer to the text was put, or there was no memory to make it.
-pub data AnswerEnds (o : Output) (asked : Task) (text : List ℕ) (handed : Option StoreView) : Status → Type 0 where
-  answers_so : (whole : List ℕ) (store : Option StoreView) (status told : Status) → AnswersText text whole asked store status
-      → HandsOut o whole store status handed told → AnswerEnds o asked text handed told
-  lacks_memory : o.untouched → handed ≡ None → AnswerEnds o asked text handed Memory
 
 -- what may become of the line of a fault
 abbrev pub FaultEnds : Output → ScriptFault → Status → Type 0

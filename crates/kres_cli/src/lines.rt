@@ -31,6 +31,5 @@ fn fault_text(what: FaultKind) -> &'static str
         FaultKind::Unended => "unended",
         FaultKind::NoInit => "no init",
         FaultKind::TooLong => "too long",
-        FaultKind::NotBuilt => "not built",
     }
 }

@@ -5,7 +5,7 @@ ghost use Rattle.std.specs.IoError.{error_kind};
 ghost use Rattle.std.specs.Process.{exit_status};
 ghost use Rattle.std.specs.Vec.Iter.{into_iter_items};
 ghost use Rattle.kabi_types.specs.declared.scripts.Policy.TheVariants.{Heaviest, Youngest};
-ghost use Rattle.store_objects.specs.Standing.{StoreView};
+ghost use Rattle.call_run.specs.Stores.{StoreView};
 ghost use Rattle.kres_cli.specs.Program.{EndsOn, EndsOnNoText, NothingDone};
 ghost use Rattle.kres_cli.specs.Headline.{ObeysAndKeeps};
 ghost use Rattle.kres_cli.specs.Status.{number_of};

@@ -34,8 +34,8 @@ pub fn read_text<S: Source>(alloc: Global, source: &mut S) -> Result<Text, Memor
 /// What came of reading a script.
 #[derive(Drop)]
 pub enum Reading {
-    /// The text, and the script that it says.
-    Script(Vec<u8>, Script),
+    /// The script that the text says.
+    Script(Script),
     /// Why the text is no script.
     Bad(ScriptFault),
     /// The source failed.
@@ -47,17 +47,17 @@ pub fn read_script<S: Source>(alloc: Global, source: &mut S) -> Result<Reading, 
     ensures { IfOk result (λ it. IsReadAs it (S.left source.old) (S.left source.new) (S.faults source.old) (S.faults source.new)) }
 {
     match read_text(alloc, source)? {
-        Text::Read(text) => understand(alloc, text),
+        Text::Read(text) => understand(alloc, text.as_slice()),
         Text::Fault => Ok(Reading::Broken),
     }
 }
 
 /// What a text says.
-fn understand(alloc: Global, text: Vec<u8>) -> Result<Reading, Memory>
-    ensures { IfOk result (Says text.items) }
+fn understand(alloc: Global, text: &[u8]) -> Result<Reading, Memory>
+    ensures { IfOk result (Says text.now) }
 {
-    match parse(alloc, text.as_slice()) {
-        Ok(script) => Ok(Reading::Script(text, script)),
+    match parse(alloc, text) {
+        Ok(script) => Ok(Reading::Script(script)),
         Err(ParseError::Bad(fault)) => Ok(Reading::Bad(fault)),
         Err(ParseError::Memory) => Err(Memory),
     }

@@ -1,22 +1,19 @@
 //! Runs of scripts by workers, each in a thread of its own.
 
-ghost use Rattle.std.specs.Prelude.{◌≡◌, ◌^◌, ◌<◌, true, IfOk, Ok, None, Some, length, string_bytes};
+ghost use Rattle.std.specs.Prelude.{◌≡◌, ◌^◌, ◌<◌, IfOk, None, Some, length, string_bytes};
 ghost use Rattle.kabi_types.specs.declared.entries.End.{End};
-ghost use Rattle.calls_built.specs.Built.{can_run};
-ghost use Rattle.posix_defs.specs.ScriptText.{ReadsText};
 ghost use Rattle.posix_defs.specs.ValidScript.{IsValid};
 ghost use Rattle.posix_defs.specs.World.{World};
 ghost use Rattle.run_report.specs.Histories.{report_threads};
 ghost use Rattle.kres_cli.specs.Run.{IsThreadsRunOf};
 ghost use Rattle.kres_cli.specs.Status.{status_of};
-ghost use Rattle.kres_cli.specs.Tool.{AnswerEnds, TaskEnds, input, output};
+ghost use Rattle.kres_cli.specs.Tool.{ScriptEnds, TaskEnds, input, output};
 ghost use Rattle.kres_cli.specs.declared.commands.Task.TheVariants.{Threads as ByThreads};
 
 use crate::reading::{Reading, read_script};
 use crate::statuses::Status;
-use crate::tool::{forget, hand_out, tell_fault, tell_run, tell_unbuilt};
+use crate::tool::{forget, hand_out, tell_fault, tell_run};
 use call_run::Store;
-use calls_built::can_run;
 use charge_words::Charge;
 use kabi_types::{Memory, Script};
 use kern_shared::Closed;
@@ -54,13 +51,11 @@ pub fn run_by_threads<
     ensures { TaskEnds (input S.left S.faults source.old source.new) (output K.held K.faults K.put_gives sink.old sink.new) store_out.new (ByThreads workers) result }
 {
     match read_script(alloc, source) {
-        Ok(Reading::Script(text, script)) => {
-            let bytes = text.as_slice();
+        Ok(Reading::Script(script)) => {
             let status = answer_by_threads(
-                rt, alloc, workers, bytes, &script, sink, door, score, store_out,
+                rt, alloc, workers, &script, sink, door, score, store_out,
             );
             drop(script);
-            drop(text);
             status
         }
         Ok(Reading::Bad(fault)) => tell_fault(alloc, sink, fault),
@@ -69,7 +64,7 @@ pub fn run_by_threads<
     }
 }
 
-/// Has the script of a text run, where it can be, and writes the report. The store is handed out where the whole report was written.
+/// Has a script run, and writes the report. The store is handed out where the whole report was written.
 fn answer_by_threads<
     R: Threads + Wait + Sync,
     K: Sink,
@@ -80,22 +75,17 @@ fn answer_by_threads<
     rt: &R,
     alloc: Global,
     workers: u32,
-    text: &[u8],
     script: &Script,
     sink: &mut K,
     door: &D,
     score: Score<F, G>,
     store_out: &mut Option<Store<F, G>>,
 ) -> Status
-    requires reads { ReadsText text.now (Ok script.now) }
     requires valid { IsValid script.now }
     requires some { 0 < workers }
     requires none { store_out.old ≡ None }
-    ensures { AnswerEnds (output K.held K.faults K.put_gives sink.old sink.new) (ByThreads workers) text.now store_out.new result }
+    ensures { ScriptEnds (output K.held K.faults K.put_gives sink.old sink.new) (ByThreads workers) script.now store_out.new result }
 {
-    if !can_run(script) {
-        return tell_unbuilt(alloc, text, sink);
-    }
     match run_threads(rt, alloc, workers, script, door, score, store_out) {
         Ok(reported) => tell_run(sink, &reported, store_out),
         Err(Memory) => {
@@ -116,7 +106,6 @@ fn run_threads<R: Threads + Wait + Sync, D: Door + Sync, F: Scorer + Send, G: Sc
     store_out: &mut Option<Store<F, G>>,
 ) -> Result<Reported, Memory>
     requires valid { IsValid script.now }
-    requires can { can_run script.now ≡ true }
     requires some { 0 < workers }
     ensures { IfOk result (λ it. IsThreadsRunOf script.now (string_bytes it.text) store_out.new (status_of it.end)) }
 {

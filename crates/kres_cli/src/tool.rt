@@ -1,16 +1,13 @@
-ghost use Rattle.std.specs.Prelude.{◌≡◌, ◌≢◌, ◌≤◌, true, false, List, ℕ, IfOk, Ok, None, Some, length, string_bytes};
+ghost use Rattle.std.specs.Prelude.{◌≡◌, ◌≢◌, ◌≤◌, List, ℕ, IfOk, None, Some, string_bytes};
 ghost use Rattle.kabi_types.specs.declared.scripts.Policy.TheVariants.{Heaviest, Youngest};
-ghost use Rattle.calls_built.specs.Built.{can_run};
-ghost use Rattle.kabi_types.specs.declared.scripts.Script.{Script};
 ghost use Rattle.posix_defs.specs.Canonical.{canonical};
 ghost use Rattle.posix_defs.specs.Generated.{generated};
-ghost use Rattle.posix_defs.specs.ScriptText.{ReadsText};
 ghost use Rattle.posix_defs.specs.ValidScript.{IsValid};
 ghost use Rattle.kres_cli.specs.Causes.{Completes, HasCause};
 ghost use Rattle.kres_cli.specs.Headline.{LoadKeeps, SimKeeps, ThreadsKeep};
 ghost use Rattle.kres_cli.specs.Run.{IsLoadOf, IsRunOf};
 ghost use Rattle.kres_cli.specs.Status.{status_of};
-ghost use Rattle.kres_cli.specs.Tool.{AnswerEnds, CommandEnds, FaultEnds, HandsOut, HasPut, LoadEnds, Obeys, OthersEnd, ScriptEnds, TaskEnds, TextEnds, input, output, runs};
+ghost use Rattle.kres_cli.specs.Tool.{CommandEnds, FaultEnds, HandsOut, HasPut, LoadEnds, Obeys, OthersEnd, ScriptEnds, TaskEnds, TextEnds, input, output};
 ghost use Rattle.kres_cli.specs.Words.{Asks, IsAllowed, most_rounds};
 ghost use Rattle.kres_cli.specs.declared.commands.Command.{Command};
 ghost use Rattle.kres_cli.specs.declared.commands.Command.TheVariants.{Load, OnScript};
@@ -24,8 +21,7 @@ use crate::statuses::Status;
 use crate::threads::run_by_threads;
 use crate::writing::write_text;
 use call_run::Store;
-use calls_built::can_run;
-use kabi_types::{FaultKind, Memory, Script, ScriptFault};
+use kabi_types::{Memory, Script, ScriptFault};
 use kern_core::Core;
 use kio_ports::{Failed, Sink, Source};
 use load_gen::generate;
@@ -36,7 +32,6 @@ use script_parse::print;
 use std::alloc::Global;
 use std::sync::Wait;
 use std::thread::Threads;
-use unbuilt_lines::unbuilt_line;
 use victim_core::{Score, Scorer};
 use work_crew::Door;
 
@@ -197,11 +192,9 @@ fn answer_source<S: Source, K: Sink, F: Scorer, G: Scorer>(
     ensures { TaskEnds (input S.left S.faults source.old source.new) (output K.held K.faults K.put_gives sink.old sink.new) store_out.new task result }
 {
     match read_script(alloc, source) {
-        Ok(Reading::Script(text, script)) => {
-            let bytes = text.as_slice();
-            let status = answer_script(alloc, task, bytes, &script, sink, score, store_out);
+        Ok(Reading::Script(script)) => {
+            let status = answer_script(alloc, task, &script, sink, score, store_out);
             drop(script);
-            drop(text);
             status
         }
         Ok(Reading::Bad(fault)) => tell_fault(alloc, sink, fault),
@@ -223,47 +216,24 @@ pub fn tell_fault<K: Sink>(alloc: Global, sink: &mut K, fault: ScriptFault) -> S
     }
 }
 
-/// Does a task with a text that says a script, and writes the answer.
+/// Does a task with a script, and writes the answer.
 fn answer_script<K: Sink, F: Scorer, G: Scorer>(
     alloc: Global,
     task: Task,
-    text: &[u8],
     script: &Script,
     sink: &mut K,
     score: Score<F, G>,
     store_out: &mut Option<Store<F, G>>,
 ) -> Status
-    requires reads { ReadsText text.now (Ok script.now) }
     requires valid { IsValid script.now }
     requires plain { (workers : ℕ) → task ≢ Threads workers }
     requires none { store_out.old ≡ None }
-    ensures { AnswerEnds (output K.held K.faults K.put_gives sink.old sink.new) task text.now store_out.new result }
+    ensures { ScriptEnds (output K.held K.faults K.put_gives sink.old sink.new) task script.now store_out.new result }
 {
     match task {
-        Task::Sim => {
-            if can_run(script) {
-                simulate(alloc, script, sink, score, store_out)
-            } else {
-                tell_unbuilt(alloc, text, sink)
-            }
-        }
+        Task::Sim => simulate(alloc, script, sink, score, store_out),
         Task::Print => tell(sink, print(alloc, script)),
         Task::Threads(_) => unreachable!(),
-    }
-}
-
-/// Writes the line that tells where a script calls what can't be run.
-pub fn tell_unbuilt<K: Sink>(alloc: Global, text: &[u8], sink: &mut K) -> Status
-    requires { length text.now ≤ 1048576 }
-    ensures { (asked : Task) (script : Script) → runs asked ≡ true → ReadsText text.now (Ok script) → can_run script ≡ false
-        → AnswerEnds (output K.held K.faults K.put_gives sink.old sink.new) asked text.now None result }
-{
-    match unbuilt_line(alloc, text) {
-        Ok(line) => {
-            let what = FaultKind::NotBuilt;
-            tell_fault(alloc, sink, ScriptFault { line, what })
-        }
-        Err(Memory) => Status::Memory,
     }
 }
 
@@ -277,7 +247,6 @@ fn simulate<K: Sink, F: Scorer, G: Scorer>(
     store_out: &mut Option<Store<F, G>>,
 ) -> Status
     requires valid { IsValid script.now }
-    requires can { can_run script.now ≡ true }
     ensures { ScriptEnds (output K.held K.faults K.put_gives sink.old sink.new) Sim script.now store_out.new result }
 {
     match run_script(alloc, script, score, store_out) {
@@ -314,7 +283,6 @@ fn run_script<F: Scorer, G: Scorer>(
     store_out: &mut Option<Store<F, G>>,
 ) -> Result<Reported, Memory>
     requires valid { IsValid script.now }
-    requires can { can_run script.now ≡ true }
     ensures { IfOk result (λ it. IsRunOf script.now (string_bytes it.text) store_out.new (status_of it.end)) }
 {
     let store = Store::boot(alloc, script, score)?;
@@ -373,7 +341,6 @@ fn run_summed<F: Scorer, G: Scorer>(
 ) -> Result<Reported, Memory>
     requires script { script.now ≡ generated rounds }
     requires valid { IsValid script.now }
-    requires can { can_run script.now ≡ true }
     ensures { IfOk result (λ it. IsLoadOf rounds (string_bytes it.text) store_out.new (status_of it.end)) }
 {
     let store = Store::boot(alloc, script, score)?;

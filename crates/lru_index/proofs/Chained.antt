@@ -86,3 +86,17 @@ module _ {T : Type 0} where
             ]) split in
             still_none (with_colder u.colder) u.warmer at2 now h3 q (still_none (with_warmer u.warmer) u.colder at1 at2 h2 q gone);
       }
+
+  still_linked : (at now : ℕ → Option (Link T)) (before : Option ℕ) (ps : List (ℕ × T)) (after : Option ℕ) → ((place : ℕ) → now place ≡ at place) → AreLinked at before ps after → AreLinked now before ps after
+  still_linked at now before [] after same l = l
+  still_linked at now before (p ∷ ps) after same l = (same p.0 ∙ l.0, still_linked at now (Some p.0) ps after same l.1)
+
+  -- a chain whose table has the same at each place
+  pub chain_same : (old new : Chain T) (ps : List (ℕ × T)) → ((place : ℕ) → link_at new.links.items place ≡ link_at old.links.items place) → new.coldest ≡ old.coldest → new.warmest ≡ old.warmest → IsChain old ps → IsChain new ps
+  chain_same old new ps same cold warm h = record {
+    linked = still_linked (link_at old.links.items) (link_at new.links.items) None ps None same h.linked;
+    coldest = cold ∙ h.coldest;
+    warmest = warm ∙ h.warmest;
+    distinct = h.distinct;
+    others = λ q e. same q ∙ h.others q e;
+  }

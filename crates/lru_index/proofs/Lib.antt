@@ -1,7 +1,10 @@
 pub mod Chained
+pub mod Filed
 pub mod Kept
 pub mod Links
 pub mod Pairs
 pub mod Placed
+pub mod Seeking
 pub mod Sides
+pub mod Strung
 pub mod Table

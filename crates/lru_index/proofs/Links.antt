@@ -5,11 +5,10 @@ use Rattle.std.specs.List.{IsDistinct, AllByRecursion}
 use Rattle.std.specs.Map.{keys_of, lookup, remove_entry}
 use Rattle.std.specs.Cmp.{nat_eq_equiv}
 use Rattle.std.proofs.lemmas.Map.Keys.{IsDistinct-head, IsDistinct-tail}
-use Rattle.lru_index.specs.Sorted.{IsWith}
 use Rattle.lru_index.specs.Order.{warmer, first_key}
 use Rattle.lru_index.specs.Chain.{link_at, item_at, first_item, link_of, with_warmer, with_colder, hits, end_after, first_or, last_or, AreLinked}
 use Rattle.lru_index.specs.declared.chain.Link.{Link}
-use Rattle.lru_index.proofs.Sides.{with_right}
+use Rattle.lru_index.proofs.Sides.{IsWith, with_right}
 
 module _ {T : Type 0} where
   pub first_or-append : (e : Option ℕ) (xs ys : List (ℕ × T)) → first_or e (xs ++ ys) ≡ first_or (first_or e ys) xs

@@ -19,7 +19,7 @@ module _ {K V : Type 0} (test : K → Bool) where
     | false ↦ λ t. rw t (λ h. ap suc (length_removed ps h))
   ]) refl
 
-  all_removed : (P : K → Type 0) (ps : List (K × V)) → AllByRecursion P (keys_of ps) → AllByRecursion P (keys_of (remove_entry test ps))
+  pub all_removed : (P : K → Type 0) (ps : List (K × V)) → AllByRecursion P (keys_of ps) → AllByRecursion P (keys_of (remove_entry test ps))
   all_removed P [] = λ h. h
   all_removed P (p ∷ ps) = (elim (test p.0) as (λ y. test p.0 ≡ y → AllByRecursion P (keys_of (p ∷ ps)) → AllByRecursion P (keys_of (remove_entry test (p ∷ ps)))) [
     | true ↦ λ t. rw t (λ h. h.1)

@@ -2,7 +2,7 @@
 //! places that stand beside it in the chain.
 //!
 //! Each call reads and writes a few places of the table, and never goes along the chain.
-ghost use Rattle.std.specs.Prelude.{◌≡◌, ℕ, ◌<◌, List, [], ◌∷◌, ◌++◌, None, Some, Option, IfOk, IsSome, cond, length, nat_eq, slice_set, vec_len};
+ghost use Rattle.std.specs.Prelude.{◌≡◌, ℕ, ◌+◌, ◌<◌, ◌≤◌, List, [], ◌∷◌, ◌++◌, None, Some, Option, IfOk, IsSome, cond, length, nat_eq, slice_set, vec_len, vec_capacity};
 ghost use Rattle.std.specs.Option.{option_map, option_and_then};
 ghost use Rattle.std.specs.Map.{lookup, remove_entry};
 ghost use Rattle.lru_index.specs.Chain.{IsChain, link_at, item_at, first_item, hits, end_after, with_warmer, with_colder};
@@ -28,20 +28,36 @@ pub struct Chain<T: Copy> {
 }
 
 impl<T: Copy> Chain<T> {
-    /// A chain with no item, and so many places.
+    /// A chain with no item, and room for so many places. It has none yet.
     pub fn boot(alloc: Global, places: u32) -> Result<Chain<T>, Memory>
         ensures empty { IfOk result (λ chain. IsChain chain []) }
-        ensures places { IfOk result (λ chain. vec_len chain.links ≡ places) }
+        ensures places { IfOk result (λ chain. vec_len chain.links ≡ 0) }
+        ensures room { IfOk result (λ chain. places ≤ vec_capacity chain.links) }
     {
-        let mut links = Vec::with_capacity(alloc, places as usize)?;
-        for _ in 0..places {
-            links.push_reserved(None);
-        }
+        let links = Vec::with_capacity(alloc, places as usize)?;
         Ok(Chain {
             links,
             coldest: None,
             warmest: None,
         })
+    }
+
+    /// How many places it has.
+    pub fn places(&self) -> usize
+        ensures { result ≡ vec_len self.now.links }
+    {
+        self.links.len()
+    }
+
+    /// One place more, which is free.
+    pub fn grow(&mut self)
+        requires { vec_len self.old.links < vec_capacity self.old.links }
+        ensures kept { (items : List (ℕ × T)) → IsChain self.old items → IsChain self.new items }
+        ensures places { vec_len self.new.links ≡ vec_len self.old.links + 1 }
+        ensures capacity { vec_capacity self.new.links ≡ vec_capacity self.old.links }
+        ensures free { link_at self.new.links.items (vec_len self.old.links) ≡ None }
+    {
+        self.links.push_reserved(None);
     }
 
     /// The item of a place, or None where it is free.
@@ -93,6 +109,7 @@ impl<T: Copy> Chain<T> {
         ensures added { (items : List (ℕ × T)) → IsChain self.old items
             → IsChain self.new (items ++ (place, item) ∷ []) }
         ensures places { vec_len self.new.links ≡ vec_len self.old.links }
+        ensures capacity { vec_capacity self.new.links ≡ vec_capacity self.old.links }
     {
         let colder = self.warmest;
         self.set_warmer(colder, Some(place));
@@ -113,6 +130,7 @@ impl<T: Copy> Chain<T> {
         ensures removed { (items : List (ℕ × T)) → IsChain self.old items
             → IsChain self.new (remove_entry (nat_eq place) items) }
         ensures places { vec_len self.new.links ≡ vec_len self.old.links }
+        ensures capacity { vec_capacity self.new.links ≡ vec_capacity self.old.links }
         ensures free { link_at self.new.links.items place ≡ None }
     {
         let Some(gone) = self.link(place) else {
@@ -132,6 +150,7 @@ impl<T: Copy> Chain<T> {
         ensures warmed { (items : List (ℕ × T)) → IsChain self.old items
             → IsChain self.new (touched (nat_eq place) items) }
         ensures places { vec_len self.new.links ≡ vec_len self.old.links }
+        ensures capacity { vec_capacity self.new.links ≡ vec_capacity self.old.links }
     {
         let item = self.remove(place);
         self.add(place, item);
@@ -153,6 +172,7 @@ impl<T: Copy> Chain<T> {
         requires { place < vec_len self.old.links }
         ensures links { self.new.links.items ≡ slice_set self.old.links.items place link }
         ensures places { vec_len self.new.links ≡ vec_len self.old.links }
+        ensures capacity { vec_capacity self.new.links ≡ vec_capacity self.old.links }
         ensures coldest { self.new.coldest ≡ self.old.coldest }
         ensures warmest { self.new.warmest ≡ self.old.warmest }
     {
@@ -166,6 +186,7 @@ impl<T: Copy> Chain<T> {
             (option_map (with_warmer to) (link_at self.old.links.items other))
             (link_at self.old.links.items other) }
         ensures places { vec_len self.new.links ≡ vec_len self.old.links }
+        ensures capacity { vec_capacity self.new.links ≡ vec_capacity self.old.links }
         ensures coldest { self.new.coldest ≡ end_after of to self.old.coldest }
         ensures warmest { self.new.warmest ≡ self.old.warmest }
     {
@@ -186,6 +207,7 @@ impl<T: Copy> Chain<T> {
             (option_map (with_colder to) (link_at self.old.links.items other))
             (link_at self.old.links.items other) }
         ensures places { vec_len self.new.links ≡ vec_len self.old.links }
+        ensures capacity { vec_capacity self.new.links ≡ vec_capacity self.old.links }
         ensures coldest { self.new.coldest ≡ self.old.coldest }
         ensures warmest { self.new.warmest ≡ end_after of to self.old.warmest }
     {

@@ -1,17 +1,16 @@
 //! `Index` and its calls. A clause sees an index as its `pairs`, the coldest first, and its
 //! `capacity`.
-ghost use Rattle.std.specs.Prelude.{◌≡◌, ◌<◌, [], ◌∷◌, ◌++◌, length, Some, None, IfOk, IfSome, IsSome, cond};
+ghost use Rattle.std.specs.Prelude.{◌≡◌, ◌+◌, ◌<◌, ◌≤◌, [], ◌∷◌, ◌++◌, length, Some, None, IfOk, IfSome, IsSome, cond, vec_len, vec_capacity};
 ghost use Rattle.std.specs.Bool.{MatchBool};
 ghost use Rattle.std.specs.Option.{ForSome, option_map};
 ghost use Rattle.std.specs.Map.{lookup, remove_entry};
+ghost use Rattle.lru_index.specs.Chain.{items_of};
+ghost use Rattle.lru_index.specs.Index.{IsIndex, HasPlace};
 ghost use Rattle.lru_index.specs.Order.{order, IsOrder, touched, coldest_of};
 
 use crate::Key;
+use crate::buckets::Buckets;
 use crate::chain::Chain;
-use crate::spares::{Spare, spares_for};
-#[cfg(test)]
-use crate::tree::Shape;
-use crate::tree::Tree;
 use kabi_types::Memory;
 use std::alloc::Global;
 use std::marker::Model;
@@ -19,10 +18,12 @@ use std::marker::Model;
 /// Keys with their slots, in the order of their last use.
 pub struct Index<K: Key> {
     // The place of each key in the chain.
-    places: Tree<K, u32>,
+    places: Buckets<K>,
     chain: Chain<(K, u32)>,
-    // What each pair that there is still room for will take. Nothing is allocated later.
-    spare: Vec<Spare<K>>,
+    // The places of the chain that were used and are free. The table of keys and the chain get a new one where there is none.
+    free: Vec<u32>,
+    // How many pairs there is room for. Nothing is allocated later.
+    capacity: u32,
 }
 
 impl<K: Key> Model for Index<K> {
@@ -35,11 +36,10 @@ impl<K: Key> Model for Index<K> {
     ghost use Rattle.lru_index.specs.Index.{IsIndex, pairs_in};
 
     ghost view = { λ index.
-        order (pairs_in (items_of index.chain (vec_capacity index.spare)))
-        (vec_capacity index.spare) };
+        order (pairs_in (items_of index.chain index.capacity)) index.capacity };
 
     ghost invariant = { λ index.
-        IsIndex K.eq K.cmp index.places index.chain index.spare.items (vec_capacity index.spare) };
+        IsIndex K.eq K.scatter index.places index.chain index.free.items (vec_capacity index.free) index.capacity };
 }
 
 // By hand, so that a caller sees one call and not the trees.
@@ -48,7 +48,8 @@ impl<K: Key> Drop for Index<K> {
         let Index {
             places: _,
             chain: _,
-            spare: _,
+            free: _,
+            capacity: _,
         } = self;
     }
 }
@@ -59,11 +60,13 @@ impl<K: Key> Index<K> {
         ensures empty { IfOk result (λ index. index ≡ order [] capacity) }
     {
         let chain = Chain::boot(alloc, capacity)?;
-        let spare = spares_for(alloc, capacity)?;
+        let places = Buckets::boot(alloc, capacity)?;
+        let free = Vec::with_capacity(alloc, capacity as usize)?;
         Ok(Index {
-            places: Tree::leaf(),
+            places,
             chain,
-            spare,
+            free,
+            capacity,
         })
     }
 
@@ -72,7 +75,7 @@ impl<K: Key> Index<K> {
         ensures { MatchBool result (self.now.capacity ≡ length self.now.pairs)
             (length self.now.pairs < self.now.capacity) }
     {
-        self.spare.is_empty()
+        none_left(self.chain.places(), &self.free, self.capacity)
     }
 
     /// The slot of a key, or None where it is absent.
@@ -124,9 +127,11 @@ impl<K: Key> Index<K> {
         ensures room { length self.new.pairs < self.new.capacity }
         ensures valid { IsOrder K.eq self.new }
     {
-        let spare = self.places.take(key);
-        let pair = self.chain.remove(spare.value);
-        self.spare.push_reserved(spare);
+        let Some(place) = self.places.take(&key) else {
+            unreachable!()
+        };
+        let pair = self.chain.remove(place);
+        self.free.push_reserved(place);
         pair.1
     }
 
@@ -140,18 +145,14 @@ impl<K: Key> Index<K> {
             (lookup (K.eq other) self.old.pairs) }
         ensures valid { IsOrder K.eq self.new }
     {
-        let Some(spare) = self.spare.pop() else {
-            unreachable!()
-        };
-        let place = spare.value;
-        self.places.put(key, spare);
+        let place = free_place(
+            &mut self.places,
+            &mut self.chain,
+            &mut self.free,
+            self.capacity,
+        );
+        self.places.put(place, key);
         self.chain.add(place, (key, slot));
-    }
-
-    /// The shape of the tree.
-    #[cfg(test)]
-    pub fn shape(&self) -> Option<Shape> {
-        self.places.shape()
     }
 
     /// The coldest key, or the coldest of those warmer than a key that is there; None where there
@@ -168,6 +169,37 @@ impl<K: Key> Index<K> {
                 Some(place) => key_in(self.chain.warmer(place)),
                 None => None,
             },
+        }
+    }
+}
+
+/// Whether none is free of so many places that are made, and no more may be made.
+fn none_left(made: usize, free: &Vec<u32>, most: u32) -> bool
+    requires { made ≤ most }
+    ensures { MatchBool result ((vec_len free.now ≡ 0) × (made ≡ most)) (made < most + vec_len free.now) }
+{
+    free.is_empty() && made == most as usize
+}
+
+/// A place of the table of keys and of the chain that is free: one that was used before, or where there is none a new one of both.
+fn free_place<K: Key>(
+    places: &mut Buckets<K>,
+    chain: &mut Chain<(K, u32)>,
+    free: &mut Vec<u32>,
+    capacity: u32,
+) -> u32
+    requires index { IsIndex K.eq K.scatter places.old chain.old free.old.items (vec_capacity free.old) capacity }
+    requires room { length (items_of chain.old capacity) < capacity }
+    ensures { HasPlace K.eq K.scatter places.new chain.new free.new.items (vec_capacity free.new) capacity result
+        (items_of chain.old capacity) }
+{
+    match free.pop() {
+        Some(place) => place,
+        None => {
+            let place = chain.places() as u32;
+            chain.grow();
+            places.grow();
+            place
         }
     }
 }

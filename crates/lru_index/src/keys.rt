@@ -1,17 +1,34 @@
 //! What an index may be kept by.
-ghost use Rattle.std.specs.Prelude.{◌≡◌, ℕ, ◌≤◌, true, List, length};
+ghost use Rattle.std.specs.Prelude.{◌≡◌, ℕ, ◌*◌, ◌%◌, ◌^◌, ◌≤◌, true, List, length};
 ghost use Rattle.std.proofs.Common.{eqb-true};
+ghost use Rattle.lru_index.specs.NameKeys.{scattered_on};
 
 use kabi_types::Name27;
 
-/// A key of an index. Keys that compare as equal are the same. The default one is any: it stands
-/// where a pair has room and isn't there yet.
-pub trait Key: Ord + Copy + Default {
+/// What scatters numbers: 2^64 divided by the golden ratio, an odd number whose bits are as good as random.
+const SCATTER: u64 = 11400714819323198485;
+
+/// A key of an index. Keys that compare as equal are the same.
+pub trait Key: Ord + Copy {
+    /// A number that keys rarely share, however alike they are.
+    ghost scatter: { Self → ℕ };
+
+    /// The number of a key.
+    fn scattered(&self) -> u64
+        ensures { result ≡ scatter self.now };
+
     ghost same: { (a b : Self) → Self.eq a b ≡ true → a ≡ b };
 }
 
 impl Key for u64 {
+    ghost scatter = { λ key. key };
+
     ghost same = { eqb-true };
+
+    // Numbers that follow one another go to buckets that do.
+    fn scattered(&self) -> u64 {
+        *self
+    }
 }
 
 /// A name in a directory: the number of the directory's node, the name's length in bytes, and its
@@ -49,7 +66,28 @@ impl NameKey {
 }
 
 impl Key for NameKey {
+    ghost use Rattle.lru_index.specs.NameKeys.{name_scatter};
     ghost use Rattle.lru_index.specs.Keys.{same_name};
 
+    ghost scatter = { name_scatter };
+
     ghost same = { same_name };
+
+    fn scattered(&self) -> u64 {
+        let len = (self.len as usize).min(27);
+        let all = scattered_bytes(self.dir as u64, &self.name[..len]);
+        // The lower bits are those of the last bytes alone.
+        all / 4294967296
+    }
+}
+
+/// A number and the bytes behind it as one number.
+fn scattered_bytes(start: u64, bytes: &[u8]) -> u64
+    ensures { result ≡ scattered_on (start * 11400714819323198485 % 2 ^ 64) bytes.now }
+{
+    let mut all = start.wrapping_mul(SCATTER);
+    for byte in bytes {
+        all = all.wrapping_add(*byte as u64).wrapping_mul(SCATTER);
+    }
+    all
 }

@@ -1,7 +1,7 @@
 -- A look through the entries of a directory, block by block.
 use Rattle.std.proofs.Common.{◌≡◌, ◌≢◌, ℕ, suc, ◌+◌, ◌-◌, ◌*◌, ◌/◌, ◌%◌, ◌<◌, ◌≤◌, Bool, true, false, cond, ltb, eqb, List, [], ◌∷◌, ◌++◌, map, length, get_or, inl, inr, Some, None, refl, sym, ap, subst, ◌∙◌, arith}
 use Rattle.std.specs.List.{position_or_len}
-use Rattle.std.proofs.lemmas.Bool.{cases_lt, lt-ltb, le-ltb, cond-true, cond-false, false_from_ne_true}
+use Rattle.std.proofs.lemmas.Bool.{cases_lt, lt-ltb, le-ltb, ne_eqb, cond-true, cond-false, false_from_ne_true}
 use Rattle.std.proofs.lemmas.List.Sums.{position_or_len_is}
 use Rattle.std.proofs.lemmas.Slice.Eq.{bytes_eq-Decides}
 use Rattle.kabi_values.specs.declared.inodes.Inode.{Inode}
@@ -11,8 +11,9 @@ use Rattle.posix_defs.specs.SoundDisk.{block_bytes, Place, Data, Pointers, named
 use Rattle.posix_defs.specs.DiskContents.{data_block, HasEntries}
 use Rattle.posix_defs.specs.Tree.{has_name}
 use Rattle.posix_defs.specs.TreeChanges.{no_entry}
+use Rattle.disk_laws.proofs.FreeBlocks.{direct_at}
 use Rattle.memfs_dir.specs.Slots.{Spells, IsCalled}
-use Rattle.memfs_dir.specs.Looking.{looked_at, looked_through}
+use Rattle.memfs_dir.specs.Looking.{IsLookOf, looked_at, looked_through}
 use Rattle.memfs_dir.specs.Listed.{place_called}
 use Rattle.memfs_dir.proofs.SlotBytes.{one_entry}
 use Rattle.memfs_dir.proofs.DirectoryBytes.{spelled}
@@ -75,6 +76,16 @@ found_in disk inode entries index slot block name has lt within is before first 
     first_called entries name (32 * index + slot) within (ap (λ (entry : DirEntry). entry.name) same ∙ here.called)
     (λ k k_lt. missing_on disk inode entries index slot block name has (omega (arith, lt)) is before first k (omega (arith, k_lt, within)) k_lt)
 
+-- a look that ends there has found the name, with its node
+pub look_found : (disk : List (List ℕ)) (inode : Inode) (entries : List DirEntry) (index slot node : ℕ) (block name : List ℕ) → HasEntries disk inode entries → slot < 32 → 32 * index + slot < length entries
+    → block_bytes disk (data_block disk inode index) ≡ block → ((k : ℕ) → k < length entries → k < 32 * index → (get_or entries k no_entry).name ≢ name)
+    → ((before : ℕ) → before < slot → ¬ (IsCalled block before name)) → IsCalled block slot name → ((entry : DirEntry) → Spells block slot entry → node ≡ entry.node)
+    → IsLookOf name entries (Some (record { place = 32 * index + slot; node = node }))
+look_found disk inode entries index slot node block name has lt within is before first here told = (
+  sym (found_in disk inode entries index slot block name has lt within is before first here),
+  told (get_or entries (32 * index + slot) no_entry) (spelled_in disk inode entries index slot block has lt within is),
+)
+
 -- ---- what was asked for
 
 asked_append : {Thing Question : Type 0} (asked : Thing → Question → Thing → Type 0) (first second third : Thing) (xs ys : List Question) → AskedInTurn asked first xs second → AskedInTurn asked second ys third
@@ -106,3 +117,12 @@ asked_further {Thing} asked disk inode index number count start first second thi
     subst (λ (numbers : List ℕ). AskedInTurn asked start numbers third) (sym (map_both (λ there. named_at disk inode there) (looked_through index) (looked_at index)))
     (asked_append asked start first third (blocks_at disk inode (looked_through index)) (blocks_at disk inode (looked_at index)) before (asked_one asked disk inode index number (eqb index 10) first second third is pointers block))
     )
+
+-- ---- a block that the inode names itself
+
+pub direct : (disk : List (List ℕ)) (inode : Inode) (index : ℕ) → index < 10 → (number : ℕ) → number ≡ get_or inode.direct index 0 → number ≡ data_block disk inode index
+direct disk inode index lt number is = is ∙ sym (direct_at disk inode index lt)
+
+-- no block of pointers is asked for on the way to it
+pub near_asked : {Thing : Type 0} (asked : Thing → ℕ → Thing → Type 0) (inode : Inode) (index : ℕ) (thing : Thing) → index < 10 → AskedInTurn asked thing (cond (eqb index 10) (inode.indirect ∷ []) []) thing
+near_asked {Thing} asked inode index thing lt = subst (λ (far : Bool). AskedInTurn asked thing (cond far (inode.indirect ∷ []) []) thing) (sym (ne_eqb index 10 (λ same. omega (arith, same, lt)))) refl

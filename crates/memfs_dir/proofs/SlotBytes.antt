@@ -1,10 +1,13 @@
 -- The bytes of a slot, one by one and as a piece of the block.
-use Rattle.std.proofs.Common.{◌≡◌, ℕ, suc, ◌+◌, ◌-◌, ◌*◌, ◌<◌, ◌≤◌, ◌⊎◌, inl, inr, List, ◌++◌, length, get_or, take, drop, replicate, refl, sym, ap, ◌∙◌, subst, arith}
+use Rattle.std.proofs.Common.{◌≡◌, ℕ, suc, ◌+◌, ◌-◌, ◌*◌, ◌<◌, ◌≤◌, ◌⊎◌, inl, inr, List, ◌∷◌, ◌++◌, length, get_or, take, drop, replicate, refl, sym, ap, ◌∙◌, subst, arith}
 use Rattle.std.proofs.lemmas.List.{ext_get_or, get_or-take, get_or-drop, length-take-le, get_or_append_left, get_or-append_right}
 use Rattle.std.proofs.Common.{length-drop}
+use Rattle.std.specs.Int.{w32, to_be_bytes, from_be_bytes}
+use Rattle.std.proofs.lemmas.Nat.{from_be_bytes-to_be_bytes_4}
 use borrow.Rule.Slice.PartMut.{put_mid}
 use Rattle.kabi_values.specs.declared.inodes.DirEntry.{DirEntry}
 use Rattle.posix_defs.specs.DiskFormat.{IsEntry, entry_bytes}
+use Rattle.posix_defs.specs.SoundDisk.{pointer_at}
 use Rattle.disk_laws.proofs.DiskSpelling.{length-entry_bytes, same_entry_bytes}
 use Rattle.memfs_dir.specs.Slots.{IsCalled, Spells}
 
@@ -69,6 +72,41 @@ shows block slot name called = subst (Shows block (32 * slot + 4)) called.called
 
     valid : IsEntry entry
     valid = called.spells.valid
+
+-- the bytes behind the length, as many as it says, are the entry's name
+pub name_shown : (block : List ℕ) (slot n : ℕ) (entry : DirEntry) → length block ≡ 1024 → slot < 32 → Spells block slot entry → get_or block (32 * slot + 4) 0 ≡ n
+    → take n (drop (32 * slot + 5) block) ≡ entry.name
+name_shown block slot n entry len lt spells is =
+    let long : length entry.name ≡ n = sym (length_spelled entry) ∙ sym (spells.bytes 4 (omega arith)) ∙ is in
+    let few : length entry.name ≤ 27 = spells.valid.name.len.1 in
+    let many : length (take n (drop (32 * slot + 5) block)) ≡ n = length-take-le n (drop (32 * slot + 5) block) (omega (arith, length-drop (32 * slot + 5) block, len, lt, long, few)) in
+    ext_get_or 0 (take n (drop (32 * slot + 5) block)) entry.name (many ∙ sym long) (λ j within.
+    let below : j < n = omega (arith, within, many) in
+    let at : 32 * slot + 5 + j ≡ 32 * slot + suc (suc (suc (suc (suc j)))) = omega arith in
+    get_or-take n (drop (32 * slot + 5) block) j 0 below
+    ∙ get_or-drop (32 * slot + 5) block j 0
+    ∙ ap (λ (k : ℕ). get_or block k 0) at
+    ∙ spells.bytes (suc (suc (suc (suc (suc j))))) (omega (arith, below, long, few))
+    ∙ name_spelled entry j (omega (arith, below, long)))
+
+-- its first four bytes are the number of the node
+node_first : (entry : DirEntry) (j : ℕ) → j < 4 → get_or (entry_bytes entry) j 0 ≡ get_or (to_be_bytes w32 entry.node) j 0
+unfolding entry_bytes
+node_first entry j lt = get_or_append_left (to_be_bytes w32 entry.node) (length entry.name ∷ (entry.name ++ replicate (27 - length entry.name) 0)) 0 j lt
+
+pub node_shown : (block : List ℕ) (slot : ℕ) (entry : DirEntry) → length block ≡ 1024 → slot < 32 → Spells block slot entry → pointer_at block (8 * slot) ≡ entry.node
+node_shown block slot entry len lt spells =
+    let front : ℕ = 4 * (8 * slot) in
+    let many : length (take 4 (drop front block)) ≡ 4 = length-take-le 4 (drop front block) (omega (arith, length-drop front block, len, lt)) in
+    ap (from_be_bytes w32) (ext_get_or 0 (take 4 (drop front block)) (to_be_bytes w32 entry.node) many (λ j within.
+    let below : j < 4 = omega (arith, within, many) in
+    let at : front + j ≡ 32 * slot + j = omega arith in
+    get_or-take 4 (drop front block) j 0 below
+    ∙ get_or-drop front block j 0
+    ∙ ap (λ (k : ℕ). get_or block k 0) at
+    ∙ spells.bytes j (omega (arith, below))
+    ∙ node_first entry j below))
+    ∙ from_be_bytes-to_be_bytes_4 entry.node spells.valid.node.1
 
 -- ---- bytes put into a row
 

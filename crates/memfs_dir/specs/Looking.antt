@@ -1,9 +1,13 @@
--- Which blocks of a directory a look for a name asks for.
-use Rattle.std.specs.Prelude.{ℕ, zero, suc, ◌+◌, ◌/◌, ◌==◌, if◌then◌else◌, List, [], ◌∷◌, ◌++◌, map, Option, None, Some}
+-- What a look for a name finds in a directory, and which blocks of it it asks for.
+use Rattle.std.specs.Prelude.{ℕ, zero, suc, ◌+◌, ◌/◌, ◌==◌, ◌≡◌, if◌then◌else◌, List, [], ◌∷◌, ◌++◌, map, Option, None, Some, IfSome}
+use Rattle.std.specs.Option.{option_map}
+use Rattle.kabi_values.specs.declared.inodes.DirEntry.{DirEntry}
 use Rattle.kabi_values.specs.declared.inodes.Inode.{Inode}
 use Rattle.posix_defs.specs.DiskFormat.{direct_pointers, data_blocks}
 use Rattle.posix_defs.specs.SoundDisk.{Place, Data, Pointers, named_at}
 use Rattle.memfs_dir.specs.Slots.{entries_in_block}
+use Rattle.memfs_dir.specs.Listed.{at_place, place_called}
+use Rattle.memfs_dir.specs.declared.finding.FoundEntry.{FoundEntry}
 
 -- a block of its entries; the first one that the inode doesn't name itself is behind the block of pointers
 abbrev pub looked_at : ℕ → List Place
@@ -22,3 +26,11 @@ blocks_to size None = data_blocks size
 -- the blocks that a look asks for which ends at this place, or finds none
 abbrev pub asked_to_find : List (List ℕ) → Inode → Option ℕ → List ℕ
 asked_to_find disk inode place = map (λ there. named_at disk inode there) (looked_through (blocks_to inode.size place))
+
+-- the place of the entry that a look found
+abbrev pub found_place : Option FoundEntry → Option ℕ
+found_place found = option_map (λ entry. entry.place) found
+
+-- a look for a name finds the first entry that has it, with its node
+abbrev pub IsLookOf : List ℕ → List DirEntry → Option FoundEntry → Type 0
+IsLookOf name entries found = (found_place found ≡ place_called name entries) × IfSome found (λ entry. entry.node ≡ (at_place entries entry.place).node)

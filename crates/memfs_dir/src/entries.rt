@@ -8,9 +8,9 @@ ghost use Rattle.posix_defs.specs.SoundDisk.{HasNode, Sound};
 ghost use Rattle.posix_defs.specs.DiskContents.{HasEntries, data_block};
 ghost use Rattle.blk_map.specs.Named.{asked_for};
 ghost use Rattle.memfs_dir.specs.Slots.{entry_size, entries_in_block};
-ghost use Rattle.memfs_dir.specs.Listed.{IsDirectory, IsInUse, PutsEntry, Relists};
+ghost use Rattle.memfs_dir.specs.Listed.{IsDirectory, IsInUse, PutsEntry, Relists, at_place};
 
-use crate::slots::{ENTRIES_IN_BLOCK, entry_in, put_entry};
+use crate::slots::{ENTRIES_IN_BLOCK, entry_in, node_in, put_entry};
 use blk_map::block_at;
 use kabi_types::{DirEntry, Inode};
 use posix_defs::Blocks;
@@ -31,27 +31,42 @@ pub fn dir_entry<B: Blocks>(b: &mut B, dir: &Inode, place: u32) -> DirEntry
     ensures follows { B.follows b.old b.new }
 {
     let number = block_at(b, dir, place / ENTRIES_IN_BLOCK);
-    let block = b.get(number);
-    entry_in(&block, place % ENTRIES_IN_BLOCK)
+    entry_in(&b.get(number), place % ENTRIES_IN_BLOCK)
 }
 
-/// Puts an entry in the place of another, which it answers.
-pub fn replace_entry<B: Blocks>(b: &mut B, dir: &Inode, place: u32, entry: &DirEntry) -> DirEntry
+/// The node of the entry at a place of a directory, counted from 0.
+///
+/// It costs what `dir_entry` does.
+pub fn dir_node<B: Blocks>(b: &mut B, dir: &Inode, place: u32) -> u32
+    requires sound { Sound (B.blocks b.old) }
+    requires node { IsInUse (B.blocks b.old) dir.now }
+    requires entries { IsDirectory (B.blocks b.old) dir.now }
+    requires within { entry_size * place < dir.now.size }
+    ensures value { (entries : List DirEntry) → HasEntries (B.blocks b.old) dir.now entries → result ≡ (at_place entries place).node }
+    ensures kept { B.blocks b.new ≡ B.blocks b.old }
+    ensures follows { B.follows b.old b.new }
+{
+    let number = block_at(b, dir, place / ENTRIES_IN_BLOCK);
+    node_in(&b.get(number), place % ENTRIES_IN_BLOCK)
+}
+
+/// Puts an entry in the place of another, of which it answers the node.
+pub fn replace_entry<B: Blocks>(b: &mut B, dir: &Inode, place: u32, entry: &DirEntry) -> u32
     requires sound { Sound (B.blocks b.old) }
     requires node { IsInUse (B.blocks b.old) dir.now }
     requires entries { IsDirectory (B.blocks b.old) dir.now }
     requires within { entry_size * place < dir.now.size }
     requires entry { IsEntry entry.now }
-    ensures was { (entries : List DirEntry) → HasEntries (B.blocks b.old) dir.now entries → slice_get entries place ≡ Some result }
+    ensures was { (entries : List DirEntry) → HasEntries (B.blocks b.old) dir.now entries → result ≡ (at_place entries place).node }
     ensures puts { (number : ℕ) → HasNode (B.blocks b.old) number dir.now → PutsEntry number (B.blocks b.old) dir.now place entry.now (B.blocks b.new) }
     ensures follows { B.follows b.old b.new }
 {
     let number = block_at(b, dir, place / ENTRIES_IN_BLOCK);
     let mut block = b.get(number);
-    let old = entry_in(&block, place % ENTRIES_IN_BLOCK);
+    let node = node_in(&block, place % ENTRIES_IN_BLOCK);
     put_entry(&mut block, place % ENTRIES_IN_BLOCK, entry);
     b.set(number, &block);
-    old
+    node
 }
 
 /// Puts an entry in the place of another.

@@ -12,8 +12,8 @@ mod removing;
 mod slots;
 
 pub use adding::dir_add;
-pub use entries::{dir_entry, dir_rename};
-pub use finding::dir_find;
+pub use entries::{dir_entry, dir_node, dir_rename};
+pub use finding::{FoundEntry, dir_find, dir_look};
 pub use laws::{
     a_full_directory_is_one_of_the_tree, a_look_asks_for_each_block_once,
     a_look_finds_the_names_of_the_tree, a_look_finds_what_the_name_leads_to,

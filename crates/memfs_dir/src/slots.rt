@@ -1,11 +1,11 @@
 //! A block of a directory: 32 slots, each with the bytes of one entry.
 
-ghost use Rattle.std.specs.Prelude.{◌≡◌, ℕ, ◌+◌, ◌*◌, ◌<◌, ◌≤◌, ◌⊎◌, ◌↔◌, IsTrue, IfSome, None, true, take, drop, slice_index};
+ghost use Rattle.std.specs.Prelude.{◌≡◌, ℕ, ◌+◌, ◌*◌, ◌<◌, ◌≤◌, ◌⊎◌, ◌↔◌, IsTrue, IfSome, None, true, length, take, drop, slice_index};
 ghost use Rattle.kabi_values.specs.declared.inodes.DirEntry.{DirEntry};
 ghost use Rattle.posix_defs.specs.DiskFormat.{IsEntry};
 ghost use Rattle.memfs_dir.specs.Slots.{entry_size, entries_in_block, HasBytesOf, Spells, IsCalled};
 
-use disk_layout::{bytes_of_entry, entry_of};
+use disk_layout::{bytes_of_entry, entry_of, pointer_in};
 use kabi_types::DirEntry;
 
 /// The bytes of an entry.
@@ -44,11 +44,12 @@ pub fn put_entry(block: &mut [u8; 1024], slot: u32, entry: &DirEntry)
     block[start..start + 32].copy_from_slice(&bytes_of_entry(entry));
 }
 
-/// Whether the length and the last byte of a slot's name are those of this name, as those of few others are: only such an entry is
-/// read.
+/// Whether the length and the last byte of a slot's name are those of this name, as those of few others are: only such a name is
+/// compared.
 fn looks_like(block: &[u8; 1024], slot: u32, name: &[u8]) -> bool
     requires { slot < entries_in_block }
-    ensures { IsCalled block.now slot name.now → result ≡ true }
+    ensures called { IsCalled block.now slot name.now → result ≡ true }
+    ensures length { result ≡ true → (length name.now ≤ 27) × (slice_index block.now (entry_size * slot + 4) ≡ length name.now) }
 {
     let length = name.len();
     if length == 0 || length > 27 {
@@ -58,23 +59,23 @@ fn looks_like(block: &[u8; 1024], slot: u32, name: &[u8]) -> bool
     block[start] as usize == length && block[start + length] == name[length - 1]
 }
 
-/// Whether a slot has an entry of this name.
+/// Whether a slot, which has an entry, has one of this name.
 fn is_called(block: &[u8; 1024], slot: u32, name: &[u8]) -> bool
-    requires { slot < entries_in_block }
+    requires slot { slot < entries_in_block }
+    requires spelled { (entry : DirEntry) × Spells block.now slot entry }
     ensures { IsTrue result ↔ IsCalled block.now slot name.now }
 {
     if !looks_like(block, slot, name) {
         return false;
     }
-    match entry_of(&slot_in(block, slot)) {
-        Ok(entry) => entry.name.items() == name,
-        Err(_) => false,
-    }
+    let start = 32 * slot as usize + 5;
+    &block[start..start + name.len()] == name
 }
 
-/// The first of so many slots that has an entry of this name.
+/// The first of so many slots, each of which has an entry, that has one of this name.
 pub fn slot_called(block: &[u8; 1024], count: u32, name: &[u8]) -> Option<u32>
-    requires { count ≤ entries_in_block }
+    requires count { count ≤ entries_in_block }
+    requires spelled { (slot : ℕ) → slot < count → (entry : DirEntry) × Spells block.now slot entry }
     ensures found { IfSome result (λ slot. (slot < count) × IsCalled block.now slot name.now) }
     ensures first { IfSome result (λ slot. (before : ℕ) → before < slot → ¬ (IsCalled block.now before name.now)) }
     ensures none { result ≡ None → (slot : ℕ) → slot < count → ¬ (IsCalled block.now slot name.now) }
@@ -85,4 +86,12 @@ pub fn slot_called(block: &[u8; 1024], count: u32, name: &[u8]) -> Option<u32>
         }
     }
     None
+}
+
+/// The node of the entry that a slot has: the first four of its bytes, as a pointer has them.
+pub fn node_in(block: &[u8; 1024], slot: u32) -> u32
+    requires { slot < entries_in_block }
+    ensures { (entry : DirEntry) → Spells block.now slot entry → result ≡ entry.node }
+{
+    pointer_in(block, 8 * slot)
 }

@@ -9,3 +9,4 @@ pub mod ReadBack
 pub mod Rewriting
 pub mod Written
 pub mod Lowest
+pub mod Whole

@@ -1,5 +1,5 @@
 -- The bytes of a file after it grew or shrank, and after bytes of it were written.
-use Rattle.std.proofs.Common.{◌≡◌, ℕ, ◌+◌, ◌-◌, ◌*◌, ◌/◌, ◌%◌, ◌<◌, ◌≤◌, max, inl, inr, List, ◌++◌, length, get_or, drop, sym, ap, ◌∙◌, arith, length-append}
+use Rattle.std.proofs.Common.{◌≡◌, ℕ, ◌+◌, ◌-◌, ◌*◌, ◌/◌, ◌%◌, ◌<◌, ◌≤◌, ◌⊎◌, max, inl, inr, List, ◌++◌, length, get_or, drop, sym, ap, ◌∙◌, arith, length-append}
 use Rattle.std.proofs.lemmas.Bool.{cases_lt}
 use Rattle.std.proofs.lemmas.List.{get_or_append_left, get_or-append_right, get_or-replicate, get_or_past}
 use Rattle.kabi_values.specs.declared.inodes.Inode.{Inode}
@@ -7,7 +7,8 @@ use Rattle.posix_defs.specs.DiskFormat.{block_size, data_blocks, blocks_of}
 use Rattle.posix_defs.specs.FileBytes.{resized, overwritten}
 use Rattle.posix_defs.specs.SoundDisk.{block_bytes, free_in_map}
 use Rattle.posix_defs.specs.DiskContents.{byte_at, node_bytes, zeros}
-use Rattle.posix_defs.specs.NodeChange.{Resizes, Grows}
+use Rattle.posix_defs.specs.NodeChange.{Resizes}
+use Rattle.blk_map.specs.Growing.{GrowsBut}
 use Rattle.tree_laws.proofs.FileRoom.{length-resized, length-overwritten}
 use Rattle.tree_laws.proofs.FileBytesLaws.{resized_at, written_before, written_behind}
 use Rattle.blk_map.proofs.AndBack.{changes_follow}
@@ -24,11 +25,11 @@ kept_byte {number} {before} {old} {size} {after} {new} r k low lt =
     ap (λ (n : ℕ). get_or (block_bytes after n) (k % block_size) 0) same.0 ∙ ap (λ (bytes : List ℕ). get_or bytes (k % block_size) 0) same.1
 
 -- in a new block it is zero
-new_byte : {number : ℕ} {before : List (List ℕ)} {old : Inode} {size : ℕ} {after : List (List ℕ)} {new : Inode} → Grows number before old size after new
-    → (k : ℕ) → block_size * data_blocks old.size ≤ k → k < size → byte_at after new k ≡ 0
+new_byte : {from to number : ℕ} {before : List (List ℕ)} {old : Inode} {size : ℕ} {after : List (List ℕ)} {new : Inode} → GrowsBut from to number before old size after new
+    → (k : ℕ) → block_size * data_blocks old.size ≤ k → k < size → (k / block_size < from) ⊎ (to ≤ k / block_size) → byte_at after new k ≡ 0
 unfolding zeros
-new_byte {number} {before} {old} {size} {after} {new} g k past lt =
-    ap (λ (bytes : List ℕ). get_or bytes (k % block_size) 0) (g.zero (k / block_size) (omega (arith, past)) (omega (arith, lt))) ∙ get_or-replicate block_size (k % block_size) 0 0 (omega arith)
+new_byte {from} {to} {number} {before} {old} {size} {after} {new} g k past lt off =
+    ap (λ (bytes : List ℕ). get_or bytes (k % block_size) 0) (g.zero (k / block_size) (omega (arith, past)) (omega (arith, lt)) off) ∙ get_or-replicate block_size (k % block_size) 0 0 (omega arith)
 
 -- what was written is there
 written_at : (at : ℕ) (new old : List ℕ) (k : ℕ) → at ≤ k → k < at + length new → get_or (overwritten at new old) k 0 ≡ get_or new (k - at) 0
@@ -58,9 +59,12 @@ cut number before old size after new less r =
 
 -- ---- growth
 
--- a file grew, and what stands behind its old bytes was cleared up to a place
+-- a file grew, of which no block before a place has any bytes, and what stands behind its old bytes was cleared up to there
 pub record Grown (number : ℕ) (before : List (List ℕ)) (old : Inode) (size : ℕ) (grown : List (List ℕ)) (new : Inode) (to : ℕ) (cleared : List (List ℕ)) : Type 0 where
-  pub grows : Grows number before old size grown new
+  pub from : ℕ
+  pub until : ℕ
+  pub grows : GrowsBut from until number before old size grown new
+  pub whole : (k : ℕ) → k < to → (k / block_size < from) ⊎ (until ≤ k / block_size)
   pub clears : Clears number grown new old.size to cleared
 
 module _ (number : ℕ) (before : List (List ℕ)) (old : Inode) (size : ℕ) (grown : List (List ℕ)) (new : Inode) (to : ℕ) (cleared : List (List ℕ)) (g : Grown number before old size grown new to cleared) where
@@ -75,7 +79,7 @@ module _ (number : ℕ) (before : List (List ℕ)) (old : Inode) (size : ℕ) (g
       let nothing : get_or (node_bytes before old) k 0 ≡ 0 = get_or_past (node_bytes before old) k 0 (omega (arith, bytes_len before old, past)) in
       elim (cases_lt k (block_size * data_blocks old.size)) [
         | inl last ↦ g.clears.zero k past below last ∙ sym nothing
-        | inr further ↦ g.clears.rest k (omega (arith, lt, size_is)) (inr (inr further)) ∙ new_byte g.grows k further lt ∙ sym nothing
+        | inr further ↦ g.clears.rest k (omega (arith, lt, size_is)) (inr (inr further)) ∙ new_byte g.grows k further lt (g.whole k below) ∙ sym nothing
       ]
 
   -- before that place it has its old bytes, and zeros behind them

@@ -6,7 +6,7 @@ ghost use Rattle.posix_defs.specs.SoundDisk.{block_bytes, HasNode, Sound};
 ghost use Rattle.memfs_file.specs.FileChange.{IsInUse, Puts};
 
 use crate::counts::BLOCK_SIZE;
-use crate::ranges::{block_named, copy_in, covers, pointers_behind};
+use crate::ranges::{block_named, copy_in, pointers_behind, whole_block};
 use blk_map::data_count;
 use kabi_types::Inode;
 use posix_defs::Blocks;
@@ -21,7 +21,8 @@ pub fn put_bytes<B: Blocks>(b: &mut B, inode: &Inode, at: u32, bytes: &[u8])
     ensures follows { B.follows b.old b.new }
 {
     let end = data_count(at + bytes.len() as u32);
-    let behind = pointers_behind(b, inode, end);
+    let mut behind = [0; 256];
+    pointers_behind(b, inode, end, &mut behind);
     for index in at / BLOCK_SIZE..end {
         let block = block_named(&inode.direct, &behind, index);
         put_part(b, block, index, at, bytes);
@@ -41,11 +42,28 @@ fn put_part<B: Blocks>(b: &mut B, number: u32, index: u32, at: u32, bytes: &[u8]
         → slice_index (block_bytes (B.blocks b.new) number) (place % block_size) ≡ slice_index (block_bytes (B.blocks b.old) number) (place % block_size) }
     ensures follows { B.follows b.old b.new }
 {
-    let mut block = if covers(index, at, bytes.len()) {
-        [0; 1024]
-    } else {
-        b.get(number)
-    };
+    match whole_block(index, at, bytes) {
+        Some(whole) => b.set(number, whole),
+        None => put_some(b, number, index, at, bytes),
+    }
+}
+
+/// The same of any part of a block, which is read before. It stands by itself, since a function pays for the room of all its
+/// locals whenever it is entered.
+#[inline(never)]
+fn put_some<B: Blocks>(b: &mut B, number: u32, index: u32, at: u32, bytes: &[u8])
+    requires on_disk { number < length (B.blocks b.old) }
+    requires block { block_size * (index + 1) < 2 ^ 32 }
+    requires before { block_size * index < at + length bytes.now }
+    requires behind { at < block_size * (index + 1) }
+    ensures set { (block : List ℕ) × (B.blocks b.new ≡ slice_set (B.blocks b.old) number block) }
+    ensures here { (place : ℕ) → at ≤ place → place < at + length bytes.now → place / block_size ≡ index
+        → slice_index (block_bytes (B.blocks b.new) number) (place % block_size) ≡ slice_index bytes.now (place - at) }
+    ensures rest { (place : ℕ) → place / block_size ≡ index → (place < at) ⊎ (at + length bytes.now ≤ place)
+        → slice_index (block_bytes (B.blocks b.new) number) (place % block_size) ≡ slice_index (block_bytes (B.blocks b.old) number) (place % block_size) }
+    ensures follows { B.follows b.old b.new }
+{
+    let mut block = b.get(number);
     copy_in(&mut block, index, at, bytes);
     b.set(number, &block);
 }

@@ -1,6 +1,6 @@
 //! A range of bytes, of which a block has a part.
 
-ghost use Rattle.std.specs.Prelude.{◌≡◌, ◌≢◌, ℕ, ◌+◌, ◌-◌, ◌*◌, ◌/◌, ◌%◌, ◌^◌, ◌<◌, ◌≤◌, ◌⊎◌, ◌↔◌, IsTrue, length, slice_index};
+ghost use Rattle.std.specs.Prelude.{◌≡◌, ◌≢◌, ℕ, ◌+◌, ◌-◌, ◌*◌, ◌/◌, ◌%◌, ◌^◌, ◌<◌, ◌≤◌, ◌⊎◌, MatchOption, length, slice_index};
 ghost use Rattle.posix_defs.specs.Asking.{AskedInTurn};
 ghost use Rattle.posix_defs.specs.DiskFormat.{block_size, direct_pointers, block_pointers};
 ghost use Rattle.posix_defs.specs.SoundDisk.{block_bytes, pointer_at};
@@ -71,28 +71,34 @@ pub fn copy_in(block: &mut [u8; 1024], index: u32, at: u32, bytes: &[u8])
     block[part.start..part.start + part.count].copy_from_slice(part_bytes);
 }
 
-/// The range has all bytes of the block from `index` blocks on.
-pub fn covers(index: u32, at: u32, len: usize) -> bool
+/// The bytes of the block from `index` blocks on, where the range has all of them.
+pub fn whole_block(index: u32, at: u32, bytes: &[u8]) -> Option<&[u8; 1024]>
     requires block { block_size * (index + 1) < 2 ^ 32 }
-    ensures { IsTrue result ↔ ((at ≤ block_size * index) × (block_size * (index + 1) ≤ at + len)) }
+    ensures { MatchOption result ((block_size * index < at) ⊎ (at + length bytes.now < block_size * (index + 1)))
+        (λ whole. (at ≤ block_size * index) × (block_size * (index + 1) ≤ at + length bytes.now)
+        × ((k : ℕ) → k < block_size → slice_index whole.now k ≡ slice_index bytes.now (block_size * index + k - at))) }
 {
-    at <= BLOCK_SIZE * index && (BLOCK_SIZE * (index + 1) - at) as usize <= len
+    let first = BLOCK_SIZE * index;
+    if at > first || (first - at) as usize > bytes.len() {
+        return None;
+    }
+    let from = (first - at) as usize;
+    bytes[from..].first_chunk::<1024>()
 }
 
-/// The pointers of a node's block of pointers, copied out where one of the first blocks of bytes is named there; else
-/// zeros.
-pub fn pointers_behind<B: Blocks>(b: &mut B, inode: &Inode, blocks: u32) -> [u32; 256]
+/// Copies the pointers of a node's block of pointers out, where one of the first blocks of bytes is named there.
+pub fn pointers_behind<B: Blocks>(b: &mut B, inode: &Inode, blocks: u32, behind: &mut [u32; 256])
     requires { direct_pointers < blocks → inode.now.indirect < length (B.blocks b.old) }
-    ensures pointers { direct_pointers < blocks → (k : ℕ) → k < block_pointers → slice_index result k ≡ pointer_at (block_bytes (B.blocks b.old) inode.now.indirect) k }
+    ensures pointers { direct_pointers < blocks → (k : ℕ) → k < block_pointers → slice_index behind.new k ≡ pointer_at (block_bytes (B.blocks b.old) inode.now.indirect) k }
     ensures kept { B.blocks b.new ≡ B.blocks b.old }
     ensures asked { AskedInTurn B.asked b.old (pointers_for inode.now blocks) b.new }
     ensures follows { B.follows b.old b.new }
 {
     if blocks <= DIRECT_POINTERS {
-        return [0; 256];
+        return;
     }
     let block = b.get(inode.indirect);
-    pointers_in(&block)
+    *behind = pointers_in(&block);
 }
 
 /// The block that these pointers name for the bytes from `index` blocks on.

@@ -48,7 +48,8 @@ fn read_range<B: Blocks>(b: &mut B, inode: &Inode, at: u32, out: &mut [u8])
     ensures follows { B.follows b.old b.new }
 {
     let end = data_count(at + out.len() as u32);
-    let behind = pointers_behind(b, inode, end);
+    let mut behind = [0; 256];
+    pointers_behind(b, inode, end, &mut behind);
     for index in at / BLOCK_SIZE..end {
         let block = b.get(block_named(&inode.direct, &behind, index));
         copy_out(&block, index, at, out);

@@ -1,19 +1,18 @@
 //! Room for bytes that are to be written: how many of them fit, and the growth that they take.
 
-ghost use Rattle.std.specs.Prelude.{◌≡◌, ◌≢◌, ℕ, ◌+◌, ◌-◌, ◌*◌, ◌/◌, ◌<◌, ◌≤◌, ◌⊎◌, ◌↔◌, Err, IfErr, IfOk, length, max, slice_index};
+ghost use Rattle.std.specs.Prelude.{◌≡◌, ℕ, ◌+◌, ◌*◌, ◌/◌, ◌<◌, ◌≤◌, IfErr, IfOk, max};
 ghost use Rattle.kabi_values.specs.declared.errnos.Errno.TheVariants.{ENOSPC};
-ghost use Rattle.posix_defs.specs.DiskFormat.{block_size, greatest_size, blocks_of};
-ghost use Rattle.posix_defs.specs.FileBytes.{capacity, fitting};
+ghost use Rattle.posix_defs.specs.DiskFormat.{block_size, greatest_size, data_blocks, blocks_of};
+ghost use Rattle.posix_defs.specs.FileBytes.{fitting};
 ghost use Rattle.posix_defs.specs.SoundDisk.{HasNode, Sound, free_in_map};
-ghost use Rattle.posix_defs.specs.NodeChange.{Grows};
-ghost use Rattle.posix_defs.specs.DiskContents.{byte_at};
 ghost use Rattle.blk_map.specs.Found.{free_below};
+ghost use Rattle.blk_map.specs.Growing.{GrowsBut};
 ghost use Rattle.blk_map.specs.Named.{file};
 ghost use Rattle.memfs_file.specs.FileChange.{blocks_for, IsInUse, Clears};
 
 use crate::counts::{BLOCK_SIZE, most_bytes};
 use crate::putting::put_bytes;
-use blk_map::{block_count, grow};
+use blk_map::{block_count, data_count, grow_but};
 use disk_layout::is_marked;
 use kabi_types::{Errno, Inode};
 use posix_defs::Blocks;
@@ -45,7 +44,7 @@ pub fn free_count<B: Blocks>(b: &mut B) -> u32
 
 /// Gives a file the size that so many bytes at a place take, or as many of them as there is room for, and answers how
 /// many; it stays as it is where they lie within its size. The new bytes up to the end of its last block are those that
-/// the block has there, and all others are zeros.
+/// the block has there, new blocks of which these bytes are all have any, and all others are zeros.
 ///
 /// ENOSPC exactly where not one of them has room; nothing is written then.
 pub fn make_room<B: Blocks>(
@@ -61,7 +60,8 @@ pub fn make_room<B: Blocks>(
     requires some { 0 < wanted }
     requires most { at + wanted ≤ greatest_size }
     ensures count { IfOk result (λ count. (count ≡ fitting (blocks_for (B.blocks b.old) inode.old) at wanted) × (0 < count)) }
-    ensures ok { IfOk result (λ count. Grows number (B.blocks b.old) inode.old (max inode.old.size (at + count)) (B.blocks b.new) inode.new) }
+    ensures ok { IfOk result (λ count. GrowsBut (data_blocks at) ((at + count) / block_size) number
+        (B.blocks b.old) inode.old (max inode.old.size (at + count)) (B.blocks b.new) inode.new) }
     ensures err { IfErr result (λ fault. (fault ≡ ENOSPC)
         × (fitting (blocks_for (B.blocks b.old) inode.old) at wanted ≡ 0) × (B.blocks b.new ≡ B.blocks b.old) × (inode.new ≡ inode.old)) }
     ensures follows { B.follows b.old b.new }
@@ -70,7 +70,8 @@ pub fn make_room<B: Blocks>(
     if end <= inode.size {
         return Ok(wanted);
     }
-    match grow(b, number, inode, end) {
+    let from = data_count(at);
+    match grow_but(b, number, inode, end, from, end / BLOCK_SIZE) {
         Ok(()) => Ok(wanted),
         Err(_) => grow_to_most(b, number, inode, at, wanted),
     }
@@ -91,7 +92,8 @@ fn grow_to_most<B: Blocks>(
     requires most { at + wanted ≤ greatest_size }
     requires full { blocks_for (B.blocks b.old) inode.old < blocks_of (at + wanted) }
     ensures count { IfOk result (λ count. (count ≡ fitting (blocks_for (B.blocks b.old) inode.old) at wanted) × (0 < count)) }
-    ensures ok { IfOk result (λ count. Grows number (B.blocks b.old) inode.old (max inode.old.size (at + count)) (B.blocks b.new) inode.new) }
+    ensures ok { IfOk result (λ count. GrowsBut (data_blocks at) ((at + count) / block_size) number
+        (B.blocks b.old) inode.old (max inode.old.size (at + count)) (B.blocks b.new) inode.new) }
     ensures err { IfErr result (λ fault. (fault ≡ ENOSPC)
         × (fitting (blocks_for (B.blocks b.old) inode.old) at wanted ≡ 0) × (B.blocks b.new ≡ B.blocks b.old) × (inode.new ≡ inode.old)) }
     ensures follows { B.follows b.old b.new }
@@ -100,7 +102,7 @@ fn grow_to_most<B: Blocks>(
     if most <= at {
         return Err(Errno::ENOSPC);
     }
-    grow(b, number, inode, most)?;
+    grow_but(b, number, inode, most, data_count(at), most / BLOCK_SIZE)?;
     Ok(most - at)
 }
 

@@ -126,7 +126,7 @@ pub stand_back : (script : Script) (old new : Objects) (mid : Heap) (pid key : �
     → IsMemory mid now memory → length memory ≡ 256 → AccountMoves old.heap mid proc.nodes now stands.memory.number world.account.frames after pid
     → StandsFor script new (remembered_in world pid memory after)
 stand_back script old new mid pid key proc now world after memory stands turns same tree names four is whole moved = record {
-  runs = stands.runs;
+  valid = stands.valid;
   kept = kept;
   processes = record {
     table = subst (λ k. IsTable new.heap k (remembered world.plain pid memory).table) (sym same)

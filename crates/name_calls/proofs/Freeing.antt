@@ -193,7 +193,7 @@ module _ (script : Script) (old : Objects) (heap : Heap) (names : List (Option â
 
     pub stands_freed : StandsFor script new (unnamed_in world)
     stands_freed = record {
-      runs = stands.runs;
+      valid = stands.valid;
       kept = kept_freed;
       processes = processes_on script old new world.plain (unnamed_in world).plain refl same_memory refl refl stands.processes;
       memory = memory_on old new world.account.frames world.account.frames refl same_memory refl stands.memory;

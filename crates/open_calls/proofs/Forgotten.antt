@@ -124,7 +124,7 @@ module _ (script : Script) (old new : Objects) (pid : ℕ) (same : new.procs ≡
 
     pub stands_forgotten : StandsFor script new (forgotten_in world pid)
     stands_forgotten = record {
-      runs = stands.runs;
+      valid = stands.valid;
       kept = kept_forgotten stands.kept;
       processes = record {
         table = table;

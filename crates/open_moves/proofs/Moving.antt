@@ -108,7 +108,7 @@ alive_opened old new pid moves alive =
 pub stands_opened : (script : Script) (old new : Objects) (world next : World) → StandsFor script old world → OpenMoves old new → HasReached new world next
     → StandsFor script new next
 stands_opened script old new world next stands moves reached = record {
-  runs = stands.runs;
+  valid = stands.valid;
   kept = kept_opened script old new stands.kept moves;
   processes = processes_stay script old new world.plain next.plain moves.procs stands.processes reached.table reached.controls;
   memory = reached.memory;

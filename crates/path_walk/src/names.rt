@@ -53,12 +53,12 @@ pub(crate) fn ends_at_slash(path: &[u8]) -> bool
 pub(crate) fn is_own(name: &[u8]) -> bool
     ensures { result ≡ bytes_eq name.now own_name }
 {
-    name == b".".as_slice()
+    matches!(name, b".")
 }
 
 /// Whether a component is `..`.
 pub(crate) fn is_parent(name: &[u8]) -> bool
     ensures { result ≡ bytes_eq name.now parent_name }
 {
-    name == b"..".as_slice()
+    matches!(name, b"..")
 }

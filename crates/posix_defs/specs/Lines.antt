@@ -149,7 +149,6 @@ fault_text wrong.TwiceDefined = codes "twice defined"
 fault_text wrong.Unended = codes "unended"
 fault_text wrong.NoInit = codes "no init"
 fault_text wrong.TooLong = codes "too long"
-fault_text wrong.NotBuilt = codes "not built"
 
 -- the line that is written for a text that is no script
 abbrev pub fault_line : ScriptFault → List ℕ

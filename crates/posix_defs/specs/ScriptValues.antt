@@ -24,7 +24,6 @@ rank fault.TwiceDefined = 7
 rank fault.Unended = 8
 rank fault.NoInit = 9
 rank fault.TooLong = 10
-rank fault.NotBuilt = 11
 
 -- of two faults the one that is told, which has the lower number
 abbrev pub least : FaultKind → FaultKind → FaultKind

@@ -383,7 +383,7 @@ module _ (script : Script) (old mid moved pinned : Objects) (pid child directory
       (opens_forked script old mid moved pid child control next kept runs moves same_tree same_names shared forked number turned plain.files world.account (forked_world script world pid).account refl refl stands.files)) in
       let caches = kept_then old.tree moved.tree pinned.tree (kept_where old moved stays) (pinned_stays moved pinned only) in
       record {
-        runs = stands.runs;
+        valid = stands.valid;
         kept = kept_pinned at_call.0 at_call.1;
         processes = record {
           table = is;

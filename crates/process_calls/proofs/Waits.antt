@@ -130,7 +130,7 @@ module _ (script : Script) (old mid : Objects) (pid : ℕ) (which options : ℤ)
   -- the objects stand for the world without who was told
   waited_stands : (world : World) → StandsFor script old world → is_alive world.plain.table pid ≡ true → StandsFor script mid (waited_world world told)
   waited_stands world stands alive = record {
-    runs = stands.runs;
+    valid = stands.valid;
     kept = kept_waited script old mid pid which told stands.kept moves same_tree same_names is procs;
     processes = record {
       table = table world.plain.table stands.processes.table;

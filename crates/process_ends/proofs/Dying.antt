@@ -196,7 +196,7 @@ module _ (script : Script) (old : Objects) (world : World) (stands : StandsFor s
 
     after_stands : StandsFor script new (ended_world new pid status)
     after_stands = record {
-      runs = stands.runs;
+      valid = stands.valid;
       kept = kept;
       processes = are;
       memory = has;

@@ -1,21 +1,23 @@
 -- The kind of a call that is made of a statement, and the bound of one whose price is nothing.
-use Rattle.std.proofs.Common.{◌≡◌, ℕ, ℤ, pos, List, Bool, true, false, cond, Option, Some, refl, ap, is_some}
-use Rattle.kabi_calls.specs.Arguments.{argument_fault}
+use Rattle.std.proofs.Common.{◌≡◌, ℕ, ℤ, pos, List, Bool, true, false, cond, Option, None, Some, refl, ap, sym, ◌∙◌, is_none, is_some}
+use Rattle.kabi_calls.specs.Arguments.{argument_fault, path_fault}
 use Rattle.kabi_calls.specs.Call.{kind_of}
 use Rattle.kabi_calls.specs.declared.calls.Call.{Call}
 use Rattle.kabi_calls.specs.declared.calls.Call.TheVariants as call
 use Rattle.kabi_calls.specs.declared.calls.CallKind.{CallKind}
 use Rattle.kabi_calls.specs.declared.calls.CallKind.TheVariants as kind
+use Rattle.kabi_values.specs.declared.errnos.Errno.{Errno}
 use Rattle.kabi_types.specs.declared.scripts.Control.{Control}
 use Rattle.kabi_types.specs.declared.scripts.Operand.{Operand}
 use Rattle.kabi_types.specs.declared.scripts.Statement.{Statement}
 use Rattle.kabi_types.specs.declared.scripts.Statement.TheVariants as statement
 use Rattle.posix_defs.specs.Control.{call_at}
-use Rattle.posix_defs.specs.Made.{made}
+use Rattle.posix_defs.specs.Made.{made, text_at}
 use Rattle.posix_defs.specs.Needs.{bound, cost}
 use Rattle.posix_defs.specs.PriceList.{price_of}
 use Rattle.posix_defs.specs.declared.prices.Price.{Price}
 use Rattle.posix_defs.specs.declared.prices.Price.TheVariants.{Always}
+use Rattle.prog_ctl.specs.Runnable.{TakesPath}
 use Rattle.prog_ctl.specs.Waits.{asked_for}
 
 -- a call is of the kind of which it was made
@@ -70,6 +72,31 @@ bound_free call free = go (is_some (argument_fault call)) (ap (λ (price : Price
     go : (wrong : Bool) → cost (price_of (kind_of call)) call ≡ 0 → cond wrong 0 (cost (price_of (kind_of call)) call) ≡ 0
     go true none = refl
     go false none = none
+
+-- a call whose price goes by its kind alone may use it, and nothing where an operand is wrong
+pub bound_fixed : (call : Call) (bytes : ℕ) → price_of (kind_of call) ≡ Always bytes → bound call ≡ cond (is_none (argument_fault call)) bytes 0
+unfolding bound
+bound_fixed call bytes fixed = go (argument_fault call) (ap (λ (price : Price). cost price call) fixed)
+  where
+    go : (fault : Option Errno) → cost (price_of (kind_of call)) call ≡ bytes → cond (is_some fault) 0 (cost (price_of (kind_of call)) call) ≡ cond (is_none fault) bytes 0
+    go None is = is
+    go (Some _) is = refl
+
+-- what is wrong with a call that takes one path and nothing else is wrong with the path
+pub fault_on_path : (which : CallKind) (numbers : List ℤ) (texts : List (List ℕ)) (done : ℕ) → TakesPath which → argument_fault (made which numbers texts done) ≡ path_fault (text_at texts 0)
+fault_on_path kind.Exec numbers texts done takes = refl
+fault_on_path kind.Stat numbers texts done takes = refl
+fault_on_path kind.Chdir numbers texts done takes = refl
+fault_on_path kind.Mkdir numbers texts done takes = refl
+fault_on_path kind.Rmdir numbers texts done takes = refl
+fault_on_path kind.Unlink numbers texts done takes = refl
+fault_on_path _ numbers texts done takes = absurd takes
+
+-- the bound of a call, by what is wrong with it
+pub bound_by_fault : (which : CallKind) (numbers : List ℤ) (texts : List (List ℕ)) (done bytes : ℕ) (right : Bool) (fault : Option Errno) → price_of which ≡ Always bytes
+    → argument_fault (made which numbers texts done) ≡ fault → right ≡ is_none fault → cond right bytes 0 ≡ bound (made which numbers texts done)
+bound_by_fault which numbers texts done bytes right fault price is said =
+    ap (λ (b : Bool). cond b bytes 0) (said ∙ ap is_none (sym is)) ∙ sym (bound_fixed (made which numbers texts done) bytes (ap price_of (kind_made which numbers texts done) ∙ price))
 
 -- so nothing is asked for at the end of a program, and where a loop goes round again
 pub asked_to_exit : asked_for (call.Exit (pos 0)) ≡ record { kind = kind.Exit; bound = 0 }

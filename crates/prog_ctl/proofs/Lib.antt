@@ -4,3 +4,4 @@ pub mod Staying
 pub mod ValidPrograms
 pub mod Waiting
 pub mod Asking
+pub mod PathLengths

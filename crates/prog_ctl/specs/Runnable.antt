@@ -74,8 +74,8 @@ TakesSocket kind.Accept = ⊤
 TakesSocket kind.Shutdown = ⊤
 TakesSocket _ = ⊥
 
--- The calls of this kind go through descriptors or paths: they are neither of processes nor of memory. `read` and `write` stand
--- with those.
+-- The calls of this kind go through descriptors, and are neither `read` nor `write` nor of one that was named: those of processes
+-- and memory, and those that name nodes by their paths alone, have their cases beside them.
 abbrev pub TakesFiles : CallKind → Type 0
 TakesFiles kind.Getpid = ⊥
 TakesFiles kind.Getppid = ⊥
@@ -89,8 +89,16 @@ TakesFiles kind.Mmap = ⊥
 TakesFiles kind.Munmap = ⊥
 TakesFiles kind.Store = ⊥
 TakesFiles kind.Load = ⊥
+TakesFiles kind.OpenFile = ⊥
 TakesFiles kind.Read = ⊥
 TakesFiles kind.Write = ⊥
+TakesFiles kind.Stat = ⊥
+TakesFiles kind.Chdir = ⊥
+TakesFiles kind.Mkdir = ⊥
+TakesFiles kind.Rmdir = ⊥
+TakesFiles kind.Unlink = ⊥
+TakesFiles kind.Link = ⊥
+TakesFiles kind.Rename = ⊥
 TakesFiles _ = ⊤
 
 -- a later place

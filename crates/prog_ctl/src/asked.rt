@@ -1,15 +1,18 @@
 //! What a process asks for with its next call, read off the statement.
 
-ghost use Rattle.std.specs.Prelude.{◌≡◌, ◌≤◌, length, map, IfSome, option_copied};
+ghost use Rattle.std.specs.Prelude.{◌≡◌, ◌≤◌, cond, true, length, map, IfSome, option_copied};
 ghost use Rattle.std.specs.List.{AllByRecursion};
 ghost use Rattle.posix_defs.specs.Control.{call_at, value_of};
 ghost use Rattle.posix_defs.specs.Made as spec;
 ghost use Rattle.posix_defs.specs.Needs.{bound};
+ghost use Rattle.posix_defs.specs.PriceList.{price_of};
 ghost use Rattle.posix_defs.specs.ScriptLines.{shape_of};
-ghost use Rattle.prog_ctl.specs.Runnable.{IsOperand, IsRunnableAt, most_text};
+ghost use Rattle.posix_defs.specs.declared.prices.Price.TheVariants.{Always};
+ghost use Rattle.prog_ctl.specs.Runnable.{IsOperand, IsRunnableAt, TakesPath, most_text};
 ghost use Rattle.prog_ctl.specs.Waits.{asked_for};
 
 use crate::made::made;
+use crate::paths::{names_path, names_paths, names_renamed};
 use kabi_types::{CallKind, Control, Operand, Statement, Text};
 use need_table::{bound, price};
 use posix_defs::{Asked, Price};
@@ -26,6 +29,31 @@ fn bound_made(control: &Control, kind: CallKind, operands: &[Operand], texts: &[
     bound(&made(control, kind, operands, texts))
 }
 
+/// The same of a call of which a price is known that goes by its kind alone: it is nothing where its paths are wrong. Calls that take
+/// paths and nothing else aren't made for it.
+fn bound_at(
+    control: &Control,
+    kind: CallKind,
+    operands: &[Operand],
+    texts: &[Text],
+    bytes: u64,
+) -> u64
+    requires count { length operands.now ≤ 17 }
+    requires each { AllByRecursion IsOperand operands.now }
+    requires texts { AllByRecursion (λ text. length text ≤ most_text (shape_of kind)) texts.now }
+    requires price { price_of kind ≡ Always bytes }
+    ensures { result ≡ bound (spec.made kind (map (value_of control.now) operands.now) texts.now control.now.done) }
+{
+    if takes_path(kind) {
+        return only_if(names_path(texts), bytes);
+    }
+    match kind {
+        CallKind::Link => only_if(names_paths(texts), bytes),
+        CallKind::Rename => only_if(names_renamed(texts), bytes),
+        _ => bound_made(control, kind, operands, texts),
+    }
+}
+
 /// The same, where most calls make nothing and aren't made for it.
 fn bound_of(control: &Control, kind: CallKind, operands: &[Operand], texts: &[Text]) -> u64
     requires count { length operands.now ≤ 17 }
@@ -35,8 +63,30 @@ fn bound_of(control: &Control, kind: CallKind, operands: &[Operand], texts: &[Te
 {
     match price(kind) {
         Price::Always(0) => 0,
+        Price::Always(bytes) => bound_at(control, kind, operands, texts, bytes),
         _ => bound_made(control, kind, operands, texts),
     }
+}
+
+/// Whether the calls of this kind take one path and nothing else.
+fn takes_path(kind: CallKind) -> bool
+    ensures { result ≡ true → TakesPath kind }
+{
+    matches!(
+        kind,
+        CallKind::Exec
+            | CallKind::Stat
+            | CallKind::Chdir
+            | CallKind::Mkdir
+            | CallKind::Rmdir
+            | CallKind::Unlink
+    )
+}
+
+fn only_if(right: bool, bytes: u64) -> u64
+    ensures { result ≡ cond right bytes 0 }
+{
+    if right { bytes } else { 0 }
 }
 
 /// What is asked for with the call that a statement makes; at the end of a program that is `exit 0`.

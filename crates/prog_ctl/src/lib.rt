@@ -5,6 +5,7 @@ mod asked;
 mod controls;
 mod laws;
 mod made;
+mod paths;
 mod statements;
 mod waits;
 

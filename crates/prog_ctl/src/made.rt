@@ -2,6 +2,7 @@
 
 ghost use Rattle.std.specs.Prelude.{◌≡◌, ℕ, ℤ, List, ◌≤◌, drop, length, map, IfSome, option_copied};
 ghost use Rattle.std.specs.List.{AllByRecursion};
+ghost use Rattle.kabi_types.specs.declared.scripts.Control.{Control as ControlOf};
 ghost use Rattle.posix_defs.specs.Control.{call_at, value_of};
 ghost use Rattle.posix_defs.specs.Made as spec;
 ghost use Rattle.posix_defs.specs.ScriptLines.{shape_of};
@@ -26,16 +27,23 @@ fn operand_at(control: &Control, operands: &[Operand], at: usize) -> i64
     }
 }
 
+/// The bytes of the text at a place; none where there is none.
+pub(crate) fn text_at(texts: &[Text], at: usize) -> &[u8]
+    ensures value { result.now ≡ spec.text_at texts.now at }
+    ensures short { (most : ℕ) → AllByRecursion (λ text. length text ≤ most) texts.now → length result.now ≤ most }
+{
+    match texts.get(at) {
+        Some(text) => text.items(),
+        None => &[],
+    }
+}
+
 /// The path at a place; an empty one where there is none.
 fn path_at(texts: &[Text], at: usize) -> Path
     requires { AllByRecursion (λ text. length text ≤ 255) texts.now }
     ensures { result ≡ spec.text_at texts.now at }
 {
-    let bytes: &[u8] = match texts.get(at) {
-        Some(text) => text.items(),
-        None => &[],
-    };
-    Path::of(bytes).unwrap()
+    Path::of(text_at(texts, at)).unwrap()
 }
 
 /// The bytes of a `store` at a place; none where there are none.
@@ -43,11 +51,7 @@ fn bytes_at(texts: &[Text], at: usize) -> Bytes64
     requires { AllByRecursion (λ text. length text ≤ 64) texts.now }
     ensures { result ≡ spec.text_at texts.now at }
 {
-    let bytes: &[u8] = match texts.get(at) {
-        Some(text) => text.items(),
-        None => &[],
-    };
-    Bytes64::of(bytes).unwrap()
+    Bytes64::of(text_at(texts, at)).unwrap()
 }
 
 /// The entries of a `poll`: pairs of a descriptor and its events, behind the timeout.
@@ -270,7 +274,6 @@ fn made_on_files(control: &Control, kind: CallKind, operands: &[Operand], texts:
     ensures { TakesFiles kind → result ≡ spec.made kind (map (value_of control.now) operands.now) texts.now control.now.done }
 {
     match kind {
-        CallKind::OpenFile => made_with_texts(control, kind, operands, texts),
         CallKind::Close => made_on_descriptor(control, kind, operands),
         CallKind::Dup => made_on_descriptor(control, kind, operands),
         CallKind::Dup2 => made_on_descriptor(control, kind, operands),
@@ -281,13 +284,6 @@ fn made_on_files(control: &Control, kind: CallKind, operands: &[Operand], texts:
         CallKind::Readdir => made_of_bytes(control, kind, operands),
         CallKind::Ftruncate => made_on_descriptor(control, kind, operands),
         CallKind::Fstat => made_on_descriptor(control, kind, operands),
-        CallKind::Stat => made_on_path(kind, texts),
-        CallKind::Chdir => made_on_path(kind, texts),
-        CallKind::Mkdir => made_on_path(kind, texts),
-        CallKind::Rmdir => made_on_path(kind, texts),
-        CallKind::Unlink => made_on_path(kind, texts),
-        CallKind::Link => made_with_texts(control, kind, operands, texts),
-        CallKind::Rename => made_with_texts(control, kind, operands, texts),
         CallKind::Pipe => Call::Pipe,
         CallKind::Socket => made_on_socket(control, kind, operands, texts),
         CallKind::Socketpair => made_on_socket(control, kind, operands, texts),
@@ -343,7 +339,58 @@ pub(crate) fn made(control: &Control, kind: CallKind, operands: &[Operand], text
         },
         CallKind::Read => made_of_bytes(control, kind, operands),
         CallKind::Write => made_of_bytes(control, kind, operands),
+        CallKind::OpenFile => made_with_texts(control, kind, operands, texts),
+        CallKind::Stat => made_on_path(kind, texts),
+        CallKind::Chdir => made_on_path(kind, texts),
+        CallKind::Mkdir => made_on_path(kind, texts),
+        CallKind::Rmdir => made_on_path(kind, texts),
+        CallKind::Unlink => made_on_path(kind, texts),
+        CallKind::Link => made_with_texts(control, kind, operands, texts),
+        CallKind::Rename => made_with_texts(control, kind, operands, texts),
         _ => made_on_files(control, kind, operands, texts),
+    }
+}
+
+/// What a statement says of the call that it makes: its kind with its operands and texts. At the end of a program that is `exit`
+/// without an operand, which is 0 then.
+#[derive(Clone, Copy)]
+struct Said<'a> {
+    kind: CallKind,
+    operands: &'a [Operand],
+    texts: &'a [Text],
+}
+
+fn said_by(statement: Option<&Statement>) -> Said<'_>
+    requires { (place : ℕ) × IfSome (option_copied statement) (IsRunnableAt place) }
+    ensures count { length result.operands.now ≤ 17 }
+    ensures each { AllByRecursion IsOperand result.operands.now }
+    ensures texts { AllByRecursion (λ text. length text ≤ most_text (shape_of result.kind)) result.texts.now }
+    ensures says { (control : ControlOf) → spec.made result.kind (map (value_of control) result.operands.now) result.texts.now control.done
+        ≡ call_at control (option_copied statement.entry) }
+{
+    match statement {
+        None => Said {
+            kind: CallKind::Exit,
+            operands: &[],
+            texts: &[],
+        },
+        Some(
+            Statement::Invoke {
+                kind,
+                operands,
+                texts,
+                ..
+            },
+        ) => Said {
+            kind: *kind,
+            operands: operands.items(),
+            texts: texts.items(),
+        },
+        Some(_) => Said {
+            kind: CallKind::SchedYield,
+            operands: &[],
+            texts: &[],
+        },
     }
 }
 
@@ -352,20 +399,9 @@ pub fn call_at(control: &Control, statement: Option<&Statement>) -> Call
     requires { IfSome (option_copied statement) (IsRunnableAt control.now.place) }
     ensures { result ≡ call_at control.now (option_copied statement.entry) }
 {
-    let Some(statement) = statement else {
-        return Call::Exit { status: 0 };
-    };
-    let Statement::Invoke {
-        kind,
-        operands,
-        texts,
-        ..
-    } = statement
-    else {
-        return Call::SchedYield;
-    };
-    // the last step alone, since what two ways give is copied where they meet
-    made(control, *kind, operands.items(), texts.items())
+    let said = said_by(statement);
+    // the one way to a call, since what two ways give is copied where they meet
+    made(control, said.kind, said.operands, said.texts)
 }
 
 /// What a call of this kind waits for, with these operands in the order of its fields; None where calls of this kind never

@@ -119,7 +119,7 @@ module _ (script : Script) (old : Objects) (new : Heap) (is : IsKept new old.pro
       → QueuesStandFor stands.files.numbers new old.procs next account → next.controls ≡ world.plain.controls → Remains world.plain next
       → AreSettled next.files account → StandsFor script mid (record world { plain = next; account = account })
   stands_mid world stands next account leads controls remains settles = record {
-    runs = stands.runs;
+    valid = stands.valid;
     kept = kept_mid stands.kept;
     processes = record {
       table = leads.table;

@@ -1,8 +1,8 @@
-ghost use Rattle.std.specs.Prelude.{◌≡◌, ◌++◌, ◌<◌, OnOk, false, string_bytes};
+ghost use Rattle.std.specs.Prelude.{◌≡◌, ◌++◌, ◌<◌, OnOk, codes, decimal, false, string_bytes};
 ghost use Rattle.std.specs.Fmt.{digits};
 ghost use Rattle.posix_defs.specs.Lines.{status_text, reply_text, cache_text, entry_text, kind_text, node_text, event_text};
 
-use crate::fields::{push_call, push_field, push_number};
+use crate::fields::{push_call, push_field, push_number, push_small, push_value};
 use kabi_types::{Cached, CallKind, Entry, Event, NodeKind, Noted, PollHits, Reply, StatInfo};
 use std::alloc::AllocError;
 
@@ -15,20 +15,29 @@ pub(crate) fn push_plain(out: &mut String, noted: &Noted) -> Result<(), AllocErr
     match noted.event {
         Event::Ask(pid) => {
             push_call(out, pid, " ask ", word)?;
-            push_field(out, " bound ", noted.bound)
+            push_bound(out, noted.bound)
         }
         Event::Admit(pid) => {
             push_call(out, pid, " admit ", word)?;
-            push_field(out, " bound ", noted.bound)
+            push_bound(out, noted.bound)
         }
         Event::Wake(pid) => {
             push_call(out, pid, " wake ", word)?;
-            push_field(out, " bound ", noted.bound)
+            push_bound(out, noted.bound)
         }
         Event::Abandon(pid) => push_call(out, pid, " abandon ", word),
         // These always add an entry, which is what their lines say.
         Event::Turn(_) | Event::Evict(_) | Event::Kill(_) => Ok(()),
     }
+}
+
+/// The bound that a call is asked with.
+#[inline(always)]
+fn push_bound(out: &mut String, bound: u64) -> Result<(), AllocError>
+    ensures { OnOk result (string_bytes out.new ≡ string_bytes out.old ++ codes " bound " ++ decimal bound) }
+{
+    out.push_str(" bound ")?;
+    push_small(out, bound)
 }
 
 fn kind_word(kind: Option<CallKind>) -> &'static str
@@ -91,7 +100,7 @@ fn push_reply(out: &mut String, reply: &Reply) -> Result<(), AllocError>
     ensures { OnOk result (string_bytes out.new ≡ string_bytes out.old ++ reply_text reply.now) }
 {
     match reply {
-        Reply::Val(value) => push_number(out, *value),
+        Reply::Val(value) => push_value(out, *value),
         Reply::Pair(first, second) => {
             push_number(out, *first)?;
             push_field(out, " ", *second)
@@ -117,8 +126,10 @@ fn push_stat(out: &mut String, info: StatInfo) -> Result<(), AllocError>
         size,
         ..
     } = info;
-    let kind = node_name(info.kind);
-    write!(out, "{kind} {number} {nlink} {size}")
+    out.push_str(node_name(info.kind))?;
+    push_field(out, " ", number)?;
+    push_field(out, " ", nlink)?;
+    push_field(out, " ", size)
 }
 
 fn node_name(kind: NodeKind) -> &'static str

@@ -90,8 +90,7 @@ kind_at n =
     else if n == 7 then kind.TwiceDefined
     else if n == 8 then kind.Unended
     else if n == 9 then kind.NoInit
-    else if n == 10 then kind.TooLong
-    else kind.NotBuilt
+    else kind.TooLong
 
 kind_of_rank : (what : FaultKind) → kind_at (rank what) ≡ what
 kind_of_rank kind.NotUtf8 = refl
@@ -104,7 +103,6 @@ kind_of_rank kind.TwiceDefined = refl
 kind_of_rank kind.Unended = refl
 kind_of_rank kind.NoInit = refl
 kind_of_rank kind.TooLong = refl
-kind_of_rank kind.NotBuilt = refl
 
 one_fault : (first second : ScriptFault) → IsToldBefore first second.line second.what → IsToldBefore second first.line first.what → first ≡ second
 one_fault first second (inl less) (inl more) = absurd (omega (arith, less, more))

@@ -1,6 +1,6 @@
 //! The text that is printed.
 
-ghost use Rattle.std.specs.Prelude.{◌≡◌, ◌∷◌, [], Some, ◌<◌, string_bytes, decimal, IfOk};
+ghost use Rattle.std.specs.Prelude.{◌≡◌, ◌∷◌, [], None, Some, ◌<◌, string_bytes, decimal, MatchResult};
 ghost use Rattle.std.specs.Fmt.{signed_decimal};
 ghost use Rattle.posix_defs.specs.Canonical.{digits_of};
 ghost use Rattle.script_print.specs.Printing.{Adds};
@@ -84,9 +84,9 @@ impl Output {
         }
     }
 
-    /// The text, if it is whole.
+    /// The text, if it is whole; an error just where it isn't.
     pub fn finish(self) -> Result<String, Memory>
-        ensures { IfOk result (λ text. self ≡ Some (string_bytes text)) }
+        ensures { MatchResult result (λ text. self ≡ Some (string_bytes text)) (λ _. self ≡ None) }
     {
         if self.is_whole {
             Ok(self.text)

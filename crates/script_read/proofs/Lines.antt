@@ -1,6 +1,8 @@
 -- How far a text is read.
 use Rattle.std.proofs.Common.{◌≡◌, ℕ, ◌+◌, ◌≤◌, ◌==◌, Bool, false, List, [], ◌∷◌, ◌++◌, length, Option, None, Some, Result, Ok, Err, refl, sym, ap, ◌∙◌, subst, arith}
 use Rattle.std.specs.List.{All, slice_split}
+use Rattle.std.specs.Prelude.{MatchResult}
+use Rattle.std.specs.Result.{IsErrAnd}
 use Rattle.std.proofs.lemmas.List.{length-append}
 use Rattle.std.proofs.lemmas.List.Splits.{slice_split_at, slice_split_none}
 use Rattle.kabi_types.specs.declared.scripts.FaultKind.{FaultKind}
@@ -17,6 +19,7 @@ use Rattle.script_read.specs.Reading.{Outcome, TakesLine, lines_in}
 use Rattle.posix_defs.specs.ScriptLines.{said_at_top, said_in_program}
 use Rattle.script_read.specs.LabelPlaces.{placed_body}
 use Rattle.posix_defs.specs.ScriptValues.{with, ◌>>=◌}
+use Rattle.script_words.proofs.Told.{err_is}
 use Rattle.script_read.specs.Drafting.{Draft, Opened, State, Reads, ended, goes_on, stops, at_start, at_line, closed, finish, may_begin, outside, step, step_at_top, step_in_program, with_setting, within, drafted_script}
 
 abbrev is_newline : ℕ → Bool
@@ -122,9 +125,12 @@ outcome_is P Q (Err (error.Bad fault)) goes told = goes (Err fault) told
 outcome_is P Q (Err error.Memory) goes told = tt
 
 -- what stands at the end of the text
-pub finished : (text : List ℕ) (state : State) (answer : Result (Unit {0}) ParseError)
-    → Outcome (λ _. drafted_script state.draft) answer (λ said. said ≡ finish state)
+pub finished : (text : List ℕ) (state : State) (may : Result (Unit {0}) ScriptFault) (answer : Result (Unit {0}) ParseError)
+    → MatchResult may (λ _. finish state ≡ Ok (drafted_script state.draft)) (λ fault. finish state ≡ Err fault)
+    → MatchResult may (λ x. answer ≡ Ok x) (λ fault. IsErrAnd answer (λ e. e ≡ error.Bad fault))
     → Reads at_start 1 (lines text) (finish state) → Outcome (λ _. drafted_script state.draft) answer (Reads at_start 1 (lines text))
-finished text state (Ok _) is reads = subst (Reads at_start 1 (lines text)) (sym is) reads
-finished text state (Err (error.Bad fault)) is reads = subst (Reads at_start 1 (lines text)) (sym is) reads
-finished text state (Err error.Memory) is reads = tt
+finished text state (Ok _) answer ends is reads =
+    subst (λ a. Outcome (λ _. drafted_script state.draft) a (Reads at_start 1 (lines text))) (sym is) (subst (Reads at_start 1 (lines text)) ends reads)
+finished text state (Err fault) answer ends is reads =
+    subst (λ a. Outcome (λ _. drafted_script state.draft) a (Reads at_start 1 (lines text))) (sym (err_is (error.Bad fault) answer is))
+    (subst (Reads at_start 1 (lines text)) ends reads)

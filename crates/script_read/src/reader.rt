@@ -25,7 +25,7 @@ fn read_lines(state: &mut State, alloc: Global, text: &[u8]) -> Result<(), Parse
         rest = next;
     }
     state.take_line(alloc, line, rest)?;
-    state.may_end()
+    state.may_end().map_err(ParseError::Bad)
 }
 
 /// The script of a text that isn't too long, read line by line. `Bad` is the first line at fault, and on it the fault that is

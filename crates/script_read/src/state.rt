@@ -1,6 +1,6 @@
 //! Where the reader of a script stands: outside programs, or in one that is open.
 
-ghost use Rattle.std.specs.Prelude.{◌≡◌, ◌≤◌, length, Ok, Err, Some, None};
+ghost use Rattle.std.specs.Prelude.{◌≡◌, ◌≤◌, length, Ok, Err, Some, None, MatchResult};
 ghost use Rattle.script_read.specs.LabelPlaces.{placed_body};
 ghost use Rattle.script_words.specs.Telling.{Tells};
 ghost use Rattle.script_read.specs.Reading.{Outcome, Sets, TakesLine, lines_in, refusal_at, now_at};
@@ -198,23 +198,23 @@ impl State {
     }
 
     /// Whether the text may end here.
-    pub fn may_end(&self) -> Result<(), ParseError>
-        ensures { Outcome (λ _. spec.drafted_script self.now.draft) result (λ said. said ≡ spec.finish self.now) }
+    pub fn may_end(&self) -> Result<(), ScriptFault>
+        ensures { MatchResult result (λ _. spec.finish self.now ≡ Ok (spec.drafted_script self.now.draft)) (λ fault. spec.finish self.now ≡ Err fault) }
     {
         if let Some(opened) = &self.opened {
             let line = opened.line;
-            return Err(ParseError::Bad(ScriptFault {
+            return Err(ScriptFault {
                 line,
                 what: FaultKind::Unended,
-            }));
+            });
         }
         if self.draft.has_program(b"init") {
             Ok(())
         } else {
-            Err(ParseError::Bad(ScriptFault {
+            Err(ScriptFault {
                 line: 0,
                 what: FaultKind::NoInit,
-            }))
+            })
         }
     }
 

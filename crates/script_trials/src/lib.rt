@@ -1,8 +1,6 @@
-//! Scripts that are read, told their faults and printed, what of them can be run, and how programs go on, by hand. Tests alone.
+//! Scripts that are read, told their faults and printed, and how programs go on, by hand. Tests alone.
 #![tactic(auto)]
 
-#[cfg(test)]
-mod built;
 #[cfg(test)]
 mod operands;
 #[cfg(test)]
@@ -19,5 +17,3 @@ mod settings;
 mod statements;
 #[cfg(test)]
 mod texts;
-#[cfg(test)]
-mod unbuilt;

@@ -38,7 +38,6 @@ least_same fault.TwiceDefined fault.NotUtf8 = refl
 least_same fault.Unended fault.NotUtf8 = refl
 least_same fault.NoInit fault.NotUtf8 = refl
 least_same fault.TooLong fault.NotUtf8 = refl
-least_same fault.NotBuilt fault.NotUtf8 = refl
 least_same a b = refl
 
 abbrev pub of_value_and_text : Operand × List ℕ → CallOperands

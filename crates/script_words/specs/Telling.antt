@@ -36,8 +36,8 @@ BothTell {A} {B} first second joined =
     (a : Result A FaultKind) (b : Result B FaultKind) → Tells (λ said. said) first (λ said. said ≡ a) → Tells (λ said. said) second (λ said. said ≡ b)
     → Tells (λ said. said) joined (λ said. said ≡ both a b)
 
--- a value and a text, joined as a call's operands: whatever each of the two tells
-abbrev pub TellOneOfEach : Result Operand Refused → Result (List ℕ) Refused → Result CallOperands Refused → Type 0
+-- a value and a text, joined as a call's operands: whatever the text tells
+abbrev pub TellOneOfEach : Result Operand FaultKind → Result (List ℕ) Refused → Result CallOperands Refused → Type 0
 TellOneOfEach value text joined =
-    (v : Result Operand FaultKind) (t : Result (List ℕ) FaultKind) → Tells (λ said. said) value (λ said. said ≡ v) → Tells (λ said. said) text (λ said. said ≡ t)
-    → Tells (λ said. said) joined (λ said. said ≡ with (λ p. (p.0 ∷ [], p.1 ∷ [])) (both v t))
+    (t : Result (List ℕ) FaultKind) → Tells (λ said. said) text (λ said. said ≡ t)
+    → Tells (λ said. said) joined (λ said. said ≡ with (λ p. (p.0 ∷ [], p.1 ∷ [])) (both value t))

@@ -1,6 +1,6 @@
 //! The operands of calls: values and texts, each where the call wants it.
 
-ghost use Rattle.std.specs.Prelude.{◌≡◌, ◌∷◌, [], Ok};
+ghost use Rattle.std.specs.Prelude.{◌≡◌, ◌⊎◌, ◌∷◌, [], Ok, Err, IfErr};
 ghost use Rattle.script_words.specs.Telling.{Tells, BothTell, TellOneOfEach, least_with};
 ghost use Rattle.posix_defs.specs.ScriptLines as spec;
 ghost use Rattle.posix_defs.specs.ScriptValues.{each};
@@ -22,11 +22,12 @@ pub fn with_least(fault: Option<FaultKind>, kind: FaultKind) -> FaultKind
 }
 
 /// Two parts of a line, or the least of their faults.
-pub fn both<A: Drop, B: Drop>(
+fn both<A: Drop, B: Drop>(
     first: Result<A, Refused>,
     second: Result<B, Refused>,
 ) -> Result<(A, B), Refused>
-    ensures { BothTell first second result }
+    ensures said { BothTell first second result }
+    ensures fails { IfErr result (λ refused. (first ≡ Err refused) ⊎ (second ≡ Err refused)) }
 {
     match (first, second) {
         (Ok(first), Ok(second)) => Ok((first, second)),
@@ -38,21 +39,15 @@ pub fn both<A: Drop, B: Drop>(
     }
 }
 
-/// A register, a number, or constants.
-pub fn operand(word: &Word) -> Result<Operand, Refused>
-    ensures { Tells (λ said. said) result (λ said. said ≡ values.value word.now) }
+/// Two values, or the least of their faults.
+pub fn two_operands(first: &Word, second: &Word) -> Result<(Operand, Operand), FaultKind>
+    ensures { result ≡ values.both (values.value first.now) (values.value second.now) }
 {
-    match value(word) {
-        Ok(operand) => Ok(operand),
-        Err(kind) => Err(Refused::Fault(kind)),
+    match (value(first), value(second)) {
+        (Ok(first), Ok(second)) => Ok((first, second)),
+        (Err(first), Err(second)) => Err(least(first, second)),
+        (Err(fault), Ok(_)) | (Ok(_), Err(fault)) => Err(fault),
     }
-}
-
-/// Two values.
-pub fn two_operands(first: &Word, second: &Word) -> Result<(Operand, Operand), Refused>
-    ensures { Tells (λ said. said) result (λ said. said ≡ values.both (values.value first.now) (values.value second.now)) }
-{
-    both(operand(first), operand(second))
 }
 
 /// Two paths.
@@ -129,12 +124,12 @@ fn one_of_each(alloc: Global, value: Operand, text: Text) -> Result<(Operands, T
 /// A value and a text, as they were read.
 fn value_and_text(
     alloc: Global,
-    value: Result<Operand, Refused>,
+    value: Result<Operand, FaultKind>,
     text: Result<Text, Refused>,
 ) -> Result<(Operands, Texts), Refused>
     ensures { TellOneOfEach value text result }
 {
-    let (value, text) = both(value, text)?;
+    let (value, text) = both(value.map_err(Refused::Fault), text)?;
     one_of_each(alloc, value, text)
 }
 
@@ -170,7 +165,7 @@ fn path_value(alloc: Global, words: &[Word]) -> Result<(Operands, Texts), Refuse
     ensures { Tells (λ said. said) result (λ said. said ≡ spec.path_value words.now) }
 {
     match words {
-        [first, second] => value_and_text(alloc, operand(second), path(alloc, first)),
+        [first, second] => value_and_text(alloc, value(second), path(alloc, first)),
         _ => Err(Refused::Fault(FaultKind::UnknownWord)),
     }
 }
@@ -179,7 +174,7 @@ fn value_path(alloc: Global, words: &[Word]) -> Result<(Operands, Texts), Refuse
     ensures { Tells (λ said. said) result (λ said. said ≡ spec.value_path words.now) }
 {
     match words {
-        [first, second] => value_and_text(alloc, operand(first), path(alloc, second)),
+        [first, second] => value_and_text(alloc, value(first), path(alloc, second)),
         _ => Err(Refused::Fault(FaultKind::UnknownWord)),
     }
 }
@@ -188,7 +183,7 @@ fn value_bytes(alloc: Global, words: &[Word]) -> Result<(Operands, Texts), Refus
     ensures { Tells (λ said. said) result (λ said. said ≡ spec.value_bytes words.now) }
 {
     match words {
-        [first, second] => value_and_text(alloc, operand(first), stored(alloc, second)),
+        [first, second] => value_and_text(alloc, value(first), stored(alloc, second)),
         _ => Err(Refused::Fault(FaultKind::UnknownWord)),
     }
 }

@@ -28,7 +28,6 @@ fn rank(kind: FaultKind) -> u8
         FaultKind::Unended => 8,
         FaultKind::NoInit => 9,
         FaultKind::TooLong => 10,
-        FaultKind::NotBuilt => 11,
     }
 }
 

@@ -1,3 +1,4 @@
+mod Desks
 pub mod Diaries
 pub mod PairSteps
 pub mod SampleSteps

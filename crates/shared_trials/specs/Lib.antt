@@ -1,3 +1,4 @@
+pub mod Desk
 pub mod Pair
 pub mod Sample
 pub mod Sleeper

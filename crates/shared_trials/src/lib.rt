@@ -11,6 +11,8 @@ mod beside;
 #[cfg(test)]
 mod crew;
 #[cfg(test)]
+mod desk;
+#[cfg(test)]
 mod events;
 #[cfg(test)]
 mod evictions;

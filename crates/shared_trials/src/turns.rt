@@ -4,7 +4,7 @@ use std::sync::Wait;
 use std::test::Fail;
 use std::thread;
 use std::thread::{Threads, join};
-use turn_words::{Chronicle, Item, TurnSeat, Turns, given_and_given_back};
+use turn_words::{Chronicle, Item, TurnSeat, Turns};
 
 /// A value that keeps its own items: the numbers that were told, in order.
 #[derive(Drop)]
@@ -66,12 +66,6 @@ fn two_seats_have_their_turns_in_order(rt: HostRuntime) -> Result<(), Fail> {
     assert!(rt; pass_quietly(&turns, &mut second) == 77);
     turns.join(second, &mut first);
     assert!(rt; turns.close(first).page == 77);
-    Ok(())
-}
-
-#[test]
-fn what_is_given_is_given_back(rt: HostRuntime) -> Result<(), Fail> {
-    assert!(rt; given_and_given_back(rt.alloc(), 7)? == Some(7));
     Ok(())
 }
 

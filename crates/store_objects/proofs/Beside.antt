@@ -85,7 +85,7 @@ module _ (script : Script) (objects : Objects) (vnodes : List (Option Vnode)) (n
   pub stands_beside : (world : World) (tree : Tree) (kept : Kept) (reads : ℕ) → StandsFor script objects world → AreDirectories tree (directories_of world.plain.table)
       → HasTree new (treed_in world tree kept reads) → StandsFor script new (treed_in world tree kept reads)
   stands_beside world tree kept reads stands works has = record {
-    runs = stands.runs;
+    valid = stands.valid;
     kept = kept_beside stands.kept (tree, _, has.stands);
     processes = processes_beside world.plain (treed_in world tree kept reads).plain refl refl stands.processes;
     memory = memory_beside world.account.frames stands.memory;
@@ -100,7 +100,7 @@ module _ (script : Script) (objects : Objects) (vnodes : List (Option Vnode)) (n
   pub entered_beside : (world : World) (directory : ℕ) → StandsFor script objects world → Stands new.heap fs world.plain.files.tree (one_more (pins_in world.plain) directory)
       → is_directory world.plain.files.tree directory ≡ true → HasEntered script new (record world { kept = kept_by fs; reads = fs.disk.reads }) directory
   entered_beside world directory stands now is = record {
-    runs = stands.runs;
+    valid = stands.valid;
     kept = kept_beside stands.kept (world.plain.files.tree, one_more (pins_in world.plain) directory, now);
     processes = processes_beside world.plain world.plain refl refl stands.processes;
     memory = memory_beside world.account.frames stands.memory;

@@ -8,7 +8,6 @@ use Rattle.std.proofs.lemmas.List.{length-replicate}
 use Rattle.std.proofs.lemmas.Slice.Eq.{bytes_eq-Decides}
 use Rattle.kabi_values.specs.Class.{size}
 use Rattle.kabi_values.specs.declared.classes.Class.TheVariants as class
-use Rattle.calls_built.specs.Built.{can_run}
 use Rattle.kabi_types.specs.declared.scripts.Control.{Control}
 use Rattle.kabi_types.specs.declared.scripts.Program.{Program}
 use Rattle.kabi_types.specs.declared.scripts.Script.{Script}
@@ -446,14 +445,14 @@ boot_has_tree script objects stands kept unread = record {
 }
 
 -- At boot the store stands for one process at the start of the program `init`.
-pub boot_stands_for : (script copy : Script) (objects : Objects) (place : ℕ) (control : Control) → IsValid script → can_run script ≡ true → copy ≡ script → place ≡ place_of (codes "init") copy.programs
+pub boot_stands_for : (script copy : Script) (objects : Objects) (place : ℕ) (control : Control) → IsValid script → copy ≡ script → place ≡ place_of (codes "init") copy.programs
     → control ≡ settled copy (at_start place) → Stands copy control → Rests copy control → HasBooted objects copy.heap copy.disk control
     → StandsFor script objects (boot_world script)
-boot_stands_for script copy objects place control valid built same named settles stands rests booted =
+boot_stands_for script copy objects place control valid same named settles stands rests booted =
     let leads : settled script (at_start (place_of (codes "init") script.programs)) ≡ control =
     sym (settles ∙ ap (λ n. settled copy (at_start n)) named ∙ ap (λ s. settled s (at_start (place_of (codes "init") s.programs))) same) in
     record {
-      runs = record { valid = valid; built = built };
+      valid = valid;
       kept = subst (λ s. AreKept s objects) same (boot_kept copy objects control booted stands rests);
       processes = record {
         table = booted.table;

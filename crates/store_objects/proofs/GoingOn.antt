@@ -176,7 +176,7 @@ pub goes_to : (script : Script) (old new : Objects) (world : World) (pid : ℕ) 
     → MovesOn old pid control new → Stands script control → Rests script control → settled script then ≡ control
     → StandsFor script new (record world { plain = with_control world.plain pid then })
 goes_to script old new world pid then control stands moves at rests leads = record {
-  runs = stands.runs;
+  valid = stands.valid;
   kept = kept_moved script old new pid control stands.kept moves at rests;
   processes = record {
     table = subst (λ k. IsTable new.heap k world.plain.table) (sym moves.same)

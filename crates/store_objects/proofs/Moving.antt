@@ -331,7 +331,7 @@ module _ (script : Script) (old mid : Objects) (world : World) (directory : ℕ)
 
         pub works_then : StandsFor script new (working_in world pid directory)
         works_then = record {
-          runs = has.runs;
+          valid = has.valid;
           kept = kept_new;
           processes = record {
             table = table_new;

@@ -3,7 +3,6 @@ use Rattle.std.specs.Prelude.{ℕ, ◌≡◌, true, None, Some}
 use Rattle.kabi_calls.specs.declared.calls.Call.{Call}
 use Rattle.kabi_values.specs.declared.replies.Reply.{Reply}
 use Rattle.kabi_types.specs.declared.scripts.Script.{Script}
-use Rattle.calls_built.specs.Built.{can_run}
 use Rattle.kheap_shelves.specs.declared.objects.Proc.{Proc}
 use Rattle.memfs_ops.specs.FileTree.{Stands, one_more}
 use Rattle.posix_defs.specs.Account.{account_on, with_frames}
@@ -44,14 +43,9 @@ pub record AreProcesses (script : Script) (objects : Objects) (plain : Plain) : 
   pub last : objects.procs.last ≡ last_pid plain
   pub controls : (pid : ℕ) (proc : Proc) → proc_of (procs_of objects) pid ≡ Some proc → proc.status ≡ None → settled script (control_of plain pid) ≡ proc.control
 
--- A script is valid, and no program of it makes a call that can't be run.
-pub record MayRun (script : Script) : Type 0 where
-  pub valid : IsValid script
-  pub built : can_run script ≡ true
-
 -- A store stands for a world: each family of its objects for its part of the world.
 pub record StandsFor (script : Script) (objects : Objects) (world : World) : Type 0 where
-  pub runs : MayRun script
+  pub valid : IsValid script
   pub kept : AreKept script objects
   pub processes : AreProcesses script objects world.plain
   -- one numbering of the heap's pages makes the account of frames true
@@ -66,7 +60,7 @@ pub record StandsFor (script : Script) (objects : Objects) (world : World) : Typ
 
 -- It stands for a world but for who holds what: one more holds a directory, since a process has entered it and will work there.
 pub record HasEntered (script : Script) (objects : Objects) (world : World) (directory : ℕ) : Type 0 where
-  pub runs : MayRun script
+  pub valid : IsValid script
   pub kept : AreKept script objects
   pub processes : AreProcesses script objects world.plain
   pub memory : HasAccount objects.heap objects.procs world.account.frames

@@ -284,7 +284,6 @@ const FAULTS: &[(FaultKind, &str)] = &[
     (FaultKind::Unended, "line 4: unended"),
     (FaultKind::NoInit, "line 4: no init"),
     (FaultKind::TooLong, "line 4: too long"),
-    (FaultKind::NotBuilt, "line 4: not built"),
 ];
 
 #[test]

@@ -1,5 +1,4 @@
 mod Counts
-mod Desks
 mod Ends
 pub mod Held
 mod Joining

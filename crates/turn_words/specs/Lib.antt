@@ -2,4 +2,3 @@ pub mod Items
 pub mod Laws
 pub mod Rule
 pub mod Seats
-pub mod Worked

@@ -13,7 +13,6 @@ mod rule;
 mod seats;
 mod steps;
 mod turns;
-mod worked;
 
 pub use crossing::crosses_threads;
 pub use items::Item;
@@ -21,4 +20,3 @@ pub use laws::{each_ticket_out_stands_in_one_view, what_is_noted_goes_on};
 pub use rule::{Chronicle, TurnView};
 pub use seats::TurnSeat;
 pub use turns::Turns;
-pub use worked::given_and_given_back;

@@ -1,15 +1,15 @@
 //! Open file descriptions and what is cached of the disk.
 
-ghost use Rattle.std.specs.Prelude.{◌≡◌, ◌+◌, ◌/◌, ◌<◌, ◌≤◌, None, Some};
+ghost use Rattle.std.specs.Prelude.{◌≡◌, ◌+◌, ◌/◌, ◌<◌, ◌≤◌, None, Some, length};
 ghost use Rattle.kabi_values.specs.Class.{size};
 ghost use Rattle.kabi_values.specs.declared.classes.Class.TheVariants as class;
-ghost use Rattle.kheap_shelves.specs.Objects.{object, InUse, put, without};
+ghost use Rattle.kheap_shelves.specs.Objects.{object, InUse, count as count_of, put, without};
 ghost use Rattle.kheap_slabs.specs.Heap.{live_bytes, Makes, Frees};
 ghost use Rattle.kheap_slabs.specs.Paid.{TakesNothing};
 
 use super::KHeap;
 use kabi_types::Class;
-use kheap_shelves::{Block, Desc, Name, Vnode};
+use kheap_shelves::{Block, Desc, Name, Shelf, Vnode};
 
 impl KHeap {
     /// Puts a Desc under a key that was free, and gives the key.
@@ -203,4 +203,27 @@ impl KHeap {
     {
         self.files.blocks.set(key, value);
     }
+
+    /// Puts another Block under a key in use, whose bytes are copied once.
+    pub fn write_block(&mut self, key: u32, number: u32, bytes: &[u8; 1024])
+        requires { InUse self.old.blocks key }
+        ensures kept { self.new
+            ≡ record self.old { blocks = put self.old.blocks key (record { number = number; bytes = bytes.now }) } }
+        ensures live { live_bytes self.new ≡ live_bytes self.old }
+        ensures takes { TakesNothing self.old self.new }
+    {
+        write(&mut self.files.blocks, key, number, bytes);
+    }
+}
+
+// A Block is changed in its place, since its bytes are much to copy.
+fn write(blocks: &mut Shelf<Block>, key: u32, number: u32, bytes: &[u8; 1024])
+    requires { InUse blocks.old key }
+    ensures kept { blocks.new ≡ put blocks.old key (record { number = number; bytes = bytes.now }) }
+    ensures counted { count_of blocks.new ≡ count_of blocks.old }
+    ensures len { length blocks.new ≡ length blocks.old }
+{
+    let block = blocks.get_mut(key);
+    block.number = number;
+    block.bytes = *bytes;
 }

@@ -1,53 +1,11 @@
-use Rattle.std.proofs.Common.{◌≡◌, ◌≢◌, ℕ, ◌<◌, ◌-◌, inl, inr, List, length, get_or, take, sym, ap, ◌∙◌, arith}
-use Rattle.std.proofs.lemmas.List.{get_or-take}
-use Rattle.posix_defs.specs.DiskFormat.{blocks_of}
-use Rattle.posix_defs.specs.SoundDisk.{bit_of, block_bytes, free_in_map}
-use Rattle.blk_map.specs.Found.{free_below}
-use Rattle.blk_map.proofs.Blocks.{got}
-use Rattle.blk_map.proofs.Counted.{given_none}
-use Rattle.blk_map.proofs.SameBlocks.{same_grows}
+use Rattle.std.proofs.Common.{Result, Ok, Err, OnOk}
+use Rattle.kabi_values.specs.declared.errnos.Errno.{Errno}
+use Rattle.blk_map.proofs.Growth.{all_zeros}
 use Rattle.blk_map.proofs.growing.grow.Goals as goal
 
-pub returns-then-need-eq0-clause-ok : goal.returns-then-need-eq0-clause-ok
-returns-then-need-eq0-clause-ok g c =
-    let none : blocks_of c.args.size - blocks_of c.args.inode.now.size ≡ 0 = omega (arith, c.if-need-eq0.true, c.block_count.ensures, c.block_count-2.ensures) in
-    same_grows (
-    record {
-      number = c.args.number;
-      before = g.B.Blocks.blocks c.args.b.now;
-      old = c.args.inode.now;
-      size = c.args.size;
-      after = g.B.Blocks.blocks c.put_in_table.new.b;
-      sound = c.requires.sound;
-      had = c.requires.node.0;
-      kind = c.requires.kind;
-      same = given_none c.args.inode.now.size c.args.size c.requires.size none;
-      count = c.put_in_table.ensures.count;
-      slot = c.put_in_table.ensures.slot;
-      slots = c.put_in_table.ensures.slots;
-      others = c.put_in_table.ensures.others;
-    }
-    )
+on_ok : (answer : Result (Unit {0}) Errno) (Fact Other : Type 0) → (Fact → Other) → OnOk answer Fact → OnOk answer Other
+on_ok (Ok _) Fact Other gives fact = gives fact
+on_ok (Err _) Fact Other gives fact = fact
 
-pub take_blocks-requires-clause-lowest : goal.take_blocks-requires-clause-lowest
-take_blocks-requires-clause-lowest g c = λ block free.
-    let need : ℕ = c.block_count.result - c.block_count-2.result in
-    let found : List ℕ = c.lowest_free-found.result.blocks in
-    let full : c.lowest_free-found.result.count ≡ need = omega (arith, c.lowest_free-found.ensures.many, c.if-found-need.false) in
-    let len : length (take need found) ≡ need = omega arith in
-    let at : (k : ℕ) → k < need → get_or (take need found) k 0 ≡ get_or found k 0 = λ k lt. get_or-take need found k 0 lt in
-    let map : block_bytes (g.B.Blocks.blocks c.get-map.new.self) 0 ≡ c.get-map.result =
-    ap (λ (disk : List (List ℕ)). block_bytes disk 0) c.get-map.ensures.kept ∙ got (g.B.Blocks.blocks c.args.b.now) 0 c.get-map.result c.get-map.ensures.value in
-    let unmarked : bit_of c.get-map.result block ≢ 1 = λ is. free.1 (ap (λ (bytes : List ℕ). bit_of bytes block) map ∙ is) in
-    elim (c.lowest_free-found.ensures.lowest block (omega (arith, free.0, c.count.ensures)) unmarked) [
-      | inl there ↦ inl (there.0, omega (arith, there.1, full, len), at there.0 (omega (arith, there.1, full)) ∙ there.2)
-      | inr below ↦ inr (λ k lt. omega (arith, at k (omega (arith, lt, len)), below k (omega (arith, lt, len, full))))
-    ]
-
-pub returns-clause-full : goal.returns-clause-full
-returns-clause-full g c = λ most.
-    let disk : List (List ℕ) = g.B.Blocks.blocks c.args.b.now in
-    let map : c.get-map.result ≡ block_bytes disk 0 = sym (got disk 0 c.get-map.result c.get-map.ensures.value) in
-    let count : c.count.result ≡ length disk = c.count.ensures ∙ ap length c.get-map.ensures.kept in
-    let same : free_below c.get-map.result c.count.result ≡ free_in_map disk = ap (λ (n : ℕ). free_below c.get-map.result n) count ∙ ap (λ (bytes : List ℕ). free_below bytes (length disk)) map in
-    (λ e. absurd cc, λ few. absurd (omega (arith, few, same, c.lowest_free-found.ensures.many, c.if-found-need.false, c.block_count.ensures, c.block_count-2.ensures)))
+pub returns-clause-ok : goal.returns-clause-ok
+returns-clause-ok g c = on_ok c.grow_but.result _ _ all_zeros c.grow_but.ensures.ok

@@ -1,11 +1,10 @@
 use Rattle.std.proofs.Common.{ℕ, List, sym, ap, ◌∙◌}
-use Rattle.std.proofs.lemmas.List.{get_or-replicate}
 use Rattle.posix_defs.specs.SoundDisk.{pointer_at}
 use Rattle.blk_map.proofs.Blocks.{got}
 use Rattle.blk_map.proofs.naming.behind_of.Goals as goal
 
 pub returns-then-data_count-le-DIRECT_POINTERS-clause-small : goal.returns-then-data_count-le-DIRECT_POINTERS-clause-small
-returns-then-data_count-le-DIRECT_POINTERS-clause-small g c = λ few k lt. get_or-replicate 256 k 0 0 lt
+returns-then-data_count-le-DIRECT_POINTERS-clause-small g c = λ few k lt. c.requires.zeros k lt
 
 pub returns-clause-large : goal.returns-clause-large
 returns-clause-large g c = λ large k lt.

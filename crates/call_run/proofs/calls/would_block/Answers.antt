@@ -1,4 +1,4 @@
-use Rattle.std.proofs.Common.{◌≡◌, ◌∙◌, sym, w64, true, rules, Some}
+use Rattle.std.proofs.Common.{◌≡◌, ◌∙◌, sym, w64, rules, Some}
 use Rattle.std.proofs.lemmas.Int.{to_z-of_z}
 use mir.Val.{of_z, to_z}
 use Rattle.kabi_calls.specs.declared.calls.Call.TheVariants.{Accept, Poll, Read, Waitpid, Write}

@@ -1,7 +1,7 @@
 //! What is cached of the tree of files, and what goes of it.
 
 ghost use Rattle.posix_defs.specs.World.{World};
-ghost use Rattle.call_run.specs.Stores.{IsStoreOf};
+ghost use Rattle.call_run.specs.Stores.{Stands};
 
 use super::given::{Row, Told, Trial, empties_all, go_through, try_it};
 use crate::store::Store;
@@ -30,7 +30,7 @@ const LOOKED: &[Row] = &[
 ];
 
 pub fn what_is_cached_goes<F: Scorer, G: Scorer>(rt: &impl Abort, store: &mut Store<F, G>)
-    requires { (world : World) × IsStoreOf store.old.script store.old.objects world }
+    requires { (world : World) × Stands store.old world }
 {
     go_through(rt, store, LOOKED);
     assert!(rt; store.reads() == 1);
@@ -85,7 +85,7 @@ const MOVED: &[Row] = &[
 ];
 
 pub fn directories_are_found_again<F: Scorer, G: Scorer>(rt: &impl Abort, store: &mut Store<F, G>)
-    requires { (world : World) × IsStoreOf store.old.script store.old.objects world }
+    requires { (world : World) × Stands store.old world }
 {
     go_through(rt, store, MADE);
     empties_all(rt, store);

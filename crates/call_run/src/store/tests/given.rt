@@ -5,7 +5,7 @@ ghost use Rattle.kabi_types.specs.declared.scripts.Policy.TheVariants.{Heaviest,
 ghost use Rattle.posix_defs.specs.ValidScript.{IsValid};
 ghost use Rattle.posix_defs.specs.Victim.{score_of};
 ghost use Rattle.posix_defs.specs.World.{World};
-ghost use Rattle.call_run.specs.Stores.{IsStoreOf};
+ghost use Rattle.call_run.specs.Stores.{Stands};
 
 use super::caches::{directories_are_found_again, what_is_cached_goes};
 use super::processes::{
@@ -80,8 +80,8 @@ pub fn tells(turned: &Turned, told: &Told) -> bool {
 
 /// A turn of a live process, for whose call there has to be room.
 pub fn take<F: Scorer, G: Scorer>(rt: &impl Abort, store: &mut Store<F, G>, pid: u32) -> Turned
-    requires { (world : World) × IsStoreOf store.old.script store.old.objects world }
-    ensures { (world : World) × IsStoreOf store.new.script store.new.objects world }
+    requires { (world : World) × Stands store.old world }
+    ensures { (world : World) × Stands store.new world }
 {
     assert!(rt; store.alive(pid));
     let call = store.next(pid);
@@ -96,8 +96,8 @@ pub type Row = (u32, Told, u64);
 
 /// So many turns, one after another.
 pub fn go_through<F: Scorer, G: Scorer>(rt: &impl Abort, store: &mut Store<F, G>, rows: &[Row])
-    requires { (world : World) × IsStoreOf store.old.script store.old.objects world }
-    ensures { (world : World) × IsStoreOf store.new.script store.new.objects world }
+    requires { (world : World) × Stands store.old world }
+    ensures { (world : World) × Stands store.new world }
 {
     for (place, (pid, told, live)) in rows.iter().enumerate() {
         let turned = take(rt, store, *pid);
@@ -108,8 +108,8 @@ pub fn go_through<F: Scorer, G: Scorer>(rt: &impl Abort, store: &mut Store<F, G>
 
 /// The same where behind each turn nothing stays cached but what is held.
 pub fn go_bare<F: Scorer, G: Scorer>(rt: &impl Abort, store: &mut Store<F, G>, rows: &[Row])
-    requires { (world : World) × IsStoreOf store.old.script store.old.objects world }
-    ensures { (world : World) × IsStoreOf store.new.script store.new.objects world }
+    requires { (world : World) × Stands store.old world }
+    ensures { (world : World) × Stands store.new world }
 {
     for (place, (pid, told, live)) in rows.iter().enumerate() {
         let turned = take(rt, store, *pid);
@@ -121,8 +121,8 @@ pub fn go_bare<F: Scorer, G: Scorer>(rt: &impl Abort, store: &mut Store<F, G>, r
 
 /// Whatever may go of a cache goes, which is no more than twelve objects.
 fn empties<F: Scorer, G: Scorer>(store: &mut Store<F, G>, what: Cached)
-    requires { (world : World) × IsStoreOf store.old.script store.old.objects world }
-    ensures { (world : World) × IsStoreOf store.new.script store.new.objects world }
+    requires { (world : World) × Stands store.old world }
+    ensures { (world : World) × Stands store.new world }
 {
     for _ in 0..12 {
         store.evict(what);
@@ -131,8 +131,8 @@ fn empties<F: Scorer, G: Scorer>(store: &mut Store<F, G>, what: Cached)
 
 /// Nothing is left of the caches but what is held, and nothing of that may go.
 pub fn empties_all<F: Scorer, G: Scorer>(rt: &impl Abort, store: &mut Store<F, G>)
-    requires { (world : World) × IsStoreOf store.old.script store.old.objects world }
-    ensures { (world : World) × IsStoreOf store.new.script store.new.objects world }
+    requires { (world : World) × Stands store.old world }
+    ensures { (world : World) × Stands store.new world }
 {
     empties(store, Cached::Name);
     empties(store, Cached::Block);

@@ -1,7 +1,7 @@
 //! Calls of processes and of their memory, and who is killed.
 
 ghost use Rattle.posix_defs.specs.World.{World};
-ghost use Rattle.call_run.specs.Stores.{IsStoreOf};
+ghost use Rattle.call_run.specs.Stores.{Stands};
 
 use super::given::{Row, Told, Trial, go_through, take, tells, try_it};
 use crate::store::Store;
@@ -171,7 +171,7 @@ const HOLDERS: &[Row] = &[
 const LAST: &[Row] = &[(1, Told::Child(3, 9), 6784), (1, Told::Ends(1792), 128)];
 
 pub fn heaviest_goes<F: Scorer, G: Scorer>(rt: &impl Abort, store: &mut Store<F, G>)
-    requires { (world : World) × IsStoreOf store.old.script store.old.objects world }
+    requires { (world : World) × Stands store.old world }
 {
     go_through(rt, store, HOLDERS);
     assert!(rt; store.victim() == Some(3));
@@ -183,7 +183,7 @@ pub fn heaviest_goes<F: Scorer, G: Scorer>(rt: &impl Abort, store: &mut Store<F,
 }
 
 pub fn youngest_goes<F: Scorer, G: Scorer>(rt: &impl Abort, store: &mut Store<F, G>)
-    requires { (world : World) × IsStoreOf store.old.script store.old.objects world }
+    requires { (world : World) × Stands store.old world }
 {
     go_through(rt, store, HOLDERS);
     assert!(rt; store.victim() == Some(4));
@@ -201,7 +201,7 @@ end
 ";
 
 pub fn is_at_boot<F: Scorer, G: Scorer>(rt: &impl Abort, store: &mut Store<F, G>)
-    requires { (world : World) × IsStoreOf store.old.script store.old.objects world }
+    requires { (world : World) × Stands store.old world }
 {
     assert!(rt; store.live() == 640 && store.last_pid() == 1 && store.reads() == 0);
     assert!(rt; store.victim().is_none() && !store.alive(2));
@@ -211,7 +211,7 @@ pub fn is_at_boot<F: Scorer, G: Scorer>(rt: &impl Abort, store: &mut Store<F, G>
 }
 
 pub fn refuses<F: Scorer, G: Scorer>(rt: &impl Abort, store: &mut Store<F, G>)
-    requires { (world : World) × IsStoreOf store.old.script store.old.objects world }
+    requires { (world : World) × Stands store.old world }
 {
     assert!(rt; store.alive(1) && store.ready(1));
     store.refuse(1);
@@ -221,7 +221,7 @@ pub fn refuses<F: Scorer, G: Scorer>(rt: &impl Abort, store: &mut Store<F, G>)
 
 /// Nobody was ever made of this number, so whatever call of it is gone.
 pub fn who_has_ended_is_gone<F: Scorer, G: Scorer>(rt: &impl Abort, store: &mut Store<F, G>)
-    requires { (world : World) × IsStoreOf store.old.script store.old.objects world }
+    requires { (world : World) × Stands store.old world }
 {
     assert!(rt; !store.alive(2));
     let call = Call::Fork;
@@ -254,7 +254,7 @@ const GROWS: &[Row] = &[(1, Told::Val(2), 1152), (1, Told::Val(4096), 1664)];
 const SHRINKS: &[Row] = &[(1, Told::Val(0), 1152)];
 
 pub fn high_begins<F: Scorer, G: Scorer>(rt: &impl Abort, store: &mut Store<F, G>)
-    requires { (world : World) × IsStoreOf store.old.script store.old.objects world }
+    requires { (world : World) × Stands store.old world }
 {
     go_through(rt, store, GROWS);
     let grown = store.objects.heap.high();

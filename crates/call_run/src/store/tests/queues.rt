@@ -1,7 +1,7 @@
 //! Calls on pipes and sockets.
 
 ghost use Rattle.posix_defs.specs.World.{World};
-ghost use Rattle.call_run.specs.Stores.{IsStoreOf};
+ghost use Rattle.call_run.specs.Stores.{Stands};
 
 use super::given::{Row, Told, Trial, go_through, try_it};
 use crate::calls::would_block;
@@ -200,14 +200,14 @@ const FILLED: &[Row] = &[(1, Told::Val(3585), 6528)];
 
 /// Whether a call of a process that waits for this would block; a process that has ended makes none.
 fn would_wait<F: Scorer, G: Scorer>(store: &Store<F, G>, pid: u32, wait: Option<Awaited>) -> bool
-    requires { (world : World) × IsStoreOf store.now.script store.now.objects world }
+    requires { (world : World) × Stands store.now world }
 {
     store.alive(pid) && would_block(&store.objects, pid, wait)
 }
 
 /// Whether a wait of the first process for a child would block.
 fn waits<F: Scorer, G: Scorer>(store: &Store<F, G>, child: i64, options: i64) -> bool
-    requires { (world : World) × IsStoreOf store.now.script store.now.objects world }
+    requires { (world : World) × Stands store.now world }
 {
     let wait = Awaited::Child {
         pid: child,
@@ -218,7 +218,7 @@ fn waits<F: Scorer, G: Scorer>(store: &Store<F, G>, child: i64, options: i64) ->
 
 /// Whether a read of the first process would, of one byte from the first number that it has open.
 fn reads<F: Scorer, G: Scorer>(store: &Store<F, G>) -> bool
-    requires { (world : World) × IsStoreOf store.now.script store.now.objects world }
+    requires { (world : World) × Stands store.now world }
 {
     let bytes = Awaited::Bytes {
         fd: 0,
@@ -230,7 +230,7 @@ fn reads<F: Scorer, G: Scorer>(store: &Store<F, G>) -> bool
 
 /// Whether its write of so many bytes to the second would.
 fn writes<F: Scorer, G: Scorer>(store: &Store<F, G>, n: i64) -> bool
-    requires { (world : World) × IsStoreOf store.now.script store.now.objects world }
+    requires { (world : World) × Stands store.now world }
 {
     let room = Awaited::Room {
         fd: 1,
@@ -242,7 +242,7 @@ fn writes<F: Scorer, G: Scorer>(store: &Store<F, G>, n: i64) -> bool
 }
 
 pub fn only_what_waits_blocks<F: Scorer, G: Scorer>(rt: &impl Abort, store: &mut Store<F, G>)
-    requires { (world : World) × IsStoreOf store.old.script store.old.objects world }
+    requires { (world : World) × Stands store.old world }
 {
     go_through(rt, store, PARENT);
     assert!(rt; waits(store, -1, 0) && !waits(store, -1, 1) && !waits(store, 0, 0));

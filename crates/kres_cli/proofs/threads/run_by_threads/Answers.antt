@@ -1,19 +1,17 @@
 use Rattle.std.proofs.Common.{subst}
-use Rattle.kres_cli.specs.declared.commands.Task.{Task}
 use Rattle.kres_cli.specs.declared.commands.Task.TheVariants.{Threads}
 use Rattle.kres_cli.specs.Read.{IsReadAs}
-use Rattle.kres_cli.specs.Tool.{AnswerEnds, Input, Output, input, output}
-use Rattle.kres_cli.proofs.Outcomes.{fault_ends, text_ends}
+use Rattle.kres_cli.specs.Tool.{Input, Output, input, output}
+use Rattle.kres_cli.proofs.Outcomes.{fault_ends, script_ends}
 use Rattle.kres_cli.proofs.threads.run_by_threads.Goals as goal
 
 pub returns-in-Ok-Script : goal.returns-in-Ok-Script
 returns-in-Ok-Script g c =
     let i : Input = input g.S.Source.left g.S.Source.faults c.args.source.now c.read_script.new.source in
     let o : Output = output g.K.Sink.held g.K.Sink.faults g.K.Sink.put_gives c.args.sink.now c.answer_by_threads-status.new.sink in
-    let asked : Task = Threads c.args.workers in
     let read = subst (λ it. IsReadAs it i.left i.left' i.takes i.takes') c.in-Ok-Script.field-0-is c.in-Ok-Script.ensures in
-    text_ends i o asked c.in-Ok-Script.text.items c.answer_by_threads-status.new.store_out c.answer_by_threads-status.result read.taken read.no_fault
-    (subst (λ text. AnswerEnds o asked text c.answer_by_threads-status.new.store_out c.answer_by_threads-status.result) c.as_slice-bytes.ensures.value c.answer_by_threads-status.ensures)
+    script_ends i o (Threads c.args.workers) c.in-Ok-Script.script c.answer_by_threads-status.new.store_out c.answer_by_threads-status.result read.0
+    c.answer_by_threads-status.ensures
 
 pub returns-in-Ok-Bad : goal.returns-in-Ok-Bad
 returns-in-Ok-Bad g c =

@@ -1,7 +1,7 @@
 use Rattle.std.proofs.Common.{subst}
 use Rattle.kres_cli.specs.Read.{IsReadAs}
-use Rattle.kres_cli.specs.Tool.{AnswerEnds, Input, Output, input, output}
-use Rattle.kres_cli.proofs.Outcomes.{fault_ends, text_ends}
+use Rattle.kres_cli.specs.Tool.{Input, Output, input, output}
+use Rattle.kres_cli.proofs.Outcomes.{fault_ends, script_ends}
 use Rattle.kres_cli.proofs.tool.answer_source.Goals as goal
 
 pub returns-in-Ok-Script : goal.returns-in-Ok-Script
@@ -9,8 +9,7 @@ returns-in-Ok-Script g c =
     let i : Input = input g.S.Source.left g.S.Source.faults c.args.source.now c.read_script.new.source in
     let o : Output = output g.K.Sink.held g.K.Sink.faults g.K.Sink.put_gives c.args.sink.now c.answer_script-status.new.sink in
     let read = subst (λ it. IsReadAs it i.left i.left' i.takes i.takes') c.in-Ok-Script.field-0-is c.in-Ok-Script.ensures in
-    text_ends i o c.args.task c.in-Ok-Script.text.items c.answer_script-status.new.store_out c.answer_script-status.result read.taken read.no_fault
-    (subst (λ text. AnswerEnds o c.args.task text c.answer_script-status.new.store_out c.answer_script-status.result) c.as_slice-bytes.ensures.value c.answer_script-status.ensures)
+    script_ends i o c.args.task c.in-Ok-Script.script c.answer_script-status.new.store_out c.answer_script-status.result read.0 c.answer_script-status.ensures
 
 pub returns-in-Ok-Bad : goal.returns-in-Ok-Bad
 returns-in-Ok-Bad g c =

@@ -1,6 +1,6 @@
 use Rattle.std.proofs.Common.{Some, ap, subst, sym, ◌∙◌}
 use Rattle.kern_tasks.specs.View.{HasBooted}
-use Rattle.store_objects.specs.Standing.{StoreView}
+use Rattle.call_run.specs.Stores.{StoreView}
 use Rattle.kres_cli.specs.Run.{stands}
 use Rattle.kres_cli.proofs.Outcomes.{load_handed}
 use Rattle.kres_cli.proofs.tool.run_summed.Goals as goal

@@ -10,13 +10,13 @@ pub entry_in-requires-clause-spelled : goal.entry_in-requires-clause-spelled
 entry_in-requires-clause-spelled g c =
     let disk : List (List ℕ) = g.B.Blocks.blocks c.args.b.now in
     let entries : List DirEntry = c.requires.entries.0 in
-    let is = block_got disk (g.B.Blocks.blocks c.block_at-number.new.b) c.args.dir.now (c.args.place / 32) c.block_at-number.result c.get-block.result c.block_at-number.ensures.value c.block_at-number.ensures.kept c.get-block.ensures.value in
-    (get_or entries c.args.place no_entry, spelled disk c.args.dir.now entries c.args.place c.get-block.result c.requires.entries.1 (place_within disk c.args.dir.now entries c.args.place c.requires.entries.1 c.requires.within) is)
+    let is = block_got disk (g.B.Blocks.blocks c.block_at-number.new.b) c.args.dir.now (c.args.place / 32) c.block_at-number.result c.get.result c.block_at-number.ensures.value c.block_at-number.ensures.kept c.get.ensures.value in
+    (get_or entries c.args.place no_entry, spelled disk c.args.dir.now entries c.args.place c.get.result c.requires.entries.1 (place_within disk c.args.dir.now entries c.args.place c.requires.entries.1 c.requires.within) is)
 
 pub returns-clause-value : goal.returns-clause-value
 returns-clause-value g c = λ entries has.
     let disk : List (List ℕ) = g.B.Blocks.blocks c.args.b.now in
-    let is = block_got disk (g.B.Blocks.blocks c.block_at-number.new.b) c.args.dir.now (c.args.place / 32) c.block_at-number.result c.get-block.result c.block_at-number.ensures.value c.block_at-number.ensures.kept c.get-block.ensures.value in
+    let is = block_got disk (g.B.Blocks.blocks c.block_at-number.new.b) c.args.dir.now (c.args.place / 32) c.block_at-number.result c.get.result c.block_at-number.ensures.value c.block_at-number.ensures.kept c.get.ensures.value in
     let lt : c.args.place < length entries = place_within disk c.args.dir.now entries c.args.place has c.requires.within in
-    let there = spelled disk c.args.dir.now entries c.args.place c.get-block.result has lt is in
-    slice_get-get_or entries c.args.place no_entry lt ∙ ap (λ (entry : DirEntry). Some entry) (one_entry c.get-block.result (c.args.place % 32) (get_or entries c.args.place no_entry) c.entry_in.result there c.entry_in.ensures)
+    let there = spelled disk c.args.dir.now entries c.args.place c.get.result has lt is in
+    slice_get-get_or entries c.args.place no_entry lt ∙ ap (λ (entry : DirEntry). Some entry) (one_entry c.get.result (c.args.place % 32) (get_or entries c.args.place no_entry) c.entry_in.result there c.entry_in.ensures)

@@ -1,22 +1,13 @@
-use Rattle.std.proofs.Common.{◌≡◌, ℕ, ◌+◌, ◌*◌, ◌/◌, ◌%◌, ◌<◌, ◌≤◌, ◌⊎◌, inl, inr, List, Some, length, get_or, set, sym, ap, subst, ◌∙◌, arith}
-use Rattle.std.proofs.lemmas.Option.{slice_get-get_or}
+use Rattle.std.proofs.Common.{◌≡◌, ℕ, ◌+◌, ◌*◌, ◌/◌, ◌%◌, ◌<◌, ◌≤◌, ◌⊎◌, inl, inr, List, length, get_or, set, sym, ap, subst, ◌∙◌, arith}
 use Rattle.kabi_values.specs.declared.inodes.DirEntry.{DirEntry}
 use Rattle.posix_defs.specs.SoundDisk.{block_bytes}
 use Rattle.posix_defs.specs.DiskContents.{data_block}
 use Rattle.posix_defs.specs.NodeChange.{WritesBlock}
 use Rattle.posix_defs.specs.TreeChanges.{no_entry}
 use Rattle.disk_laws.proofs.BlockWritten.{block_written}
-use Rattle.memfs_dir.proofs.SlotBytes.{one_entry}
 use Rattle.memfs_dir.proofs.DirectoryBytes.{block_got, spelled, place_within}
 use Rattle.memfs_dir.proofs.Written.{map_stays, puts, byte_of}
 use Rattle.memfs_dir.proofs.entries.replace_entry.Goals as goal
-
-pub entry_in-old-requires-clause-spelled : goal.entry_in-old-requires-clause-spelled
-entry_in-old-requires-clause-spelled g c =
-    let disk : List (List ℕ) = g.B.Blocks.blocks c.args.b.now in
-    let entries : List DirEntry = c.requires.entries.0 in
-    let is = block_got disk (g.B.Blocks.blocks c.block_at-number.new.b) c.args.dir.now (c.args.place / 32) c.block_at-number.result c.get-block.result c.block_at-number.ensures.value c.block_at-number.ensures.kept c.get-block.ensures.value in
-    (get_or entries c.args.place no_entry, spelled disk c.args.dir.now entries c.args.place c.get-block.result c.requires.entries.1 (place_within disk c.args.dir.now entries c.args.place c.requires.entries.1 c.requires.within) is)
 
 pub returns-clause-was : goal.returns-clause-was
 returns-clause-was g c = λ entries has.
@@ -24,7 +15,7 @@ returns-clause-was g c = λ entries has.
     let is = block_got disk (g.B.Blocks.blocks c.block_at-number.new.b) c.args.dir.now (c.args.place / 32) c.block_at-number.result c.get-block.result c.block_at-number.ensures.value c.block_at-number.ensures.kept c.get-block.ensures.value in
     let lt : c.args.place < length entries = place_within disk c.args.dir.now entries c.args.place has c.requires.within in
     let there = spelled disk c.args.dir.now entries c.args.place c.get-block.result has lt is in
-    slice_get-get_or entries c.args.place no_entry lt ∙ ap (λ (entry : DirEntry). Some entry) (one_entry c.get-block.result (c.args.place % 32) (get_or entries c.args.place no_entry) c.entry_in-old.result there c.entry_in-old.ensures)
+    c.node_in-node.ensures (get_or entries c.args.place no_entry) there
 
 pub returns-clause-puts : goal.returns-clause-puts
 returns-clause-puts g c = λ number node.

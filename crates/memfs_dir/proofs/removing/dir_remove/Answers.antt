@@ -1,38 +1,31 @@
-use Rattle.std.proofs.Common.{◌≡◌, ℕ, ◌<◌, List, Some, length, get_or, slice_get, sym, ap, subst, ◌∙◌}
-use Rattle.std.proofs.lemmas.Option.{same_Some, slice_get-get_or}
+use Rattle.std.proofs.Common.{◌≡◌, ℕ, List, sym, subst}
 use Rattle.kabi_values.specs.declared.inodes.DirEntry.{DirEntry}
 use Rattle.posix_defs.specs.SoundDisk.{HasNode}
 use Rattle.posix_defs.specs.DiskContents.{HasEntries}
-use Rattle.posix_defs.specs.TreeChanges.{no_entry}
 use Rattle.memfs_dir.specs.Listed.{PutsEntry}
-use Rattle.memfs_dir.proofs.DirectoryBytes.{place_within}
 use Rattle.memfs_dir.proofs.Resized.{removed}
 use Rattle.memfs_dir.proofs.removing.dir_remove.Goals as goal
 
 pub returns-clause-removes : goal.returns-clause-removes
 returns-clause-removes g c =
     let before : List (List ℕ) = g.B.Blocks.blocks c.args.b.now in
-    let between : List (List ℕ) = g.B.Blocks.blocks c.replace_entry-removed.new.b in
+    let between : List (List ℕ) = g.B.Blocks.blocks c.fill_place-node.new.b in
     let dir = c.args.dir.now in
     let last : DirEntry = c.dir_entry-last.result in
     let same : g.B.Blocks.blocks c.dir_entry-last.new.b ≡ before = c.dir_entry-last.ensures.kept in
     let node : HasNode (g.B.Blocks.blocks c.dir_entry-last.new.b) c.args.number dir = subst (λ (d : List (List ℕ)). HasNode d c.args.number dir) (sym same) c.requires.node in
     let put : PutsEntry c.args.number before dir c.args.place last between =
-    subst (λ (d : List (List ℕ)). PutsEntry c.args.number d dir c.args.place last between) same (c.replace_entry-removed.ensures.puts c.args.number node) in
+    subst (λ (d : List (List ℕ)). PutsEntry c.args.number d dir c.args.place last between) same (c.fill_place-node.ensures.puts c.args.number node) in
     removed c.args.number before between (g.B.Blocks.blocks c.shrink.new.b) dir c.shrink.new.inode c.args.place last c.requires.node c.requires.within c.dir_entry-last.ensures.valid c.dir_entry-last.ensures.value put c.shrink.ensures.resizes
 
 pub returns-clause-answer : goal.returns-clause-answer
 returns-clause-answer g c = λ entries has.
     let before : List (List ℕ) = g.B.Blocks.blocks c.args.b.now in
     let dir = c.args.dir.now in
-    let place : ℕ = c.args.place in
     let same : g.B.Blocks.blocks c.dir_entry-last.new.b ≡ before = c.dir_entry-last.ensures.kept in
-    let lt : place < length entries = place_within before dir entries place has c.requires.within in
-    let was : slice_get entries place ≡ Some c.replace_entry-removed.result = c.replace_entry-removed.ensures.was entries (subst (λ (d : List (List ℕ)). HasEntries d dir entries) (sym same) has) in
-    let is : c.replace_entry-removed.result ≡ get_or entries place no_entry = same_Some _ _ (sym was ∙ slice_get-get_or entries place no_entry lt) in
-    ap (λ (entry : DirEntry). entry.node) is
+    c.fill_place-node.ensures.was entries (subst (λ (d : List (List ℕ)). HasEntries d dir entries) (sym same) has)
 
 pub returns-clause-follows : goal.returns-clause-follows
 returns-clause-follows g c =
     let trans = g.met.B.Blocks.follows_trans in
-    trans c.args.b.now c.replace_entry-removed.new.b c.shrink.new.b (trans c.args.b.now c.dir_entry-last.new.b c.replace_entry-removed.new.b c.dir_entry-last.ensures.follows c.replace_entry-removed.ensures.follows) c.shrink.ensures.follows
+    trans c.args.b.now c.fill_place-node.new.b c.shrink.new.b (trans c.args.b.now c.dir_entry-last.new.b c.fill_place-node.new.b c.dir_entry-last.ensures.follows c.fill_place-node.ensures.follows) c.shrink.ensures.follows

@@ -10,7 +10,7 @@ use Rattle.memfs_file.proofs.putting.put_bytes.Goals as goal
 pub put_part-requires-clause-on_disk : goal.put_part-requires-clause-on_disk
 put_part-requires-clause-on_disk g c =
     let was : List (List ℕ) = g.B.Blocks.blocks c.args.b.now in
-    let disk : List (List ℕ) = g.B.Blocks.blocks c.pointers_behind-behind.new.b in
+    let disk : List (List ℕ) = g.B.Blocks.blocks c.pointers_behind.new.b in
     let inode = c.args.inode.now in
     let index : ℕ = c.loop-index.index in
     let number : ℕ = c.requires.node.0 in
@@ -19,24 +19,24 @@ put_part-requires-clause-on_disk g c =
     let end : c.data_count-end.result ≡ data_blocks (c.args.at + length c.args.bytes.now) = c.data_count-end.ensures in
     let lt : index < data_blocks inode.size = omega (arith, end, few.0) in
     let named : c.block_named-block.result ≡ data_block was inode index =
-    c.block_named-block.ensures ∙ pointer_names was inode c.pointers_behind-behind.result c.data_count-end.result index c.pointers_behind-behind.ensures.pointers (omega arith) (omega (arith, end, few.0, few.1)) in
-    let puts = c.loop-index.invariant.puts number (subst (λ (d : List (List ℕ)). HasNode d number inode) (sym c.pointers_behind-behind.ensures.kept) has) in
-    let same : length (g.B.Blocks.blocks c.loop-index.b) ≡ length was = puts.changes.blocks ∙ ap length c.pointers_behind-behind.ensures.kept in
+    c.block_named-block.ensures ∙ pointer_names was inode c.pointers_behind.new.behind c.data_count-end.result index c.pointers_behind.ensures.pointers (omega arith) (omega (arith, end, few.0, few.1)) in
+    let puts = c.loop-index.invariant.puts number (subst (λ (d : List (List ℕ)). HasNode d number inode) (sym c.pointers_behind.ensures.kept) has) in
+    let same : length (g.B.Blocks.blocks c.loop-index.b) ≡ length was = puts.changes.blocks ∙ ap length c.pointers_behind.ensures.kept in
     omega (arith, named, same, on_disk was number inode index c.requires.sound has.0 lt)
 
 pub loop-index-init : goal.loop-index-init
 loop-index-init g c =
-    let disk : List (List ℕ) = g.B.Blocks.blocks c.pointers_behind-behind.new.b in
-    let sound : Sound disk = subst (λ (d : List (List ℕ)). Sound d) (sym c.pointers_behind-behind.ensures.kept) c.requires.sound in
+    let disk : List (List ℕ) = g.B.Blocks.blocks c.pointers_behind.new.b in
+    let sound : Sound disk = subst (λ (d : List (List ℕ)). Sound d) (sym c.pointers_behind.ensures.kept) c.requires.sound in
     record {
       puts = λ number has. none_put number disk c.args.inode.now c.args.at c.args.bytes.now sound has.0;
-      follows = g.met.B.Blocks.follows_refl c.pointers_behind-behind.new.b;
+      follows = g.met.B.Blocks.follows_refl c.pointers_behind.new.b;
     }
 
 pub loop-index-preserved : goal.loop-index-preserved
 loop-index-preserved g c =
     let was : List (List ℕ) = g.B.Blocks.blocks c.args.b.now in
-    let disk : List (List ℕ) = g.B.Blocks.blocks c.pointers_behind-behind.new.b in
+    let disk : List (List ℕ) = g.B.Blocks.blocks c.pointers_behind.new.b in
     let now : List (List ℕ) = g.B.Blocks.blocks c.loop-index.b in
     let after : List (List ℕ) = g.B.Blocks.blocks c.put_part.new.b in
     let inode = c.args.inode.now in
@@ -44,8 +44,8 @@ loop-index-preserved g c =
     let few = few_blocks c.requires.node.1.0 (c.args.at + length c.args.bytes.now) c.requires.within in
     let end : c.data_count-end.result ≡ data_blocks (c.args.at + length c.args.bytes.now) = c.data_count-end.ensures in
     let named : c.block_named-block.result ≡ data_block disk inode index =
-    c.block_named-block.ensures ∙ pointer_names was inode c.pointers_behind-behind.result c.data_count-end.result index c.pointers_behind-behind.ensures.pointers (omega arith) (omega (arith, end, few.0, few.1))
-    ∙ ap (λ (d : List (List ℕ)). data_block d inode index) (sym c.pointers_behind-behind.ensures.kept) in
+    c.block_named-block.ensures ∙ pointer_names was inode c.pointers_behind.new.behind c.data_count-end.result index c.pointers_behind.ensures.pointers (omega arith) (omega (arith, end, few.0, few.1))
+    ∙ ap (λ (d : List (List ℕ)). data_block d inode index) (sym c.pointers_behind.ensures.kept) in
     let put = c.put_part.ensures in
     record {
       puts = λ number has.
@@ -60,14 +60,14 @@ loop-index-preserved g c =
             off = λ place e outside. ap (λ (n : ℕ). get_or (block_bytes after n) (place % block_size) 0) (sym named) ∙ put.rest place e outside ∙ ap (λ (n : ℕ). get_or (block_bytes now n) (place % block_size) 0) named;
           }
           );
-      follows = g.met.B.Blocks.follows_trans c.pointers_behind-behind.new.b c.loop-index.b c.put_part.new.b c.loop-index.invariant.follows put.follows;
+      follows = g.met.B.Blocks.follows_trans c.pointers_behind.new.b c.loop-index.b c.put_part.new.b c.loop-index.invariant.follows put.follows;
     }
 
 pub returns-clause-puts : goal.returns-clause-puts
 returns-clause-puts g c = λ number has.
-    let disk : List (List ℕ) = g.B.Blocks.blocks c.pointers_behind-behind.new.b in
+    let disk : List (List ℕ) = g.B.Blocks.blocks c.pointers_behind.new.b in
     let now : List (List ℕ) = g.B.Blocks.blocks c.loop-index.b in
-    let kept = c.pointers_behind-behind.ensures.kept in
+    let kept = c.pointers_behind.ensures.kept in
     let there : HasNode disk number c.args.inode.now = subst (λ (d : List (List ℕ)). HasNode d number c.args.inode.now) (sym kept) has in
     subst (λ (d : List (List ℕ)). Puts number d c.args.inode.now c.args.at c.args.bytes.now now) kept
     (all_put number disk c.args.inode.now c.args.at c.args.bytes.now c.loop-index.index now (omega (arith, c.data_count-end.ensures)) (c.loop-index.invariant.puts number there))

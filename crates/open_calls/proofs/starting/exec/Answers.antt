@@ -21,7 +21,7 @@ program_for-found-requires-clause-works c =
     works_somewhere c.args.script.now c.args.objects.now some.0 some.1 c.heap_is_well_formed.ensures some.2 c.args.pid (alive_who_runs c.args.objects.now c.args.pid c.args.control c.requires.runs)
 
 pub program_for-found-requires-clause-programs : goal.program_for-found-requires-clause-programs
-program_for-found-requires-clause-programs c = are_programs c.args.script.now c.requires.stands.1.runs.valid
+program_for-found-requires-clause-programs c = are_programs c.args.script.now c.requires.stands.1.valid
 
 -- ---- the program starts
 

@@ -26,7 +26,7 @@ pub shed-requires-clause-room : goal.shed-requires-clause-room
 shed-requires-clause-room c = room_still c.args.objects.now.heap c.forget_memory.new.objects.heap c.forget_memory.ensures.takes c.requires.room
 
 pub begin-requires-clause-valid : goal.begin-requires-clause-valid
-begin-requires-clause-valid c = c.requires.stands.1.runs.valid
+begin-requires-clause-valid c = c.requires.stands.1.valid
 
 pub begin-requires-clause-runs : goal.begin-requires-clause-runs
 begin-requires-clause-runs c = c.shed.ensures.runs c.args.control (c.forget_memory.ensures.runs c.args.control c.requires.runs)

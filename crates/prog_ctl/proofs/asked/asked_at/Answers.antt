@@ -1,4 +1,4 @@
-use Rattle.std.proofs.Common.{◌≡◌, ◌≤◌, IfSome, Option, Some, length, ap, sym, ◌∙◌, subst}
+use Rattle.std.proofs.Common.{◌≤◌, IfSome, Option, Some, length, ap, sym, ◌∙◌, subst}
 use Rattle.std.specs.List.{AllByRecursion}
 use Rattle.std.specs.Prelude.{option_copied}
 use Rattle.kabi_types.specs.declared.scripts.Statement.{Statement}

@@ -1,10 +1,6 @@
-use Rattle.std.proofs.Common.{map, subst, sym}
-use Rattle.posix_defs.specs.Control.{value_of}
-use Rattle.prog_ctl.specs.Runnable.{MovesBytes, TakesDescriptor, TakesMore, TakesPath, TakesSocket}
+use Rattle.std.proofs.Common.{subst, sym}
+use Rattle.prog_ctl.specs.Runnable.{MovesBytes, TakesDescriptor, TakesMore, TakesSocket}
 use Rattle.prog_ctl.proofs.made.made_on_files.Goals as goal
-
-pub returns-in-OpenFile : goal.returns-in-OpenFile
-returns-in-OpenFile c = λ _. c.made_with_texts.ensures c.args.control.now.done (subst TakesMore (sym c.in-OpenFile.is) tt)
 
 pub returns-in-Close : goal.returns-in-Close
 returns-in-Close c = λ _. c.made_on_descriptor.ensures c.args.texts.now c.args.control.now.done (subst TakesDescriptor (sym c.in-Close.is) tt)
@@ -36,27 +32,6 @@ returns-in-Ftruncate c = λ _. c.made_on_descriptor-in-Ftruncate.ensures c.args.
 pub returns-in-Fstat : goal.returns-in-Fstat
 returns-in-Fstat c = λ _. c.made_on_descriptor-in-Fstat.ensures c.args.texts.now c.args.control.now.done (subst TakesDescriptor (sym c.in-Fstat.is) tt)
 
-pub returns-in-Stat : goal.returns-in-Stat
-returns-in-Stat c = λ _. c.made_on_path.ensures (map (value_of c.args.control.now) c.args.operands.now) c.args.control.now.done (subst TakesPath (sym c.in-Stat.is) tt)
-
-pub returns-in-Chdir : goal.returns-in-Chdir
-returns-in-Chdir c = λ _. c.made_on_path-in-Chdir.ensures (map (value_of c.args.control.now) c.args.operands.now) c.args.control.now.done (subst TakesPath (sym c.in-Chdir.is) tt)
-
-pub returns-in-Mkdir : goal.returns-in-Mkdir
-returns-in-Mkdir c = λ _. c.made_on_path-in-Mkdir.ensures (map (value_of c.args.control.now) c.args.operands.now) c.args.control.now.done (subst TakesPath (sym c.in-Mkdir.is) tt)
-
-pub returns-in-Rmdir : goal.returns-in-Rmdir
-returns-in-Rmdir c = λ _. c.made_on_path-in-Rmdir.ensures (map (value_of c.args.control.now) c.args.operands.now) c.args.control.now.done (subst TakesPath (sym c.in-Rmdir.is) tt)
-
-pub returns-in-Unlink : goal.returns-in-Unlink
-returns-in-Unlink c = λ _. c.made_on_path-in-Unlink.ensures (map (value_of c.args.control.now) c.args.operands.now) c.args.control.now.done (subst TakesPath (sym c.in-Unlink.is) tt)
-
-pub returns-in-Link : goal.returns-in-Link
-returns-in-Link c = λ _. c.made_with_texts-in-Link.ensures c.args.control.now.done (subst TakesMore (sym c.in-Link.is) tt)
-
-pub returns-in-Rename : goal.returns-in-Rename
-returns-in-Rename c = λ _. c.made_with_texts-in-Rename.ensures c.args.control.now.done (subst TakesMore (sym c.in-Rename.is) tt)
-
 pub returns-in-Socket : goal.returns-in-Socket
 returns-in-Socket c = λ _. c.made_on_socket.ensures c.args.control.now.done (subst TakesSocket (sym c.in-Socket.is) tt)
 
@@ -79,4 +54,4 @@ pub returns-in-Shutdown : goal.returns-in-Shutdown
 returns-in-Shutdown c = λ _. c.made_on_socket-in-Shutdown.ensures c.args.control.now.done (subst TakesSocket (sym c.in-Shutdown.is) tt)
 
 pub returns-in-Poll : goal.returns-in-Poll
-returns-in-Poll c = λ _. c.made_with_texts-in-Poll.ensures c.args.control.now.done (subst TakesMore (sym c.in-Poll.is) tt)
+returns-in-Poll c = λ _. c.made_with_texts.ensures c.args.control.now.done (subst TakesMore (sym c.in-Poll.is) tt)

@@ -33,5 +33,5 @@ returns-in_err-take_line-2 c =
 pub returns : goal.returns
 returns c =
     let here = c.loop-first in
-    finished c.args.text.now c.take_line-2.new.self c.may_end.result c.may_end.ensures
+    finished c.args.text.now c.take_line-2.new.self c.may_end.result c.map_err.result c.may_end.ensures c.map_err.ensures.cases
     (read_last c.args.text.now here.rest.now here.state c.take_line-2.new.self here.line here.invariant.0 c.in_default.ensures c.in_ok-take_line-2.ensures)

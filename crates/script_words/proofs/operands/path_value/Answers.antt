@@ -1,7 +1,7 @@
 use Rattle.std.proofs.Common.{arith, ap, sym, ◌∙◌}
 use Rattle.posix_defs.specs.ScriptLines.{path_value}
-use Rattle.posix_defs.specs.ScriptValues.{path, value}
-use Rattle.script_words.proofs.FewWords.{swapped, two_are}
+use Rattle.posix_defs.specs.ScriptValues.{both, path, value, with}
+use Rattle.script_words.proofs.FewWords.{of_value_and_text, swapped, two_are}
 use Rattle.script_words.proofs.Told.{told_as}
 use Rattle.script_words.proofs.operands.path_value.Goals as goal
 
@@ -10,4 +10,4 @@ returns-in-len2 c =
     let first = c.first-item.result in
     let second = c.second-item.result in
     let are = two_are c.args.words.now first second (omega arith) (omega arith) c.first-item.is c.second-item.is in
-    told_as _ c.value_and_text.result (swapped (value second) (path first) ∙ ap path_value (sym are)) (c.value_and_text.ensures (value second) (path first) c.operand.ensures c.path.ensures)
+    told_as _ c.value_and_text.result (ap (λ said. with of_value_and_text (both said (path first))) c.value.ensures ∙ swapped (value second) (path first) ∙ ap path_value (sym are)) (c.value_and_text.ensures (path first) c.path.ensures)

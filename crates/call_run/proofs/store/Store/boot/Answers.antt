@@ -1,4 +1,4 @@
-use Rattle.std.proofs.Common.{◌≡◌, ℕ, ◌+◌, ◌≤◌, ◌∙◌, ap, arith, refl, subst, sym}
+use Rattle.std.proofs.Common.{◌≡◌, ℕ, true, false, ◌+◌, ◌≤◌, ◌∙◌, ap, arith, refl, subst, sym}
 use Rattle.std.specs.Prelude.{codes}
 use Rattle.kabi_types.specs.declared.scripts.Script.{Script}
 use Rattle.machine_laws.specs.Reached.{boots}
@@ -9,7 +9,7 @@ use Rattle.posix_defs.specs.ValidScript.{IsValid}
 use Rattle.posix_defs.specs.World.{boot_world, live_of}
 use Rattle.store_objects.specs.Objects.{AreKept}
 use Rattle.store_objects.proofs.Booting.{boot_stands, boot_stands_for}
-use Rattle.call_run.proofs.CanRun.{each_script}
+use Rattle.call_run.specs.Stores.{Stands}
 use Rattle.call_run.proofs.store.Store.boot.Goals as goal
 
 pub go_to_call-requires : goal.go_to_call-requires
@@ -27,18 +27,27 @@ begins script valid = few (live_of (boot_world script)) script.heap (boot_live s
     few : (live size : ℕ) → live ≡ 640 → 8192 ≤ size → live + reserve ≤ size
     few live size is least = omega (arith, is, least)
 
+-- what is known at boot is stale
+never : {X : Type 0} → true ≡ false → X
+never e = cc
+
 pub returns-clause-booted : goal.returns-clause-booted
-returns-clause-booted g c = record {
-  stands = boot_stands_for c.args.script.now c.in_ok-script.script c.in_ok-objects.objects c.place_of.result c.go_to_call.new.control c.requires.valid (each_script c.args.script.now) c.in_ok-script.ensures
-      (c.place_of.ensures ∙ ap (place_of (codes "init")) c.items.ensures) c.go_to_call.ensures.settled
-      c.go_to_call.ensures.stands c.go_to_call.ensures.rests c.in_ok-objects.ensures;
-  reached = boots;
-  spare = begins c.args.script.now c.requires.valid;
-}
+returns-clause-booted g c =
+    subst (λ script. Stands (record { script = script; objects = c.in_ok-objects.objects; known = c.new-2.result.items; stale = true }) (boot_world c.args.script.now)) (sym c.in_ok-script.ensures)
+    (record {
+      objects = record {
+        stands = boot_stands_for c.args.script.now c.in_ok-script.script c.in_ok-objects.objects c.place_of.result c.go_to_call.new.control c.requires.valid c.in_ok-script.ensures
+            (c.place_of.ensures ∙ ap (place_of (codes "init")) c.items.ensures) c.go_to_call.ensures.settled
+            c.go_to_call.ensures.stands c.go_to_call.ensures.rests c.in_ok-objects.ensures;
+        reached = boots;
+        spare = begins c.args.script.now c.requires.valid;
+      };
+      told = λ fresh. never fresh;
+    })
 
 pub invariant_of-result : goal.invariant_of-result
 invariant_of-result g c =
-    let stands = boot_stands_for c.args.script.now c.in_ok-script.script c.in_ok-objects.objects c.place_of.result c.go_to_call.new.control c.requires.valid (each_script c.args.script.now) c.in_ok-script.ensures
+    let stands = boot_stands_for c.args.script.now c.in_ok-script.script c.in_ok-objects.objects c.place_of.result c.go_to_call.new.control c.requires.valid c.in_ok-script.ensures
     (c.place_of.ensures ∙ ap (place_of (codes "init")) c.items.ensures) c.go_to_call.ensures.settled
     c.go_to_call.ensures.stands c.go_to_call.ensures.rests c.in_ok-objects.ensures in
     subst (λ script. AreKept script c.in_ok-objects.objects) (sym c.in_ok-script.ensures) stands.kept

@@ -7,4 +7,4 @@ evictable-requires g c = c.self.invariant.caches
 
 pub returns : goal.returns
 returns g c = λ world stands.
-    c.evictable.ensures c.self.inside.script world (subst (λ store. StandsFor store.script store.objects world) (sym c.self.view_is) stands.stands)
+    c.evictable.ensures c.self.inside.script world (subst (λ store. StandsFor store.script store.objects world) (sym c.self.view_is) stands.objects.stands)

@@ -5,9 +5,9 @@ use Rattle.call_run.proofs.store.StoreTurner.next.Goals as goal
 
 pub next-requires : goal.next-requires
 next-requires g c =
-    let some = c.requires in (some.0, subst (λ store. StandsFor store.script store.objects some.0) (sym c.self.view_is) some.1.stands, some.2)
+    let some = c.requires in (some.0, subst (λ store. StandsFor store.script store.objects some.0) (sym c.self.view_is) some.1.objects.stands, some.2)
 
 pub returns : goal.returns
 returns g c = λ world stands alive.
-    c.next.ensures world (subst (λ store. StandsFor store.script store.objects world) (sym c.self.view_is) stands.stands) alive
+    c.next.ensures world (subst (λ store. StandsFor store.script store.objects world) (sym c.self.view_is) stands.objects.stands) alive
     ∙ ap (λ store. call_of store.script world.plain c.args.pid) c.self.view_is

@@ -1,6 +1,24 @@
 use Rattle.std.proofs.Common.{subst, sym}
-use Rattle.call_run.specs.Stores.{IsStoreOf}
+use Rattle.posix_defs.specs.Control as program
+use Rattle.posix_defs.specs.Plain.{control_of}
+use Rattle.posix_defs.specs.Relief.{refused_in}
+use Rattle.kabi_values.specs.declared.errnos.Errno.TheVariants.{ENOMEM}
+use Rattle.kabi_values.specs.declared.replies.Reply.TheVariants.{Fail}
+use Rattle.call_run.specs.Stores.{IsStoreOf, Stands}
+use Rattle.call_run.proofs.Telling.{told_further}
 use Rattle.call_run.proofs.store.StoreTurner.refuse.Goals as goal
 
 pub returns-clause-since : goal.returns-clause-since
-returns-clause-since g c = λ world stands. c.refuse.ensures.since world (subst (λ store. IsStoreOf store.script store.objects world) (sym c.self.view_is) stands)
+returns-clause-since g c = λ world stands. c.refuse.ensures.since world (subst (λ store. IsStoreOf store.script store.objects world) (sym c.self.view_is) stands.objects)
+
+pub returns-clause-refused : goal.returns-clause-refused
+returns-clause-refused g c = λ world stands alive.
+    let before = subst (λ store. Stands store world) (sym c.self.view_is) stands in
+    let refused : Stands (record { script = c.self.inside.script; objects = c.refuse.new.objects; known = c.forget.new.known.items; stale = c.self.inside.stale }) (refused_in c.self.inside.script world c.args.pid) =
+    record {
+      objects = c.refuse.ensures.refused world before.objects alive;
+      told = λ fresh.
+          told_further c.self.inside.script world.plain c.args.pid (program.after c.self.inside.script (control_of world.plain c.args.pid) (Fail ENOMEM)) c.self.inside.known.items
+          c.forget.new.known.items (c.forget.ensures.gone, c.forget.ensures.others) (before.told fresh);
+    } in
+    subst (λ store. Stands (record { script = c.self.inside.script; objects = c.refuse.new.objects; known = c.forget.new.known.items; stale = c.self.inside.stale }) (refused_in store.script world c.args.pid)) c.self.view_is refused

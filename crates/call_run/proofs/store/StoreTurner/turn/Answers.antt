@@ -5,28 +5,35 @@ use Rattle.posix_defs.specs.Process.{is_alive}
 use Rattle.posix_defs.specs.Sizes.{reserve}
 use Rattle.posix_defs.specs.World.{live_of}
 use Rattle.posix_defs.specs.Turn.{TurnsTo}
-use Rattle.call_run.specs.Stores.{IsStoreOf}
+use Rattle.call_run.specs.Stores.{IsStoreOf, Stands}
 use Rattle.call_run.proofs.store.StoreTurner.turn.Goals as goal
 
-pub turn-requires-clause-may : goal.turn-requires-clause-may
-turn-requires-clause-may g c =
+pub turn-turned-requires-clause-may : goal.turn-turned-requires-clause-may
+turn-turned-requires-clause-may g c =
     let may = c.requires.may in (
       may.0,
-      subst (λ store. IsStoreOf store.script store.objects may.0) (sym c.self.view_is) may.1,
+      subst (λ store. IsStoreOf store.script store.objects may.0) (sym c.self.view_is) may.1.objects,
       subst (λ store. is_alive may.0.plain.table c.args.pid ≡ true → c.args.call.now ≡ call_of store.script may.0.plain c.args.pid) (sym c.self.view_is) may.2,
       subst (λ store. live_of may.0 + bound c.args.call.now + reserve ≤ store.script.heap) (sym c.self.view_is) may.3,
     )
 
+pub keep_in_mind-requires : goal.keep_in_mind-requires
+keep_in_mind-requires g c =
+    let may = c.requires.may in
+    let turned = c.turn-turned.ensures.turned may.0 (subst (λ store. IsStoreOf store.script store.objects may.0) (sym c.self.view_is) may.1.objects) in
+    (turned.0, turned.1.stands)
+
 pub returns-clause-turned : goal.returns-clause-turned
 returns-clause-turned g c = λ world stands.
-    let turned = c.turn.ensures.turned world (subst (λ store. IsStoreOf store.script store.objects world) (sym c.self.view_is) stands) in (
+    let before = subst (λ store. Stands store world) (sym c.self.view_is) stands in
+    let turned = c.turn-turned.ensures.turned world before.objects in (
       turned.0,
-      turned.1,
-      subst (λ store. TurnsTo store.script world c.args.pid c.args.call.now c.turn.result turned.0) c.self.view_is turned.2,
+      record { objects = turned.1; told = c.keep_in_mind.ensures world turned.0 before.told turned.1.stands turned.2 },
+      subst (λ store. TurnsTo store.script world c.args.pid c.args.call.now c.turn-turned.result turned.0) c.self.view_is turned.2,
     )
 
 pub returns-clause-since : goal.returns-clause-since
-returns-clause-since g c = λ world stands. c.turn.ensures.since world (subst (λ store. IsStoreOf store.script store.objects world) (sym c.self.view_is) stands)
+returns-clause-since g c = λ world stands. c.turn-turned.ensures.since world (subst (λ store. IsStoreOf store.script store.objects world) (sym c.self.view_is) stands.objects)
 
 pub returns-clause-high : goal.returns-clause-high
-returns-clause-high g c = λ world stands. c.turn.ensures.high world (subst (λ store. IsStoreOf store.script store.objects world) (sym c.self.view_is) stands)
+returns-clause-high g c = λ world stands. c.turn-turned.ensures.high world (subst (λ store. IsStoreOf store.script store.objects world) (sym c.self.view_is) stands.objects)

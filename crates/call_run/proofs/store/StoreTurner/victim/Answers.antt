@@ -5,6 +5,6 @@ use Rattle.call_run.proofs.store.StoreTurner.victim.Goals as goal
 
 pub returns : goal.returns
 returns g c = λ world stands.
-    let at = subst (λ store. StandsFor store.script store.objects world) (sym c.self.view_is) stands.stands in
+    let at = subst (λ store. StandsFor store.script store.objects world) (sym c.self.view_is) stands.objects.stands in
     c.victim.ensures c.self.inside.script world at
     ∙ ap (λ store. victim_of store.script.policy world.plain world.account) c.self.view_is

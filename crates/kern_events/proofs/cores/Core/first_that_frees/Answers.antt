@@ -19,7 +19,7 @@ event_of-requires g c = found_there _ _ _ _ c.loop-place.invariant.items c.loop-
 pub returns : goal.returns
 returns g c = λ s at sound.
     let script = g.T.Turner.script c.args.self.now.store in
-    c.present_at.ensures ∙ ap (λ events. slice_get events 0) (c.others.ensures s at ∙ sym (others_ask_nothing script s))
+    c.first_other.ensures s at ∙ ap (λ events. slice_get events 0) (sym (others_ask_nothing script s))
     ∙ ap (λ tasks. slice_get (filter asks_nothing (events_in script s tasks ++ others_in script s)) 0)
     (sym (drop_all _ _ c.loop-place-test.false))
     ∙ ap (λ events. slice_get events 0) (c.loop-place.invariant.rest s at sound)

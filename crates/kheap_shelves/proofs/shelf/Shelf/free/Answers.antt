@@ -1,21 +1,24 @@
 use Rattle.std.proofs.Common.{◌+◌, ap, arith, ◌∙◌}
 use Rattle.kheap_shelves.specs.Objects.{object, count}
 use Rattle.kheap_shelves.proofs.ObjectLemmas.{InUse-within, object-without, count-without}
-use Rattle.kheap_shelves.proofs.ShelfLemmas.{free_has_room, shelved-free, IsSound-free}
+use Rattle.kheap_shelves.proofs.ShelfLemmas.{used_given, freed_fits, objects-free, IsShelf-free}
 use Rattle.kheap_shelves.proofs.shelf.Shelf.free.Goals as goal
+
+pub let_go-place-requires-clause-used : goal.let_go-place-requires-clause-used
+let_go-place-requires-clause-used g c = used_given c.self.inside.slab c.self.inside.limit c.self.inside.places.items _ c.self.inside.free.items _ c.self.inside.spare.items _ c.self.invariant c.args.key (rw (← c.self.view_is) at c.requires)
 
 pub let_go-place-requires-clause-room : goal.let_go-place-requires-clause-room
 let_go-place-requires-clause-room g c =
-    let more = free_has_room c.self.inside.slab c.self.inside.places.items c.self.inside.free.items c.self.inside.spare.items _ _ c.args.key c.self.invariant (rw (← c.self.view_is) at c.requires) in
+    let more = freed_fits c.self.inside.slab c.self.inside.limit c.self.inside.places.items _ c.self.inside.free.items _ c.self.inside.spare.items _ c.self.invariant c.args.key (rw (← c.self.view_is) at c.requires) in
     omega (arith, c.self.inside.free.ok, more)
 
 pub invariant_of-self : goal.invariant_of-self
 invariant_of-self g c =
-    rw (c.let_go-place.ensures.gone, c.let_go-place.ensures.freed, c.let_go-place.ensures.capacity, c.push_reserved.ensures.items, c.push_reserved.ensures.capacity)
-    (IsSound-free c.self.inside.slab c.self.inside.places.items c.self.inside.free.items c.self.inside.spare.items _ _ c.args.key c.let_go-place.result c.self.invariant c.let_go-place.ensures.place)
+    rw (c.let_go-place.ensures.gone, c.let_go-place.ensures.freed, c.let_go-place.ensures.capacity, c.let_go-place.ensures.places_capacity, c.push_reserved.ensures.items, c.push_reserved.ensures.capacity)
+    (IsShelf-free c.self.inside.slab c.self.inside.limit c.self.inside.places.items _ c.self.inside.free.items _ c.self.inside.spare.items _ c.self.invariant c.args.key c.let_go-place.result c.let_go-place.ensures.place)
 
 pub returns-clause-kept : goal.returns-clause-kept
-returns-clause-kept g c = rw (c.let_go-place.ensures.gone, ← c.self.view_is) (shelved-free c.self.inside.slab c.self.inside.places.items c.args.key)
+returns-clause-kept g c = rw (c.let_go-place.ensures.gone, ← c.self.view_is) (objects-free c.self.inside.slab c.self.inside.limit c.self.inside.places.items _ c.self.inside.free.items _ c.self.inside.spare.items _ c.self.invariant c.args.key c.let_go-place.result c.let_go-place.ensures.place)
 
 pub returns-clause-gone : goal.returns-clause-gone
 returns-clause-gone g c = ap (λ objects. object objects c.args.key) (returns-clause-kept g c) ∙ object-without c.args.self.now c.args.key (InUse-within c.args.self.now c.args.key c.requires)

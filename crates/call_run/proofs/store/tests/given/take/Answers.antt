@@ -16,7 +16,7 @@ pub turn-requires-clause-may : goal.turn-requires-clause-may
 turn-requires-clause-may g c =
     let some = c.requires in
     let lived : c.alive.result ≡ true = cc in
-    let at : StandsFor c.store.inside.script c.store.inside.objects some.0 = subst (λ store. StandsFor store.script store.objects some.0) (sym c.store.view_is) some.1.stands in
+    let at : StandsFor c.store.inside.script c.store.inside.objects some.0 = subst (λ store. StandsFor store.script store.objects some.0) (sym c.store.view_is) some.1.objects.stands in
     let live = live_is c.store.inside.script c.store.inside.objects some.0 at c.heap-heap.ensures.well_formed in
     let size : c.store.inside.objects.heap.heap ≡ c.store.inside.script.heap = c.store.invariant.size in (
       some.0,

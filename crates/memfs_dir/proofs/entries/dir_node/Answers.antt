@@ -1,0 +1,12 @@
+use Rattle.std.proofs.Common.{ℕ, ◌/◌, ◌<◌, List, length, get_or}
+use Rattle.kabi_values.specs.declared.inodes.DirEntry.{DirEntry}
+use Rattle.posix_defs.specs.TreeChanges.{no_entry}
+use Rattle.memfs_dir.proofs.DirectoryBytes.{block_got, spelled, place_within}
+use Rattle.memfs_dir.proofs.entries.dir_node.Goals as goal
+
+pub returns-clause-value : goal.returns-clause-value
+returns-clause-value g c = λ entries has.
+    let disk : List (List ℕ) = g.B.Blocks.blocks c.args.b.now in
+    let is = block_got disk (g.B.Blocks.blocks c.block_at-number.new.b) c.args.dir.now (c.args.place / 32) c.block_at-number.result c.get.result c.block_at-number.ensures.value c.block_at-number.ensures.kept c.get.ensures.value in
+    let lt : c.args.place < length entries = place_within disk c.args.dir.now entries c.args.place has c.requires.within in
+    c.node_in.ensures (get_or entries c.args.place no_entry) (spelled disk c.args.dir.now entries c.args.place c.get.result has lt is)

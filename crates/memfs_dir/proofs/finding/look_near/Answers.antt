@@ -1,0 +1,87 @@
+use Rattle.std.proofs.Common.{◌≡◌, ℕ, suc, ◌+◌, ◌*◌, ◌/◌, ◌<◌, List, length, get_or, Some, refl, sym, ap, subst, ◌∙◌, arith}
+use Rattle.kabi_values.specs.declared.inodes.DirEntry.{DirEntry}
+use Rattle.posix_defs.specs.Asking.{AskedInTurn}
+use Rattle.posix_defs.specs.DiskContents.{data_block}
+use Rattle.posix_defs.specs.TreeChanges.{no_entry}
+use Rattle.disk_laws.proofs.DirectoryEntries.{size_of_entries}
+use Rattle.memfs_dir.specs.Looking.{IsLookOf, asked_to_find, found_place}
+use Rattle.memfs_dir.specs.declared.finding.FoundEntry.{FoundEntry}
+use Rattle.memfs_dir.proofs.DirectoryBytes.{block_got}
+use Rattle.memfs_dir.proofs.Found.{none_called, look_found, missing_on, spelled_in, asked_further, direct, near_asked}
+use Rattle.memfs_dir.proofs.finding.look_near.Goals as goal
+
+pub look_in-requires-clause-spelled : goal.look_in-requires-clause-spelled
+look_in-requires-clause-spelled g c = λ slot lt.
+    let disk : List (List ℕ) = g.B.Blocks.blocks c.args.b.now in
+    let dir = c.args.dir.now in
+    let index : ℕ = c.loop-index.index in
+    let entries : List DirEntry = c.requires.entries.0 in
+    let has = c.requires.entries.1 in
+    let same : g.B.Blocks.blocks c.loop-index.b ≡ disk = c.loop-index.invariant.kept in
+    let block : ℕ = get_or dir.direct index 0 in
+    let number : block ≡ data_block disk dir index = direct disk dir index (omega (arith, c.loop-index-test.true, c.div_ceil-index-end.ensures, c.requires.near)) block refl in
+    let is = block_got disk (g.B.Blocks.blocks c.loop-index.b) dir index block c.get.result number same c.get.ensures.value in
+    let size = size_of_entries disk dir entries has in
+    let within : 32 * index + slot < length entries = omega (arith, lt, c.min-here.ensures, size) in
+    (get_or entries (32 * index + slot) no_entry, spelled_in disk dir entries index slot c.get.result has (omega (arith, lt, c.min-here.ensures)) within is)
+
+pub returns-in-Some-clause-value : goal.returns-in-Some-clause-value
+returns-in-Some-clause-value g c = λ entries has.
+    let disk : List (List ℕ) = g.B.Blocks.blocks c.args.b.now in
+    let dir = c.args.dir.now in
+    let index : ℕ = c.loop-index.index in
+    let found = c.in-Some.found in
+    let same : g.B.Blocks.blocks c.loop-index.b ≡ disk = c.loop-index.invariant.kept in
+    let block : ℕ = get_or dir.direct index 0 in
+    let number : block ≡ data_block disk dir index = direct disk dir index (omega (arith, c.loop-index-test.true, c.div_ceil-index-end.ensures, c.requires.near)) block refl in
+    let is = block_got disk (g.B.Blocks.blocks c.loop-index.b) dir index block c.get.result number same c.get.ensures.value in
+    let size = size_of_entries disk dir entries has in
+    let slot : found.place < 32 = omega (arith, c.in-Some.ensures.found.0, c.min-here.ensures) in
+    let within : 32 * index + found.place < length entries = omega (arith, c.in-Some.ensures.found.0, c.min-here.ensures, size) in
+    subst (λ (entry : FoundEntry). IsLookOf c.args.name.now entries (Some entry)) (sym c.behind.ensures)
+    (look_found disk dir entries index found.place found.node c.get.result c.args.name.now has slot within is (c.loop-index.invariant.missing entries has) c.in-Some.ensures.first c.in-Some.ensures.found.1 c.in-Some.ensures.node)
+
+pub returns-in-Some-clause-asked : goal.returns-in-Some-clause-asked
+returns-in-Some-clause-asked g c =
+    let disk : List (List ℕ) = g.B.Blocks.blocks c.args.b.now in
+    let dir = c.args.dir.now in
+    let index : ℕ = c.loop-index.index in
+    let found = c.in-Some.found in
+    let same : g.B.Blocks.blocks c.loop-index.b ≡ disk = c.loop-index.invariant.kept in
+    let block : ℕ = get_or dir.direct index 0 in
+    let number : block ≡ data_block disk dir index = direct disk dir index (omega (arith, c.loop-index-test.true, c.div_ceil-index-end.ensures, c.requires.near)) block refl in
+    let slot : found.place < 32 = omega (arith, c.in-Some.ensures.found.0, c.min-here.ensures) in
+    let count : (32 * index + found.place) / 32 + 1 ≡ suc index = omega (arith, slot) in
+    subst (λ (entry : FoundEntry). AskedInTurn g.B.Blocks.asked c.args.b.now (asked_to_find disk dir (found_place (Some entry))) c.get.new.self) (sym c.behind.ensures)
+    (asked_further g.B.Blocks.asked disk dir index block ((32 * index + found.place) / 32 + 1) c.args.b.now c.loop-index.b c.loop-index.b c.get.new.self number count
+    c.loop-index.invariant.asked (near_asked g.B.Blocks.asked dir index c.loop-index.b (omega (arith, c.loop-index-test.true, c.div_ceil-index-end.ensures, c.requires.near))) c.get.ensures.asked)
+
+pub loop-index-preserved : goal.loop-index-preserved
+loop-index-preserved g c =
+    let disk : List (List ℕ) = g.B.Blocks.blocks c.args.b.now in
+    let dir = c.args.dir.now in
+    let index : ℕ = c.loop-index.index in
+    let same : g.B.Blocks.blocks c.loop-index.b ≡ disk = c.loop-index.invariant.kept in
+    let block : ℕ = get_or dir.direct index 0 in
+    let number : block ≡ data_block disk dir index = direct disk dir index (omega (arith, c.loop-index-test.true, c.div_ceil-index-end.ensures, c.requires.near)) block refl in
+    let is = block_got disk (g.B.Blocks.blocks c.loop-index.b) dir index block c.get.result number same c.get.ensures.value in
+    let trans = g.met.B.Blocks.follows_trans in
+    let next : index + 1 ≡ suc index = omega arith in
+    record {
+      kept = c.get.ensures.kept ∙ same;
+      follows = trans c.args.b.now c.loop-index.b c.get.new.self c.loop-index.invariant.follows c.get.ensures.follows;
+      asked =
+          asked_further g.B.Blocks.asked disk dir index block (index + 1) c.args.b.now c.loop-index.b c.loop-index.b c.get.new.self number next
+          c.loop-index.invariant.asked (near_asked g.B.Blocks.asked dir index c.loop-index.b (omega (arith, c.loop-index-test.true, c.div_ceil-index-end.ensures, c.requires.near))) c.get.ensures.asked;
+      missing = λ entries has k k_lt below.
+          let size = size_of_entries disk dir entries has in
+          missing_on disk dir entries index c.min-here.result c.get.result c.args.name.now has (omega (arith, c.min-here.ensures)) is (c.loop-index.invariant.missing entries has)
+          (c.in_default.ensures.none refl) k k_lt (omega (arith, c.min-here.ensures, size, k_lt, below));
+    }
+
+pub returns-clause-value : goal.returns-clause-value
+returns-clause-value g c = λ entries has.
+    let disk : List (List ℕ) = g.B.Blocks.blocks c.args.b.now in
+    let size = size_of_entries disk c.args.dir.now entries has in
+    let end = c.div_ceil-index-end.ensures in
+    (sym (none_called entries c.args.name.now (λ k lt. c.loop-index.invariant.missing entries has k lt (omega (arith, lt, size, c.loop-index-test.false, end)))), tt)
