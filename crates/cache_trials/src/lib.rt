@@ -1,4 +1,4 @@
-//! Each cache by hand, and the order of use beside a plain one. Tests alone.
+//! Each cache by hand, with the heap's bytes at each step, and the order of use beside a plain one. Tests alone.
 #![tactic(auto)]
 
 #[cfg(test)]
@@ -9,3 +9,5 @@ mod index;
 mod names;
 #[cfg(test)]
 mod nodes;
+#[cfg(test)]
+mod steps;
