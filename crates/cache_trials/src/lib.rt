@@ -1,4 +1,4 @@
-//! Each cache by hand, with the heap's bytes at each step, and the order of use beside a plain one. Tests alone.
+//! Each cache by hand, with the heap's bytes at each step, and the order of use. Tests alone.
 #![tactic(auto)]
 
 #[cfg(test)]
