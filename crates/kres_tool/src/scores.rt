@@ -6,7 +6,7 @@ ghost use Rattle.posix_defs.specs.Victim.{score_of};
 
 use kabi_types::Weight;
 
-/// What the policy `heaviest` goes by: the bytes that would be free without the process.
+/// What the policy `heaviest` goes by, in bytes: the process itself, the frames and the groups of pages of its memory, and its descriptors.
 pub fn score_by_weight(weight: Weight) -> u64
     ensures { result ≡ score_of Heaviest weight }
 {
