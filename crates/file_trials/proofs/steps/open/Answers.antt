@@ -1,5 +1,5 @@
 use Rattle.file_trials.proofs.Working.{desk_after, works}
-use Rattle.file_trials.proofs.steps.open_new.Goals as goal
+use Rattle.file_trials.proofs.steps.open.Goals as goal
 
 pub open_path-told-requires-clause-works : goal.open_path-told-requires-clause-works
 open_path-told-requires-clause-works g c = works c.args.desk.now.heap c.args.desk.now.procs c.args.desk.now.tree c.requires
