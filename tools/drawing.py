@@ -342,7 +342,9 @@ class Picture:
         taken = []
         here = [it for it in labels if self.first <= it[0] <= self.last]
         for label in [it for it in here if it[2] == "red"]:
-            self.label(y, label, here, taken) or self.label(y, label, [it for it in here if it[2] == "red"], taken)
+            # Where it has no room before the next label, its shortest form takes that of others.
+            red = [it for it in here if it[2] == "red"]
+            self.label(y, label, here, taken) or self.label(y, (label[0], label[1][-1:], label[2]), red, taken)
         for label in [it for it in here if it[2] != "red"]:
             self.label(y, label, here, taken)
 

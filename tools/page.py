@@ -1,6 +1,7 @@
 """Makes a page of a run: one HTML file with the picture, the report's lines, and what is so after each event."""
 import json
 import os
+import re
 from html import escape
 
 from report import KEPT_BACK
@@ -64,9 +65,7 @@ class Page:
         # What stands in a script mustn't end it.
         filled = {"title": escape(self.told.title), "dark": dark_rules(), "picture": picture,
                   "data": json.dumps(data, ensure_ascii=False).replace("<", "\\u003c")}
-        for name in ("title", "dark", "picture", "data"):
-            page = page.replace("{{%s}}" % name, filled[name], 1)
-        return page
+        return re.sub(r"\{\{(\w+)\}\}", lambda found: filled[found[1]], page)
 
     def event(self, event):
         """What is told of an event."""

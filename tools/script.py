@@ -341,6 +341,12 @@ def each(readers):
     return told
 
 
+def comment_among(words):
+    """The fault of words of which one begins a comment; None where none does."""
+    comment = next((it for it in words if it.text.startswith("#") or it.text == "//"), None)
+    return comment and comment.fault("unknown word", "nothing", "A comment stands on a line of its own, which begins with #.")
+
+
 def too_few(head, words, names, form):
     """The fault of a statement that lacks an operand: the first at whose place something else stands."""
     lacks = next((at for at, word in enumerate(words) if not fits(word, names[at])), len(words))
@@ -360,17 +366,9 @@ def least_of_words(words, names, form):
     return Fault("unknown word", words[-1].end + 1, words[-1].end + 1, "", f"{names[-1]} is missing: {form}")
 
 
-def comment_among(words):
-    """The fault of words of which one begins a comment; None where none does."""
-    comment = next((it for it in words if it.text.startswith(("#", "//"))), None)
-    return comment and comment.fault("unknown word", "nothing", "A comment stands on a line of its own, which begins with #.")
-
-
 def too_many(head, words, names, form):
     """The fault of a statement with a word too many."""
     extra = words[len(names)]
-    if comment_among(words[:len(names) + 1]):
-        return comment_among(words)
     count = "no operand" if not names else "one operand" if len(names) == 1 else f"{len(names)} operands"
     if head.text in ("set", "add") and words[1].text in ("=", "+="):
         return words[1].fault("unknown word", may_stand("VALUE"), f"{head.text} is written without a sign: {form}")
@@ -382,6 +380,8 @@ def too_many(head, words, names, form):
 def operands_of(head, words, names, form=None):
     """The operands of a statement, each where it is wanted."""
     form = form or form_of(head.text, names)
+    if comment_among(words):
+        raise comment_among(words)
     if len(words) < len(names):
         raise too_few(head, words, names, form)
     if len(words) > len(names):
@@ -392,9 +392,9 @@ def operands_of(head, words, names, form=None):
 def poll_operands(head, words):
     """A timeout, and up to eight pairs of a descriptor and its events."""
     form = "poll TIMEOUT FD EVENTS .., with up to eight pairs"
+    if comment_among(words):
+        raise comment_among(words)
     if len(words) % 2 != 1:
-        if comment_among(words):
-            raise comment_among(words)
         end = (words or [head])[-1].end + 1
         raise Fault("unknown word", end, end, may_stand("EVENTS" if words else "TIMEOUT"), f"A value is missing: {form}")
     names = ["TIMEOUT"] + ["FD", "EVENTS"] * (len(words) // 2)

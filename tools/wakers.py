@@ -9,8 +9,8 @@ from dataclasses import dataclass, field
 
 CAPACITY = 4096  # bytes of a pipe, and of each way of a connection
 WHOLE = 512  # a write to a pipe of so many bytes goes whole or not at all
-CLOEXEC = 524288
-F_DUPFD, F_SETFD = 0, 2
+NONBLOCK, CLOEXEC = 2048, 524288
+F_DUPFD, F_SETFD, F_SETFL = 0, 2, 4
 POLLIN, POLLOUT = 1, 4
 
 Woken = namedtuple("Woken", "waker woken cause wake")  # the pids, and the events
@@ -38,10 +38,12 @@ class Socket:
 
 @dataclass(eq=False)
 class Description:
-    """An open description: what it is open on (None: a file), for a pipe on which side, and how many descriptors name it."""
+    """An open description: what it is open on (None: a file), for a pipe on which side, whether calls on it may not wait, and
+    how many descriptors name it."""
 
     on: object = None
     writes: bool = False
+    no_waiting: bool = False
     count: int = 0
 
 
@@ -147,6 +149,8 @@ class Streams:
             self.did_dup(table, operands, event)
         elif operands[1] == F_SETFD:
             (table.marked.add if operands[2] & 1 else table.marked.discard)(operands[0])
+        elif operands[1] == F_SETFL:
+            table.numbers[operands[0]].no_waiting = bool(operands[2] & NONBLOCK)
 
     def did_close(self, table, operands, event):
         table.drop(operands[0])
@@ -213,6 +217,8 @@ class Streams:
         on = table.on(operands[0])
         if on is None:
             return None
+        if table.numbers[operands[0]].no_waiting:
+            return False
         if call.name == "accept":
             return not on.queue
         return self.reading_blocks(on) if call.name == "read" else self.writing_blocks(on, operands[2])
