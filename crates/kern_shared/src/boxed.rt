@@ -6,7 +6,7 @@ ghost use Rattle.posix_defs.specs.History.{Past};
 ghost use Rattle.turn_words.specs.declared.items.Item.{Item};
 ghost use Rattle.turn_words.specs.declared.items.Item.TheVariants.{Back};
 ghost use Rattle.turn_words.specs.Items.{is_given, said};
-ghost use Rattle.kern_shared.specs.Attends.{HoldsCall, TellsSpent, reserved_for, told_item};
+ghost use Rattle.kern_shared.specs.Attends.{HasReserved, HoldsCall, IsUnused, ReservesNothing, TakesIn, TellsSpent, reserved_for, told_item};
 ghost use Rattle.kern_shared.specs.Closing.{Closes};
 ghost use Rattle.kern_shared.specs.Picks.{Picks, picked_item};
 ghost use Rattle.kern_shared.specs.Relieves.{Relieves};
@@ -49,6 +49,7 @@ impl<T: Turner + Drop, L: RunName> BoxedState<T, L> {
             → Picks L.script L.steps items past result }
         ensures stands { (items : List Item) → ⟦<BoxedState<T, L> as Chronicle>⟧.stands self.old items
             → ⟦<BoxedState<T, L> as Chronicle>⟧.stands self.new (items ++ said (picked_item result)) }
+        ensures seat { self.new.inside.value.seat ≡ self.old.inside.value.seat }
     {
         self.inside.pick_next()
     }
@@ -64,10 +65,12 @@ impl<T: Turner + Drop, L: RunName> BoxedState<T, L> {
         requires held { (items : List Item) × ⟦<BoxedState<T, L> as Chronicle>⟧.stands self.old items × HoldsCall L.script L.steps items pid call.now }
         requires word { word.now ≡ L.charge }
         requires own { (own.old.charge ≡ L.charge) × (own.old.known.holds ≡ reserved_for L.script call.now) }
+        requires reserved { HasReserved L.script call.now own.old.known }
         ensures stands { (items : List Item) → ⟦<BoxedState<T, L> as Chronicle>⟧.stands self.old items → HoldsCall L.script L.steps items pid call.now
             → ⟦<BoxedState<T, L> as Chronicle>⟧.stands self.new (items ++ told_item pid call.now result ∷ []) }
         ensures tells { (items : List Item) → ⟦<BoxedState<T, L> as Chronicle>⟧.stands self.old items → TellsSpent L.steps items result }
-        ensures own { (own.new.charge ≡ L.charge) × (own.new.known.holds ≡ 0) }
+        ensures own { (own.new.charge ≡ L.charge) × (own.new.known.holds ≡ 0) × IsUnused own.new.known }
+        ensures takes_in { TakesIn self.old.inside.value.seat.known self.new.inside.value.seat.known own.old.known }
     {
         self.inside.turn_held(word, own, pid, call)
     }
@@ -82,14 +85,16 @@ impl<T: Turner + Drop, L: RunName> BoxedState<T, L> {
             → ⟦<BoxedState<T, L> as Chronicle>⟧.stands self.new (items ++ said result.1) }
         ensures relieves { (items : List Item) (past : Past) → ⟦<BoxedState<T, L> as Chronicle>⟧.stands self.old items → IsShared L.script L.steps items past
             → Relieves L.script L.steps items past own.new.known.last result.0 result.1 }
+        ensures nothing { ReservesNothing self.old.inside.value.seat.known self.new.inside.value.seat.known }
     {
         self.inside.relieve_now(word, own)
     }
 
     /// As `KernelState::release_held`.
     pub(crate) fn release_held(&mut self, pid: u32)
-        ensures { (items : List Item) → ⟦<BoxedState<T, L> as Chronicle>⟧.stands self.old items → is_given pid items ≡ true
+        ensures stands { (items : List Item) → ⟦<BoxedState<T, L> as Chronicle>⟧.stands self.old items → is_given pid items ≡ true
             → ⟦<BoxedState<T, L> as Chronicle>⟧.stands self.new (items ++ Back pid ∷ []) }
+        ensures seat { self.new.inside.value.seat ≡ self.old.inside.value.seat }
     {
         self.inside.release_held(pid);
     }

@@ -2,8 +2,10 @@
 ghost use Rattle.std.specs.Prelude.{◌≡◌, ℕ, ◌+◌, ◌<◌, ◌≤◌, None, Some, IfSome, IsSome, cond, nat_le};
 ghost use Rattle.posix_defs.specs.Sizes.{room};
 ghost use Rattle.kabi_calls.specs.declared.calls.Call.{Call};
+ghost use Rattle.charge_words.specs.Names.{seat_of};
+ghost use Rattle.charge_words.specs.Rule.{loaded};
 ghost use Rattle.turn_words.specs.Items.{heard};
-ghost use Rattle.kern_shared.specs.Attends.{HoldsCall};
+ghost use Rattle.kern_shared.specs.Attends.{HoldsCall, ReservesNothing};
 ghost use Rattle.kern_shared.specs.Passes.{AttendsTo, HoldsPicked, IsAtRest, Loads, PicksInTurn, RelievesInTurn, ReturnsInTurn, given_behind, given_by};
 
 use crate::attends::item_of_answer;
@@ -45,8 +47,10 @@ impl<T: Turner + Drop, L: RunName> Kernel<T, L> {
         requires empty { own.old.known.holds ≡ 0 }
         ensures charge { own.new.charge ≡ L.charge }
         ensures reserved { result ≡ None → own.new.known.holds ≡ needed }
+        ensures once { result ≡ None → (own.new.known.reserves ≡ own.old.known.reserves + 1) × (own.new.known.raised ≡ own.old.known.raised + needed) }
         ensures short { IfSome result (λ charged. (own.new.known.holds ≡ 0) × (charged ≤ (L.script).heap) × ((L.script).heap < charged + needed)
             × Loads own.old.known own.new.known charged) }
+        ensures nothing { IfSome result (λ charged. ReservesNothing own.old.known own.new.known) }
     {
         for _ in rt.forever() {
             match self.charge.word.try_reserve(own, needed) {
@@ -64,8 +68,11 @@ impl<T: Turner + Drop, L: RunName> Kernel<T, L> {
         requires empty { own.old.known.holds ≡ 0 }
         ensures charge { own.new.charge ≡ L.charge }
         ensures reserved { result ≡ None → own.new.known.holds ≡ cond (nat_le needed (room (L.script).heap)) needed 0 }
+        ensures once { result ≡ None → (own.new.known.reserves ≡ own.old.known.reserves + cond (nat_le needed (room (L.script).heap)) 1 0)
+            × (own.new.known.raised ≡ own.old.known.raised + cond (nat_le needed (room (L.script).heap)) needed 0) }
         ensures short { IfSome result (λ charged. (own.new.known.holds ≡ 0) × (needed ≤ room (L.script).heap) × (charged ≤ (L.script).heap) × ((L.script).heap < charged + needed)
             × Loads own.old.known own.new.known charged) }
+        ensures nothing { IfSome result (λ charged. ReservesNothing own.old.known own.new.known) }
     {
         if needed > self.charge.heap.saturating_sub(FIXED) {
             return None;
@@ -80,6 +87,7 @@ impl<T: Turner + Drop, L: RunName> Kernel<T, L> {
         ensures pass { IsAtRest L.script L.steps L.charge self.now.turns pass.new.turn pass.new.own pass.new.given }
         ensures given { pass.new.given ≡ given_by result }
         ensures holds { HoldsPicked L.script L.steps pass.new.turn.known.seen result }
+        ensures own { pass.new.own ≡ pass.old.own }
         ensures picks { PicksInTurn ⟦<BoxedState<T, L> as Chronicle>⟧.stands L.script L.steps pass.old.turn.known pass.new.turn.known result }
     {
         let mut state = begin(rt, &self.turns, &mut pass.turn, &mut pass.waited);
@@ -126,6 +134,7 @@ impl<T: Turner + Drop, L: RunName> Kernel<T, L> {
         ensures given { pass.new.given ≡ pass.old.given }
         ensures holds { (pid : ℕ) (call : Call) → pass.old.given ≡ Some pid → HoldsCall L.script L.steps (heard pass.old.turn.known.seen) pid call
             → HoldsCall L.script L.steps (heard pass.new.turn.known.seen) pid call }
+        ensures own { pass.new.own ≡ seat_of L.charge (loaded pass.old.own.known pass.new.own.known.last) }
         ensures loads { Loads pass.old.own.known pass.new.own.known pass.new.own.known.last }
         ensures relieves { RelievesInTurn ⟦<BoxedState<T, L> as Chronicle>⟧.stands L.script L.steps pass.old.turn.known pass.new.turn.known
             pass.new.own.known.last result }
@@ -142,6 +151,7 @@ impl<T: Turner + Drop, L: RunName> Kernel<T, L> {
         requires given { IsSome pass.old.given }
         ensures pass { IsAtRest L.script L.steps L.charge self.now.turns pass.new.turn pass.new.own pass.new.given }
         ensures given { pass.new.given ≡ None }
+        ensures own { pass.new.own ≡ pass.old.own }
         ensures returns { IfSome pass.old.given (ReturnsInTurn ⟦<BoxedState<T, L> as Chronicle>⟧.stands L.script L.steps pass.old.turn.known pass.new.turn.known) }
     {
         let Some(pid) = pass.given else {

@@ -6,7 +6,7 @@ ghost use Rattle.kern_shared.specs.Attends.{HoldsCall};
 ghost use Rattle.kern_shared.specs.Passes.{IsAtRest};
 ghost use Rattle.work_crew.specs.Working.{GoesOn, HasWorked, IsServed, is_short, may_help};
 
-use crate::rests::{Bench, Rest};
+use crate::rests::Rest;
 use crate::{Door, Point};
 use crossbeam_utils::Backoff;
 use kabi_types::Call;
@@ -98,7 +98,6 @@ fn work<T: Turner + Drop, L: RunName, D: Door, R: Wait>(
     pass: &mut Pass<T, L>,
     place: usize,
     door: &D,
-    bench: &Bench,
 )
     requires pass { IsAtRest L.script L.steps L.charge kernel.now.turns pass.old.turn pass.old.own pass.old.given }
     requires none { pass.old.given ≡ None }
@@ -110,15 +109,12 @@ fn work<T: Turner + Drop, L: RunName, D: Door, R: Wait>(
     let mut rest = Rest::of(worker);
     for _ in rt.forever() {
         match kernel.pick(rt, pass) {
-            Picked::Over(_) => {
-                bench.clear();
-                return;
-            }
-            Picked::Idle => rest.without_work(rt, bench),
+            Picked::Over(_) => return,
+            Picked::Idle => rest.without_work(),
             Picked::Run { pid, call } => {
                 let waited = pass.waited();
                 visit(rt, kernel, pass, worker, pid, &call, door);
-                rest.behind(rt, bench, waited || pass.waited());
+                rest.behind(waited || pass.waited());
             }
         }
     }
@@ -140,7 +136,6 @@ pub fn crew<
         → HasWorked L.script L.steps (slice_index_or passes.old place d).turn.known (slice_index_or passes.new place d).turn.known }
 {
     let workers = passes.len();
-    let bench = &Bench::new();
     thread::for_each_mut(
         rt,
         passes,
@@ -149,6 +144,6 @@ pub fn crew<
             requires { IsAtRest L.script L.steps L.charge kernel.now.turns pass.old.turn pass.old.own pass.old.given × (pass.old.given ≡ None) }
             ensures { (IsAtRest L.script L.steps L.charge kernel.entry.now.turns pass.new.turn pass.new.own pass.new.given × (pass.new.given ≡ None))
                 × HasWorked L.script L.steps pass.old.turn.known pass.new.turn.known }
-        { work(rt, kernel, pass, place, door, bench) },
+        { work(rt, kernel, pass, place, door) },
     );
 }
