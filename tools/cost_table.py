@@ -13,7 +13,7 @@ import tempfile
 
 # The parts, and what the names of their functions begin with; the first that fits counts.
 PARTS = [
-    ("the run: the core's events, the choice among them, most of the report's text", r"kern_|kres_cli::tool|run_report"),
+    ("the run: the core's events, the choice among them, most of the report's text", r"kern_|kres_tool::tool|run_report"),
     ("the text of entries, as far as it isn't there", r"report_text|itoa|std_alloc::string"),
     ("copies, from one value to another and of the bytes that calls move", r".*\b__memcpy|.*\b__memmove"),
     ("clearing, of locals and of memory that was never written", r".*\b__memset"),

@@ -1,9 +1,13 @@
-//! Each cache by hand. Tests alone.
+//! Each cache by hand, with the heap's bytes at each step, and the order of use. Tests alone.
 #![tactic(auto)]
 
 #[cfg(test)]
 mod blocks;
 #[cfg(test)]
+mod index;
+#[cfg(test)]
 mod names;
 #[cfg(test)]
 mod nodes;
+#[cfg(test)]
+mod steps;

@@ -7,9 +7,6 @@ ghost use Rattle.posix_defs.specs.ValidScript.{IsValid};
 ghost use Rattle.posix_defs.specs.World.{World, boot_world};
 ghost use Rattle.call_run.specs.Stores.{Stands};
 
-#[cfg(test)]
-mod tests;
-
 use crate::calls::Buffers;
 use crate::{sleepers, turns, victims};
 use arrayvec::ArrayVec;

@@ -11,7 +11,7 @@ use crate::naming::RunCharge;
 use crate::picks::item_of_pick;
 use crate::served::{begin, end};
 use crate::state::FIXED;
-use crate::{Attended, KernelState, Pass, Picked, RunName};
+use crate::{Attended, BoxedState, Pass, Picked, RunName};
 use charge_words::{ChargeSeat, Reserved};
 use kabi_types::Call;
 use kern_events::Relief;
@@ -34,7 +34,7 @@ fn given_by(picked: &Picked) -> Option<u32>
 /// A kernel that several passes share.
 #[derive(Drop)]
 pub struct Kernel<T: Turner + Drop, L: RunName> {
-    pub(crate) turns: Turns<KernelState<T, L>>,
+    pub(crate) turns: Turns<BoxedState<T, L>>,
     pub(crate) charge: RunCharge<L>,
 }
 
@@ -80,9 +80,9 @@ impl<T: Turner + Drop, L: RunName> Kernel<T, L> {
         ensures pass { IsAtRest L.script L.steps L.charge self.now.turns pass.new.turn pass.new.own pass.new.given }
         ensures given { pass.new.given ≡ given_by result }
         ensures holds { HoldsPicked L.script L.steps pass.new.turn.known.seen result }
-        ensures picks { PicksInTurn ⟦<KernelState<T, L> as Chronicle>⟧.stands L.script L.steps pass.old.turn.known pass.new.turn.known result }
+        ensures picks { PicksInTurn ⟦<BoxedState<T, L> as Chronicle>⟧.stands L.script L.steps pass.old.turn.known pass.new.turn.known result }
     {
-        let mut state = begin(rt, &self.turns, &mut pass.turn);
+        let mut state = begin(rt, &self.turns, &mut pass.turn, &mut pass.waited);
         let picked = state.pick_next();
         end(&self.turns, &mut pass.turn, state, item_of_pick(&picked));
         pass.given = given_by(&picked);
@@ -99,14 +99,14 @@ impl<T: Turner + Drop, L: RunName> Kernel<T, L> {
         requires holds { HoldsCall L.script L.steps (heard pass.old.turn.known.seen) pid call.now }
         ensures pass { IsAtRest L.script L.steps L.charge self.now.turns pass.new.turn pass.new.own pass.new.given }
         ensures given { pass.new.given ≡ given_behind pass.old.given result }
-        ensures attends { AttendsTo ⟦<KernelState<T, L> as Chronicle>⟧.stands L.script L.steps pass.old.turn pass.new.turn pass.old.own.known pass.new.own.known
+        ensures attends { AttendsTo ⟦<BoxedState<T, L> as Chronicle>⟧.stands L.script L.steps pass.old.turn pass.new.turn pass.old.own.known pass.new.own.known
             pid call.now result }
     {
         let need = bound(call);
         if let Some(charged) = self.reserve_for(rt, &mut pass.own, need) {
             return Attended::Short { charged, need };
         }
-        let mut state = begin(rt, &self.turns, &mut pass.turn);
+        let mut state = begin(rt, &self.turns, &mut pass.turn, &mut pass.waited);
         let answer = state.turn_held(&self.charge.word, &mut pass.own, pid, call);
         end(
             &self.turns,
@@ -127,10 +127,10 @@ impl<T: Turner + Drop, L: RunName> Kernel<T, L> {
         ensures holds { (pid : ℕ) (call : Call) → pass.old.given ≡ Some pid → HoldsCall L.script L.steps (heard pass.old.turn.known.seen) pid call
             → HoldsCall L.script L.steps (heard pass.new.turn.known.seen) pid call }
         ensures loads { Loads pass.old.own.known pass.new.own.known pass.new.own.known.last }
-        ensures relieves { RelievesInTurn ⟦<KernelState<T, L> as Chronicle>⟧.stands L.script L.steps pass.old.turn.known pass.new.turn.known
+        ensures relieves { RelievesInTurn ⟦<BoxedState<T, L> as Chronicle>⟧.stands L.script L.steps pass.old.turn.known pass.new.turn.known
             pass.new.own.known.last result }
     {
-        let mut state = begin(rt, &self.turns, &mut pass.turn);
+        let mut state = begin(rt, &self.turns, &mut pass.turn, &mut pass.waited);
         let (relief, item) = state.relieve_now(&self.charge.word, &mut pass.own);
         end(&self.turns, &mut pass.turn, state, item);
         relief
@@ -142,12 +142,12 @@ impl<T: Turner + Drop, L: RunName> Kernel<T, L> {
         requires given { IsSome pass.old.given }
         ensures pass { IsAtRest L.script L.steps L.charge self.now.turns pass.new.turn pass.new.own pass.new.given }
         ensures given { pass.new.given ≡ None }
-        ensures returns { IfSome pass.old.given (ReturnsInTurn ⟦<KernelState<T, L> as Chronicle>⟧.stands L.script L.steps pass.old.turn.known pass.new.turn.known) }
+        ensures returns { IfSome pass.old.given (ReturnsInTurn ⟦<BoxedState<T, L> as Chronicle>⟧.stands L.script L.steps pass.old.turn.known pass.new.turn.known) }
     {
         let Some(pid) = pass.given else {
             unreachable!()
         };
-        let mut state = begin(rt, &self.turns, &mut pass.turn);
+        let mut state = begin(rt, &self.turns, &mut pass.turn, &mut pass.waited);
         state.release_held(pid);
         end(&self.turns, &mut pass.turn, state, Item::Back(pid));
         pass.given = None;
