@@ -41,13 +41,14 @@ def wrapped(number):
 
 def quoted(said):
     """A text as a script has it."""
-    return '"' + "".join({10: r"\n", 34: r"\"", 92: r"\\"}.get(it) or (chr(it) if 32 <= it < 127 else rf"\x{it:02x}") for it in said) + '"'
+    escapes = {10: r"\n", 34: r"\"", 92: r"\\"}
+    letters = (escapes.get(it) or (chr(it) if 32 <= it < 127 else rf"\x{it:02x}") for it in said)
+    return f'"{"".join(letters)}"'
 
 
 @dataclass
 class Said:
-    """What a call was in the script: the line of its statement, its operands as they were, and whether no statement but
-    the program's end makes it."""
+    """What a call was in the script: the line of its statement, and its operands as they were."""
 
     line: int
     operands: list
@@ -81,7 +82,8 @@ class Control:
             call = self.step(statement)
             if call:
                 self.made = statement
-                return call, Said(statement.line, [self.value(it) for it in statement.operands] if statement.word != "loop" else [])
+                operands = statement.operands if statement.word != "loop" else []
+                return call, Said(statement.line, [self.value(it) for it in operands])
         self.made = None
         return "exit", Said(self.program.end, [0])
 

@@ -309,7 +309,8 @@ class Picture:
         if answer.startswith("= ") and len(answer) < 8:
             return call.asked, unique([f"{text} {answer}", f"{call.name} {answer}", call.name]), ""
         if answer.startswith("= "):
-            return call.asked, unique([f"{text} {answer}", f"{call.name} {answer}", f"{call.name} {answer[:5]}…", call.name]), ""
+            forms = [f"{text} {answer}", f"{call.name} {answer}", f"{call.name} {answer[:5]}…", call.name]
+            return call.asked, unique(forms), ""
         return call.asked, unique([text, call.name]), ""
 
     def low_labels(self, process):
@@ -332,7 +333,7 @@ class Picture:
                 rows[-1][-1] = event.number
             elif event.word == "evict":
                 rows.append([[event.call], event.number, event.number])
-        return [(first, unique([f"evicted: {counted(names)}", counted(names), str(len(names))]), "went") for names, first, _ in rows]
+        return [(first, [f"evicted: {counted(names)}", counted(names), str(len(names))], "went") for names, first, _ in rows]
 
     def row_of_labels(self, y, labels, anyway=False):
         """The longest form of each label that ends before the next one begins; none where not even the last does. Errors

@@ -45,7 +45,8 @@ class Page:
                 for number in range(max(span.start, picture.first - 1), min(span.end, picture.last + 1)):
                     self.states[number].append((process.pid, span))
         self.woken = {it.wake: it for it in picture.wakings}
-        self.calls = {number: call for process in self.run.processes.values() for call in process.calls for number in self.numbers(call)}
+        calls = [call for process in self.run.processes.values() for call in process.calls]
+        self.calls = {number: call for call in calls for number in self.numbers(call)}
 
     def numbers(self, call):
         """The events at which a call is spoken of."""
@@ -54,9 +55,12 @@ class Page:
     def text(self):
         picture = self.picture.draw()
         lanes = [[it.pid, self.picture.middle(it) - self.picture.lane / 2, self.picture.lane] for it in self.picture.lanes]
+        place = {
+            "left": self.picture.x(self.picture.first - 1), "step": self.picture.step, "first": self.picture.first,
+            "top": self.picture.lanes_top - 4, "bottom": self.picture.bottom, "width": self.picture.width, "lanes": lanes,
+        }
         data = {
-            "place": {"left": self.picture.x(self.picture.first - 1), "step": self.picture.step, "first": self.picture.first,
-                      "top": self.picture.lanes_top - 4, "bottom": self.picture.bottom, "width": self.picture.width, "lanes": lanes},
+            "place": place,
             "events": [self.event(it) for it in self.run.events[self.picture.first - 1:self.picture.last]],
             "end": self.run.lines[-1],
         }

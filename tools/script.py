@@ -276,7 +276,8 @@ def register_of(word):
 def name_of(word, name="NAME"):
     if word.said is None and NAME.fullmatch(word.text):
         return word.text
-    hint = "A name stands without quotes." if word.said is not None else "A label is named without its colon." if word.text.endswith(":") else ""
+    colon = "A label is named without its colon." if word.text.endswith(":") else ""
+    hint = "A name stands without quotes." if word.said is not None else colon
     raise word.fault("unknown word", MAY_STAND[name], hint)
 
 
@@ -362,7 +363,8 @@ def least_of_words(words, names, form):
     try:
         each(lambda word=word, name=name: operand_of(word, name) for word, name in zip(words, names))
     except Fault as fault:
-        return Fault("unknown word", fault.start, fault.end, fault.wanted, f"{fault.hint} {names[-1]} is missing: {form}".strip())
+        hint = f"{fault.hint} {names[-1]} is missing: {form}".strip()
+        return Fault("unknown word", fault.start, fault.end, fault.wanted, hint)
     return Fault("unknown word", words[-1].end + 1, words[-1].end + 1, "", f"{names[-1]} is missing: {form}")
 
 
@@ -472,7 +474,8 @@ def choices_of(head, words):
         raise Fault("unknown word", head.end + 1, head.end + 1, wanted, "A number is missing: choices N N ..")
     told = each(lambda word=word: number_of(word, 0, MOST_CHOICE, wanted) for word in words)
     if len(told) > MOST_CHOICES:
-        raise Fault("out of range", words[MOST_CHOICES].start, words[-1].end, "nothing", f"{MOST_CHOICES} choices are the most.")
+        hint = f"{MOST_CHOICES} choices are the most."
+        raise Fault("out of range", words[MOST_CHOICES].start, words[-1].end, "nothing", hint)
     return told
 
 
@@ -540,7 +543,8 @@ class Script:
             return words_of(raw.decode())
         except UnicodeDecodeError as where:
             at = len(raw[:where.start].decode())
-            raise Fault("not utf-8", at, at + 1, "text in UTF-8", f"The byte {raw[where.start]} begins no letter here.") from None
+            hint = f"The byte {raw[where.start]} begins no letter here."
+            raise Fault("not utf-8", at, at + 1, "text in UTF-8", hint) from None
 
     def take_at_top(self, number, words):
         slot, head, value = setting_of(words)
@@ -549,8 +553,8 @@ class Script:
             return
         if slot in self.where:
             line, other = self.where[slot]
-            hint = f"It stands on line {line} already." if other == head.text else f"{other} stands on line {line}: one of the two is enough."
-            raise head.fault("twice defined", "", hint)
+            both = f"{other} stands on line {line}: one of the two is enough."
+            raise head.fault("twice defined", "", f"It stands on line {line} already." if other == head.text else both)
         self.set[slot] = value if slot != "chooser" else (head.text, value)
         self.where[slot] = number, head.text
 
@@ -558,7 +562,8 @@ class Script:
         if len(self.programs) == MOST_PROGRAMS:
             raise word.fault("out of range", "nothing", f"A script has {MOST_PROGRAMS} programs at most.")
         if word.text in self.programs:
-            raise word.fault("twice defined", "another name", f"The program {word.text} stands on line {self.programs[word.text].line} already.")
+            first = self.programs[word.text].line
+            raise word.fault("twice defined", "another name", f"The program {word.text} stands on line {first} already.")
         self.open, self.pending = Program(word.text, number), []
 
     def take_in_program(self, number, words):
@@ -588,19 +593,24 @@ class Script:
         if said.label is None:
             return None
         name, place = said.label.text, program.places.get(said.label.text)
-        if said.word == "label":
-            first = program.statements[place].line
-            return None if place == at else said.label.fault("twice defined", "another name", f"The label {name} stands on line {first} already.")
         if place is None:
-            close = near(name, program.places)
-            known = f"its labels are {listed(program.places)}" if program.places else "it has none"
-            return said.label.fault("no such label", f"a label of the program {program.name}: {known}", f"Is it {close}?" if close else "")
+            return self.no_label(program, said.label)
         line = program.statements[place].line
+        if said.word == "label" and place != at:
+            return said.label.fault("twice defined", "another name", f"The label {name} stands on line {line} already.")
         if said.word == "loop" and place > at:
-            return said.label.fault("wrong way", "a label that stands earlier", f"{name} stands on line {line}, below: if and jump go there.")
-        if said.word != "loop" and place < at:
-            return said.label.fault("wrong way", "a label that stands later", f"{name} stands on line {line}, above: only loop goes back.")
+            hint = f"{name} stands on line {line}, below: if and jump go there."
+            return said.label.fault("wrong way", "a label that stands earlier", hint)
+        if said.word in ("if", "jump") and place < at:
+            hint = f"{name} stands on line {line}, above: only loop goes back."
+            return said.label.fault("wrong way", "a label that stands later", hint)
         return None
+
+    def no_label(self, program, label):
+        close = near(label.text, program.places)
+        known = f"its labels are {listed(program.places)}" if program.places else "it has none"
+        wanted = f"a label of the program {program.name}: {known}"
+        return label.fault("no such label", wanted, f"Is it {close}?" if close else "")
 
     def close_text(self):
         if self.open is not None:

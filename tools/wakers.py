@@ -212,8 +212,8 @@ class Streams:
             return not any(it.ended <= number and (it.gone is None or it.gone > number) and operands[0] in (-1, it.pid)
                            for it in self.children.get(pid, []) if it.ended is not None)
         if call.name == "poll":
-            pairs = zip(operands[1::2], operands[2::2])
-            return not any(self.is_told(table.on(fd), table.numbers[fd].writes, events) for fd, events in pairs if fd in table.numbers)
+            pairs = [(table.numbers[fd], events) for fd, events in zip(operands[1::2], operands[2::2]) if fd in table.numbers]
+            return not any(self.is_told(it.on, it.writes, events) for it, events in pairs)
         on = table.on(operands[0])
         if on is None:
             return None
