@@ -1,8 +1,11 @@
 //! `kres`: runs scripts of processes on a kernel that reserves its heap before it runs a call.
 #![tactic(auto)]
 
+mod scores;
+
 use kio_ports::{StdSink, StdSource};
-use kres_tool::{run_program, score_by_age, score_by_weight};
+use kres_tool::run_program;
+use scores::{score_by_age, score_by_weight};
 use std::env;
 use std::process::ExitCode;
 use work_crew::OpenDoor;

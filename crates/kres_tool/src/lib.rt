@@ -5,7 +5,6 @@ mod commands;
 mod lines;
 mod program;
 mod reading;
-mod scores;
 mod statuses;
 mod text;
 mod threads;
@@ -13,6 +12,5 @@ mod tool;
 mod writing;
 
 pub use program::run_program;
-pub use scores::{score_by_age, score_by_weight};
 pub use statuses::Status;
 pub use tool::{run_plain, run_tool};
