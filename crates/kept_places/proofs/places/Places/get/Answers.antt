@@ -1,6 +1,4 @@
 use Rattle.std.proofs.Common.{◌≡◌, Some, None, sym, ap, ◌∙◌}
-use Rattle.std.specs.Option.{option_copied}
-use Rattle.kept_places.specs.Places.{at}
 use Rattle.kept_places.specs.Rising.{IsFoundAt, found}
 use Rattle.kept_places.proofs.Changes.{at-spread, at_index}
 use Rattle.kept_places.proofs.places.Places.get.Goals as goal

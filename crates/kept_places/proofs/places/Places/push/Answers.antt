@@ -1,4 +1,4 @@
-use Rattle.std.proofs.Common.{◌≡◌, ◌+◌, ◌<◌, ◌++◌, [], ◌∷◌, Some, length, sym, ap, ◌∙◌, arith}
+use Rattle.std.proofs.Common.{◌≡◌, length, sym, ap, ◌∙◌, arith}
 use Rattle.kept_places.proofs.Changes.{AreRising-pushed, length-spread, spread-pushed}
 use Rattle.kept_places.proofs.places.Places.push.Goals as goal
 

@@ -1,5 +1,4 @@
 use Rattle.std.proofs.Common.{◌≡◌, Some, None, sym, ap, ◌∙◌}
-use Rattle.kept_places.specs.Places.{at}
 use Rattle.kept_places.specs.Rising.{IsFoundAt, found}
 use Rattle.kept_places.proofs.Changes.{AreRising-removed, at-spread, at_index, spread-removed, without_none}
 use Rattle.kept_places.proofs.places.Places.remove.Goals as goal
