@@ -1,25 +1,22 @@
 -- The one entry that a claim leads to may come next, and whatever may come next is that of what it says.
-use Rattle.std.proofs.Common.{◌≡◌, ℕ, ◌+◌, ◌*◌, ◌<◌, ◌≤◌, ◌==◌, ◌&&◌, not, nat_le, nat_lt, Bool, true, false, cond, List, ◌∷◌, Option, None, Some, refl, ap, sym, ◌∙◌, subst, arith}
+use Rattle.std.proofs.Common.{◌≡◌, ℕ, ◌+◌, ◌<◌, ◌≤◌, not, Bool, true, false, cond, Option, None, Some, refl, ap, sym, ◌∙◌, subst}
 use Rattle.std.proofs.lemmas.Bool.{false≢true, leb-true, le-leb}
 use Rattle.std.proofs.lemmas.Bool.Decides.{Decides-eqb, Decides-ltb}
 use Rattle.std.proofs.lemmas.Option.{cond_some, none-some, same_Some}
 use Rattle.kabi_calls.specs.Call.{kind_of}
 use Rattle.kabi_calls.specs.declared.calls.CallKind.{CallKind}
-use Rattle.kabi_values.specs.declared.replies.Reply.{Reply}
 use Rattle.kabi_types.specs.declared.entries.Cached.{Cached}
 use Rattle.kabi_types.specs.declared.entries.Entry.{Entry}
 use Rattle.kabi_types.specs.declared.entries.Entry.TheVariants as entry
 use Rattle.kabi_types.specs.declared.scripts.Script.{Script}
 use Rattle.posix_defs.specs.Answer.{Answer, Blocked, Done, Part, Ended}
-use Rattle.posix_defs.specs.History.{AreCovered, FallsAsleep, Fills, IsAnswered, IsEvicted, IsGone, IsKilled, IsRefused, MayFollow, MayRun, Past, is_among, is_up, one_more, others}
+use Rattle.posix_defs.specs.History.{MayFollow, MayRun, Past, is_up}
 use Rattle.posix_defs.specs.Machine.{machine}
 use Rattle.posix_defs.specs.Needs.{bound}
-use Rattle.posix_defs.specs.Plain.{Plain, call_of, last_pid}
-use Rattle.posix_defs.specs.Process.{is_alive}
 use Rattle.posix_defs.specs.Sizes.{reserve, room}
 use Rattle.posix_defs.specs.Victim.{victim_of}
 use Rattle.run_pasts.specs.Claims.{claim_of_entry}
-use Rattle.run_pasts.specs.Turns.{Step, answered_step, are_covered, did_step, evicted_step, gone_on, gone_step, is_this, killed_step, least_live, may_run, next_call, refused_step, step_if, turn_of, waits_in_vain, was_made}
+use Rattle.run_pasts.specs.Turns.{Step, answered_step, did_step, evicted_step, gone_step, is_this, killed_step, least_live, may_run, next_call, refused_step, step_if, turn_of}
 use Rattle.run_pasts.specs.declared.claims.Claim.{Claim}
 use Rattle.run_pasts.specs.declared.claims.Claim.TheVariants.{Did, Killed, Evicted}
 use Rattle.run_pasts.specs.declared.claims.Deed.{Deed}

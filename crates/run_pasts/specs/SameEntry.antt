@@ -1,5 +1,5 @@
 -- Whether two entries are the same.
-use Rattle.std.specs.Prelude.{◌==◌, ◌&&◌, Bool, true, false}
+use Rattle.std.specs.Prelude.{◌==◌, ◌&&◌, Bool, false}
 use Rattle.std.specs.Ordering.{int_eq}
 use Rattle.std.specs.Str.{bytes_eq}
 use Rattle.kabi_calls.specs.Words.{word_of}

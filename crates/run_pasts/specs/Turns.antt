@@ -3,7 +3,6 @@
 use Rattle.std.specs.Prelude.{ℕ, ◌+◌, ◌*◌, ◌==◌, ◌&&◌, not, nat_le, nat_lt, Bool, false, if◌then◌else◌, List, ◌∷◌, Option, None, Some}
 use Rattle.kabi_calls.specs.Call.{kind_of}
 use Rattle.kabi_calls.specs.declared.calls.Call.{Call}
-use Rattle.kabi_calls.specs.declared.calls.CallKind.{CallKind}
 use Rattle.kabi_values.specs.Class.{size}
 use Rattle.kabi_values.specs.declared.classes.Class.TheVariants as class
 use Rattle.kabi_values.specs.declared.errnos.Errno.TheVariants.{ENOMEM}
