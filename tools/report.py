@@ -1,30 +1,35 @@
-"""Reads a report of `kres sim`, and tells from its lines what each process did.
+"""Reads a report of `kres sim` or `kres threads`, and tells from its lines what each process did.
 
-A report says everything but one thing: whom a `kill` ended. Where a process turns out later to have ended by signal 9
-(its parent is told so, or its call is abandoned), the last `kill` that was answered 0 before that is taken for the one.
+A report of `sim` says everything but one thing: whom a `kill` ended. Where a process turns out later to have ended by
+signal 9 (its parent is told so, or its call is abandoned), the last `kill` that was answered 0 before that is taken for the
+one. A report of `threads` has a line where a call is over, sleeps or has done a part, and no bytes but those at the end.
+
+With the script each call is told with its operands as they were, and with its line.
 """
 import re
 from dataclasses import dataclass, field
 
+from controls import Follower
+
 KEPT_BACK = 2176  # bytes that closing and ending may always use
 AT_BOOT = 2816  # what is charged at boot: that reserve, the first process and the root's inode
 
-# An event's line is its number, one of these, and what is charged after it.
+# An event's line is its number, one of these, and, but for `threads`, what is charged after it.
 SHAPES = (
     r"p(?P<pid>\d+) (?P<word>ask|admit|wake) (?P<call>\w+) bound (?P<bound>\d+)",
     r"p(?P<pid>\d+) (?P<word>refused) (?P<call>\w+) bound (?P<bound>\d+) = (?P<reply>ENOMEM)",
     r"p(?P<pid>\d+) (?P<word>done) (?P<call>\w+) = (?P<reply>.+)",
     r"p(?P<pid>\d+) (?P<word>part) (?P<call>\w+) (?P<reply>\d+)",
-    r"p(?P<pid>\d+) (?P<word>sleep|abandon) (?P<call>\w+)",
+    r"p(?P<pid>\d+) (?P<word>sleep|abandon|gone) (?P<call>\w+)",
     r"p(?P<pid>\d+) (?P<word>ended) (?P<reply>(?:exit|signal) \d+)",
     r"p(?P<pid>\d+) (?P<word>killed) for p(?P<waiter>\d+) need (?P<bound>\d+) live (?P<live>\d+)",
     r"(?P<word>evict) (?P<call>name|block|vnode)",
 )
 EVENTS = [re.compile(rf"(?P<number>\d+) {shape} charged (?P<charged>\d+)") for shape in SHAPES]
-END = re.compile(
-    r"end (?P<how>finished|starved p\d+ need \d+|asleep|spent)"
-    r" events (?P<events>\d+) charged (?P<charged>\d+) peak (?P<peak>\d+) reads (?P<reads>\d+)"
-)
+ENTRIES = [re.compile(rf"(?P<number>\d+) {shape}") for shape in SHAPES]
+HOW = r"end (?P<how>finished|starved p\d+ need \d+|asleep|spent)"
+END = re.compile(rf"{HOW} events (?P<events>\d+) charged (?P<charged>\d+) peak (?P<peak>\d+) reads (?P<reads>\d+)")
+END_OF_THREADS = re.compile(rf"{HOW} entries (?P<events>\d+) charged (?P<charged>\d+) reads (?P<reads>\d+)")
 
 
 class NoReport(Exception):
@@ -37,7 +42,7 @@ class Event:
 
     number: int
     word: str
-    charged: int
+    charged: int = None
     pid: int = None
     call: str = None
     bound: int = None
@@ -48,7 +53,8 @@ class Event:
 
 @dataclass
 class Call:
-    """One call of a process: the numbers of its events, and its answer as the report has it."""
+    """One call of a process: the numbers of its events, its answer as the report has it, and with a script what it was
+    there (its line and its operands)."""
 
     pid: int
     name: str
@@ -60,6 +66,14 @@ class Call:
     parts: list = field(default_factory=list)
     over: int = None
     answer: str = None
+    said: object = None
+
+    def text(self):
+        """The call with its operands, where they are known."""
+        return f"{self.name} {self.said.text()}".strip() if self.said else self.name
+
+    def is_error(self):
+        return bool(re.fullmatch(r"= E[A-Z]+|refused: ENOMEM", self.answer or ""))
 
 
 @dataclass
@@ -85,12 +99,18 @@ class Process:
     ended: int = None
     how: str = None
     gone: int = None
+    mourner: int = None  # who was its parent when it ended
+    follower: object = None
 
     def state(self):
         return self.spans[-1].state if self.spans and self.spans[-1].end is None else None
 
     def call(self):
         return self.calls[-1] if self.calls else None
+
+    def open_call(self):
+        """The call that isn't over, if there is one. That a process is killed stands among its calls."""
+        return next((it for it in reversed(self.calls) if it.name != "killed" and it.over is None), None)
 
     def become(self, state, at, call=None):
         if self.state():
@@ -99,8 +119,8 @@ class Process:
             self.spans.append(Span(state, at, call))
 
 
-def read_event(line):
-    for shape in EVENTS:
+def read_event(line, shapes):
+    for shape in shapes:
         found = shape.fullmatch(line)
         if found:
             parts = found.groupdict()
@@ -110,24 +130,15 @@ def read_event(line):
 
 
 class Run:
-    """A whole report: its events, its end line by parts, and what each process did."""
+    """A whole report: its events, its end line by parts, and what each process did; with a script, what its calls were."""
 
-    def __init__(self, text):
-        lines = text.splitlines()
-        self.events = []
-        for place, line in enumerate(lines, 1):
-            self.end = END.fullmatch(line)
-            if self.end:
-                break
-            event = read_event(line)
-            if event is None or event.number != place:
-                raise NoReport(f"line {place} is no line of a report: {line[:60]}")
-            self.events.append(event)
-        if not lines or not self.end or len(lines) != len(self.events) + 1:
-            raise NoReport("a report ends with the line that begins with 'end', and this text doesn't")
+    def __init__(self, text, script=None):
+        self.lines = text.splitlines()
+        self.is_threads = bool(self.lines and END_OF_THREADS.fullmatch(self.lines[-1]))
+        self.read(self.lines)
         self.reserved = [0]  # after each event, beginning with boot
         self.held = {}
-        first = Process(1, 0, 0)
+        first = Process(1, 0, 0, follower=script and Follower.first(script))
         first.become("user", 0)
         self.processes = {1: first}
         for event in self.events:
@@ -135,8 +146,43 @@ class Run:
         # What still goes on at the end ends behind the last event.
         for process in self.processes.values():
             process.become(None, len(self.events) + 1)
+            self.say(process)
+
+    def read(self, lines):
+        """The events of the lines, and the end."""
+        self.events, self.end = [], None
+        shapes, end = (ENTRIES, END_OF_THREADS) if self.is_threads else (EVENTS, END)
+        for place, line in enumerate(lines, 1):
+            self.end = end.fullmatch(line)
+            if self.end:
+                break
+            event = read_event(line, shapes)
+            if event is None or event.number != place:
+                raise NoReport(f"line {place} is no line of a report: {line[:60]}")
+            self.events.append(event)
+        if not lines or not self.end or len(lines) != len(self.events) + 1:
+            raise NoReport("a report ends with the line that begins with 'end', and this text doesn't")
+
+    def say(self, process):
+        """Gives each call of a process what it was in the script."""
+        calls = [it for it in process.calls if it.name != "killed"]
+        for place, said in (process.follower.said() if process.follower else {}).items():
+            calls[place].said = said
+
+    def follow(self, event, process, name):
+        """A process makes a call of this name, which has to be the one that its program makes there."""
+        if process.follower and not process.follower.ask(name):
+            raise NoReport(f"event {event.number}: the script has p{process.pid} make another call there than {name}")
+
+    def summary(self):
+        """How the run ended, in a line."""
+        how = re.sub(r"starved (p\d+) need (\d+)", r"starved (\1 needs \2)", self.end["how"])
+        if self.is_threads:
+            return f"{how} after {self.end['events']} entries, {self.end['charged']} bytes charged at the end"
+        return f"{how} after {self.end['events']} events, at most {self.end['peak']} bytes charged"
 
     def charged(self, number):
+        """What is charged after an event; a report of threads doesn't tell it."""
         return self.events[number - 1].charged if number else AT_BOOT
 
     def live(self, number):
@@ -147,17 +193,37 @@ class Run:
         process = self.processes.get(event.pid)
         if event.pid is not None and process is None:
             raise NoReport(f"line {event.number} speaks of p{event.pid}, which no fork has made")
+        if event.word in ("done", "part", "sleep", "ended", "gone") and self.is_threads:
+            self.begin(event, process)
         if event.word != "evict":
             getattr(self, f"take_{event.word}")(event, process)
         self.reserved.append(sum(self.held.values()))
 
+    def begin(self, event, process):
+        """Where threads ran it, a call is first spoken of where it is over, sleeps or has done a part."""
+        if process.open_call() is None:
+            # Only an exit says nothing but that its process ends; a kill of oneself ends it by the signal.
+            name = event.call or ("exit" if event.reply.startswith("exit") else "kill")
+            process.calls.append(Call(process.pid, name, None, event.number))
+            self.follow(event, process, name)
+
+    def take_gone(self, event, process):
+        """The process had been ended when its call's turn came."""
+        if process.ended is None:
+            self.end_process(process, "signal 9", self.kill_before(event.number, process))
+        call = process.open_call()
+        call.over, call.answer = event.number, "gone"
+
     def take_ask(self, event, process):
         process.calls.append(Call(process.pid, event.call, event.bound, event.number))
+        self.follow(event, process, event.call)
         process.become("waiting", event.number, process.call())
 
     def take_refused(self, event, process):
         call = Call(process.pid, event.call, event.bound, event.number, over=event.number, answer="refused: ENOMEM")
         process.calls.append(call)
+        self.follow(event, process, event.call)
+        self.answer(process, "ENOMEM")
 
     def take_admit(self, event, process):
         process.call().admitted.append(event.number)
@@ -170,7 +236,11 @@ class Run:
         self.held.pop(process.pid, None)
         process.become("user", event.number)
         if event.call == "fork" and event.reply.isdigit():
-            self.be_born(int(event.reply), process.pid, event.number)
+            self.be_born(int(event.reply), process, event.number)
+        if event.call == "exec" and event.reply == "0" and process.follower:
+            process.follower.execute()
+        else:
+            self.answer(process, event.reply)
         reaped = re.fullmatch(r"(\d+) ((?:exit|signal) \d+)", event.reply)
         if event.call == "waitpid" and reaped:
             self.reap(self.processes[int(reaped[1])], reaped[2], event.number)
@@ -213,13 +283,18 @@ class Run:
         process.become(None if process.gone else "ended", event.number)
         process.gone = event.number if process.gone else None
 
+    def answer(self, process, reply):
+        if process.follower:
+            process.follower.answer(reply)
+
     def be_born(self, pid, parent, at):
-        self.processes[pid] = Process(pid, parent, at)
+        follower = parent.follower and parent.follower.child()
+        self.processes[pid] = Process(pid, parent.pid, at, follower=follower)
         self.processes[pid].become("user", at)
 
     def end_process(self, process, how, at):
         """Its ended children go with it, its live ones get the first process; with the first one all others end."""
-        process.ended, process.how = at, how
+        process.ended, process.how, process.mourner = at, how, process.parent
         process.become("left" if process.pid in self.held else "ended", at, process.call())
         if process.pid == 1:
             self.leave(process, at)

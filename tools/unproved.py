@@ -1,11 +1,11 @@
 #!/usr/bin/env python3
-"""Builds the program of these sources without its proof, to count its instructions while a change is tried.
+"""Builds the program of these sources without its proof: for ./kres before ./build, or to count instructions.
 
 Usage: tools/unproved.py OUT
 
 It takes the module that `rt try` makes, takes the checks out that such a run makes on its way, and compiles the rest as a
-proved program is compiled. What comes out takes some three in a hundred more or less than the proved program, and shows
-nothing but its cost.
+proved program is compiled. What comes out takes some three in a hundred more or less than the proved program. Nothing is
+shown of it.
 """
 import os
 import re

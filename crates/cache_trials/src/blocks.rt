@@ -1,8 +1,9 @@
-//! Caches by hand, with the heap's bytes and what is cached at each step.
+//! Blocks, of 1088 bytes in the heap.
 ghost use Rattle.std.specs.Prelude.{◌≡◌, ◌≤◌, IfOk};
 ghost use Rattle.kheap_slabs.specs.Paid.{CanPay};
 ghost use Rattle.block_cache.specs.Blocks.{KeepsBlocks, HasBlockFills};
 
+use crate::steps::{Answer, Change, Look, NO, NONE, Row, Step, YES};
 use block_cache::BlockCache;
 use kabi_types::{Class, Memory, Need};
 use kheap_shelves::Purse;
@@ -62,74 +63,6 @@ fn fill(rt: &impl Abort, heap: &mut KHeap, purse: &mut Purse, cache: &mut BlockC
     cache.fill(heap, purse, number as u32, &[number; 1024]);
 }
 
-// The first byte of a block that is cached.
-fn first_byte(heap: &KHeap, cache: &mut BlockCache, number: u32) -> Option<u8>
-    requires { KeepsBlocks heap.now.blocks cache.old }
-    ensures { KeepsBlocks heap.now.blocks cache.new }
-{
-    match cache.get(heap, number) {
-        Some(bytes) => Some(bytes[0]),
-        None => None,
-    }
-}
-
-// The block that is filled; one that isn't cached after it; the bytes of the heap then.
-type Step = (u8, u32, u64);
-
-// Fills one block after the other from a purse of so many.
-fn walk(
-    rt: &impl Abort,
-    alloc: Global,
-    capacity: u32,
-    blocks: u32,
-    steps: &[Step],
-) -> Result<(), Memory>
-    requires { blocks ≤ 4 }
-{
-    let (mut heap, mut cache) = booted(alloc, capacity)?;
-    let mut paid = purse(rt, &heap, blocks);
-    for (number, gone, live) in steps {
-        fill(rt, &mut heap, &mut paid, &mut cache, *number);
-        assert!(rt; first_byte(&heap, &mut cache, *number as u32) == Some(*number));
-        assert!(rt; first_byte(&heap, &mut cache, *gone) == None);
-        assert!(rt; heap.live() == *live && heap.high() == *live);
-    }
-    drop(heap);
-    drop(cache);
-    Ok(())
-}
-
-// Three blocks, of which the first is read, the second written, and each goes in its turn.
-fn go_in_turn(rt: &impl Abort, alloc: Global) -> Result<(), Memory> {
-    let (mut heap, mut cache) = booted(alloc, 3)?;
-    assert!(rt; first_byte(&heap, &mut cache, 1) == None);
-    let mut paid = purse(rt, &heap, 3);
-    fill(rt, &mut heap, &mut paid, &mut cache, 1);
-    fill(rt, &mut heap, &mut paid, &mut cache, 2);
-    fill(rt, &mut heap, &mut paid, &mut cache, 3);
-    assert!(rt; heap.live() == 3264);
-    assert!(rt; first_byte(&heap, &mut cache, 1) == Some(1));
-    assert!(rt; cache.has(2));
-    cache.set(&mut heap, 2, &[9; 1024]);
-    cache.renew(&mut heap, 3, &[8; 1024]);
-    cache.renew(&mut heap, 4, &[8; 1024]);
-    assert!(rt; !cache.has(4) && cache.slot(4) == None && cache.slot(3).is_some());
-    assert!(rt; cache.touch(&heap, 4) == None && cache.touch(&heap, 3).is_some());
-    assert!(rt; first_byte(&heap, &mut cache, 3) == Some(8));
-    assert!(rt; cache.evict_coldest(&mut heap).is_some());
-    assert!(rt; !cache.has(2) && heap.live() == 2176);
-    cache.forget(&mut heap, 1);
-    cache.forget(&mut heap, 2);
-    assert!(rt; !cache.has(1) && cache.has(3) && heap.live() == 1088);
-    assert!(rt; cache.evictable(&heap));
-    assert!(rt; cache.evict_coldest(&mut heap).is_some());
-    assert!(rt; heap.live() == 0 && !cache.evictable(&heap));
-    assert!(rt; cache.evict_coldest(&mut heap).is_none());
-    drop(heap);
-    drop(cache);
-    Ok(())
-}
-
 // Lets a block go.
 fn let_go(rt: &impl Abort, heap: &mut KHeap, paid: &mut Purse, cache: &mut BlockCache, number: u8)
     requires keeps { KeepsBlocks heap.old.blocks cache.old }
@@ -145,69 +78,227 @@ fn let_go(rt: &impl Abort, heap: &mut KHeap, paid: &mut Purse, cache: &mut Block
     cache.let_go(heap, paid, number as u32);
 }
 
-// What was filled is let go of one by one, and then all of it; what was filled before stays.
-fn fills_are_dropped(rt: &impl Abort, alloc: Global) -> Result<(), Memory> {
-    let (mut heap, mut cache) = booted(alloc, 4)?;
-    let mut before = purse(rt, &heap, 1);
-    fill(rt, &mut heap, &mut before, &mut cache, 9);
-    let mut paid = purse(rt, &heap, 2);
-    fill(rt, &mut heap, &mut paid, &mut cache, 1);
-    fill(rt, &mut heap, &mut paid, &mut cache, 2);
-    let_go(rt, &mut heap, &mut paid, &mut cache, 1);
-    assert!(rt; !cache.has(1) && cache.has(2) && paid.left(Class::Block) == 1);
-    fill(rt, &mut heap, &mut paid, &mut cache, 3);
-    assert!(rt; cache.has(2) && heap.live() == 3264);
-    cache.drop_fills(&mut heap, &mut paid);
-    assert!(rt; !cache.has(2) && !cache.has(3) && cache.has(9));
-    assert!(rt; paid.left(Class::Block) == 2 && heap.live() == 1088 && heap.high() == 3264);
+// The first byte of a block that is cached.
+fn first_byte(heap: &KHeap, cache: &mut BlockCache, number: u8) -> Option<u32>
+    requires { KeepsBlocks heap.now.blocks cache.old }
+    ensures { KeepsBlocks heap.now.blocks cache.new }
+{
+    match cache.get(heap, number as u32) {
+        Some(bytes) => Some(bytes[0] as u32),
+        None => None,
+    }
+}
+
+fn look(heap: &KHeap, cache: &mut BlockCache, what: &Look) -> Answer
+    requires { KeepsBlocks heap.now.blocks cache.old }
+    ensures { KeepsBlocks heap.now.blocks cache.new }
+{
+    match what {
+        Look::Get(number) => Answer::Found(first_byte(heap, cache, *number)),
+        Look::Has(number) => Answer::Is(cache.has(*number as u32)),
+        Look::Touch(number) => Answer::Is(cache.touch(heap, *number as u32).is_some()),
+        Look::Slot(number) => Answer::Is(cache.slot(*number as u32).is_some()),
+        Look::IsFull => Answer::Is(cache.is_full()),
+        Look::IsEvictable => Answer::Is(cache.evictable(heap)),
+        Look::High => Answer::Bytes(heap.high()),
+        Look::Pins(_) => Answer::Nothing,
+    }
+}
+
+fn change(rt: &impl Abort, heap: &mut KHeap, cache: &mut BlockCache, what: &Change) -> Answer
+    requires { KeepsBlocks heap.old.blocks cache.old }
+    ensures { KeepsBlocks heap.new.blocks cache.new }
+{
+    match what {
+        Change::Set(number, byte) => {
+            assert!(rt; cache.has(*number as u32));
+            cache.set(heap, *number as u32, &[*byte; 1024]);
+            Answer::Done
+        }
+        Change::Renew(number, byte) => {
+            cache.renew(heap, *number as u32, &[*byte; 1024]);
+            Answer::Done
+        }
+        Change::Forget(number) => {
+            cache.forget(heap, *number as u32);
+            Answer::Done
+        }
+        Change::Evict => Answer::Is(cache.evict_coldest(heap).is_some()),
+    }
+}
+
+fn take(
+    rt: &impl Abort,
+    heap: &mut KHeap,
+    paid: &mut Purse,
+    cache: &mut BlockCache,
+    step: &Step,
+) -> Answer
+    requires keeps { KeepsBlocks heap.old.blocks cache.old }
+    requires pays { CanPay heap.old paid.old }
+    requires fills { HasBlockFills heap.old paid.old }
+    requires few { paid.old.need.block ≤ 4 }
+    ensures keeps { KeepsBlocks heap.new.blocks cache.new }
+    ensures pays { CanPay heap.new paid.new }
+    ensures fills { HasBlockFills heap.new paid.new }
+    ensures few { paid.new.need.block ≤ 4 }
+{
+    match step {
+        Step::Begin(count) => {
+            assert!(rt; *count <= 4);
+            *paid = purse(rt, heap, *count);
+            Answer::Done
+        }
+        Step::Fill(number) => {
+            fill(rt, heap, paid, cache, *number);
+            Answer::Done
+        }
+        Step::LetGo(number) => {
+            let_go(rt, heap, paid, cache, *number);
+            Answer::Done
+        }
+        Step::DropFills => {
+            cache.drop_fills(heap, paid);
+            let left = paid.left(Class::Block);
+            *paid = purse(rt, heap, 0);
+            Answer::Count(left)
+        }
+        Step::Left => Answer::Count(paid.left(Class::Block)),
+        Step::See(what) => look(heap, cache, what),
+        Step::Do(what) => {
+            let answer = change(rt, heap, cache, what);
+            *paid = purse(rt, heap, 0);
+            answer
+        }
+        Step::Pin(_) | Step::Unpin(_) => Answer::Nothing,
+    }
+}
+
+fn check_rows(rt: &impl Abort, heap: &mut KHeap, cache: &mut BlockCache, rows: &[Row])
+    requires { KeepsBlocks heap.old.blocks cache.old }
+{
+    let mut paid = purse(rt, heap, 0);
+    for (k, (step, answer, live)) in rows.iter().enumerate() {
+        let told = take(rt, heap, &mut paid, cache, step);
+        assert!(rt; told == *answer && heap.live() == *live, "row {k}");
+    }
+}
+
+// All of it with a new cache of so many places.
+fn check(rt: &impl Abort, alloc: Global, capacity: u32, rows: &[Row]) -> Result<(), Memory> {
+    let (mut heap, mut cache) = booted(alloc, capacity)?;
+    check_rows(rt, &mut heap, &mut cache, rows);
     drop(heap);
     drop(cache);
     Ok(())
 }
+
+// Each that is filled takes the place of the one that was filled before the last.
+const FIVE: &[Row] = &[
+    (Step::Begin(2), Answer::Done, 0),
+    (Step::Fill(10), Answer::Done, 1088),
+    (Step::See(Look::Get(10)), Answer::Found(Some(10)), 1088),
+    (Step::See(Look::Get(11)), NONE, 1088),
+    (Step::Fill(11), Answer::Done, 2176),
+    (Step::See(Look::Get(11)), Answer::Found(Some(11)), 2176),
+    (Step::Fill(12), Answer::Done, 2176),
+    (Step::See(Look::Get(12)), Answer::Found(Some(12)), 2176),
+    (Step::See(Look::Get(10)), NONE, 2176),
+    (Step::Fill(13), Answer::Done, 2176),
+    (Step::See(Look::Get(13)), Answer::Found(Some(13)), 2176),
+    (Step::See(Look::Get(11)), NONE, 2176),
+    (Step::Fill(14), Answer::Done, 2176),
+    (Step::See(Look::Get(14)), Answer::Found(Some(14)), 2176),
+    (Step::See(Look::Get(12)), NONE, 2176),
+    (Step::See(Look::High), Answer::Bytes(2176), 2176),
+];
 
 #[test]
 fn a_purse_of_two_walks_through_five(rt: HostRuntime) -> Result<(), Fail> {
-    let steps = [
-        (10, 11, 1088),
-        (11, 12, 2176),
-        (12, 10, 2176),
-        (13, 11, 2176),
-        (14, 12, 2176),
-    ];
-    walk(&rt, rt.alloc(), 4, 2, &steps)?;
+    check(&rt, rt.alloc(), 4, FIVE)?;
     Ok(())
 }
+
+const ONE_PLACE: &[Row] = &[
+    (Step::Begin(1), Answer::Done, 0),
+    (Step::Fill(5), Answer::Done, 1088),
+    (Step::See(Look::Get(5)), Answer::Found(Some(5)), 1088),
+    (Step::Fill(6), Answer::Done, 1088),
+    (Step::See(Look::Get(6)), Answer::Found(Some(6)), 1088),
+    (Step::See(Look::Get(5)), NONE, 1088),
+    (Step::Fill(7), Answer::Done, 1088),
+    (Step::See(Look::Has(6)), NO, 1088),
+    (Step::See(Look::IsFull), YES, 1088),
+    (Step::See(Look::High), Answer::Bytes(1088), 1088),
+];
 
 #[test]
 fn one_place_has_the_last_that_was_filled(rt: HostRuntime) -> Result<(), Fail> {
-    walk(
-        &rt,
-        rt.alloc(),
-        1,
-        1,
-        &[(5, 6, 1088), (6, 5, 1088), (7, 6, 1088)],
-    )?;
+    check(&rt, rt.alloc(), 1, ONE_PLACE)?;
     Ok(())
 }
 
-#[test]
-fn nothing_is_cached_at_boot(rt: HostRuntime) -> Result<(), Fail> {
-    let (heap, mut cache) = booted(rt.alloc(), 2)?;
-    assert!(rt; first_byte(&heap, &mut cache, 0) == None);
-    assert!(rt; !cache.evictable(&heap));
-    drop(heap);
-    drop(cache);
-    Ok(())
-}
+// Three blocks, of which the first is read and written, the second written, and each goes in its turn.
+const IN_TURN: &[Row] = &[
+    (Step::See(Look::Get(0)), NONE, 0),
+    (Step::See(Look::IsEvictable), NO, 0),
+    (Step::Begin(3), Answer::Done, 0),
+    (Step::Fill(1), Answer::Done, 1088),
+    (Step::Fill(2), Answer::Done, 2176),
+    (Step::See(Look::IsFull), NO, 2176),
+    (Step::Fill(3), Answer::Done, 3264),
+    (Step::See(Look::IsFull), YES, 3264),
+    (Step::Do(Change::Set(1, 7)), Answer::Done, 3264),
+    (Step::See(Look::Get(1)), Answer::Found(Some(7)), 3264),
+    (Step::Do(Change::Set(2, 9)), Answer::Done, 3264),
+    (Step::Do(Change::Renew(3, 8)), Answer::Done, 3264),
+    (Step::Do(Change::Renew(4, 8)), Answer::Done, 3264),
+    (Step::See(Look::Has(4)), NO, 3264),
+    (Step::See(Look::Slot(4)), NO, 3264),
+    (Step::See(Look::Slot(3)), YES, 3264),
+    (Step::See(Look::Touch(4)), NO, 3264),
+    (Step::See(Look::Touch(3)), YES, 3264),
+    (Step::See(Look::Get(3)), Answer::Found(Some(8)), 3264),
+    (Step::Do(Change::Evict), YES, 2176),
+    (Step::See(Look::Has(2)), NO, 2176),
+    (Step::Do(Change::Forget(1)), Answer::Done, 1088),
+    (Step::Do(Change::Forget(2)), Answer::Done, 1088),
+    (Step::See(Look::Has(1)), NO, 1088),
+    (Step::See(Look::Has(3)), YES, 1088),
+    (Step::See(Look::IsEvictable), YES, 1088),
+    (Step::Do(Change::Evict), YES, 0),
+    (Step::See(Look::IsEvictable), NO, 0),
+    (Step::Do(Change::Evict), NO, 0),
+];
 
 #[test]
 fn blocks_go_in_turn(rt: HostRuntime) -> Result<(), Fail> {
-    go_in_turn(&rt, rt.alloc())?;
+    check(&rt, rt.alloc(), 3, IN_TURN)?;
     Ok(())
 }
 
+// What was filled is let go of one by one, and then all of it; what was filled before stays.
+const DROPPED: &[Row] = &[
+    (Step::Begin(1), Answer::Done, 0),
+    (Step::Fill(9), Answer::Done, 1088),
+    (Step::Begin(2), Answer::Done, 1088),
+    (Step::Fill(1), Answer::Done, 2176),
+    (Step::Fill(2), Answer::Done, 3264),
+    (Step::LetGo(1), Answer::Done, 2176),
+    (Step::See(Look::Has(1)), NO, 2176),
+    (Step::See(Look::Has(2)), YES, 2176),
+    (Step::Left, Answer::Count(1), 2176),
+    (Step::Fill(3), Answer::Done, 3264),
+    (Step::See(Look::Has(2)), YES, 3264),
+    (Step::DropFills, Answer::Count(2), 1088),
+    (Step::See(Look::Has(2)), NO, 1088),
+    (Step::See(Look::Has(3)), NO, 1088),
+    (Step::See(Look::Has(9)), YES, 1088),
+    (Step::See(Look::High), Answer::Bytes(3264), 1088),
+];
+
 #[test]
 fn what_was_filled_is_dropped(rt: HostRuntime) -> Result<(), Fail> {
-    fills_are_dropped(&rt, rt.alloc())?;
+    check(&rt, rt.alloc(), 4, DROPPED)?;
     Ok(())
 }

@@ -1,4 +1,4 @@
-//! Each cache by hand. Tests alone.
+//! Each cache by hand, with the heap's bytes at each step. Tests alone.
 #![tactic(auto)]
 
 #[cfg(test)]
@@ -7,3 +7,5 @@ mod blocks;
 mod names;
 #[cfg(test)]
 mod nodes;
+#[cfg(test)]
+mod steps;

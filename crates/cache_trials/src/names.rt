@@ -1,8 +1,9 @@
-//! Caches by hand, with the heap's bytes and what is cached at each step.
+//! Names, of 64 bytes in the heap.
 ghost use Rattle.std.specs.Prelude.{◌≡◌, ◌≤◌, IfOk};
 ghost use Rattle.kheap_slabs.specs.Paid.{CanPay};
 ghost use Rattle.name_cache.specs.Names.{IsNameKey, KeepsNames, HasNameFills};
 
+use crate::steps::{Answer, Change, Look, NO, NONE, Row, Step, YES};
 use kabi_types::{Class, Memory, Name27, Need};
 use kheap_shelves::Purse;
 use kheap_slabs::KHeap;
@@ -72,60 +73,6 @@ fn fill(rt: &impl Abort, heap: &mut KHeap, purse: &mut Purse, cache: &mut NameCa
     cache.fill(heap, purse, key, byte as u32);
 }
 
-// The name that is filled; one that isn't cached after it; the bytes of the heap then.
-type Step = (u8, u8, u64);
-
-// Fills one name after the other from a purse of so many.
-fn walk(
-    rt: &impl Abort,
-    alloc: Global,
-    capacity: u32,
-    names: u32,
-    steps: &[Step],
-) -> Result<(), Memory>
-    requires { names ≤ 4 }
-{
-    let (mut heap, mut cache) = booted(alloc, capacity)?;
-    let mut paid = purse(rt, &heap, names);
-    for (name, gone, live) in steps {
-        fill(rt, &mut heap, &mut paid, &mut cache, *name);
-        assert!(rt; cache.get(&heap, key(rt, *name)) == Some(*name as u32));
-        assert!(rt; cache.get(&heap, key(rt, *gone)) == None);
-        assert!(rt; heap.live() == *live && heap.high() == *live);
-    }
-    drop(heap);
-    drop(cache);
-    Ok(())
-}
-
-// Three names, of which the first is found, the second told of another node, and each goes in its
-// turn.
-fn go_in_turn(rt: &impl Abort, alloc: Global) -> Result<(), Memory> {
-    let (mut heap, mut cache) = booted(alloc, 3)?;
-    let (one, two, three) = (key(rt, 1), key(rt, 2), key(rt, 3));
-    assert!(rt; cache.get(&heap, one) == None && !cache.evictable(&heap));
-    let mut paid = purse(rt, &heap, 3);
-    fill(rt, &mut heap, &mut paid, &mut cache, 1);
-    fill(rt, &mut heap, &mut paid, &mut cache, 2);
-    fill(rt, &mut heap, &mut paid, &mut cache, 3);
-    assert!(rt; heap.live() == 192 && cache.is_full());
-    assert!(rt; cache.get(&heap, one) == Some(1));
-    assert!(rt; cache.has(two));
-    cache.set(&mut heap, two, 9);
-    assert!(rt; cache.evict_coldest(&mut heap).is_some());
-    assert!(rt; !cache.has(two) && cache.has(one) && cache.has(three) && heap.live() == 128);
-    cache.forget(&mut heap, two);
-    cache.forget(&mut heap, one);
-    assert!(rt; !cache.has(one) && cache.has(three) && heap.live() == 64);
-    assert!(rt; cache.evictable(&heap));
-    assert!(rt; cache.evict_coldest(&mut heap).is_some());
-    assert!(rt; heap.live() == 0 && heap.high() == 192);
-    assert!(rt; cache.evict_coldest(&mut heap).is_none());
-    drop(heap);
-    drop(cache);
-    Ok(())
-}
-
 // Lets a name go.
 fn let_go(rt: &impl Abort, heap: &mut KHeap, paid: &mut Purse, cache: &mut NameCache, byte: u8)
     requires keeps { KeepsNames heap.old.names cache.old }
@@ -137,68 +84,211 @@ fn let_go(rt: &impl Abort, heap: &mut KHeap, paid: &mut Purse, cache: &mut NameC
     ensures fills { HasNameFills heap.new paid.new }
     ensures few { paid.new.need.name ≤ 4 }
 {
-    assert!(rt; cache.has(key(rt, byte)));
-    cache.let_go(heap, paid, key(rt, byte));
+    let key = key(rt, byte);
+    assert!(rt; cache.has(key));
+    cache.let_go(heap, paid, key);
 }
 
-// What was filled is let go of one by one, and then all of it; what was filled before stays.
-fn fills_are_dropped(rt: &impl Abort, alloc: Global) -> Result<(), Memory> {
-    let (mut heap, mut cache) = booted(alloc, 4)?;
-    let mut before = purse(rt, &heap, 1);
-    fill(rt, &mut heap, &mut before, &mut cache, 9);
-    let mut paid = purse(rt, &heap, 2);
-    fill(rt, &mut heap, &mut paid, &mut cache, 1);
-    fill(rt, &mut heap, &mut paid, &mut cache, 2);
-    let (one, two, nine) = (key(rt, 1), key(rt, 2), key(rt, 9));
-    let_go(rt, &mut heap, &mut paid, &mut cache, 1);
-    assert!(rt; !cache.has(one) && cache.has(two) && paid.left(Class::Name) == 1);
-    fill(rt, &mut heap, &mut paid, &mut cache, 3);
-    assert!(rt; cache.has(two) && heap.live() == 192);
-    cache.drop_fills(&mut heap, &mut paid);
-    assert!(rt; !cache.has(two) && !cache.has(key(rt, 3)) && cache.has(nine));
-    assert!(rt; paid.left(Class::Name) == 2 && heap.live() == 64 && heap.high() == 192);
+fn look(rt: &impl Abort, heap: &KHeap, cache: &mut NameCache, what: &Look) -> Answer
+    requires { KeepsNames heap.now.names cache.old }
+    ensures { KeepsNames heap.now.names cache.new }
+{
+    match what {
+        Look::Get(byte) => Answer::Found(cache.get(heap, key(rt, *byte))),
+        Look::Has(byte) => Answer::Is(cache.has(key(rt, *byte))),
+        Look::IsFull => Answer::Is(cache.is_full()),
+        Look::IsEvictable => Answer::Is(cache.evictable(heap)),
+        Look::High => Answer::Bytes(heap.high()),
+        Look::Touch(_) | Look::Slot(_) | Look::Pins(_) => Answer::Nothing,
+    }
+}
+
+fn change(rt: &impl Abort, heap: &mut KHeap, cache: &mut NameCache, what: &Change) -> Answer
+    requires { KeepsNames heap.old.names cache.old }
+    ensures { KeepsNames heap.new.names cache.new }
+{
+    match what {
+        Change::Set(byte, node) => {
+            let key = key(rt, *byte);
+            assert!(rt; cache.has(key));
+            cache.set(heap, key, *node as u32);
+            Answer::Done
+        }
+        Change::Forget(byte) => {
+            cache.forget(heap, key(rt, *byte));
+            Answer::Done
+        }
+        Change::Evict => Answer::Is(cache.evict_coldest(heap).is_some()),
+        Change::Renew(_, _) => Answer::Nothing,
+    }
+}
+
+fn take(
+    rt: &impl Abort,
+    heap: &mut KHeap,
+    paid: &mut Purse,
+    cache: &mut NameCache,
+    step: &Step,
+) -> Answer
+    requires keeps { KeepsNames heap.old.names cache.old }
+    requires pays { CanPay heap.old paid.old }
+    requires fills { HasNameFills heap.old paid.old }
+    requires few { paid.old.need.name ≤ 4 }
+    ensures keeps { KeepsNames heap.new.names cache.new }
+    ensures pays { CanPay heap.new paid.new }
+    ensures fills { HasNameFills heap.new paid.new }
+    ensures few { paid.new.need.name ≤ 4 }
+{
+    match step {
+        Step::Begin(count) => {
+            assert!(rt; *count <= 4);
+            *paid = purse(rt, heap, *count);
+            Answer::Done
+        }
+        Step::Fill(number) => {
+            fill(rt, heap, paid, cache, *number);
+            Answer::Done
+        }
+        Step::LetGo(number) => {
+            let_go(rt, heap, paid, cache, *number);
+            Answer::Done
+        }
+        Step::DropFills => {
+            cache.drop_fills(heap, paid);
+            let left = paid.left(Class::Name);
+            *paid = purse(rt, heap, 0);
+            Answer::Count(left)
+        }
+        Step::Left => Answer::Count(paid.left(Class::Name)),
+        Step::See(what) => look(rt, heap, cache, what),
+        Step::Do(what) => {
+            let answer = change(rt, heap, cache, what);
+            *paid = purse(rt, heap, 0);
+            answer
+        }
+        Step::Pin(_) | Step::Unpin(_) => Answer::Nothing,
+    }
+}
+
+fn check_rows(rt: &impl Abort, heap: &mut KHeap, cache: &mut NameCache, rows: &[Row])
+    requires { KeepsNames heap.old.names cache.old }
+{
+    let mut paid = purse(rt, heap, 0);
+    for (k, (step, answer, live)) in rows.iter().enumerate() {
+        let told = take(rt, heap, &mut paid, cache, step);
+        assert!(rt; told == *answer && heap.live() == *live, "row {k}");
+    }
+}
+
+// All of it with a new cache of so many places.
+fn check(rt: &impl Abort, alloc: Global, capacity: u32, rows: &[Row]) -> Result<(), Memory> {
+    let (mut heap, mut cache) = booted(alloc, capacity)?;
+    check_rows(rt, &mut heap, &mut cache, rows);
     drop(heap);
     drop(cache);
     Ok(())
 }
+
+// Each that is filled takes the place of the one that was filled before the last.
+const FIVE: &[Row] = &[
+    (Step::Begin(2), Answer::Done, 0),
+    (Step::Fill(10), Answer::Done, 64),
+    (Step::See(Look::Get(10)), Answer::Found(Some(10)), 64),
+    (Step::See(Look::Get(11)), NONE, 64),
+    (Step::Fill(11), Answer::Done, 128),
+    (Step::See(Look::Get(11)), Answer::Found(Some(11)), 128),
+    (Step::Fill(12), Answer::Done, 128),
+    (Step::See(Look::Get(12)), Answer::Found(Some(12)), 128),
+    (Step::See(Look::Get(10)), NONE, 128),
+    (Step::Fill(13), Answer::Done, 128),
+    (Step::See(Look::Get(13)), Answer::Found(Some(13)), 128),
+    (Step::See(Look::Get(11)), NONE, 128),
+    (Step::Fill(14), Answer::Done, 128),
+    (Step::See(Look::Get(14)), Answer::Found(Some(14)), 128),
+    (Step::See(Look::Get(12)), NONE, 128),
+    (Step::See(Look::High), Answer::Bytes(128), 128),
+];
 
 #[test]
 fn a_purse_of_two_walks_through_five(rt: HostRuntime) -> Result<(), Fail> {
-    let steps = [
-        (10, 11, 64),
-        (11, 12, 128),
-        (12, 10, 128),
-        (13, 11, 128),
-        (14, 12, 128),
-    ];
-    walk(&rt, rt.alloc(), 4, 2, &steps)?;
+    check(&rt, rt.alloc(), 4, FIVE)?;
     Ok(())
 }
+
+const ONE_PLACE: &[Row] = &[
+    (Step::Begin(1), Answer::Done, 0),
+    (Step::Fill(5), Answer::Done, 64),
+    (Step::See(Look::Get(5)), Answer::Found(Some(5)), 64),
+    (Step::Fill(6), Answer::Done, 64),
+    (Step::See(Look::Get(6)), Answer::Found(Some(6)), 64),
+    (Step::See(Look::Get(5)), NONE, 64),
+    (Step::Fill(7), Answer::Done, 64),
+    (Step::See(Look::Has(6)), NO, 64),
+    (Step::See(Look::IsFull), YES, 64),
+    (Step::See(Look::High), Answer::Bytes(64), 64),
+];
 
 #[test]
 fn one_place_has_the_last_that_was_filled(rt: HostRuntime) -> Result<(), Fail> {
-    walk(&rt, rt.alloc(), 1, 1, &[(5, 6, 64), (6, 5, 64), (7, 6, 64)])?;
+    check(&rt, rt.alloc(), 1, ONE_PLACE)?;
     Ok(())
 }
+
+// Three names, of which the first is found and told of another node, the second too, and each goes in its turn.
+const IN_TURN: &[Row] = &[
+    (Step::See(Look::Get(0)), NONE, 0),
+    (Step::See(Look::IsEvictable), NO, 0),
+    (Step::Begin(3), Answer::Done, 0),
+    (Step::Fill(1), Answer::Done, 64),
+    (Step::Fill(2), Answer::Done, 128),
+    (Step::See(Look::IsFull), NO, 128),
+    (Step::Fill(3), Answer::Done, 192),
+    (Step::See(Look::IsFull), YES, 192),
+    (Step::Do(Change::Set(1, 7)), Answer::Done, 192),
+    (Step::See(Look::Get(1)), Answer::Found(Some(7)), 192),
+    (Step::Do(Change::Set(2, 9)), Answer::Done, 192),
+    (Step::See(Look::Has(4)), NO, 192),
+    (Step::See(Look::Get(3)), Answer::Found(Some(3)), 192),
+    (Step::Do(Change::Evict), YES, 128),
+    (Step::See(Look::Has(2)), NO, 128),
+    (Step::Do(Change::Forget(1)), Answer::Done, 64),
+    (Step::Do(Change::Forget(2)), Answer::Done, 64),
+    (Step::See(Look::Has(1)), NO, 64),
+    (Step::See(Look::Has(3)), YES, 64),
+    (Step::See(Look::IsEvictable), YES, 64),
+    (Step::Do(Change::Evict), YES, 0),
+    (Step::See(Look::IsEvictable), NO, 0),
+    (Step::Do(Change::Evict), NO, 0),
+];
 
 #[test]
 fn names_go_in_turn(rt: HostRuntime) -> Result<(), Fail> {
-    go_in_turn(&rt, rt.alloc())?;
+    check(&rt, rt.alloc(), 3, IN_TURN)?;
     Ok(())
 }
 
-#[test]
-fn nothing_is_cached_at_boot(rt: HostRuntime) -> Result<(), Fail> {
-    let (heap, mut cache) = booted(rt.alloc(), 2)?;
-    assert!(&rt; cache.get(&heap, key(&rt, 1)) == None);
-    assert!(&rt; !cache.evictable(&heap));
-    drop(heap);
-    drop(cache);
-    Ok(())
-}
+// What was filled is let go of one by one, and then all of it; what was filled before stays.
+const DROPPED: &[Row] = &[
+    (Step::Begin(1), Answer::Done, 0),
+    (Step::Fill(9), Answer::Done, 64),
+    (Step::Begin(2), Answer::Done, 64),
+    (Step::Fill(1), Answer::Done, 128),
+    (Step::Fill(2), Answer::Done, 192),
+    (Step::LetGo(1), Answer::Done, 128),
+    (Step::See(Look::Has(1)), NO, 128),
+    (Step::See(Look::Has(2)), YES, 128),
+    (Step::Left, Answer::Count(1), 128),
+    (Step::Fill(3), Answer::Done, 192),
+    (Step::See(Look::Has(2)), YES, 192),
+    (Step::DropFills, Answer::Count(2), 64),
+    (Step::See(Look::Has(2)), NO, 64),
+    (Step::See(Look::Has(3)), NO, 64),
+    (Step::See(Look::Has(9)), YES, 64),
+    (Step::See(Look::High), Answer::Bytes(192), 64),
+];
 
 #[test]
 fn what_was_filled_is_dropped(rt: HostRuntime) -> Result<(), Fail> {
-    fills_are_dropped(&rt, rt.alloc())?;
+    check(&rt, rt.alloc(), 4, DROPPED)?;
     Ok(())
 }

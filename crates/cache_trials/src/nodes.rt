@@ -1,4 +1,4 @@
-//! Caches by hand, with the heap's bytes and what is cached at each step.
+//! Nodes, of 128 bytes in the heap.
 ghost use Rattle.std.specs.Prelude.{◌≡◌, ◌≤◌, ℕ, IfOk, length, true};
 ghost use Rattle.std.specs.List.{Contains};
 ghost use Rattle.kheap_shelves.specs.Objects.{InUse};
@@ -6,6 +6,7 @@ ghost use Rattle.kheap_slabs.specs.Paid.{CanPay};
 ghost use Rattle.vnode_cache.specs.Nodes.{KeepsNodes, AreLoose, SomeLoose};
 ghost use Rattle.vnode_cache.specs.Calls.{HasNodeFills};
 
+use crate::steps::{Answer, Change, Look, NO, NONE, Row, Step, YES};
 use kabi_types::{Class, Inode, Memory, Need};
 use kheap_shelves::Purse;
 use kheap_slabs::KHeap;
@@ -160,14 +161,22 @@ fn drop_fills(rt: &impl Abort, heap: &mut KHeap, paid: &mut Purse, cache: &mut V
 }
 
 // The size of a file that is cached.
-fn size(heap: &KHeap, cache: &mut VnodeCache, number: u32) -> Option<u32>
+fn size(heap: &KHeap, cache: &mut VnodeCache, number: u8) -> Option<u32>
     requires { KeepsNodes heap.now.vnodes cache.old }
     ensures { KeepsNodes heap.now.vnodes cache.new }
 {
-    match cache.get(heap, number) {
+    match cache.get(heap, number as u32) {
         Some(inode) => Some(inode.size),
         None => None,
     }
+}
+
+// How often a file is held that is cached.
+fn pins(rt: &impl Abort, heap: &KHeap, cache: &VnodeCache, number: u8) -> u32
+    requires { KeepsNodes heap.now.vnodes cache.now }
+{
+    assert!(rt; cache.has(number as u32));
+    cache.pins(heap, number as u32)
 }
 
 // Whether one went, as it was told before that one may.
@@ -181,164 +190,239 @@ fn evict(rt: &impl Abort, heap: &mut KHeap, cache: &mut VnodeCache) -> bool
     gone
 }
 
-// Of three files the first is held: the second goes before it, and then the third, that is held too,
-// stays. Once the first is let go of, it goes.
-fn held_ones_stay(rt: &impl Abort, alloc: Global) -> Result<(), Memory> {
-    let (mut heap, mut cache) = booted(alloc, 3)?;
-    let mut paid = purse(rt, &heap, 3);
-    fill(rt, &mut heap, &mut paid, &mut cache, 1);
-    fill(rt, &mut heap, &mut paid, &mut cache, 2);
-    fill(rt, &mut heap, &mut paid, &mut cache, 3);
-    assert!(rt; heap.live() == 384 && heap.high() == 384 && cache.is_full());
-    hold_in_turn(rt, &mut heap, &mut cache);
-    assert!(rt; heap.live() == 128 && heap.high() == 384);
-    drop(heap);
-    drop(cache);
-    Ok(())
-}
-
-fn hold_in_turn(rt: &impl Abort, heap: &mut KHeap, cache: &mut VnodeCache)
-    requires { KeepsNodes heap.old.vnodes cache.old }
+fn look(rt: &impl Abort, heap: &KHeap, cache: &mut VnodeCache, what: &Look) -> Answer
+    requires { KeepsNodes heap.now.vnodes cache.old }
+    ensures { KeepsNodes heap.now.vnodes cache.new }
 {
-    let none = purse(rt, heap, 0);
-    pin(rt, heap, &none, cache, 1);
-    assert!(rt; evict(rt, heap, cache));
-    assert!(rt; cache.has(1) && !cache.has(2) && cache.has(3) && heap.live() == 256);
-    let none = purse(rt, heap, 0);
-    pin(rt, heap, &none, cache, 3);
-    pin(rt, heap, &none, cache, 3);
-    assert!(rt; !evict(rt, heap, cache));
-    let none = purse(rt, heap, 0);
-    unpin(rt, heap, &none, cache, 3);
-    assert!(rt; !evict(rt, heap, cache));
-    assert!(rt; heap.live() == 256);
-    let none = purse(rt, heap, 0);
-    unpin(rt, heap, &none, cache, 1);
-    assert!(rt; evict(rt, heap, cache));
-    assert!(rt; !cache.has(1) && cache.has(3) && !evict(rt, heap, cache));
-}
-
-// What is written is read, and leaves held who is held. To read makes a file the warmest.
-fn reads_and_writes(rt: &impl Abort, alloc: Global) -> Result<(), Memory> {
-    let (mut heap, mut cache) = booted(alloc, 2)?;
-    assert!(rt; size(&heap, &mut cache, 1) == None);
-    assert!(rt; !cache.evictable(&heap));
-    let mut paid = purse(rt, &heap, 2);
-    fill(rt, &mut heap, &mut paid, &mut cache, 1);
-    fill(rt, &mut heap, &mut paid, &mut cache, 2);
-    assert!(rt; size(&heap, &mut cache, 1) == Some(1));
-    assert!(rt; cache.has(2));
-    cache.set(&mut heap, 2, file(70));
-    assert!(rt; evict(rt, &mut heap, &mut cache));
-    assert!(rt; !cache.has(2) && heap.live() == 128);
-    write_while_held(rt, &mut heap, &mut cache);
-    drop(heap);
-    drop(cache);
-    Ok(())
-}
-
-fn write_while_held(rt: &impl Abort, heap: &mut KHeap, cache: &mut VnodeCache)
-    requires { KeepsNodes heap.old.vnodes cache.old }
-{
-    let none = purse(rt, heap, 0);
-    pin(rt, heap, &none, cache, 1);
-    assert!(rt; cache.has(1));
-    cache.set(heap, 1, file(71));
-    assert!(rt; cache.has(1));
-    assert!(rt; cache.pins(heap, 1) == 1);
-    assert!(rt; size(heap, cache, 1) == Some(71));
-}
-
-// The file that is filled; one that isn't cached after it; the bytes of the heap then.
-type Step = (u32, u32, u64);
-
-// Fills one file after the other from a purse of so many.
-fn walk(
-    rt: &impl Abort,
-    alloc: Global,
-    capacity: u32,
-    files: u32,
-    steps: &[Step],
-) -> Result<(), Memory>
-    requires { files ≤ 4 }
-{
-    let (mut heap, mut cache) = booted(alloc, capacity)?;
-    let mut paid = purse(rt, &heap, files);
-    for (number, gone, live) in steps {
-        fill(rt, &mut heap, &mut paid, &mut cache, *number);
-        assert!(rt; size(&heap, &mut cache, *number) == Some(*number));
-        assert!(rt; size(&heap, &mut cache, *gone) == None);
-        assert!(rt; heap.live() == *live && heap.high() == *live);
+    match what {
+        Look::Get(number) => Answer::Found(size(heap, cache, *number)),
+        Look::Has(number) => Answer::Is(cache.has(*number as u32)),
+        Look::Pins(number) => Answer::Count(pins(rt, heap, cache, *number)),
+        Look::IsFull => Answer::Is(cache.is_full()),
+        Look::IsEvictable => Answer::Is(cache.evictable(heap)),
+        Look::High => Answer::Bytes(heap.high()),
+        Look::Touch(_) | Look::Slot(_) => Answer::Nothing,
     }
+}
+
+fn change(rt: &impl Abort, heap: &mut KHeap, cache: &mut VnodeCache, what: &Change) -> Answer
+    requires { KeepsNodes heap.old.vnodes cache.old }
+    ensures { KeepsNodes heap.new.vnodes cache.new }
+{
+    match what {
+        Change::Set(number, size) => {
+            assert!(rt; cache.has(*number as u32));
+            cache.set(heap, *number as u32, file(*size as u32));
+            Answer::Done
+        }
+        Change::Evict => Answer::Is(evict(rt, heap, cache)),
+        Change::Renew(_, _) | Change::Forget(_) => Answer::Nothing,
+    }
+}
+
+fn take(
+    rt: &impl Abort,
+    heap: &mut KHeap,
+    paid: &mut Purse,
+    cache: &mut VnodeCache,
+    step: &Step,
+) -> Answer
+    requires keeps { KeepsNodes heap.old.vnodes cache.old }
+    requires pays { CanPay heap.old paid.old }
+    requires fills { HasNodeFills heap.old paid.old }
+    requires few { paid.old.need.vnode ≤ 4 }
+    ensures keeps { KeepsNodes heap.new.vnodes cache.new }
+    ensures pays { CanPay heap.new paid.new }
+    ensures fills { HasNodeFills heap.new paid.new }
+    ensures few { paid.new.need.vnode ≤ 4 }
+{
+    match step {
+        Step::Begin(count) => {
+            assert!(rt; *count <= 4);
+            *paid = purse(rt, heap, *count);
+            Answer::Done
+        }
+        Step::Fill(number) => {
+            fill(rt, heap, paid, cache, *number as u32);
+            Answer::Done
+        }
+        Step::LetGo(number) => {
+            let_go(rt, heap, paid, cache, *number as u32);
+            Answer::Done
+        }
+        Step::DropFills => {
+            drop_fills(rt, heap, paid, cache);
+            let left = paid.left(Class::Vnode);
+            *paid = purse(rt, heap, 0);
+            Answer::Count(left)
+        }
+        Step::Left => Answer::Count(paid.left(Class::Vnode)),
+        Step::See(what) => look(rt, heap, cache, what),
+        Step::Do(what) => {
+            let answer = change(rt, heap, cache, what);
+            *paid = purse(rt, heap, 0);
+            answer
+        }
+        Step::Pin(number) => {
+            pin(rt, heap, paid, cache, *number as u32);
+            Answer::Done
+        }
+        Step::Unpin(number) => {
+            unpin(rt, heap, paid, cache, *number as u32);
+            Answer::Done
+        }
+    }
+}
+
+fn check_rows(rt: &impl Abort, heap: &mut KHeap, cache: &mut VnodeCache, rows: &[Row])
+    requires { KeepsNodes heap.old.vnodes cache.old }
+{
+    let mut paid = purse(rt, heap, 0);
+    for (k, (step, answer, live)) in rows.iter().enumerate() {
+        let told = take(rt, heap, &mut paid, cache, step);
+        assert!(rt; told == *answer && heap.live() == *live, "row {k}");
+    }
+}
+
+// All of it with a new cache of so many places.
+fn check(rt: &impl Abort, alloc: Global, capacity: u32, rows: &[Row]) -> Result<(), Memory> {
+    let (mut heap, mut cache) = booted(alloc, capacity)?;
+    check_rows(rt, &mut heap, &mut cache, rows);
     drop(heap);
     drop(cache);
     Ok(())
 }
 
-// Of two files that were filled the first is held, so the second goes before a third. What was
-// filled is let go of one by one, and then all of it; what was filled before stays.
-fn fills_pass_over(rt: &impl Abort, alloc: Global) -> Result<(), Memory> {
-    let (mut heap, mut cache) = booted(alloc, 4)?;
-    let mut before = purse(rt, &heap, 1);
-    fill(rt, &mut heap, &mut before, &mut cache, 9);
-    let mut paid = purse(rt, &heap, 2);
-    fill(rt, &mut heap, &mut paid, &mut cache, 1);
-    fill(rt, &mut heap, &mut paid, &mut cache, 2);
-    pin(rt, &mut heap, &paid, &mut cache, 1);
-    fill(rt, &mut heap, &mut paid, &mut cache, 3);
-    assert!(rt; cache.has(1) && !cache.has(2) && cache.has(3) && heap.live() == 384);
-    unpin(rt, &mut heap, &paid, &mut cache, 1);
-    let_go(rt, &mut heap, &mut paid, &mut cache, 3);
-    assert!(rt; !cache.has(3) && paid.left(Class::Vnode) == 1 && heap.live() == 256);
-    fill(rt, &mut heap, &mut paid, &mut cache, 4);
-    assert!(rt; cache.has(1) && cache.has(4) && heap.live() == 384);
-    drop_fills(rt, &mut heap, &mut paid, &mut cache);
-    assert!(rt; !cache.has(1) && !cache.has(4) && cache.has(9));
-    assert!(rt; paid.left(Class::Vnode) == 2 && heap.live() == 128 && heap.high() == 384);
-    drop(heap);
-    drop(cache);
-    Ok(())
-}
+// Each that is filled takes the place of the one that was filled before the last.
+const FIVE: &[Row] = &[
+    (Step::Begin(2), Answer::Done, 0),
+    (Step::Fill(10), Answer::Done, 128),
+    (Step::See(Look::Get(10)), Answer::Found(Some(10)), 128),
+    (Step::See(Look::Get(11)), NONE, 128),
+    (Step::Fill(11), Answer::Done, 256),
+    (Step::See(Look::Get(11)), Answer::Found(Some(11)), 256),
+    (Step::Fill(12), Answer::Done, 256),
+    (Step::See(Look::Get(12)), Answer::Found(Some(12)), 256),
+    (Step::See(Look::Get(10)), NONE, 256),
+    (Step::Fill(13), Answer::Done, 256),
+    (Step::See(Look::Get(13)), Answer::Found(Some(13)), 256),
+    (Step::See(Look::Get(11)), NONE, 256),
+    (Step::Fill(14), Answer::Done, 256),
+    (Step::See(Look::Get(14)), Answer::Found(Some(14)), 256),
+    (Step::See(Look::Get(12)), NONE, 256),
+    (Step::See(Look::High), Answer::Bytes(256), 256),
+];
 
 #[test]
 fn a_purse_of_two_walks_through_five(rt: HostRuntime) -> Result<(), Fail> {
-    let steps = [
-        (10, 11, 128),
-        (11, 12, 256),
-        (12, 10, 256),
-        (13, 11, 256),
-        (14, 12, 256),
-    ];
-    walk(&rt, rt.alloc(), 4, 2, &steps)?;
+    check(&rt, rt.alloc(), 4, FIVE)?;
     Ok(())
 }
+
+const ONE_PLACE: &[Row] = &[
+    (Step::Begin(1), Answer::Done, 0),
+    (Step::Fill(5), Answer::Done, 128),
+    (Step::See(Look::Get(5)), Answer::Found(Some(5)), 128),
+    (Step::Fill(6), Answer::Done, 128),
+    (Step::See(Look::Get(6)), Answer::Found(Some(6)), 128),
+    (Step::See(Look::Get(5)), NONE, 128),
+    (Step::Fill(7), Answer::Done, 128),
+    (Step::See(Look::Has(6)), NO, 128),
+    (Step::See(Look::IsFull), YES, 128),
+    (Step::See(Look::High), Answer::Bytes(128), 128),
+];
 
 #[test]
 fn one_place_has_the_last_that_was_filled(rt: HostRuntime) -> Result<(), Fail> {
-    walk(
-        &rt,
-        rt.alloc(),
-        1,
-        1,
-        &[(5, 6, 128), (6, 5, 128), (7, 6, 128)],
-    )?;
+    check(&rt, rt.alloc(), 1, ONE_PLACE)?;
     Ok(())
 }
 
-#[test]
-fn a_fill_passes_over_what_is_held(rt: HostRuntime) -> Result<(), Fail> {
-    fills_pass_over(&rt, rt.alloc())?;
-    Ok(())
-}
+// Of three files the first is held: the second goes before it, and then the third, that is held too, stays. Once the first is
+// let go of, it goes.
+const HELD: &[Row] = &[
+    (Step::Begin(3), Answer::Done, 0),
+    (Step::Fill(1), Answer::Done, 128),
+    (Step::Fill(2), Answer::Done, 256),
+    (Step::Fill(3), Answer::Done, 384),
+    (Step::See(Look::High), Answer::Bytes(384), 384),
+    (Step::See(Look::IsFull), YES, 384),
+    (Step::Pin(1), Answer::Done, 384),
+    (Step::Do(Change::Evict), YES, 256),
+    (Step::See(Look::Has(1)), YES, 256),
+    (Step::See(Look::Has(2)), NO, 256),
+    (Step::See(Look::Has(3)), YES, 256),
+    (Step::Pin(3), Answer::Done, 256),
+    (Step::Pin(3), Answer::Done, 256),
+    (Step::Do(Change::Evict), NO, 256),
+    (Step::Unpin(3), Answer::Done, 256),
+    (Step::Do(Change::Evict), NO, 256),
+    (Step::Unpin(1), Answer::Done, 256),
+    (Step::Do(Change::Evict), YES, 128),
+    (Step::See(Look::Has(1)), NO, 128),
+    (Step::See(Look::Has(3)), YES, 128),
+    (Step::Do(Change::Evict), NO, 128),
+    (Step::See(Look::High), Answer::Bytes(384), 128),
+];
 
 #[test]
 fn a_held_file_stays(rt: HostRuntime) -> Result<(), Fail> {
-    held_ones_stay(&rt, rt.alloc())?;
+    check(&rt, rt.alloc(), 3, HELD)?;
     Ok(())
 }
 
+// What is written is read, and leaves held who is held. To read makes a file the warmest.
+const WRITTEN: &[Row] = &[
+    (Step::See(Look::Get(1)), NONE, 0),
+    (Step::See(Look::IsEvictable), NO, 0),
+    (Step::Begin(2), Answer::Done, 0),
+    (Step::Fill(1), Answer::Done, 128),
+    (Step::Fill(2), Answer::Done, 256),
+    (Step::See(Look::Get(1)), Answer::Found(Some(1)), 256),
+    (Step::Do(Change::Set(2, 70)), Answer::Done, 256),
+    (Step::Do(Change::Evict), YES, 128),
+    (Step::See(Look::Has(2)), NO, 128),
+    (Step::Pin(1), Answer::Done, 128),
+    (Step::Do(Change::Set(1, 71)), Answer::Done, 128),
+    (Step::See(Look::Pins(1)), Answer::Count(1), 128),
+    (Step::See(Look::Get(1)), Answer::Found(Some(71)), 128),
+];
+
 #[test]
 fn a_file_is_written_and_read(rt: HostRuntime) -> Result<(), Fail> {
-    reads_and_writes(&rt, rt.alloc())?;
+    check(&rt, rt.alloc(), 2, WRITTEN)?;
+    Ok(())
+}
+
+// Of two files that were filled the first is held, so the second goes before a third. What was filled is let go of one by one,
+// and then all of it; what was filled before stays.
+const PASSED_OVER: &[Row] = &[
+    (Step::Begin(1), Answer::Done, 0),
+    (Step::Fill(9), Answer::Done, 128),
+    (Step::Begin(2), Answer::Done, 128),
+    (Step::Fill(1), Answer::Done, 256),
+    (Step::Fill(2), Answer::Done, 384),
+    (Step::Pin(1), Answer::Done, 384),
+    (Step::Fill(3), Answer::Done, 384),
+    (Step::See(Look::Has(1)), YES, 384),
+    (Step::See(Look::Has(2)), NO, 384),
+    (Step::See(Look::Has(3)), YES, 384),
+    (Step::Unpin(1), Answer::Done, 384),
+    (Step::LetGo(3), Answer::Done, 256),
+    (Step::See(Look::Has(3)), NO, 256),
+    (Step::Left, Answer::Count(1), 256),
+    (Step::Fill(4), Answer::Done, 384),
+    (Step::See(Look::Has(1)), YES, 384),
+    (Step::See(Look::Has(4)), YES, 384),
+    (Step::DropFills, Answer::Count(2), 128),
+    (Step::See(Look::Has(1)), NO, 128),
+    (Step::See(Look::Has(4)), NO, 128),
+    (Step::See(Look::Has(9)), YES, 128),
+    (Step::See(Look::High), Answer::Bytes(384), 128),
+];
+
+#[test]
+fn a_fill_passes_over_what_is_held(rt: HostRuntime) -> Result<(), Fail> {
+    check(&rt, rt.alloc(), 4, PASSED_OVER)?;
     Ok(())
 }

@@ -34,15 +34,20 @@ fn go_through(rt: &impl Abort, alloc: Global, rows: &[Row]) -> Result<(), Memory
     Ok(())
 }
 
+// O_RDWR with O_CREAT, and O_RDONLY with O_CLOEXEC.
+const NEW: i64 = 66;
+
+const MARKED: i64 = 524288;
+
 // A file is made by the open that asks for it; each open has an offset of its own. An offset may stand behind the end, and nothing is
 // written by it.
 const OFFSETS: &[Row] = &[
-    (Step::OpenMissing, Err(Errno::ENOENT)),
-    (Step::OpenNew, Ok(0)),
+    (Step::Open("/b", 0), Err(Errno::ENOENT)),
+    (Step::Open("/a", NEW), Ok(0)),
     (Step::Fstat(0), Ok(0)),
     (Step::Lseek(0, 100, 0), Ok(100)),
     (Step::Lseek(0, 0, 1), Ok(100)),
-    (Step::OpenNew, Ok(1)),
+    (Step::Open("/a", NEW), Ok(1)),
     (Step::Lseek(1, 0, 1), Ok(0)),
     (Step::Fstat(0), Ok(0)),
     (Step::Ftruncate(1, 600), Ok(0)),
@@ -55,14 +60,14 @@ const OFFSETS: &[Row] = &[
 
 // A number that was closed is given anew; who reads alone may not truncate; no directory is opened to be written.
 const NUMBERS: &[Row] = &[
-    (Step::OpenRoot, Err(Errno::EISDIR)),
-    (Step::OpenNew, Ok(0)),
-    (Step::OpenMarked, Ok(1)),
+    (Step::Open("/", 2), Err(Errno::EISDIR)),
+    (Step::Open("/a", NEW), Ok(0)),
+    (Step::Open("/a", MARKED), Ok(1)),
     (Step::Ftruncate(1, 1), Err(Errno::EBADF)),
     (Step::Ftruncate(0, 3), Ok(0)),
     (Step::Close(0), Ok(0)),
     (Step::Close(7), Ok(0)),
-    (Step::OpenNew, Ok(0)),
+    (Step::Open("/a", NEW), Ok(0)),
     (Step::Ftruncate(0, 1), Ok(0)),
     (Step::Fstat(1), Ok(1)),
 ];

@@ -1,23 +1,21 @@
 //! Calls of the first process, one after another.
 
+ghost use Rattle.std.specs.Prelude.{◌≡◌, ◌<◌, ◌^◌, None, IsTrue};
+ghost use Rattle.std.specs.List.{All};
+ghost use Rattle.kabi_calls.specs.Arguments.{argument_fault};
+ghost use Rattle.kabi_calls.specs.declared.calls.Call.TheVariants.{OpenFile};
 ghost use Rattle.file_trials.specs.Desks.{HasDesk};
 
 use crate::desk::{Desk, blocks, walking};
-use kabi_types::Errno;
+use kabi_types::{Call, Errno, Path};
 use proc_files::{close_open, open_path, seek_number, size_number, stat_number};
 use std::process::Abort;
 
 /// A call of the first process.
 #[derive(Drop)]
 pub enum Step {
-    /// `open("/a", O_RDWR | O_CREAT)`
-    OpenNew,
-    /// `open("/a", O_RDONLY | O_CLOEXEC)`
-    OpenMarked,
-    /// `open("/b", O_RDONLY)`
-    OpenMissing,
-    /// `open("/", O_RDWR)`
-    OpenRoot,
+    /// A path and flags.
+    Open(&'static str, i64),
     /// A close of a number below 32.
     Close(u32),
     Lseek(i64, i64, i64),
@@ -35,10 +33,7 @@ pub fn take(rt: &impl Abort, desk: &mut Desk, step: &Step) -> Told
     ensures { HasDesk desk.new.heap desk.new.procs desk.new.tree }
 {
     match step {
-        Step::OpenNew => open_new(rt, desk),
-        Step::OpenMarked => open_marked(rt, desk),
-        Step::OpenMissing => open_missing(rt, desk),
-        Step::OpenRoot => open_root(rt, desk),
+        Step::Open(path, flags) => open(rt, desk, path.as_bytes(), *flags),
         Step::Close(fd) => close(rt, desk, *fd),
         Step::Lseek(fd, offset, whence) => lseek(desk, *fd, *offset, *whence),
         Step::Ftruncate(fd, size) => ftruncate(rt, desk, *fd, *size),
@@ -62,27 +57,22 @@ fn nothing(done: Result<(), Errno>) -> Told {
     }
 }
 
-fn open_new(rt: &impl Abort, desk: &mut Desk) -> Told
-    requires { HasDesk desk.old.heap desk.old.procs desk.old.tree }
-    ensures { HasDesk desk.new.heap desk.new.procs desk.new.tree }
+// Whether the argument check passes an `open` by a path that has no zero byte.
+fn passes(path: &[u8], flags: i64) -> bool
+    ensures { IsTrue result → (argument_fault (OpenFile path.now flags) ≡ None) × All (λ byte. (0 < byte) × (byte < 2 ^ 8)) path.now }
 {
-    let mut purse = walking(rt, &desk.heap);
-    let told = open_path(
-        &mut desk.heap,
-        &mut purse,
-        &desk.procs,
-        &mut desk.tree,
-        1,
-        b"/a",
-        66,
-    );
-    widened(told)
+    let checked = match Path::of(path) {
+        Some(path) => Call::OpenFile { path, flags }.checked().is_ok(),
+        None => false,
+    };
+    checked && !path.contains(&0)
 }
 
-fn open_marked(rt: &impl Abort, desk: &mut Desk) -> Told
+fn open(rt: &impl Abort, desk: &mut Desk, path: &[u8], flags: i64) -> Told
     requires { HasDesk desk.old.heap desk.old.procs desk.old.tree }
     ensures { HasDesk desk.new.heap desk.new.procs desk.new.tree }
 {
+    assert!(rt; passes(path, flags));
     let mut purse = walking(rt, &desk.heap);
     let told = open_path(
         &mut desk.heap,
@@ -90,42 +80,8 @@ fn open_marked(rt: &impl Abort, desk: &mut Desk) -> Told
         &desk.procs,
         &mut desk.tree,
         1,
-        b"/a",
-        524288,
-    );
-    widened(told)
-}
-
-fn open_missing(rt: &impl Abort, desk: &mut Desk) -> Told
-    requires { HasDesk desk.old.heap desk.old.procs desk.old.tree }
-    ensures { HasDesk desk.new.heap desk.new.procs desk.new.tree }
-{
-    let mut purse = walking(rt, &desk.heap);
-    let told = open_path(
-        &mut desk.heap,
-        &mut purse,
-        &desk.procs,
-        &mut desk.tree,
-        1,
-        b"/b",
-        0,
-    );
-    widened(told)
-}
-
-fn open_root(rt: &impl Abort, desk: &mut Desk) -> Told
-    requires { HasDesk desk.old.heap desk.old.procs desk.old.tree }
-    ensures { HasDesk desk.new.heap desk.new.procs desk.new.tree }
-{
-    let mut purse = walking(rt, &desk.heap);
-    let told = open_path(
-        &mut desk.heap,
-        &mut purse,
-        &desk.procs,
-        &mut desk.tree,
-        1,
-        b"/",
-        2,
+        path,
+        flags,
     );
     widened(told)
 }

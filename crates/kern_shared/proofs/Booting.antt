@@ -19,6 +19,7 @@ rests_at_boot script steps charge turns turn own same free seen mine empty = rec
   of_charge = empty.of_charge;
   free = free;
   empty = empty.empty;
+  unused = empty.unused;
   shared = (boot_past script, subst (λ l. IsShared script steps (heard l) (boot_past script)) (sym seen) starts);
   mine = subst (λ (l : List Placed). AreIn l turn.known.seen) (sym mine) (tt, λ place x has. absurd has);
   holds = subst (λ (l : List Placed). HoldsJust None l) (sym mine) (λ pid. refl);

@@ -168,6 +168,36 @@ module _ {T : Type 0} (stands_for : T → World → Type 0) (script_of : T → S
       value entries pids up sleepers =
           record (at_start store seat limit total entry_room held_room awake_room dozing_room) { history = entries; held = pids; awake = up; dozing = sleepers }
 
+  -- another state of its charge seat that holds as much
+  pub seated : (script : Script) (steps : ℕ) (charge : ChargeWord) (value : KernelValue T) (items : List Item) → Shares stands_for script_of script steps charge value items
+      → (seat : SeatState) → seat.charge ≡ charge → seat.known.is_boot ≡ true → seat.known.holds ≡ value.seat.known.holds
+      → Shares stands_for script_of script steps charge (record value { seat = seat }) items
+  seated script steps charge value items s seat of_charge boot holds = record {
+    past = s.past;
+    world = s.world;
+    shared = s.shared;
+    named = s.named;
+    stands = s.stands;
+    plain = s.plain;
+    account = s.account;
+    may_keep = s.may_keep;
+    filled = s.filled;
+    history = s.history;
+    held = s.held;
+    present = s.present;
+    starved = s.starved;
+    still = s.still;
+    bare = s.bare;
+    told = s.told;
+    of_charge = of_charge;
+    boot = boot;
+    holds = holds ∙ s.holds;
+    heap = s.heap;
+    limit = s.limit;
+    same_heap = s.same_heap;
+    room = s.room;
+  }
+
   -- a process is taken back, in a list with the same room
   pub released : (script : Script) (steps : ℕ) (charge : ChargeWord) (value : KernelValue T) (pid : ℕ) (held : List Held) (held_room : ℕ)
       → held ≡ without pid value.held → held_room ≡ value.held_room

@@ -1,6 +1,7 @@
 -- What a turn leaves of a pass, by the item that it is passed on with.
-use Rattle.std.proofs.Common.{◌≡◌, ℕ, ◌==◌, ◌&&◌, not, ⊎_elim, cond, Bool, true, false, true≢false, List, [], ◌∷◌, ◌++◌, length, Option, None, Some, refl, ap, sym, ◌∙◌, subst, arith, eq-eqb}
+use Rattle.std.proofs.Common.{◌≡◌, ℕ, ◌+◌, ◌==◌, ◌&&◌, not, ⊎_elim, cond, Bool, true, false, true≢false, List, [], ◌∷◌, ◌++◌, length, Option, None, Some, refl, ap, sym, ◌∙◌, subst, arith, eq-eqb}
 use Rattle.std.proofs.lemmas.Bool.{eqb-true}
+use Rattle.std.specs.Prelude.{nat_le}
 use mathlib.Core.Option.{some}
 use lib.ListN.{get_elem?}
 use Rattle.atomic_table.proofs.Lists.{at_last, at_longer}
@@ -10,8 +11,10 @@ use Rattle.kabi_types.specs.declared.scripts.Script.{Script}
 use Rattle.kern_events.specs.declared.reliefs.Relief.{Relief}
 use Rattle.kern_events.specs.declared.reliefs.Relief.TheVariants as relief
 use Rattle.posix_defs.specs.History.{Past}
+use Rattle.posix_defs.specs.Needs.{bound}
 use Rattle.posix_defs.specs.Plain.{call_of}
 use Rattle.posix_defs.specs.Process.{is_alive}
+use Rattle.posix_defs.specs.Sizes.{room}
 use Rattle.posix_defs.specs.World.{World}
 use Rattle.charge_words.specs.declared.rule.ChargeView.{ChargeView}
 use Rattle.charge_words.specs.Names.{ChargeWord, SeatState as ChargeState}
@@ -28,7 +31,7 @@ use Rattle.kern_shared.specs.declared.attends.Attended.{Attended}
 use Rattle.kern_shared.specs.declared.attends.Attended.TheVariants as attended
 use Rattle.kern_shared.specs.declared.picks.Picked.{Picked}
 use Rattle.kern_shared.specs.declared.picks.Picked.TheVariants as picked
-use Rattle.kern_shared.specs.Attends.{HoldsCall, TellsSpent, told_item}
+use Rattle.kern_shared.specs.Attends.{HasReserved, HoldsCall, IsUnused, TellsSpent, told_item}
 use Rattle.kern_shared.specs.Passes.{AttendsTo, HoldsJust, HoldsPicked, IsAtRest, PassesOn, PutsBack, Takes, TurnsInTurn, given_behind, given_by, is_given_one}
 use Rattle.kern_shared.specs.Picks.{Picks, picked_item}
 use Rattle.kern_shared.specs.Relieves.{Relieves}
@@ -263,14 +266,15 @@ module _ {T : Type 0} (stands : T → List Item → Type 0) (before taken after 
 
   -- a pass between two calls again
   pub rests : (script : Script) (steps : ℕ) (charge : ChargeWord) (turns : TableId) (old own : ChargeState) (given now : Option ℕ) (item : Item) → x ≡ item
-      → IsAtRest script steps charge turns before old given → own.charge ≡ charge → own.known.holds ≡ 0
+      → IsAtRest script steps charge turns before old given → own.charge ≡ charge → own.known.holds ≡ 0 → IsUnused own.known
       → (past : Past) × IsShared script steps (heard taken.known.seen ++ said item) past
       → HoldsJust now (before.known.mine ++ (length taken.known.seen, item) ∷ []) → IsAtRest script steps charge turns after own now
-  rests script steps charge turns old own given now item same rest of_charge empty shared holds_now = record {
+  rests script steps charge turns old own given now item same rest of_charge empty unused shared holds_now = record {
     of_turns = puts.turns ∙ takes.turns ∙ rest.of_turns;
     of_charge = of_charge;
     free = puts.free;
     empty = empty;
+    unused = unused;
     shared = (
       shared.0,
       subst (λ l. IsShared script steps (heard l) shared.0) (sym seen_is) (subst (λ l. IsShared script steps l shared.0) (sym (heard_more taken.known.seen item)) shared.1),
@@ -292,14 +296,30 @@ module _ {T : Type 0} (stands : T → List Item → Type 0) (before taken after 
   has_behind script steps pid call other has =
       subst (λ l. HoldsCall script steps (heard l) pid call) (sym puts.seen) (call_stands script steps taken.known.seen (x ∷ []) pid call (other, tt) has)
 
+-- a seat that has reserved nothing still hasn't where the counts are as before
+pub unused_still : (before after : ChargeView) → after.reserves ≡ before.reserves → after.raised ≡ before.raised → IsUnused before → IsUnused after
+unused_still before after reserves raised unused = record { reserves = reserves ∙ unused.reserves; raised = raised ∙ unused.raised }
+
+-- what was reserved once for a call, by a seat that had reserved nothing
+pub has_reserved : (script : Script) (call : Call) (before after : ChargeView) (need : ℕ) → need ≡ bound call → IsUnused before
+    → (after.reserves ≡ before.reserves + cond (nat_le need (room script.heap)) 1 0) × (after.raised ≡ before.raised + cond (nat_le need (room script.heap)) need 0)
+    → HasReserved script call after
+has_reserved script call before after need is unused counts =
+    let here = subst (λ n. (after.reserves ≡ before.reserves + cond (nat_le n (room script.heap)) 1 0) × (after.raised ≡ before.raised + cond (nat_le n (room script.heap)) n 0)) is counts in
+    let once : after.reserves ≡ before.reserves + cond (nat_le (bound call) (room script.heap)) 1 0 = here.0 in
+    let raised : after.raised ≡ before.raised + cond (nat_le (bound call) (room script.heap)) (bound call) 0 = here.1 in
+    let none = unused.reserves in
+    let nothing = unused.raised in record { once = omega (arith, once, none); raised = omega (arith, raised, nothing) }
+
 -- where only the charge seat has changed
 pub rests_still : {T : Type 0} (script : Script) (steps : ℕ) (charge : ChargeWord) (turns : TableId) (turn : TurnState T) (old own : ChargeState) (given : Option ℕ)
-    → IsAtRest script steps charge turns turn old given → own.charge ≡ charge → own.known.holds ≡ 0 → IsAtRest script steps charge turns turn own given
-rests_still script steps charge turns turn old own given rest of_charge empty = record {
+    → IsAtRest script steps charge turns turn old given → own.charge ≡ charge → own.known.holds ≡ 0 → IsUnused own.known → IsAtRest script steps charge turns turn own given
+rests_still script steps charge turns turn old own given rest of_charge empty unused = record {
   of_turns = rest.of_turns;
   of_charge = of_charge;
   free = rest.free;
   empty = empty;
+  unused = unused;
   shared = rest.shared;
   mine = rest.mine;
   holds = rest.holds;

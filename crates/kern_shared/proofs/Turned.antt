@@ -24,13 +24,14 @@ use Rattle.posix_defs.specs.World.{World, live_of}
 use Rattle.kern_laws.proofs.Followed.{TurnLeads, past_refused, refused_legal}
 use Rattle.kern_laws.specs.Sleeping.{is_of, sleeps_by}
 use Rattle.charge_words.specs.Names.{ChargeWord, SeatState}
+use Rattle.charge_words.specs.declared.rule.ChargeView.{ChargeView}
 use Rattle.turn_words.specs.declared.items.Item.{Item}
 use Rattle.turn_words.specs.declared.items.Item.TheVariants.{Noted}
 use Rattle.turn_words.specs.Items.{noted}
 use Rattle.turn_words.proofs.Held.{contrary}
 use Rattle.kern_shared.specs.declared.held.Held.{Held}
 use Rattle.kern_shared.specs.declared.attends.Attended.{Attended}
-use Rattle.kern_shared.specs.Attends.{HoldsCall, MayGiveUp, MayRefuse, MayTurn, TellsSpent, reserved_for, sleeps_told, told_item, told_of}
+use Rattle.kern_shared.specs.Attends.{HasReserved, HoldsCall, IsUnused, MayGiveUp, MayRefuse, MayTurn, TakesIn, TellsSpent, reserved_for, sleeps_told, told_item, told_of}
 use Rattle.kern_shared.specs.Lists.{awake_after, dozing_after}
 use Rattle.kern_shared.specs.Shared.{IsShared}
 use Rattle.kern_shared.specs.Shares.{ArePresent, KernelValue, Shares, with_entry, without}
@@ -85,6 +86,20 @@ pub reserved_none : (script : Script) (call : Call) (needed : ℕ) (fits : Bool)
     → reserved_for script call ≡ 0
 reserved_none script call needed fits needed_is is told =
     ap (λ (n : ℕ). cond (nat_le n (room script.heap)) n 0) (sym needed_is) ∙ ap (λ (b : Bool). cond b needed 0) (sym is ∙ told)
+
+-- where the heap can never give a call's bound nothing was reserved for it
+pub unused_unfit : (script : Script) (call : Call) (own : ChargeView) (needed : ℕ) (fits : Bool) → needed ≡ bound call → fits ≡ nat_le needed (room script.heap) → fits ≡ false
+    → HasReserved script call own → IsUnused own
+unused_unfit script call own needed fits needed_is is told has = record {
+  reserves = has.once ∙ ap (λ (n : ℕ). cond (nat_le n (room script.heap)) 1 0) (sym needed_is) ∙ ap (λ (b : Bool). cond b 1 0) (sym is ∙ told);
+  raised = has.raised ∙ reserved_none script call needed fits needed_is is told;
+}
+
+-- what has reserved nothing adds nothing
+pub takes_nothing : (seat own : ChargeView) → IsUnused own → TakesIn seat seat own
+takes_nothing seat own unused =
+    let reserves = unused.reserves in
+    let raised = unused.raised in record { reserves = omega (arith, reserves); raised = omega (arith, raised) }
 
 -- what isn't live goes back, and what is stays with the reserve
 pub left_over : (holds all live needed after : ℕ) → holds ≡ live + needed + reserve → all ≡ live + needed → after ≤ live + needed → holds - (all - after) ≡ after + reserve

@@ -1,5 +1,5 @@
 -- What a turn of a held process's call comes to.
-use Rattle.std.specs.Prelude.{◌≡◌, ℕ, ◌<◌, ◌≤◌, nat_le, cond, Bool, true, false, List, length}
+use Rattle.std.specs.Prelude.{◌≡◌, ℕ, ◌+◌, ◌<◌, ◌≤◌, nat_le, cond, Bool, true, false, List, length}
 use Rattle.kabi_calls.specs.Call.{kind_of}
 use Rattle.kabi_calls.specs.declared.calls.Call.{Call}
 use Rattle.kabi_calls.specs.declared.calls.CallKind.{CallKind}
@@ -12,6 +12,7 @@ use Rattle.posix_defs.specs.Needs.{bound}
 use Rattle.posix_defs.specs.Plain.{call_of}
 use Rattle.posix_defs.specs.Process.{is_alive}
 use Rattle.posix_defs.specs.Sizes.{room}
+use Rattle.charge_words.specs.declared.rule.ChargeView.{ChargeView}
 use Rattle.turn_words.specs.declared.items.Item.{Item}
 use Rattle.turn_words.specs.declared.items.Item.TheVariants.{Noted, Back, Quiet}
 use Rattle.turn_words.specs.Items.{is_given, noted}
@@ -49,6 +50,26 @@ sleeps_told turned.Gone = false
 -- what a turn of a call has in reserve: its bound, or nothing where the heap can never give that
 abbrev pub reserved_for : Script → Call → ℕ
 reserved_for script call = cond (nat_le (bound call) (room script.heap)) (bound call) 0
+
+-- no step of this charge seat has reserved, since the value's seat took in what it held
+pub record IsUnused (own : ChargeView) : Type 0 where
+  pub reserves : own.reserves ≡ 0
+  pub raised : own.raised ≡ 0
+
+-- what was reserved for a call was reserved by one step, and nothing else was; where the heap can never give the call's bound nothing was
+pub record HasReserved (script : Script) (call : Call) (own : ChargeView) : Type 0 where
+  pub once : own.reserves ≡ cond (nat_le (bound call) (room script.heap)) 1 0
+  pub raised : own.raised ≡ reserved_for script call
+
+-- a seat took in what another one had reserved, and no step of its own has reserved
+pub record TakesIn (before after own : ChargeView) : Type 0 where
+  pub reserves : after.reserves ≡ before.reserves + own.reserves
+  pub raised : after.raised ≡ before.raised + own.raised
+
+-- no step of a seat has reserved between these two views
+pub record ReservesNothing (before after : ChargeView) : Type 0 where
+  pub reserves : after.reserves ≡ before.reserves
+  pub raised : after.raised ≡ before.raised
 
 -- A pass holds the process, and this is the process's call.
 pub record HoldsCall (script : Script) (steps : ℕ) (items : List Item) (pid : ℕ) (call : Call) : Type 0 where

@@ -12,6 +12,7 @@ use Rattle.charge_words.specs.Names.{ChargeWord, SeatState as ChargeState}
 use Rattle.turn_words.specs.declared.items.Item.{Item}
 use Rattle.turn_words.specs.Items.{noted}
 use Rattle.turn_words.specs.Seats.{SeatState as TurnState}
+use Rattle.kern_shared.specs.Attends.{IsUnused}
 use Rattle.kern_shared.specs.Picks.{EndsAs}
 use Rattle.kern_shared.specs.Shared.{has_starved}
 
@@ -25,10 +26,11 @@ pub record IsFirst {T : Type 0} (others : ℕ) (turn : TurnState T) : Type 0 whe
   pub boot : turn.known.is_boot ≡ true
   pub counts : turn.known.others ≡ others
 
--- a charge seat of this word, which holds nothing
+-- a charge seat of this word, which holds nothing and has reserved nothing
 pub record IsEmpty (charge : ChargeWord) (own : ChargeState) : Type 0 where
   pub of_charge : own.charge ≡ charge
   pub empty : own.known.holds ≡ 0
+  pub unused : IsUnused own.known
 
 -- there is a last one, and this holds of it and of those before it
 abbrev pub HasLast : {X : Type 0} → (List X → X → Type 0) → List X → Type 0

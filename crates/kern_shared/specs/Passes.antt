@@ -20,7 +20,7 @@ use Rattle.kern_shared.specs.declared.attends.Attended.{Attended}
 use Rattle.kern_shared.specs.declared.attends.Attended.TheVariants as attended
 use Rattle.kern_shared.specs.declared.picks.Picked.{Picked}
 use Rattle.kern_shared.specs.declared.picks.Picked.TheVariants as picked
-use Rattle.kern_shared.specs.Attends.{HoldsCall, TellsSpent, told_item}
+use Rattle.kern_shared.specs.Attends.{HoldsCall, IsUnused, TellsSpent, told_item}
 use Rattle.kern_shared.specs.Picks.{Picks, picked_item}
 use Rattle.kern_shared.specs.Relieves.{Relieves}
 use Rattle.kern_shared.specs.Shared.{IsShared}
@@ -34,13 +34,15 @@ is_given_one (Some given) pid = given == pid
 abbrev pub HoldsJust : Option ℕ → List Placed → Type 0
 HoldsJust given mine = (pid : ℕ) → holds pid mine ≡ is_given_one given pid
 
--- A pass between two calls: its seats belong to these turns and to this charge word, it has no ticket and reserves nothing, what it
--- has seen is a shared history of this run, in which its own items stand, and it holds just the process that it was given.
+-- A pass between two calls: its seats belong to these turns and to this charge word, it has no ticket and holds nothing reserved, and
+-- whatever its charge seat had reserved the value's seat has taken in. What it has seen is a shared history of this run, in which its
+-- own items stand, and it holds just the process that it was given.
 pub record IsAtRest {T : Type 0} (script : Script) (steps : ℕ) (charge : ChargeWord) (turns : TableId) (turn : TurnState T) (own : ChargeState) (given : Option ℕ) : Type 0 where
   pub of_turns : turn.turns ≡ turns
   pub of_charge : own.charge ≡ charge
   pub free : turn.known.has_ticket ≡ false
   pub empty : own.known.holds ≡ 0
+  pub unused : IsUnused own.known
   pub shared : (past : Past) × IsShared script steps (heard turn.known.seen) past
   pub mine : AreIn turn.known.mine turn.known.seen
   pub holds : HoldsJust given turn.known.mine

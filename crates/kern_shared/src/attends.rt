@@ -8,7 +8,7 @@ ghost use Rattle.posix_defs.specs.Sizes.{room};
 ghost use Rattle.turn_words.specs.declared.items.Item.{Item};
 ghost use Rattle.turn_words.specs.declared.items.Item.TheVariants as item;
 ghost use Rattle.turn_words.specs.Items.{noted};
-ghost use Rattle.kern_shared.specs.Attends.{HoldsCall, MayGiveUp, MayRefuse, MayTurn, TellsSpent, reserved_for, sleeps_told, told_item, told_of};
+ghost use Rattle.kern_shared.specs.Attends.{HasReserved, HoldsCall, IsUnused, MayGiveUp, MayRefuse, MayTurn, TakesIn, TellsSpent, reserved_for, sleeps_told, told_item, told_of};
 ghost use Rattle.kern_shared.specs.Shared.{IsShared};
 ghost use Rattle.kern_shared.specs.Shares.{without};
 
@@ -116,7 +116,9 @@ fn take_over(word: &Charge, own: &mut ChargeSeat, into: &mut ChargeSeat)
     ensures charge { (own.new.charge ≡ word.now) × (into.new.charge ≡ word.now) }
     ensures boot { into.new.known.is_boot ≡ true }
     ensures own { own.new.known.holds ≡ 0 }
+    ensures unused { IsUnused own.new.known }
     ensures into { into.new.known.holds ≡ into.old.known.holds + own.old.known.holds }
+    ensures takes_in { TakesIn into.old.known into.new.known own.old.known }
     ensures room { into.old.known.holds + own.old.known.holds ≤ word.now.heap }
     ensures within { into.new.known.holds < 2 ^ 64 }
 {
@@ -137,7 +139,8 @@ impl<T: Turner + Drop, L: RunName> KernelState<T, L> {
         ensures stands { (items : List Item) (past : Past) → ⟦<KernelState<T, L> as Chronicle>⟧.stands self.old items → IsShared L.script L.steps items past
             → MayTurn L.script L.steps items past pid call.now → ⟦<KernelState<T, L> as Chronicle>⟧.stands self.new (items ++ told_item pid call.now result ∷ []) }
         ensures tells { (items : List Item) → length (noted items) < L.steps → TellsSpent L.steps items result }
-        ensures own { (own.new.charge ≡ L.charge) × (own.new.known.holds ≡ 0) }
+        ensures own { (own.new.charge ≡ L.charge) × (own.new.known.holds ≡ 0) × IsUnused own.new.known }
+        ensures takes_in { TakesIn self.old.seat.known self.new.seat.known own.old.known }
     {
         let before = self.store.last_pid();
         take_over(word, own, &mut self.seat);
@@ -165,8 +168,9 @@ impl<T: Turner + Drop, L: RunName> KernelState<T, L> {
     /// Gives up the call of a held process that has ended.
     fn give_up(&mut self, pid: u32, kind: CallKind)
         requires { vec_len self.old.history < vec_capacity self.old.history }
-        ensures { (items : List Item) (past : Past) → ⟦<KernelState<T, L> as Chronicle>⟧.stands self.old items → IsShared L.script L.steps items past
+        ensures stands { (items : List Item) (past : Past) → ⟦<KernelState<T, L> as Chronicle>⟧.stands self.old items → IsShared L.script L.steps items past
             → MayGiveUp L.script L.steps items past pid kind → ⟦<KernelState<T, L> as Chronicle>⟧.stands self.new (items ++ item.Noted (entry.Gone pid kind) ∷ []) }
+        ensures seat { self.new.seat ≡ self.old.seat }
     {
         note(
             &mut self.history,
@@ -180,9 +184,10 @@ impl<T: Turner + Drop, L: RunName> KernelState<T, L> {
     fn refuse_held(&mut self, pid: u32, call: &Call)
         requires may { (items : List Item) × (past : Past) × ⟦<KernelState<T, L> as Chronicle>⟧.stands self.old items × IsShared L.script L.steps items past
             × MayRefuse L.script L.steps items past pid call.now }
-        ensures { (items : List Item) (past : Past) → ⟦<KernelState<T, L> as Chronicle>⟧.stands self.old items → IsShared L.script L.steps items past
+        ensures stands { (items : List Item) (past : Past) → ⟦<KernelState<T, L> as Chronicle>⟧.stands self.old items → IsShared L.script L.steps items past
             → MayRefuse L.script L.steps items past pid call.now
             → ⟦<KernelState<T, L> as Chronicle>⟧.stands self.new (items ++ item.Noted (entry.Refused pid (kind_of call.now) (bound call.now)) ∷ []) }
+        ensures seat { self.new.seat ≡ self.old.seat }
     {
         let before = self.store.last_pid();
         self.store.refuse(pid);
@@ -209,21 +214,32 @@ impl<T: Turner + Drop, L: RunName> KernelState<T, L> {
         needed <= self.heap.saturating_sub(FIXED)
     }
 
-    /// Gives back what a pass's seat has reserved for a call that has no turn.
-    fn hand_back(&self, word: &Charge, own: &mut ChargeSeat, call: &Call)
-        requires stands { (items : List Item) × ⟦<KernelState<T, L> as Chronicle>⟧.stands self.now items }
-        requires word { word.now ≡ L.charge }
-        requires own { (own.old.charge ≡ L.charge) × (own.old.known.holds ≡ reserved_for L.script call.now) }
-        ensures own { (own.new.charge ≡ L.charge) × (own.new.known.holds ≡ 0) }
+    /// How much a pass's seat reserves for a call before its turn.
+    fn reserved(&self, call: &Call) -> u64
+        ensures { (items : List Item) → ⟦<KernelState<T, L> as Chronicle>⟧.stands self.now items → result ≡ reserved_for L.script call.now }
     {
         let needed = bound(call);
-        if self.fits_ever(needed) {
-            word.give_back(own, needed);
-        }
+        if self.fits_ever(needed) { needed } else { 0 }
     }
 
-    /// A turn of a held process's call, for which the pass's seat has reserved the call's bound, or nothing where the heap can never
-    /// give that. The pass doesn't hold the process any more, and its seat holds 0.
+    /// The store's seat takes in what a pass's seat has reserved for a call that has no turn, and gives it back.
+    fn hand_back(&mut self, word: &Charge, own: &mut ChargeSeat, call: &Call)
+        requires stands { (items : List Item) × ⟦<KernelState<T, L> as Chronicle>⟧.stands self.old items }
+        requires word { word.now ≡ L.charge }
+        requires own { (own.old.charge ≡ L.charge) × (own.old.known.holds ≡ reserved_for L.script call.now) }
+        ensures stands { (items : List Item) → ⟦<KernelState<T, L> as Chronicle>⟧.stands self.old items → ⟦<KernelState<T, L> as Chronicle>⟧.stands self.new items }
+        ensures history { self.new.history ≡ self.old.history }
+        ensures own { (own.new.charge ≡ L.charge) × (own.new.known.holds ≡ 0) × IsUnused own.new.known }
+        ensures takes_in { TakesIn self.old.seat.known self.new.seat.known own.old.known }
+    {
+        let reserved = self.reserved(call);
+        take_over(word, own, &mut self.seat);
+        word.give_back(&mut self.seat, reserved);
+    }
+
+    /// A turn of a held process's call, for which the pass's seat has reserved the call's bound by one step, or nothing where the heap
+    /// can never give that. The pass doesn't hold the process any more, and its seat holds 0: the store's seat has taken in what was
+    /// reserved, and reserves nothing itself.
     pub fn turn_held(
         &mut self,
         word: &Charge,
@@ -234,10 +250,12 @@ impl<T: Turner + Drop, L: RunName> KernelState<T, L> {
         requires held { (items : List Item) × ⟦<KernelState<T, L> as Chronicle>⟧.stands self.old items × HoldsCall L.script L.steps items pid call.now }
         requires word { word.now ≡ L.charge }
         requires own { (own.old.charge ≡ L.charge) × (own.old.known.holds ≡ reserved_for L.script call.now) }
+        requires reserved { HasReserved L.script call.now own.old.known }
         ensures stands { (items : List Item) → ⟦<KernelState<T, L> as Chronicle>⟧.stands self.old items → HoldsCall L.script L.steps items pid call.now
             → ⟦<KernelState<T, L> as Chronicle>⟧.stands self.new (items ++ told_item pid call.now result ∷ []) }
         ensures tells { (items : List Item) → ⟦<KernelState<T, L> as Chronicle>⟧.stands self.old items → TellsSpent L.steps items result }
-        ensures own { (own.new.charge ≡ L.charge) × (own.new.known.holds ≡ 0) }
+        ensures own { (own.new.charge ≡ L.charge) × (own.new.known.holds ≡ 0) × IsUnused own.new.known }
+        ensures takes_in { TakesIn self.old.seat.known self.new.seat.known own.old.known }
     {
         if self.is_spent() {
             self.hand_back(word, own, call);

@@ -9,7 +9,7 @@ ghost use Rattle.kern_shared.specs.Closing.{HasLast, IsEmpty, IsFirst};
 ghost use Rattle.kern_shared.specs.Passes.{IsAtRest};
 
 use crate::naming::RunCharge;
-use crate::{Kernel, KernelState, Pass, RunName};
+use crate::{BoxedState, Kernel, KernelState, Pass, RunName};
 use charge_words::{Charge, ChargeSeat};
 use kabi_types::Memory;
 use posix_defs::Turner;
@@ -40,8 +40,8 @@ fn split_charge(
 
 /// Passes for these charge seats. The last has the seat of `boot`, each other one a seat that is split from it.
 fn seat_all<T: Turner + Drop, L: RunName>(
-    turns: &Turns<KernelState<T, L>>,
-    first: TurnSeat<KernelState<T, L>>,
+    turns: &Turns<BoxedState<T, L>>,
+    first: TurnSeat<BoxedState<T, L>>,
     owns: Vec<ChargeSeat>,
     reserved: Vec<Pass<T, L>>,
 ) -> Vec<Pass<T, L>>
@@ -65,12 +65,14 @@ fn seat_all<T: Turner + Drop, L: RunName>(
             turn,
             own,
             given: None,
+            waited: false,
         });
     }
     passes.push_reserved(Pass {
         turn: first,
         own: last,
         given: None,
+        waited: false,
     });
     passes
 }
@@ -105,7 +107,7 @@ impl<T: Turner + Drop, L: RunName> Kernel<T, L> {
         let reserved = Vec::with_capacity(alloc, workers as usize)?;
         let owns = split_charge(alloc, &charge, &mut seat, workers)?;
         let state = KernelState::boot(alloc, store, steps, heap, seat)?;
-        let (turns, first) = Turns::boot(alloc, state)?;
+        let (turns, first) = Turns::boot(alloc, BoxedState::new(alloc, state)?)?;
         let passes = seat_all(&turns, first, owns, reserved);
         let charge = RunCharge {
             word: charge,

@@ -10,7 +10,7 @@ ghost use Rattle.kern_shared.specs.Passes.{IsAtRest};
 ghost use Rattle.kern_shared.specs.Shared.{IsShared};
 
 use crate::state::RESERVE;
-use crate::{Kernel, KernelState, Pass, RunName};
+use crate::{BoxedState, Kernel, KernelState, Pass, RunName};
 use charge_words::Charge;
 use kabi_types::{End, Entries};
 use posix_defs::Turner;
@@ -27,7 +27,7 @@ pub struct Closed<T> {
 
 impl<T: Turner + Drop, L: RunName> KernelState<T, L> {
     /// The value at the end, taken apart.
-    fn close(self, word: &Charge) -> Closed<T>
+    pub(crate) fn close(self, word: &Charge) -> Closed<T>
         requires stands { (items : List Item) × ⟦<KernelState<T, L> as Chronicle>⟧.stands self items }
         requires word { word.now ≡ L.charge }
         ensures { (items : List Item) (past : Past) → ⟦<KernelState<T, L> as Chronicle>⟧.stands self items → IsShared L.script L.steps items past
@@ -53,8 +53,8 @@ impl<T: Turner + Drop, L: RunName> KernelState<T, L> {
 
 /// The seat of `boot` takes in what all these passes have seen.
 fn gather<T: Turner + Drop, L: RunName>(
-    turns: &Turns<KernelState<T, L>>,
-    first: &mut TurnSeat<KernelState<T, L>>,
+    turns: &Turns<BoxedState<T, L>>,
+    first: &mut TurnSeat<BoxedState<T, L>>,
     passes: Vec<Pass<T, L>>,
 )
     requires first { IsFree turns.now first.old × IsFirst (length passes.items) first.old }

@@ -2,8 +2,10 @@
 ghost use Rattle.std.specs.Prelude.{◌≡◌, ℕ, ◌+◌, ◌<◌, ◌≤◌, None, Some, IfSome, IsSome, cond, nat_le};
 ghost use Rattle.posix_defs.specs.Sizes.{room};
 ghost use Rattle.kabi_calls.specs.declared.calls.Call.{Call};
+ghost use Rattle.charge_words.specs.Names.{seat_of};
+ghost use Rattle.charge_words.specs.Rule.{loaded};
 ghost use Rattle.turn_words.specs.Items.{heard};
-ghost use Rattle.kern_shared.specs.Attends.{HoldsCall};
+ghost use Rattle.kern_shared.specs.Attends.{HoldsCall, ReservesNothing};
 ghost use Rattle.kern_shared.specs.Passes.{AttendsTo, HoldsPicked, IsAtRest, Loads, PicksInTurn, RelievesInTurn, ReturnsInTurn, given_behind, given_by};
 
 use crate::attends::item_of_answer;
@@ -11,7 +13,7 @@ use crate::naming::RunCharge;
 use crate::picks::item_of_pick;
 use crate::served::{begin, end};
 use crate::state::FIXED;
-use crate::{Attended, KernelState, Pass, Picked, RunName};
+use crate::{Attended, BoxedState, Pass, Picked, RunName};
 use charge_words::{ChargeSeat, Reserved};
 use kabi_types::Call;
 use kern_events::Relief;
@@ -34,7 +36,7 @@ fn given_by(picked: &Picked) -> Option<u32>
 /// A kernel that several passes share.
 #[derive(Drop)]
 pub struct Kernel<T: Turner + Drop, L: RunName> {
-    pub(crate) turns: Turns<KernelState<T, L>>,
+    pub(crate) turns: Turns<BoxedState<T, L>>,
     pub(crate) charge: RunCharge<L>,
 }
 
@@ -45,8 +47,10 @@ impl<T: Turner + Drop, L: RunName> Kernel<T, L> {
         requires empty { own.old.known.holds ≡ 0 }
         ensures charge { own.new.charge ≡ L.charge }
         ensures reserved { result ≡ None → own.new.known.holds ≡ needed }
+        ensures once { result ≡ None → (own.new.known.reserves ≡ own.old.known.reserves + 1) × (own.new.known.raised ≡ own.old.known.raised + needed) }
         ensures short { IfSome result (λ charged. (own.new.known.holds ≡ 0) × (charged ≤ (L.script).heap) × ((L.script).heap < charged + needed)
             × Loads own.old.known own.new.known charged) }
+        ensures nothing { IfSome result (λ charged. ReservesNothing own.old.known own.new.known) }
     {
         for _ in rt.forever() {
             match self.charge.word.try_reserve(own, needed) {
@@ -64,8 +68,11 @@ impl<T: Turner + Drop, L: RunName> Kernel<T, L> {
         requires empty { own.old.known.holds ≡ 0 }
         ensures charge { own.new.charge ≡ L.charge }
         ensures reserved { result ≡ None → own.new.known.holds ≡ cond (nat_le needed (room (L.script).heap)) needed 0 }
+        ensures once { result ≡ None → (own.new.known.reserves ≡ own.old.known.reserves + cond (nat_le needed (room (L.script).heap)) 1 0)
+            × (own.new.known.raised ≡ own.old.known.raised + cond (nat_le needed (room (L.script).heap)) needed 0) }
         ensures short { IfSome result (λ charged. (own.new.known.holds ≡ 0) × (needed ≤ room (L.script).heap) × (charged ≤ (L.script).heap) × ((L.script).heap < charged + needed)
             × Loads own.old.known own.new.known charged) }
+        ensures nothing { IfSome result (λ charged. ReservesNothing own.old.known own.new.known) }
     {
         if needed > self.charge.heap.saturating_sub(FIXED) {
             return None;
@@ -80,9 +87,10 @@ impl<T: Turner + Drop, L: RunName> Kernel<T, L> {
         ensures pass { IsAtRest L.script L.steps L.charge self.now.turns pass.new.turn pass.new.own pass.new.given }
         ensures given { pass.new.given ≡ given_by result }
         ensures holds { HoldsPicked L.script L.steps pass.new.turn.known.seen result }
-        ensures picks { PicksInTurn ⟦<KernelState<T, L> as Chronicle>⟧.stands L.script L.steps pass.old.turn.known pass.new.turn.known result }
+        ensures own { pass.new.own ≡ pass.old.own }
+        ensures picks { PicksInTurn ⟦<BoxedState<T, L> as Chronicle>⟧.stands L.script L.steps pass.old.turn.known pass.new.turn.known result }
     {
-        let mut state = begin(rt, &self.turns, &mut pass.turn);
+        let mut state = begin(rt, &self.turns, &mut pass.turn, &mut pass.waited);
         let picked = state.pick_next();
         end(&self.turns, &mut pass.turn, state, item_of_pick(&picked));
         pass.given = given_by(&picked);
@@ -99,14 +107,14 @@ impl<T: Turner + Drop, L: RunName> Kernel<T, L> {
         requires holds { HoldsCall L.script L.steps (heard pass.old.turn.known.seen) pid call.now }
         ensures pass { IsAtRest L.script L.steps L.charge self.now.turns pass.new.turn pass.new.own pass.new.given }
         ensures given { pass.new.given ≡ given_behind pass.old.given result }
-        ensures attends { AttendsTo ⟦<KernelState<T, L> as Chronicle>⟧.stands L.script L.steps pass.old.turn pass.new.turn pass.old.own.known pass.new.own.known
+        ensures attends { AttendsTo ⟦<BoxedState<T, L> as Chronicle>⟧.stands L.script L.steps pass.old.turn pass.new.turn pass.old.own.known pass.new.own.known
             pid call.now result }
     {
         let need = bound(call);
         if let Some(charged) = self.reserve_for(rt, &mut pass.own, need) {
             return Attended::Short { charged, need };
         }
-        let mut state = begin(rt, &self.turns, &mut pass.turn);
+        let mut state = begin(rt, &self.turns, &mut pass.turn, &mut pass.waited);
         let answer = state.turn_held(&self.charge.word, &mut pass.own, pid, call);
         end(
             &self.turns,
@@ -126,11 +134,12 @@ impl<T: Turner + Drop, L: RunName> Kernel<T, L> {
         ensures given { pass.new.given ≡ pass.old.given }
         ensures holds { (pid : ℕ) (call : Call) → pass.old.given ≡ Some pid → HoldsCall L.script L.steps (heard pass.old.turn.known.seen) pid call
             → HoldsCall L.script L.steps (heard pass.new.turn.known.seen) pid call }
+        ensures own { pass.new.own ≡ seat_of L.charge (loaded pass.old.own.known pass.new.own.known.last) }
         ensures loads { Loads pass.old.own.known pass.new.own.known pass.new.own.known.last }
-        ensures relieves { RelievesInTurn ⟦<KernelState<T, L> as Chronicle>⟧.stands L.script L.steps pass.old.turn.known pass.new.turn.known
+        ensures relieves { RelievesInTurn ⟦<BoxedState<T, L> as Chronicle>⟧.stands L.script L.steps pass.old.turn.known pass.new.turn.known
             pass.new.own.known.last result }
     {
-        let mut state = begin(rt, &self.turns, &mut pass.turn);
+        let mut state = begin(rt, &self.turns, &mut pass.turn, &mut pass.waited);
         let (relief, item) = state.relieve_now(&self.charge.word, &mut pass.own);
         end(&self.turns, &mut pass.turn, state, item);
         relief
@@ -142,12 +151,13 @@ impl<T: Turner + Drop, L: RunName> Kernel<T, L> {
         requires given { IsSome pass.old.given }
         ensures pass { IsAtRest L.script L.steps L.charge self.now.turns pass.new.turn pass.new.own pass.new.given }
         ensures given { pass.new.given ≡ None }
-        ensures returns { IfSome pass.old.given (ReturnsInTurn ⟦<KernelState<T, L> as Chronicle>⟧.stands L.script L.steps pass.old.turn.known pass.new.turn.known) }
+        ensures own { pass.new.own ≡ pass.old.own }
+        ensures returns { IfSome pass.old.given (ReturnsInTurn ⟦<BoxedState<T, L> as Chronicle>⟧.stands L.script L.steps pass.old.turn.known pass.new.turn.known) }
     {
         let Some(pid) = pass.given else {
             unreachable!()
         };
-        let mut state = begin(rt, &self.turns, &mut pass.turn);
+        let mut state = begin(rt, &self.turns, &mut pass.turn, &mut pass.waited);
         state.release_held(pid);
         end(&self.turns, &mut pass.turn, state, Item::Back(pid));
         pass.given = None;

@@ -1,11 +1,12 @@
 //! The shared kernel: several threads, each with a pass of its own, run the processes of one store in turns, and have one history.
 //!
 //! A pass is given a process by `pick`, has its call answered by `attend`, helps calls that wait by `relieve`, or gives its process
-//! back by `release`. The value that the passes have in turn is `KernelState`; a charge word says what is live and reserved.
+//! back by `release`. The value that the passes have in turn is `KernelState`, behind a box; a charge word says what is live and reserved.
 #![tactic(auto)]
 
 mod attends;
 mod boot;
+mod boxed;
 mod closing;
 mod crossing;
 mod held;
@@ -21,6 +22,7 @@ mod state;
 mod values;
 
 pub use attends::Attended;
+pub use boxed::BoxedState;
 pub use closing::Closed;
 pub use crossing::crosses_threads;
 pub use held::Held;

@@ -117,6 +117,7 @@ impl<T: Turner + Drop, L: RunName> KernelState<T, L> {
             → Picks L.script L.steps items past result }
         ensures stands { (items : List Item) → ⟦<KernelState<T, L> as Chronicle>⟧.stands self.old items
             → ⟦<KernelState<T, L> as Chronicle>⟧.stands self.new (items ++ said (picked_item result)) }
+        ensures seat { self.new.seat ≡ self.old.seat }
     {
         if let Some(end) = self.over() {
             return Picked::Over(end);

@@ -12,6 +12,7 @@ ghost use Rattle.posix_defs.specs.World.{World, live_of};
 ghost use Rattle.turn_words.specs.declared.items.Item.{Item};
 ghost use Rattle.turn_words.specs.declared.items.Item.TheVariants as item;
 ghost use Rattle.turn_words.specs.Items.{said};
+ghost use Rattle.kern_shared.specs.Attends.{ReservesNothing};
 ghost use Rattle.kern_shared.specs.Lists.{AreNeeds, is_below, lowest};
 ghost use Rattle.kern_shared.specs.Relieves.{Frees, Relieves, WaitsInVain};
 ghost use Rattle.kern_shared.specs.Shared.{IsShared};
@@ -112,8 +113,9 @@ impl<T: Turner + Drop, L: RunName> KernelState<T, L> {
         requires live { (world : World) → T.stands self.old.store world → live ≡ live_of world }
         requires may { (items : List Item) × (past : Past) × (waiter : ℕ) × (need : ℕ) × ⟦<KernelState<T, L> as Chronicle>⟧.stands self.old items
             × IsShared L.script L.steps items past × WaitsInVain L.script L.steps items past waiter need live }
-        ensures { (items : List Item) (past : Past) (waiter need : ℕ) → ⟦<KernelState<T, L> as Chronicle>⟧.stands self.old items → IsShared L.script L.steps items past
+        ensures stands { (items : List Item) (past : Past) (waiter need : ℕ) → ⟦<KernelState<T, L> as Chronicle>⟧.stands self.old items → IsShared L.script L.steps items past
             → WaitsInVain L.script L.steps items past waiter need live → ⟦<KernelState<T, L> as Chronicle>⟧.stands self.new (items ++ item.Cleared what live ∷ []) }
+        ensures nothing { ReservesNothing self.old.seat.known self.new.seat.known }
     {
         self.store.evict(what);
         word.give_back(&mut self.seat, live - self.store.live());
@@ -128,9 +130,10 @@ impl<T: Turner + Drop, L: RunName> KernelState<T, L> {
         requires live { (world : World) → T.stands self.old.store world → live ≡ live_of world }
         requires may { (items : List Item) × (past : Past) × ⟦<KernelState<T, L> as Chronicle>⟧.stands self.old items × IsShared L.script L.steps items past
             × WaitsInVain L.script L.steps items past waiter need live }
-        ensures { (items : List Item) (past : Past) → ⟦<KernelState<T, L> as Chronicle>⟧.stands self.old items → IsShared L.script L.steps items past
+        ensures stands { (items : List Item) (past : Past) → ⟦<KernelState<T, L> as Chronicle>⟧.stands self.old items → IsShared L.script L.steps items past
             → WaitsInVain L.script L.steps items past waiter need live
             → ⟦<KernelState<T, L> as Chronicle>⟧.stands self.new (items ++ item.Noted (entry.Killed pid waiter need live) ∷ []) }
+        ensures nothing { ReservesNothing self.old.seat.known self.new.seat.known }
     {
         let before = self.store.last_pid();
         self.store.kill(pid);
@@ -162,6 +165,7 @@ impl<T: Turner + Drop, L: RunName> KernelState<T, L> {
             → WaitsInVain L.script L.steps items past waiter need live → ⟦<KernelState<T, L> as Chronicle>⟧.stands self.new (items ++ said result.1) }
         ensures told { (items : List Item) (past : Past) → ⟦<KernelState<T, L> as Chronicle>⟧.stands self.old items → IsShared L.script L.steps items past
             → WaitsInVain L.script L.steps items past waiter need live → Frees past waiter need live result.0 result.1 }
+        ensures nothing { ReservesNothing self.old.seat.known self.new.seat.known }
     {
         if let Some(what) = first_that_loses(&self.store) {
             self.clear(word, what, live);
@@ -192,6 +196,7 @@ impl<T: Turner + Drop, L: RunName> KernelState<T, L> {
             → ⟦<KernelState<T, L> as Chronicle>⟧.stands self.new (items ++ said result.1) }
         ensures relieves { (items : List Item) (past : Past) → ⟦<KernelState<T, L> as Chronicle>⟧.stands self.old items → IsShared L.script L.steps items past
             → Relieves L.script L.steps items past own.new.known.last result.0 result.1 }
+        ensures nothing { ReservesNothing self.old.seat.known self.new.seat.known }
     {
         let charged = word.charged(own);
         if self.is_spent() {

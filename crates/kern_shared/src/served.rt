@@ -4,22 +4,30 @@ ghost use Rattle.turn_words.specs.Items.{heard, said};
 ghost use Rattle.turn_words.specs.Rule.{MayGive, MayReturn};
 ghost use Rattle.kern_shared.specs.Passes.{PutsBack, Takes};
 
+use crossbeam_utils::Backoff;
 use std::sync::Wait;
-use std::thread;
 use turn_words::{Chronicle, Item, TurnSeat, Turns};
 
-/// Draws a ticket, waits until it is served, and takes the value.
-pub(crate) fn begin<R: Wait, S: Chronicle>(rt: &R, turns: &Turns<S>, seat: &mut TurnSeat<S>) -> S
+/// Draws a ticket, waits until it is served, and takes the value. It tells whether the ticket wasn't served at the first look.
+pub(crate) fn begin<R: Wait, S: Chronicle>(
+    rt: &R,
+    turns: &Turns<S>,
+    seat: &mut TurnSeat<S>,
+    waited: &mut bool,
+) -> S
     requires turns { seat.old.turns ≡ turns.now }
     requires free { seat.old.known.has_ticket ≡ false }
     ensures { Takes S.stands seat.old seat.new result }
 {
     turns.draw(seat);
+    let backoff = Backoff::new();
+    *waited = false;
     for _ in rt.forever() {
         if turns.look(seat) {
             return turns.take(seat);
         }
-        thread::yield_now();
+        *waited = true;
+        backoff.snooze();
     }
     unreachable!()
 }

@@ -116,8 +116,9 @@ impl<T: Turner + Drop, L: RunName> KernelState<T, L> {
 
     /// Takes a process back that a pass holds, unchanged.
     pub fn release_held(&mut self, pid: u32)
-        ensures { (items : List Item) → ⟦<KernelState<T, L> as Chronicle>⟧.stands self.old items → is_given pid items ≡ true
+        ensures stands { (items : List Item) → ⟦<KernelState<T, L> as Chronicle>⟧.stands self.old items → is_given pid items ≡ true
             → ⟦<KernelState<T, L> as Chronicle>⟧.stands self.new (items ++ Back pid ∷ []) }
+        ensures seat { self.new.seat ≡ self.old.seat }
     {
         self.held.retain(|other| other.pid != pid);
     }

@@ -6,7 +6,6 @@ ghost use Rattle.kheap_shelves.specs.Objects.{InUse};
 ghost use Rattle.kheap_slabs.specs.Heap.{live_bytes};
 ghost use Rattle.posix_defs.specs.Files.Descriptors.{descriptor_at};
 
-mod listens;
 mod opens;
 
 use desc_table::{Descs, share_desc};

@@ -46,23 +46,34 @@ fn purse(rt: &impl Abort, heap: &KHeap) -> Purse
 // 0 for none; the bytes of the heap after it.
 type Step = (u32, u32, u32, u32, u64);
 
+fn take(rt: &impl Abort, heap: &mut KHeap, space: &mut Space, step: &Step) -> u32
+    requires { IsOwnedWith heap.old space.old }
+    ensures { IsOwnedWith heap.new space.new }
+{
+    let (pages, first, count, _, _) = *step;
+    assert!(rt; first <= 256 && count <= 256 - first);
+    if pages == 0 {
+        space.unmap(heap, first, count);
+        return 0;
+    }
+    let mut pay = purse(rt, heap);
+    space.map(heap, &mut pay, pages).unwrap_or(0)
+}
+
+fn take_all(rt: &impl Abort, heap: &mut KHeap, space: &mut Space, steps: &[Step])
+    requires { IsOwnedWith heap.old space.old }
+    ensures { IsOwnedWith heap.new space.new }
+{
+    for (k, step) in steps.iter().enumerate() {
+        let got = take(rt, heap, space, step);
+        let live = heap.live();
+        assert!(rt; got == step.3 && live == step.4, "step {k}: {got}, {live}");
+    }
+}
+
 fn go_through(rt: &impl Abort, alloc: Global, steps: &[Step]) -> Result<(), Memory> {
     let (mut heap, mut space) = booted(alloc)?;
-    for (pages, first, count, answer, live) in steps {
-        assert!(rt; *first <= 256 && *count <= 256 - *first);
-        let mut got = 0;
-        if *pages > 0 {
-            let mut pay = purse(rt, &heap);
-            got = space.map(&mut heap, &mut pay, *pages).unwrap_or(0);
-        } else {
-            space.unmap(&mut heap, *first, *count);
-        }
-        assert!(rt;
-            got == *answer && heap.live() == *live,
-            "{pages} {first} {count}: {got}, {}",
-            heap.live()
-        );
-    }
+    take_all(rt, &mut heap, &mut space, steps);
     space.release(&mut heap);
     assert!(rt; heap.live() == 0);
     drop(heap);

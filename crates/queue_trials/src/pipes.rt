@@ -142,80 +142,102 @@ fn close_last(rt: &impl Abort, heap: &mut KHeap, key: u32, writing: bool) -> u64
 
 const AGAIN: Moved = Moved::Fault(Errno::EAGAIN);
 
+fn write_by_length(rt: &impl Abort, heap: &mut KHeap)
+    requires { OwnsItsObjects heap.old }
+{
+    let mut purse = purse(rt, heap);
+    let key = piped(heap, &mut purse);
+    let first = write(rt, heap, &mut purse, key, true, &[1; 3585]);
+    let second = write(rt, heap, &mut purse, key, true, &[2; 512]);
+    let polled = pipe_polled(heap, key, true, 4);
+    let third = write(rt, heap, &mut purse, key, true, &[3; 513]);
+    let fourth = write(rt, heap, &mut purse, key, true, &[4]);
+    let fifth = write(rt, heap, &mut purse, key, false, &[5]);
+    assert!(rt; first == Moved::Bytes(3585) && second == AGAIN && polled == 0);
+    assert!(rt; third == Moved::Bytes(511) && fourth == AGAIN && fifth == Moved::Blocked);
+    assert!(rt; heap.live() == 128 + 8 * 576);
+}
+
 /// A write of at most 512 bytes goes whole or not at all, and a longer one as far as there is room.
 #[test]
 fn writes_go_by_their_length(rt: HostRuntime) -> Result<(), Fail> {
     let mut heap = booted(rt.alloc())?;
-    let mut purse = purse(&rt, &heap);
-    let key = piped(&mut heap, &mut purse);
-    let first = write(&rt, &mut heap, &mut purse, key, true, &[1; 3585]);
-    let second = write(&rt, &mut heap, &mut purse, key, true, &[2; 512]);
-    let polled = pipe_polled(&heap, key, true, 4);
-    let third = write(&rt, &mut heap, &mut purse, key, true, &[3; 513]);
-    let fourth = write(&rt, &mut heap, &mut purse, key, true, &[4]);
-    let fifth = write(&rt, &mut heap, &mut purse, key, false, &[5]);
-    assert!(rt; first == Moved::Bytes(3585) && second == AGAIN && polled == 0);
-    assert!(rt; third == Moved::Bytes(511) && fourth == AGAIN && fifth == Moved::Blocked);
-    assert!(rt; heap.live() == 128 + 8 * 576);
+    write_by_length(&rt, &mut heap);
     drop(heap);
     Ok(())
+}
+
+fn read_what_is_there(rt: &impl Abort, heap: &mut KHeap)
+    requires { OwnsItsObjects heap.old }
+{
+    let mut purse = purse(rt, heap);
+    let key = piped(heap, &mut purse);
+    let mut out = [0; 4];
+    let waits = read(rt, heap, &purse, key, false, &mut out);
+    let again = read(rt, heap, &purse, key, true, &mut out);
+    assert!(rt; waits == Moved::Blocked && again == AGAIN);
+    let put = write(rt, heap, &mut purse, key, false, b"hello");
+    let first = read(rt, heap, &purse, key, false, &mut out);
+    assert!(rt; put == Moved::Bytes(5) && first == Moved::Bytes(4) && &out == b"hell");
+    let second = read(rt, heap, &purse, key, false, &mut out);
+    assert!(rt; second == Moved::Bytes(1) && &out == b"oell" && heap.live() == 128);
 }
 
 /// Bytes come out in their order, and an empty pipe is waited for while somebody can write.
 #[test]
 fn reads_take_what_is_there(rt: HostRuntime) -> Result<(), Fail> {
     let mut heap = booted(rt.alloc())?;
-    let mut purse = purse(&rt, &heap);
-    let key = piped(&mut heap, &mut purse);
-    let mut out = [0; 4];
-    let waits = read(&rt, &mut heap, &purse, key, false, &mut out);
-    let again = read(&rt, &mut heap, &purse, key, true, &mut out);
-    assert!(rt; waits == Moved::Blocked && again == AGAIN);
-    let put = write(&rt, &mut heap, &mut purse, key, false, b"hello");
-    let first = read(&rt, &mut heap, &purse, key, false, &mut out);
-    assert!(rt; put == Moved::Bytes(5) && first == Moved::Bytes(4) && &out == b"hell");
-    let second = read(&rt, &mut heap, &purse, key, false, &mut out);
-    assert!(rt; second == Moved::Bytes(1) && &out == b"oell" && heap.live() == 128);
+    read_what_is_there(&rt, &mut heap);
     drop(heap);
     Ok(())
+}
+
+fn end_without_writers(rt: &impl Abort, heap: &mut KHeap)
+    requires { OwnsItsObjects heap.old }
+{
+    let mut purse = purse(rt, heap);
+    let key = piped(heap, &mut purse);
+    let put = write(rt, heap, &mut purse, key, false, b"ab");
+    close_one(rt, heap, &purse, key, true);
+    let told = pipe_polled(heap, key, false, 5);
+    let mut out = [0; 4];
+    let first = read(rt, heap, &purse, key, false, &mut out);
+    let end = read(rt, heap, &purse, key, false, &mut out);
+    let ended = pipe_polled(heap, key, false, 5);
+    assert!(rt; put == Moved::Bytes(2) && told == 17 && first == Moved::Bytes(2));
+    assert!(rt; end == Moved::Bytes(0) && ended == 16 && close_last(rt, heap, key, false) == 0);
 }
 
 /// The writer leaves first: the bytes stay, then comes the end of the file.
 #[test]
 fn a_pipe_without_writers_ends(rt: HostRuntime) -> Result<(), Fail> {
     let mut heap = booted(rt.alloc())?;
-    let mut purse = purse(&rt, &heap);
-    let key = piped(&mut heap, &mut purse);
-    let put = write(&rt, &mut heap, &mut purse, key, false, b"ab");
-    close_one(&rt, &mut heap, &purse, key, true);
-    let told = pipe_polled(&heap, key, false, 5);
-    let mut out = [0; 4];
-    let first = read(&rt, &mut heap, &purse, key, false, &mut out);
-    let end = read(&rt, &mut heap, &purse, key, false, &mut out);
-    let ended = pipe_polled(&heap, key, false, 5);
-    assert!(rt; put == Moved::Bytes(2) && told == 17 && first == Moved::Bytes(2));
-    assert!(rt;
-        end == Moved::Bytes(0) && ended == 16 && close_last(&rt, &mut heap, key, false) == 0
-    );
+    end_without_writers(&rt, &mut heap);
     drop(heap);
     Ok(())
+}
+
+fn break_without_readers(rt: &impl Abort, heap: &mut KHeap)
+    requires { OwnsItsObjects heap.old }
+{
+    let mut purse = purse(rt, heap);
+    let key = piped(heap, &mut purse);
+    let put = write(rt, heap, &mut purse, key, false, &[7; 513]);
+    let room = pipe_polled(heap, key, true, 4);
+    assert!(rt; put == Moved::Bytes(513) && room == 4 && heap.live() == 128 + 2 * 576);
+    close_one(rt, heap, &purse, key, false);
+    let live = heap.live();
+    let broken = write(rt, heap, &mut purse, key, true, b"x");
+    let told = pipe_polled(heap, key, true, 4);
+    assert!(rt; live == 128 && broken == Moved::Fault(Errno::EPIPE) && told == 8);
+    assert!(rt; close_last(rt, heap, key, true) == 0);
 }
 
 /// The reader leaves first, with bytes unread: they are dropped, and nothing can be written any more.
 #[test]
 fn a_pipe_without_readers_is_broken(rt: HostRuntime) -> Result<(), Fail> {
     let mut heap = booted(rt.alloc())?;
-    let mut purse = purse(&rt, &heap);
-    let key = piped(&mut heap, &mut purse);
-    let put = write(&rt, &mut heap, &mut purse, key, false, &[7; 513]);
-    let room = pipe_polled(&heap, key, true, 4);
-    assert!(rt; put == Moved::Bytes(513) && room == 4 && heap.live() == 128 + 2 * 576);
-    close_one(&rt, &mut heap, &purse, key, false);
-    let live = heap.live();
-    let broken = write(&rt, &mut heap, &mut purse, key, true, b"x");
-    let told = pipe_polled(&heap, key, true, 4);
-    assert!(rt; live == 128 && broken == Moved::Fault(Errno::EPIPE) && told == 8);
-    assert!(rt; close_last(&rt, &mut heap, key, true) == 0);
+    break_without_readers(&rt, &mut heap);
     drop(heap);
     Ok(())
 }

@@ -92,6 +92,28 @@ fn drained(rt: &impl Abort, heap: &mut KHeap, queue: &mut Queue, bytes: &[u8], s
 
 // Puts bytes and takes all of them but one, so that this one is at a place; puts others behind it, and takes all in two
 // pieces. How many chunks they took, and whether the same bytes came out and all chunks went back.
+fn put_and_take(
+    rt: &impl Abort,
+    heap: &mut KHeap,
+    queue: &mut Queue,
+    bytes: &[u8],
+    place: usize,
+    split: usize,
+) -> (u64, bool)
+    requires { IsQueueIn heap.old queue.old }
+{
+    let mut purse = purse(rt, heap);
+    let mut skipped = [0; 512];
+    assert!(rt; place < 512 && place < bytes.len());
+    put(rt, heap, &mut purse, queue, &bytes[..place + 1]);
+    let _count = take(heap, &purse, queue, &mut skipped[..place]);
+    put(rt, heap, &mut purse, queue, &bytes[place + 1..]);
+    let chunks = heap.live() / 576;
+    let same = drained(rt, heap, queue, &bytes[place..], split);
+    (chunks, same && heap.live() == 0)
+}
+
+// The same in a new heap.
 fn through(
     rt: &impl Abort,
     alloc: Global,
@@ -100,17 +122,9 @@ fn through(
     split: usize,
 ) -> Result<(u64, bool), Memory> {
     let (mut heap, mut queue) = booted(alloc)?;
-    let mut purse = purse(rt, &heap);
-    let mut skipped = [0; 512];
-    assert!(rt; place < 512 && place < bytes.len());
-    put(rt, &mut heap, &mut purse, &mut queue, &bytes[..place + 1]);
-    let _count = take(&mut heap, &purse, &mut queue, &mut skipped[..place]);
-    put(rt, &mut heap, &mut purse, &mut queue, &bytes[place + 1..]);
-    let chunks = heap.live() / 576;
-    let same = drained(rt, &mut heap, &mut queue, &bytes[place..], split);
-    let left = heap.live();
+    let told = put_and_take(rt, &mut heap, &mut queue, bytes, place, split);
     drop(heap);
-    Ok((chunks, same && left == 0))
+    Ok(told)
 }
 
 // The place of the first byte, how many are put behind it, how many are taken first, and the chunks.
@@ -138,21 +152,27 @@ fn bytes_come_out_as_they_went_in(rt: HostRuntime) -> Result<(), Fail> {
     Ok(())
 }
 
+fn begin_anew(rt: &impl Abort, heap: &mut KHeap, queue: &mut Queue)
+    requires { IsQueueIn heap.old queue.old }
+{
+    let mut purse = purse(rt, heap);
+    let mut out = [0; 4];
+    put(rt, heap, &mut purse, queue, b"abc");
+    let taken = take(heap, &purse, queue, &mut out);
+    assert!(rt; taken == 3 && &out == b"abc\0" && heap.live() == 0 && queue.is_empty());
+    put(rt, heap, &mut purse, queue, &[9; 512]);
+    assert!(rt; queue.parts().place == 0 && queue.len() == 512 && heap.live() == 576);
+    put(rt, heap, &mut purse, queue, b"x");
+    assert!(rt; purse.left(Class::Chunk) == 14 && heap.live() == 1152);
+    queue.clear(heap);
+    assert!(rt; heap.live() == 0 && queue.is_empty());
+}
+
 /// A put after a take of all begins a new chunk at its front, and a clear gives all chunks back.
 #[test]
 fn an_empty_queue_begins_anew(rt: HostRuntime) -> Result<(), Fail> {
     let (mut heap, mut queue) = booted(rt.alloc())?;
-    let mut purse = purse(&rt, &heap);
-    let mut out = [0; 4];
-    put(&rt, &mut heap, &mut purse, &mut queue, b"abc");
-    let taken = take(&mut heap, &purse, &mut queue, &mut out);
-    assert!(rt; taken == 3 && &out == b"abc\0" && heap.live() == 0 && queue.is_empty());
-    put(&rt, &mut heap, &mut purse, &mut queue, &[9; 512]);
-    assert!(rt; queue.parts().place == 0 && queue.len() == 512 && heap.live() == 576);
-    put(&rt, &mut heap, &mut purse, &mut queue, b"x");
-    assert!(rt; purse.left(Class::Chunk) == 14 && heap.live() == 1152);
-    queue.clear(&mut heap);
-    assert!(rt; heap.live() == 0 && queue.is_empty());
+    begin_anew(&rt, &mut heap, &mut queue);
     drop(heap);
     Ok(())
 }

@@ -1,8 +1,7 @@
 use crate::texts::{CLOSING, Row, check_first_line, check_line, check_texts, check_told, joined};
 use kabi_types::FaultKind;
-use std::alloc::{AllocError, AllocGlobal, Global};
+use std::alloc::AllocGlobal;
 use std::process::Abort;
-use std::test::Fail;
 
 /// Labels that are missing.
 const MISSING_LABELS: &[Row] = &[
@@ -396,27 +395,24 @@ const SEVERAL: &[&[Row]] = &[
 ];
 
 #[test]
-fn faults_of_labels_and_jumps_are_told(rt: HostRuntime) -> Result<(), Fail> {
+fn faults_of_labels_and_jumps_are_told(rt: HostRuntime) {
     for rows in LABELS {
-        check_texts(&rt, rows)?;
+        check_texts(&rt, rows);
     }
-    Ok(())
 }
 
 #[test]
-fn programs_without_an_end_and_texts_without_init_are_told(rt: HostRuntime) -> Result<(), Fail> {
+fn programs_without_an_end_and_texts_without_init_are_told(rt: HostRuntime) {
     for rows in PROGRAMS {
-        check_texts(&rt, rows)?;
+        check_texts(&rt, rows);
     }
-    Ok(())
 }
 
 #[test]
-fn of_several_faults_the_first_and_the_least_is_told(rt: HostRuntime) -> Result<(), Fail> {
+fn of_several_faults_the_first_and_the_least_is_told(rt: HostRuntime) {
     for rows in SEVERAL {
-        check_texts(&rt, rows)?;
+        check_texts(&rt, rows);
     }
-    Ok(())
 }
 
 /// Lines that are no text, whatever else is wrong with them.
@@ -437,17 +433,16 @@ const BROKEN_SCRIPTS: &[(&[u8], u32, FaultKind)] = &[
 ];
 
 #[test]
-fn bytes_that_are_no_text_come_before_other_faults(rt: HostRuntime) -> Result<(), Fail> {
+fn bytes_that_are_no_text_come_before_other_faults(rt: HostRuntime) {
     for line in BROKEN_IN_INIT {
-        check_line(&rt, line, Some((2, FaultKind::NotUtf8)))?;
+        check_line(&rt, line, Some((2, FaultKind::NotUtf8)));
     }
     for line in BROKEN_AT_TOP {
-        check_first_line(&rt, line, Some((1, FaultKind::NotUtf8)))?;
+        check_first_line(&rt, line, Some((1, FaultKind::NotUtf8)));
     }
     for (text, line, what) in BROKEN_SCRIPTS {
-        check_told(&rt, text, Some((*line, *what)))?;
+        check_told(&rt, text, Some((*line, *what)));
     }
-    Ok(())
 }
 
 /// A line for each fault that a line of a program can have, behind the label `top`.
@@ -467,30 +462,29 @@ const LABELLED: &[u8] = b"program init\nlabel top\n";
 const NEWLINE: &[u8] = b"\n";
 
 /// A text whose program has these lines 3 and 4.
-fn with_two(alloc: Global, first: &[u8], second: &[u8], end: &[u8]) -> Result<Vec<u8>, AllocError> {
-    let before = joined(alloc, LABELLED, first, NEWLINE)?;
-    joined(alloc, before.as_slice(), second, end)
+fn with_two(rt: &(impl Abort + AllocGlobal), first: &[u8], second: &[u8], end: &[u8]) -> Vec<u8> {
+    let before = joined(rt, LABELLED, first, NEWLINE);
+    joined(rt, before.as_slice(), second, end)
 }
 
 /// Of these two lines the first is told, and that the program has no end where it has none.
-fn check_two(
-    rt: &(impl Abort + AllocGlobal),
-    first: &[u8],
-    second: &[u8],
-    what: FaultKind,
-) -> Result<(), Fail> {
-    let whole = with_two(rt.alloc(), first, second, CLOSING)?;
-    check_told(rt, whole.as_slice(), Some((3, what)))?;
-    let unended = with_two(rt.alloc(), first, second, NEWLINE)?;
-    check_told(rt, unended.as_slice(), Some((1, FaultKind::Unended)))
+fn check_two(rt: &(impl Abort + AllocGlobal), first: &[u8], second: &[u8], what: FaultKind) {
+    let whole = with_two(rt, first, second, CLOSING);
+    check_told(rt, whole.as_slice(), Some((3, what)));
+    let unended = with_two(rt, first, second, NEWLINE);
+    check_told(rt, unended.as_slice(), Some((1, FaultKind::Unended)));
+}
+
+/// The same with each line for the second.
+fn check_before_each(rt: &(impl Abort + AllocGlobal), first: &[u8], what: FaultKind) {
+    for (second, _) in FAULTY {
+        check_two(rt, first, second, what);
+    }
 }
 
 #[test]
-fn of_two_lines_the_first_is_told_whatever_its_fault(rt: HostRuntime) -> Result<(), Fail> {
+fn of_two_lines_the_first_is_told_whatever_its_fault(rt: HostRuntime) {
     for (first, what) in FAULTY {
-        for (second, _) in FAULTY {
-            check_two(&rt, first, second, *what)?;
-        }
+        check_before_each(&rt, first, *what);
     }
-    Ok(())
 }

@@ -1,62 +1,56 @@
 use crate::texts::{CLOSING, check_canonical, joined};
 use kabi_types::{
-    CallKind, Chooser, Memory, Name27, Numbers, Operand, Operands, Policy, Program, Programs,
-    Script, Statement, Statements, Test, Text, Texts,
+    CallKind, Chooser, Name27, Numbers, Operand, Operands, Policy, Program, Programs, Script,
+    Statement, Statements, Test, Text, Texts,
 };
 use script_parse::print;
-use std::alloc::{AllocError, AllocGlobal, Global};
+use std::alloc::AllocGlobal;
 use std::process::Abort;
-use std::test::Fail;
 
-fn texts_of(alloc: Global, texts: &[&[u8]]) -> Result<Texts, AllocError> {
-    let mut all = Vec::new(alloc);
+fn texts_of(rt: &(impl Abort + AllocGlobal), texts: &[&[u8]]) -> Texts {
+    let mut all = Vec::new(rt.alloc());
     for text in texts {
-        let mut bytes = Vec::new(alloc);
-        bytes.extend_from_slice(text)?;
-        all.push(Text::from_vec(bytes))?;
+        let bytes = text.to_vec(rt.alloc()).expect(rt, "memory");
+        all.push(Text::from_vec(bytes)).expect(rt, "memory");
     }
-    Ok(Texts::from_vec(all))
+    Texts::from_vec(all)
 }
 
 fn call(
-    alloc: Global,
+    rt: &(impl Abort + AllocGlobal),
     (kind, values, texts): Called,
     first: Option<u8>,
     second: Option<u8>,
-) -> Result<Statement, AllocError> {
-    let mut operands = Vec::new(alloc);
-    operands.extend_from_slice(values)?;
-    Ok(Statement::Invoke {
+) -> Statement {
+    let operands = values.to_vec(rt.alloc()).expect(rt, "memory");
+    Statement::Invoke {
         kind,
         operands: Operands::from_vec(operands),
-        texts: texts_of(alloc, texts)?,
+        texts: texts_of(rt, texts),
         first,
         second,
-    })
+    }
 }
 
 /// The name of the first program.
 const INIT: &[u8] = b"init";
 
-/// A body of this statement alone.
-fn only(alloc: Global, statement: Statement) -> Result<Statements, AllocError> {
-    let mut body = Vec::new(alloc);
-    body.push(statement)?;
-    Ok(Statements::from_vec(body))
-}
-
-/// Small settings, and one program of this name and body.
-fn small_script(alloc: Global, name: Name27, body: Statements) -> Result<Script, AllocError> {
-    let mut programs = Vec::new(alloc);
-    programs.push(Program { name, body })?;
-    Ok(Script {
+/// Small settings, and one program, of this statement alone.
+fn small_script(rt: &(impl Abort + AllocGlobal), statement: Statement) -> Script {
+    let body = Vec::from_array(rt.alloc(), [statement]).expect(rt, "memory");
+    let program = Program {
+        name: Name27::of(INIT).expect(rt, "a name"),
+        body: Statements::from_vec(body),
+    };
+    let programs = Vec::from_array(rt.alloc(), [program]).expect(rt, "memory");
+    Script {
         heap: 8192,
         disk: 16,
         steps: 1,
         policy: Policy::Youngest,
         chooser: Chooser::Seed(2147483647),
         programs: Programs::from_vec(programs),
-    })
+    }
 }
 
 /// The small settings and the beginning of the program, as they are printed.
@@ -64,35 +58,18 @@ const SMALL: &[u8] =
     b"heap 8192\ndisk 16\nsteps 1\npolicy youngest\nseed 2147483647\nprogram init\n";
 
 /// The script is printed as this text.
-fn check_printed(
-    rt: &(impl Abort + AllocGlobal),
-    script: &Script,
-    wanted: &[u8],
-) -> Result<(), Fail> {
-    let text = print(rt.alloc(), script)?;
+fn check_printed(rt: &(impl Abort + AllocGlobal), script: &Script, wanted: &[u8]) {
+    let text = print(rt.alloc(), script).expect(rt, "memory");
     assert!(rt; text.as_bytes() == wanted, "{text}");
-    Ok(())
-}
-
-/// The small script is printed as its settings, its program's first line, this line, and its end.
-fn check_line(rt: &(impl Abort + AllocGlobal), script: &Script, line: &str) -> Result<(), Fail> {
-    let wanted = joined(rt.alloc(), SMALL, line.as_bytes(), CLOSING)?;
-    check_printed(rt, script, wanted.as_slice())
 }
 
 /// A small script that has this statement alone is printed as its settings, its program's first line, this line, and its
 /// end.
-fn check_alone(
-    rt: &(impl Abort + AllocGlobal),
-    statement: Statement,
-    line: &str,
-) -> Result<(), Fail> {
-    let body = only(rt.alloc(), statement)?;
-    let name = Name27::of(INIT).expect(rt, "a name");
-    let script = small_script(rt.alloc(), name, body)?;
-    let checked = check_line(rt, &script, line);
+fn check_alone(rt: &(impl Abort + AllocGlobal), statement: Statement, line: &str) {
+    let script = small_script(rt, statement);
+    let wanted = joined(rt, SMALL, line.as_bytes(), CLOSING);
+    check_printed(rt, &script, wanted.as_slice());
     drop(script);
-    checked
 }
 
 /// Texts and the canonical texts of what they say.
@@ -112,11 +89,10 @@ const PRINTED: &[(&str, &str)] = &[
 ];
 
 #[test]
-fn settings_go_first_and_constants_blanks_and_remarks_go(rt: HostRuntime) -> Result<(), Fail> {
+fn settings_go_first_and_constants_blanks_and_remarks_go(rt: HostRuntime) {
     for (text, canonical) in PRINTED {
-        check_canonical(&rt, text.as_bytes(), canonical.as_bytes())?;
+        check_canonical(&rt, text.as_bytes(), canonical.as_bytes());
     }
-    Ok(())
 }
 
 /// Texts in their canonical form.
@@ -132,11 +108,10 @@ const CANONICAL: &[&str] = &[
 ];
 
 #[test]
-fn canonical_texts_are_printed_as_they_stand(rt: HostRuntime) -> Result<(), Fail> {
+fn canonical_texts_are_printed_as_they_stand(rt: HostRuntime) {
     for text in CANONICAL {
-        check_canonical(&rt, text.as_bytes(), text.as_bytes())?;
+        check_canonical(&rt, text.as_bytes(), text.as_bytes());
     }
-    Ok(())
 }
 
 /// A call: its kind, its values and its texts.
@@ -216,28 +191,24 @@ const CALLS: &[(Called, Option<u8>, Option<u8>, &str)] = &[
 ];
 
 #[test]
-fn calls_are_printed_in_the_order_of_their_fields(rt: HostRuntime) -> Result<(), Fail> {
+fn calls_are_printed_in_the_order_of_their_fields(rt: HostRuntime) {
     for (called, first, second, line) in CALLS {
-        let call = call(rt.alloc(), *called, *first, *second)?;
-        check_alone(&rt, call, line)?;
+        let call = call(&rt, *called, *first, *second);
+        check_alone(&rt, call, line);
     }
-    Ok(())
 }
 
 /// A script without programs and with this many choices, all of them the greatest.
-fn with_choices(alloc: Global, count: u32) -> Result<Script, Memory> {
-    let mut choices = Vec::new(alloc);
-    for _ in 0..count {
-        choices.push(4294967295)?;
-    }
-    Ok(Script {
+fn with_choices(rt: &(impl Abort + AllocGlobal), count: usize) -> Script {
+    let choices = vec![in rt.alloc(); 4294967295; count].expect(rt, "memory");
+    Script {
         heap: 65536,
         disk: 64,
         steps: 1000,
         policy: Policy::Heaviest,
         chooser: Chooser::Choices(Numbers::from_vec(choices)),
-        programs: Programs::from_vec(Vec::new(alloc)),
-    })
+        programs: Programs::from_vec(Vec::new(rt.alloc())),
+    }
 }
 
 /// The settings of that script up to its choices, one choice, and the end of the line.
@@ -248,23 +219,21 @@ const GREATEST: &[u8] = b" 4294967295";
 const NEWLINE: &[u8] = b"\n";
 
 /// That script as it is printed.
-fn printed_choices(alloc: Global, count: u32) -> Result<Vec<u8>, AllocError> {
-    let mut text = joined(alloc, CHOOSING, &[], &[])?;
+fn printed_choices(rt: &(impl Abort + AllocGlobal), count: u32) -> Vec<u8> {
+    let mut text = joined(rt, CHOOSING, &[], &[]);
     for _ in 0..count {
-        text.extend_from_slice(GREATEST)?;
+        text.extend_from_slice(GREATEST).expect(rt, "memory");
     }
-    text.extend_from_slice(NEWLINE)?;
-    Ok(text)
+    text.extend_from_slice(NEWLINE).expect(rt, "memory");
+    text
 }
 
 #[test]
-fn a_thousand_choices_are_printed(rt: HostRuntime) -> Result<(), Fail> {
-    let alloc = rt.alloc();
-    let wanted = printed_choices(alloc, 1000)?;
-    let script = with_choices(alloc, 1000)?;
-    let checked = check_printed(&rt, &script, wanted.as_slice());
+fn a_thousand_choices_are_printed(rt: HostRuntime) {
+    let wanted = printed_choices(&rt, 1000);
+    let script = with_choices(&rt, 1000);
+    check_printed(&rt, &script, wanted.as_slice());
     drop(script);
-    checked
 }
 
 /// A jump and a loop to places without a label, as they are printed.
@@ -273,7 +242,7 @@ const NO_PLACE: &str = "jump ";
 const NO_PLACE_BACK: &str = "loop r3 ";
 
 #[test]
-fn a_place_without_a_label_has_no_name(rt: HostRuntime) -> Result<(), Fail> {
-    check_alone(&rt, Statement::Jump(0), NO_PLACE)?;
-    check_alone(&rt, Statement::Loop(3, 4294967295), NO_PLACE_BACK)
+fn a_place_without_a_label_has_no_name(rt: HostRuntime) {
+    check_alone(&rt, Statement::Jump(0), NO_PLACE);
+    check_alone(&rt, Statement::Loop(3, 4294967295), NO_PLACE_BACK);
 }

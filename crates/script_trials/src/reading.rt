@@ -1,8 +1,7 @@
 use crate::texts::{CLOSING, check_canonical, joined, script_said};
 use kabi_types::{Chooser, Policy, Script, Statement};
-use std::alloc::{AllocError, AllocGlobal, Global};
+use std::alloc::AllocGlobal;
 use std::process::Abort;
-use std::test::Fail;
 
 /// Settings that a text doesn't give, as they are printed.
 const DEFAULTS: &[u8] = b"heap 65536\ndisk 64\nsteps 1000\npolicy heaviest\n";
@@ -23,13 +22,12 @@ fn takes(chooser: &Chooser, choices: &[u32]) -> bool {
 }
 
 #[test]
-fn settings_are_read(rt: HostRuntime) -> Result<(), Fail> {
-    let script = script_said(rt.alloc(), SETTINGS)?.expect(&rt, "a script");
+fn settings_are_read(rt: HostRuntime) {
+    let script = script_said(&rt, SETTINGS);
     let numbers = script.heap == 8192 && script.disk == 4096 && script.steps == 100000;
     let choosing = matches!(script.policy, Policy::Youngest) && takes(&script.chooser, CHOICES);
     drop(script);
     assert!(rt; numbers && choosing);
-    Ok(())
 }
 
 /// Labels, jumps and a loop, with lines between that are no statements.
@@ -77,11 +75,10 @@ fn check_jumps(rt: &impl Abort, script: &Script) {
 }
 
 #[test]
-fn jumps_go_to_places(rt: HostRuntime) -> Result<(), Fail> {
-    let script = script_said(rt.alloc(), JUMPING)?.expect(&rt, "a script");
+fn jumps_go_to_places(rt: HostRuntime) {
+    let script = script_said(&rt, JUMPING);
     check_jumps(&rt, &script);
     drop(script);
-    Ok(())
 }
 
 /// Texts, and what they say in its canonical form: defaults, settings behind programs, statements and calls with their
@@ -118,11 +115,10 @@ const READ: &[(&str, &str)] = &[
 ];
 
 #[test]
-fn texts_are_read(rt: HostRuntime) -> Result<(), Fail> {
+fn texts_are_read(rt: HostRuntime) {
     for (text, canonical) in READ {
-        check_canonical(&rt, text.as_bytes(), canonical.as_bytes())?;
+        check_canonical(&rt, text.as_bytes(), canonical.as_bytes());
     }
-    Ok(())
 }
 
 /// Constants, joined constants, numbers and registers, and the values that they are.
@@ -180,22 +176,21 @@ const VALUES: &[(&str, &str)] = &[
 const SETTING: &[u8] = b"program init\nset r3 ";
 
 /// A program that sets a register to this value.
-fn with_value(alloc: Global, value: &str) -> Result<Vec<u8>, AllocError> {
-    joined(alloc, SETTING, value.as_bytes(), CLOSING)
+fn with_value(rt: &(impl Abort + AllocGlobal), value: &str) -> Vec<u8> {
+    joined(rt, SETTING, value.as_bytes(), CLOSING)
 }
 
 /// A register that is set to this word gets this value.
-fn check_value(rt: &(impl Abort + AllocGlobal), word: &str, value: &str) -> Result<(), Fail> {
-    let text = with_value(rt.alloc(), word)?;
-    let line = with_value(rt.alloc(), value)?;
-    let wanted = joined(rt.alloc(), DEFAULTS, line.as_slice(), &[])?;
-    check_canonical(rt, text.as_slice(), wanted.as_slice())
+fn check_value(rt: &(impl Abort + AllocGlobal), word: &str, value: &str) {
+    let text = with_value(rt, word);
+    let line = with_value(rt, value);
+    let wanted = joined(rt, DEFAULTS, line.as_slice(), &[]);
+    check_canonical(rt, text.as_slice(), wanted.as_slice());
 }
 
 #[test]
-fn values_are_read(rt: HostRuntime) -> Result<(), Fail> {
+fn values_are_read(rt: HostRuntime) {
     for (word, value) in VALUES {
-        check_value(&rt, word, value)?;
+        check_value(&rt, word, value);
     }
-    Ok(())
 }

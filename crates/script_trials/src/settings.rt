@@ -1,7 +1,7 @@
 use crate::texts::{Told, check_at_top, check_first_line, joined};
 use kabi_types::FaultKind;
-use std::alloc::{AllocError, Global};
-use std::test::Fail;
+use std::alloc::AllocGlobal;
+use std::process::Abort;
 
 const UNKNOWN_SETTINGS: &[&str] = &[
     "hep 8192",
@@ -140,11 +140,10 @@ const LINES: &[(&[&str], Told)] = &[
 ];
 
 #[test]
-fn lines_outside_programs_are_read_or_told_their_fault(rt: HostRuntime) -> Result<(), Fail> {
+fn lines_outside_programs_are_read_or_told_their_fault(rt: HostRuntime) {
     for (lines, told) in LINES {
-        check_at_top(&rt, lines, *told)?;
+        check_at_top(&rt, lines, *told);
     }
-    Ok(())
 }
 
 /// The word before choices, and one choice.
@@ -153,18 +152,18 @@ const CHOICES: &[u8] = b"choices";
 const CHOICE: &[u8] = b" 7";
 
 /// A line with so many choices.
-fn with_choices(alloc: Global, count: u32) -> Result<Vec<u8>, AllocError> {
-    let mut line = joined(alloc, CHOICES, &[], &[])?;
+fn with_choices(rt: &(impl Abort + AllocGlobal), count: u32) -> Vec<u8> {
+    let mut line = joined(rt, CHOICES, &[], &[]);
     for _ in 0..count {
-        line.extend_from_slice(CHOICE)?;
+        line.extend_from_slice(CHOICE).expect(rt, "memory");
     }
-    Ok(line)
+    line
 }
 
 #[test]
-fn there_are_1000_choices_at_most(rt: HostRuntime) -> Result<(), Fail> {
-    let most = with_choices(rt.alloc(), 1000)?;
-    check_first_line(&rt, most.as_slice(), None)?;
-    let more = with_choices(rt.alloc(), 1001)?;
-    check_first_line(&rt, more.as_slice(), Some((1, FaultKind::OutOfRange)))
+fn there_are_1000_choices_at_most(rt: HostRuntime) {
+    let most = with_choices(&rt, 1000);
+    check_first_line(&rt, most.as_slice(), None);
+    let more = with_choices(&rt, 1001);
+    check_first_line(&rt, more.as_slice(), Some((1, FaultKind::OutOfRange)));
 }

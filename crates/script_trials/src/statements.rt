@@ -1,7 +1,7 @@
 use crate::texts::{Told, check_in_init, check_line, joined};
 use kabi_types::FaultKind;
-use std::alloc::{AllocError, Global};
-use std::test::Fail;
+use std::alloc::AllocGlobal;
+use std::process::Abort;
 
 const UNKNOWN_IN_SET_AND_ADD: &[&str] = &[
     "set",
@@ -298,10 +298,16 @@ const BEFORE_TEXT: &[u8] = b" \"";
 const QUOTE: &[u8] = b"\"";
 
 /// These words, and a text of so many bytes in quotes.
-fn with_text(alloc: Global, words: &str, length: usize) -> Result<Vec<u8>, AllocError> {
-    let text = vec![in alloc; b'a'; length]?;
-    let opened = joined(alloc, words.as_bytes(), BEFORE_TEXT, text.as_slice())?;
-    joined(alloc, opened.as_slice(), QUOTE, &[])
+fn with_text(rt: &(impl Abort + AllocGlobal), words: &str, length: usize) -> Vec<u8> {
+    let text = vec![in rt.alloc(); b'a'; length].expect(rt, "memory");
+    let opened = joined(rt, words.as_bytes(), BEFORE_TEXT, text.as_slice());
+    joined(rt, opened.as_slice(), QUOTE, &[])
+}
+
+/// A call with a text of so many bytes is told this.
+fn check_length(rt: &(impl Abort + AllocGlobal), words: &str, length: usize, wanted: Told) {
+    let line = with_text(rt, words, length);
+    check_line(rt, line.as_slice(), wanted);
 }
 
 /// Calls, the lengths of their text, and what is told of the line.
@@ -321,12 +327,10 @@ const LENGTHS: &[(&str, usize, Told)] = &[
 ];
 
 #[test]
-fn paths_have_255_bytes_at_most_and_stores_64(rt: HostRuntime) -> Result<(), Fail> {
+fn paths_have_255_bytes_at_most_and_stores_64(rt: HostRuntime) {
     for (words, length, wanted) in LENGTHS {
-        let line = with_text(rt.alloc(), words, *length)?;
-        check_line(&rt, line.as_slice(), *wanted)?;
+        check_length(&rt, words, *length, *wanted);
     }
-    Ok(())
 }
 
 /// Calls of processes and of memory.
@@ -407,35 +411,31 @@ const NUMBERS: &[(&[&str], Told)] = &[
 const CALLS: &[&[&str]] = &[PROCESS_CALLS, FILE_CALLS];
 
 #[test]
-fn unknown_words_of_statements_are_told(rt: HostRuntime) -> Result<(), Fail> {
+fn unknown_words_of_statements_are_told(rt: HostRuntime) {
     for (lines, told) in UNKNOWN_STATEMENTS {
-        check_in_init(&rt, lines, *told)?;
+        check_in_init(&rt, lines, *told);
     }
-    Ok(())
 }
 
 #[test]
-fn unknown_words_of_calls_are_told(rt: HostRuntime) -> Result<(), Fail> {
+fn unknown_words_of_calls_are_told(rt: HostRuntime) {
     for (lines, told) in UNKNOWN_IN_CALLS {
-        check_in_init(&rt, lines, *told)?;
+        check_in_init(&rt, lines, *told);
     }
-    Ok(())
 }
 
 #[test]
-fn bad_numbers_and_those_out_of_range_are_told(rt: HostRuntime) -> Result<(), Fail> {
+fn bad_numbers_and_those_out_of_range_are_told(rt: HostRuntime) {
     for (lines, told) in NUMBERS {
-        check_in_init(&rt, lines, *told)?;
+        check_in_init(&rt, lines, *told);
     }
-    Ok(())
 }
 
 #[test]
-fn every_call_is_read(rt: HostRuntime) -> Result<(), Fail> {
+fn every_call_is_read(rt: HostRuntime) {
     for lines in CALLS {
-        check_in_init(&rt, lines, None)?;
+        check_in_init(&rt, lines, None);
     }
-    Ok(())
 }
 
 const NOT_UTF_8: &[&[u8]] = &[
@@ -449,9 +449,9 @@ const NOT_UTF_8: &[&[u8]] = &[
 const ACCENTED: &[u8] = b"# \xc3\xa9";
 
 #[test]
-fn every_line_has_to_be_utf_8(rt: HostRuntime) -> Result<(), Fail> {
+fn every_line_has_to_be_utf_8(rt: HostRuntime) {
     for line in NOT_UTF_8 {
-        check_line(&rt, line, Some((2, FaultKind::NotUtf8)))?;
+        check_line(&rt, line, Some((2, FaultKind::NotUtf8)));
     }
-    check_line(&rt, ACCENTED, None)
+    check_line(&rt, ACCENTED, None);
 }

@@ -1,5 +1,5 @@
-//! The core over a store of one process and over one that has something to evict; turns by tickets, the shared kernel over stores of its own
-//! (one of two processes, and one of a process that sleeps), and workers over it. Tests alone, and what there is of the processes.
+//! The core over a store of one process and over one of two, with something to evict; turns by tickets, the shared kernel over stores of
+//! its own (that of two processes, and one of a process that sleeps), and workers over it. Tests alone, and what there is of the processes.
 #![tactic(auto)]
 
 #[cfg(test)]
@@ -15,7 +15,7 @@ mod desk;
 #[cfg(test)]
 mod events;
 #[cfg(test)]
-mod evictions;
+mod offers;
 #[cfg(test)]
 mod one_pid;
 #[cfg(test)]

@@ -1,14 +1,14 @@
 //! What there is of the two processes of the tests.
 
 /// The call that a process makes next, behind its `fork`.
-#[derive(Clone, Copy, Debug, PartialEq, Eq)]
+#[derive(Clone, Copy)]
 pub enum Next {
     Bind,
     Exit,
 }
 
 /// How far the processes have come, with the next call of each; that of one that has ended too.
-#[derive(Clone, Copy, Debug, PartialEq, Eq)]
+#[derive(Clone, Copy)]
 pub enum Scene {
     /// The first process has made no call.
     Young,
@@ -27,7 +27,7 @@ pub enum Scene {
 }
 
 /// Which process a pid names.
-#[derive(Clone, Copy, Debug, PartialEq, Eq)]
+#[derive(Clone, Copy)]
 pub enum Who {
     First,
     Second,
@@ -35,7 +35,7 @@ pub enum Who {
 }
 
 /// What a process does next.
-#[derive(Clone, Copy, Debug, PartialEq, Eq)]
+#[derive(Clone, Copy)]
 pub enum Act {
     Fork,
     Bind,

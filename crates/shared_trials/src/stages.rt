@@ -1,7 +1,7 @@
 //! What there is of the process that sleeps.
 
 /// How far the process has come. It goes `again` where its call was refused before.
-#[derive(Clone, Copy, Debug, PartialEq, Eq)]
+#[derive(Clone, Copy)]
 pub enum Stage {
     /// It maps two pages next.
     Map { again: bool },

@@ -9,7 +9,7 @@ ghost use Rattle.shared_trials.specs.Workers.{IsAsMany, Works};
 use crate::pair::{Pair, at_boot};
 use crate::workers::{Ask, Line, Told, line_of, release, step};
 use charge_words::{Charge, ChargeSeat};
-use kabi_types::{Cached, CallKind, End, Memory};
+use kabi_types::{Cached, Call, CallKind, End, Memory};
 use kern_shared::{Closed, Kernel, Pass, RunName};
 use std::alloc::Global;
 use std::marker::Brand;
@@ -18,7 +18,27 @@ use std::test::Fail;
 use std::thread;
 use std::thread::{Threads, join};
 
-/// Has calls answered until the run is over. Where a call is short the worker helps, and gives its process back.
+/// Has one call answered, and tells whether the run is over. Where the call is short the worker helps, and gives its process back.
+fn round<R: Wait, L: RunName>(
+    rt: &R,
+    kernel: &Kernel<Pair, L>,
+    pass: &mut Pass<Pair, L>,
+    held: &mut Option<(u32, Call)>,
+) -> bool
+    requires { Works L.script L.steps L.charge kernel.now.turns pass.old.turn pass.old.own pass.old.given held.old }
+    ensures works { Works L.script L.steps L.charge kernel.now.turns pass.new.turn pass.new.own pass.new.given held.new }
+    ensures many { IsAsMany pass.old.turn pass.new.turn }
+{
+    let picked = step(rt, kernel, pass, held, Ask::Pick);
+    let answered = step(rt, kernel, pass, held, Ask::Attend);
+    if matches!(answered, Told::Short { .. }) {
+        step(rt, kernel, pass, held, Ask::Relieve);
+    }
+    release(rt, kernel, pass, held);
+    matches!(picked, Told::Over(_))
+}
+
+/// Has calls answered until the run is over.
 fn works_on<R: Wait, L: RunName>(
     rt: &R,
     kernel: &Kernel<Pair, L>,
@@ -31,13 +51,9 @@ fn works_on<R: Wait, L: RunName>(
     let mut pass = pass;
     let mut held = None;
     for _ in rt.forever() {
-        if let Told::Over(_) = step(rt, kernel, &mut pass, &mut held, Ask::Pick) {
+        if round(rt, kernel, &mut pass, &mut held) {
             break;
         }
-        if let Told::Short { .. } = step(rt, kernel, &mut pass, &mut held, Ask::Attend) {
-            step(rt, kernel, &mut pass, &mut held, Ask::Relieve);
-        }
-        release(rt, kernel, &mut pass, &mut held);
         thread::yield_now();
     }
     release(rt, kernel, &mut pass, &mut held);
@@ -94,7 +110,7 @@ fn run<R: Threads + Wait + Sync, L: RunName + Send + Sync>(
 
 /// What entries tell: how often the first process has bound and has exited, whether a block is cached, and whether there was
 /// anything that no run here has.
-#[derive(Clone, Copy, PartialEq, Eq)]
+#[derive(Clone, Copy)]
 struct Count {
     binds: u32,
     exits: u32,

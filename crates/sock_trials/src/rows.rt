@@ -217,11 +217,31 @@ const BACKLOG: &[Row] = &[
     (Step::Write(2, 4096, 1), "", BROKEN, 1408),
 ];
 
+// Three wait, each with a socket beside its client's, when the listener is closed.
+const THREE_WAIT: &[Row] = &[
+    (Step::Socket, "", ZERO, 1216),
+    (Step::Name(0), "", ZERO, 1216),
+    (Step::Listen(0), "", ZERO, 1216),
+    (Step::Socket, "", Told::Value(1), 1408),
+    (Step::Connect(1, 0), "", ZERO, 1536),
+    (Step::Socket, "", Told::Value(2), 1728),
+    (Step::Connect(2, 0), "", ZERO, 1856),
+    (Step::Socket, "", Told::Value(3), 2048),
+    (Step::Connect(3, 0), "", ZERO, 2176),
+    (Step::Poll(0, 1), "", Told::Value(1), 2176),
+    (Step::Close(0), "", ZERO, 1600),
+    (Step::Poll(3, 5), "", Told::Value(17), 1600),
+    (Step::Close(3), "", ZERO, 1408),
+    (Step::Close(2), "", ZERO, 1216),
+    (Step::Close(1), "", ZERO, 1024),
+];
+
 /// Listeners take those that wait, in their order.
 #[test]
 fn listeners_accept(rt: HostRuntime) -> Result<(), Fail> {
     go_through(&rt, rt.alloc(), ACCEPTED)?;
-    go_through(&rt, rt.alloc(), BACKLOG)
+    go_through(&rt, rt.alloc(), BACKLOG)?;
+    go_through(&rt, rt.alloc(), THREE_WAIT)
 }
 
 // Opens number 0 under further numbers, one after another.

@@ -20,7 +20,7 @@ pub fn evictable(objects: &Objects, what: Cached) -> bool
     objects.tree.evictable(&objects.heap, what)
 }
 
-/// Of what a cache keeps and isn't pinned the object that was used longest ago goes; where there is none nothing changes.
+/// Of what a cache keeps and isn't pinned an object goes, and it isn't said which; where there is none nothing changes.
 pub fn evict(objects: &mut Objects, what: Cached)
     requires { KeepsTree objects.old.heap objects.old.tree }
     ensures kept { (script : Script) → AreKept script objects.old → AreKept script objects.new }

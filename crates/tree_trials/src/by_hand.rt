@@ -1,12 +1,13 @@
 //! Calls by paths, by hand, on a disk of 16 blocks and on one of 4096: what is answered, how often the disk was read then, and
 //! how many names, nodes and blocks are kept.
-ghost use Rattle.std.specs.Prelude.{◌≡◌, ◌<◌, ◌≤◌};
-ghost use Rattle.tree_trials.specs.Trials.{StandsHeld, holders};
+ghost use Rattle.std.specs.Prelude.{◌≤◌};
+ghost use Rattle.tree_trials.specs.Trials.{StandsHeld};
 
 use crate::calls::{
-    Answer, bind, close_last, connect, enter, fstat, link, mkdir, number_of, open_path, rename,
-    rmdir, stat, told, unlink,
+    Answer, bind, close_last, connect, enter, link, mkdir, number_of, open_path, rename, rmdir,
+    stat, unlink,
 };
+use crate::held::{Act, act_on_last};
 use crate::world::{World, booted, evict};
 use kabi_types::{Cached, Errno, NodeKind};
 use memfs_ops::Opening;
@@ -25,19 +26,23 @@ pub enum Step {
     Rmdir(&'static str),
     Link(&'static str, &'static str),
     Rename(&'static str, &'static str),
-    /// A file is made and stays open.
-    Make(&'static str),
+    /// A file is opened, and stays open.
+    Open(&'static str, Opening),
     Enter(&'static str),
-    /// What is held last is told of.
-    Fstat,
+    /// Something is done with what is held last.
+    Do(Act),
     /// What is held last is let go.
     Close,
+    /// What was used longest ago of a cache goes.
+    Evict(Cached),
+    /// All of a cache goes that may: how many these are.
+    Clear(Cached),
 }
 
 /// A call and its answer; how often the disk was read then; and how many names, nodes and blocks are cached.
 pub type Row = (Step, Answer, u64, (u64, u64, u64));
 
-pub fn take(rt: &impl Abort, world: &mut World, step: Step) -> Answer
+fn take_path(rt: &impl Abort, world: &mut World, step: Step) -> Answer
     requires { StandsHeld world.old.heap world.old.files world.old.held.items }
     ensures stands { StandsHeld world.new.heap world.new.files world.new.held.items }
 {
@@ -50,35 +55,39 @@ pub fn take(rt: &impl Abort, world: &mut World, step: Step) -> Answer
         Step::Rmdir(path) => rmdir(rt, world, path.as_bytes()),
         Step::Link(old, new) => link(rt, world, old.as_bytes(), new.as_bytes()),
         Step::Rename(old, new) => rename(rt, world, old.as_bytes(), new.as_bytes()),
-        Step::Make(path) => number_of(open_path(rt, world, path.as_bytes(), CREATES)),
+        Step::Open(path, how) => number_of(open_path(rt, world, path.as_bytes(), how)),
         Step::Enter(path) => number_of(enter(rt, world, path.as_bytes())),
-        Step::Fstat => fstat_last(world),
+        _ => Answer::Nothing,
+    }
+}
+
+pub fn take(rt: &impl Abort, world: &mut World, step: Step) -> Answer
+    requires { StandsHeld world.old.heap world.old.files world.old.held.items }
+    ensures stands { StandsHeld world.new.heap world.new.files world.new.held.items }
+{
+    match step {
+        Step::Do(act) => act_on_last(rt, world, act),
         Step::Close => {
             close_last(rt, world);
             Answer::Done
         }
+        Step::Evict(what) => if evict(world, what) {
+            Answer::Done
+        } else {
+            Answer::Nothing
+        },
+        Step::Clear(what) => Answer::Number(clear(world, what)),
+        _ => take_path(rt, world, step),
     }
 }
 
-const CREATES: Opening = Opening {
+/// Makes a file, or opens one that is there.
+pub const CREATES: Opening = Opening {
     writes: true,
     creates: true,
     excludes: false,
     truncates: false,
 };
-
-// What is told of the node that is held last.
-fn fstat_last(world: &mut World) -> Answer
-    requires { StandsHeld world.old.heap world.old.files world.old.held.items }
-    ensures stands { StandsHeld world.new.heap world.new.files world.new.held.items }
-{
-    let count = world.held.len();
-    if count == 0 {
-        return Answer::Nothing;
-    }
-    let node = world.held[count - 1];
-    told(fstat(world, node))
-}
 
 /// The bytes of so many names, nodes and blocks.
 pub fn bytes_of(kept: (u64, u64, u64)) -> u64 {
@@ -88,7 +97,7 @@ pub fn bytes_of(kept: (u64, u64, u64)) -> u64 {
     names.wrapping_add(nodes).wrapping_add(blocks)
 }
 
-pub fn check_rows(rt: &impl Abort, world: &mut World, rows: &[Row])
+fn check_rows(rt: &impl Abort, world: &mut World, rows: &[Row])
     requires { StandsHeld world.old.heap world.old.files world.old.held.items }
     ensures stands { StandsHeld world.new.heap world.new.files world.new.held.items }
 {
@@ -103,6 +112,24 @@ pub fn check_rows(rt: &impl Abort, world: &mut World, rows: &[Row])
     }
 }
 
+fn check_tables(rt: &impl Abort, world: &mut World, tables: &[&[Row]])
+    requires { StandsHeld world.old.heap world.old.files world.old.held.items }
+{
+    for rows in tables {
+        check_rows(rt, world, rows);
+    }
+}
+
+/// Whether the rows of all tables are so, one after another, on a new tree of so many blocks.
+pub fn check(rt: &impl Abort, alloc: Global, blocks: u32, tables: &[&[Row]]) -> Result<(), Fail>
+    requires { (16 ≤ blocks) × (blocks ≤ 4096) }
+{
+    let mut world = booted(alloc, blocks)?;
+    check_tables(rt, &mut world, tables);
+    drop(world);
+    Ok(())
+}
+
 /// How many objects of a cache may go, which go.
 pub fn clear(world: &mut World, what: Cached) -> u32
     requires { StandsHeld world.old.heap world.old.files world.old.held.items }
@@ -115,6 +142,9 @@ pub fn clear(world: &mut World, what: Cached) -> u32
     }
     100
 }
+
+// The root's node alone is cached.
+const NEW: &[Row] = &[(Step::Clear(Cached::Name), Answer::Number(0), 0, (0, 1, 0))];
 
 // The first directory: the root's entries are read for its name, then the map and the table for a node and a block, and the
 // root's entries again for the new one, since a purse of two Blocks gave them up. What stays is the table and the entries.
@@ -240,9 +270,12 @@ const REFUSED: &[Row] = &[
     ),
 ];
 
-// The name `b`, its node and the block of its directory's entries were used longest ago: they went, and that block alone is
+// The name `b`, its node and the block of its directory's entries were used longest ago: they go, and that block alone is
 // read again.
 const ONE_WENT: &[Row] = &[
+    (Step::Evict(Cached::Name), Answer::Done, 6, (2, 4, 4)),
+    (Step::Evict(Cached::Vnode), Answer::Done, 6, (2, 3, 4)),
+    (Step::Evict(Cached::Block), Answer::Done, 6, (2, 3, 3)),
     (
         Step::Stat("/a"),
         Answer::Told(NodeKind::Dir, 2, 1, 96),
@@ -257,9 +290,13 @@ const ONE_WENT: &[Row] = &[
     ),
 ];
 
-// All went that may go. The way is read once: the entries of the root, the table, and the entries of the directory, for which
-// the purse gives up those of the root.
+// All goes that may go, and the root is held. The way is read once: the entries of the root, the table, and the entries of the
+// directory, for which the purse gives up those of the root.
 const ALL_WENT: &[Row] = &[
+    (Step::Clear(Cached::Name), Answer::Number(3), 7, (0, 4, 4)),
+    (Step::Clear(Cached::Vnode), Answer::Number(3), 7, (0, 1, 4)),
+    (Step::Clear(Cached::Block), Answer::Number(4), 7, (0, 1, 0)),
+    (Step::Evict(Cached::Name), Answer::Nothing, 7, (0, 1, 0)),
     (
         Step::Stat("/"),
         Answer::Told(NodeKind::Dir, 1, 1, 128),
@@ -292,72 +329,134 @@ const ALL_WENT: &[Row] = &[
     ),
 ];
 
-fn let_one_go(rt: &impl Abort, world: &mut World)
+// A directory is entered, which holds it: of the three nodes the one that no one holds may go, and no other. Then paths lead on
+// from there.
+const HELD: &[Row] = &[
+    (Step::Enter("/a"), Answer::Number(2), 10, (2, 3, 2)),
+    (
+        Step::Do(Act::Stat),
+        Answer::Told(NodeKind::Dir, 2, 1, 96),
+        10,
+        (2, 3, 2),
+    ),
+    (Step::Clear(Cached::Vnode), Answer::Number(1), 10, (2, 2, 2)),
+    (
+        Step::Do(Act::From("..")),
+        Answer::Told(NodeKind::Dir, 1, 1, 128),
+        10,
+        (2, 2, 2),
+    ),
+];
+
+#[test]
+fn paths_on_16_blocks(rt: HostRuntime) -> Result<(), Fail> {
+    check(
+        &rt,
+        rt.alloc(),
+        16,
+        &[NEW, FIRST, REFUSED, ONE_WENT, ALL_WENT, HELD],
+    )
+}
+
+#[test]
+fn paths_on_4096_blocks(rt: HostRuntime) -> Result<(), Fail> {
+    check(
+        &rt,
+        rt.alloc(),
+        4096,
+        &[NEW, FIRST, REFUSED, ONE_WENT, ALL_WENT, HELD],
+    )
+}
+
+// From `/a`, in which `b` is, beside the name of a socket in the root.
+const FROM_IT: &[(Step, Answer)] = &[
+    (Step::Mkdir("/a"), Answer::Done),
+    (Step::Mkdir("/a/b"), Answer::Done),
+    (Step::Bind("/s"), Answer::Number(4)),
+    (Step::Enter("/a"), Answer::Number(2)),
+    (
+        Step::Do(Act::From("b")),
+        Answer::Told(NodeKind::Dir, 3, 1, 64),
+    ),
+    (
+        Step::Do(Act::From(".")),
+        Answer::Told(NodeKind::Dir, 2, 1, 96),
+    ),
+    (
+        Step::Do(Act::From("..")),
+        Answer::Told(NodeKind::Dir, 1, 1, 128),
+    ),
+    (
+        Step::Do(Act::From("../s")),
+        Answer::Told(NodeKind::Sock, 4, 1, 0),
+    ),
+    (
+        Step::Do(Act::From("/a/b")),
+        Answer::Told(NodeKind::Dir, 3, 1, 64),
+    ),
+    (Step::Do(Act::From("s")), Answer::Fault(Errno::ENOENT)),
+    (Step::Do(Act::From("../s/b")), Answer::Fault(Errno::ENOTDIR)),
+];
+
+// On 16 blocks 14 are for files. Each directory takes one, so with the root the 14th is the last, until one goes.
+const FOURTEEN: &[(Step, Answer)] = &[
+    (Step::Stat("/"), Answer::Told(NodeKind::Dir, 1, 1, 64)),
+    (Step::Mkdir("/a"), Answer::Done),
+    (Step::Mkdir("/a/"), Answer::Fault(Errno::EEXIST)),
+    (Step::Mkdir("a/b/"), Answer::Done),
+    (Step::Mkdir("/a/b/../c"), Answer::Done),
+    (Step::Stat("a"), Answer::Told(NodeKind::Dir, 2, 1, 128)),
+    (
+        Step::Stat("/a/b/.."),
+        Answer::Told(NodeKind::Dir, 2, 1, 128),
+    ),
+    (Step::Stat("a/c/"), Answer::Told(NodeKind::Dir, 4, 1, 64)),
+    (Step::Stat("/a/x"), Answer::Fault(Errno::ENOENT)),
+    (Step::Mkdir("/a/x/y"), Answer::Fault(Errno::ENOENT)),
+    (Step::Mkdir("/a/.."), Answer::Fault(Errno::EEXIST)),
+    (Step::Mkdir("/d"), Answer::Done),
+    (Step::Mkdir("/e"), Answer::Done),
+    (Step::Mkdir("/f"), Answer::Done),
+    (Step::Mkdir("/g"), Answer::Done),
+    (Step::Mkdir("/h"), Answer::Done),
+    (Step::Mkdir("/i"), Answer::Done),
+    (Step::Mkdir("/j"), Answer::Done),
+    (Step::Mkdir("/k"), Answer::Done),
+    (Step::Mkdir("/l"), Answer::Done),
+    (Step::Mkdir("/m"), Answer::Done),
+    (Step::Mkdir("/n"), Answer::Fault(Errno::ENOSPC)),
+    (Step::Mkdir("/a/b/n"), Answer::Fault(Errno::ENOSPC)),
+    (Step::Stat("/n"), Answer::Fault(Errno::ENOENT)),
+    (Step::Stat("/"), Answer::Told(NodeKind::Dir, 1, 1, 416)),
+    (Step::Stat("/m"), Answer::Told(NodeKind::Dir, 14, 1, 64)),
+    (Step::Rmdir("/m"), Answer::Done),
+    (Step::Mkdir("/n"), Answer::Done),
+    (Step::Stat("/n"), Answer::Told(NodeKind::Dir, 14, 1, 64)),
+];
+
+pub fn check_steps(rt: &impl Abort, world: &mut World, rows: &[(Step, Answer)])
     requires { StandsHeld world.old.heap world.old.files world.old.held.items }
     ensures stands { StandsHeld world.new.heap world.new.files world.new.held.items }
 {
-    assert!(rt; evict(world, Cached::Name));
-    assert!(rt; world.heap.live() == bytes_of((2, 4, 4)));
-    assert!(rt; evict(world, Cached::Vnode));
-    assert!(rt; world.heap.live() == bytes_of((2, 3, 4)));
-    assert!(rt; evict(world, Cached::Block));
-    assert!(rt; world.heap.live() == bytes_of((2, 3, 3)));
-}
-
-// The root is held.
-fn let_all_go(rt: &impl Abort, world: &mut World)
-    requires { StandsHeld world.old.heap world.old.files world.old.held.items }
-    ensures stands { StandsHeld world.new.heap world.new.files world.new.held.items }
-{
-    assert!(rt; clear(world, Cached::Name) == 3);
-    assert!(rt; clear(world, Cached::Vnode) == 3);
-    assert!(rt; clear(world, Cached::Block) == 4);
-}
-
-// A directory is entered, which holds it: of the three nodes the one that no one holds may go, and no other.
-fn hold_one(rt: &impl Abort, world: &mut World)
-    requires { StandsHeld world.old.heap world.old.files world.old.held.items }
-{
-    match enter(rt, world, b"/a") {
-        Ok(node) => check_held(rt, world, node),
-        Err(_) => assert!(rt; false),
+    for (k, (step, answer)) in rows.iter().enumerate() {
+        let answered = take(rt, world, *step);
+        assert!(rt; answered == *answer, "row {k}");
     }
 }
 
-fn check_held(rt: &impl Abort, world: &mut World, node: u32)
-    requires stands { StandsHeld world.old.heap world.old.files world.old.held.items }
-    requires held { 0 < holders world.old.held.items node }
-{
-    assert!(rt; told(fstat(world, node)) == Answer::Told(NodeKind::Dir, 2, 1, 96));
-    assert!(rt; world.files.reads() == 10);
-    assert!(rt; world.heap.live() == bytes_of((2, 3, 2)));
-    assert!(rt; clear(world, Cached::Vnode) == 1);
-    assert!(rt; world.heap.live() == bytes_of((2, 2, 2)));
-}
-
-// All of it on a new tree of so many blocks.
-fn check_tree(rt: &impl Abort, alloc: Global, blocks: u32) -> Result<(), Fail>
-    requires { (16 ≤ blocks) × (blocks ≤ 4096) }
-{
-    let mut world = booted(alloc, blocks)?;
-    assert!(rt; world.heap.live() == 128 && world.files.reads() == 0);
-    check_rows(rt, &mut world, FIRST);
-    check_rows(rt, &mut world, REFUSED);
-    let_one_go(rt, &mut world);
-    check_rows(rt, &mut world, ONE_WENT);
-    let_all_go(rt, &mut world);
-    check_rows(rt, &mut world, ALL_WENT);
-    hold_one(rt, &mut world);
+fn check_answers(rt: &impl Abort, alloc: Global, rows: &[(Step, Answer)]) -> Result<(), Fail> {
+    let mut world = booted(alloc, 16)?;
+    check_steps(rt, &mut world, rows);
     drop(world);
     Ok(())
 }
 
 #[test]
-fn paths_on_16_blocks(rt: HostRuntime) -> Result<(), Fail> {
-    check_tree(&rt, rt.alloc(), 16)
+fn fourteen_directories_on_16_blocks(rt: HostRuntime) -> Result<(), Fail> {
+    check_answers(&rt, rt.alloc(), FOURTEEN)
 }
 
 #[test]
-fn paths_on_4096_blocks(rt: HostRuntime) -> Result<(), Fail> {
-    check_tree(&rt, rt.alloc(), 4096)
+fn paths_from_a_directory_that_is_held(rt: HostRuntime) -> Result<(), Fail> {
+    check_answers(&rt, rt.alloc(), FROM_IT)
 }

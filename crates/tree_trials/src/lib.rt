@@ -1,4 +1,4 @@
-//! A disk behind its caches and the tree of files over them, by hand and beside a plain tree. Tests alone.
+//! A disk behind its caches and the tree of files over them, by hand. Tests alone.
 #![tactic(auto)]
 
 #[cfg(test)]
@@ -10,14 +10,12 @@ mod calls;
 #[cfg(test)]
 mod held;
 #[cfg(test)]
-mod mixed;
-#[cfg(test)]
 mod named;
-#[cfg(test)]
-mod plain;
 #[cfg(test)]
 mod programs;
 #[cfg(test)]
 mod street;
+#[cfg(test)]
+mod wide;
 #[cfg(test)]
 mod world;

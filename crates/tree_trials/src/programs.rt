@@ -1,19 +1,16 @@
 //! Files that name programs, by hand, on a disk of 16 blocks and on one of 4096: which program each names, how often the disk
 //! was read then, and how many names, nodes and blocks are kept.
-ghost use Rattle.std.specs.Prelude.{◌≡◌, ◌<◌, ◌≤◌, IfOk, length};
+ghost use Rattle.std.specs.Prelude.{◌<◌, ◌≤◌, length};
 ghost use Rattle.memfs_ops.specs.Starting.{ArePrograms};
 ghost use Rattle.tree_trials.specs.Trials.{StandsHeld, holders};
 
-use crate::by_hand::{Row, Step, bytes_of, check_rows, clear};
+use crate::by_hand::{Step, bytes_of, check_steps};
 use crate::calls::{Answer, close_last, exec, expect_file, open_path, write};
 use crate::world::{World, booted};
-use kabi_types::{
-    Cached, Chooser, Errno, Memory, Name27, Policy, Program, Programs, Script, Statements,
-};
+use kabi_types::{Cached, Chooser, Errno, Name27, Policy, Program, Programs, Script, Statements};
 use memfs_ops::Opening;
 use std::alloc::Global;
 use std::process::Abort;
-use std::test::Fail;
 
 const LONGEST: &[u8] = b"abcdefghijklmnopqrstuvwxyza";
 
@@ -27,21 +24,27 @@ fn program(rt: &impl Abort, alloc: Global, name: &[u8]) -> Program
 }
 
 // A script with three programs: `init`, `sh`, and one whose name is as long as one may be.
-fn three_programs(rt: &impl Abort, alloc: Global) -> Result<Script, Memory>
-    ensures { IfOk result (λ script. ArePrograms script.programs) }
+fn three_programs(rt: &impl Abort, alloc: Global) -> Script
+    ensures { ArePrograms result.programs }
 {
     let mut programs = Vec::new(alloc);
-    programs.push(program(rt, alloc, b"init"))?;
-    programs.push(program(rt, alloc, b"sh"))?;
-    programs.push(program(rt, alloc, LONGEST))?;
-    Ok(Script {
+    programs
+        .push(program(rt, alloc, b"init"))
+        .expect(rt, "memory");
+    programs
+        .push(program(rt, alloc, b"sh"))
+        .expect(rt, "memory");
+    programs
+        .push(program(rt, alloc, LONGEST))
+        .expect(rt, "memory");
+    Script {
         heap: 65536,
         disk: 64,
         steps: 1000,
         policy: Policy::Heaviest,
         chooser: Chooser::Plain,
         programs: Programs::from_vec(programs),
-    })
+    }
 }
 
 const ANEW: Opening = Opening {
@@ -133,9 +136,16 @@ const ANEW_READ: &[Start] = &[
     ("/p", Answer::Number(1), 9, (1, 2, 2)),
 ];
 
-const MADE: &[Row] = &[
-    (Step::Mkdir("/d"), Answer::Done, 6, (1, 2, 4)),
-    (Step::Bind("/s"), Answer::Number(4), 6, (1, 2, 4)),
+const MADE: &[(Step, Answer)] = &[
+    (Step::Mkdir("/d"), Answer::Done),
+    (Step::Bind("/s"), Answer::Number(4)),
+];
+
+// The root is held.
+const ALL_GO: &[(Step, Answer)] = &[
+    (Step::Clear(Cached::Name), Answer::Number(3)),
+    (Step::Clear(Cached::Vnode), Answer::Number(3)),
+    (Step::Clear(Cached::Block), Answer::Number(4)),
 ];
 
 fn check_starts(rt: &impl Abort, world: &mut World, script: &Script, rows: &[Start])
@@ -154,39 +164,35 @@ fn check_starts(rt: &impl Abort, world: &mut World, script: &Script, rows: &[Sta
     }
 }
 
-// The root is held.
-fn let_all_go(rt: &impl Abort, world: &mut World)
-    requires { StandsHeld world.old.heap world.old.files world.old.held.items }
-    ensures stands { StandsHeld world.new.heap world.new.files world.new.held.items }
+fn check_all(rt: &impl Abort, world: &mut World, script: &Script)
+    requires stands { StandsHeld world.old.heap world.old.files world.old.held.items }
+    requires programs { ArePrograms script.now.programs }
 {
-    assert!(rt; clear(world, Cached::Name) == 3);
-    assert!(rt; clear(world, Cached::Vnode) == 3);
-    assert!(rt; clear(world, Cached::Block) == 4);
+    fill_file(rt, world, b"#!sh\n");
+    check_steps(rt, world, MADE);
+    check_starts(rt, world, script, CACHED);
+    check_steps(rt, world, ALL_GO);
+    check_starts(rt, world, script, ANEW_READ);
+    check_lines(rt, world, script);
 }
 
 // All of it on a new tree of so many blocks.
-fn check_programs(rt: &impl Abort, alloc: Global, blocks: u32) -> Result<(), Fail>
+fn check_programs(rt: &impl Abort, alloc: Global, blocks: u32)
     requires { (16 ≤ blocks) × (blocks ≤ 4096) }
 {
-    let script = three_programs(rt, alloc)?;
-    let mut world = booted(alloc, blocks)?;
-    fill_file(rt, &mut world, b"#!sh\n");
-    check_rows(rt, &mut world, MADE);
-    check_starts(rt, &mut world, &script, CACHED);
-    let_all_go(rt, &mut world);
-    check_starts(rt, &mut world, &script, ANEW_READ);
-    check_lines(rt, &mut world, &script);
+    let script = three_programs(rt, alloc);
+    let mut world = booted(alloc, blocks).expect(rt, "memory");
+    check_all(rt, &mut world, &script);
     drop(world);
     drop(script);
-    Ok(())
 }
 
 #[test]
-fn programs_on_16_blocks(rt: HostRuntime) -> Result<(), Fail> {
-    check_programs(&rt, rt.alloc(), 16)
+fn programs_on_16_blocks(rt: HostRuntime) {
+    check_programs(&rt, rt.alloc(), 16);
 }
 
 #[test]
-fn programs_on_4096_blocks(rt: HostRuntime) -> Result<(), Fail> {
-    check_programs(&rt, rt.alloc(), 4096)
+fn programs_on_4096_blocks(rt: HostRuntime) {
+    check_programs(&rt, rt.alloc(), 4096);
 }

@@ -11,6 +11,7 @@ use Rattle.turn_words.specs.declared.items.Item.{Item}
 use Rattle.turn_words.specs.declared.items.Item.TheVariants.{Quiet}
 use Rattle.turn_words.specs.declared.rule.TurnView.{TurnView}
 use Rattle.turn_words.specs.Items.{heard}
+use Rattle.turn_words.specs.Rule.{Told}
 use Rattle.turn_words.specs.Seats.{SeatState as TurnState}
 use Rattle.turn_words.proofs.Notes.{heard_more}
 use Rattle.kern_shared.specs.declared.attends.Attended.{Attended}
@@ -21,7 +22,7 @@ use Rattle.kern_shared.specs.Closing.{IsFirst}
 use Rattle.kern_shared.specs.Passes.{AttendsTo, PassesOn, PicksInTurn, RelievesInTurn, ReturnsInTurn, given_behind}
 use Rattle.kern_shared.specs.Picks.{Picks}
 use Rattle.kern_shared.specs.Shared.{IsShared}
-use Rattle.work_crew.specs.Working.{GoesOn, HasWorked, SawEnd, is_short}
+use Rattle.work_crew.specs.Working.{AnyValue, GoesOn, HasWorked, SawEnd, is_short}
 
 -- the process isn't held behind any answer but Short, and behind that one it is
 pub held_no_more : (given : Option ℕ) (result : Attended) → is_short result ≡ false → given_behind given result ≡ None
@@ -72,6 +73,20 @@ module _ {T : Type 0} (stands : T → List Item → Type 0) where
     );
   }
 
+  any_value : (value : Option T) (items : List Item) → Told stands value items → Told AnyValue value items
+  any_value None items told = told
+  any_value (Some value) items told = tt
+
+  any_turn : (before after : TurnView T) (taken : List Item) (x : Item) → PassesOn stands before after taken x → PassesOn AnyValue before after taken x
+  any_turn before after taken x p = record {
+    begins = p.begins;
+    seen = p.seen;
+    mine = p.mine;
+    value = any_value after.value (heard after.seen) p.value;
+    is_boot = p.is_boot;
+    others = p.others;
+  }
+
   module _ (script : Script) (steps : ℕ) where
     pub by_pick : (before after : TurnView T) (result : Picked) → PicksInTurn stands script steps before after result → GoesOn before after
     by_pick before after result h = by_turn before after h.0 _ h.1
@@ -101,6 +116,36 @@ module _ {T : Type 0} (stands : T → List Item → Type 0) where
 
     pub by_relief : (before after : TurnView T) (word : ℕ) (result : Relief) → RelievesInTurn stands script steps before after word result → GoesOn before after
     by_relief before after word result h = by_turn before after h.0 h.1 h.2
+
+    -- the same calls, where nothing is said of the values
+    pub any_attend : (turn after : TurnState T) (before own : ChargeView) (pid : ℕ) (call : Call) (result : Attended)
+        → AttendsTo stands script steps turn after before own pid call result → AttendsTo AnyValue script steps turn after before own pid call result
+    any_attend turn after before own pid call (attended.Short charged need) h = record {
+      still = h.still;
+      needed = h.needed;
+      fits_ever = h.fits_ever;
+      within = h.within;
+      too_much = h.too_much;
+      loaded = h.loaded;
+    }
+    any_attend turn after before own pid call (attended.Done reply) h = (h.0, any_turn turn.known after.known h.0 _ h.1, h.2)
+    any_attend turn after before own pid call (attended.Part moved) h = (h.0, any_turn turn.known after.known h.0 _ h.1, h.2)
+    any_attend turn after before own pid call attended.Refused h = (h.0, any_turn turn.known after.known h.0 _ h.1, h.2)
+    any_attend turn after before own pid call attended.Sleep h = (h.0, any_turn turn.known after.known h.0 _ h.1, h.2)
+    any_attend turn after before own pid call (attended.Ended status) h = (h.0, any_turn turn.known after.known h.0 _ h.1, h.2)
+    any_attend turn after before own pid call attended.Gone h = (h.0, any_turn turn.known after.known h.0 _ h.1, h.2)
+    any_attend turn after before own pid call attended.Spent h = (h.0, any_turn turn.known after.known h.0 _ h.1, h.2)
+
+    pub any_relief : (before after : TurnView T) (word : ℕ) (result : Relief) → RelievesInTurn stands script steps before after word result
+        → RelievesInTurn AnyValue script steps before after word result
+    any_relief before after word result h = (h.0, h.1, any_turn before after h.0 h.1 h.2, h.3)
+
+    any_return : (before after : TurnView T) (pid : ℕ) → ReturnsInTurn stands script steps before after pid → ReturnsInTurn AnyValue script steps before after pid
+    any_return before after pid h = (h.0, any_turn before after h.0 _ h.1)
+
+    pub any_release : (before after : TurnView T) (given : Option ℕ) (pid : ℕ) → given ≡ Some pid → IfSome given (ReturnsInTurn stands script steps before after)
+        → ReturnsInTurn AnyValue script steps before after pid
+    any_release before after given pid is h = any_return before after pid (subst (λ o. IfSome o (ReturnsInTurn stands script steps before after)) is h)
 
     by_return : (before after : TurnView T) (pid : ℕ) → ReturnsInTurn stands script steps before after pid → GoesOn before after
     by_return before after pid h = by_turn before after h.0 _ h.1

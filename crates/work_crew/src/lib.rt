@@ -2,6 +2,7 @@
 #![tactic(auto)]
 
 mod doors;
+mod rests;
 mod runs;
 mod workers;
 

@@ -4,8 +4,9 @@ ghost use Rattle.std.specs.List.{AllByRecursion};
 ghost use Rattle.turn_words.specs.Items.{heard};
 ghost use Rattle.kern_shared.specs.Attends.{HoldsCall};
 ghost use Rattle.kern_shared.specs.Passes.{IsAtRest};
-ghost use Rattle.work_crew.specs.Working.{GoesOn, HasWorked, is_short};
+ghost use Rattle.work_crew.specs.Working.{GoesOn, HasWorked, IsServed, is_short, may_help};
 
+use crate::rests::Rest;
 use crate::{Door, Point};
 use crossbeam_utils::Backoff;
 use kabi_types::Call;
@@ -25,7 +26,9 @@ fn is_short(answered: &Attended) -> bool
 
 /// Whether a call for which there is no room may get some: what was just freed, what others hold and give back, or what fits now. Else
 /// nobody waits that lives, nothing helps, or all steps are used up.
-fn may_help(relief: &Relief) -> bool {
+fn may_help(relief: &Relief) -> bool
+    ensures { result ≡ may_help relief.now }
+{
     match relief {
         Relief::Fits(_) | Relief::Outstanding { .. } | Relief::Evicted(_) | Relief::Killed(_) =>
             true,
@@ -34,7 +37,7 @@ fn may_help(relief: &Relief) -> bool {
 }
 
 /// Has the call answered of the process that the pass holds, and helps the calls that wait as long as there is no room for it. Where
-/// nothing can help, the process is given back; the answer is whether it wasn't.
+/// a relief can't help, the pass's next turn gives the process back; the answer is whether it wasn't given back.
 fn serve<T: Turner + Drop, L: RunName, R: Wait>(
     rt: &R,
     kernel: &Kernel<T, L>,
@@ -48,6 +51,7 @@ fn serve<T: Turner + Drop, L: RunName, R: Wait>(
     ensures pass { IsAtRest L.script L.steps L.charge kernel.now.turns pass.new.turn pass.new.own pass.new.given }
     ensures none { pass.new.given ≡ None }
     ensures goes_on { GoesOn pass.old.turn.known pass.new.turn.known }
+    ensures serves { IsServed L.script L.steps pid call.now pass.old.turn pass.old.own.known pass.new.turn result }
 {
     let backoff = Backoff::new();
     for _ in rt.forever() {
@@ -102,14 +106,15 @@ fn work<T: Turner + Drop, L: RunName, D: Door, R: Wait>(
     ensures worked { HasWorked L.script L.steps pass.old.turn.known pass.new.turn.known }
 {
     let worker = u32::try_from(place).unwrap_or(u32::MAX);
-    let backoff = Backoff::new();
+    let mut rest = Rest::of(worker);
     for _ in rt.forever() {
         match kernel.pick(rt, pass) {
             Picked::Over(_) => return,
-            Picked::Idle => backoff.snooze(),
+            Picked::Idle => rest.without_work(),
             Picked::Run { pid, call } => {
+                let waited = pass.waited();
                 visit(rt, kernel, pass, worker, pid, &call, door);
-                backoff.reset();
+                rest.behind(waited || pass.waited());
             }
         }
     }

@@ -5,6 +5,7 @@ ghost use Rattle.kabi_values.specs.declared.inodes.Inode.{Inode};
 ghost use Rattle.posix_defs.specs.SoundDisk.{HasInode, HasNode, Sound};
 
 use super::counting::{Counting, new_file};
+use blk_map::{grow, shrink};
 use disk_layout::RamDisk;
 use kabi_types::{Errno, Inode, Memory};
 use memfs_file::{free_count, read_at, set_size, write_at};
@@ -16,11 +17,29 @@ fn sevens() -> &'static [u8] {
     &[7; 32767]
 }
 
-/// A change of a file: so many bytes written at a place, or another size.
+/// A change of a file: so many bytes written at a place, another size, or as many blocks as another size takes.
 #[derive(Drop)]
-enum Change {
+pub(crate) enum Change {
     Write(u32, usize),
     Size(u32),
+    Blocks(u32),
+}
+
+/// Gives a file the blocks of another size, whichever way that is.
+fn resize(b: &mut Counting, number: u32, inode: &mut Inode, size: u32) -> Result<(), Errno>
+    requires sound { Sound b.old.disk.blocks }
+    requires node { HasNode b.old.disk.blocks number inode.old }
+    requires kind { inode.old.kind ≡ 1 }
+    ensures sound { Sound b.new.disk.blocks }
+    ensures node { HasNode b.new.disk.blocks number inode.new }
+    ensures kind { inode.new.kind ≡ 1 }
+    ensures others { (node : ℕ) (other : Inode) → node ≢ number → HasInode b.old.disk.blocks node other → HasInode b.new.disk.blocks node other }
+{
+    if size >= inode.size {
+        return grow(b, number, inode, size);
+    }
+    shrink(b, number, inode, size);
+    Ok(())
 }
 
 /// Makes a change of a file; answers how many bytes were written.
@@ -49,14 +68,24 @@ fn change_file(
             set_size(b, number, inode, *size)?;
             Ok(0)
         }
+        Change::Blocks(size) => {
+            resize(b, number, inode, *size)?;
+            Ok(0)
+        }
     }
 }
 
 /// A change, what is answered, how many blocks were read and written for it, and how many are free then.
-type Row = (Change, Result<u32, Errno>, u64, u64, u32);
+pub(crate) type Row = (Change, Result<u32, Errno>, u64, u64, u32);
 
 /// Whether each row is as it says, one after another.
-fn check_changes(rt: &impl Abort, b: &mut Counting, number: u32, inode: &mut Inode, rows: &[Row])
+pub(crate) fn check_changes(
+    rt: &impl Abort,
+    b: &mut Counting,
+    number: u32,
+    inode: &mut Inode,
+    rows: &[Row],
+)
     requires sound { Sound b.old.disk.blocks }
     requires node { HasNode b.old.disk.blocks number inode.old }
     requires kind { inode.old.kind ≡ 1 }
@@ -105,7 +134,7 @@ fn check_file(rt: &impl Abort, b: &mut Counting, rows: &[Row], seen: &[Seen])
 }
 
 /// The same on a new disk of so many blocks.
-fn check_on(
+pub(crate) fn check_on(
     rt: &(impl Abort + AllocGlobal),
     blocks: u32,
     rows: &[Row],

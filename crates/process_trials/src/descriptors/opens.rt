@@ -1,5 +1,4 @@
-//! What is open by hand: the four ends of a pipe closed in each order, a description that two descriptors name, and what poll
-//! tells of each target, with the heap's bytes.
+//! What is open by hand: a description that two descriptors name, and what poll tells of each target, with the heap's bytes.
 
 ghost use Rattle.std.specs.Prelude.{◌≡◌, ℕ, List, [], ◌∷◌, IfOk};
 ghost use Rattle.kheap_slabs.specs.Paid.{CanPay};
@@ -17,7 +16,7 @@ use std::test::Fail;
 use usock_core::sock_make;
 
 // A heap without objects.
-pub(crate) fn booted(alloc: Global) -> Result<KHeap, Memory>
+fn booted(alloc: Global) -> Result<KHeap, Memory>
     ensures { IfOk result (λ heap. HasItsOwners heap []) }
 {
     let heap = KHeap::boot(alloc, 65536)?;
@@ -25,7 +24,7 @@ pub(crate) fn booted(alloc: Global) -> Result<KHeap, Memory>
 }
 
 // A purse of a pipe and a socket.
-pub(crate) fn purse(rt: &impl Abort, heap: &KHeap) -> Purse
+fn purse(rt: &impl Abort, heap: &KHeap) -> Purse
     ensures room { CanPay heap.now result }
     ensures pipe { result.left.pipe ≡ 1 }
     ensures sock { result.left.sock ≡ 1 }
@@ -84,93 +83,6 @@ fn share(rt: &impl Abort, heap: &mut KHeap, desc: u32)
     share_desc(heap, desc);
 }
 
-// A new pipe of two processes: two descriptors name each of its ends.
-fn open_twice(rt: &impl Abort, heap: &mut KHeap) -> (u32, u32)
-    requires { HasItsOwners heap.old [] }
-    ensures { HasItsOwners heap.new (result.0 ∷ result.1 ∷ result.1 ∷ result.0 ∷ []) }
-{
-    let (read, write) = open_pipe(rt, heap);
-    share(rt, heap, write);
-    share(rt, heap, read);
-    (read, write)
-}
-
-// Closes a descriptor that names no node. How many bytes of the heap are in use then.
-pub(crate) fn close(rt: &impl Abort, heap: &mut KHeap, desc: u32) -> u64
-    requires { (hand : List ℕ) × HasItsOwners heap.old (desc ∷ hand) }
-    ensures { (hand : List ℕ) → HasItsOwners heap.old (desc ∷ hand) → HasItsOwners heap.new hand }
-{
-    let node = drop_desc(heap, desc);
-    assert!(rt; node.is_none());
-    heap.live()
-}
-
-// Closes all four that are in hand, in this order. How many bytes are in use after each.
-fn close_four(
-    rt: &impl Abort,
-    heap: &mut KHeap,
-    first: u32,
-    second: u32,
-    third: u32,
-    fourth: u32,
-) -> [u64; 4]
-    requires { HasItsOwners heap.old (first ∷ second ∷ third ∷ fourth ∷ []) }
-    ensures { HasItsOwners heap.new [] }
-{
-    let one = close(rt, heap, first);
-    let two = close(rt, heap, second);
-    let three = close(rt, heap, third);
-    let four = close(rt, heap, fourth);
-    [one, two, three, four]
-}
-
-// Opens a pipe of two processes, and closes its ends in one of the six orders.
-fn close_in_order(rt: &impl Abort, heap: &mut KHeap, order: usize) -> [u64; 4]
-    requires { HasItsOwners heap.old [] }
-    ensures { HasItsOwners heap.new [] }
-{
-    let (read, write) = open_twice(rt, heap);
-    match order {
-        0 => close_four(rt, heap, read, read, write, write),
-        1 => close_four(rt, heap, read, write, read, write),
-        2 => close_four(rt, heap, read, write, write, read),
-        3 => close_four(rt, heap, write, read, read, write),
-        4 => close_four(rt, heap, write, read, write, read),
-        _ => close_four(rt, heap, write, write, read, read),
-    }
-}
-
-/// How many bytes are in use behind each close, by order. A description takes 64 and the pipe 128: a description goes with its
-/// second close, and the pipe with the last of all.
-const LIVES: &[[u64; 4]] = &[
-    [256, 192, 192, 0],
-    [256, 256, 192, 0],
-    [256, 256, 192, 0],
-    [256, 256, 192, 0],
-    [256, 256, 192, 0],
-    [256, 192, 192, 0],
-];
-
-fn close_in_each_order(rt: &impl Abort, heap: &mut KHeap)
-    requires { HasItsOwners heap.old [] }
-{
-    for (order, lives) in LIVES.iter().enumerate() {
-        let told = close_in_order(rt, heap, order);
-        assert!(rt; told == *lives, "order {order}");
-    }
-}
-
-/// Two processes share a pipe. Whichever of its four ends is closed first, an end goes with the last descriptor that names it
-/// and the pipe with its last end, and not before.
-#[test]
-fn the_ends_of_a_pipe_close_in_each_order(rt: HostRuntime) -> Result<(), Fail> {
-    let mut heap = booted(rt.alloc())?;
-    close_in_each_order(&rt, &mut heap);
-    assert!(rt; heap.live() == 0);
-    drop(heap);
-    Ok(())
-}
-
 // A description of node 4. Its key.
 fn open_node(rt: &impl Abort, heap: &mut KHeap) -> u32
     requires { HasItsOwners heap.old [] }
@@ -202,7 +114,7 @@ fn the_last_descriptor_tells_the_node(rt: HostRuntime) -> Result<(), Fail> {
 }
 
 // What poll tells of a description of which POLLIN and POLLOUT are asked, by a table where it is number 3.
-pub(crate) fn polled(heap: &KHeap, desc: u32) -> u8
+fn polled(heap: &KHeap, desc: u32) -> u8
     requires { (hand : List ℕ) × HasItsOwners heap.now (desc ∷ hand) }
 {
     let mut descs = Descs::of([None; 32]);
@@ -247,7 +159,7 @@ fn poll_without_reader(rt: &impl Abort, heap: &mut KHeap) -> (u8, u8)
 }
 
 // A new socket, and a description on it. The key of that.
-pub(crate) fn open_socket(rt: &impl Abort, heap: &mut KHeap) -> u32
+fn open_socket(rt: &impl Abort, heap: &mut KHeap) -> u32
     requires { (hand : List ℕ) × HasItsOwners heap.old hand }
     ensures { (hand : List ℕ) → HasItsOwners heap.old hand → HasItsOwners heap.new (result ∷ hand) }
 {

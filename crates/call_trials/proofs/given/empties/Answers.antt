@@ -11,8 +11,8 @@ pub loop-preserved : goal.loop-preserved
 loop-preserved g c = λ heap first.
     let on = c.loop.invariant heap first in
     let after = either (λ (world : World). Stands c.evict.new.self world) (can_evict on.world.plain on.world.kept c.args.what)
-        (λ can. let evicted = c.evict.ensures.evicted on.world on.stands can in (evicted.0, evicted.1))
-        (λ none. (on.world, c.evict.ensures.kept on.world on.stands none)) in
+    (λ can. let evicted = c.evict.ensures.evicted on.world on.stands can in (evicted.0, evicted.1))
+    (λ none. (on.world, c.evict.ensures.kept on.world on.stands none)) in
     record { world = after.0; stands = after.1; size = ap (λ script. script.heap) c.evict.ensures.script ∙ on.size }
 
 pub evict-requires : goal.evict-requires

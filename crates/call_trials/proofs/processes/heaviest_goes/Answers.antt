@@ -12,6 +12,6 @@ pub go_through-requires-2 : goal.go_through-requires-2
 go_through-requires-2 g c =
     let on = c.go_through.ensures in
     let after = either (λ (world : World). Stands c.kill.new.self world) (is_alive on.world.plain.table 3)
-        (λ alive. let killed = c.kill.ensures.killed on.world on.stands alive (λ same. omega arith) in (killed.0, killed.1))
-        (λ over. (on.world, c.kill.ensures.gone on.world on.stands over)) in
+    (λ alive. let killed = c.kill.ensures.killed on.world on.stands alive (λ same. omega arith) in (killed.0, killed.1))
+    (λ over. (on.world, c.kill.ensures.gone on.world on.stands over)) in
     record { world = after.0; stands = after.1; size = ap (λ script. script.heap) c.kill.ensures.script ∙ on.size }

@@ -1,4 +1,4 @@
-use Rattle.std.proofs.Common.{◌≡◌, ℕ, None, length, refl, ap, sym, ◌∙◌, subst, arith}
+use Rattle.std.proofs.Common.{◌≡◌, ℕ, None, false, length, refl, ap, sym, ◌∙◌, subst, arith}
 use Rattle.std.specs.List.{AllByRecursion}
 use Rattle.turn_words.specs.Rule.{opened, with_one_more}
 use Rattle.turn_words.specs.Seats.{seat_of}
@@ -16,7 +16,7 @@ loop-own-preserved g c =
     let popped = all_popped (IsEmpty g.L.RunName.charge) _ _ _ _ c.pop-in-loop-own.ensures.items c.in-Some-pop.is here.left in
     let left = ap length (last_goes _ _ _ _ c.pop-in-loop-own.ensures.items c.in-Some-pop.is) in
     let more = ap length c.push_reserved.ensures.items in
-    let one = length_less c.loop-own.passes.items (record { turn = c.split-turn.result; own = c.in-Some-pop.own; given = None }) in
+    let one = length_less c.loop-own.passes.items (record { turn = c.split-turn.result; own = c.in-Some-pop.own; given = None; waited = false }) in
     let less = length_less c.pop-in-loop-own.new.self.items c.in-Some-pop.own in
     let split = c.split-turn.ensures.seat ∙ ap (λ s. seat_of s.turns (with_one_more s.known)) here.first in
     let count = here.count in

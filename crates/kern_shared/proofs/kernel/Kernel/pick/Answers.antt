@@ -20,7 +20,7 @@ pub returns-clause-pass : goal.returns-clause-pass
 returns-clause-pass g c =
     let s = c.pick_next-picked.ensures.stands (heard c.begin-state.new.seat.known.seen) c.begin-state.ensures.value in
     rests _ _ _ _ _ _ _ c.begin-state.ensures c.end.ensures g.L.RunName.script g.L.RunName.steps g.L.RunName.charge _ c.args.pass.now.own c.args.pass.now.own c.args.pass.now.given c.given_by-pass.result
-    (picked_item c.pick_next-picked.result) c.item_of_pick.ensures c.requires.pass c.requires.pass.of_charge c.requires.pass.empty (s.past, s.shared)
+    (picked_item c.pick_next-picked.result) c.item_of_pick.ensures c.requires.pass c.requires.pass.of_charge c.requires.pass.empty c.requires.pass.unused (s.past, s.shared)
     (holds_by c.args.pass.now.given c.given_by-pass.result c.args.pass.now.turn.known.mine _ c.pick_next-picked.result c.requires.none c.given_by-pass.ensures c.requires.pass.holds)
 
 pub returns-clause-holds : goal.returns-clause-holds

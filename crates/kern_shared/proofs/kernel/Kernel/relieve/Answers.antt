@@ -1,6 +1,6 @@
 use Rattle.std.proofs.Common.{ap, refl, ◌∙◌, arith}
 use Rattle.turn_words.specs.Items.{heard}
-use Rattle.kern_shared.proofs.Passing.{has_at_take, has_behind, holds_still, nobody_may_give, nobody_may_return, passes, relief_of_nobody, rests}
+use Rattle.kern_shared.proofs.Passing.{has_at_take, has_behind, holds_still, nobody_may_give, nobody_may_return, passes, relief_of_nobody, rests, unused_still}
 use Rattle.kern_shared.proofs.kernel.Kernel.relieve.Goals as goal
 
 pub end-requires-clause-returns : goal.end-requires-clause-returns
@@ -18,7 +18,8 @@ returns-clause-pass g c =
     let s = c.begin-state.ensures.value in
     let t = c.relieve_now-relief.ensures.stands (heard c.begin-state.new.seat.known.seen) s in
     rests _ _ _ _ _ _ _ c.begin-state.ensures c.end.ensures g.L.RunName.script g.L.RunName.steps g.L.RunName.charge _ c.args.pass.now.own c.relieve_now-relief.new.own c.args.pass.now.given c.args.pass.now.given _ refl
-    c.requires.pass (ap (λ seat. seat.charge) c.relieve_now-relief.ensures.own) (ap (λ seat. seat.known.holds) c.relieve_now-relief.ensures.own ∙ c.requires.pass.empty) (t.past, t.shared)
+    c.requires.pass (ap (λ seat. seat.charge) c.relieve_now-relief.ensures.own) (ap (λ seat. seat.known.holds) c.relieve_now-relief.ensures.own ∙ c.requires.pass.empty)
+    (unused_still _ c.relieve_now-relief.new.own.known (ap (λ seat. seat.known.reserves) c.relieve_now-relief.ensures.own) (ap (λ seat. seat.known.raised) c.relieve_now-relief.ensures.own) c.requires.pass.unused) (t.past, t.shared)
     (holds_still c.args.pass.now.given c.args.pass.now.turn.known.mine _ c.relieve_now-relief.result.1 (relief_of_nobody g.L.RunName.script g.L.RunName.steps (heard c.begin-state.new.seat.known.seen) s.past c.relieve_now-relief.new.own.known.last c.relieve_now-relief.result.0 c.relieve_now-relief.result.1 (c.relieve_now-relief.ensures.relieves (heard c.begin-state.new.seat.known.seen) s.past s s.shared)) c.requires.pass.holds)
 
 pub returns-clause-holds : goal.returns-clause-holds

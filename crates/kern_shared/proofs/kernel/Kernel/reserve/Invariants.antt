@@ -1,4 +1,5 @@
 use Rattle.std.proofs.Common.{◌≡◌, ◌≤◌}
+use Rattle.kern_shared.specs.Attends.{ReservesNothing}
 use Rattle.kern_shared.proofs.kernel.Kernel.reserve.Given as goal
 
 abbrev pub invariant-loop : goal.invariant-loop
@@ -7,4 +8,5 @@ invariant-loop g l =
       charge : l.own.charge ≡ g.L.RunName.charge;
       empty : l.own.known.holds ≡ 0;
       loads : l.fn.own.known.loads ≤ l.own.known.loads;
+      nothing : ReservesNothing l.fn.own.known l.own.known;
     }

@@ -27,8 +27,8 @@ push_reserved-requires g c =
     let room = room_for_entry g.T.Turner.stands g.T.Turner.script _ _ _ _ _ c.requires.may.4 c.requires.may.6.below in
     omega (arith, room.0, c.args.self.now.history.ok.0)
 
-pub returns : goal.returns
-returns g c = λ items past waiter need s shared vain.
+pub returns-clause-stands : goal.returns-clause-stands
+returns-clause-stands g c = λ items past waiter need s shared vain.
     let may = vain_here g.T.Turner.stands g.T.Turner.script _ _ _ _ items s past shared waiter need c.args.live vain in
     let can = can_lose s.world c.args.what (c.requires.first s.world s.stands) in
     let after = c.evict.ensures.evicted s.world s.stands can in

@@ -6,7 +6,7 @@ use Rattle.kern_shared.proofs.Relieving.{bare_live}
 use Rattle.kern_shared.proofs.state.KernelState.free.Goals as goal
 
 pub returns-in-Some-clause-stands : goal.returns-in-Some-clause-stands
-returns-in-Some-clause-stands g c = λ items past s shared vain. c.clear.ensures items past c.args.waiter c.args.need s shared vain
+returns-in-Some-clause-stands g c = λ items past s shared vain. c.clear.ensures.stands items past c.args.waiter c.args.need s shared vain
 
 pub returns-in_default-victim-clause-stands : goal.returns-in_default-victim-clause-stands
 returns-in_default-victim-clause-stands g c = λ items past s shared vain.

@@ -39,8 +39,8 @@ push_reserved-requires g c =
     let room = room_for_entry g.T.Turner.stands g.T.Turner.script _ _ _ _ _ c.requires.may.2 c.requires.may.4.below in
     omega (arith, room.0, c.args.self.now.history.ok.0)
 
-pub returns : goal.returns
-returns g c = λ items past s shared vain.
+pub returns-clause-stands : goal.returns-clause-stands
+returns-clause-stands g c = λ items past s shared vain.
     let may = vain_here g.T.Turner.stands g.T.Turner.script _ _ _ _ items s past shared c.args.waiter c.args.need c.args.live vain in
     let victim = c.requires.victim s.world s.stands in
     let lives = victim_lives _ s.world.plain s.world.account c.args.pid victim in

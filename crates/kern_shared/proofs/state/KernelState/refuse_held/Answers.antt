@@ -22,8 +22,8 @@ sort_anew-requires-clause-dozing g c =
     let room = room_for_entry g.T.Turner.stands g.T.Turner.script _ _ _ _ _ c.requires.may.2 c.requires.may.4.below in
     omega (arith, room.2, c.args.self.now.dozing.ok.0)
 
-pub returns : goal.returns
-returns g c = λ items past s shared may.
+pub returns-clause-stands : goal.returns-clause-stands
+returns-clause-stands g c = λ items past s shared may.
     let alive = lives_in_world g.T.Turner.stands g.T.Turner.script _ _ _ _ items s c.args.pid (refuse_here g.T.Turner.stands g.T.Turner.script _ _ _ _ items s past shared c.args.pid c.args.call.now may).alive in
     let stands = subst (λ sc. g.T.Turner.stands c.refuse.new.self (refused_in sc s.world c.args.pid)) s.named (c.refuse.ensures.refused s.world s.stands alive) in
     refused_now g.T.Turner.stands g.T.Turner.script _ _ _ _ items s past shared c.args.pid c.args.call.now _ _ _ _ _ _ _ _ _ _ may

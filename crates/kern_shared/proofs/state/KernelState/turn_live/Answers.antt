@@ -40,6 +40,14 @@ sort_anew-requires-clause-dozing g c =
     let room = room_for_entry g.T.Turner.stands g.T.Turner.script _ _ _ _ _ c.requires.may.2 c.requires.may.4.below in
     omega (arith, room.2, c.args.self.now.dozing.ok.0)
 
+pub returns-clause-takes_in : goal.returns-clause-takes_in
+returns-clause-takes_in g c =
+    let gave = c.give_back.ensures.seat in
+    record {
+      reserves = ap (λ seat. seat.known.reserves) gave ∙ c.take_over.ensures.takes_in.reserves;
+      raised = ap (λ seat. seat.known.raised) gave ∙ c.take_over.ensures.takes_in.raised;
+    }
+
 pub returns-clause-stands : goal.returns-clause-stands
 returns-clause-stands g c = λ items past s shared may_there.
     let may = turn_here g.T.Turner.stands g.T.Turner.script _ _ _ _ items s past shared c.args.pid c.args.call.now may_there in

@@ -1,0 +1,14 @@
+pub mod Tables
+pub mod Numbers
+pub mod Alone
+pub mod Entries
+pub mod Struck
+pub mod Children
+pub mod Ranges
+pub mod StoredPages
+pub mod FramePlaces
+pub mod WrittenPages
+pub mod Quiet
+pub mod Framing
+pub mod MemoryMoves
+pub mod FrameAnswers

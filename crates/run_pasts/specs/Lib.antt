@@ -1,0 +1,5 @@
+pub mod Claims
+pub mod SameEntry
+pub mod Turns
+pub mod Follows
+pub mod Worked
