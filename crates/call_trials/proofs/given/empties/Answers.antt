@@ -14,3 +14,9 @@ loop-preserved g c = λ heap first.
     (λ can. let evicted = c.evict.ensures.evicted on.world on.stands can in (evicted.0, evicted.1))
     (λ none. (on.world, c.evict.ensures.kept on.world on.stands none)) in
     record { world = after.0; stands = after.1; size = ap (λ script. script.heap) c.evict.ensures.script ∙ on.size }
+
+pub evict-requires : goal.evict-requires
+evict-requires g c =
+    let first = c.requires in
+    let on = c.loop.invariant first.0 first.1 in
+    (on.world, on.stands)
