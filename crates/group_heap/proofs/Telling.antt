@@ -1,6 +1,7 @@
 -- What is told of groups that have run, and that it keeps the headline.
-use Rattle.std.proofs.Common.{◌≡◌, ℕ, ◌<◌, ◌+◌, true, false, List, [], ◌∷◌, ◌++◌, length, map, refl, sym, ap, ◌∙◌, subst, append_assoc}
-use Rattle.std.specs.List.{AllByRecursion}
+use Rattle.std.proofs.Common.{◌≡◌, ℕ, ◌<◌, ◌+◌, true, false, cond, List, [], ◌∷◌, ◌++◌, length, map, take, get_or, count_by, refl, sym, ap, ◌∙◌, subst, append_assoc}
+use Rattle.std.specs.List.{AllByRecursion, fold}
+use Rattle.std.proofs.lemmas.List.{length-map, map_more}
 use Rattle.kabi_types.specs.declared.scripts.Script.{Script}
 use Rattle.kabi_types.specs.declared.entries.End.{End}
 use Rattle.kabi_types.specs.declared.entries.Noted.{Noted}
@@ -18,7 +19,7 @@ use Rattle.group_heap.specs.declared.groups.Group.{Group}
 use Rattle.group_heap.specs.declared.groups.GroupEnd.{GroupEnd}
 use Rattle.group_heap.specs.declared.groups.GroupEnd.TheVariants as end
 use Rattle.group_heap.specs.declared.lists.Section.{Section}
-use Rattle.group_heap.specs.Reports.{IsGroupReport, KeepsEach, KeepsGroups, KeepsSection, TellsEach, TellsSection, Told, all_lines, report_groups, told_lines}
+use Rattle.group_heap.specs.Reports.{IsGroupReport, KeepsEach, KeepsGroups, KeepsSection, TellsEach, TellsSection, Told, all_lines, end_line_groups, is_refused, report_groups, told_lines}
 use Rattle.group_heap.specs.Reports as spec
 use Rattle.group_heap.specs.Runs.{IsDone, Says, TellsRun, section_of, sections_of}
 use Rattle.group_heap.specs.Telling.{told_by, told_each, told_of}
@@ -30,6 +31,28 @@ lines_more [] next = append_nil (told_lines next)
     append_nil [] = refl
     append_nil (x ∷ xs) = ap (λ ys. x ∷ ys) (append_nil xs)
 lines_more (first ∷ told) next = ap (λ ls. told_lines first ++ ls) (lines_more told next) ∙ sym (append_assoc (told_lines first) (all_lines told) (told_lines next))
+
+-- one group more is told behind those before it
+pub told_take_more : {T : Type 0} (groups : List (Group T)) (index : ℕ) (group : Group T) → index < length groups → group ≡ get_or groups index group
+    → all_lines (told_each (take (index + 1) groups)) ≡ all_lines (told_each (take index groups)) ++ told_lines (told_of group)
+told_take_more groups index group below is =
+    ap all_lines (map_more told_of groups index group below ∙ ap (λ g. map told_of (take index groups) ++ told_of g ∷ []) (sym is))
+    ∙ lines_more (told_each (take index groups)) (told_of group)
+
+-- those that were refused are as many as are told so
+pub refused_told : {T : Type 0} (groups : List (Group T)) → count_by (λ group. is_refused (told_of group)) groups ≡ count_by is_refused (told_each groups)
+refused_told groups = counted groups 0
+  where
+    counted : {T : Type 0} (groups : List (Group T)) (n : ℕ) → fold (λ a group. a + cond (is_refused (told_of group)) 1 0) n groups ≡ fold (λ a told. a + cond (is_refused told) 1 0) n (told_each groups)
+    counted [] n = refl
+    counted (group ∷ groups) n = counted groups (n + cond (is_refused (told_of group)) 1 0)
+
+pub report_is : {T : Type 0} (groups : List (Group T)) (text front line : List ℕ) (refused : ℕ) → text ≡ front ++ line → front ≡ all_lines (told_each groups)
+    → line ≡ end_line_groups (length groups) refused → refused ≡ count_by (λ group. is_refused (told_of group)) groups → text ≡ report_groups (told_each groups)
+report_is groups text front line refused whole told ends counted =
+    let long : length groups ≡ length (told_each groups) = sym (length-map groups told_of) in
+    whole ∙ ap (λ t. t ++ line) told
+    ∙ ap (λ l. all_lines (told_each groups) ++ l) (ends ∙ ap (λ n. end_line_groups n refused) long ∙ ap (end_line_groups (length (told_each groups))) (counted ∙ refused_told groups))
 
 -- the report of the core's run is the report of a run
 pub run_report : {T : Type 0} (stands_for : T → World → Type 0) (marks high : T → ℕ) (script : Script) (core : CoreView T) (how : End) (text : List ℕ)

@@ -1,5 +1,5 @@
 -- What groups are before they run, and what has become of each.
-use Rattle.std.specs.Prelude.{ℕ, ◌≡◌, ◌⊎◌, ◌<◌, ◌≤◌, Bool, true, false, List, map, None}
+use Rattle.std.specs.Prelude.{ℕ, ◌≡◌, ◌<◌, ◌≤◌, Bool, true, false, List, length, map, slice_index_or, None}
 use Rattle.kabi_types.specs.declared.entries.End.{End}
 use Rattle.kabi_types.specs.declared.scripts.Script.{Script}
 use Rattle.posix_defs.specs.CoreState.{charged_in}
@@ -54,15 +54,19 @@ module _ {T : Type 0} (stands_for : T → World → Type 0) (marks high : T → 
   abbrev pub IsDone : Group T → Type 0
   IsDone group = Says group group.outcome
 
-  -- What the call of a group leaves of it, by its outcome. Where memory was wanting the core is as it was or at the end of its run.
+  -- What the call of a group leaves of it, by its outcome. Where memory was wanting for its report, its core is at the end of its run.
   abbrev pub Leaves : Group T → Group T → GroupEnd → Type 0
-  Leaves old new end.NotRun = (new.core ≡ old.core) ⊎ ((how : End) × HasEndedOver stands_for marks high new.script new.core how)
+  Leaves old new end.NotRun = (new.script.heap ≤ whole) × ((how : End) × HasEndedOver stands_for marks high new.script new.core how)
   Leaves old new (end.Refused heap) = (new.core ≡ old.core) × Says new (end.Refused heap)
   Leaves old new (end.Ran how) = Says new (end.Ran how)
 
-  -- The group has the name and the script that it had, and no seat; it was refused, or has run, or memory was wanting.
+  -- The group has the name and the script that it had, and no seat; it was refused, or has run, or memory was wanting for its report.
   pub record BecomesOf (old new : Group T) : Type 0 where
     pub name : new.name ≡ old.name
     pub script : new.script ≡ old.script
     pub seat : new.seat ≡ None
     pub left : Leaves old new new.outcome
+
+  -- the same of all groups
+  abbrev pub EachBecomes : List (Group T) → List (Group T) → Type 0
+  EachBecomes old new = (place : ℕ) (d : Group T) → place < length old → BecomesOf (slice_index_or old place d) (slice_index_or new place d)

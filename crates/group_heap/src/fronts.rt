@@ -65,7 +65,11 @@ fn whole_before(whole: Option<u64>, line: &[u8]) -> Option<u64>
     ensures { MatchOption result (BeginsNone whole line.now) (BeginsFirst whole line.now) }
 {
     let whole = whole?;
-    if begins_section(line) { Some(whole) } else { None }
+    if begins_section(line) {
+        Some(whole)
+    } else {
+        None
+    }
 }
 
 /// The whole, in bytes, and what is left of the text from the first section on, with the number of its first line.

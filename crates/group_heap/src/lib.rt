@@ -17,7 +17,7 @@ mod tests;
 
 pub use faults::GroupFault;
 pub use groups::{Group, GroupEnd};
-pub use laws::groups_keep_the_headline;
+pub use laws::{groups_keep_the_headline, groups_read_in_one_way};
 pub use lists::GroupList;
 pub use reports::report_groups;
 pub use runs::{run_groups, run_one};

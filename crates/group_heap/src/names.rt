@@ -20,9 +20,7 @@ const MOST_GROUPS: usize = 8;
 fn has_section(sections: &[Section], name: &[u8]) -> bool
     ensures { result ≡ has_section name.now sections.now }
 {
-    sections
-        .iter()
-        .any(|section| section.name.items() == name)
+    sections.iter().any(|section| section.name.items() == name)
 }
 
 /// The name that stands alone behind the first word of a line.

@@ -1,8 +1,8 @@
 //! The report of groups.
 
-ghost use Rattle.std.specs.Prelude.{◌≡◌, ◌++◌, ℕ, IfOk, OnOk, string_bytes};
+ghost use Rattle.std.specs.Prelude.{◌≡◌, ◌++◌, ℕ, IfOk, OnOk, count_by, string_bytes};
 ghost use Rattle.std.specs.List.{AllByRecursion};
-ghost use Rattle.group_heap.specs.Reports.{IsGroupReport, end_line_groups, told_lines};
+ghost use Rattle.group_heap.specs.Reports.{IsGroupReport, all_lines, end_line_groups, told_lines};
 ghost use Rattle.group_heap.specs.Reports as spec;
 ghost use Rattle.group_heap.specs.Runs.{IsDone, sections_of};
 ghost use Rattle.group_heap.specs.Telling.{told_each, told_of};
@@ -61,25 +61,44 @@ fn push_group<T: Turner + Drop>(
     Ok(())
 }
 
+/// Adds what is told of each group. Where memory is wanting, a part of it may have been added.
+#[tactic(auto, using(std::proofs::Common::append_assoc, crate::proofs::Telling::told_take_more))]
+fn push_groups<T: Turner + Drop>(
+    alloc: Global,
+    out: &mut Vec<u8>,
+    groups: &[Group<T>],
+) -> Result<(), AllocError>
+    ensures { OnOk result (out.new.items ≡ out.old.items ++ all_lines (told_each groups.now)) }
+{
+    for group in groups {
+        push_group(alloc, out, group)?;
+    }
+    Ok(())
+}
+
+/// How many groups were refused.
+fn refused_in<T: Turner + Drop>(groups: &[Group<T>]) -> usize
+    ensures { result ≡ count_by (λ group. spec.is_refused (told_of group)) groups.now }
+{
+    let mut refused = 0;
+    for group in groups {
+        if is_refused(group) {
+            refused += 1;
+        }
+    }
+    refused
+}
+
 /// The report of groups: for each a line with its name and heap, in bytes, and behind that the report of its run, where it wasn't
 /// refused; last how many groups there are, and how many were refused. An error is want of memory.
-pub fn report_groups<T: Turner + Drop>(
-    alloc: Global,
-    groups: &[Group<T>],
-) -> Result<Text, Memory>
+pub fn report_groups<T: Turner + Drop>(alloc: Global, groups: &[Group<T>]) -> Result<Text, Memory>
     ensures text { IfOk result (λ text. text ≡ spec.report_groups (told_each groups.now)) }
     ensures report { IfOk result (λ text. (whole : ℕ) → AllByRecursion (IsDone T.stands T.marks T.high whole) groups.now
         → IsGroupReport T.stands T.marks T.high whole (sections_of groups.now) text) }
 {
     let mut out = Vec::new(alloc);
-    let mut refused: usize = 0;
-    for group in groups {
-        push_group(alloc, &mut out, group)?;
-        if is_refused(group) {
-            refused += 1;
-        }
-    }
-    let line = end_line(alloc, groups.len(), refused)?;
+    push_groups(alloc, &mut out, groups)?;
+    let line = end_line(alloc, groups.len(), refused_in(groups))?;
     out.extend_from_slice(line.as_bytes())?;
     Ok(Text::from_vec(out))
 }

@@ -1,13 +1,13 @@
 //! Runs of groups, each behind a reservation of its whole heap.
 
-ghost use Rattle.std.specs.Prelude.{◌≡◌, ◌+◌, ◌<◌, ◌≤◌, ℕ, true, IfOk, length, map, slice_index_or};
+ghost use Rattle.std.specs.Prelude.{◌≡◌, ◌⊎◌, ◌+◌, ◌≤◌, true, IfOk, IsErr, map};
 ghost use Rattle.std.specs.List.{AllByRecursion, list_any};
 ghost use Rattle.kabi_types.specs.declared.entries.End.{End};
 ghost use Rattle.kern_core.specs.RunOver.{HasEndedOver};
 ghost use Rattle.kern_tasks.specs.View.{HasBooted};
 ghost use Rattle.posix_defs.specs.ValidScript.{IsValid};
 ghost use Rattle.run_report.specs.Reports.{IsReport};
-ghost use Rattle.group_heap.specs.Runs.{BecomesOf, IsAtStart, IsDone, TellsRun, has_waited};
+ghost use Rattle.group_heap.specs.Runs.{EachBecomes, IsAtStart, IsDone, TellsRun, has_waited};
 ghost use Rattle.group_heap.specs.Seats.{HoldsNothing, IsReady, WasCalled, seated, unseated};
 
 use crate::groups::{Group, GroupEnd};
@@ -134,6 +134,21 @@ fn hand_seats<T: Turner + Drop>(charge: &Charge, boot: &mut ChargeSeat, groups: 
     }
 }
 
+/// Takes a group's seat back, which holds nothing.
+fn take_seat<T: Turner + Drop>(charge: &Charge, boot: &mut ChargeSeat, group: &mut Group<T>)
+    requires charge { boot.old.charge ≡ charge.now }
+    requires boot { boot.old.known.is_boot ≡ true }
+    requires holds { HoldsNothing charge.now group.old }
+    ensures group { group.new ≡ unseated group.old }
+    ensures charge { boot.new.charge ≡ boot.old.charge }
+    ensures boot { boot.new.known.is_boot ≡ true }
+    ensures holds { boot.new.known.holds ≡ boot.old.known.holds }
+{
+    if let Some(seat) = group.seat.take() {
+        charge.join(seat, boot);
+    }
+}
+
 /// Takes the groups' seats back, which hold nothing.
 fn take_seats<T: Turner + Drop>(charge: &Charge, boot: &mut ChargeSeat, groups: &mut [Group<T>])
     requires charge { boot.old.charge ≡ charge.now }
@@ -143,9 +158,7 @@ fn take_seats<T: Turner + Drop>(charge: &Charge, boot: &mut ChargeSeat, groups: 
     ensures holds { boot.new.known.holds ≡ boot.old.known.holds }
 {
     for group in groups.iter_mut() {
-        if let Some(seat) = group.seat.take() {
-            charge.join(seat, boot);
-        }
+        take_seat(charge, boot, group);
     }
 }
 
@@ -176,8 +189,7 @@ pub fn run_groups<T: Turner + Drop + Send, R: Threads + Wait + Sync>(
     requires least { 8192 ≤ whole }
     requires most { whole ≤ 8388608 }
     requires each { AllByRecursion (IsAtStart T.stands T.script) groups.old }
-    ensures each { (place : ℕ) (d : _) → place < length groups.old
-        → BecomesOf T.stands T.marks T.high whole (slice_index_or groups.old place d) (slice_index_or groups.new place d) }
+    ensures each { EachBecomes T.stands T.marks T.high whole groups.old groups.new ⊎ ((groups.new ≡ groups.old) × IsErr result) }
     ensures ran { IfOk result (λ _. AllByRecursion (IsDone T.stands T.marks T.high whole) groups.new) }
 {
     let (charge, mut boot) = Charge::boot(alloc, whole + BOOT_CHARGE)?;

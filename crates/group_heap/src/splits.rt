@@ -1,6 +1,8 @@
 //! Reading a text of groups.
 
-ghost use Rattle.std.specs.Prelude.{◌+◌, ◌≤◌, length};
+ghost use Rattle.std.specs.Prelude.{◌+◌, ◌≤◌, IfOk, length};
+ghost use Rattle.std.specs.List.{AllByRecursion};
+ghost use Rattle.posix_defs.specs.ValidScript.{IsValid};
 ghost use Rattle.group_heap.specs.Lines.{Cuts, bytes_left, lines_left};
 ghost use Rattle.group_heap.specs.Outcomes.{Outcome, ReadsBehind};
 ghost use Rattle.group_heap.specs.Texts.{ReadsGroups, ReadsSections, lines_of};
@@ -77,7 +79,9 @@ fn read_sections(
 /// section without `init` is at fault at its first line, where it has no other fault; line 0 tells that there is no section, or that
 /// the text is longer than 1048576 bytes. `Memory` comes where the host has no memory left.
 pub fn split_groups(alloc: Global, text: &[u8]) -> Result<GroupList, GroupFault>
-    ensures { Outcome (λ list. list) result (ReadsGroups text.now) }
+    ensures reads { Outcome (λ list. list) result (ReadsGroups text.now) }
+    ensures whole { IfOk result (λ list. (8192 ≤ list.whole) × (list.whole ≤ 8388608)) }
+    ensures valid { IfOk result (λ list. AllByRecursion (λ section. IsValid section.script) list.sections) }
 {
     if text.len() > MOST_BYTES {
         return Err(GroupFault::Bad(ScriptFault {

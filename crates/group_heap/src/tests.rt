@@ -27,7 +27,9 @@ fn two_groups_are_read(rt: HostRuntime) -> Result<(), Fail> {
         "# two\n\nwhole 8192\ngroup a\nprogram init\nend\n\tgroup b2 \nheap 8193\nprogram init\nend",
     )?;
     assert!(rt; list.whole() == 8192 && list.len() == 2);
-    assert!(rt; list.name(0).items() == b"a".as_slice() && list.name(1).items() == b"b2".as_slice());
+    assert!(rt;
+        list.name(0).items() == b"a".as_slice() && list.name(1).items() == b"b2".as_slice()
+    );
     assert!(rt; list.script(0).heap == 65536 && list.script(1).heap == 8193);
     assert!(rt; list.script(0).programs.items().len() == 1);
     Ok(())
@@ -39,13 +41,34 @@ fn each_fault_is_told_at_its_line(rt: HostRuntime) {
     let init = b"program init\nend\n";
     assert!(rt; has_fault(alloc, b"", 0, FaultKind::NoInit));
     assert!(rt; has_fault(alloc, b"whole 8192\n# group a\n", 0, FaultKind::NoInit));
-    assert!(rt; has_fault(alloc, b"# x\n\ngroup a\nprogram init\nend\n", 3, FaultKind::UnknownWord));
+    assert!(rt;
+        has_fault(
+            alloc,
+            b"# x\n\ngroup a\nprogram init\nend\n",
+            3,
+            FaultKind::UnknownWord
+        )
+    );
     assert!(rt; has_fault(alloc, b"whole 8191\n", 1, FaultKind::OutOfRange));
     assert!(rt; has_fault(alloc, b"whole 8388609\n", 1, FaultKind::OutOfRange));
     assert!(rt; has_fault(alloc, b"whole 8k\n", 1, FaultKind::BadNumber));
     assert!(rt; has_fault(alloc, b"whole 8192 8192\n", 1, FaultKind::UnknownWord));
-    assert!(rt; has_fault(alloc, b"whole 8192\nwhole 8192\ngroup a\n", 2, FaultKind::UnknownWord));
-    assert!(rt; has_fault(alloc, b"whole 8192\nheap 8192\ngroup a\n", 2, FaultKind::UnknownWord));
+    assert!(rt;
+        has_fault(
+            alloc,
+            b"whole 8192\nwhole 8192\ngroup a\n",
+            2,
+            FaultKind::UnknownWord
+        )
+    );
+    assert!(rt;
+        has_fault(
+            alloc,
+            b"whole 8192\nheap 8192\ngroup a\n",
+            2,
+            FaultKind::UnknownWord
+        )
+    );
     assert!(rt; has_fault(alloc, b"whole 8192\ngroup A\n", 2, FaultKind::UnknownWord));
     assert!(rt; has_fault(alloc, b"whole 8192\ngroup\n", 2, FaultKind::UnknownWord));
     assert!(rt; has_fault(alloc, b"whole 8192\ngroup a b\n", 2, FaultKind::UnknownWord));
@@ -55,7 +78,8 @@ fn each_fault_is_told_at_its_line(rt: HostRuntime) {
 #[test]
 fn a_fault_within_a_section_is_counted_in_the_whole_text(rt: HostRuntime) {
     let alloc = rt.alloc();
-    let text = b"whole 8192\n\n# b\ngroup a\nprogram init\nend\ngroup b\nprogram init\nif r1 == 0 nowhere\nend\ngroup c\nheap 1\n";
+    let text =
+        b"whole 8192\n\n# b\ngroup a\nprogram init\nend\ngroup b\nprogram init\nif r1 == 0 nowhere\nend\ngroup c\nheap 1\n";
     assert!(rt; has_fault(alloc, text, 9, FaultKind::NoSuchLabel));
     let inside = b"whole 8192\ngroup a\nprogram init\ngroup b\nprogram init\nend\n";
     assert!(rt; has_fault(alloc, inside, 3, FaultKind::Unended));
@@ -66,17 +90,67 @@ fn a_fault_within_a_section_is_counted_in_the_whole_text(rt: HostRuntime) {
 #[test]
 fn a_section_without_init_is_at_fault_where_nothing_else_is(rt: HostRuntime) {
     let alloc = rt.alloc();
-    let none = b"whole 8192\ngroup a\nprogram init\nend\ngroup b\nprogram kid\nend\ngroup c\nnonsense\n";
+    let none =
+        b"whole 8192\ngroup a\nprogram init\nend\ngroup b\nprogram kid\nend\ngroup c\nnonsense\n";
     assert!(rt; has_fault(alloc, none, 5, FaultKind::NoInit));
-    assert!(rt; has_fault(alloc, b"whole 8192\ngroup a\nmake 1\n", 3, FaultKind::UnknownWord));
+    assert!(rt;
+        has_fault(
+            alloc,
+            b"whole 8192\ngroup a\nmake 1\n",
+            3,
+            FaultKind::UnknownWord
+        )
+    );
     // A line that is no UTF-8 begins no section, and is at fault in the one where it stands.
-    assert!(rt; has_fault(alloc, b"whole 8192\ngroup a\ngroup \xff\ngroup a\n", 3, FaultKind::NotUtf8));
-    assert!(rt; has_fault(alloc, b"whole 8192\ngroup a\n# \xff\n", 3, FaultKind::NotUtf8));
-    assert!(rt; has_fault(alloc, b"whole 8192\n# \xff\ngroup a\n", 2, FaultKind::NotUtf8));
+    assert!(rt;
+        has_fault(
+            alloc,
+            b"whole 8192\ngroup a\ngroup \xff\ngroup a\n",
+            3,
+            FaultKind::NotUtf8
+        )
+    );
+    assert!(rt;
+        has_fault(
+            alloc,
+            b"whole 8192\ngroup a\n# \xff\n",
+            3,
+            FaultKind::NotUtf8
+        )
+    );
+    assert!(rt;
+        has_fault(
+            alloc,
+            b"whole 8192\n# \xff\ngroup a\n",
+            2,
+            FaultKind::NotUtf8
+        )
+    );
     // The first word alone begins a section, also where the others are broken.
-    assert!(rt; has_fault(alloc, b"whole 8192\ngroup a\ngroup \"x\n", 2, FaultKind::NoInit));
-    assert!(rt; has_fault(alloc, b"whole 8192\ngroup a\n\"group\" b\n", 3, FaultKind::UnknownWord));
-    assert!(rt; has_fault(alloc, b"whole 8192\ngroup a\ngroups b\n", 3, FaultKind::UnknownWord));
+    assert!(rt;
+        has_fault(
+            alloc,
+            b"whole 8192\ngroup a\ngroup \"x\n",
+            2,
+            FaultKind::NoInit
+        )
+    );
+    assert!(rt;
+        has_fault(
+            alloc,
+            b"whole 8192\ngroup a\n\"group\" b\n",
+            3,
+            FaultKind::UnknownWord
+        )
+    );
+    assert!(rt;
+        has_fault(
+            alloc,
+            b"whole 8192\ngroup a\ngroups b\n",
+            3,
+            FaultKind::UnknownWord
+        )
+    );
 }
 
 /// A text with a section for each of these names.

@@ -5,7 +5,7 @@ ghost use Rattle.kabi_types.specs.declared.scripts.Policy.TheVariants.{Heaviest,
 ghost use Rattle.posix_defs.specs.Victim.{score_of};
 
 use crate::runs::{
-    NONE, PID_SCRIPT, ROOM, check, expect_answer, expect_answers, outcome_of, run_with,
+    NONE, PID_SCRIPT, ROOM, Trouble, check, expect_answer, expect_answers, outcome_of, run_with,
 };
 use kabi_types::Weight;
 use kio_ports::{MemSink, MemSource};
@@ -30,7 +30,8 @@ group b refused heap 8193
 end groups 2 refused 1
 ";
 
-const NONE_RUNS: &str = "whole 8192\ngroup a\nprogram init\nend\ngroup b\nheap 8388608\nprogram init\nend\n";
+const NONE_RUNS: &str =
+    "whole 8192\ngroup a\nprogram init\nend\ngroup b\nheap 8388608\nprogram init\nend\n";
 
 const NONE_RUNS_REPORT: &str =
     "group a refused heap 65536\ngroup b refused heap 8388608\nend groups 2 refused 2\n";
@@ -40,9 +41,17 @@ const TWICE: &str = "whole 8192\ngroup a\nprogram init\nend\ngroup a\nprogram in
 const ANSWERS: &[(&str, Status, &str)] = &[
     (ONE_RUNS, Status::Finished, ONE_RUNS_REPORT),
     (NONE_RUNS, Status::Finished, NONE_RUNS_REPORT),
-    (TWICE, Status::BadScript, "bad script: line 5: twice defined\n"),
+    (
+        TWICE,
+        Status::BadScript,
+        "bad script: line 5: twice defined\n",
+    ),
     ("", Status::BadScript, "bad script: line 0: no init\n"),
-    (PID_SCRIPT, Status::BadScript, "bad script: line 1: unknown word\n"),
+    (
+        PID_SCRIPT,
+        Status::BadScript,
+        "bad script: line 1: unknown word\n",
+    ),
 ];
 
 #[test]
@@ -50,6 +59,52 @@ fn groups_are_told_in_their_order(rt: HostRuntime) -> Result<(), Fail> {
     for words in ["groups 1", "groups 2", "groups 64"] {
         expect_answers(&rt, words, ANSWERS)?;
     }
+    Ok(())
+}
+
+/// To be run with each allocation refused in turn: the whole report is written, or none of it for want of memory.
+#[test]
+fn groups_end_right_whichever_allocation_is_refused(rt: HostRuntime) {
+    if let Ok(outcome) = outcome_of(&rt, "groups 2", ONE_RUNS.as_bytes(), NONE) {
+        let written = outcome.sink.bytes();
+        let right = match outcome.status {
+            Status::Memory => written.is_empty(),
+            status => status == Status::Finished && written == ONE_RUNS_REPORT.as_bytes(),
+        };
+        check(
+            &rt,
+            right && outcome.left.is_none(),
+            "the report or nothing",
+        );
+    }
+}
+
+/// The first take fails; and the second put, behind ten bytes.
+#[test]
+fn a_stream_that_fails_is_told(rt: HostRuntime) -> Result<(), Fail> {
+    let unread = Trouble {
+        takes: &[1],
+        ..NONE
+    };
+    let outcome = outcome_of(&rt, "groups 2", ONE_RUNS.as_bytes(), unread)?;
+    let silent = outcome.sink.bytes().is_empty();
+    check(
+        &rt,
+        silent && outcome.status == Status::ReadFault,
+        "the source",
+    );
+    let unwritten = Trouble {
+        takes: &[],
+        puts: &[2],
+        most: 10,
+    };
+    let outcome = outcome_of(&rt, "groups 2", ONE_RUNS.as_bytes(), unwritten)?;
+    let begun = outcome.sink.bytes() == b"group a he".as_slice();
+    check(
+        &rt,
+        begun && outcome.status == Status::WriteFault,
+        "the sink",
+    );
     Ok(())
 }
 
@@ -108,7 +163,11 @@ fn another_number_of_workers_writes_the_same(rt: HostRuntime) -> Result<(), Fail
     let one = outcome_of(&rt, "groups 1", KILLING.as_bytes(), NONE)?;
     let three = outcome_of(&rt, "groups 3", KILLING.as_bytes(), NONE)?;
     let same = one.sink.bytes() == three.sink.bytes();
-    check(&rt, same && one.status == Status::Finished, "the same bytes");
+    check(
+        &rt,
+        same && one.status == Status::Finished,
+        "the same bytes",
+    );
     check(&rt, three.left.is_none(), "no store");
     Ok(())
 }

@@ -37,6 +37,6 @@ loop-bytes-preserved c =
     let size = c.cut_line.ensures.size in
     let few = here.invariant.1 in (
       (λ outcome found. front_more c.args.text.now here.rest.now first _ here.whole c.in_ok-whole.whole here.line outcome here.invariant.0
-      (c.cut_line.ensures.lines ∙ ap (λ o. first ∷ lines_left o) c.in-Some-next.is) c.in_default.ensures c.in_ok-whole.ensures found),
+          (c.cut_line.ensures.lines ∙ ap (λ o. first ∷ lines_left o) c.in-Some-next.is) c.in_default.ensures c.in_ok-whole.ensures found),
       omega (arith, left, size, few),
     )

@@ -1,7 +1,7 @@
 use Rattle.std.proofs.Common.{◌≡◌, ◌-◌, ◌++◌, ◌∷◌, [], ap, sym, ◌∙◌, take, arith, append_assoc}
 use Rattle.std.proofs.lemmas.List.{append-nil, length-append}
 use Rattle.group_heap.specs.Lines.{bytes_left, lines_left}
-use Rattle.group_heap.specs.Texts.{text_of}
+use Rattle.group_heap.specs.Texts.{lines_of, text_of}
 use Rattle.group_heap.proofs.Cutting.{bytes_more, bytes_of, front_of, joined, length_more, no_more, one_more, starts}
 use Rattle.group_heap.proofs.lines.cut_section.Goals as goal
 
@@ -65,7 +65,7 @@ loop-first-preserved c =
     let size = c.cut_line.ensures.size in
     let count = here.3 in let end = here.4 in let all = here.5 in (
       here.0 ++ first ∷ [],
-      here.1 ∙ ap (λ ls. here.0 ++ ls) (c.cut_line.ensures.lines ∙ ap (λ o. first ∷ lines_left o) c.in-Some.is) ∙ sym (append_assoc here.0 (first ∷ []) (lines_left c.cut_line.result.1)),
+      here.1 ∙ ap (λ ls. here.0 ++ ls) (c.cut_line.ensures.lines ∙ ap (λ o. first ∷ lines_left o) c.in-Some.is) ∙ sym (append_assoc here.0 (first ∷ []) (lines_of next)),
       one_more here.0 first here.2 c.if-begins_section.ensures,
       omega (arith, count, length_more here.0 first),
       omega (arith, end, bytes_more here.0 first),

@@ -11,8 +11,18 @@ report-requires g c =
     let most = c.requires.valid.most_steps in
     omega arith
 
+tells : goal.returns-clause-tells
+tells g c =
+    let core = c.run_to_end-end.new.core in
+    let ended : HasEndedOver g.T.Turner.stands g.T.Turner.marks g.T.Turner.high c.args.script.now core c.run_to_end-end.result =
+    subst (λ s. HasEndedOver g.T.Turner.stands g.T.Turner.marks g.T.Turner.high s core c.run_to_end-end.result) (sym c.requires.script) c.run_to_end-end.ensures.ended in
+    tells_run g.T.Turner.stands g.T.Turner.marks g.T.Turner.high c.args.script.now core c.run_to_end-end.result c.run.result.now c.charged.result c.peak.result c.reads.result c.from_vec.result
+    ended (c.run_to_end-end.ensures.steps ∙ c.requires.steps) c.run.ensures.same c.charged.ensures.value
+    (c.peak.ensures ∙ c.run.ensures.runs.peak) (c.reads.ensures ended.state ended.is_at)
+    (c.from_vec.ensures ∙ ap (λ v. v.items) c.into_bytes.ensures.value ∙ c.in_ok-text.ensures)
+
 pub returns-clause-tells : goal.returns-clause-tells
-returns-clause-tells g c = ?
+returns-clause-tells g c = tells g c
 
 pub returns-clause-reported : goal.returns-clause-reported
-returns-clause-reported g c = ?
+returns-clause-reported g c = run_report g.T.Turner.stands g.T.Turner.marks g.T.Turner.high c.args.script.now c.run_to_end-end.new.core c.run_to_end-end.result c.from_vec.result (tells g c)
