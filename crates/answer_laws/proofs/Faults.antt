@@ -2,13 +2,13 @@
 use Rattle.std.proofs.Common.{◌≢◌, ℕ, ◌==◌, ◌&&◌, ◌||◌, not, ℤ, Bool, true, false, cond, List, length, Option, None, Some}
 use Rattle.std.specs.List.{list_any}
 use Rattle.std.specs.Option.{option_or}
-use Rattle.kabi_calls.specs.Arguments.{argument_fault, count_of, invalid_unless, is_from, is_minus_one, is_number, is_page_range, is_within, lie_in_space, may_be_descriptor, moved_fault, path_fault, paths_fault, placed_fault, range_fault, truncates_unwritten}
-use Rattle.kabi_values.specs.OpenFlags.{are_open_flags}
-use Rattle.kabi_calls.specs.PathParts.{components, ends_in_dots, is_long}
-use Rattle.kabi_calls.specs.declared.calls.Call.{Call}
-use Rattle.kabi_calls.specs.declared.calls.Call.TheVariants as call
-use Rattle.kabi_values.specs.declared.errnos.Errno.{Errno}
-use Rattle.kabi_values.specs.declared.errnos.Errno.TheVariants.{EFAULT, ENAMETOOLONG, ENOENT, ENOMEM}
+use Rattle.kabi_types.specs.Arguments.{argument_fault, count_of, invalid_unless, is_from, is_minus_one, is_number, is_page_range, is_within, lie_in_space, may_be_descriptor, moved_fault, path_fault, paths_fault, placed_fault, range_fault, truncates_unwritten}
+use Rattle.kabi_types.specs.OpenFlags.{are_open_flags}
+use Rattle.kabi_types.specs.PathParts.{components, ends_in_dots, is_long}
+use Rattle.kabi_types.specs.declared.calls.Call.{Call}
+use Rattle.kabi_types.specs.declared.calls.Call.TheVariants as call
+use Rattle.kabi_types.specs.declared.errnos.Errno.{Errno}
+use Rattle.kabi_types.specs.declared.errnos.Errno.TheVariants.{EFAULT, ENAMETOOLONG, ENOENT, ENOMEM}
 use Rattle.answer_laws.proofs.NoWant.{IsNoWantFault}
 
 invalid_no_want : (b : Bool) → IsNoWantFault (invalid_unless b)

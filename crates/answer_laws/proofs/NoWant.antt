@@ -2,10 +2,10 @@
 use Rattle.std.proofs.Common.{◌≢◌, ℕ, ◌==◌, ◌&&◌, ◌||◌, not, nat_le, nat_lt, Bool, true, false, cond, List, [], ◌∷◌, length, Option, None, Some, is_some, is_none, Result, Ok, Err}
 use Rattle.std.specs.Str.{bytes_eq}
 use Rattle.std.specs.Option.{ok_or}
-use Rattle.kabi_calls.specs.PathParts.{components}
+use Rattle.kabi_types.specs.PathParts.{components}
 use Rattle.kabi_types.specs.declared.scripts.Program.{Program}
-use Rattle.kabi_values.specs.declared.errnos.Errno.{Errno}
-use Rattle.kabi_values.specs.declared.errnos.Errno.TheVariants as errno
+use Rattle.kabi_types.specs.declared.errnos.Errno.{Errno}
+use Rattle.kabi_types.specs.declared.errnos.Errno.TheVariants as errno
 use Rattle.posix_defs.specs.declared.walked.Walked.{Walked}
 use Rattle.posix_defs.specs.declared.walked.Walked.TheVariants as walked
 use Rattle.posix_defs.specs.DiskContents.{own_name, parent_name}

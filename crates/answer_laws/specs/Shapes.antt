@@ -1,12 +1,12 @@
 -- The shapes of answers: what a call does to processes, whatever it does to files.
 use Rattle.std.specs.Prelude.{ℕ, ◌≡◌, ◌≢◌, ◌+◌, ℤ, pos, Bool, true, false, List, take, Ok, Some}
-use Rattle.kabi_calls.specs.Arguments.{count_of}
-use Rattle.kabi_calls.specs.declared.calls.Call.{Call}
-use Rattle.kabi_calls.specs.declared.calls.Call.TheVariants as calls
-use Rattle.kabi_values.specs.declared.errnos.Errno.{Errno}
-use Rattle.kabi_values.specs.declared.errnos.Errno.TheVariants.{ENOMEM}
-use Rattle.kabi_values.specs.declared.replies.Reply.{Reply}
-use Rattle.kabi_values.specs.declared.replies.Reply.TheVariants.{Val, Waited}
+use Rattle.kabi_types.specs.Arguments.{count_of}
+use Rattle.kabi_types.specs.declared.calls.Call.{Call}
+use Rattle.kabi_types.specs.declared.calls.Call.TheVariants as calls
+use Rattle.kabi_types.specs.declared.errnos.Errno.{Errno}
+use Rattle.kabi_types.specs.declared.errnos.Errno.TheVariants.{ENOMEM}
+use Rattle.kabi_types.specs.declared.replies.Reply.{Reply}
+use Rattle.kabi_types.specs.declared.replies.Reply.TheVariants.{Val, Waited}
 use Rattle.kabi_types.specs.declared.scripts.Script.{Script}
 use Rattle.posix_defs.specs.Memory.{Memory, stored, with_pages, without_pages}
 use Rattle.posix_defs.specs.MemoryCalls.{remembered}

@@ -1,12 +1,12 @@
 //! Laws of what all forty-one calls are answered. Each is the contract of a function that does nothing.
 
 ghost use Rattle.std.specs.Prelude.{◌≡◌, ◌≢◌, ℕ, true};
-ghost use Rattle.kabi_calls.specs.declared.calls.Call.{Call};
+ghost use Rattle.kabi_types.specs.declared.calls.Call.{Call};
 ghost use Rattle.kabi_types.specs.declared.scripts.Script.{Script};
-ghost use Rattle.kabi_values.specs.declared.errnos.Errno.{Errno};
-ghost use Rattle.kabi_values.specs.declared.errnos.Errno.TheVariants.{ENOMEM};
-ghost use Rattle.kabi_values.specs.declared.replies.Reply.{Reply};
-ghost use Rattle.kabi_values.specs.declared.replies.Reply.TheVariants.{Fail};
+ghost use Rattle.kabi_types.specs.declared.errnos.Errno.{Errno};
+ghost use Rattle.kabi_types.specs.declared.errnos.Errno.TheVariants.{ENOMEM};
+ghost use Rattle.kabi_types.specs.declared.replies.Reply.{Reply};
+ghost use Rattle.kabi_types.specs.declared.replies.Reply.TheVariants.{Fail};
 ghost use Rattle.posix_defs.specs.Plain.{Plain, answered};
 ghost use Rattle.posix_defs.specs.Answer.{Blocked, Done};
 ghost use Rattle.posix_defs.specs.Machine.{machine};

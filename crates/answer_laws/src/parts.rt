@@ -3,7 +3,7 @@
 ghost use Rattle.std.specs.Prelude.{◌≡◌, ℕ};
 ghost use Rattle.kabi_types.specs.declared.scripts.Control.{Control};
 ghost use Rattle.kabi_types.specs.declared.scripts.Script.{Script};
-ghost use Rattle.kabi_values.specs.declared.replies.Reply.{Reply};
+ghost use Rattle.kabi_types.specs.declared.replies.Reply.{Reply};
 ghost use Rattle.posix_defs.specs.Control.{after, after_part, call_of, settled};
 ghost use Rattle.posix_defs.specs.Made.{further};
 

@@ -2,8 +2,8 @@
 
 ghost use Rattle.std.specs.Prelude.{◌≡◌, ◌<◌, ◌^◌, None};
 ghost use Rattle.std.specs.List.{All};
-ghost use Rattle.kabi_calls.specs.Arguments.{argument_fault};
-ghost use Rattle.kabi_calls.specs.declared.calls.Call.{Call};
+ghost use Rattle.kabi_types.specs.Arguments.{argument_fault};
+ghost use Rattle.kabi_types.specs.declared.calls.Call.{Call};
 ghost use Rattle.kheap_slabs.specs.Paid.{IsPaid};
 ghost use Rattle.memfs_ops.specs.FileTree.{MayWalk};
 ghost use Rattle.posix_defs.specs.Calls.OnSockets.{bind};
@@ -15,7 +15,7 @@ ghost use Rattle.store_objects.specs.Walking.{Serves};
 
 use crate::replies::zero;
 use kabi_types::{Control, Script};
-use kheap_shelves::Purse;
+use kheap_slabs::Purse;
 use posix_defs::Turned;
 use proc_names::bind_number;
 use store_objects::{Objects, go_on};

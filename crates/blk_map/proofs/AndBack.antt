@@ -1,6 +1,6 @@
 -- A node that grows and shrinks back.
 use Rattle.std.proofs.Common.{◌≡◌, ℕ, ◌≤◌, List, ap, subst, ◌∙◌, arith}
-use Rattle.kabi_values.specs.declared.inodes.Inode.{Inode}
+use Rattle.kabi_types.specs.declared.inodes.Inode.{Inode}
 use Rattle.posix_defs.specs.DiskFormat.{blocks_of}
 use Rattle.posix_defs.specs.SoundDisk.{block_bytes, free_in_map}
 use Rattle.posix_defs.specs.DiskContents.{data_block, node_bytes}

@@ -1,7 +1,7 @@
 -- The blocks that a node gives up are those that its size no longer needs.
 use Rattle.std.proofs.Common.{◌≡◌, ℕ, ◌+◌, ◌-◌, ◌*◌, ◌<◌, ◌≤◌, ◌⊎◌, inl, inr, List, length, get_or, ap, ◌∙◌, arith}
 use Rattle.std.proofs.lemmas.Bool.{cases_lt}
-use Rattle.kabi_values.specs.declared.inodes.Inode.{Inode}
+use Rattle.kabi_types.specs.declared.inodes.Inode.{Inode}
 use Rattle.posix_defs.specs.DiskFormat.{block_size, data_blocks, IsInode}
 use Rattle.posix_defs.specs.SoundDisk.{block_bytes, pointer_at, Place, Data, Pointers, HasPlace, named_at}
 use Rattle.blk_map.specs.Named.{pointer_to}

@@ -2,7 +2,7 @@
 use Rattle.std.proofs.Common.{◌≡◌, ◌≢◌, ℕ, ◌-◌, ◌*◌, ◌%◌, ◌<◌, ◌≤◌, Bool, inl, inr, List, length, get_or, ltb, sym, ap, subst, ◌∙◌, arith}
 use Rattle.std.proofs.lemmas.Bool.{cases_lt, lt-ltb, le-ltb, cond-true, cond-false}
 use Rattle.std.proofs.lemmas.List.{get_or_past}
-use Rattle.kabi_values.specs.declared.inodes.Inode.{Inode}
+use Rattle.kabi_types.specs.declared.inodes.Inode.{Inode}
 use Rattle.posix_defs.specs.DiskFormat.{block_size, data_blocks, IsForFiles, IsPointer, Fits, IsOfKind, IsInode}
 use Rattle.posix_defs.specs.SoundDisk.{block_bytes, pointer_at, Data, named_at}
 use Rattle.disk_laws.proofs.FreeBlocks.{direct_at, behind_at}

@@ -2,7 +2,7 @@
 use Rattle.std.proofs.Common.{◌≡◌, ◌≢◌, ℕ, ◌-◌, ◌*◌, ◌<◌, ◌≤◌, inl, inr, List, length, get_or, replicate, refl, sym, ap, ◌∙◌, arith}
 use Rattle.std.proofs.lemmas.Bool.{cases_lt}
 use Rattle.std.proofs.lemmas.List.{get_or-replicate, get_or_past, length-replicate}
-use Rattle.kabi_values.specs.declared.inodes.Inode.{Inode}
+use Rattle.kabi_types.specs.declared.inodes.Inode.{Inode}
 use Rattle.posix_defs.specs.DiskFormat.{block_size, IsInode, inode_bytes}
 use Rattle.posix_defs.specs.SoundDisk.{block_bytes, table_block, table_slot, slot_bytes, table_bytes, HasInode, Place, Data, Pointers, HasPlace, bit_of, Sound}
 use Rattle.posix_defs.specs.NodeChange.{Replaces}

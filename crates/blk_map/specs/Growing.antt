@@ -1,6 +1,6 @@
 -- Growth of a node whose caller writes some of the new blocks itself.
 use Rattle.std.specs.Prelude.{ℕ, ◌<◌, ◌≤◌, ◌≡◌, ◌⊎◌, List}
-use Rattle.kabi_values.specs.declared.inodes.Inode.{Inode}
+use Rattle.kabi_types.specs.declared.inodes.Inode.{Inode}
 use Rattle.posix_defs.specs.DiskFormat.{block_size, data_blocks}
 use Rattle.posix_defs.specs.SoundDisk.{block_bytes, IsMarked, IsFreeBlock}
 use Rattle.posix_defs.specs.DiskContents.{data_block, zeros}

@@ -1,6 +1,6 @@
 -- The blocks of a node as the calls have them in hand: the pointers of its inode, and those of its block of pointers.
 use Rattle.std.specs.Prelude.{ℕ, ◌-◌, ◌<◌, ◌≡◌, ◌⊎◌, ◌%◌, List, [], ◌∷◌, slice_index, nat_lt, cond}
-use Rattle.kabi_values.specs.declared.inodes.Inode.{Inode}
+use Rattle.kabi_types.specs.declared.inodes.Inode.{Inode}
 use Rattle.posix_defs.specs.DiskFormat.{direct_pointers}
 use Rattle.posix_defs.specs.SoundDisk.{IsMarked, IsFreeBlock}
 use Rattle.posix_defs.specs.Tree.{directory}

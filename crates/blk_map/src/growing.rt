@@ -1,5 +1,5 @@
 ghost use Rattle.std.specs.Prelude.{◌≡◌, ℕ, ◌-◌, ◌<◌, ◌≤◌, ◌⊎◌, ◌↔◌, Err, IfErr, OnOk, length, min, slice_index, slice_index_or};
-ghost use Rattle.kabi_values.specs.declared.errnos.Errno.TheVariants.{EFBIG, ENOSPC};
+ghost use Rattle.kabi_types.specs.declared.errnos.Errno.TheVariants.{EFBIG, ENOSPC};
 ghost use Rattle.posix_defs.specs.DiskFormat.{data_blocks, blocks_of};
 ghost use Rattle.posix_defs.specs.SoundDisk.{block_bytes, HasNode, IsFreeBlock, Sound, free_in_map};
 ghost use Rattle.posix_defs.specs.NodeChange.{Grows};

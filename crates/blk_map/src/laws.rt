@@ -1,7 +1,7 @@
 //! What growing and shrinking come to, one after the other.
 
 ghost use Rattle.std.specs.Prelude.{◌≡◌, ℕ, ◌≤◌, List};
-ghost use Rattle.kabi_values.specs.declared.inodes.Inode.{Inode};
+ghost use Rattle.kabi_types.specs.declared.inodes.Inode.{Inode};
 ghost use Rattle.posix_defs.specs.SoundDisk.{free_in_map};
 ghost use Rattle.posix_defs.specs.DiskContents.{node_bytes};
 ghost use Rattle.posix_defs.specs.DiskTree.{ChangesNode};

@@ -2,15 +2,14 @@
 //! number and the key of its Block in the heap, the coldest first, and the capacity.
 ghost use Rattle.std.specs.Prelude.{◌≡◌, ◌↔◌, ℕ, ◌<◌, ◌≤◌, [], None, Some, IfNone, IfOk, IsSome, IsTrue, MatchOption, cond, length, nat_eq, slice_index_or};
 ghost use Rattle.std.specs.Bool.{MatchBool};
-ghost use Rattle.kheap_shelves.specs.Objects.{put};
+ghost use Rattle.kheap_slabs.specs.Objects.{put};
 ghost use Rattle.kheap_slabs.specs.Paid.{CanPay, IsPaid, TakesNothing};
 ghost use Rattle.lru_index.specs.Order.{order, touched};
 ghost use Rattle.block_cache.specs.Blocks.{block, block_slot, cached_block, KeepsBlocks, HasBlockFills, MayFill, FillDropped, AllDropped, RoomMade, BlockAdded, BlockFilled, BlockGone, ColdestGone, Unchanged, TakenBack};
 
 use cache_laws::place_of;
 use kabi_types::{Class, Memory};
-use kheap_shelves::{Block, Purse};
-use kheap_slabs::KHeap;
+use kheap_slabs::{Block, KHeap, Purse};
 use lru_index::Index;
 use std::alloc::Global;
 use std::marker::Model;

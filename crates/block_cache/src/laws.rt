@@ -1,8 +1,8 @@
 //! Laws of the cache of blocks, each the contract of a function that does nothing.
 ghost use Rattle.std.specs.Prelude.{◌≡◌, ℕ, ◌+◌, ◌<◌, ◌≤◌, List, [], Option, None, Some, length, replicate, slice_get, slice_set};
-ghost use Rattle.kheap_shelves.specs.Objects.{count, put};
-ghost use Rattle.kheap_shelves.specs.Purse.{Purse};
-ghost use Rattle.kheap_shelves.specs.declared.objects.Block.{Block};
+ghost use Rattle.kheap_slabs.specs.Objects.{count, put};
+ghost use Rattle.kheap_slabs.specs.Purse.{Purse};
+ghost use Rattle.kheap_slabs.specs.declared.objects.Block.{Block};
 ghost use Rattle.kheap_slabs.specs.Heap.{Heap};
 ghost use Rattle.kheap_slabs.specs.Paid.{IsPaid};
 ghost use Rattle.lru_index.specs.Order.{Order, order};

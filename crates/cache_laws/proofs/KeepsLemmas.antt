@@ -7,8 +7,8 @@ use Rattle.std.specs.Cmp.{IsEquivalence}
 use Rattle.std.specs.Prelude.{remove, slice_index_or, slice_set}
 use Rattle.std.proofs.lemmas.Bool.{cases_eq, cases_lt, false≢true}
 use Rattle.std.proofs.lemmas.List.{get_or-set_same, get_or-set_other, get_or_default, set_past}
-use Rattle.kheap_shelves.specs.Objects.{object, InUse, count, put, without}
-use Rattle.kheap_shelves.proofs.ObjectLemmas.{count-none, object-none, object-put, object-put_other, object-without, object-without_other, count-put_new, count-put_used, count-without, InUse-within, object_of}
+use Rattle.kheap_slabs.specs.Objects.{object, InUse, count, put, without}
+use Rattle.kheap_slabs.proofs.ObjectLemmas.{count-none, object-none, object-put, object-put_other, object-without, object-without_other, count-put_new, count-put_used, count-without, InUse-within, object_of}
 use Rattle.lru_index.specs.Order.{Order, order, touched, first_key}
 use Rattle.lru_index.proofs.Pairs.{length_touched, touched_absent, length_removed}
 use Rattle.cache_laws.specs.Caches.{slot_of, key_at, Keeps, cached, AreTrue, first_fill, fills_kept, left_kept, objects_kept, pairs_kept, objects_without, pairs_without, IsAt}

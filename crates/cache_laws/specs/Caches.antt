@@ -3,7 +3,7 @@
 use Rattle.std.specs.Prelude.{◌≡◌, ℕ, zero, suc, ◌<◌, Bool, List, [], ◌∷◌, Option, None, Some, length, remove, slice_index_or}
 use Rattle.std.specs.Option.{option_map, option_and_then, option_map_or}
 use Rattle.std.specs.Map.{lookup, remove_entry}
-use Rattle.kheap_shelves.specs.Objects.{object, count, without}
+use Rattle.kheap_slabs.specs.Objects.{object, count, without}
 use Rattle.lru_index.specs.Order.{Order}
 
 -- the slot of a key, or None where it isn't cached

@@ -3,7 +3,7 @@
 #![tactic(auto)]
 
 ghost use Rattle.std.specs.Prelude.{◌≡◌, ℕ, ◌+◌, ◌<◌, ◌≤◌, List, Option, None, Some, MatchOption, cond, length};
-ghost use Rattle.kheap_shelves.specs.Objects.{object, put, without};
+ghost use Rattle.kheap_slabs.specs.Objects.{object, put, without};
 ghost use Rattle.lru_index.specs.Order.{Order, order, touched};
 ghost use Rattle.cache_laws.specs.Caches.{slot_of, Keeps, IsAt};
 

@@ -5,8 +5,7 @@ ghost use Rattle.name_cache.specs.Names.{IsNameKey, KeepsNames, HasNameFills};
 
 use crate::steps::{Answer, Change, Look, NO, NONE, Row, Step, YES};
 use kabi_types::{Class, Memory, Name27, Need};
-use kheap_shelves::Purse;
-use kheap_slabs::KHeap;
+use kheap_slabs::{KHeap, Purse};
 use lru_index::NameKey;
 use name_cache::NameCache;
 use std::alloc::Global;

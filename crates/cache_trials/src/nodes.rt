@@ -1,15 +1,14 @@
 //! Nodes, of 128 bytes in the heap.
 ghost use Rattle.std.specs.Prelude.{◌≡◌, ◌≤◌, ℕ, IfOk, length, true};
 ghost use Rattle.std.specs.List.{Contains};
-ghost use Rattle.kheap_shelves.specs.Objects.{InUse};
+ghost use Rattle.kheap_slabs.specs.Objects.{InUse};
 ghost use Rattle.kheap_slabs.specs.Paid.{CanPay};
 ghost use Rattle.vnode_cache.specs.Nodes.{KeepsNodes, AreLoose, SomeLoose};
 ghost use Rattle.vnode_cache.specs.Calls.{HasNodeFills};
 
 use crate::steps::{Answer, Change, Look, NO, NONE, Row, Step, YES};
 use kabi_types::{Class, Inode, Memory, Need};
-use kheap_shelves::Purse;
-use kheap_slabs::KHeap;
+use kheap_slabs::{KHeap, Purse};
 use std::alloc::Global;
 use std::process::Abort;
 use std::test::Fail;

@@ -3,8 +3,8 @@ use Rattle.std.proofs.Common.{◌≡◌, ℕ, Bool, true, List, Option, Some, No
 use Rattle.std.specs.Prelude.{slice_index_or}
 use Rattle.std.specs.Cmp.{IsEquivalence}
 use Rattle.std.specs.Option.{option_map, option_and_then}
-use Rattle.kheap_shelves.specs.Objects.{object}
-use Rattle.kheap_shelves.proofs.ObjectLemmas.{object_of}
+use Rattle.kheap_slabs.specs.Objects.{object}
+use Rattle.kheap_slabs.proofs.ObjectLemmas.{object_of}
 use Rattle.lru_index.specs.Order.{Order}
 use Rattle.cache_laws.specs.Caches.{slot_of, Keeps, cached}
 use Rattle.cache_laws.proofs.KeepsLemmas.{keeps_used, cached_is}

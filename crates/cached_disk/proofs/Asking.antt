@@ -1,10 +1,10 @@
 -- Nodes and names that are asked for through the caches.
 use Rattle.std.proofs.Common.{◌≡◌, ◌≢◌, ◌⊎◌, ℕ, ◌<◌, ◌≤◌, List, length, take, Option, Some, None, IsSome, IfSome, nat_eq, true, refl, sym, ap, ◌∙◌, subst, inl, inr, arith}
 use Rattle.std.specs.Cmp.{nat_eq_equiv}
-use Rattle.kabi_values.specs.declared.inodes.Inode.{Inode}
-use Rattle.kheap_shelves.specs.Purse.{Purse}
-use Rattle.kheap_shelves.specs.declared.objects.Name.{Name}
-use Rattle.kheap_shelves.specs.declared.objects.Vnode.{Vnode}
+use Rattle.kabi_types.specs.declared.inodes.Inode.{Inode}
+use Rattle.kheap_slabs.specs.Purse.{Purse}
+use Rattle.kheap_slabs.specs.declared.objects.Name.{Name}
+use Rattle.kheap_slabs.specs.declared.objects.Vnode.{Vnode}
 use Rattle.kheap_slabs.specs.Heap.{Heap}
 use Rattle.kheap_slabs.specs.Paid.{IsPaid}
 use Rattle.lru_index.specs.NameKeys.{name_key}

@@ -1,11 +1,11 @@
 -- What is lent over a heap without objects, where nothing is cached yet.
 use Rattle.std.proofs.Common.{◌≡◌, ℕ, ◌+◌, ◌/◌, ◌<◌, ◌≤◌, List, [], length, min, Option, Some, None, nat_eq, replicate, sym, ap, ◌∙◌, subst, arith}
-use Rattle.kabi_values.specs.Class.{size}
-use Rattle.kabi_values.specs.declared.classes.Class.TheVariants as class
-use Rattle.kheap_shelves.specs.Objects.{object}
-use Rattle.kheap_shelves.specs.Purse.{Purse}
-use Rattle.kheap_shelves.specs.declared.objects.Block.{Block}
-use Rattle.kheap_shelves.proofs.ObjectLemmas.{object-none}
+use Rattle.kabi_types.specs.Class.{size}
+use Rattle.kabi_types.specs.declared.classes.Class.TheVariants as class
+use Rattle.kheap_slabs.specs.Objects.{object}
+use Rattle.kheap_slabs.specs.Purse.{Purse}
+use Rattle.kheap_slabs.specs.declared.objects.Block.{Block}
+use Rattle.kheap_slabs.proofs.ObjectLemmas.{object-none}
 use Rattle.kheap_slabs.specs.Heap.{Heap, empty_heap}
 use Rattle.kheap_slabs.specs.Paid.{CanPay, AreFills}
 use Rattle.kheap_laws.proofs.FillLemmas.{AreFills-none}
@@ -14,8 +14,8 @@ use Rattle.cache_laws.proofs.KeepsLemmas.{keeps_none}
 use Rattle.disk_layout.specs.Disk.{Disk}
 use Rattle.block_cache.specs.Blocks.{KeepsBlocks}
 use Rattle.lru_index.specs.declared.keys.NameKey.{NameKey}
-use Rattle.kheap_shelves.specs.declared.objects.Name.{Name}
-use Rattle.kheap_shelves.specs.declared.objects.Vnode.{Vnode}
+use Rattle.kheap_slabs.specs.declared.objects.Name.{Name}
+use Rattle.kheap_slabs.specs.declared.objects.Vnode.{Vnode}
 use Rattle.posix_defs.specs.DiskFormat.{table_nodes}
 use Rattle.posix_defs.specs.SoundDisk.{HasNode}
 use Rattle.posix_defs.specs.Tree.{found}

@@ -4,8 +4,8 @@ use Rattle.std.specs.Cmp.{nat_eq_equiv}
 use Rattle.std.specs.Option.{option_map}
 use Rattle.std.proofs.lemmas.Bool.{cases_eq, false≢true}
 use Rattle.std.proofs.lemmas.List.Sums.{sum_by-cons}
-use Rattle.kheap_shelves.specs.Objects.{object, InUse, count, without}
-use Rattle.kheap_shelves.proofs.ObjectLemmas.{object-without, object-without_other, count-without, InUse-within, object_of}
+use Rattle.kheap_slabs.specs.Objects.{object, InUse, count, without}
+use Rattle.kheap_slabs.proofs.ObjectLemmas.{object-without, object-without_other, count-without, InUse-within, object_of}
 use Rattle.cache_laws.specs.Caches.{key_at}
 
 some_inside : {A B : Type 0} (f : A → B) (o : Option A) (b : B) → option_map f o ≡ Some b → IsSome o

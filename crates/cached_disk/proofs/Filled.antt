@@ -6,17 +6,17 @@ use Rattle.std.specs.Option.{option_map}
 use Rattle.std.proofs.lemmas.Bool.{cases_lt}
 use Rattle.std.proofs.lemmas.List.Edits.{length-remove}
 use Rattle.std.proofs.lemmas.Option.{slice_get_past}
-use Rattle.kabi_values.specs.Class.{size}
-use Rattle.kabi_values.specs.declared.classes.Class.TheVariants as class
-use Rattle.kheap_shelves.specs.Objects.{object, InUse, count, put}
-use Rattle.kheap_shelves.specs.Counts.{need_bytes}
-use Rattle.kheap_shelves.specs.Purse.{Purse, left_bytes}
-use Rattle.kheap_shelves.specs.declared.objects.Block.{Block}
+use Rattle.kabi_types.specs.Class.{size}
+use Rattle.kabi_types.specs.declared.classes.Class.TheVariants as class
+use Rattle.kheap_slabs.specs.Objects.{object, InUse, count, put}
+use Rattle.kheap_slabs.specs.Counts.{need_bytes}
+use Rattle.kheap_slabs.specs.Purse.{Purse, left_bytes}
+use Rattle.kheap_slabs.specs.declared.objects.Block.{Block}
 use Rattle.kheap_slabs.specs.Heap.{Heap, live_bytes}
 use Rattle.kheap_slabs.specs.Paid.{CanPay, IsPaid, TakesNothing}
 use Rattle.kheap_laws.proofs.PaidLemmas.{CanPay-kept, IsPaid-nothing}
 use Rattle.kheap_laws.proofs.FillLemmas.{AreFills-kept}
-use Rattle.kheap_shelves.proofs.ObjectLemmas.{object_of}
+use Rattle.kheap_slabs.proofs.ObjectLemmas.{object_of}
 use Rattle.cache_laws.proofs.KeepsLemmas.{keeps_used, cached_is}
 use Rattle.cache_laws.specs.Caches.{fills_kept, left_kept}
 use Rattle.lru_index.specs.Order.{Order, order, touched}

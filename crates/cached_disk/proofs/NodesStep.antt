@@ -6,13 +6,13 @@ use Rattle.std.specs.Cmp.{nat_eq_equiv}
 use Rattle.std.specs.Option.{option_map}
 use Rattle.std.proofs.lemmas.Bool.{cases_eq, cases_lt, false≢true}
 use Rattle.std.proofs.lemmas.List.Elements.{Contains-append_cases, Contains-append_right}
-use Rattle.kabi_values.specs.Class.{size}
-use Rattle.kabi_values.specs.declared.classes.Class.TheVariants as class
-use Rattle.kabi_values.specs.declared.inodes.Inode.{Inode}
-use Rattle.kheap_shelves.specs.Objects.{object, InUse, count, put, without}
-use Rattle.kheap_shelves.specs.Purse.{Purse}
-use Rattle.kheap_shelves.specs.declared.objects.Vnode.{Vnode}
-use Rattle.kheap_shelves.proofs.ObjectLemmas.{object-put, object-put_other, object-without_other, InUse-within, length-put, object_of}
+use Rattle.kabi_types.specs.Class.{size}
+use Rattle.kabi_types.specs.declared.classes.Class.TheVariants as class
+use Rattle.kabi_types.specs.declared.inodes.Inode.{Inode}
+use Rattle.kheap_slabs.specs.Objects.{object, InUse, count, put, without}
+use Rattle.kheap_slabs.specs.Purse.{Purse}
+use Rattle.kheap_slabs.specs.declared.objects.Vnode.{Vnode}
+use Rattle.kheap_slabs.proofs.ObjectLemmas.{object-put, object-put_other, object-without_other, InUse-within, length-put, object_of}
 use Rattle.kheap_slabs.specs.Heap.{Heap}
 use Rattle.kheap_slabs.specs.Paid.{CanPay, IsPaid}
 use Rattle.kheap_laws.proofs.PaidLemmas.{CanPay-kept}

@@ -1,9 +1,9 @@
 -- Questions to directories, one after another.
 use Rattle.std.proofs.Common.{◌≡◌, ℕ, Bool, true, false, cond, not, ◌&&◌, if◌then◌else◌, List, [], ◌∷◌, ◌++◌, Option, Some, None, IsSome, Result, Ok, Err, bytes_eq, refl, sym, ap, ◌∙◌, subst}
 use Rattle.std.specs.List.{AllByRecursion}
-use Rattle.kabi_values.specs.declared.errnos.Errno.{Errno}
-use Rattle.kabi_values.specs.declared.errnos.Errno.TheVariants.{ENOTDIR}
-use Rattle.kabi_calls.specs.PathParts.{components}
+use Rattle.kabi_types.specs.declared.errnos.Errno.{Errno}
+use Rattle.kabi_types.specs.declared.errnos.Errno.TheVariants.{ENOTDIR}
+use Rattle.kabi_types.specs.PathParts.{components}
 use Rattle.lru_index.specs.NameKeys.{name_key}
 use Rattle.lru_index.specs.declared.keys.NameKey.{NameKey}
 use Rattle.posix_defs.specs.Asking.{AskedInTurn}

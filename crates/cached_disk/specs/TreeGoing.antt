@@ -1,7 +1,7 @@
 -- What is lent to look at directories goes on from call to call.
 use Rattle.std.specs.Prelude.{◌≡◌, ℕ, refl}
 use Rattle.std.proofs.Common.{ap, ◌∙◌, le_refl, le_trans}
-use Rattle.kheap_shelves.specs.Purse.{Purse}
+use Rattle.kheap_slabs.specs.Purse.{Purse}
 use Rattle.kheap_slabs.specs.Heap.{Heap}
 use Rattle.kheap_laws.proofs.PaidLemmas.{IsPaid-refl, IsPaid-trans}
 use Rattle.cached_disk.specs.TreeLent.{TreeParts, TreeGoesOn, with_cached}

@@ -1,14 +1,13 @@
 //! `CachedBlocks`, and what it does to what was lent.
 ghost use Rattle.std.specs.Prelude.{◌≡◌, ℕ, ◌<◌, ◌≤◌, length, slice_get, slice_set, None, Some};
-ghost use Rattle.kheap_shelves.specs.Objects.{InUse};
+ghost use Rattle.kheap_slabs.specs.Objects.{InUse};
 ghost use Rattle.kheap_slabs.specs.Paid.{TakesNothing};
 ghost use Rattle.block_cache.specs.Blocks.{block_slot, KeepsBlocks, TrueToDisk};
 ghost use Rattle.cached_disk.specs.Lent.{parts, AreLent, GoesOn, Asked, HasBytes};
 
 use block_cache::BlockCache;
 use disk_layout::RamDisk;
-use kheap_shelves::Purse;
-use kheap_slabs::KHeap;
+use kheap_slabs::{KHeap, Purse};
 use posix_defs::Blocks;
 
 /// The blocks of a disk behind a cache, made of what a call lends.

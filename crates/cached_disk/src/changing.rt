@@ -1,6 +1,6 @@
 //! What is changed on a disk through a cache of its blocks, each a call that lends its parts and makes one change.
 ghost use Rattle.std.specs.Prelude.{◌≡◌, ◌⊎◌, ◌↔◌, ◌<◌, ◌≤◌, true, Err, IfErr, IfOk, OnOk, length, take};
-ghost use Rattle.kabi_values.specs.declared.errnos.Errno.TheVariants.{EFBIG, ENOSPC};
+ghost use Rattle.kabi_types.specs.declared.errnos.Errno.TheVariants.{EFBIG, ENOSPC};
 ghost use Rattle.posix_defs.specs.DiskFormat.{IsName, blocks_of, greatest_size};
 ghost use Rattle.posix_defs.specs.FileBytes.{fitting, overwritten, resized};
 ghost use Rattle.posix_defs.specs.SoundDisk.{HasNode, Sound};
@@ -18,8 +18,7 @@ use crate::CachedBlocks;
 use block_cache::BlockCache;
 use disk_layout::RamDisk;
 use kabi_types::{Errno, Inode, Name27};
-use kheap_shelves::Purse;
-use kheap_slabs::KHeap;
+use kheap_slabs::{KHeap, Purse};
 use memfs_file::{set_size, write_at};
 use memfs_node::{NewNode, free_node, make_named};
 

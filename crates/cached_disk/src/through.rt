@@ -15,8 +15,7 @@ use crate::looking::{node_named, parent_of};
 use block_cache::BlockCache;
 use disk_layout::RamDisk;
 use kabi_types::Inode;
-use kheap_shelves::Purse;
-use kheap_slabs::KHeap;
+use kheap_slabs::{KHeap, Purse};
 use memfs_file::read_at;
 use memfs_node::inode_at;
 

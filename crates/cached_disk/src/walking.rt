@@ -1,7 +1,7 @@
 //! A path that is walked through the caches.
 ghost use Rattle.std.specs.Prelude.{◌≡◌, ℕ, true, Bool, List, None};
 ghost use Rattle.std.specs.List.{AllByRecursion};
-ghost use Rattle.kabi_calls.specs.Arguments.{path_fault};
+ghost use Rattle.kabi_types.specs.Arguments.{path_fault};
 ghost use Rattle.posix_defs.specs.Paths.{resolve};
 ghost use Rattle.posix_defs.specs.Queries.{queries_of};
 ghost use Rattle.posix_defs.specs.Tree.{Tree, is_directory};
@@ -11,8 +11,7 @@ ghost use Rattle.cached_disk.specs.TreeLent.{tree_parts, AllLent, StandsThrough,
 use crate::CachedDirs;
 use block_cache::BlockCache;
 use disk_layout::RamDisk;
-use kheap_shelves::Purse;
-use kheap_slabs::KHeap;
+use kheap_slabs::{KHeap, Purse};
 use name_cache::NameCache;
 use path_walk::{Walked, walk};
 use vnode_cache::VnodeCache;

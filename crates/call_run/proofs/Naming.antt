@@ -1,10 +1,10 @@
 -- The purse of a call on files or on names of the tree, and what such a call needs of its operands.
 use Rattle.std.proofs.Common.{◌≡◌, ℕ, ◌+◌, ◌<◌, ◌≤◌, None, ap, sym, ◌∙◌, subst, arith}
-use Rattle.kabi_calls.specs.Arguments.{argument_fault}
-use Rattle.kabi_calls.specs.declared.calls.Call.{Call}
-use Rattle.kabi_values.specs.declared.classes.Need.{Need}
-use Rattle.kheap_shelves.specs.Counts.{need_bytes}
-use Rattle.kheap_shelves.specs.Purse.{Purse}
+use Rattle.kabi_types.specs.Arguments.{argument_fault}
+use Rattle.kabi_types.specs.declared.calls.Call.{Call}
+use Rattle.kabi_types.specs.declared.classes.Need.{Need}
+use Rattle.kheap_slabs.specs.Counts.{need_bytes}
+use Rattle.kheap_slabs.specs.Purse.{Purse}
 use Rattle.kheap_slabs.specs.Heap.{Heap, live_bytes}
 use Rattle.kheap_laws.proofs.FillLemmas.{AreFills-none}
 use Rattle.memfs_ops.specs.Fetching.{MayFetch}

@@ -1,9 +1,9 @@
 -- What a need tells of the operands.
 use Rattle.std.proofs.Common.{◌≡◌, ◌≢◌, Option, None, Some, cond, is_some, refl, sym, ap}
-use Rattle.kabi_values.specs.declared.classes.Need.{Need}
-use Rattle.kabi_values.specs.declared.errnos.Errno.{Errno}
-use Rattle.kabi_calls.specs.Arguments.{argument_fault}
-use Rattle.kabi_calls.specs.declared.calls.Call.{Call}
+use Rattle.kabi_types.specs.declared.classes.Need.{Need}
+use Rattle.kabi_types.specs.declared.errnos.Errno.{Errno}
+use Rattle.kabi_types.specs.Arguments.{argument_fault}
+use Rattle.kabi_types.specs.declared.calls.Call.{Call}
 use Rattle.posix_defs.specs.Needs.{need_of, objects_of}
 use Rattle.posix_defs.specs.Sizes.{no_need}
 

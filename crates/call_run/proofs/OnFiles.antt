@@ -1,8 +1,8 @@
 -- Which calls have to do with a file or a directory that is open.
 use Rattle.std.proofs.Common.{◌≡◌, ℕ, zero, suc, ℤ, true, false, Option, None, Some, refl, sym, subst, arith}
-use Rattle.kabi_calls.specs.Call.{kind_of}
-use Rattle.kabi_calls.specs.declared.calls.Call.{Call}
-use Rattle.kabi_calls.specs.declared.calls.Call.TheVariants as call
+use Rattle.kabi_types.specs.Call.{kind_of}
+use Rattle.kabi_types.specs.declared.calls.Call.{Call}
+use Rattle.kabi_types.specs.declared.calls.Call.TheVariants as call
 use Rattle.kheap_slabs.specs.Heap.{Heap}
 use Rattle.posix_defs.specs.Calls.Opened.{Opened, opened_at}
 use Rattle.posix_defs.specs.Files.Descriptions.{Target, OnNode, OnPipe, OnSocket}

@@ -1,15 +1,15 @@
 -- A turn of a call that keeps what is kept reaches the world to which its answer leads.
 use Rattle.std.proofs.Common.{◌≡◌, ℕ, ◌+◌, ◌≤◌, true, false, length, None, ap, refl, sym, ◌∙◌, subst, arith}
 use Rattle.std.specs.Option.{option_and_then}
-use Rattle.kabi_calls.specs.Call.{kind_of}
-use Rattle.kabi_calls.specs.declared.calls.Call.{Call}
-use Rattle.kabi_calls.specs.declared.calls.Call.TheVariants as call
+use Rattle.kabi_types.specs.Call.{kind_of}
+use Rattle.kabi_types.specs.declared.calls.Call.{Call}
+use Rattle.kabi_types.specs.declared.calls.Call.TheVariants as call
 use Rattle.kabi_types.specs.declared.scripts.Script.{Script}
 use Rattle.posix_defs.specs.Answer.{Answer}
 use Rattle.posix_defs.specs.Plain.{Plain}
 use Rattle.posix_defs.specs.Reaching.{IsLeft, has_succeeded, name_to_leave, path_to_leave, last_of}
-use Rattle.kabi_values.specs.declared.errnos.Errno.{Errno}
-use Rattle.kabi_values.specs.declared.replies.Reply.TheVariants as reply
+use Rattle.kabi_types.specs.declared.errnos.Errno.{Errno}
+use Rattle.kabi_types.specs.declared.replies.Reply.TheVariants as reply
 use Rattle.posix_defs.specs.Paths.{resolve}
 use Rattle.posix_defs.specs.Process.{directory_of}
 use Rattle.posix_defs.specs.World.{World}

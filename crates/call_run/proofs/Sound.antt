@@ -1,7 +1,7 @@
 -- What machines that are reached have, of which calls on files and names make use.
 use Rattle.std.proofs.Common.{◌≡◌, ℕ, ◌<◌, true, sym, subst}
-use Rattle.kabi_calls.specs.declared.calls.Call.{Call}
-use Rattle.kabi_calls.specs.declared.calls.Call.TheVariants as call
+use Rattle.kabi_types.specs.declared.calls.Call.{Call}
+use Rattle.kabi_types.specs.declared.calls.Call.TheVariants as call
 use Rattle.kabi_types.specs.declared.scripts.Script.{Script}
 use Rattle.machine_keeps.specs.Texts.{HasTexts}
 use Rattle.machine_keeps.proofs.Texting.{valid_texts}

@@ -1,6 +1,6 @@
 -- A store goes on to stand for worlds whose machine is reached.
 use Rattle.std.proofs.Common.{◌≡◌, ℕ, ◌+◌, ◌≤◌, true, sym, ◌∙◌, subst, arith}
-use Rattle.kabi_calls.specs.declared.calls.Call.{Call}
+use Rattle.kabi_types.specs.declared.calls.Call.{Call}
 use Rattle.kabi_types.specs.declared.scripts.Control.{Control}
 use Rattle.kabi_types.specs.declared.scripts.Script.{Script}
 use Rattle.kheap_slabs.specs.Heap.{IsWellFormed, live_bytes}

@@ -1,16 +1,16 @@
 -- What a call waits for doesn't depend on how far other processes are.
 use Rattle.std.proofs.Common.{◌≡◌, ◌≢◌, ℕ, ℤ, Bool, true, false, List, Option, None, Some, suc, zero, ap, refl, ◌∙◌, sym}
 use Rattle.std.specs.Prelude.{◌+◌, ◌-◌, ◌==◌, ◌&&◌, pos, if◌then◌else◌, unwrap_or, Result, Ok, Err}
-use Rattle.kabi_calls.specs.Arguments.{argument_fault, count_of, is_minus_one}
-use Rattle.kabi_calls.specs.declared.calls.Call.{Call}
-use Rattle.kabi_calls.specs.declared.calls.Call.TheVariants as call
+use Rattle.kabi_types.specs.Arguments.{argument_fault, count_of, is_minus_one}
+use Rattle.kabi_types.specs.declared.calls.Call.{Call}
+use Rattle.kabi_types.specs.declared.calls.Call.TheVariants as call
 use Rattle.kabi_types.specs.declared.scripts.Control.{Control}
 use Rattle.kabi_types.specs.declared.scripts.Script.{Script}
-use Rattle.kabi_values.specs.declared.errnos.Errno.{Errno}
-use Rattle.kabi_values.specs.declared.errnos.Errno.TheVariants.{EBADF, ECHILD, EFAULT, EISDIR, ENOTCONN}
-use Rattle.kabi_values.specs.declared.replies.Reply.{Reply}
-use Rattle.kabi_values.specs.declared.replies.Reply.TheVariants.{Polled, Val}
-use Rattle.kabi_values.specs.declared.short_lists.PollEntry.{PollEntry}
+use Rattle.kabi_types.specs.declared.errnos.Errno.{Errno}
+use Rattle.kabi_types.specs.declared.errnos.Errno.TheVariants.{EBADF, ECHILD, EFAULT, EISDIR, ENOTCONN}
+use Rattle.kabi_types.specs.declared.replies.Reply.{Reply}
+use Rattle.kabi_types.specs.declared.replies.Reply.TheVariants.{Polled, Val}
+use Rattle.kabi_types.specs.declared.short_lists.PollEntry.{PollEntry}
 use Rattle.answer_laws.specs.Shapes.{may_block}
 use Rattle.answer_laws.proofs.Blocking.{blocked_may}
 use Rattle.kern_laws.proofs.TablePlaces.{get_set_other}

@@ -1,10 +1,10 @@
 -- The calls, by what a turn of them asks for.
 use Rattle.std.specs.Prelude.{ℕ, ◌≡◌, ◌<◌, Bool, true, false}
 use Rattle.std.specs.List.{AllByRecursion}
-use Rattle.kabi_calls.specs.declared.calls.Call.{Call}
-use Rattle.kabi_calls.specs.declared.calls.Call.TheVariants as call
-use Rattle.kabi_calls.specs.declared.calls.CallKind.{CallKind}
-use Rattle.kabi_calls.specs.declared.calls.CallKind.TheVariants as kind
+use Rattle.kabi_types.specs.declared.calls.Call.{Call}
+use Rattle.kabi_types.specs.declared.calls.Call.TheVariants as call
+use Rattle.kabi_types.specs.declared.calls.CallKind.{CallKind}
+use Rattle.kabi_types.specs.declared.calls.CallKind.TheVariants as kind
 use Rattle.kheap_slabs.specs.Heap.{Heap}
 use Rattle.machine_keeps.specs.Texts.{ArePathBytes}
 use Rattle.posix_defs.specs.Calls.Opened.{opened_at}

@@ -1,7 +1,7 @@
 //! Turns of the calls with which descriptions go: those that close one, and those that end a process.
 
 ghost use Rattle.std.specs.Prelude.{◌≡◌, ◌+◌, ◌≤◌, true};
-ghost use Rattle.kabi_calls.specs.Call.{kind_of};
+ghost use Rattle.kabi_types.specs.Call.{kind_of};
 ghost use Rattle.kheap_slabs.specs.Heap.{live_bytes};
 ghost use Rattle.posix_defs.specs.Machine.{answer_to};
 ghost use Rattle.posix_defs.specs.Needs.{slack};

@@ -1,8 +1,8 @@
 //! Turns of the calls on files and directories that are open.
 
 ghost use Rattle.std.specs.Prelude.{◌≡◌, ◌+◌, ◌≤◌, None, false, true};
-ghost use Rattle.kabi_calls.specs.Arguments.{argument_fault};
-ghost use Rattle.kabi_calls.specs.Call.{kind_of};
+ghost use Rattle.kabi_types.specs.Arguments.{argument_fault};
+ghost use Rattle.kabi_types.specs.Call.{kind_of};
 ghost use Rattle.kabi_types.specs.declared.scripts.Script.{Script};
 ghost use Rattle.kheap_slabs.specs.Heap.{live_bytes};
 ghost use Rattle.posix_defs.specs.Machine.{answer_to};

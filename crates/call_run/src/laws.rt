@@ -2,9 +2,9 @@
 
 ghost use Rattle.std.specs.Prelude.{◌≡◌, ◌<◌, ℕ, Some};
 ghost use Rattle.kabi_types.specs.declared.scripts.Script.{Script};
-ghost use Rattle.kheap_shelves.specs.Objects.{InUse, object};
-ghost use Rattle.kheap_shelves.specs.declared.objects.Desc.{Desc};
-ghost use Rattle.kheap_shelves.specs.declared.objects.Target.TheVariants as target;
+ghost use Rattle.kheap_slabs.specs.Objects.{InUse, object};
+ghost use Rattle.kheap_slabs.specs.declared.objects.Desc.{Desc};
+ghost use Rattle.kheap_slabs.specs.declared.objects.Target.TheVariants as target;
 ghost use Rattle.open_laws.specs.Owned.{namings_of};
 ghost use Rattle.store_objects.specs.Objects.{AreKept};
 ghost use Rattle.posix_defs.specs.Files.Whole.{IsWhole};

@@ -1,8 +1,8 @@
 //! Turns of the calls that name nodes of the tree by their paths.
 
 ghost use Rattle.std.specs.Prelude.{◌≡◌, ◌+◌, ◌≤◌, None, false, true};
-ghost use Rattle.kabi_calls.specs.Arguments.{argument_fault};
-ghost use Rattle.kabi_calls.specs.Call.{kind_of};
+ghost use Rattle.kabi_types.specs.Arguments.{argument_fault};
+ghost use Rattle.kabi_types.specs.Call.{kind_of};
 ghost use Rattle.kheap_slabs.specs.Heap.{live_bytes};
 ghost use Rattle.posix_defs.specs.Machine.{answer_to};
 ghost use Rattle.posix_defs.specs.Needs.{bound, need_of, slack};

@@ -1,7 +1,7 @@
 //! What the store keeps in mind of calls that sleep, so that it looks at each again only where a turn or a kill may have woken it.
 
 ghost use Rattle.std.specs.Prelude.{◌≡◌, ◌%◌, ℕ, true, false, not};
-ghost use Rattle.kabi_calls.specs.declared.calls.Call.{Call};
+ghost use Rattle.kabi_types.specs.declared.calls.Call.{Call};
 ghost use Rattle.posix_defs.specs.Machine.{would_block};
 ghost use Rattle.posix_defs.specs.Process.{is_alive};
 ghost use Rattle.posix_defs.specs.Turn.{TurnsTo};

@@ -15,8 +15,7 @@ ghost use Rattle.call_run.specs.Weights.{has_frame, weight_in, weights_in};
 use arrayvec::ArrayVec;
 use desc_table::Descs;
 use kabi_types::{Policy, Weight};
-use kheap_shelves::{Node, PageEntry, Proc};
-use kheap_slabs::KHeap;
+use kheap_slabs::{KHeap, Node, PageEntry, Proc};
 use store_objects::Objects;
 use victim_core::{Score, Scorer};
 

@@ -3,14 +3,14 @@ use Rattle.std.proofs.Common.{◌≡◌, ◌≢◌, ◌⊎◌, inl, inr, ℕ, su
 use Rattle.std.proofs.lemmas.Bool.{cases_eq}
 use Rattle.std.proofs.lemmas.List.Elements.{Contains-append_right}
 use Rattle.std.proofs.lemmas.List.Sums.{sum_by-cons}
-use Rattle.kheap_shelves.specs.Objects.{InUse, count, without}
-use Rattle.kheap_shelves.specs.declared.objects.Chunk.{Chunk}
-use Rattle.kheap_shelves.specs.declared.objects.QueueParts.{QueueParts}
+use Rattle.kheap_slabs.specs.Objects.{InUse, count, without}
+use Rattle.kheap_slabs.specs.declared.objects.Chunk.{Chunk}
+use Rattle.kheap_slabs.specs.declared.objects.QueueParts.{QueueParts}
 use Rattle.kheap_slabs.specs.Heap.{Heap, live_bytes}
 use Rattle.kheap_slabs.specs.Keys.{AreKeysOf}
 use Rattle.kheap_slabs.specs.Owners.{Owners, with_queue, chunk_keys, IsOwned, OwnsItsObjects, pipe_queues, sock_queues}
 use Rattle.kheap_slabs.specs.Queues.{OwnedQueue, OwnsChunks}
-use Rattle.kheap_shelves.proofs.ObjectLemmas.{object-without_other, count-without}
+use Rattle.kheap_slabs.proofs.ObjectLemmas.{object-without_other, count-without}
 use Rattle.kheap_laws.proofs.OnceLemmas.{IsOnce-head, IsOnce-tail}
 use Rattle.posix_defs.specs.QueuePlace.{chunks_of}
 use Rattle.chunk_queue.specs.Chained.{owned, OnlyChunks, place_of}

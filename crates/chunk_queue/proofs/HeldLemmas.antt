@@ -1,15 +1,15 @@
 -- The bytes of one queue among those of all pipes and sockets of a heap.
 use Rattle.std.proofs.Common.{◌≡◌, ◌⊎◌, inl, inr, ℕ, zero, suc, ◌<◌, List, [], ◌∷◌, ◌++◌, Option, None, Some, map, slice_index_or, take, drop, refl, sym, ap, subst, ◌∙◌, arith, Contains}
 use Rattle.std.proofs.lemmas.List.Elements.{Contains-append_left, Contains-append_right, Contains-append_cases}
-use Rattle.kheap_shelves.specs.Objects.{object, put, without}
-use Rattle.kheap_shelves.specs.declared.objects.Chunk.{Chunk}
-use Rattle.kheap_shelves.specs.declared.objects.Pipe.{Pipe}
-use Rattle.kheap_shelves.specs.declared.objects.QueueParts.{QueueParts}
-use Rattle.kheap_shelves.specs.declared.objects.Sock.{Sock}
+use Rattle.kheap_slabs.specs.Objects.{object, put, without}
+use Rattle.kheap_slabs.specs.declared.objects.Chunk.{Chunk}
+use Rattle.kheap_slabs.specs.declared.objects.Pipe.{Pipe}
+use Rattle.kheap_slabs.specs.declared.objects.QueueParts.{QueueParts}
+use Rattle.kheap_slabs.specs.declared.objects.Sock.{Sock}
 use Rattle.kheap_slabs.specs.Heap.{Heap}
 use Rattle.kheap_slabs.specs.Owners.{Owners, with_queue, each_of, spaces_of, pipe_queues, sock_queues, IsOwned, AreOwnersOf, OwnsItsObjects}
 use Rattle.kheap_slabs.specs.Queues.{OwnedQueue, OwnsChunks, IsChain, last_of, empty_queue}
-use Rattle.kheap_shelves.proofs.ObjectLemmas.{object-without_other}
+use Rattle.kheap_slabs.proofs.ObjectLemmas.{object-without_other}
 use Rattle.kheap_laws.proofs.OwnerLemmas.{IsOwned-queues_apart, IsOwned-same, IsOwned-queue_leaves, first_there}
 use Rattle.kheap_laws.proofs.QueueLemmas.{OwnsChunks-kept, OwnsChunks-none, OwnsChunks-fresh}
 use Rattle.kheap_laws.proofs.TableLemmas.{without-put, each_of-splits, AreOwnersOf-pipe_out, AreOwnersOf-pipe_back, AreOwnersOf-sock_out, AreOwnersOf-sock_back}

@@ -6,17 +6,17 @@ use Rattle.std.proofs.lemmas.Bool.Decides.{nat_tests}
 use Rattle.std.specs.Prelude.{nat_le}
 use Rattle.std.proofs.lemmas.List.{take_at, drop-drop, drop_at, drop_all, length-take, length-take-le, append-nil, take-append-drop, take-take, take-append-le, drop-append-le}
 use Rattle.std.proofs.lemmas.List.Elements.{Contains-append_left, Contains-append_right, Contains-append_cases, Contains-push}
-use Rattle.kabi_values.specs.declared.classes.Class.TheVariants as class
-use Rattle.kheap_shelves.specs.Counts.{with_count}
-use Rattle.kheap_shelves.specs.Objects.{object, InUse, put, without}
-use Rattle.kheap_shelves.specs.Purse.{Purse}
-use Rattle.kheap_shelves.specs.declared.objects.Chunk.{Chunk}
-use Rattle.kheap_shelves.specs.declared.objects.QueueParts.{QueueParts}
+use Rattle.kabi_types.specs.declared.classes.Class.TheVariants as class
+use Rattle.kheap_slabs.specs.Counts.{with_count}
+use Rattle.kheap_slabs.specs.Objects.{object, InUse, put, without}
+use Rattle.kheap_slabs.specs.Purse.{Purse}
+use Rattle.kheap_slabs.specs.declared.objects.Chunk.{Chunk}
+use Rattle.kheap_slabs.specs.declared.objects.QueueParts.{QueueParts}
 use Rattle.kheap_slabs.specs.Heap.{Heap, IsWellFormed}
 use Rattle.kheap_slabs.specs.Keys.{ChangesKeys}
 use Rattle.kheap_slabs.specs.Owners.{Owners, with_queue, IsOwned, QueueChanges}
 use Rattle.kheap_slabs.specs.Queues.{OwnsChunks, empty_queue, last_of}
-use Rattle.kheap_shelves.proofs.ObjectLemmas.{InUse-within, object-put, object-put_other, object-without, object-without_other}
+use Rattle.kheap_slabs.proofs.ObjectLemmas.{InUse-within, object-put, object-put_other, object-without, object-without_other}
 use Rattle.kheap_laws.proofs.OnceLemmas.{Contains-single, IsOnce-head, IsOnce-apart}
 use Rattle.kheap_laws.proofs.OutsideLemmas.{KeepsOutside-without}
 use Rattle.kheap_laws.proofs.KeyLemmas.{contains_or_not}

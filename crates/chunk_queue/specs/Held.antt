@@ -1,11 +1,11 @@
 -- The bytes of the queues that pipes and sockets of a heap have, and what a change of one leaves to the others.
 use Rattle.std.specs.Prelude.{◌≡◌, ◌≢◌, ℕ, List, Option, Some}
 use Rattle.std.specs.List.{Contains}
-use Rattle.kheap_shelves.specs.Objects.{object, InUse}
-use Rattle.kheap_shelves.specs.declared.objects.Chunk.{Chunk}
-use Rattle.kheap_shelves.specs.declared.objects.Pipe.{Pipe}
-use Rattle.kheap_shelves.specs.declared.objects.QueueParts.{QueueParts}
-use Rattle.kheap_shelves.specs.declared.objects.Sock.{Sock}
+use Rattle.kheap_slabs.specs.Objects.{object, InUse}
+use Rattle.kheap_slabs.specs.declared.objects.Chunk.{Chunk}
+use Rattle.kheap_slabs.specs.declared.objects.Pipe.{Pipe}
+use Rattle.kheap_slabs.specs.declared.objects.QueueParts.{QueueParts}
+use Rattle.kheap_slabs.specs.declared.objects.Sock.{Sock}
 use Rattle.kheap_slabs.specs.Heap.{Heap}
 use Rattle.kheap_slabs.specs.Owners.{OwnsItsObjects}
 use Rattle.kheap_slabs.specs.Queues.{OwnsChunks}

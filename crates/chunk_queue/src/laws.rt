@@ -1,10 +1,10 @@
 //! Laws of queues in the heap. Each is the contract of a function that does nothing.
 
 ghost use Rattle.std.specs.Prelude.{◌≡◌, ℕ, ◌+◌, ◌*◌, ◌++◌, List, Some, [], sum_by};
-ghost use Rattle.kheap_shelves.specs.Objects.{object, count, put, without};
-ghost use Rattle.kheap_shelves.specs.declared.objects.Pipe.{Pipe};
-ghost use Rattle.kheap_shelves.specs.declared.objects.QueueParts.{QueueParts};
-ghost use Rattle.kheap_shelves.specs.declared.objects.Sock.{Sock};
+ghost use Rattle.kheap_slabs.specs.Objects.{object, count, put, without};
+ghost use Rattle.kheap_slabs.specs.declared.objects.Pipe.{Pipe};
+ghost use Rattle.kheap_slabs.specs.declared.objects.QueueParts.{QueueParts};
+ghost use Rattle.kheap_slabs.specs.declared.objects.Sock.{Sock};
 ghost use Rattle.kheap_slabs.specs.Heap.{Heap, live_bytes};
 ghost use Rattle.kheap_slabs.specs.Owners.{Owners, with_queue, IsOwned, OwnsItsObjects, pipe_queues, sock_queues};
 ghost use Rattle.kheap_slabs.specs.Queues.{empty_queue};

@@ -1,16 +1,15 @@
 //! `Queue` and its calls. A clause sees a queue as its parts.
 ghost use Rattle.std.specs.Prelude.{◌≡◌, ◌↔◌, IsTrue, ℕ, ◌+◌, ◌-◌, ◌/◌, ◌%◌, ◌<◌, ◌≤◌, ◌++◌, List, None, Some, [], length, take, drop, min};
-ghost use Rattle.kabi_values.specs.declared.classes.Class.TheVariants as class;
-ghost use Rattle.kheap_shelves.specs.Counts.{counted, with_count};
-ghost use Rattle.kheap_shelves.specs.Objects.{object, InUse, put};
-ghost use Rattle.kheap_shelves.specs.declared.objects.Chunk.{Chunk as ChunkOf};
+ghost use Rattle.kabi_types.specs.declared.classes.Class.TheVariants as class;
+ghost use Rattle.kheap_slabs.specs.Counts.{counted, with_count};
+ghost use Rattle.kheap_slabs.specs.Objects.{object, InUse, put};
+ghost use Rattle.kheap_slabs.specs.declared.objects.Chunk.{Chunk as ChunkOf};
 ghost use Rattle.kheap_slabs.specs.Paid.{CanPay, IsPaid, TakesNothing};
 ghost use Rattle.posix_defs.specs.QueuePlace.{chunks_of, after_put, after_take};
 ghost use Rattle.chunk_queue.specs.Chained.{place_of, IsQueueIn, Turns, OnlyChunks, PaysChunks, TakesOut};
 
 use kabi_types::Class;
-use kheap_shelves::{Chunk, Purse, QueueParts};
-use kheap_slabs::KHeap;
+use kheap_slabs::{Chunk, KHeap, Purse, QueueParts};
 use std::marker::Model;
 
 /// How many bytes a chunk has.
@@ -31,7 +30,7 @@ pub struct Queue {
 }
 
 impl Model for Queue {
-    ghost use Rattle.kheap_shelves.specs.declared.objects.QueueParts.{QueueParts as Parts};
+    ghost use Rattle.kheap_slabs.specs.declared.objects.QueueParts.{QueueParts as Parts};
 
     ghost Value = { Parts };
 

@@ -4,7 +4,7 @@ ghost use Rattle.std.specs.Prelude.{◌≡◌, ◌-◌, ◌≤◌, Bool, IfSome,
 ghost use Rattle.posix_defs.specs.Pipe.{capacity, Moves, not_now as waiting};
 ghost use Rattle.posix_defs.specs.Sockets.{write_within};
 
-use kheap_shelves::QueueParts;
+use kheap_slabs::QueueParts;
 
 /// How many bytes the queue of a pipe or of a socket holds at most.
 const CAPACITY: u32 = 4096;

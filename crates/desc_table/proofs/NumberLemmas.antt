@@ -5,7 +5,7 @@ use Rattle.std.specs.Option.{option_map}
 use Rattle.std.specs.List.{position_from}
 use Rattle.std.proofs.lemmas.List.Sums.{sum_by-cons}
 use Rattle.std.proofs.lemmas.List.{drop_all, get_or_past, map-set}
-use Rattle.kheap_shelves.specs.declared.objects.Descriptor.{Descriptor as Held}
+use Rattle.kheap_slabs.specs.declared.objects.Descriptor.{Descriptor as Held}
 use Rattle.posix_defs.specs.Files.Descriptors.{Descriptor, Descriptors, descriptor_at, lowest_free_from, open_count}
 use Rattle.desc_table.specs.Numbered.{descriptor_in, descriptors_in, number_of}
 

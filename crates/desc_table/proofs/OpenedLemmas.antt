@@ -7,15 +7,15 @@ use Rattle.chunk_queue.proofs.HeldLemmas.{HasBytes-same}
 use Rattle.chunk_queue.proofs.JoinedLemmas.{Contains-cons, Contains-cons_cases}
 use Rattle.kheap_laws.proofs.OnceLemmas.{Contains-single}
 use Rattle.kheap_laws.proofs.TableLemmas.{OwnsItsObjects-along}
-use Rattle.kheap_shelves.specs.Objects.{object, InUse, put}
-use Rattle.kheap_shelves.proofs.ObjectLemmas.{object_of}
-use Rattle.kheap_shelves.specs.declared.objects.Access.{Access}
-use Rattle.kheap_shelves.specs.declared.objects.Access.TheVariants as mode
-use Rattle.kheap_shelves.specs.declared.objects.Desc.{Desc}
-use Rattle.kheap_shelves.specs.declared.objects.Pipe.{Pipe as HeldPipe}
-use Rattle.kheap_shelves.specs.declared.objects.Sock.{Sock as HeldSock}
-use Rattle.kheap_shelves.specs.declared.objects.Target.{Target}
-use Rattle.kheap_shelves.specs.declared.objects.Target.TheVariants as target
+use Rattle.kheap_slabs.specs.Objects.{object, InUse, put}
+use Rattle.kheap_slabs.proofs.ObjectLemmas.{object_of}
+use Rattle.kheap_slabs.specs.declared.objects.Access.{Access}
+use Rattle.kheap_slabs.specs.declared.objects.Access.TheVariants as mode
+use Rattle.kheap_slabs.specs.declared.objects.Desc.{Desc}
+use Rattle.kheap_slabs.specs.declared.objects.Pipe.{Pipe as HeldPipe}
+use Rattle.kheap_slabs.specs.declared.objects.Sock.{Sock as HeldSock}
+use Rattle.kheap_slabs.specs.declared.objects.Target.{Target}
+use Rattle.kheap_slabs.specs.declared.objects.Target.TheVariants as target
 use Rattle.kheap_slabs.specs.Heap.{Heap}
 use Rattle.kheap_slabs.specs.Owners.{OwnsItsObjects}
 use Rattle.posix_defs.specs.Files.Descriptions.{may_read, may_write}

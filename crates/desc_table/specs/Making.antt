@@ -1,9 +1,9 @@
 -- A Desc is made.
 use Rattle.std.specs.Prelude.{◌≡◌, ◌<◌, ℕ, false, length, None}
-use Rattle.kheap_shelves.specs.Objects.{object, put}
-use Rattle.kheap_shelves.specs.declared.objects.Access.{Access}
-use Rattle.kheap_shelves.specs.declared.objects.Desc.{Desc}
-use Rattle.kheap_shelves.specs.declared.objects.Target.{Target}
+use Rattle.kheap_slabs.specs.Objects.{object, put}
+use Rattle.kheap_slabs.specs.declared.objects.Access.{Access}
+use Rattle.kheap_slabs.specs.declared.objects.Desc.{Desc}
+use Rattle.kheap_slabs.specs.declared.objects.Target.{Target}
 use Rattle.kheap_slabs.specs.Heap.{Heap}
 
 -- a Desc that one descriptor names, at the front of what it is open on

@@ -1,7 +1,7 @@
 -- The descriptors of a process as its Proc keeps them.
 use Rattle.std.specs.Prelude.{ℕ, ℤ, pos, negsuc, List, map, Option, None, Some}
 use Rattle.std.specs.Option.{option_map}
-use Rattle.kheap_shelves.specs.declared.objects.Descriptor.{Descriptor as HeldDescriptor}
+use Rattle.kheap_slabs.specs.declared.objects.Descriptor.{Descriptor as HeldDescriptor}
 use Rattle.posix_defs.specs.Files.Descriptors.{Descriptor, Descriptors}
 
 -- a descriptor as it is kept: the place of its description is the key of its Desc

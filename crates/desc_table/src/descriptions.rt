@@ -1,6 +1,6 @@
 ghost use Rattle.std.specs.Prelude.{◌≡◌, ◌+◌, ◌<◌, ℕ, List, ◌∷◌, Some};
-ghost use Rattle.kheap_shelves.specs.Objects.{object, InUse, put};
-ghost use Rattle.kheap_shelves.specs.declared.objects.Desc.{Desc as HeldDesc};
+ghost use Rattle.kheap_slabs.specs.Objects.{object, InUse, put};
+ghost use Rattle.kheap_slabs.specs.declared.objects.Desc.{Desc as HeldDesc};
 ghost use Rattle.kheap_slabs.specs.Owners.{OwnsItsObjects};
 ghost use Rattle.kheap_slabs.specs.Paid.{TakesNothing};
 ghost use Rattle.posix_defs.specs.Files.Descriptions.{may_write as plain_may_write};
@@ -14,8 +14,7 @@ ghost use Rattle.open_laws.specs.Sharing.{CanShare, after_shares, hand_with, sha
 ghost use Rattle.pipe_ends.specs.Standing.{HasEndAt};
 ghost use Rattle.usock_core.specs.Standing.{IsClosableIn};
 
-use kheap_shelves::{Access, Desc, Descriptor, Target};
-use kheap_slabs::KHeap;
+use kheap_slabs::{Access, Desc, Descriptor, KHeap, Target};
 use pipe_ends::close_end;
 use usock_core::close_sock;
 

@@ -1,6 +1,6 @@
 ghost use Rattle.std.specs.Prelude.{◌≡◌, ◌<◌, ◌≤◌, ℕ, IsSome, None, Some, count_by, is_some, length};
 ghost use Rattle.std.specs.Option.{option_map};
-ghost use Rattle.kabi_calls.specs.Arguments.{most_descriptors};
+ghost use Rattle.kabi_types.specs.Arguments.{most_descriptors};
 ghost use Rattle.posix_defs.specs.Calls.Polling.{polled_at};
 ghost use Rattle.posix_defs.specs.Files.Descriptors.{Descriptor as PlainDescriptor, descriptor_at, descriptor_of, with_descriptor, lowest_free_from, is_cloexec, open_count};
 ghost use Rattle.posix_defs.specs.Files.State.{Files, descriptors_of};
@@ -13,8 +13,7 @@ ghost use Rattle.desc_table.specs.Numbered.{descriptor_in, descriptors_in, numbe
 use crate::descriptions::may_write;
 use chunk_queue::{POLLIN, POLLOUT, event_if};
 use kabi_types::{MOST_DESCRIPTORS, PollEntry};
-use kheap_shelves::{Desc, Descriptor, Target};
-use kheap_slabs::KHeap;
+use kheap_slabs::{Desc, Descriptor, KHeap, Target};
 use pipe_ends::pipe_polled;
 use std::marker::Model;
 use usock_core::sock_polled;
@@ -30,7 +29,7 @@ pub struct Descs {
 
 impl Model for Descs {
     ghost use Rattle.std.specs.Prelude.{◌≡◌, length};
-    ghost use Rattle.kabi_calls.specs.Arguments.{most_descriptors};
+    ghost use Rattle.kabi_types.specs.Arguments.{most_descriptors};
     ghost use Rattle.posix_defs.specs.Files.Descriptors.{Descriptors};
     ghost use Rattle.desc_table.specs.Numbered.{descriptor_in, descriptors_in};
 

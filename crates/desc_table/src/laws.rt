@@ -1,7 +1,7 @@
 //! Laws of descriptors that come and go. Each is the contract of a function that does nothing.
 
 ghost use Rattle.std.specs.Prelude.{◌≡◌, ◌+◌, ◌<◌, ◌↔◌, ℕ, List, [], None};
-ghost use Rattle.kheap_shelves.specs.Objects.{object, InUse};
+ghost use Rattle.kheap_slabs.specs.Objects.{object, InUse};
 ghost use Rattle.kheap_slabs.specs.Heap.{Heap};
 ghost use Rattle.open_laws.specs.Owned.{HasItsOwners, desc_count_at, namings_of};
 ghost use Rattle.desc_table.specs.Going.{Goes, times};

@@ -6,7 +6,7 @@ use Rattle.std.proofs.lemmas.Bool.{cases_lt, cases_eq, le-ltb}
 use Rattle.std.proofs.lemmas.List.{take_at, drop_at, drop-drop, take-replicate, drop-replicate, get_or-replicate, get_or_past, get_or_append_left, append-nil, length-replicate}
 use Rattle.std.proofs.lemmas.List.FromFn.{fill_by_all}
 use Rattle.std.proofs.lemmas.Nat.Bits.{bit_at_ones, bit_at_ones_above}
-use Rattle.kabi_values.specs.declared.inodes.Inode.{Inode}
+use Rattle.kabi_types.specs.declared.inodes.Inode.{Inode}
 use Rattle.posix_defs.specs.DiskFormat.{block_size, table_end, table_nodes, IsPointer, IsInode, IsEntry, inode_bytes, entry_bytes}
 use Rattle.posix_defs.specs.SoundDisk.{block_bytes, table_bytes, HasInode, Place, Data, Pointers, HasPlace, named_at, IsNamed, map_bit, IsMarked, Sound}
 use Rattle.posix_defs.specs.DiskContents.{data_block, byte_at, node_bytes, IsDirectoryOf, entry_for, own_name, parent_name, zeros, first_marked, new_root, new_entries, IsFormatted}

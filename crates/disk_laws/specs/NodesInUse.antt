@@ -1,6 +1,6 @@
 -- A node in use, seen from its tree and from its disk.
 use Rattle.std.specs.Prelude.{ℕ, ◌≡◌, List, Option, Some}
-use Rattle.kabi_values.specs.declared.inodes.Inode.{Inode}
+use Rattle.kabi_types.specs.declared.inodes.Inode.{Inode}
 use Rattle.posix_defs.specs.SoundDisk.{HasNode}
 use Rattle.posix_defs.specs.DiskTree.{HasContent}
 use Rattle.posix_defs.specs.Tree.{Node, IsInodeOf}

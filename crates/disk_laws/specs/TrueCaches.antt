@@ -1,7 +1,7 @@
 -- Caches that are true of a disk: each cached name, inode and block is what the disk says now.
 use Rattle.std.specs.Prelude.{ℕ, ◌≡◌, List, Option, Some, slice_get}
-use Rattle.kabi_values.specs.declared.inodes.Inode.{Inode}
-use Rattle.kabi_values.specs.declared.inodes.DirEntry.{DirEntry}
+use Rattle.kabi_types.specs.declared.inodes.Inode.{Inode}
+use Rattle.kabi_types.specs.declared.inodes.DirEntry.{DirEntry}
 use Rattle.posix_defs.specs.SoundDisk.{HasInode, HasNode}
 use Rattle.posix_defs.specs.DiskContents.{HasEntries, Finds}
 

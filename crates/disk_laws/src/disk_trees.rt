@@ -1,7 +1,7 @@
 //! Laws of disks that stand for a tree. Each is the contract of a function that does nothing.
 
 ghost use Rattle.std.specs.Prelude.{◌≡◌, ◌≢◌, ℕ, ◌<◌, ◌≤◌, ◌↔◌, List, Option, Some, None};
-ghost use Rattle.kabi_values.specs.declared.inodes.Inode.{Inode};
+ghost use Rattle.kabi_types.specs.declared.inodes.Inode.{Inode};
 ghost use Rattle.posix_defs.specs.DiskFormat.{table_nodes};
 ghost use Rattle.posix_defs.specs.SoundDisk.{HasNode, IsFreeNode, IsLowestFreeNode, free_in_map};
 ghost use Rattle.posix_defs.specs.DiskContents.{IsFormatted, own_name, parent_name};

@@ -4,7 +4,7 @@ use Rattle.std.specs.Prelude.{IfSome}
 use Rattle.std.specs.Int.{w32, to_be_bytes}
 use Rattle.std.proofs.lemmas.Bool.{cases_lt}
 use Rattle.std.proofs.lemmas.List.{length-replicate, length-drop, length-take, length-append, take_all, drop_more, get_or-take, get_or_past, take-append-drop}
-use Rattle.kabi_values.specs.declared.inodes.DirEntry.{DirEntry}
+use Rattle.kabi_types.specs.declared.inodes.DirEntry.{DirEntry}
 use Rattle.disk_layout.specs.declared.faults.BadEntry.{BadEntry}
 use Rattle.posix_defs.specs.DiskFormat.{IsName, IsEntry, entry_bytes}
 use Rattle.disk_layout.proofs.WordBytes.{cut, all_zeros}

@@ -1,6 +1,6 @@
 -- What is wrong with bytes that no inode of a disk has.
 use Rattle.std.specs.Prelude.{ℕ, ◌≡◌, List}
-use Rattle.kabi_values.specs.declared.inodes.Inode.{Inode}
+use Rattle.kabi_types.specs.declared.inodes.Inode.{Inode}
 use Rattle.posix_defs.specs.DiskFormat.{Fits, IsOfKind, HasPointers, inode_bytes}
 use Rattle.disk_layout.specs.declared.faults.BadInode.{BadInode}
 use Rattle.disk_layout.specs.declared.faults.BadInode.TheVariants.{BadKind, BadPointer}

@@ -1,7 +1,7 @@
 //! A directory entry as the 32 bytes that a disk has of it.
 
 ghost use Rattle.std.specs.Prelude.{◌≡◌, ℕ, ◌-◌, ◌<◌, ◌≢◌, ◌++◌, ◌↔◌, List, length, take, replicate, slice_index, EachIndex, IsTrue, IfOk, Ok, Some, IfSome};
-ghost use Rattle.kabi_values.specs.declared.inodes.DirEntry.{DirEntry};
+ghost use Rattle.kabi_types.specs.declared.inodes.DirEntry.{DirEntry};
 ghost use Rattle.posix_defs.specs.DiskFormat.{IsName, IsEntry, entry_bytes};
 
 use crate::faults::BadEntry;

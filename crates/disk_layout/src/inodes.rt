@@ -3,7 +3,7 @@
 ghost use Rattle.std.specs.Prelude.{◌≡◌, ℕ, ◌*◌, ◌<◌, ◌↔◌, length, take, drop, nat_lt, slice_index, EachIndex, IsTrue, IfOk, IfErr, Ok, IfSome, IfNone};
 ghost use Rattle.std.specs.Int.{w16, w32, to_be_bytes};
 ghost use Rattle.std.specs.List.{flat_map};
-ghost use Rattle.kabi_values.specs.declared.inodes.Inode.{Inode};
+ghost use Rattle.kabi_types.specs.declared.inodes.Inode.{Inode};
 ghost use Rattle.posix_defs.specs.DiskFormat.{direct_pointers, block_size, IsPointer, Fits, IsOfKind, HasPointers, IsInode, inode_bytes};
 ghost use Rattle.disk_layout.specs.Faults.{IsFault};
 

@@ -1,7 +1,7 @@
 //! A block of the table: 16 slots, each with the inode of one node.
 
 ghost use Rattle.std.specs.Prelude.{◌≡◌, ◌≢◌, ℕ, ◌<◌, IfOk, IfErr, Ok};
-ghost use Rattle.kabi_values.specs.declared.inodes.Inode.{Inode};
+ghost use Rattle.kabi_types.specs.declared.inodes.Inode.{Inode};
 ghost use Rattle.posix_defs.specs.DiskFormat.{inodes_in_block, IsInode, inode_bytes};
 ghost use Rattle.posix_defs.specs.SoundDisk.{slot_bytes};
 ghost use Rattle.disk_layout.specs.Faults.{IsFault};

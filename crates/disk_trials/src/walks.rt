@@ -2,7 +2,7 @@ ghost use Rattle.std.specs.Prelude.{◌≡◌, ◌≤◌, ◌∷◌, [], true, N
 ghost use Rattle.std.specs.Option.{option_map};
 ghost use Rattle.posix_defs.specs.DiskContents.{entry_for};
 ghost use Rattle.posix_defs.specs.Tree.{Directory, File, SocketName, is_directory};
-ghost use Rattle.kabi_calls.specs.Arguments.{path_fault};
+ghost use Rattle.kabi_types.specs.Arguments.{path_fault};
 ghost use Rattle.posix_defs.specs.NodeLists.{node_listed, tree_listed};
 ghost use Rattle.path_walk.specs.SmallTree.{small_tree};
 

@@ -1,11 +1,11 @@
 -- A call on files has changed the objects of a store, and its caller goes on.
 use Rattle.std.proofs.Common.{◌≡◌, ℕ, ℤ, List, [], Option, refl, ap, sym, ◌∙◌, subst}
 use Rattle.std.specs.Prelude.{IsSome}
-use Rattle.kabi_calls.specs.declared.calls.Call.{Call}
+use Rattle.kabi_types.specs.declared.calls.Call.{Call}
 use Rattle.kabi_types.specs.declared.scripts.Control.{Control}
 use Rattle.kabi_types.specs.declared.scripts.Script.{Script}
-use Rattle.kabi_values.specs.declared.replies.Reply.{Reply}
-use Rattle.kheap_shelves.specs.declared.objects.Sock.{Sock}
+use Rattle.kabi_types.specs.declared.replies.Reply.{Reply}
+use Rattle.kheap_slabs.specs.declared.objects.Sock.{Sock}
 use Rattle.kheap_slabs.specs.Heap.{Heap, IsWellFormed}
 use Rattle.memfs_ops.specs.FileTree.{TreeView}
 use Rattle.open_laws.specs.Owned.{HasItsOwners}

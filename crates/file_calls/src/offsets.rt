@@ -1,8 +1,8 @@
 //! The calls on where a description stands and on how long a file is: `lseek` and `ftruncate`.
 
 ghost use Rattle.std.specs.Prelude.{◌≡◌, None};
-ghost use Rattle.kabi_calls.specs.Arguments.{argument_fault};
-ghost use Rattle.kabi_calls.specs.declared.calls.Call.{Call};
+ghost use Rattle.kabi_types.specs.Arguments.{argument_fault};
+ghost use Rattle.kabi_types.specs.declared.calls.Call.{Call};
 ghost use Rattle.kheap_slabs.specs.Paid.{IsPaid, TakesNothing};
 ghost use Rattle.memfs_ops.specs.Fetching.{MayFetch};
 ghost use Rattle.posix_defs.specs.Calls.OnFiles.{ftruncate, lseek};
@@ -16,7 +16,7 @@ ghost use Rattle.store_objects.specs.declared.purses.Target.TheVariants.{File};
 
 use crate::replies::{offset, zero};
 use kabi_types::{Control, Script};
-use kheap_shelves::Purse;
+use kheap_slabs::Purse;
 use posix_defs::Turned;
 use proc_files::{seek_number, size_number};
 use store_objects::{Objects, go_on};

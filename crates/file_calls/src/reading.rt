@@ -1,8 +1,8 @@
 //! The calls that read bytes of files and entries of directories: `read`, `pread` and `readdir`.
 
 ghost use Rattle.std.specs.Prelude.{◌≡◌, None};
-ghost use Rattle.kabi_calls.specs.Arguments.{argument_fault};
-ghost use Rattle.kabi_calls.specs.declared.calls.Call.{Call};
+ghost use Rattle.kabi_types.specs.Arguments.{argument_fault};
+ghost use Rattle.kabi_types.specs.declared.calls.Call.{Call};
 ghost use Rattle.kheap_slabs.specs.Paid.{IsPaid};
 ghost use Rattle.memfs_ops.specs.Fetching.{MayFetch};
 ghost use Rattle.posix_defs.specs.Calls.Reading.{pread, read, readdir};
@@ -17,7 +17,7 @@ ghost use Rattle.store_objects.specs.declared.purses.Target.TheVariants.{File};
 
 use crate::replies::count;
 use kabi_types::{Control, Script};
-use kheap_shelves::Purse;
+use kheap_slabs::Purse;
 use posix_defs::Turned;
 use proc_files::{FileBuffer, pread_file, read_entries, read_file};
 use store_objects::{Objects, go_on};

@@ -1,9 +1,9 @@
 -- A call on files is over, and its caller goes on in the world that its answer reaches.
 use Rattle.std.proofs.Common.{◌≡◌, ℕ, ◌+◌, ◌≤◌, true, length, refl, ap, sym, ◌∙◌, subst, arith}
-use Rattle.kabi_calls.specs.declared.calls.Call.{Call}
+use Rattle.kabi_types.specs.declared.calls.Call.{Call}
 use Rattle.kabi_types.specs.declared.scripts.Script.{Script}
-use Rattle.kabi_values.specs.declared.replies.Reply.{Reply}
-use Rattle.kheap_shelves.specs.Objects.{count}
+use Rattle.kabi_types.specs.declared.replies.Reply.{Reply}
+use Rattle.kheap_slabs.specs.Objects.{count}
 use Rattle.memfs_ops.specs.FileTree.{Stands}
 use Rattle.posix_defs.specs.Answer.{Answer}
 use Rattle.posix_defs.specs.Needs.{need_of}

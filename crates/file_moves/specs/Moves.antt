@@ -1,7 +1,7 @@
 -- What a call on files changes of a store, and what it leaves of it.
 use Rattle.std.specs.Prelude.{◌+◌, ◌≡◌, ◌≤◌, [], length}
-use Rattle.kabi_calls.specs.declared.calls.Call.{Call}
-use Rattle.kheap_shelves.specs.Objects.{count}
+use Rattle.kabi_types.specs.declared.calls.Call.{Call}
+use Rattle.kheap_slabs.specs.Objects.{count}
 use Rattle.kheap_slabs.specs.Keys.{AreKeysOf}
 use Rattle.open_laws.specs.Owned.{HasItsOwners}
 use Rattle.open_moves.specs.Moves.{ProcsStay}

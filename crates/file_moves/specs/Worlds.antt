@@ -1,8 +1,8 @@
 -- The worlds that a store stands for once a call on files has changed it.
 use Rattle.std.specs.Prelude.{ℕ, ◌≡◌, true, false}
-use Rattle.kabi_calls.specs.declared.calls.Call.{Call}
+use Rattle.kabi_types.specs.declared.calls.Call.{Call}
 use Rattle.kabi_types.specs.declared.scripts.Script.{Script}
-use Rattle.kabi_values.specs.declared.replies.Reply.{Reply}
+use Rattle.kabi_types.specs.declared.replies.Reply.{Reply}
 use Rattle.memfs_ops.specs.FileTree.{Stands}
 use Rattle.posix_defs.specs.Account.{Account}
 use Rattle.posix_defs.specs.Answer.{Answer, Blocked, Done, Ended, Part, replied}

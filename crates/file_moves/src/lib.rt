@@ -2,10 +2,10 @@
 //! on. Each is the contract of a function that does nothing.
 #![tactic(auto)]
 
-ghost use Rattle.kabi_calls.specs.declared.calls.Call.{Call};
+ghost use Rattle.kabi_types.specs.declared.calls.Call.{Call};
 ghost use Rattle.kabi_types.specs.declared.scripts.Control.{Control};
 ghost use Rattle.kabi_types.specs.declared.scripts.Script.{Script};
-ghost use Rattle.kabi_values.specs.declared.replies.Reply.{Reply};
+ghost use Rattle.kabi_types.specs.declared.replies.Reply.{Reply};
 ghost use Rattle.file_moves.specs.Moves.{CachesWithin, FileMoves};
 ghost use Rattle.file_moves.specs.Worlds.{HasAnswered, HasTurned};
 ghost use Rattle.posix_defs.specs.Answer.{Answer};

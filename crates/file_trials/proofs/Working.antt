@@ -1,6 +1,6 @@
 -- The first process goes on working in the root.
 use Rattle.std.proofs.Common.{◌≡◌, [], List, Option, Some, refl, ap, sym, ◌∙◌}
-use Rattle.kheap_shelves.specs.declared.objects.Proc.{Proc}
+use Rattle.kheap_slabs.specs.declared.objects.Proc.{Proc}
 use Rattle.kheap_slabs.specs.Heap.{Heap}
 use Rattle.memfs_ops.specs.FileTree.{TreeView}
 use Rattle.open_laws.specs.Owned.{HasItsOwners}

@@ -1,6 +1,6 @@
 -- The first process works in the root, and heap, table and tree of files stand for some files.
 use Rattle.std.specs.Prelude.{◌≡◌, [], IsSome, Some}
-use Rattle.kheap_shelves.specs.declared.objects.Proc.{Proc}
+use Rattle.kheap_slabs.specs.declared.objects.Proc.{Proc}
 use Rattle.kheap_slabs.specs.Heap.{Heap}
 use Rattle.memfs_ops.specs.FileTree.{TreeView}
 use Rattle.open_laws.specs.Owned.{HasItsOwners}

@@ -7,8 +7,7 @@ ghost use Rattle.proc_files.specs.Closing.{MayClose};
 ghost use Rattle.file_trials.specs.Desks.{HasDesk};
 
 use kabi_types::{Memory, Need};
-use kheap_shelves::Purse;
-use kheap_slabs::KHeap;
+use kheap_slabs::{KHeap, Purse};
 use memfs_ops::FileTree;
 use proc_table::ProcTable;
 use std::alloc::Global;

@@ -2,8 +2,8 @@
 
 ghost use Rattle.std.specs.Prelude.{◌≡◌, ◌<◌, ◌^◌, None, IsTrue};
 ghost use Rattle.std.specs.List.{All};
-ghost use Rattle.kabi_calls.specs.Arguments.{argument_fault};
-ghost use Rattle.kabi_calls.specs.declared.calls.Call.TheVariants.{OpenFile};
+ghost use Rattle.kabi_types.specs.Arguments.{argument_fault};
+ghost use Rattle.kabi_types.specs.declared.calls.Call.TheVariants.{OpenFile};
 ghost use Rattle.file_trials.specs.Desks.{HasDesk};
 
 use crate::desk::{Desk, blocks, walking};

@@ -1,7 +1,7 @@
 -- Which socket of the heap is bound to which node of the tree, and the table that has it by nodes.
 use Rattle.std.specs.Prelude.{ℕ, ◌≡◌, List, Option, None, Some}
-use Rattle.kheap_shelves.specs.Objects.{object, without}
-use Rattle.kheap_shelves.specs.declared.objects.Sock.{Sock}
+use Rattle.kheap_slabs.specs.Objects.{object, without}
+use Rattle.kheap_slabs.specs.declared.objects.Sock.{Sock}
 
 -- the node that a socket is bound to, if it is bound to one
 abbrev pub name_in : Option Sock → Option ℕ

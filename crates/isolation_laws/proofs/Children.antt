@@ -1,8 +1,8 @@
 -- A child begins with what its parent has.
 use Rattle.std.proofs.Common.{◌≡◌, ℕ, suc, ◌+◌, pos, Bool, true, false, cond, [], ◌∷◌, ◌++◌, length, Option, None, Some, refl, ap, ◌∙◌, arith}
-use Rattle.kabi_calls.specs.declared.calls.Call.TheVariants as calls
-use Rattle.kabi_values.specs.declared.errnos.Errno.TheVariants.{EAGAIN}
-use Rattle.kabi_values.specs.declared.replies.Reply.TheVariants.{Val}
+use Rattle.kabi_types.specs.declared.calls.Call.TheVariants as calls
+use Rattle.kabi_types.specs.declared.errnos.Errno.TheVariants.{EAGAIN}
+use Rattle.kabi_types.specs.declared.replies.Reply.TheVariants.{Val}
 use Rattle.kabi_types.specs.declared.scripts.Script.{Script}
 use Rattle.posix_defs.specs.Answer.{failed, replied}
 use Rattle.posix_defs.specs.Forking.{child_of, is_full, with_child}

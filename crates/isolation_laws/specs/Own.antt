@@ -1,8 +1,8 @@
 -- What a process has by itself, and what stays of it while others call.
 use Rattle.std.specs.Prelude.{ℕ, ◌≡◌, ◌≢◌, ℤ, pos, false, Some}
-use Rattle.kabi_calls.specs.declared.calls.Call.{Call}
-use Rattle.kabi_calls.specs.declared.calls.Call.TheVariants.{Kill}
-use Rattle.kabi_values.specs.declared.replies.Reply.TheVariants.{Val}
+use Rattle.kabi_types.specs.declared.calls.Call.{Call}
+use Rattle.kabi_types.specs.declared.calls.Call.TheVariants.{Kill}
+use Rattle.kabi_types.specs.declared.replies.Reply.TheVariants.{Val}
 use Rattle.posix_defs.specs.Answer.{Answer, Done}
 use Rattle.posix_defs.specs.Plain.{Plain, control_of}
 use Rattle.posix_defs.specs.Process.{directory_of, is_alive, memory_of}

@@ -1,11 +1,11 @@
 //! What a process has by itself changes by its own calls alone. Each law is the contract of a function that does nothing.
 
 ghost use Rattle.std.specs.Prelude.{◌≡◌, ◌≢◌, ℕ, true, false};
-ghost use Rattle.kabi_calls.specs.declared.calls.Call.{Call};
-ghost use Rattle.kabi_calls.specs.declared.calls.Call.TheVariants.{Fork};
+ghost use Rattle.kabi_types.specs.declared.calls.Call.{Call};
+ghost use Rattle.kabi_types.specs.declared.calls.Call.TheVariants.{Fork};
 ghost use Rattle.kabi_types.specs.declared.scripts.Script.{Script};
-ghost use Rattle.kabi_values.specs.declared.errnos.Errno.TheVariants.{ENOMEM};
-ghost use Rattle.kabi_values.specs.declared.replies.Reply.TheVariants.{Fail};
+ghost use Rattle.kabi_types.specs.declared.errnos.Errno.TheVariants.{ENOMEM};
+ghost use Rattle.kabi_types.specs.declared.replies.Reply.TheVariants.{Fail};
 ghost use Rattle.posix_defs.specs.Ending.{die};
 ghost use Rattle.posix_defs.specs.Machine.{machine};
 ghost use Rattle.posix_defs.specs.Plain.{Plain, answered};

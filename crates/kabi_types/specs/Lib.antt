@@ -1,8 +1,9 @@
-pub use Rattle.kabi_values.specs.Class
-pub use Rattle.kabi_values.specs.Errno
-pub use Rattle.kabi_values.specs.OpenFlags
-pub use Rattle.kabi_values.specs.Reply
-pub use Rattle.kabi_calls.specs.Call
-pub use Rattle.kabi_calls.specs.PathParts
-pub use Rattle.kabi_calls.specs.Arguments
-pub use Rattle.kabi_calls.specs.Words
+pub mod Class
+pub mod Errno
+pub mod OpenFlags
+pub mod Packed
+pub mod Reply
+pub mod Call
+pub mod PathParts
+pub mod Arguments
+pub mod Words

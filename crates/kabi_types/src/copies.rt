@@ -3,9 +3,9 @@
 ghost use Rattle.std.specs.Prelude.{◌≡◌, IfOk};
 
 use crate::{
-    Chooser, Numbers, Operands, Program, Programs, Script, Statement, Statements, Text, Texts,
+    Chooser, Memory, Numbers, Operands, Program, Programs, Script, Statement, Statements, Text,
+    Texts,
 };
-use kabi_values::Memory;
 use std::alloc::Global;
 
 impl Numbers {

@@ -1,7 +1,6 @@
 ghost use Rattle.std.specs.Prelude.{◌≡◌};
 
-use kabi_calls::CallKind;
-use kabi_values::Reply;
+use crate::{CallKind, Reply};
 
 /// Which of the three caches an evicted object was in.
 #[derive(Clone, Copy, Debug, PartialEq, Eq)]

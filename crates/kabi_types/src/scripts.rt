@@ -1,6 +1,4 @@
-use crate::{Numbers, Operands, Programs, Statements, Texts};
-use kabi_calls::CallKind;
-use kabi_values::Name27;
+use crate::{CallKind, Name27, Numbers, Operands, Programs, Statements, Texts};
 use thiserror::Error;
 
 /// How the score of a process is computed where one has to be killed.

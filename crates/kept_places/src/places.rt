@@ -4,7 +4,7 @@ ghost use Rattle.std.specs.Borrow.{sem};
 ghost use Rattle.kept_places.specs.Places.{IsThere, at, put, there_from, without};
 
 use crate::search::{Kept, index_of};
-use kabi_values::Memory;
+use kabi_types::Memory;
 use std::alloc::Global;
 use std::marker::Model;
 

@@ -1,5 +1,5 @@
 use crate::{Kept, Places};
-use kabi_values::Memory;
+use kabi_types::Memory;
 use std::alloc::Global;
 use std::test::Fail;
 

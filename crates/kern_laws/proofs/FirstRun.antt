@@ -1,11 +1,11 @@
 -- The worked example's run, and two that are none.
 use Rattle.std.proofs.Common.{◌≡◌, ℕ, ◌+◌, ◌<◌, ◌≤◌, pos, [], ◌∷◌, Option, None, Some, refl, ap, ◌∙◌, subst, arith, inl, inr}
 use Rattle.kabi_types.specs.declared.entries.End.TheVariants.{Finished}
-use Rattle.kabi_calls.specs.declared.calls.CallKind.TheVariants as kind
+use Rattle.kabi_types.specs.declared.calls.CallKind.TheVariants as kind
 use Rattle.kabi_types.specs.declared.entries.Entry.{Entry}
 use Rattle.kabi_types.specs.declared.entries.Entry.TheVariants as entry
 use Rattle.kabi_types.specs.declared.entries.Event.TheVariants.{Ask, Admit, Turn}
-use Rattle.kabi_values.specs.declared.replies.Reply.TheVariants.{Val}
+use Rattle.kabi_types.specs.declared.replies.Reply.TheVariants.{Val}
 use Rattle.posix_defs.specs.declared.phases.Asked.{Asked}
 use Rattle.posix_defs.specs.declared.phases.Phase.TheVariants.{User, Waiting, Admitted}
 use Rattle.posix_defs.specs.declared.turner.Turned.TheVariants as turned

@@ -1,14 +1,14 @@
 -- Where a turn, a refusal, an eviction and a kill lead a history, and a world that stands for it.
 use Rattle.std.proofs.Common.{◌≡◌, ℕ, ◌+◌, ◌*◌, ◌<◌, ◌≤◌, true, false, List, ◌∷◌, length, Some, refl, ap, sym, ◌∙◌, subst, arith}
-use Rattle.kabi_calls.specs.Call.{kind_of}
-use Rattle.kabi_values.specs.Class.{size}
-use Rattle.kabi_values.specs.declared.classes.Class.TheVariants as class
-use Rattle.kabi_values.specs.declared.classes.Need.{Need}
+use Rattle.kabi_types.specs.Call.{kind_of}
+use Rattle.kabi_types.specs.Class.{size}
+use Rattle.kabi_types.specs.declared.classes.Class.TheVariants as class
+use Rattle.kabi_types.specs.declared.classes.Need.{Need}
 use Rattle.kabi_types.specs.declared.entries.Cached.{Cached}
 use Rattle.kabi_types.specs.declared.entries.Cached.TheVariants as cached
 use Rattle.kabi_types.specs.declared.entries.Entry.TheVariants as entry
-use Rattle.kabi_values.specs.declared.errnos.Errno.TheVariants.{ENOMEM}
-use Rattle.kabi_values.specs.declared.replies.Reply.TheVariants.{Fail}
+use Rattle.kabi_types.specs.declared.errnos.Errno.TheVariants.{ENOMEM}
+use Rattle.kabi_types.specs.declared.replies.Reply.TheVariants.{Fail}
 use Rattle.kabi_types.specs.declared.scripts.Script.{Script}
 use Rattle.posix_defs.specs.declared.turner.Turned.{Turned}
 use Rattle.posix_defs.specs.declared.turner.Turned.TheVariants as turned

@@ -1,9 +1,9 @@
 -- A worked example: a process makes another, sleeps until that one ends, and is told its status.
 use Rattle.std.specs.Prelude.{ℕ, pos, List, [], ◌∷◌, None, Some, codes}
-use Rattle.kabi_calls.specs.declared.calls.CallKind.TheVariants as kind
+use Rattle.kabi_types.specs.declared.calls.CallKind.TheVariants as kind
 use Rattle.kabi_types.specs.declared.entries.Entry.{Entry}
 use Rattle.kabi_types.specs.declared.entries.Entry.TheVariants as entry
-use Rattle.kabi_values.specs.declared.replies.Reply.TheVariants.{Val, Waited}
+use Rattle.kabi_types.specs.declared.replies.Reply.TheVariants.{Val, Waited}
 use Rattle.kabi_types.specs.declared.scripts.Chooser.TheVariants as chooser
 use Rattle.kabi_types.specs.declared.scripts.Operand.TheVariants.{Number, Reg}
 use Rattle.kabi_types.specs.declared.scripts.Policy.TheVariants.{Heaviest}

@@ -1,6 +1,6 @@
 -- A worked family: the first process, a child of it, and what that child has made.
 use Rattle.std.specs.Prelude.{ℕ, List, [], ◌∷◌, Option, None, Some}
-use Rattle.kabi_values.specs.declared.classes.Weight.{Weight}
+use Rattle.kabi_types.specs.declared.classes.Weight.{Weight}
 use Rattle.posix_defs.specs.Memory.{no_memory}
 use Rattle.posix_defs.specs.Process.{Table, Process, Status, Alive, Ended}
 use Rattle.posix_defs.specs.Plain.{Plain}

@@ -4,7 +4,7 @@
 ghost use Rattle.std.specs.Prelude.{◌≡◌, ℕ, ◌||◌, ◌&&◌, not, true, false, List, [], ◌∷◌, None, Some};
 ghost use Rattle.kabi_types.specs.declared.entries.Entry.{Entry};
 ghost use Rattle.kabi_types.specs.declared.entries.Entry.TheVariants.{Gone};
-ghost use Rattle.kabi_calls.specs.declared.calls.CallKind.{CallKind};
+ghost use Rattle.kabi_types.specs.declared.calls.CallKind.{CallKind};
 ghost use Rattle.kabi_types.specs.declared.scripts.Policy.TheVariants.{Heaviest, Youngest};
 ghost use Rattle.kabi_types.specs.declared.scripts.Script.{Script};
 ghost use Rattle.posix_defs.specs.Process.{Alive, Ended, how_many, parent_of};

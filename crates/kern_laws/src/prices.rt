@@ -1,13 +1,13 @@
 //! Laws of needs and bounds. Each is the contract of a function that does nothing.
 
 ghost use Rattle.std.specs.Prelude.{◌≡◌, ℕ, ℤ, ◌+◌, ◌*◌, ◌≤◌, max, Bool, false, length, Some, None};
-ghost use Rattle.kabi_calls.specs.Arguments.{argument_fault, count_of};
-ghost use Rattle.kabi_calls.specs.Call.{kind_of};
-ghost use Rattle.kabi_values.specs.Class.{size};
-ghost use Rattle.kabi_calls.specs.declared.calls.Call.{Call};
-ghost use Rattle.kabi_calls.specs.declared.calls.Call.TheVariants.{Write, Pwrite};
-ghost use Rattle.kabi_values.specs.declared.classes.Class.TheVariants.{Block, Chunk};
-ghost use Rattle.kabi_values.specs.declared.errnos.Errno.{Errno};
+ghost use Rattle.kabi_types.specs.Arguments.{argument_fault, count_of};
+ghost use Rattle.kabi_types.specs.Call.{kind_of};
+ghost use Rattle.kabi_types.specs.Class.{size};
+ghost use Rattle.kabi_types.specs.declared.calls.Call.{Call};
+ghost use Rattle.kabi_types.specs.declared.calls.Call.TheVariants.{Write, Pwrite};
+ghost use Rattle.kabi_types.specs.declared.classes.Class.TheVariants.{Block, Chunk};
+ghost use Rattle.kabi_types.specs.declared.errnos.Errno.{Errno};
 ghost use Rattle.posix_defs.specs.PriceList.{price_of};
 ghost use Rattle.posix_defs.specs.Needs.{bound, cost, need_of, is_write, stored_bytes};
 ghost use Rattle.posix_defs.specs.Sizes.{bytes_of, no_need};

@@ -1,12 +1,12 @@
 //! Laws of processes. Each is the contract of a function that does nothing.
 
 ghost use Rattle.std.specs.Prelude.{◌≡◌, ◌≢◌, ℕ, ◌+◌, pos, true, false, List, [], ◌∷◌, None, length};
-ghost use Rattle.kabi_calls.specs.declared.calls.Call.{Call};
-ghost use Rattle.kabi_calls.specs.declared.calls.Call.TheVariants.{Fork};
+ghost use Rattle.kabi_types.specs.declared.calls.Call.{Call};
+ghost use Rattle.kabi_types.specs.declared.calls.Call.TheVariants.{Fork};
 ghost use Rattle.kabi_types.specs.declared.entries.Entry.{Entry};
-ghost use Rattle.kabi_values.specs.declared.errnos.Errno.{Errno};
-ghost use Rattle.kabi_values.specs.declared.errnos.Errno.TheVariants.{ENOMEM};
-ghost use Rattle.kabi_values.specs.declared.replies.Reply.TheVariants.{Fail, Val, Waited};
+ghost use Rattle.kabi_types.specs.declared.errnos.Errno.{Errno};
+ghost use Rattle.kabi_types.specs.declared.errnos.Errno.TheVariants.{ENOMEM};
+ghost use Rattle.kabi_types.specs.declared.replies.Reply.TheVariants.{Fail, Val, Waited};
 ghost use Rattle.kabi_types.specs.declared.scripts.Script.{Script};
 ghost use Rattle.posix_defs.specs.Process.{is_alive};
 ghost use Rattle.posix_defs.specs.Plain.{Plain, answered, boot_plain, last_pid};

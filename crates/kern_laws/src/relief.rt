@@ -2,8 +2,8 @@
 
 ghost use Rattle.std.specs.Prelude.{◌≡◌, ◌≢◌, ℕ, ◌+◌, ◌*◌, ◌<◌, ◌≤◌, ◌↔◌, ◌⊎◌, ◌||◌, not, true, false, List, [], None, Some, IsSome, length};
 ghost use Rattle.std.specs.List.{list_any};
-ghost use Rattle.kabi_values.specs.Class.{size};
-ghost use Rattle.kabi_values.specs.declared.classes.Class.TheVariants.{Vnode};
+ghost use Rattle.kabi_types.specs.Class.{size};
+ghost use Rattle.kabi_types.specs.declared.classes.Class.TheVariants.{Vnode};
 ghost use Rattle.kabi_types.specs.declared.entries.Cached.{Cached};
 ghost use Rattle.kabi_types.specs.declared.entries.End.{End};
 ghost use Rattle.kabi_types.specs.declared.entries.End.TheVariants.{Spent, Starved};

@@ -2,14 +2,14 @@
 
 ghost use Rattle.std.specs.Prelude.{◌≡◌, ℕ, ◌<◌, ◌≤◌, List, [], ◌∷◌, None, Some, IsSome, slice_get, length, map, pos};
 ghost use Rattle.std.specs.List.{AllByRecursion};
-ghost use Rattle.kabi_calls.specs.declared.calls.CallKind.{CallKind};
+ghost use Rattle.kabi_types.specs.declared.calls.CallKind.{CallKind};
 ghost use Rattle.kabi_types.specs.declared.entries.End.TheVariants.{Finished};
 ghost use Rattle.kabi_types.specs.declared.entries.Entry.{Entry};
 ghost use Rattle.kabi_types.specs.declared.entries.Entry.TheVariants.{Done, Part, Refused, Slept, Ended};
 ghost use Rattle.kabi_types.specs.declared.entries.Event.{Event};
 ghost use Rattle.kabi_types.specs.declared.entries.Noted.{Noted};
 ghost use Rattle.kabi_types.specs.declared.scripts.Script.{Script};
-ghost use Rattle.kabi_values.specs.declared.replies.Reply.{Reply};
+ghost use Rattle.kabi_types.specs.declared.replies.Reply.{Reply};
 ghost use Rattle.posix_defs.specs.Needs.{bound};
 ghost use Rattle.posix_defs.specs.Sizes.{fixed, room};
 ghost use Rattle.posix_defs.specs.declared.phases.Asked.{Asked};

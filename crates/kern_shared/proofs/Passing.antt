@@ -6,7 +6,7 @@ use mathlib.Core.Option.{some}
 use lib.ListN.{get_elem?}
 use Rattle.atomic_table.proofs.Lists.{at_last, at_longer}
 use Rattle.atomic_table.specs.Seated.{TableId}
-use Rattle.kabi_calls.specs.declared.calls.Call.{Call}
+use Rattle.kabi_types.specs.declared.calls.Call.{Call}
 use Rattle.kabi_types.specs.declared.scripts.Script.{Script}
 use Rattle.kern_events.specs.declared.reliefs.Relief.{Relief}
 use Rattle.kern_events.specs.declared.reliefs.Relief.TheVariants as relief

@@ -1,8 +1,8 @@
 -- What a turn of a held process's call comes to.
 use Rattle.std.specs.Prelude.{◌≡◌, ℕ, ◌+◌, ◌<◌, ◌≤◌, nat_le, cond, Bool, true, false, List, length}
-use Rattle.kabi_calls.specs.Call.{kind_of}
-use Rattle.kabi_calls.specs.declared.calls.Call.{Call}
-use Rattle.kabi_calls.specs.declared.calls.CallKind.{CallKind}
+use Rattle.kabi_types.specs.Call.{kind_of}
+use Rattle.kabi_types.specs.declared.calls.Call.{Call}
+use Rattle.kabi_types.specs.declared.calls.CallKind.{CallKind}
 use Rattle.kabi_types.specs.declared.entries.Entry.TheVariants as entry
 use Rattle.kabi_types.specs.declared.scripts.Script.{Script}
 use Rattle.posix_defs.specs.declared.turner.Turned.{Turned}

@@ -3,13 +3,13 @@ use Rattle.std.specs.Prelude.{◌≡◌, ℕ, ◌+◌, ◌<◌, ◌≤◌, ◌==
 use Rattle.std.specs.List.{AllByRecursion}
 use Rattle.kabi_types.specs.declared.entries.Cached.{Cached}
 use Rattle.kabi_types.specs.declared.entries.Cached.TheVariants as cached
-use Rattle.kabi_calls.specs.Call.{kind_of}
+use Rattle.kabi_types.specs.Call.{kind_of}
 use Rattle.kabi_types.specs.declared.entries.Entry.{Entry}
 use Rattle.kabi_types.specs.declared.entries.Entry.TheVariants as entry
 use Rattle.kabi_types.specs.declared.scripts.Script.{Script}
-use Rattle.kabi_values.specs.Class.{size}
-use Rattle.kabi_values.specs.declared.classes.Class.{Class}
-use Rattle.kabi_values.specs.declared.classes.Class.TheVariants as class
+use Rattle.kabi_types.specs.Class.{size}
+use Rattle.kabi_types.specs.declared.classes.Class.{Class}
+use Rattle.kabi_types.specs.declared.classes.Class.TheVariants as class
 use Rattle.posix_defs.specs.declared.turner.Turned.{Turned}
 use Rattle.posix_defs.specs.CoreEvent.{entry_of, refusal}
 use Rattle.posix_defs.specs.CoreState.{asked_by}

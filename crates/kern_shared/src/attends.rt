@@ -1,7 +1,7 @@
 //! A turn of a held process's call, with what was reserved for it.
 ghost use Rattle.std.specs.Prelude.{◌≡◌, ℕ, ◌+◌, ◌^◌, ◌<◌, ◌≤◌, ◌++◌, ◌∷◌, List, [], length, nat_le, true, vec_len, vec_capacity};
 ghost use Rattle.kabi_types.specs.declared.entries.Entry.TheVariants as entry;
-ghost use Rattle.kabi_calls.specs.Call.{kind_of};
+ghost use Rattle.kabi_types.specs.Call.{kind_of};
 ghost use Rattle.posix_defs.specs.History.{Past};
 ghost use Rattle.posix_defs.specs.Needs.{bound};
 ghost use Rattle.posix_defs.specs.Sizes.{room};

@@ -1,7 +1,7 @@
 //! The kernel that several passes share, and what a pass asks of it.
 ghost use Rattle.std.specs.Prelude.{◌≡◌, ℕ, ◌+◌, ◌<◌, ◌≤◌, None, Some, IfSome, IsSome, cond, nat_le};
 ghost use Rattle.posix_defs.specs.Sizes.{room};
-ghost use Rattle.kabi_calls.specs.declared.calls.Call.{Call};
+ghost use Rattle.kabi_types.specs.declared.calls.Call.{Call};
 ghost use Rattle.charge_words.specs.Names.{seat_of};
 ghost use Rattle.charge_words.specs.Rule.{loaded};
 ghost use Rattle.turn_words.specs.Items.{heard};

@@ -5,10 +5,10 @@ use Rattle.std.proofs.lemmas.List.{take-append-drop}
 use Rattle.std.proofs.lemmas.List.Elements.{Contains-append_cases}
 use Rattle.std.proofs.Math.Seq.{drop-cons}
 use Rattle.slab.proofs.SlabLemmas.{Contains-cons}
-use Rattle.kheap_shelves.specs.Objects.{object, InUse, put, without}
+use Rattle.kheap_slabs.specs.Objects.{object, InUse, put, without}
 use Rattle.kheap_slabs.specs.Keys.{IsOnce}
 use Rattle.kheap_slabs.specs.Paid.{AreFills}
-use Rattle.kheap_shelves.proofs.ObjectLemmas.{object-put_other, object-without_other}
+use Rattle.kheap_slabs.proofs.ObjectLemmas.{object-put_other, object-without_other}
 use Rattle.kheap_laws.proofs.OnceLemmas.{Contains-single, IsOnce-head, IsOnce-tail, IsOnce-push}
 use Rattle.kheap_laws.proofs.KeyLemmas.{Contains-swap, IsOnce-swap}
 

@@ -6,7 +6,7 @@ use Rattle.std.proofs.lemmas.List.Folds.{concat-append}
 use Rattle.std.proofs.lemmas.List.Elements.{Contains-append_left, Contains-append_right, Contains-append_cases}
 use Rattle.std.specs.List.{concat}
 use Rattle.slab.proofs.SlabLemmas.{Contains-cons, Contains-cons_cases}
-use Rattle.kheap_shelves.specs.Objects.{object, InUse}
+use Rattle.kheap_slabs.specs.Objects.{object, InUse}
 use Rattle.kheap_slabs.specs.Keys.{IsOnce, Apart, AreKeysOf, ChangesKeys, Splits}
 use Rattle.kheap_laws.proofs.OnceLemmas.{IsOnce-append, IsOnce-left, IsOnce-right, IsOnce-apart}
 

@@ -1,10 +1,10 @@
 -- Changes of a heap outside which it is the same, one after the other.
 use Rattle.std.proofs.Common.{◌≡◌, ℕ, List, [], ◌∷◌, ◌++◌, Option, refl, ◌∙◌, arith, Contains}
 use Rattle.std.proofs.lemmas.List.Elements.{Contains-append_left, Contains-append_right}
-use Rattle.kheap_shelves.specs.Objects.{put, without}
+use Rattle.kheap_slabs.specs.Objects.{put, without}
 use Rattle.kheap_slabs.specs.Heap.{Heap}
 use Rattle.kheap_slabs.specs.Outside.{KeepsOutside, Keys, both_keys, SameOutside}
-use Rattle.kheap_shelves.proofs.ObjectLemmas.{object-put_other, object-without_other}
+use Rattle.kheap_slabs.proofs.ObjectLemmas.{object-put_other, object-without_other}
 
 module _ {X : Type 0} where
   pub KeepsOutside-refl : (keys : List ℕ) (objects : List (Option X)) → KeepsOutside keys objects objects

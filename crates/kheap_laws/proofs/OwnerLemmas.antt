@@ -6,17 +6,17 @@ use Rattle.std.proofs.lemmas.List.Folds.{sum_by-replicate}
 use Rattle.std.proofs.lemmas.List.Elements.{Contains-append_left, Contains-append_right, Contains-append_cases}
 use Rattle.std.specs.List.{concat}
 use Rattle.slab.proofs.SlabLemmas.{Contains-cons, Contains-cons_cases}
-use Rattle.kabi_values.specs.Class.{size}
-use Rattle.kabi_values.specs.declared.classes.Class.TheVariants as class
-use Rattle.kheap_shelves.specs.Objects.{object, InUse, put, without}
-use Rattle.kheap_shelves.specs.declared.objects.Chunk.{Chunk}
-use Rattle.kheap_shelves.specs.declared.objects.Node.{Node}
+use Rattle.kabi_types.specs.Class.{size}
+use Rattle.kabi_types.specs.declared.classes.Class.TheVariants as class
+use Rattle.kheap_slabs.specs.Objects.{object, InUse, put, without}
+use Rattle.kheap_slabs.specs.declared.objects.Chunk.{Chunk}
+use Rattle.kheap_slabs.specs.declared.objects.Node.{Node}
 use Rattle.kheap_slabs.specs.Heap.{Heap, empty_heap}
 use Rattle.kheap_slabs.specs.Keys.{IsOnce, Apart, AreKeysOf, Splits}
 use Rattle.kheap_slabs.specs.Queues.{OwnedQueue, fresh_queue}
 use Rattle.kheap_slabs.specs.Spaces.{mapped_count, keys_in, OwnsNodes, names_in, page_count, IsCounted}
 use Rattle.kheap_slabs.specs.Owners.{Owners, with_space, with_queue, node_keys, chunk_keys, IsOwned, SpaceChanges, QueueChanges, OwnsItsObjects, spaces_of, pipe_queues, sock_queues}
-use Rattle.kheap_shelves.proofs.ObjectLemmas.{InUse-within, InUse-put, put-within, object-put, object-put_other, object-without, object-without_other}
+use Rattle.kheap_slabs.proofs.ObjectLemmas.{InUse-within, InUse-put, put-within, object-put, object-put_other, object-without, object-without_other}
 use Rattle.kheap_laws.proofs.OnceLemmas.{IsOnce-head, IsOnce-tail, IsOnce-cons, IsOnce-left, IsOnce-apart}
 use Rattle.kheap_laws.proofs.KeyLemmas.{contains_or_not, Splits-to_front, Splits-from_front, AreKeysOf-to_front, AreKeysOf-from_front, ChangesKeys-apart, AreKeysOf-changes, IsOnce-swap}
 use Rattle.kheap_laws.proofs.QueueLemmas.{IsChain-used, OwnsChunks-apart, OwnsChunks-none, OwnsChunks-fresh, OwnsChunks-written}

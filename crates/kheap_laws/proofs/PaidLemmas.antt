@@ -1,14 +1,14 @@
 -- Calls that pay from one purse, one after the other, and calls without a purse.
 use Rattle.std.proofs.Common.{◌≡◌, ℕ, ◌+◌, ◌-◌, ◌<◌, ◌≤◌, ◌⊎◌, max, refl, ap, le_trans, le_refl, inl, inr, ◌∙◌, arith}
-use Rattle.kabi_values.specs.Class.{size}
-use Rattle.kabi_values.specs.declared.classes.Class.{Class}
-use Rattle.kabi_values.specs.declared.classes.Class.TheVariants as class
-use Rattle.kabi_values.specs.declared.classes.Need.{Need}
-use Rattle.kheap_shelves.specs.Counts.{counted, with_count, need_bytes}
-use Rattle.kheap_shelves.specs.Purse.{Purse, left_bytes}
+use Rattle.kabi_types.specs.Class.{size}
+use Rattle.kabi_types.specs.declared.classes.Class.{Class}
+use Rattle.kabi_types.specs.declared.classes.Class.TheVariants as class
+use Rattle.kabi_types.specs.declared.classes.Need.{Need}
+use Rattle.kheap_slabs.specs.Counts.{counted, with_count, need_bytes}
+use Rattle.kheap_slabs.specs.Purse.{Purse, left_bytes}
 use Rattle.kheap_slabs.specs.Heap.{Heap, counts_of, live_bytes, Makes, Frees}
 use Rattle.kheap_slabs.specs.Paid.{CanPay, IsPaid, TakesNothing}
-use Rattle.kheap_shelves.proofs.PurseLemmas.{need_bytes-less, need_bytes-more}
+use Rattle.kheap_slabs.proofs.PurseLemmas.{need_bytes-less, need_bytes-more}
 
 -- where two counts and two others are related class by class, so are their bytes
 need_bytes-sum : (a b c d : Need) → ((class : Class) → counted a class + counted b class ≤ counted c class + counted d class) → need_bytes a + need_bytes b ≤ need_bytes c + need_bytes d

@@ -2,13 +2,13 @@
 use Rattle.std.proofs.Common.{◌≡◌, ◌≢◌, ℕ, ◌+◌, ◌*◌, ◌<◌, ◌≤◌, ◌/◌, List, [], ◌∷◌, ◌++◌, Option, Some, None, length, refl, sym, ◌∙◌, inl, inr, arith, Contains, length-append}
 use Rattle.std.proofs.lemmas.Bool.{cases_eq}
 use Rattle.slab.proofs.SlabLemmas.{Contains-cons, Contains-cons_cases}
-use Rattle.kheap_shelves.specs.Objects.{object, InUse, put}
-use Rattle.kheap_shelves.specs.declared.objects.Chunk.{Chunk}
-use Rattle.kheap_shelves.specs.declared.objects.QueueParts.{QueueParts}
+use Rattle.kheap_slabs.specs.Objects.{object, InUse, put}
+use Rattle.kheap_slabs.specs.declared.objects.Chunk.{Chunk}
+use Rattle.kheap_slabs.specs.declared.objects.QueueParts.{QueueParts}
 use Rattle.kheap_slabs.specs.Outside.{KeepsOutside}
 use Rattle.kheap_slabs.specs.Keys.{Apart, IsOnce}
 use Rattle.kheap_slabs.specs.Queues.{OwnedQueue, fresh_queue, IsChain, last_of, OwnsChunks, QueueBegins, QueueGrows, QueueShrinks}
-use Rattle.kheap_shelves.proofs.ObjectLemmas.{InUse-within, object-put, object-put_other}
+use Rattle.kheap_slabs.proofs.ObjectLemmas.{InUse-within, object-put, object-put_other}
 use Rattle.kheap_laws.proofs.OnceLemmas.{Contains-single, IsOnce-tail, IsOnce-head, IsOnce-push}
 
 module _ {X : Type 0} where

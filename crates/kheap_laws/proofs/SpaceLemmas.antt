@@ -5,16 +5,16 @@ use Rattle.std.specs.Option.{option_map}
 use Rattle.std.specs.List.{sum_by}
 use Rattle.std.proofs.lemmas.List.Elements.{Contains-append_left, Contains-append_right}
 use Rattle.std.proofs.lemmas.List.Sums.{sum_by-cons, sum_by-set}
-use Rattle.kheap_shelves.specs.Objects.{object, InUse, count, put, without}
-use Rattle.kheap_shelves.specs.declared.objects.Node.{Node}
-use Rattle.kheap_shelves.specs.declared.objects.Page.{Page}
-use Rattle.kheap_shelves.specs.declared.objects.PageEntry.{PageEntry}
-use Rattle.kheap_shelves.specs.declared.objects.PageEntry.TheVariants as entry
+use Rattle.kheap_slabs.specs.Objects.{object, InUse, count, put, without}
+use Rattle.kheap_slabs.specs.declared.objects.Node.{Node}
+use Rattle.kheap_slabs.specs.declared.objects.Page.{Page}
+use Rattle.kheap_slabs.specs.declared.objects.PageEntry.{PageEntry}
+use Rattle.kheap_slabs.specs.declared.objects.PageEntry.TheVariants as entry
 use Rattle.kheap_slabs.specs.Heap.{Heap, IsWellFormed}
 use Rattle.kheap_slabs.specs.Outside.{KeepsOutside}
 use Rattle.kheap_slabs.specs.Keys.{Apart}
 use Rattle.kheap_slabs.specs.Spaces.{is_mapped, mapped_count, keys_in, OwnsNodes, NamesNone, names_page, names_in, names_of, page_count, count_at, IsCounted, EntryChanges, CountRises, CountFalls, KeepsBytes}
-use Rattle.kheap_shelves.proofs.ObjectLemmas.{InUse-within, put-within, object-put, object-put_other, object-without, object-without_other}
+use Rattle.kheap_slabs.proofs.ObjectLemmas.{InUse-within, put-within, object-put, object-put_other, object-without, object-without_other}
 
 -- a change of the nodes of one space leaves those of another
 pub OwnsNodes-apart : (changed : List ℕ) (old new : List (Option Node)) (space : List (Option ℕ)) → KeepsOutside changed old new → Apart changed (keys_in space) → OwnsNodes old space → OwnsNodes new space

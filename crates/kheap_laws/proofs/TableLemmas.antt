@@ -1,11 +1,11 @@
 -- The owners of a heap after one process, pipe or socket is put in or taken out.
 use Rattle.std.proofs.Common.{◌≡◌, ℕ, zero, suc, List, [], ◌∷◌, ◌++◌, Option, Some, None, map, refl, sym, ap, ◌∙◌, append_assoc}
 use Rattle.std.proofs.lemmas.List.{set-set, set-get_or, map-append}
-use Rattle.kheap_shelves.specs.Objects.{object, put, without}
-use Rattle.kheap_shelves.specs.declared.objects.Pipe.{Pipe}
-use Rattle.kheap_shelves.specs.declared.objects.Proc.{Proc}
-use Rattle.kheap_shelves.specs.declared.objects.QueueParts.{QueueParts}
-use Rattle.kheap_shelves.specs.declared.objects.Sock.{Sock}
+use Rattle.kheap_slabs.specs.Objects.{object, put, without}
+use Rattle.kheap_slabs.specs.declared.objects.Pipe.{Pipe}
+use Rattle.kheap_slabs.specs.declared.objects.Proc.{Proc}
+use Rattle.kheap_slabs.specs.declared.objects.QueueParts.{QueueParts}
+use Rattle.kheap_slabs.specs.declared.objects.Sock.{Sock}
 use Rattle.kheap_slabs.specs.Heap.{Heap}
 use Rattle.kheap_slabs.specs.Keys.{Splits}
 use Rattle.kheap_slabs.specs.Queues.{OwnedQueue, empty_queue, fresh_queue}

@@ -1,8 +1,8 @@
 ghost use Rattle.std.specs.Prelude.{◌≡◌, ℕ, ◌+◌, ◌/◌, ◌≤◌, List, Option, Some, [], ◌∷◌, ◌++◌, length};
 ghost use Rattle.std.specs.List.{Contains};
-ghost use Rattle.kheap_shelves.specs.Objects.{object, put};
-ghost use Rattle.kheap_shelves.specs.declared.objects.Chunk.{Chunk};
-ghost use Rattle.kheap_shelves.specs.declared.objects.QueueParts.{QueueParts};
+ghost use Rattle.kheap_slabs.specs.Objects.{object, put};
+ghost use Rattle.kheap_slabs.specs.declared.objects.Chunk.{Chunk};
+ghost use Rattle.kheap_slabs.specs.declared.objects.QueueParts.{QueueParts};
 ghost use Rattle.kheap_slabs.specs.Keys.{Apart};
 ghost use Rattle.kheap_slabs.specs.Outside.{KeepsOutside};
 ghost use Rattle.kheap_slabs.specs.Queues.{OwnedQueue, OwnsChunks, QueueBegins, QueueGrows, QueueShrinks};

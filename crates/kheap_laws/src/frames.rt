@@ -1,9 +1,9 @@
 ghost use Rattle.std.specs.Prelude.{◌≡◌, ℕ, ◌+◌, ◌/◌, ◌<◌, ◌≤◌, List, Option, None, Some, if◌then◌else◌, []};
-ghost use Rattle.kheap_shelves.specs.Objects.{object, InUse, put, without};
-ghost use Rattle.kheap_shelves.specs.declared.objects.Node.{Node};
-ghost use Rattle.kheap_shelves.specs.declared.objects.Page.{Page};
-ghost use Rattle.kheap_shelves.specs.declared.objects.PageEntry.{PageEntry};
-ghost use Rattle.kheap_shelves.specs.declared.objects.PageEntry.TheVariants as entry;
+ghost use Rattle.kheap_slabs.specs.Objects.{object, InUse, put, without};
+ghost use Rattle.kheap_slabs.specs.declared.objects.Node.{Node};
+ghost use Rattle.kheap_slabs.specs.declared.objects.Page.{Page};
+ghost use Rattle.kheap_slabs.specs.declared.objects.PageEntry.{PageEntry};
+ghost use Rattle.kheap_slabs.specs.declared.objects.PageEntry.TheVariants as entry;
 ghost use Rattle.kheap_slabs.specs.Heap.{Heap, IsWellFormed};
 ghost use Rattle.kheap_slabs.specs.Keys.{Apart};
 ghost use Rattle.kheap_slabs.specs.Outside.{KeepsOutside};

@@ -1,8 +1,8 @@
 ghost use Rattle.std.specs.Prelude.{◌≡◌, ℕ, ◌<◌, List, Option, None, Some, [], ◌∷◌, length, slice_index_or, slice_set};
 ghost use Rattle.std.specs.List.{Contains};
-ghost use Rattle.kheap_shelves.specs.Objects.{object, put, without};
-ghost use Rattle.kheap_shelves.specs.declared.objects.Chunk.{Chunk};
-ghost use Rattle.kheap_shelves.specs.declared.objects.Node.{Node};
+ghost use Rattle.kheap_slabs.specs.Objects.{object, put, without};
+ghost use Rattle.kheap_slabs.specs.declared.objects.Chunk.{Chunk};
+ghost use Rattle.kheap_slabs.specs.declared.objects.Node.{Node};
 ghost use Rattle.kheap_slabs.specs.Heap.{Heap, empty_heap};
 ghost use Rattle.kheap_slabs.specs.Keys.{Apart, Splits};
 ghost use Rattle.kheap_slabs.specs.Owners.{Owners, with_space, with_queue, IsOwned, SameOwners, SpaceChanges, QueueChanges, OwnsItsObjects};

@@ -1,9 +1,9 @@
 ghost use Rattle.std.specs.Prelude.{◌≡◌, ℕ, ◌+◌, ◌-◌, ◌<◌, ◌≤◌, ◌++◌, List, [], ◌∷◌, Option, None, length, remove, slice_index_or};
-ghost use Rattle.kabi_values.specs.declared.classes.Class.{Class};
-ghost use Rattle.kheap_shelves.specs.Counts.{counted, with_count};
-ghost use Rattle.kheap_shelves.specs.Objects.{object, put, without};
-ghost use Rattle.kheap_shelves.specs.Purse.{Purse, left_bytes};
-ghost use Rattle.kheap_shelves.specs.declared.objects.Block.{Block};
+ghost use Rattle.kabi_types.specs.declared.classes.Class.{Class};
+ghost use Rattle.kheap_slabs.specs.Counts.{counted, with_count};
+ghost use Rattle.kheap_slabs.specs.Objects.{object, put, without};
+ghost use Rattle.kheap_slabs.specs.Purse.{Purse, left_bytes};
+ghost use Rattle.kheap_slabs.specs.declared.objects.Block.{Block};
 ghost use Rattle.kheap_slabs.specs.Heap.{Heap, counts_of, live_bytes, Makes, Frees};
 ghost use Rattle.kheap_slabs.specs.Outside.{Keys, both_keys, SameOutside};
 ghost use Rattle.kheap_slabs.specs.Paid.{CanPay, IsPaid, TakesNothing, AreFills};

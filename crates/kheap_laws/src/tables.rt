@@ -1,8 +1,8 @@
 ghost use Rattle.std.specs.Prelude.{◌≡◌, ℕ, [], None, Some};
-ghost use Rattle.kheap_shelves.specs.Objects.{object, put, without};
-ghost use Rattle.kheap_shelves.specs.declared.objects.Pipe.{Pipe};
-ghost use Rattle.kheap_shelves.specs.declared.objects.Proc.{Proc};
-ghost use Rattle.kheap_shelves.specs.declared.objects.Sock.{Sock};
+ghost use Rattle.kheap_slabs.specs.Objects.{object, put, without};
+ghost use Rattle.kheap_slabs.specs.declared.objects.Pipe.{Pipe};
+ghost use Rattle.kheap_slabs.specs.declared.objects.Proc.{Proc};
+ghost use Rattle.kheap_slabs.specs.declared.objects.Sock.{Sock};
 ghost use Rattle.kheap_slabs.specs.Heap.{Heap};
 ghost use Rattle.kheap_slabs.specs.Owners.{Owners, AreOwnersOf, HasSpaceOut, HasQueueOut, OwnsItsObjects, spaces_of, pipe_queues, sock_queues};
 ghost use Rattle.kheap_slabs.specs.Queues.{OwnedQueue, empty_queue};

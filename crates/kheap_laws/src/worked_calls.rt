@@ -2,11 +2,11 @@
 
 ghost use Rattle.std.specs.Prelude.{◌≡◌, ℕ, ◌<◌, ◌+◌, List, [], ◌∷◌, Option, None, Some, IsSomeAnd, slice_index_or, slice_set};
 ghost use Rattle.std.specs.List.{Contains};
-ghost use Rattle.kabi_values.specs.declared.classes.Class.TheVariants as class;
-ghost use Rattle.kheap_shelves.specs.Counts.{counted};
-ghost use Rattle.kheap_shelves.specs.Objects.{object, InUse};
-ghost use Rattle.kheap_shelves.specs.declared.objects.Node.{Node as NodeOf};
-ghost use Rattle.kheap_shelves.specs.declared.objects.PageEntry.TheVariants as entry;
+ghost use Rattle.kabi_types.specs.declared.classes.Class.TheVariants as class;
+ghost use Rattle.kheap_slabs.specs.Counts.{counted};
+ghost use Rattle.kheap_slabs.specs.Objects.{object, InUse};
+ghost use Rattle.kheap_slabs.specs.declared.objects.Node.{Node as NodeOf};
+ghost use Rattle.kheap_slabs.specs.declared.objects.PageEntry.TheVariants as entry;
 ghost use Rattle.kheap_slabs.specs.Owners.{Owners, with_space, IsOwned, OwnsItsObjects};
 ghost use Rattle.kheap_slabs.specs.Paid.{CanPay, IsPaid, TakesNothing};
 ghost use Rattle.kheap_slabs.specs.Queues.{empty_queue};
@@ -14,8 +14,7 @@ ghost use Rattle.kheap_laws.specs.Worked.{three_pages};
 ghost use Rattle.kheap_slabs.specs.Spaces.{keys_in, count_at, names_page, KeepsBytes};
 
 use kabi_types::Class;
-use kheap_shelves::{Node, PageEntry, Pipe, Purse, QueueParts};
-use kheap_slabs::KHeap;
+use kheap_slabs::{KHeap, Node, PageEntry, Pipe, Purse, QueueParts};
 
 // A pipe without bytes.
 fn pipe_of(readers: u32) -> Pipe

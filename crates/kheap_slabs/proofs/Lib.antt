@@ -1,2 +1,5 @@
-pub use Rattle.kheap_shelves.proofs.ObjectLemmas
+pub mod GivenKeys
+pub mod ObjectLemmas
+pub mod PurseLemmas
+pub mod ShelfLemmas
 pub mod MeterLemmas

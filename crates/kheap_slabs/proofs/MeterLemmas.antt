@@ -2,16 +2,16 @@
 use Rattle.std.proofs.Common.{◌≡◌, ℕ, ◌+◌, ◌/◌, ◌≤◌, List, Option, Some, None, length, replicate, refl, sym, ◌∙◌, inl, inr, arith, length-append, length-drop}
 use Rattle.std.proofs.lemmas.Bool.{cases_eq}
 use Rattle.std.proofs.lemmas.List.{length-replicate, length-set, length-take}
-use Rattle.kabi_values.specs.Class.{size}
-use Rattle.kabi_values.specs.declared.classes.Class.TheVariants as class
-use Rattle.kheap_shelves.specs.Objects.{object, count, put}
-use Rattle.kheap_shelves.specs.Pages.{with_bytes}
-use Rattle.kheap_shelves.specs.declared.objects.Node.{Node}
-use Rattle.kheap_shelves.specs.declared.objects.Page.{Page}
-use Rattle.kheap_shelves.specs.declared.objects.Proc.{Proc}
+use Rattle.kabi_types.specs.Class.{size}
+use Rattle.kabi_types.specs.declared.classes.Class.TheVariants as class
+use Rattle.kheap_slabs.specs.Objects.{object, count, put}
+use Rattle.kheap_slabs.specs.Pages.{with_bytes}
+use Rattle.kheap_slabs.specs.declared.objects.Node.{Node}
+use Rattle.kheap_slabs.specs.declared.objects.Page.{Page}
+use Rattle.kheap_slabs.specs.declared.objects.Proc.{Proc}
 use Rattle.kheap_slabs.specs.Heap.{Heap, empty_heap, live_bytes}
 use Rattle.kheap_slabs.specs.Metered.{IsMetered}
-use Rattle.kheap_shelves.proofs.ObjectLemmas.{InUse-within, count-none, count-put_used, object-none, object-put, object-put_other}
+use Rattle.kheap_slabs.proofs.ObjectLemmas.{InUse-within, count-none, count-put_used, object-none, object-put, object-put_other}
 
 no_objects : (X : Type 0) (limit : ℕ) → count (replicate {A = Option X} limit None) ≡ 0
 no_objects X limit = count-none (replicate limit None) limit refl

@@ -1,7 +1,7 @@
 -- Lists of keys: all that are in use, and those of one owner.
 use Rattle.std.specs.Prelude.{◌≡◌, ◌≢◌, ℕ, ◌<◌, List, ◌∷◌, ◌++◌, ◌⊎◌, Option, None, length, slice_index_or}
 use Rattle.std.specs.List.{Contains}
-use Rattle.kheap_shelves.specs.Objects.{object, InUse}
+use Rattle.kheap_slabs.specs.Objects.{object, InUse}
 use Rattle.kheap_slabs.specs.Outside.{KeepsOutside}
 
 -- no key stands twice

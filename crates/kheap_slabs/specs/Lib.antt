@@ -1,7 +1,9 @@
-pub use Rattle.kheap_shelves.specs.Counts
-pub use Rattle.kheap_shelves.specs.Objects
-pub use Rattle.kheap_shelves.specs.Pages
-pub use Rattle.kheap_shelves.specs.Purse
+pub mod Counts
+pub mod Lending
+pub mod Objects
+pub mod Pages
+pub mod Places
+pub mod Purse
 pub mod Heap
 pub mod Keys
 pub mod Metered

@@ -1,8 +1,8 @@
 -- What the heap's counters say of its objects.
 use Rattle.std.specs.Prelude.{◌≡◌, ℕ, ◌/◌, length}
-use Rattle.kabi_values.specs.Class.{size}
-use Rattle.kabi_values.specs.declared.classes.Class.TheVariants as class
-use Rattle.kabi_values.specs.declared.classes.Need.{Need}
+use Rattle.kabi_types.specs.Class.{size}
+use Rattle.kabi_types.specs.declared.classes.Class.TheVariants as class
+use Rattle.kabi_types.specs.declared.classes.Need.{Need}
 use Rattle.kheap_slabs.specs.Heap.{Heap, live_bytes, IsWellFormed}
 use Rattle.kheap_slabs.specs.declared.kheap.KHeap.TheInside.{Inside}
 

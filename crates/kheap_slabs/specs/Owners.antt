@@ -1,12 +1,12 @@
 -- Who owns which objects: address spaces their nodes, queues their chunks, and page entries the pages that they name.
 use Rattle.std.specs.Prelude.{◌≡◌, ℕ, ◌<◌, List, [], ◌∷◌, ◌++◌, Option, None, Some, map}
 use Rattle.std.specs.List.{Contains, concat}
-use Rattle.kheap_shelves.specs.Objects.{object}
-use Rattle.kheap_shelves.specs.declared.objects.Node.{Node}
-use Rattle.kheap_shelves.specs.declared.objects.Pipe.{Pipe}
-use Rattle.kheap_shelves.specs.declared.objects.Proc.{Proc}
-use Rattle.kheap_shelves.specs.declared.objects.QueueParts.{QueueParts}
-use Rattle.kheap_shelves.specs.declared.objects.Sock.{Sock}
+use Rattle.kheap_slabs.specs.Objects.{object}
+use Rattle.kheap_slabs.specs.declared.objects.Node.{Node}
+use Rattle.kheap_slabs.specs.declared.objects.Pipe.{Pipe}
+use Rattle.kheap_slabs.specs.declared.objects.Proc.{Proc}
+use Rattle.kheap_slabs.specs.declared.objects.QueueParts.{QueueParts}
+use Rattle.kheap_slabs.specs.declared.objects.Sock.{Sock}
 use Rattle.kheap_slabs.specs.Heap.{Heap}
 use Rattle.kheap_slabs.specs.Keys.{AreKeysOf, ChangesKeys}
 use Rattle.kheap_slabs.specs.Queues.{OwnedQueue, OwnsChunks}

@@ -1,10 +1,10 @@
 -- What a call pays from its purse, and what it has filled.
 use Rattle.std.specs.Prelude.{◌≡◌, ℕ, ◌+◌, ◌≤◌, List, Option, length, max}
 use Rattle.std.specs.List.{Contains}
-use Rattle.kabi_values.specs.declared.classes.Class.{Class}
-use Rattle.kheap_shelves.specs.Counts.{counted}
-use Rattle.kheap_shelves.specs.Objects.{InUse}
-use Rattle.kheap_shelves.specs.Purse.{Purse, left_bytes}
+use Rattle.kabi_types.specs.declared.classes.Class.{Class}
+use Rattle.kheap_slabs.specs.Counts.{counted}
+use Rattle.kheap_slabs.specs.Objects.{InUse}
+use Rattle.kheap_slabs.specs.Purse.{Purse, left_bytes}
 use Rattle.kheap_slabs.specs.Heap.{Heap, counts_of, live_bytes}
 use Rattle.kheap_slabs.specs.Keys.{IsOnce}
 

@@ -1,8 +1,8 @@
 -- The chunks of a queue.
 use Rattle.std.specs.Prelude.{◌≡◌, ℕ, ◌+◌, ◌*◌, ◌<◌, ◌≤◌, List, [], ◌∷◌, Option, None, Some, length}
-use Rattle.kheap_shelves.specs.Objects.{object}
-use Rattle.kheap_shelves.specs.declared.objects.Chunk.{Chunk}
-use Rattle.kheap_shelves.specs.declared.objects.QueueParts.{QueueParts}
+use Rattle.kheap_slabs.specs.Objects.{object}
+use Rattle.kheap_slabs.specs.declared.objects.Chunk.{Chunk}
+use Rattle.kheap_slabs.specs.declared.objects.QueueParts.{QueueParts}
 use Rattle.kheap_slabs.specs.Keys.{IsOnce}
 use Rattle.kheap_slabs.specs.Outside.{KeepsOutside}
 

@@ -1,14 +1,16 @@
 ghost use Rattle.std.specs.Prelude.{◌≡◌, ◌+◌, ◌/◌, ◌%◌, ◌^◌, ◌≤◌, IfOk, None, replicate};
-ghost use Rattle.kabi_values.specs.Class.{size};
-ghost use Rattle.kabi_values.specs.declared.classes.Class.TheVariants as class;
+ghost use Rattle.kabi_types.specs.Class.{size};
+ghost use Rattle.kabi_types.specs.declared.classes.Class.TheVariants as class;
 ghost use Rattle.kheap_slabs.specs.Heap.{live_bytes, empty_heap, IsWellFormed};
 
 mod files;
 mod memory;
 mod queues;
 
+use crate::meter::Meter;
+use crate::shelf::Shelf;
+use crate::{Block, Chunk, Desc, Name, Node, Page, Pipe, Proc, Sock, Vnode};
 use kabi_types::{Class, Memory};
-use kheap_shelves::{Block, Chunk, Desc, Meter, Name, Node, Page, Pipe, Proc, Shelf, Sock, Vnode};
 use std::alloc::Global;
 use std::marker::Model;
 

@@ -1,12 +1,12 @@
 -- What it tells of a call that its operands are right and its answer is no errno.
 use Rattle.std.proofs.Common.{◌≡◌, ℕ, ◌&&◌, ◌||◌, nat_lt, not, ℤ, Bool, true, false, cond, List, Option, None, Some, is_some, Result, Ok, Err, refl, ap, sym, ◌∙◌}
 use Rattle.std.specs.Option.{option_or}
-use Rattle.kabi_calls.specs.Arguments.{argument_fault, invalid_unless, path_fault, paths_fault, truncates_unwritten}
-use Rattle.kabi_calls.specs.PathParts.{ends_in_dots}
-use Rattle.kabi_calls.specs.declared.calls.Call.TheVariants as calls
-use Rattle.kabi_values.specs.OpenFlags.{are_open_flags}
-use Rattle.kabi_values.specs.declared.errnos.Errno.{Errno}
-use Rattle.kabi_values.specs.declared.errnos.Errno.TheVariants.{EFBIG, ENOSPC, ENOTDIR}
+use Rattle.kabi_types.specs.Arguments.{argument_fault, invalid_unless, path_fault, paths_fault, truncates_unwritten}
+use Rattle.kabi_types.specs.PathParts.{ends_in_dots}
+use Rattle.kabi_types.specs.declared.calls.Call.TheVariants as calls
+use Rattle.kabi_types.specs.OpenFlags.{are_open_flags}
+use Rattle.kabi_types.specs.declared.errnos.Errno.{Errno}
+use Rattle.kabi_types.specs.declared.errnos.Errno.TheVariants.{EFBIG, ENOSPC, ENOTDIR}
 use Rattle.posix_defs.specs.DiskFormat.{blocks_of, greatest_size}
 use Rattle.posix_defs.specs.FileBytes.{resized}
 use Rattle.posix_defs.specs.PathCalls.{entered, is_socket, is_socket_kind, kind_in, unless}

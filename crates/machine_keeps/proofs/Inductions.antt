@@ -1,8 +1,8 @@
 -- What holds of every machine that is reached: what holds at the beginning, and is kept.
 use Rattle.std.proofs.Common.{◌≡◌, ℕ, true, subst}
-use Rattle.kabi_calls.specs.declared.calls.Call.{Call}
-use Rattle.kabi_values.specs.declared.errnos.Errno.TheVariants.{ENOMEM}
-use Rattle.kabi_values.specs.declared.replies.Reply.TheVariants.{Fail}
+use Rattle.kabi_types.specs.declared.calls.Call.{Call}
+use Rattle.kabi_types.specs.declared.errnos.Errno.TheVariants.{ENOMEM}
+use Rattle.kabi_types.specs.declared.replies.Reply.TheVariants.{Fail}
 use Rattle.kabi_types.specs.declared.scripts.Script.{Script}
 use Rattle.posix_defs.specs.Ending.{die}
 use Rattle.posix_defs.specs.Plain.{Plain, answered, boot_plain, call_of}

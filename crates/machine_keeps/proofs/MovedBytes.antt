@@ -5,7 +5,7 @@ use Rattle.std.specs.List.{All, flat_map, range_with_len}
 use Rattle.std.proofs.lemmas.List.{get_or_past}
 use Rattle.std.proofs.lemmas.List.Concat.{flat_map-cons}
 use Rattle.std.proofs.lemmas.List.Elements.{All-append, All-cons, All-drop, All-get_or, All-head, All-map, All-nil, All-replicate, All-set, All-tail, All-take}
-use Rattle.kabi_values.specs.declared.inodes.DirEntry.{DirEntry}
+use Rattle.kabi_types.specs.declared.inodes.DirEntry.{DirEntry}
 use Rattle.posix_defs.specs.DiskContents.{entry_for, own_name, parent_name}
 use Rattle.posix_defs.specs.DiskFormat.{entry_bytes}
 use Rattle.posix_defs.specs.IsTree.{IsContent, IsEntryName, IsTree}

@@ -4,9 +4,9 @@ use Rattle.std.specs.List.{count_by}
 use Rattle.std.proofs.lemmas.Bool.{leb-true}
 use Rattle.std.proofs.lemmas.Bool.Decides.{eqb_tells}
 use Rattle.std.proofs.lemmas.List.{get_or_past, get_or-set_same, get_or-set_other}
-use Rattle.kabi_calls.specs.Arguments.{count_of}
-use Rattle.kabi_calls.specs.declared.calls.Call.{Call}
-use Rattle.kabi_values.specs.declared.errnos.Errno.TheVariants.{EPIPE}
+use Rattle.kabi_types.specs.Arguments.{count_of}
+use Rattle.kabi_types.specs.declared.calls.Call.{Call}
+use Rattle.kabi_types.specs.declared.errnos.Errno.TheVariants.{EPIPE}
 use Rattle.kabi_types.specs.declared.scripts.Script.{Script}
 use Rattle.posix_defs.specs.Ending.{die}
 use Rattle.posix_defs.specs.Pipe.{Pipe, Moves, Fails, after_close, after_read, after_write, capacity, free_in, new_pipe, not_now, pipe_write, while_open, whole, without_reader, without_writer}

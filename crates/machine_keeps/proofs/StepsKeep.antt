@@ -2,9 +2,9 @@
 use Rattle.std.proofs.Common.{◌≡◌, ℕ, ◌+◌, ◌-◌, ◌%◌, ◌≤◌, ℤ, Bool, true, false, cond, List, [], ◌∷◌, ◌++◌, length, take, drop, Option, None, Some, IsSome, is_some, slice_set, Ok, refl, ap, sym, ◌∙◌, subst, inl, inr, arith, Contains, length-append}
 use Rattle.std.specs.List.{list_any}
 use Rattle.std.proofs.lemmas.List.Elements.{All-append, All-drop, All-nil, All-take}
-use Rattle.kabi_calls.specs.Arguments.{argument_fault, count_of}
-use Rattle.kabi_calls.specs.declared.calls.Call.{Call}
-use Rattle.kabi_calls.specs.declared.calls.Call.TheVariants as calls
+use Rattle.kabi_types.specs.Arguments.{argument_fault, count_of}
+use Rattle.kabi_types.specs.declared.calls.Call.{Call}
+use Rattle.kabi_types.specs.declared.calls.Call.TheVariants as calls
 use Rattle.posix_defs.specs.Ending.{closed_by}
 use Rattle.posix_defs.specs.FileBytes.{overwritten, resized}
 use Rattle.posix_defs.specs.IsTree.{IsTree}

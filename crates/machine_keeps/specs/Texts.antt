@@ -1,7 +1,7 @@
 -- What the calls of a script's programs name.
 use Rattle.std.specs.Prelude.{ℕ, ℤ, ◌<◌, ◌≤◌, ◌^◌, ◌≡◌, List}
 use Rattle.std.specs.List.{All, Contains}
-use Rattle.kabi_calls.specs.declared.calls.Call.TheVariants as calls
+use Rattle.kabi_types.specs.declared.calls.Call.TheVariants as calls
 use Rattle.kabi_types.specs.declared.scripts.Control.{Control}
 use Rattle.kabi_types.specs.declared.scripts.Script.{Script}
 use Rattle.posix_defs.specs.Control.{call_of}

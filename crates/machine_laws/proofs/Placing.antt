@@ -2,12 +2,12 @@
 use Rattle.std.proofs.Common.{◌≡◌, ◌≢◌, ℕ, zero, suc, ◌+◌, ◌<◌, ◌≤◌, pos, Bool, true, false, cond, List, [], ◌∷◌, ◌++◌, length, map, Option, None, Some, refl, ap, sym, ◌∙◌, subst, inl, inr, arith, length-append}
 use Rattle.std.proofs.lemmas.Bool.Decides.{eqb_tells}
 use Rattle.std.proofs.lemmas.List.{length-map}
-use Rattle.kabi_calls.specs.Arguments.{count_of, most_descriptors}
-use Rattle.kabi_calls.specs.declared.calls.Call.{Call}
-use Rattle.kabi_calls.specs.declared.calls.Call.TheVariants as calls
-use Rattle.kabi_values.specs.declared.replies.Reply.{Reply}
-use Rattle.kabi_values.specs.declared.replies.Reply.TheVariants.{Fail, Val}
-use Rattle.kabi_values.specs.declared.errnos.Errno.TheVariants.{EAGAIN}
+use Rattle.kabi_types.specs.Arguments.{count_of, most_descriptors}
+use Rattle.kabi_types.specs.declared.calls.Call.{Call}
+use Rattle.kabi_types.specs.declared.calls.Call.TheVariants as calls
+use Rattle.kabi_types.specs.declared.replies.Reply.{Reply}
+use Rattle.kabi_types.specs.declared.replies.Reply.TheVariants.{Fail, Val}
+use Rattle.kabi_types.specs.declared.errnos.Errno.TheVariants.{EAGAIN}
 use Rattle.kabi_types.specs.declared.scripts.Script.{Script}
 use Rattle.posix_defs.specs.Answer.{Answer, failed, replied}
 use Rattle.posix_defs.specs.ByPid.{with_pid}

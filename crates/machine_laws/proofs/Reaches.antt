@@ -1,7 +1,7 @@
 -- Every machine that is reached keeps what is kept of descriptors and descriptions.
 use Rattle.std.proofs.Common.{◌≡◌, ℕ, true, subst}
-use Rattle.kabi_values.specs.declared.errnos.Errno.TheVariants.{ENOMEM}
-use Rattle.kabi_values.specs.declared.replies.Reply.TheVariants.{Fail}
+use Rattle.kabi_types.specs.declared.errnos.Errno.TheVariants.{ENOMEM}
+use Rattle.kabi_types.specs.declared.replies.Reply.TheVariants.{Fail}
 use Rattle.kabi_types.specs.declared.scripts.Script.{Script}
 use Rattle.posix_defs.specs.Answer.{Answer}
 use Rattle.posix_defs.specs.Plain.{Plain, call_of}

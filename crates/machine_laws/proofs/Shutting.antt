@@ -4,7 +4,7 @@ use Rattle.std.specs.List.{filter, range_with_len}
 use Rattle.std.proofs.lemmas.Bool.Decides.{eqb_tells}
 use Rattle.std.proofs.lemmas.List.{get_or-set_same, get_or-set_other, get_or_past, length-set}
 use Rattle.std.proofs.lemmas.Option.{slice_get_past}
-use Rattle.kabi_calls.specs.Arguments.{most_descriptors}
+use Rattle.kabi_types.specs.Arguments.{most_descriptors}
 use Rattle.posix_defs.specs.ByPid.{at_pid, with_pid}
 use Rattle.posix_defs.specs.Ending.{closed_by}
 use Rattle.posix_defs.specs.TreeChanges.{closed}

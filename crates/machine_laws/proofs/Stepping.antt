@@ -1,10 +1,10 @@
 -- Each answer of each call leads to files that one step leads to.
 use Rattle.std.proofs.Common.{◌≡◌, ℕ, zero, suc, ◌-◌, ◌==◌, ◌&&◌, ◌||◌, nat_lt, ℤ, pos, negsuc, ◌+ℤ◌, Bool, true, false, cond, List, length, Option, None, Some, is_some, Result, Ok, Err, refl, ap, ◌∙◌}
-use Rattle.kabi_calls.specs.Arguments.{argument_fault, count_of, is_minus_one, may_be_descriptor}
-use Rattle.kabi_calls.specs.declared.calls.Call.{Call}
-use Rattle.kabi_calls.specs.declared.calls.Call.TheVariants as call
-use Rattle.kabi_values.specs.declared.errnos.Errno.{Errno}
-use Rattle.kabi_values.specs.declared.replies.StatInfo.{StatInfo}
+use Rattle.kabi_types.specs.Arguments.{argument_fault, count_of, is_minus_one, may_be_descriptor}
+use Rattle.kabi_types.specs.declared.calls.Call.{Call}
+use Rattle.kabi_types.specs.declared.calls.Call.TheVariants as call
+use Rattle.kabi_types.specs.declared.errnos.Errno.{Errno}
+use Rattle.kabi_types.specs.declared.replies.StatInfo.{StatInfo}
 use Rattle.kabi_types.specs.declared.scripts.Script.{Script}
 use Rattle.posix_defs.specs.Answer.{Answer}
 use Rattle.posix_defs.specs.Forking.{fork, is_full}

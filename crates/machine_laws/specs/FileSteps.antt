@@ -1,8 +1,8 @@
 -- How files change in one call: by one step, whatever the machine answers.
 use Rattle.std.specs.Prelude.{ℕ, ◌≡◌, ◌-◌, ◌%◌, ◌==◌, ℤ, Bool, true, false, List, length, Option, None, Some, Ok}
-use Rattle.kabi_calls.specs.Arguments.{count_of, may_be_descriptor}
-use Rattle.kabi_calls.specs.declared.calls.Call.{Call}
-use Rattle.kabi_calls.specs.declared.calls.Call.TheVariants as calls
+use Rattle.kabi_types.specs.Arguments.{count_of, may_be_descriptor}
+use Rattle.kabi_types.specs.declared.calls.Call.{Call}
+use Rattle.kabi_types.specs.declared.calls.Call.TheVariants as calls
 use Rattle.posix_defs.specs.Answer.{Answer, Blocked, Done, Part, Ended}
 use Rattle.posix_defs.specs.Ending.{closed_by}
 use Rattle.posix_defs.specs.Pipe.{Moves, after_read, pipe_read, pipe_write}

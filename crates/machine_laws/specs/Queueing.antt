@@ -1,9 +1,9 @@
 -- What becomes of a pipe's bytes in one call of the whole machine.
 use Rattle.std.specs.Prelude.{ℕ, ◌-◌, ◌<◌, ◌≡◌, ◌⊎◌, ◌++◌, ℤ, pos, true, List, take, drop, Some, is_some}
-use Rattle.kabi_calls.specs.Arguments.{count_of}
-use Rattle.kabi_calls.specs.declared.calls.Call.{Call}
-use Rattle.kabi_calls.specs.declared.calls.Call.TheVariants.{Read, Write}
-use Rattle.kabi_values.specs.declared.replies.Reply.TheVariants.{Val}
+use Rattle.kabi_types.specs.Arguments.{count_of}
+use Rattle.kabi_types.specs.declared.calls.Call.{Call}
+use Rattle.kabi_types.specs.declared.calls.Call.TheVariants.{Read, Write}
+use Rattle.kabi_types.specs.declared.replies.Reply.TheVariants.{Val}
 use Rattle.posix_defs.specs.Answer.{Answer, Done, Part}
 use Rattle.posix_defs.specs.Memory.{stored}
 use Rattle.posix_defs.specs.Pipe.{Pipe}

@@ -1,9 +1,9 @@
 //! The law of pipes under all forty-one calls. It is the contract of a function that does nothing.
 
 ghost use Rattle.std.specs.Prelude.{◌≡◌, ◌⊎◌, ◌<◌, ℕ, ℤ, Some, length};
-ghost use Rattle.kabi_calls.specs.Arguments.{count_of};
-ghost use Rattle.kabi_calls.specs.declared.calls.Call.{Call};
-ghost use Rattle.kabi_calls.specs.declared.calls.Call.TheVariants.{Read, Write};
+ghost use Rattle.kabi_types.specs.Arguments.{count_of};
+ghost use Rattle.kabi_types.specs.declared.calls.Call.{Call};
+ghost use Rattle.kabi_types.specs.declared.calls.Call.TheVariants.{Read, Write};
 ghost use Rattle.kabi_types.specs.declared.scripts.Script.{Script};
 ghost use Rattle.posix_defs.specs.Pipe.{Pipe};
 ghost use Rattle.posix_defs.specs.Plain.{Plain};

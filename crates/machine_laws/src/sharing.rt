@@ -1,7 +1,7 @@
 //! The law of shared descriptions under all forty-one calls. It is the contract of a function that does nothing.
 
 ghost use Rattle.std.specs.Prelude.{◌≡◌, ◌≤◌, ℕ, ℤ, pos, Some, length};
-ghost use Rattle.kabi_calls.specs.declared.calls.Call.TheVariants.{Dup, Fcntl, Fork, Lseek, Read};
+ghost use Rattle.kabi_types.specs.declared.calls.Call.TheVariants.{Dup, Fcntl, Fork, Lseek, Read};
 ghost use Rattle.kabi_types.specs.declared.scripts.Script.{Script};
 ghost use Rattle.posix_defs.specs.Plain.{Plain, last_pid};
 ghost use Rattle.posix_defs.specs.Machine.{machine};

@@ -1,8 +1,8 @@
 -- Traces of processes and of their memory.
 use Rattle.std.specs.Prelude.{ℕ, pos, negsuc, List, [], ◌∷◌}
-use Rattle.kabi_calls.specs.declared.calls.Call.TheVariants as call
-use Rattle.kabi_values.specs.declared.errnos.Errno.TheVariants as errno
-use Rattle.kabi_values.specs.declared.replies.Reply.TheVariants as reply
+use Rattle.kabi_types.specs.declared.calls.Call.TheVariants as call
+use Rattle.kabi_types.specs.declared.errnos.Errno.TheVariants as errno
+use Rattle.kabi_types.specs.declared.replies.Reply.TheVariants as reply
 use Rattle.machine_traces.specs.Trace.{Line, gets, fails, ends}
 
 -- Pages mapped and unmapped.

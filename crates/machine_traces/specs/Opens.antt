@@ -1,9 +1,9 @@
 -- Traces of calls on files that are open.
 use Rattle.std.specs.Prelude.{ℕ, pos, negsuc, List, [], ◌∷◌, codes}
-use Rattle.kabi_calls.specs.declared.calls.Call.TheVariants as call
-use Rattle.kabi_values.specs.declared.errnos.Errno.TheVariants as errno
-use Rattle.kabi_values.specs.declared.replies.Reply.TheVariants as reply
-use Rattle.kabi_values.specs.declared.replies.NodeKind.TheVariants as node
+use Rattle.kabi_types.specs.declared.calls.Call.TheVariants as call
+use Rattle.kabi_types.specs.declared.errnos.Errno.TheVariants as errno
+use Rattle.kabi_types.specs.declared.replies.Reply.TheVariants as reply
+use Rattle.kabi_types.specs.declared.replies.NodeKind.TheVariants as node
 use Rattle.machine_traces.specs.Trace.{Line, gets, fails, sleeps, ends, info}
 
 -- The faults of the calls on files, in the order in which they are told.

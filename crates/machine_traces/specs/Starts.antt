@@ -1,9 +1,9 @@
 -- Traces of exec.
 use Rattle.std.specs.Prelude.{ℕ, pos, List, [], ◌∷◌, codes}
-use Rattle.kabi_calls.specs.declared.calls.Call.TheVariants as call
-use Rattle.kabi_values.specs.declared.errnos.Errno.TheVariants as errno
-use Rattle.kabi_values.specs.declared.replies.Reply.TheVariants as reply
-use Rattle.kabi_values.specs.declared.replies.NodeKind.TheVariants as node
+use Rattle.kabi_types.specs.declared.calls.Call.TheVariants as call
+use Rattle.kabi_types.specs.declared.errnos.Errno.TheVariants as errno
+use Rattle.kabi_types.specs.declared.replies.Reply.TheVariants as reply
+use Rattle.kabi_types.specs.declared.replies.NodeKind.TheVariants as node
 use Rattle.machine_traces.specs.Trace.{Line, gets, fails, ends, info}
 
 -- A file that names a program starts it: memory is gone, descriptors stay.

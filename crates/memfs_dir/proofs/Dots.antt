@@ -2,7 +2,7 @@
 use Rattle.std.proofs.Common.{◌≡◌, ◌≢◌, ℕ, zero, suc, ◌+◌, ◌-◌, ◌<◌, Bool, false, not, ltb, List, ◌∷◌, length, get_or, set, take, Some, None, sym, ap, ◌∙◌, arith}
 use Rattle.std.specs.List.{position_or_len, swap_remove}
 use Rattle.std.proofs.lemmas.Bool.{cond-true, lt-ltb}
-use Rattle.kabi_values.specs.declared.inodes.DirEntry.{DirEntry}
+use Rattle.kabi_types.specs.declared.inodes.DirEntry.{DirEntry}
 use Rattle.posix_defs.specs.DiskContents.{entry_for, own_name, parent_name}
 use Rattle.posix_defs.specs.Tree.{has_name, found_among}
 use Rattle.posix_defs.specs.TreeChanges.{no_entry, place_of, entry_taken}

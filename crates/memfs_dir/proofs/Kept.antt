@@ -1,7 +1,7 @@
 -- Directories stay directories: the one that a call changes, and every other.
 use Rattle.std.proofs.Common.{◌≢◌, ℕ, List, ◌∙◌}
-use Rattle.kabi_values.specs.declared.inodes.Inode.{Inode}
-use Rattle.kabi_values.specs.declared.inodes.DirEntry.{DirEntry}
+use Rattle.kabi_types.specs.declared.inodes.Inode.{Inode}
+use Rattle.kabi_types.specs.declared.inodes.DirEntry.{DirEntry}
 use Rattle.posix_defs.specs.SoundDisk.{HasInode}
 use Rattle.posix_defs.specs.DiskContents.{HasEntries}
 use Rattle.posix_defs.specs.DiskTree.{ChangesNode}

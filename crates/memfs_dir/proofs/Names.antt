@@ -9,7 +9,7 @@ use Rattle.std.proofs.lemmas.List.Folds.{find-append, find_at}
 use Rattle.std.proofs.lemmas.List.Sums.{fails_before_first, passes_at_first}
 use Rattle.std.proofs.lemmas.List.Quantifiers.{all_pairs_push}
 use Rattle.std.proofs.lemmas.Slice.Eq.{bytes_eq-Decides}
-use Rattle.kabi_values.specs.declared.inodes.DirEntry.{DirEntry}
+use Rattle.kabi_types.specs.declared.inodes.DirEntry.{DirEntry}
 use Rattle.posix_defs.specs.DiskContents.{Finds}
 use Rattle.posix_defs.specs.Tree.{has_name, found_among}
 use Rattle.posix_defs.specs.TreeChanges.{no_entry}

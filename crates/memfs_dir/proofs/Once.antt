@@ -6,7 +6,7 @@ use Rattle.std.proofs.lemmas.Bool.{eqb-true}
 use Rattle.std.proofs.lemmas.List.{get_or-map, length-map}
 use Rattle.std.proofs.lemmas.List.Elements.{All-push}
 use Rattle.std.proofs.lemmas.List.Quantifiers.{all_pairs_push}
-use Rattle.kabi_values.specs.declared.inodes.Inode.{Inode}
+use Rattle.kabi_types.specs.declared.inodes.Inode.{Inode}
 use Rattle.posix_defs.specs.DiskFormat.{data_blocks}
 use Rattle.posix_defs.specs.SoundDisk.{HasNode, Sound, Place, Data, Pointers, HasPlace, named_at}
 use Rattle.memfs_dir.specs.Looking.{looked_through, blocks_to, asked_to_find}

@@ -8,7 +8,7 @@ use Rattle.std.proofs.lemmas.Option.{slice_get-get_or, slice_get_past}
 use Rattle.std.proofs.lemmas.List.{get_or_default, length-set, length-take-le, length_push, get_or-set_other, set-get_or, take_at}
 use Rattle.std.proofs.lemmas.List.Folds.{find_at, position_or_len-set}
 use Rattle.std.proofs.lemmas.List.Sorted.{IsPermutation-swap_remove, IsPermutation-to_front, IsPermutation-sym, IsPermutation-trans}
-use Rattle.kabi_values.specs.declared.inodes.DirEntry.{DirEntry}
+use Rattle.kabi_types.specs.declared.inodes.DirEntry.{DirEntry}
 use Rattle.posix_defs.specs.Tree.{has_name, found_among}
 use Rattle.posix_defs.specs.TreeChanges.{no_entry}
 use Rattle.tree_laws.proofs.EntryLists.{source, from_source}

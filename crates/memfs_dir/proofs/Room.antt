@@ -1,7 +1,7 @@
 -- The room of a directory on the disk is that of the tree.
 use Rattle.std.proofs.Common.{◌≡◌, ℕ, ◌+◌, ◌-◌, ◌<◌, ◌≤◌, Bool, false, ◌&&◌, ltb, leb, ◌⊎◌, inl, inr, List, Option, Some, None, sym, ap, subst, ◌∙◌, ◌↔◌, arith}
 use Rattle.std.proofs.lemmas.Bool.{cases_lt, lt-ltb, le-ltb, lt-leb, leb-false}
-use Rattle.kabi_values.specs.declared.inodes.Inode.{Inode}
+use Rattle.kabi_types.specs.declared.inodes.Inode.{Inode}
 use Rattle.posix_defs.specs.DiskFormat.{greatest_size, table_nodes, blocks_of}
 use Rattle.posix_defs.specs.SoundDisk.{HasNode, free_in_map}
 use Rattle.posix_defs.specs.Tree.{Node, Tree, node_at, size_in, size_at, free_blocks}

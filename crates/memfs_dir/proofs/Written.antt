@@ -3,8 +3,8 @@ use Rattle.std.proofs.Common.{◌≡◌, ℕ, ◌+◌, ◌*◌, ◌/◌, ◌%◌
 use Rattle.std.proofs.lemmas.Bool.{cases_lt, cases_eq}
 use Rattle.std.proofs.lemmas.List.{length-set, get_or-set_same, get_or-set_other}
 use Rattle.std.proofs.lemmas.List.Elements.{All-set}
-use Rattle.kabi_values.specs.declared.inodes.Inode.{Inode}
-use Rattle.kabi_values.specs.declared.inodes.DirEntry.{DirEntry}
+use Rattle.kabi_types.specs.declared.inodes.Inode.{Inode}
+use Rattle.kabi_types.specs.declared.inodes.DirEntry.{DirEntry}
 use Rattle.posix_defs.specs.DiskFormat.{data_blocks, IsForFiles, IsEntry, entry_bytes}
 use Rattle.posix_defs.specs.SoundDisk.{block_bytes, HasNode}
 use Rattle.posix_defs.specs.DiskContents.{data_block, byte_at, HasEntries}

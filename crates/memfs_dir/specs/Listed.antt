@@ -1,8 +1,8 @@
 -- A directory as the list of its entries, and what a call leaves of a disk that gives a directory another list.
 use Rattle.std.specs.Prelude.{ℕ, ◌+◌, ◌-◌, ◌*◌, ◌<◌, ◌≤◌, ◌≡◌, ◌≢◌, ◌⊎◌, List, Option, slice_index, slice_index_or}
 use Rattle.std.specs.List.{AllPairs, position}
-use Rattle.kabi_values.specs.declared.inodes.Inode.{Inode}
-use Rattle.kabi_values.specs.declared.inodes.DirEntry.{DirEntry}
+use Rattle.kabi_types.specs.declared.inodes.Inode.{Inode}
+use Rattle.kabi_types.specs.declared.inodes.DirEntry.{DirEntry}
 use Rattle.posix_defs.specs.DiskFormat.{greatest_size, blocks_of, entry_bytes}
 use Rattle.posix_defs.specs.SoundDisk.{block_bytes, HasNode, Sound, free_in_map}
 use Rattle.posix_defs.specs.DiskContents.{byte_at, HasEntries}

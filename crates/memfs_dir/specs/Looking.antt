@@ -1,8 +1,8 @@
 -- What a look for a name finds in a directory, and which blocks of it it asks for.
 use Rattle.std.specs.Prelude.{ℕ, zero, suc, ◌+◌, ◌/◌, ◌==◌, ◌≡◌, if◌then◌else◌, List, [], ◌∷◌, ◌++◌, map, Option, None, Some, IfSome}
 use Rattle.std.specs.Option.{option_map}
-use Rattle.kabi_values.specs.declared.inodes.DirEntry.{DirEntry}
-use Rattle.kabi_values.specs.declared.inodes.Inode.{Inode}
+use Rattle.kabi_types.specs.declared.inodes.DirEntry.{DirEntry}
+use Rattle.kabi_types.specs.declared.inodes.Inode.{Inode}
 use Rattle.posix_defs.specs.DiskFormat.{direct_pointers, data_blocks}
 use Rattle.posix_defs.specs.SoundDisk.{Place, Data, Pointers, named_at}
 use Rattle.memfs_dir.specs.Slots.{entries_in_block}

@@ -1,5 +1,5 @@
 ghost use Rattle.std.specs.Prelude.{◌≡◌, ℕ, ◌+◌, ◌*◌, ◌↔◌, [], ◌∷◌, ◌++◌, Err, IfErr, OnOk, OnErr};
-ghost use Rattle.kabi_values.specs.declared.errnos.Errno.TheVariants.{ENOSPC};
+ghost use Rattle.kabi_types.specs.declared.errnos.Errno.TheVariants.{ENOSPC};
 ghost use Rattle.posix_defs.specs.DiskFormat.{IsEntry};
 ghost use Rattle.posix_defs.specs.SoundDisk.{HasNode, Sound};
 ghost use Rattle.memfs_dir.specs.Slots.{entry_size};

@@ -1,7 +1,7 @@
 //! One entry of a directory, by its place.
 
 ghost use Rattle.std.specs.Prelude.{◌≡◌, ℕ, ◌+◌, ◌*◌, ◌/◌, ◌<◌, List, [], ◌∷◌, ◌++◌, slice_get, slice_set, Some};
-ghost use Rattle.kabi_values.specs.declared.inodes.DirEntry.{DirEntry};
+ghost use Rattle.kabi_types.specs.declared.inodes.DirEntry.{DirEntry};
 ghost use Rattle.posix_defs.specs.Asking.{AskedInTurn};
 ghost use Rattle.posix_defs.specs.DiskFormat.{IsEntry};
 ghost use Rattle.posix_defs.specs.SoundDisk.{HasNode, Sound};

@@ -1,5 +1,5 @@
 ghost use Rattle.std.specs.Prelude.{◌≡◌, ◌≢◌, ℕ, ◌+◌, ◌*◌, ◌<◌, ◌≤◌, ◌^◌, ◌==◌, if◌then◌else◌, List, [], ◌∷◌, None, IfSome, length, slice_index};
-ghost use Rattle.kabi_values.specs.declared.inodes.DirEntry.{DirEntry};
+ghost use Rattle.kabi_types.specs.declared.inodes.DirEntry.{DirEntry};
 ghost use Rattle.posix_defs.specs.Asking.{AskedInTurn};
 ghost use Rattle.posix_defs.specs.DiskFormat.{direct_pointers, block_pointers, data_blocks};
 ghost use Rattle.posix_defs.specs.SoundDisk.{Sound, block_bytes, pointer_at};

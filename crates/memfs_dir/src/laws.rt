@@ -3,8 +3,8 @@
 ghost use Rattle.std.specs.Prelude.{◌≡◌, ◌≢◌, ℕ, ◌+◌, ◌*◌, ◌/◌, ◌<◌, ◌↔◌, List, [], ◌∷◌, ◌++◌, Option, None, Some, IfSome, false, true, length, drop, slice_index_or, slice_set, take};
 ghost use Rattle.std.specs.List.{swap_remove, AllPairs};
 ghost use Rattle.std.specs.List.Sorted.{IsPermutation};
-ghost use Rattle.kabi_values.specs.declared.inodes.DirEntry.{DirEntry};
-ghost use Rattle.kabi_values.specs.declared.inodes.Inode.{Inode};
+ghost use Rattle.kabi_types.specs.declared.inodes.DirEntry.{DirEntry};
+ghost use Rattle.kabi_types.specs.declared.inodes.Inode.{Inode};
 ghost use Rattle.posix_defs.specs.SoundDisk.{HasInode, HasNode, Sound};
 ghost use Rattle.posix_defs.specs.DiskContents.{entry_for, own_name, parent_name, node_bytes, Finds, HasEntries};
 ghost use Rattle.posix_defs.specs.DiskTree.{ChangesNode, StandsFor};

@@ -1,7 +1,7 @@
 //! A block of a directory: 32 slots, each with the bytes of one entry.
 
 ghost use Rattle.std.specs.Prelude.{◌≡◌, ℕ, ◌+◌, ◌*◌, ◌<◌, ◌≤◌, ◌⊎◌, ◌↔◌, IsTrue, IfSome, None, true, length, take, drop, slice_index};
-ghost use Rattle.kabi_values.specs.declared.inodes.DirEntry.{DirEntry};
+ghost use Rattle.kabi_types.specs.declared.inodes.DirEntry.{DirEntry};
 ghost use Rattle.posix_defs.specs.DiskFormat.{IsEntry};
 ghost use Rattle.memfs_dir.specs.Slots.{entry_size, entries_in_block, HasBytesOf, Spells, IsCalled};
 

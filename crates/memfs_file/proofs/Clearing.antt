@@ -1,7 +1,7 @@
 -- Zeros that are written behind the bytes of a file.
 use Rattle.std.proofs.Common.{◌≡◌, ◌≢◌, ℕ, ◌+◌, ◌-◌, ◌%◌, ◌<◌, min, inl, inr, List, length, take, replicate, ◌∙◌, arith, length-take}
 use Rattle.std.proofs.lemmas.List.{get_or-take, get_or-replicate, length-replicate}
-use Rattle.kabi_values.specs.declared.inodes.Inode.{Inode}
+use Rattle.kabi_types.specs.declared.inodes.Inode.{Inode}
 use Rattle.posix_defs.specs.DiskFormat.{block_size}
 use Rattle.memfs_file.specs.FileChange.{Puts, Clears}
 

@@ -1,7 +1,7 @@
 -- What is read of a file after it was written or got another size.
 use Rattle.std.proofs.Common.{◌≡◌, ℕ, ◌+◌, ◌<◌, ◌≤◌, ◌⊎◌, inl, inr, List, length, get_or, take, drop, ap, ◌∙◌, arith}
 use Rattle.std.proofs.lemmas.List.{get_or_past}
-use Rattle.kabi_values.specs.declared.inodes.Inode.{Inode}
+use Rattle.kabi_types.specs.declared.inodes.Inode.{Inode}
 use Rattle.posix_defs.specs.FileBytes.{overwritten, resized}
 use Rattle.posix_defs.specs.DiskContents.{node_bytes}
 use Rattle.tree_laws.proofs.FileBytesLaws.{written_back, written_before, written_behind, resized_at}

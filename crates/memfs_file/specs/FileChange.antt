@@ -1,6 +1,6 @@
 -- What a call leaves of a disk on which it writes a file.
 use Rattle.std.specs.Prelude.{ℕ, ◌+◌, ◌-◌, ◌*◌, ◌<◌, ◌≤◌, ◌≡◌, ◌⊎◌, List, length, slice_index}
-use Rattle.kabi_values.specs.declared.inodes.Inode.{Inode}
+use Rattle.kabi_types.specs.declared.inodes.Inode.{Inode}
 use Rattle.posix_defs.specs.DiskFormat.{block_size, data_blocks, blocks_of}
 use Rattle.posix_defs.specs.SoundDisk.{block_bytes, HasInode, HasNode, free_in_map}
 use Rattle.posix_defs.specs.DiskContents.{byte_at, node_bytes}

@@ -2,8 +2,8 @@
 //! does nothing.
 
 ghost use Rattle.std.specs.Prelude.{◌≡◌, ℕ, ◌+◌, ◌<◌, ◌≤◌, ◌⊎◌, List, Some, Ok, Err, length, slice_index, take, drop};
-ghost use Rattle.kabi_values.specs.declared.errnos.Errno.TheVariants.{EFBIG, ENOSPC};
-ghost use Rattle.kabi_values.specs.declared.inodes.Inode.{Inode};
+ghost use Rattle.kabi_types.specs.declared.errnos.Errno.TheVariants.{EFBIG, ENOSPC};
+ghost use Rattle.kabi_types.specs.declared.inodes.Inode.{Inode};
 ghost use Rattle.posix_defs.specs.DiskFormat.{greatest_size, blocks_of};
 ghost use Rattle.posix_defs.specs.FileBytes.{fitting, overwritten, resized};
 ghost use Rattle.posix_defs.specs.SoundDisk.{HasInode};

@@ -1,7 +1,7 @@
 //! Room for bytes that are to be written: how many of them fit, and the growth that they take.
 
 ghost use Rattle.std.specs.Prelude.{◌≡◌, ℕ, ◌+◌, ◌*◌, ◌/◌, ◌<◌, ◌≤◌, IfErr, IfOk, max};
-ghost use Rattle.kabi_values.specs.declared.errnos.Errno.TheVariants.{ENOSPC};
+ghost use Rattle.kabi_types.specs.declared.errnos.Errno.TheVariants.{ENOSPC};
 ghost use Rattle.posix_defs.specs.DiskFormat.{block_size, greatest_size, data_blocks, blocks_of};
 ghost use Rattle.posix_defs.specs.FileBytes.{fitting};
 ghost use Rattle.posix_defs.specs.SoundDisk.{HasNode, Sound, free_in_map};

@@ -1,7 +1,7 @@
 //! Another size of a file.
 
 ghost use Rattle.std.specs.Prelude.{◌≡◌, ◌<◌, ◌⊎◌, ◌↔◌, ◌≤◌, Err, IfErr, OnOk};
-ghost use Rattle.kabi_values.specs.declared.errnos.Errno.TheVariants.{EFBIG, ENOSPC};
+ghost use Rattle.kabi_types.specs.declared.errnos.Errno.TheVariants.{EFBIG, ENOSPC};
 ghost use Rattle.posix_defs.specs.DiskFormat.{greatest_size, blocks_of};
 ghost use Rattle.posix_defs.specs.FileBytes.{resized};
 ghost use Rattle.posix_defs.specs.SoundDisk.{HasNode, Sound};

@@ -3,8 +3,8 @@ use Rattle.std.proofs.Common.{◌≡◌, ◌≢◌, ℕ, zero, suc, ◌+◌, ◌
 use Rattle.std.proofs.lemmas.Bool.{cases_lt}
 use Rattle.std.proofs.lemmas.List.{get_or-replicate, get_or_past, length-replicate, get_or-set_other, length-set}
 use Rattle.std.specs.List.{All}
-use Rattle.kabi_values.specs.declared.inodes.DirEntry.{DirEntry}
-use Rattle.kabi_values.specs.declared.inodes.Inode.{Inode}
+use Rattle.kabi_types.specs.declared.inodes.DirEntry.{DirEntry}
+use Rattle.kabi_types.specs.declared.inodes.Inode.{Inode}
 use Rattle.posix_defs.specs.DiskFormat.{blocks_of, IsForFiles, IsName, IsEntry, entry_bytes}
 use Rattle.posix_defs.specs.SoundDisk.{block_bytes, HasInode, Data, Sound, free_in_map}
 use Rattle.posix_defs.specs.DiskContents.{data_block, byte_at, HasEntries, entry_for, own_name, parent_name}

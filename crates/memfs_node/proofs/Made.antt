@@ -1,7 +1,7 @@
 -- A free node that is made a new one.
 use Rattle.std.proofs.Common.{◌≡◌, ◌≢◌, ℕ, ◌+◌, ◌<◌, ◌≤◌, List, [], map, refl, sym, ap, subst, ◌∙◌, arith}
 use Rattle.std.specs.List.{range_with_len}
-use Rattle.kabi_values.specs.declared.inodes.Inode.{Inode}
+use Rattle.kabi_types.specs.declared.inodes.Inode.{Inode}
 use Rattle.posix_defs.specs.DiskFormat.{IsOfKind, blocks_of}
 use Rattle.posix_defs.specs.SoundDisk.{HasInode, IsFreeNode}
 use Rattle.posix_defs.specs.DiskContents.{byte_at, node_bytes}

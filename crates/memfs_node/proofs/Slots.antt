@@ -1,7 +1,7 @@
 -- Blocks of the table, slot by slot, against the nodes whose inodes they have.
 use Rattle.std.proofs.Common.{◌≡◌, ℕ, ◌+◌, ◌-◌, ◌*◌, ◌/◌, ◌<◌, ◌≤◌, inl, inr, List, length, sym, ap, subst, ◌∙◌, arith}
 use Rattle.std.proofs.lemmas.Bool.{cases_lt}
-use Rattle.kabi_values.specs.declared.inodes.Inode.{Inode}
+use Rattle.kabi_types.specs.declared.inodes.Inode.{Inode}
 use Rattle.posix_defs.specs.DiskFormat.{inode_bytes, table_nodes}
 use Rattle.posix_defs.specs.SoundDisk.{block_bytes, table_block, table_slot, slot_bytes, table_bytes, HasInode, IsFreeNode, IsLowestFreeNode, Sound}
 use Rattle.memfs_node.specs.Slots.{HasSlot, IsTableBlock, IsFreeSlot}

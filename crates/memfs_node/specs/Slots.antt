@@ -1,6 +1,6 @@
 -- A block of the table: 16 slots, each with an inode.
 use Rattle.std.specs.Prelude.{ℕ, ◌<◌, ◌≡◌, List}
-use Rattle.kabi_values.specs.declared.inodes.Inode.{Inode}
+use Rattle.kabi_types.specs.declared.inodes.Inode.{Inode}
 use Rattle.posix_defs.specs.DiskFormat.{inodes_in_block, IsInode, inode_bytes}
 use Rattle.posix_defs.specs.SoundDisk.{slot_bytes}
 

@@ -1,7 +1,7 @@
 //! What the calls come to for the tree of files. Each law is the contract of a function that does nothing.
 
 ghost use Rattle.std.specs.Prelude.{◌≡◌, ◌≢◌, ℕ, ◌+◌, ◌==◌, ◌&&◌, List, Bool, Some, None, not};
-ghost use Rattle.kabi_values.specs.declared.inodes.Inode.{Inode};
+ghost use Rattle.kabi_types.specs.declared.inodes.Inode.{Inode};
 ghost use Rattle.posix_defs.specs.SoundDisk.{HasNode};
 ghost use Rattle.posix_defs.specs.DiskTree.{StandsFor};
 ghost use Rattle.posix_defs.specs.Tree.{Content, Tree, with_node};

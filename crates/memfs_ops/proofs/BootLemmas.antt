@@ -6,15 +6,15 @@ use Rattle.std.specs.List.{Contains}
 use Rattle.std.proofs.lemmas.List.{set-set}
 use Rattle.std.proofs.lemmas.List.Elements.{Contains-append_right}
 use Rattle.std.proofs.lemmas.Bool.{cases_eq, ne_eqb, eq-eqb}
-use Rattle.kabi_values.specs.Class.{size}
-use Rattle.kabi_values.specs.declared.classes.Class.TheVariants as class
-use Rattle.kabi_values.specs.declared.inodes.Inode.{Inode}
-use Rattle.kheap_shelves.specs.Objects.{object, InUse, put}
-use Rattle.kheap_shelves.specs.declared.objects.Block.{Block}
-use Rattle.kheap_shelves.specs.declared.objects.Name.{Name}
-use Rattle.kheap_shelves.specs.declared.objects.Vnode.{Vnode}
-use Rattle.kheap_shelves.proofs.ObjectLemmas.{object-none, object-put, InUse-within, length-put}
-use Rattle.kheap_shelves.specs.Purse.{Purse}
+use Rattle.kabi_types.specs.Class.{size}
+use Rattle.kabi_types.specs.declared.classes.Class.TheVariants as class
+use Rattle.kabi_types.specs.declared.inodes.Inode.{Inode}
+use Rattle.kheap_slabs.specs.Objects.{object, InUse, put}
+use Rattle.kheap_slabs.specs.declared.objects.Block.{Block}
+use Rattle.kheap_slabs.specs.declared.objects.Name.{Name}
+use Rattle.kheap_slabs.specs.declared.objects.Vnode.{Vnode}
+use Rattle.kheap_slabs.proofs.ObjectLemmas.{object-none, object-put, InUse-within, length-put}
+use Rattle.kheap_slabs.specs.Purse.{Purse}
 use Rattle.kheap_slabs.specs.Heap.{Heap}
 use Rattle.lru_index.specs.Order.{Order, order}
 use Rattle.lru_index.specs.declared.keys.NameKey.{NameKey}

@@ -1,6 +1,6 @@
 -- What an inode tells of a node of the tree.
 use Rattle.std.proofs.Common.{◌≡◌, ℕ, not, ◌||◌, Option, Some, None, nat_eq, sym, ap}
-use Rattle.kabi_values.specs.declared.inodes.Inode.{Inode}
+use Rattle.kabi_types.specs.declared.inodes.Inode.{Inode}
 use Rattle.posix_defs.specs.PathCalls.{is_socket, is_socket_kind, kind_in}
 use Rattle.posix_defs.specs.Tree.{Content, File, Directory, SocketName, Node, Tree, IsInodeAt, IsInodeIn, node_at, is_directory, is_directory_in, is_directory_content, kind_of}
 use Rattle.posix_defs.specs.PathCalls.{kind_of_content}

@@ -1,9 +1,9 @@
 -- Where all is cached that a path asks for.
 use Rattle.std.proofs.Common.{◌≡◌, ℕ, ◌&&◌, not, Bool, true, false, cond, List, [], ◌∷◌, ◌++◌, Option, Some, None, IsSome, Result, Ok, Err, bytes_eq, refl, ◌∙◌, subst}
 use Rattle.std.specs.List.{AllByRecursion}
-use Rattle.kabi_calls.specs.PathParts.{components}
-use Rattle.kabi_values.specs.declared.errnos.Errno.{Errno}
-use Rattle.kabi_values.specs.declared.errnos.Errno.TheVariants.{ENOTDIR}
+use Rattle.kabi_types.specs.PathParts.{components}
+use Rattle.kabi_types.specs.declared.errnos.Errno.{Errno}
+use Rattle.kabi_types.specs.declared.errnos.Errno.TheVariants.{ENOTDIR}
 use Rattle.lru_index.specs.NameKeys.{name_key}
 use Rattle.posix_defs.specs.DiskContents.{own_name, parent_name}
 use Rattle.posix_defs.specs.Paths.{begins_at, ends_in_slash, go_on, leads, name_leads, resolve, step}

@@ -1,6 +1,6 @@
 -- A call that looks around, from what a tree of files stands for to what its caches are lent for, and back.
 use Rattle.std.proofs.Common.{◌≡◌, ℕ, List, refl, sym, ap, ◌∙◌, subst}
-use Rattle.kheap_shelves.specs.Purse.{Purse}
+use Rattle.kheap_slabs.specs.Purse.{Purse}
 use Rattle.kheap_slabs.specs.Heap.{Heap}
 use Rattle.posix_defs.specs.Tree.{Tree}
 use Rattle.std.proofs.Common.{le_trans}
@@ -8,7 +8,7 @@ use Rattle.kheap_laws.proofs.PaidLemmas.{IsPaid-trans}
 use Rattle.cached_disk.specs.TreeLent.{AllLent, StandsThrough, TreeGoesOn, with_cached}
 use Rattle.cached_disk.specs.TreeGoing.{TreeGoesOn-trans}
 use Rattle.std.proofs.Common.{Bool, IsSome, Ok, Err}
-use Rattle.kabi_values.specs.declared.errnos.Errno.{Errno}
+use Rattle.kabi_types.specs.declared.errnos.Errno.{Errno}
 use Rattle.lru_index.specs.NameKeys.{name_key}
 use Rattle.name_cache.specs.Names.{name_slot}
 use Rattle.vnode_cache.specs.Nodes.{node_slot}

@@ -9,11 +9,11 @@ use Rattle.std.proofs.lemmas.List.{take-take, length-append}
 use Rattle.std.proofs.lemmas.List.Elements.{All-head, All-tail}
 use Rattle.std.proofs.Math.Seq.{take-append_seam}
 use Rattle.kabi_types.specs.declared.scripts.Program.{Program}
-use Rattle.kabi_values.specs.declared.errnos.Errno.TheVariants.{ENOEXEC}
+use Rattle.kabi_types.specs.declared.errnos.Errno.TheVariants.{ENOEXEC}
 use Rattle.posix_defs.specs.PathCalls.{program_of, first_line}
 use Rattle.posix_defs.specs.DiskContents.{data_block}
 use Rattle.posix_defs.specs.SoundDisk.{HasNode}
-use Rattle.kabi_values.specs.declared.inodes.Inode.{Inode}
+use Rattle.kabi_types.specs.declared.inodes.Inode.{Inode}
 use Rattle.disk_laws.proofs.FormattedDisk.{one_inode}
 use Rattle.memfs_file.specs.Ranges.{asked_to_read}
 use Rattle.block_cache.specs.Blocks.{block_slot}

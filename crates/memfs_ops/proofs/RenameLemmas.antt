@@ -2,11 +2,11 @@
 use Rattle.std.proofs.Common.{◌≡◌, ◌≢◌, ℕ, zero, suc, ◌+◌, ◌-◌, ◌<◌, ◌≤◌, Bool, true, false, not, ◌&&◌, eqb, List, [], length, Option, Some, None, Result, Ok, Err, refl, sym, ap, ◌∙◌, subst, inl, inr, arith}
 use Rattle.std.specs.Prelude.{MatchBool, MatchResult, ◌==◌, if◌then◌else◌}
 use Rattle.std.proofs.lemmas.Bool.{cases_Bool, cases_eq, cases_lt, cond-true, cond-false, eq-eqb, ne_eqb, false≢true}
-use Rattle.kabi_values.specs.declared.errnos.Errno.{Errno}
-use Rattle.kabi_values.specs.declared.errnos.Errno.TheVariants.{EBUSY, EINVAL, EISDIR, ENOSPC, ENOTDIR, ENOTEMPTY}
-use Rattle.kabi_values.specs.declared.inodes.DirEntry.{DirEntry}
-use Rattle.kabi_values.specs.declared.inodes.Inode.{Inode}
-use Rattle.kheap_shelves.specs.Purse.{Purse}
+use Rattle.kabi_types.specs.declared.errnos.Errno.{Errno}
+use Rattle.kabi_types.specs.declared.errnos.Errno.TheVariants.{EBUSY, EINVAL, EISDIR, ENOSPC, ENOTDIR, ENOTEMPTY}
+use Rattle.kabi_types.specs.declared.inodes.DirEntry.{DirEntry}
+use Rattle.kabi_types.specs.declared.inodes.Inode.{Inode}
+use Rattle.kheap_slabs.specs.Purse.{Purse}
 use Rattle.kheap_slabs.specs.Heap.{Heap}
 use Rattle.lru_index.specs.NameKeys.{name_key}
 use Rattle.posix_defs.specs.IsTree.{IsTree}

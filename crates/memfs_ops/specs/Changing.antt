@@ -1,6 +1,6 @@
 -- A call that changes the tree: what stands in the midst of it, and at its end.
 use Rattle.std.specs.Prelude.{◌≡◌, ◌≢◌, ℕ, ◌<◌, Result, Ok, Err}
-use Rattle.kabi_values.specs.declared.errnos.Errno.{Errno}
+use Rattle.kabi_types.specs.declared.errnos.Errno.{Errno}
 use Rattle.kheap_slabs.specs.Heap.{Heap}
 use Rattle.posix_defs.specs.DiskTree.{StandsFor}
 use Rattle.posix_defs.specs.SoundDisk.{HasNode}

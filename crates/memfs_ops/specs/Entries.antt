@@ -1,6 +1,6 @@
 -- What becomes of one entry of a directory: in the tree, and what has to be so before.
 use Rattle.std.specs.Prelude.{◌≡◌, ◌≢◌, ℕ, ◌<◌, List, Some}
-use Rattle.kabi_values.specs.declared.inodes.Inode.{Inode}
+use Rattle.kabi_types.specs.declared.inodes.Inode.{Inode}
 use Rattle.posix_defs.specs.DiskContents.{own_name, parent_name}
 use Rattle.posix_defs.specs.DiskFormat.{IsName}
 use Rattle.posix_defs.specs.Tree.{Tree, found}

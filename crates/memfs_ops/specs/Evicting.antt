@@ -2,7 +2,7 @@
 use Rattle.std.specs.Prelude.{◌≡◌, ℕ, ◌<◌}
 use Rattle.kabi_types.specs.declared.entries.Cached.{Cached}
 use Rattle.kabi_types.specs.declared.entries.Cached.TheVariants as cached
-use Rattle.kheap_shelves.specs.Objects.{count}
+use Rattle.kheap_slabs.specs.Objects.{count}
 use Rattle.kheap_slabs.specs.Heap.{Heap}
 use Rattle.name_cache.specs.Names as names
 use Rattle.block_cache.specs.Blocks as blocks

@@ -1,6 +1,6 @@
 -- A call that asks for blocks alone: what it may use, and what it leaves.
 use Rattle.std.specs.Prelude.{◌≡◌, ℕ, ◌+◌, ◌<◌, ◌≤◌, List, Some, length}
-use Rattle.kheap_shelves.specs.Purse.{Purse}
+use Rattle.kheap_slabs.specs.Purse.{Purse}
 use Rattle.kheap_slabs.specs.Heap.{Heap}
 use Rattle.kheap_slabs.specs.Paid.{CanPay, HasFills}
 use Rattle.posix_defs.specs.Tree.{File, Tree, node_at}

@@ -1,13 +1,13 @@
 -- The tree of files over three caches: what it stands for, and what a call may use.
 use Rattle.std.specs.Prelude.{◌≡◌, ℕ, ◌+◌, ◌/◌, ◌<◌, ◌≤◌, cond, nat_eq, List, None, IsSome, Ok, length, min, replicate}
 use Rattle.std.specs.List.{AllByRecursion}
-use Rattle.kabi_values.specs.Class.{size}
-use Rattle.kabi_values.specs.declared.classes.Class.TheVariants as class
-use Rattle.kheap_shelves.specs.Purse.{Purse}
+use Rattle.kabi_types.specs.Class.{size}
+use Rattle.kabi_types.specs.declared.classes.Class.TheVariants as class
+use Rattle.kheap_slabs.specs.Purse.{Purse}
 use Rattle.kheap_slabs.specs.Heap.{Heap}
 use Rattle.kheap_slabs.specs.Paid.{CanPay, HasFills, IsPaid}
-use Rattle.kabi_values.specs.declared.inodes.Inode.{Inode}
-use Rattle.kheap_shelves.specs.Objects.{object, put}
+use Rattle.kabi_types.specs.declared.inodes.Inode.{Inode}
+use Rattle.kheap_slabs.specs.Objects.{object, put}
 use Rattle.lru_index.specs.NameKeys.{name_key}
 use Rattle.posix_defs.specs.PathCalls.{node_led}
 use Rattle.posix_defs.specs.Paths.{resolve}

@@ -1,6 +1,6 @@
 -- A name that goes: what is told of it, and who holds what.
 use Rattle.std.specs.Prelude.{◌≡◌, ◌≢◌, ℕ, Bool, true, false, List, [], Option, Some, Result, Ok, Err, nat_lt}
-use Rattle.kabi_values.specs.declared.errnos.Errno.{Errno}
+use Rattle.kabi_types.specs.declared.errnos.Errno.{Errno}
 use Rattle.kheap_slabs.specs.Heap.{Heap}
 use Rattle.posix_defs.specs.PathCalls.{is_socket}
 use Rattle.posix_defs.specs.Tree.{Tree, root, found, is_directory, entries_at}

@@ -1,6 +1,6 @@
 -- A name that goes over to another: what has to be so before.
 use Rattle.std.specs.Prelude.{◌≡◌, ◌≢◌, ℕ, Bool, true, false, List, [], Option, Some, None, Result, Err}
-use Rattle.kabi_values.specs.declared.errnos.Errno.{Errno}
+use Rattle.kabi_types.specs.declared.errnos.Errno.{Errno}
 use Rattle.posix_defs.specs.IsTree.{IsEntryName}
 use Rattle.posix_defs.specs.PathCalls.{is_socket}
 use Rattle.posix_defs.specs.Tree.{Tree, found, is_directory, entries_at, climbed}

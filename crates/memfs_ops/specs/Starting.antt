@@ -2,7 +2,7 @@
 use Rattle.std.specs.Prelude.{◌≡◌, ℕ, ◌<◌, ◌≤◌, ◌++◌, List, codes, length, min}
 use Rattle.std.specs.List.{All, AllByRecursion}
 use Rattle.kabi_types.specs.declared.scripts.Program.{Program}
-use Rattle.kabi_values.specs.declared.inodes.Inode.{Inode}
+use Rattle.kabi_types.specs.declared.inodes.Inode.{Inode}
 use Rattle.posix_defs.specs.DiskContents.{data_block}
 use Rattle.posix_defs.specs.SoundDisk.{HasNode}
 use Rattle.memfs_file.specs.Ranges.{asked_to_read}

@@ -1,6 +1,6 @@
 //! The cached inode of a node that was changed on the disk.
 ghost use Rattle.std.specs.Prelude.{◌≡◌, ℕ};
-ghost use Rattle.kheap_shelves.specs.Objects.{InUse};
+ghost use Rattle.kheap_slabs.specs.Objects.{InUse};
 ghost use Rattle.kheap_slabs.specs.Paid.{TakesNothing};
 ghost use Rattle.posix_defs.specs.IsTree.{IsTree};
 ghost use Rattle.posix_defs.specs.SoundDisk.{HasNode};

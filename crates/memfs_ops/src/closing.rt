@@ -1,6 +1,6 @@
 //! Nodes that are closed: who holds one lets it go, and a file without a name goes with the last that holds it.
 ghost use Rattle.std.specs.Prelude.{◌≡◌, ◌≢◌, ℕ, ◌-◌, ◌<◌, ◌==◌, []};
-ghost use Rattle.kheap_shelves.specs.Objects.{InUse};
+ghost use Rattle.kheap_slabs.specs.Objects.{InUse};
 ghost use Rattle.kheap_slabs.specs.Paid.{HasFills, TakesNothing};
 ghost use Rattle.posix_defs.specs.SoundDisk.{HasNode};
 ghost use Rattle.posix_defs.specs.Tree.{Tree, root};
@@ -16,8 +16,7 @@ ghost use Rattle.memfs_ops.specs.Closing.{one_less, left_tree, GoesThen, KeepsCa
 use crate::FileTree;
 use cached_disk::free_through;
 use kabi_types::Inode;
-use kheap_shelves::Purse;
-use kheap_slabs::KHeap;
+use kheap_slabs::{KHeap, Purse};
 
 impl FileTree {
     /// One less holds a node that is held. With the last that holds it a file goes that has no links.

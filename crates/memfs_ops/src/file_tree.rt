@@ -1,7 +1,7 @@
 //! `FileTree` at boot.
 ghost use Rattle.std.specs.Prelude.{◌≡◌, ℕ, ◌+◌, ◌/◌, ◌<◌, ◌≤◌, [], None, min, replicate, IfOk, OnErr};
-ghost use Rattle.kabi_values.specs.Class.{size};
-ghost use Rattle.kabi_values.specs.declared.classes.Class.TheVariants as class;
+ghost use Rattle.kabi_types.specs.Class.{size};
+ghost use Rattle.kabi_types.specs.declared.classes.Class.TheVariants as class;
 ghost use Rattle.kheap_slabs.specs.Heap.{live_bytes};
 ghost use Rattle.posix_defs.specs.DiskContents.{new_root};
 ghost use Rattle.posix_defs.specs.Tree.{new_tree};
@@ -11,8 +11,7 @@ ghost use Rattle.memfs_ops.specs.FileTree.{Stands, HasNoFiles, root_alone, Keeps
 use block_cache::BlockCache;
 use disk_layout::RamDisk;
 use kabi_types::{Class, Inode, Memory, Need};
-use kheap_shelves::Purse;
-use kheap_slabs::KHeap;
+use kheap_slabs::{KHeap, Purse};
 use name_cache::NameCache;
 use std::alloc::Global;
 use std::marker::Model;

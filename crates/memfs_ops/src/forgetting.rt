@@ -13,8 +13,7 @@ ghost use Rattle.memfs_ops.specs.Changing.{Between, MidWay};
 
 use crate::FileTree;
 use kabi_types::Name27;
-use kheap_shelves::Purse;
-use kheap_slabs::KHeap;
+use kheap_slabs::{KHeap, Purse};
 use lru_index::NameKey;
 
 impl FileTree {

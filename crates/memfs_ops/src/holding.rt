@@ -1,6 +1,6 @@
 //! Who holds a node: a working directory and each open description do, and the root is held always.
 ghost use Rattle.std.specs.Prelude.{◌≡◌, ℕ, ◌+◌, ◌<◌, true, None, Ok, IsSome, MatchResult};
-ghost use Rattle.kabi_calls.specs.Arguments.{path_fault};
+ghost use Rattle.kabi_types.specs.Arguments.{path_fault};
 ghost use Rattle.kheap_slabs.specs.Paid.{TakesNothing};
 ghost use Rattle.posix_defs.specs.PathCalls as calls;
 ghost use Rattle.posix_defs.specs.Paths.{resolve};
@@ -12,8 +12,7 @@ ghost use Rattle.memfs_ops.specs.FileTree.{Stands, MayWalk, Pays, KnowsWay, Keep
 use crate::FileTree;
 use crate::telling::{is_directory, node_led};
 use kabi_types::Errno;
-use kheap_shelves::Purse;
-use kheap_slabs::KHeap;
+use kheap_slabs::{KHeap, Purse};
 
 impl FileTree {
     /// The directory that a path leads to, which one more holds from then on: ENOTDIR where it is none, else the faults of the

@@ -1,8 +1,8 @@
 //! Further names of files and sockets.
 ghost use Rattle.std.specs.Prelude.{◌≡◌, ℕ, ◌<◌, ◌^◌, true, false, None, Ok};
 ghost use Rattle.std.specs.List.{All};
-ghost use Rattle.kabi_calls.specs.Arguments.{path_fault};
-ghost use Rattle.kabi_values.specs.declared.errnos.Errno.TheVariants.{ENOENT, EPERM};
+ghost use Rattle.kabi_types.specs.Arguments.{path_fault};
+ghost use Rattle.kabi_types.specs.declared.errnos.Errno.TheVariants.{ENOENT, EPERM};
 ghost use Rattle.posix_defs.specs.IsTree.{IsEntryName};
 ghost use Rattle.posix_defs.specs.PathCalls as calls;
 ghost use Rattle.posix_defs.specs.Paths.{resolve};
@@ -15,8 +15,7 @@ use crate::FileTree;
 use crate::entries::EntryEdit;
 use crate::telling::{is_directory, node_led};
 use kabi_types::{Errno, Name27};
-use kheap_shelves::Purse;
-use kheap_slabs::KHeap;
+use kheap_slabs::{KHeap, Purse};
 use path_walk::Walked;
 
 /// The greatest count of links.

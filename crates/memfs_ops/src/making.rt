@@ -1,7 +1,7 @@
 //! New nodes: directories, and names of sockets.
 ghost use Rattle.std.specs.Prelude.{◌≡◌, ℕ, ◌<◌, ◌^◌, true, None, Ok, Err, MatchResult};
 ghost use Rattle.std.specs.List.{All};
-ghost use Rattle.kabi_calls.specs.Arguments.{path_fault};
+ghost use Rattle.kabi_types.specs.Arguments.{path_fault};
 ghost use Rattle.posix_defs.specs.IsTree.{IsEntryName, IsNewContent};
 ghost use Rattle.posix_defs.specs.PathCalls as calls;
 ghost use Rattle.posix_defs.specs.SoundDisk.{HasNode};
@@ -17,8 +17,7 @@ ghost use Rattle.memfs_ops.specs.Changing.{LagsAs, LedTo, DoneAs};
 use crate::FileTree;
 use cached_disk::make_through;
 use kabi_types::{Errno, Inode, Name27};
-use kheap_shelves::Purse;
-use kheap_slabs::KHeap;
+use kheap_slabs::{KHeap, Purse};
 use memfs_node::NewNode;
 use path_walk::Walked;
 

@@ -1,10 +1,10 @@
 //! Nodes that are opened: each description of one holds it.
 ghost use Rattle.std.specs.Prelude.{◌≡◌, ℕ, ◌<◌, ◌^◌, ◌&&◌, ◌||◌, true, false, None, Ok, IsSome, Result, List, pos};
 ghost use Rattle.std.specs.List.{All};
-ghost use Rattle.kabi_calls.specs.Arguments.{path_fault};
-ghost use Rattle.kabi_values.specs.OpenFlags.{bits_of};
-ghost use Rattle.kabi_values.specs.declared.errnos.Errno.{Errno as Fault};
-ghost use Rattle.kabi_values.specs.declared.errnos.Errno.TheVariants.{EEXIST, EISDIR, EOPNOTSUPP};
+ghost use Rattle.kabi_types.specs.Arguments.{path_fault};
+ghost use Rattle.kabi_types.specs.OpenFlags.{bits_of};
+ghost use Rattle.kabi_types.specs.declared.errnos.Errno.{Errno as Fault};
+ghost use Rattle.kabi_types.specs.declared.errnos.Errno.TheVariants.{EEXIST, EISDIR, EOPNOTSUPP};
 ghost use Rattle.lru_index.specs.NameKeys.{name_key};
 ghost use Rattle.posix_defs.specs.Calls.OnFiles.{opening_of};
 ghost use Rattle.posix_defs.specs.Files.Descriptions as descriptions;
@@ -24,8 +24,7 @@ use crate::FileTree;
 use crate::telling::{is_directory, is_socket};
 use bitflags::Flags;
 use kabi_types::{Errno, Inode, Name27, OpenFlags};
-use kheap_shelves::Purse;
-use kheap_slabs::KHeap;
+use kheap_slabs::{KHeap, Purse};
 use memfs_node::NewNode;
 use path_walk::Walked;
 

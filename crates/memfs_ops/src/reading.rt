@@ -1,7 +1,7 @@
 //! Bytes of a node that is held: those of a file, and the entries of a directory.
 ghost use Rattle.std.specs.Prelude.{◌≡◌, ℕ, ◌+◌, ◌-◌, ◌*◌, ◌/◌, ◌%◌, ◌<◌, ◌≤◌, ◌++◌, true, length, min, take, drop};
 ghost use Rattle.std.specs.List.{AllByRecursion};
-ghost use Rattle.kabi_values.specs.declared.inodes.Inode.{Inode as InodeOf};
+ghost use Rattle.kabi_types.specs.declared.inodes.Inode.{Inode as InodeOf};
 ghost use Rattle.posix_defs.specs.DiskFormat.{block_size};
 ghost use Rattle.posix_defs.specs.DiskContents.{data_block, node_bytes};
 ghost use Rattle.posix_defs.specs.PathCalls as calls;
@@ -16,8 +16,7 @@ ghost use Rattle.memfs_ops.specs.Fetching.{MayFetch, Fetches, IsFile};
 use crate::FileTree;
 use cached_disk::read_through;
 use kabi_types::Inode;
-use kheap_shelves::Purse;
-use kheap_slabs::KHeap;
+use kheap_slabs::{KHeap, Purse};
 
 /// The bytes of an entry.
 const ENTRY_SIZE: usize = 32;

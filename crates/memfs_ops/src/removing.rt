@@ -2,9 +2,9 @@
 ghost use Rattle.std.specs.Prelude.{◌≡◌, ◌≢◌, ℕ, ◌&&◌, ◌==◌, Bool, Option, List, true, false, not, None, Some, Ok, Err, Result, IsSome};
 ghost use Rattle.std.specs.List.{last_or};
 ghost use Rattle.std.specs.Option.{option_map};
-ghost use Rattle.kabi_calls.specs.Arguments.{path_fault};
-ghost use Rattle.kabi_calls.specs.PathParts.{components};
-ghost use Rattle.kabi_values.specs.declared.errnos.Errno.TheVariants.{EBUSY, ENOTDIR, ENOTEMPTY, EPERM};
+ghost use Rattle.kabi_types.specs.Arguments.{path_fault};
+ghost use Rattle.kabi_types.specs.PathParts.{components};
+ghost use Rattle.kabi_types.specs.declared.errnos.Errno.TheVariants.{EBUSY, ENOTDIR, ENOTEMPTY, EPERM};
 ghost use Rattle.posix_defs.specs.PathCalls as calls;
 ghost use Rattle.posix_defs.specs.Tree.{Tree, IsInodeAt, root, found, is_directory as directory_in};
 ghost use Rattle.posix_defs.specs.TreeChanges.{unlink};
@@ -17,8 +17,7 @@ use crate::FileTree;
 use crate::entries::EntryEdit;
 use crate::telling::{is_directory, is_file, is_socket};
 use kabi_types::{Errno, Inode, Name27};
-use kheap_shelves::Purse;
-use kheap_slabs::KHeap;
+use kheap_slabs::{KHeap, Purse};
 use path_walk::Walked;
 
 /// The size of a directory that has `.` and `..` alone.

@@ -1,9 +1,9 @@
 //! Names that go over to other names.
 ghost use Rattle.std.specs.Prelude.{◌≡◌, ◌≢◌, ℕ, ◌<◌, ◌≤◌, ◌^◌, ◌&&◌, Bool, Option, true, false, not, None, Some, Ok, Err, Result, MatchBool, MatchResult, length};
 ghost use Rattle.std.specs.List.{All};
-ghost use Rattle.kabi_calls.specs.Arguments.{path_fault};
-ghost use Rattle.kabi_values.specs.declared.errnos.Errno.TheVariants.{EBUSY, EINVAL, EISDIR, ENOSPC, ENOTDIR, ENOTEMPTY};
-ghost use Rattle.kabi_values.specs.declared.errnos.Errno.{Errno as Fault};
+ghost use Rattle.kabi_types.specs.Arguments.{path_fault};
+ghost use Rattle.kabi_types.specs.declared.errnos.Errno.TheVariants.{EBUSY, EINVAL, EISDIR, ENOSPC, ENOTDIR, ENOTEMPTY};
+ghost use Rattle.kabi_types.specs.declared.errnos.Errno.{Errno as Fault};
 ghost use Rattle.posix_defs.specs.IsTree.{IsEntryName};
 ghost use Rattle.posix_defs.specs.PathCalls as calls;
 ghost use Rattle.posix_defs.specs.Paths.{resolve};
@@ -24,8 +24,7 @@ use crate::removing::socket_freed;
 use crate::telling::is_directory;
 use cached_disk::find_parent;
 use kabi_types::{Errno, Inode, Name27};
-use kheap_shelves::Purse;
-use kheap_slabs::KHeap;
+use kheap_slabs::{KHeap, Purse};
 use path_walk::Walked;
 use posix_defs::Blocks;
 

@@ -1,7 +1,7 @@
 //! Files that name a program of the script.
 ghost use Rattle.std.specs.Prelude.{◌≡◌, ◌≤◌, ℕ, None, Ok, IsSome, length, nat_eq, true};
 ghost use Rattle.std.specs.List.{starts_with};
-ghost use Rattle.kabi_calls.specs.Arguments.{path_fault};
+ghost use Rattle.kabi_types.specs.Arguments.{path_fault};
 ghost use Rattle.posix_defs.specs.PathCalls as calls;
 ghost use Rattle.posix_defs.specs.Paths.{resolve};
 ghost use Rattle.posix_defs.specs.Tree.{Tree, is_directory as directory_in, is_in_use};
@@ -12,8 +12,7 @@ ghost use Rattle.memfs_ops.specs.Starting.{line_of, ArePrograms, KnowsLine, Keep
 use crate::FileTree;
 use crate::telling::{is_file, node_led};
 use kabi_types::{Errno, Name27, Program, Script};
-use kheap_shelves::Purse;
-use kheap_slabs::KHeap;
+use kheap_slabs::{KHeap, Purse};
 
 impl FileTree {
     /// The program that a file names, by its place in the script: the file begins with `#!`, its name and a newline. EACCES

@@ -17,8 +17,7 @@ use crate::FileTree;
 use crate::entries::EntryEdit;
 use crate::through::{add_through, drop_through, edit_through, room_through};
 use kabi_types::Inode;
-use kheap_shelves::Purse;
-use kheap_slabs::KHeap;
+use kheap_slabs::{KHeap, Purse};
 
 impl FileTree {
     /// An entry of a directory changes.

@@ -1,7 +1,7 @@
 //! Calls that look at the tree and change nothing of it.
 ghost use Rattle.std.specs.Prelude.{◌≡◌, ◌==◌, ◌||◌, ℕ, true, not, Bool, List, None, Some, IsSome, if◌then◌else◌};
 ghost use Rattle.std.specs.List.{AllByRecursion};
-ghost use Rattle.kabi_calls.specs.Arguments.{path_fault};
+ghost use Rattle.kabi_types.specs.Arguments.{path_fault};
 ghost use Rattle.lru_index.specs.NameKeys.{name_key};
 ghost use Rattle.posix_defs.specs.PathCalls as calls;
 ghost use Rattle.posix_defs.specs.Paths.{resolve};
@@ -18,8 +18,7 @@ ghost use Rattle.memfs_ops.specs.Starting.{file_kind};
 use crate::FileTree;
 use cached_disk::{find_inode, find_name, walk_through};
 use kabi_types::{Errno, Inode, NodeKind, StatInfo};
-use kheap_shelves::Purse;
-use kheap_slabs::KHeap;
+use kheap_slabs::{KHeap, Purse};
 use path_walk::Walked;
 
 const FILE: u8 = 1;

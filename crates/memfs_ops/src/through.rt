@@ -16,8 +16,7 @@ use block_cache::BlockCache;
 use cached_disk::CachedBlocks;
 use disk_layout::RamDisk;
 use kabi_types::Inode;
-use kheap_shelves::Purse;
-use kheap_slabs::KHeap;
+use kheap_slabs::{KHeap, Purse};
 use memfs_node::{add_link, drop_link, has_room_for_entry};
 
 /// Changes an entry of a directory.

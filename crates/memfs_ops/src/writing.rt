@@ -13,8 +13,7 @@ use crate::FileTree;
 use crate::reading::place_of;
 use cached_disk::{size_through, write_through};
 use kabi_types::{Errno, Inode};
-use kheap_shelves::Purse;
-use kheap_slabs::KHeap;
+use kheap_slabs::{KHeap, Purse};
 
 impl FileTree {
     /// Writes bytes into a file that is held, from `at` on, as many as there is room for, and answers how many; a gap before

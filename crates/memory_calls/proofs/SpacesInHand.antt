@@ -4,8 +4,8 @@ use Rattle.std.specs.Prelude.{None, slice_set}
 use Rattle.std.proofs.lemmas.List.{set-get_or}
 use Rattle.kabi_types.specs.declared.scripts.Control.{Control}
 use Rattle.kabi_types.specs.declared.scripts.Script.{Script}
-use Rattle.kheap_shelves.specs.Objects.{object, put}
-use Rattle.kheap_shelves.specs.declared.objects.Proc.{Proc}
+use Rattle.kheap_slabs.specs.Objects.{object, put}
+use Rattle.kheap_slabs.specs.declared.objects.Proc.{Proc}
 use Rattle.kheap_slabs.specs.Heap.{Heap}
 use Rattle.page_space.specs.Accounts.{AccountMoves, IsAccounted}
 use Rattle.page_space.specs.Contents.{SpaceMoves, StandsFor as IsMemory}

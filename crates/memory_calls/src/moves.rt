@@ -1,8 +1,8 @@
 //! The calls that move bytes between a program and its memory: `store` and `load`.
 
 ghost use Rattle.std.specs.Prelude.{◌≡◌, ◌+◌, ◌<◌, ◌≤◌, length, None};
-ghost use Rattle.kabi_calls.specs.Arguments.{argument_fault, count_of, range_fault};
-ghost use Rattle.kabi_calls.specs.declared.calls.Call.{Call};
+ghost use Rattle.kabi_types.specs.Arguments.{argument_fault, count_of, range_fault};
+ghost use Rattle.kabi_types.specs.declared.calls.Call.{Call};
 ghost use Rattle.kheap_slabs.specs.Paid.{CanPay, IsPaid, TakesNothing};
 ghost use Rattle.posix_defs.specs.MemoryCalls.{load, store};
 ghost use Rattle.posix_defs.specs.Needs.{pages_touched};
@@ -11,7 +11,7 @@ ghost use Rattle.store_objects.specs.Standing.{Performs};
 
 use crate::spaces::{put, take};
 use kabi_types::{Bytes64, Control, Reply, Script};
-use kheap_shelves::Purse;
+use kheap_slabs::Purse;
 use posix_defs::Turned;
 use store_objects::{Objects, go_on};
 

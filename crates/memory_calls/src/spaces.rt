@@ -1,8 +1,8 @@
 //! What calls do to the address space of a process.
 
 ghost use Rattle.std.specs.Prelude.{◌≡◌, ◌+◌, ◌*◌, ◌<◌, ◌≤◌, ℕ, OnErr, OnOk, ok_or, option_map, if◌then◌else◌, length, Ok, Err};
-ghost use Rattle.kabi_calls.specs.Arguments.{page_size};
-ghost use Rattle.kabi_values.specs.declared.errnos.Errno.TheVariants.{EFAULT, EMFILE};
+ghost use Rattle.kabi_types.specs.Arguments.{page_size};
+ghost use Rattle.kabi_types.specs.declared.errnos.Errno.TheVariants.{EFAULT, EMFILE};
 ghost use Rattle.kabi_types.specs.declared.scripts.Control.{Control};
 ghost use Rattle.kabi_types.specs.declared.scripts.Script.{Script};
 ghost use Rattle.kheap_slabs.specs.Paid.{CanPay, IsPaid, TakesNothing};
@@ -18,8 +18,7 @@ ghost use Rattle.memory_calls.specs.Spaces.{HasSpace};
 ghost use Rattle.store_objects.specs.Standing.{StandsFor, remembered_in};
 
 use kabi_types::{Bytes64, Errno};
-use kheap_shelves::Purse;
-use kheap_slabs::KHeap;
+use kheap_slabs::{KHeap, Purse};
 use page_space::Space;
 use store_objects::Objects;
 

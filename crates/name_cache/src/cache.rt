@@ -2,8 +2,8 @@
 //! and the key of its Name in the heap, the coldest first, and the capacity.
 ghost use Rattle.std.specs.Prelude.{◌≡◌, ◌↔◌, ℕ, ◌<◌, ◌≤◌, [], None, Some, IfOk, IsSome, IsTrue, MatchOption, cond, length, slice_index_or, take};
 ghost use Rattle.std.specs.Bool.{MatchBool};
-ghost use Rattle.kheap_shelves.specs.Objects.{object, put};
-ghost use Rattle.kheap_shelves.specs.declared.objects.Name.{Name as NameOf};
+ghost use Rattle.kheap_slabs.specs.Objects.{object, put};
+ghost use Rattle.kheap_slabs.specs.declared.objects.Name.{Name as NameOf};
 ghost use Rattle.kheap_slabs.specs.Paid.{CanPay, IsPaid, TakesNothing};
 ghost use Rattle.lru_index.specs.Order.{order, touched};
 ghost use Rattle.lru_index.specs.declared.keys.NameKey.{NameKey as KeyOf};
@@ -11,8 +11,7 @@ ghost use Rattle.name_cache.specs.Names.{same_key, name_of, IsNameKey, name_slot
 
 use cache_laws::place_of;
 use kabi_types::{Class, Memory, Name27};
-use kheap_shelves::{Name, Purse};
-use kheap_slabs::KHeap;
+use kheap_slabs::{KHeap, Name, Purse};
 use lru_index::{Index, NameKey};
 use std::alloc::Global;
 use std::marker::Model;

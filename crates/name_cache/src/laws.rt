@@ -1,8 +1,8 @@
 //! Laws of the cache of names, each the contract of a function that does nothing.
 ghost use Rattle.std.specs.Prelude.{◌≡◌, ℕ, ◌+◌, ◌≤◌, List, [], Option, None, Some, replicate, take};
-ghost use Rattle.kheap_shelves.specs.Objects.{object, count, put};
-ghost use Rattle.kheap_shelves.specs.Purse.{Purse};
-ghost use Rattle.kheap_shelves.specs.declared.objects.Name.{Name};
+ghost use Rattle.kheap_slabs.specs.Objects.{object, count, put};
+ghost use Rattle.kheap_slabs.specs.Purse.{Purse};
+ghost use Rattle.kheap_slabs.specs.declared.objects.Name.{Name};
 ghost use Rattle.kheap_slabs.specs.Heap.{Heap};
 ghost use Rattle.kheap_slabs.specs.Paid.{IsPaid};
 ghost use Rattle.lru_index.specs.NameKeys.{name_key};

@@ -1,8 +1,8 @@
 -- Nodes come into a set: the one that a process works in, and those that it has open.
 use Rattle.std.proofs.Common.{◌≡◌, ℕ, ◌≤◌, ◌==◌, ◌&&◌, ◌||◌, not, Bool, true, false, List, length, take, Option, None, Some, is_none, is_some, nat_lt, refl, ap, sym, ◌∙◌}
 use Rattle.std.proofs.lemmas.List.{take_all}
-use Rattle.kheap_shelves.specs.declared.objects.Desc.{Desc}
-use Rattle.kheap_shelves.specs.declared.objects.Proc.{Proc}
+use Rattle.kheap_slabs.specs.declared.objects.Desc.{Desc}
+use Rattle.kheap_slabs.specs.declared.objects.Proc.{Proc}
 use Rattle.name_calls.specs.Nodes.{Adds, has_node, holds_node, most_nodes, some_opens, works_at}
 use Rattle.name_calls.specs.declared.node_set.NodeSet.{NodeSet}
 

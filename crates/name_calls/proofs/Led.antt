@@ -1,10 +1,10 @@
 -- What each call on names is answered, by what the tree of files answered.
 use Rattle.std.proofs.Common.{◌≡◌, ℕ, Bool, true, List, Option, None, Some, Result, Ok, Err, refl, ap, sym, ◌∙◌, subst}
-use Rattle.kabi_calls.specs.declared.calls.Call.TheVariants as call
+use Rattle.kabi_types.specs.declared.calls.Call.TheVariants as call
 use Rattle.kabi_types.specs.declared.scripts.Script.{Script}
-use Rattle.kabi_values.specs.declared.errnos.Errno.{Errno}
-use Rattle.kabi_values.specs.declared.replies.Reply.{Reply}
-use Rattle.kabi_values.specs.declared.replies.Reply.TheVariants as reply
+use Rattle.kabi_types.specs.declared.errnos.Errno.{Errno}
+use Rattle.kabi_types.specs.declared.replies.Reply.{Reply}
+use Rattle.kabi_types.specs.declared.replies.Reply.TheVariants as reply
 use Rattle.kheap_slabs.specs.Heap.{Heap}
 use Rattle.machine_keeps.proofs.NodesAfter.{Turns, link_path_turns, mkdir_turns, rename_path_turns, rmdir_turns, unlink_path_turns}
 use Rattle.memfs_ops.specs.Changing.{ChangedTo, DoneAs}
@@ -22,7 +22,7 @@ use Rattle.posix_defs.specs.Process.{directory_of}
 use Rattle.posix_defs.specs.Tree.{Tree, is_directory}
 use Rattle.posix_defs.specs.World.{World, directories_of}
 use Rattle.proc_table.specs.Procs.{proc_of}
-use Rattle.kheap_shelves.specs.declared.objects.Proc.{Proc}
+use Rattle.kheap_slabs.specs.declared.objects.Proc.{Proc}
 use Rattle.store_objects.specs.declared.objects.Objects.{Objects}
 use Rattle.store_objects.specs.Objects.{procs_of}
 use Rattle.store_objects.specs.Standing.{IsSound, StandsFor}

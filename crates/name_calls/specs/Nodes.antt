@@ -1,10 +1,10 @@
 -- Sets of nodes, and which nodes processes hold.
 use Rattle.std.specs.Prelude.{ℕ, ◌==◌, ◌≡◌, ◌&&◌, ◌||◌, Bool, false, List, Option, None, Some, nat_lt, is_none}
 use Rattle.std.specs.List.{list_any}
-use Rattle.kheap_shelves.specs.Objects.{object}
-use Rattle.kheap_shelves.specs.declared.objects.Desc.{Desc}
-use Rattle.kheap_shelves.specs.declared.objects.Descriptor.{Descriptor}
-use Rattle.kheap_shelves.specs.declared.objects.Proc.{Proc}
+use Rattle.kheap_slabs.specs.Objects.{object}
+use Rattle.kheap_slabs.specs.declared.objects.Desc.{Desc}
+use Rattle.kheap_slabs.specs.declared.objects.Descriptor.{Descriptor}
+use Rattle.kheap_slabs.specs.declared.objects.Proc.{Proc}
 use Rattle.open_laws.specs.Described.{node_in}
 use Rattle.posix_defs.specs.Files.State.{is_number}
 use Rattle.posix_defs.specs.SoundDisk.{bit_of}

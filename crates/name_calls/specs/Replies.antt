@@ -1,8 +1,8 @@
 -- What is told of a call on names.
 use Rattle.std.specs.Prelude.{ℕ, pos, Option, None, Result, Ok, Err}
-use Rattle.kabi_values.specs.declared.errnos.Errno.{Errno}
-use Rattle.kabi_values.specs.declared.replies.Reply.{Reply}
-use Rattle.kabi_values.specs.declared.replies.Reply.TheVariants.{Fail, Val}
+use Rattle.kabi_types.specs.declared.errnos.Errno.{Errno}
+use Rattle.kabi_types.specs.declared.replies.Reply.{Reply}
+use Rattle.kabi_types.specs.declared.replies.Reply.TheVariants.{Fail, Val}
 
 -- 0, or the fault
 abbrev pub done_reply : Result (Unit {0}) Errno → Reply

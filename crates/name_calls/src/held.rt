@@ -1,8 +1,8 @@
 //! Who holds which nodes, told while the heap is lent to the tree.
 
 ghost use Rattle.std.specs.Prelude.{◌≡◌, ◌&&◌, ℕ, [], Some, nat_lt};
-ghost use Rattle.kheap_shelves.specs.Objects.{InUse, object};
-ghost use Rattle.kheap_shelves.specs.declared.objects.Proc.{Proc};
+ghost use Rattle.kheap_slabs.specs.Objects.{InUse, object};
+ghost use Rattle.kheap_slabs.specs.declared.objects.Proc.{Proc};
 ghost use Rattle.kheap_slabs.specs.Heap.{IsWellFormed};
 ghost use Rattle.open_laws.specs.Described.{node_in};
 ghost use Rattle.open_laws.specs.Owned.{HasItsOwners};
@@ -11,8 +11,7 @@ ghost use Rattle.proc_table.specs.Table.{AreStored, processes};
 ghost use Rattle.name_calls.specs.Nodes.{Adds, has_node, holds_node, most_nodes, some_holds};
 
 use crate::node_set::NodeSet;
-use kheap_shelves::{Desc, Target};
-use kheap_slabs::KHeap;
+use kheap_slabs::{Desc, KHeap, Target};
 use proc_table::ProcTable;
 
 /// The nodes that live processes work in, and those that are open.

@@ -1,6 +1,6 @@
 ghost use Rattle.std.specs.Prelude.{◌≡◌, ◌*◌, ◌<◌, ◌≤◌, ◌^◌, max};
-ghost use Rattle.kabi_values.specs.Class.{size};
-ghost use Rattle.kabi_values.specs.declared.classes.Class.TheVariants.{Block, Chunk};
+ghost use Rattle.kabi_types.specs.Class.{size};
+ghost use Rattle.kabi_types.specs.declared.classes.Class.TheVariants.{Block, Chunk};
 ghost use Rattle.posix_defs.specs.Needs.{bound, is_write};
 ghost use Rattle.posix_defs.specs.Sizes.{bytes_of};
 

@@ -1,5 +1,5 @@
 ghost use Rattle.std.specs.Prelude.{◌≡◌, ◌-◌, ◌<◌, ◌≤◌, ◌^◌, length, None};
-ghost use Rattle.kabi_calls.specs.Arguments.{argument_fault, range_fault, count_of};
+ghost use Rattle.kabi_types.specs.Arguments.{argument_fault, range_fault, count_of};
 ghost use Rattle.posix_defs.specs.Sizes.{no_need};
 ghost use Rattle.posix_defs.specs.Needs.{need_of, objects_of, walk_need, two_walks_need, read_need, write_need, stored_bytes, pages_touched, pages_in, nodes_for, chunks_for};
 

@@ -1,11 +1,11 @@
 -- A call has changed what a process has open, with the tree of files and the names of sockets, and its caller goes on.
 use Rattle.std.proofs.Common.{◌≡◌, ℕ, List, [], Option, length, le_refl, refl, subst, sym}
 use Rattle.std.specs.Prelude.{IsSome}
-use Rattle.kabi_calls.specs.declared.calls.Call.{Call}
+use Rattle.kabi_types.specs.declared.calls.Call.{Call}
 use Rattle.kabi_types.specs.declared.scripts.Control.{Control}
 use Rattle.kabi_types.specs.declared.scripts.Script.{Script}
-use Rattle.kabi_values.specs.declared.replies.Reply.{Reply}
-use Rattle.kheap_shelves.specs.declared.objects.Sock.{Sock}
+use Rattle.kabi_types.specs.declared.replies.Reply.{Reply}
+use Rattle.kheap_slabs.specs.declared.objects.Sock.{Sock}
 use Rattle.kheap_slabs.specs.Heap.{Heap, IsWellFormed}
 use Rattle.kheap_slabs.specs.Paid.{TakesNothing}
 use Rattle.memfs_ops.specs.FileTree.{TreeView}

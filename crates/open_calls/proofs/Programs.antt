@@ -7,8 +7,8 @@ use Rattle.std.proofs.lemmas.Bool.Decides.{leb_tells}
 use Rattle.std.proofs.lemmas.List.Elements.{All-from_recursion}
 use Rattle.kabi_types.specs.declared.scripts.Program.{Program}
 use Rattle.kabi_types.specs.declared.scripts.Script.{Script}
-use Rattle.kabi_values.specs.declared.errnos.Errno.{Errno}
-use Rattle.kabi_values.specs.declared.errnos.Errno.TheVariants.{EACCES, ENOEXEC}
+use Rattle.kabi_types.specs.declared.errnos.Errno.{Errno}
+use Rattle.kabi_types.specs.declared.errnos.Errno.TheVariants.{EACCES, ENOEXEC}
 use Rattle.memfs_ops.specs.Starting.{ArePrograms}
 use Rattle.posix_defs.specs.PathCalls.{bytes_in, exec_found, exec_path, first_line, is_socket, node_led, program_of, unless}
 use Rattle.posix_defs.specs.Paths.{resolve}

@@ -1,7 +1,7 @@
 -- The worlds of a process that starts a program.
 use Rattle.std.specs.Prelude.{ℕ, ◌≤◌}
 use Rattle.kabi_types.specs.declared.scripts.Script.{Script}
-use Rattle.kheap_shelves.specs.Objects.{count}
+use Rattle.kheap_slabs.specs.Objects.{count}
 use Rattle.memfs_ops.specs.Closing.{KeepsCached}
 use Rattle.memfs_ops.specs.FileTree.{TreeView}
 use Rattle.posix_defs.specs.Control.{restarted, settled}

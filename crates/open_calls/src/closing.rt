@@ -1,7 +1,7 @@
 //! The calls with which descriptions go: `close` and `dup2`.
 
 ghost use Rattle.std.specs.Prelude.{◌≤◌, ◌+◌};
-ghost use Rattle.kabi_calls.specs.declared.calls.Call.{Call};
+ghost use Rattle.kabi_types.specs.declared.calls.Call.{Call};
 ghost use Rattle.kheap_slabs.specs.Heap.{live_bytes};
 ghost use Rattle.posix_defs.specs.Calls.OnDescriptors.{close, dup2};
 ghost use Rattle.posix_defs.specs.Sizes.{reserve};

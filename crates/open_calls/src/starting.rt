@@ -1,11 +1,11 @@
 //! A process starts a program from a file: `exec`.
 
 ghost use Rattle.std.specs.Prelude.{◌≡◌, ◌+◌, ◌<◌, ◌≤◌, None, length, pos};
-ghost use Rattle.kabi_calls.specs.Arguments.{argument_fault};
-ghost use Rattle.kabi_calls.specs.declared.calls.Call.{Call};
+ghost use Rattle.kabi_types.specs.Arguments.{argument_fault};
+ghost use Rattle.kabi_types.specs.declared.calls.Call.{Call};
 ghost use Rattle.kabi_types.specs.declared.scripts.Control.{Control};
 ghost use Rattle.kabi_types.specs.declared.scripts.Script.{Script};
-ghost use Rattle.kabi_values.specs.declared.replies.Reply.TheVariants as reply;
+ghost use Rattle.kabi_types.specs.declared.replies.Reply.TheVariants as reply;
 ghost use Rattle.kheap_slabs.specs.Heap.{live_bytes};
 ghost use Rattle.kheap_slabs.specs.Paid.{TakesNothing};
 ghost use Rattle.memfs_ops.specs.FileTree.{MayWalk};
@@ -23,7 +23,7 @@ ghost use Rattle.store_objects.specs.Walking.{Serves};
 ghost use Rattle.open_calls.specs.Starting.{CachesShed, begun_in, forgotten_in, shed_in, started_in};
 
 use kabi_types::{Control, Reply, Script};
-use kheap_shelves::Purse;
+use kheap_slabs::Purse;
 use posix_defs::Turned;
 use proc_files::program_for;
 use proc_names::close_at_exec;

@@ -1,6 +1,6 @@
 //! What is told of what a number is open on: `fstat`.
 
-ghost use Rattle.kabi_calls.specs.declared.calls.Call.{Call};
+ghost use Rattle.kabi_types.specs.declared.calls.Call.{Call};
 ghost use Rattle.kheap_slabs.specs.Paid.{TakesNothing};
 ghost use Rattle.posix_defs.specs.Calls.OnFiles.{fstat};
 ghost use Rattle.posix_defs.specs.World.{World};

@@ -1,11 +1,11 @@
 -- What is closed is closed also by the heap in which the Desc was there still.
 use Rattle.std.proofs.Common.{◌≡◌, ℕ, List, ◌∷◌, Option, refl, sym, ap, subst, ◌∙◌}
-use Rattle.kheap_shelves.specs.declared.objects.Access.{Access}
-use Rattle.kheap_shelves.specs.declared.objects.Desc.{Desc}
-use Rattle.kheap_shelves.specs.declared.objects.Pipe.{Pipe as HeldPipe}
-use Rattle.kheap_shelves.specs.declared.objects.Sock.{Sock}
-use Rattle.kheap_shelves.specs.declared.objects.Target.{Target}
-use Rattle.kheap_shelves.specs.declared.objects.Target.TheVariants as target
+use Rattle.kheap_slabs.specs.declared.objects.Access.{Access}
+use Rattle.kheap_slabs.specs.declared.objects.Desc.{Desc}
+use Rattle.kheap_slabs.specs.declared.objects.Pipe.{Pipe as HeldPipe}
+use Rattle.kheap_slabs.specs.declared.objects.Sock.{Sock}
+use Rattle.kheap_slabs.specs.declared.objects.Target.{Target}
+use Rattle.kheap_slabs.specs.declared.objects.Target.TheVariants as target
 use Rattle.kheap_slabs.specs.Heap.{Heap}
 use Rattle.chunk_queue.proofs.HeldLemmas.{HasBytes-same}
 use Rattle.pipe_ends.specs.Standing.{LeavesOthers as LeavesOtherPipes}

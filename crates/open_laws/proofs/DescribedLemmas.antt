@@ -1,8 +1,8 @@
 -- A description at its place while its Desc is shared and dropped.
 use Rattle.std.proofs.Common.{◌≡◌, ◌≢◌, ℕ, zero, suc, ◌+◌, ◌-◌, ◌<◌, Bool, true, false, List, [], ◌∷◌, set, cond, eqb, Option, None, Some, refl, sym, ap, subst, ◌∙◌, arith, eq-eqb, ne_eqb}
 use Rattle.std.specs.Option.{option_map}
-use Rattle.kheap_shelves.specs.Objects.{object, InUse, put, without}
-use Rattle.kheap_shelves.specs.declared.objects.Desc.{Desc}
+use Rattle.kheap_slabs.specs.Objects.{object, InUse, put, without}
+use Rattle.kheap_slabs.specs.declared.objects.Desc.{Desc}
 use Rattle.kheap_slabs.specs.Heap.{Heap}
 use Rattle.posix_defs.specs.Files.Descriptions.{with_description}
 use Rattle.place_laws.specs.Placed.{Numbers}

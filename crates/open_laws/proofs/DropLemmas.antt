@@ -2,11 +2,11 @@
 use Rattle.std.proofs.Common.{◌≡◌, ◌≢◌, ℕ, zero, suc, ◌+◌, ◌<◌, Bool, true, false, List, [], ◌∷◌, cond, Option, None, Some, IsSome, refl, sym, ap, subst, ◌∙◌, arith, eq-eqb, ne_eqb, inl, inr}
 use Rattle.std.proofs.lemmas.Bool.{cases_eq}
 use Rattle.std.specs.Option.{option_map}
-use Rattle.kheap_shelves.specs.Objects.{object, InUse, put}
-use Rattle.kheap_shelves.specs.declared.objects.Access.{Access}
-use Rattle.kheap_shelves.specs.declared.objects.Desc.{Desc}
-use Rattle.kheap_shelves.specs.declared.objects.Target.{Target}
-use Rattle.kheap_shelves.specs.declared.objects.Target.TheVariants as target
+use Rattle.kheap_slabs.specs.Objects.{object, InUse, put}
+use Rattle.kheap_slabs.specs.declared.objects.Access.{Access}
+use Rattle.kheap_slabs.specs.declared.objects.Desc.{Desc}
+use Rattle.kheap_slabs.specs.declared.objects.Target.{Target}
+use Rattle.kheap_slabs.specs.declared.objects.Target.TheVariants as target
 use Rattle.kheap_slabs.specs.Heap.{Heap}
 use Rattle.posix_defs.specs.Pipe.{Pipe}
 use Rattle.posix_defs.specs.Sockets.{Sockets, after_close as sockets_after_close}
@@ -20,7 +20,7 @@ use Rattle.pipe_ends.proofs.StandingLemmas.{stands_on as pipe_stands_on}
 use Rattle.usock_core.specs.Standing.{IsClosableIn}
 use Rattle.usock_core.proofs.StandingLemmas.{stands_on as sockets_stand_on, found}
 use Rattle.usock_core.proofs.OneTable.{nowhere_in}
-use Rattle.kheap_shelves.proofs.ObjectLemmas.{object_of}
+use Rattle.kheap_slabs.proofs.ObjectLemmas.{object_of}
 use Rattle.place_laws.specs.Placed.{Numbers}
 use Rattle.place_laws.proofs.PlaceLemmas.{placed_unchanged}
 use Rattle.open_laws.specs.Described.{Counted, CountedList, counted_in, access_in, target_in, AreDescribed, after_share, after_drop, counting, descs_left, uncounted}

@@ -5,20 +5,20 @@ use Rattle.std.proofs.lemmas.Bool.{cases_lt}
 use Rattle.std.proofs.lemmas.List.{get_or_past, get_or-replicate, length-replicate}
 use Rattle.std.proofs.lemmas.List.Folds.{sum_by-replicate}
 use Rattle.std.proofs.lemmas.List.Sums.{count_by-le-length, sum_by-cons}
-use Rattle.kabi_values.specs.Class.{size}
-use Rattle.kabi_values.specs.declared.classes.Class.TheVariants as class
-use Rattle.kheap_shelves.specs.Objects.{count, object, InUse}
-use Rattle.kheap_shelves.proofs.ObjectLemmas.{object_of}
-use Rattle.kheap_shelves.specs.declared.objects.Access.{Access}
-use Rattle.kheap_shelves.specs.declared.objects.Access.TheVariants as mode
-use Rattle.kheap_shelves.specs.declared.objects.Chunk.{Chunk}
-use Rattle.kheap_shelves.specs.declared.objects.Desc.{Desc}
-use Rattle.kheap_shelves.specs.declared.objects.Pipe.{Pipe as HeldPipe}
-use Rattle.kheap_shelves.specs.declared.objects.Proc.{Proc}
-use Rattle.kheap_shelves.specs.declared.objects.Sock.{Sock}
-use Rattle.kheap_shelves.specs.declared.objects.Target.{Target}
-use Rattle.kheap_shelves.specs.declared.objects.Target.TheVariants as target
-use Rattle.kheap_shelves.specs.declared.objects.QueueParts.{QueueParts}
+use Rattle.kabi_types.specs.Class.{size}
+use Rattle.kabi_types.specs.declared.classes.Class.TheVariants as class
+use Rattle.kheap_slabs.specs.Objects.{count, object, InUse}
+use Rattle.kheap_slabs.proofs.ObjectLemmas.{object_of}
+use Rattle.kheap_slabs.specs.declared.objects.Access.{Access}
+use Rattle.kheap_slabs.specs.declared.objects.Access.TheVariants as mode
+use Rattle.kheap_slabs.specs.declared.objects.Chunk.{Chunk}
+use Rattle.kheap_slabs.specs.declared.objects.Desc.{Desc}
+use Rattle.kheap_slabs.specs.declared.objects.Pipe.{Pipe as HeldPipe}
+use Rattle.kheap_slabs.specs.declared.objects.Proc.{Proc}
+use Rattle.kheap_slabs.specs.declared.objects.Sock.{Sock}
+use Rattle.kheap_slabs.specs.declared.objects.Target.{Target}
+use Rattle.kheap_slabs.specs.declared.objects.Target.TheVariants as target
+use Rattle.kheap_slabs.specs.declared.objects.QueueParts.{QueueParts}
 use Rattle.kheap_slabs.specs.Heap.{Heap, IsWellFormed, empty_heap}
 use Rattle.kheap_slabs.specs.Owners.{chunk_keys, each_of, sock_queues}
 use Rattle.kheap_slabs.specs.Queues.{OwnedQueue}

@@ -3,13 +3,13 @@ use Rattle.std.proofs.Common.{◌≡◌, ◌≢◌, ℕ, ℤ, pos, negsuc, zero,
 use Rattle.std.specs.Prelude.{nat_lt}
 use Rattle.std.specs.Option.{option_map}
 use Rattle.std.proofs.lemmas.List.{length-map}
-use Rattle.kheap_shelves.specs.Objects.{object, InUse}
-use Rattle.kheap_shelves.proofs.ObjectLemmas.{object_of}
-use Rattle.kheap_shelves.specs.declared.objects.Desc.{Desc}
-use Rattle.kheap_shelves.specs.declared.objects.Descriptor.{Descriptor as HeldDescriptor}
-use Rattle.kheap_shelves.specs.declared.objects.Access.{Access as HeldAccess}
-use Rattle.kheap_shelves.specs.declared.objects.Target.{Target as HeldTarget}
-use Rattle.kheap_shelves.specs.declared.objects.Target.TheVariants as target
+use Rattle.kheap_slabs.specs.Objects.{object, InUse}
+use Rattle.kheap_slabs.proofs.ObjectLemmas.{object_of}
+use Rattle.kheap_slabs.specs.declared.objects.Desc.{Desc}
+use Rattle.kheap_slabs.specs.declared.objects.Descriptor.{Descriptor as HeldDescriptor}
+use Rattle.kheap_slabs.specs.declared.objects.Access.{Access as HeldAccess}
+use Rattle.kheap_slabs.specs.declared.objects.Target.{Target as HeldTarget}
+use Rattle.kheap_slabs.specs.declared.objects.Target.TheVariants as target
 use Rattle.kheap_slabs.specs.Heap.{Heap}
 use Rattle.posix_defs.specs.Pipe.{Pipe, new_pipe, is_asked, polled_to_read, polled_to_write}
 use Rattle.posix_defs.specs.Socket.{Stage, Idle, Listening, Connected, Socket, is_shut_write, peer_of}

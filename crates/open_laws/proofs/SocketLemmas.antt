@@ -1,7 +1,7 @@
 -- A table of sockets by key and the same one by place, where a socket changes and where sockets go.
 use Rattle.std.proofs.Common.{◌≡◌, ◌≢◌, ℕ, zero, suc, ◌<◌, List, [], ◌∷◌, set, map, length, Option, None, Some, IsSome, unwrap_or, refl, sym, ap, subst, ◌∙◌, arith}
 use Rattle.std.specs.Option.{option_map}
-use Rattle.kheap_shelves.proofs.ObjectLemmas.{object_of}
+use Rattle.kheap_slabs.proofs.ObjectLemmas.{object_of}
 use Rattle.posix_defs.specs.Socket.{Stage, Idle, Listening, Connected, Socket, new_socket, peer_of, waiting_of, without_peer}
 use Rattle.posix_defs.specs.Sockets.{Sockets, sock_at, socket_at, stage_at, with_socket, left_alone, gone, all_gone, after_close}
 use Rattle.posix_defs.specs.SocketLinks.{AreLinked, AreLoose, WaitsNowhere}

@@ -1,11 +1,11 @@
 -- What is closed with a description that goes: an end of a pipe, or a socket with those that wait for it.
 use Rattle.std.specs.Prelude.{◌≡◌, ◌<◌, ℕ, Bool, List, ◌∷◌, None, Some}
 use Rattle.std.specs.List.{Contains}
-use Rattle.kheap_shelves.specs.Objects.{object}
-use Rattle.kheap_shelves.specs.declared.objects.Access.{Access as HeldAccess}
-use Rattle.kheap_shelves.specs.declared.objects.Desc.{Desc}
-use Rattle.kheap_shelves.specs.declared.objects.Target.{Target as HeldTarget}
-use Rattle.kheap_shelves.specs.declared.objects.Target.TheVariants as target
+use Rattle.kheap_slabs.specs.Objects.{object}
+use Rattle.kheap_slabs.specs.declared.objects.Access.{Access as HeldAccess}
+use Rattle.kheap_slabs.specs.declared.objects.Desc.{Desc}
+use Rattle.kheap_slabs.specs.declared.objects.Target.{Target as HeldTarget}
+use Rattle.kheap_slabs.specs.declared.objects.Target.TheVariants as target
 use Rattle.kheap_slabs.specs.Heap.{Heap}
 use Rattle.posix_defs.specs.Pipe.{Pipe, after_close as pipe_after_close}
 use Rattle.posix_defs.specs.Sockets.{Sockets, after_close as sockets_after_close}

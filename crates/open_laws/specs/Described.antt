@@ -1,12 +1,12 @@
 -- Open descriptions, each with how many descriptors name it, and what a Desc of the heap says of one.
 use Rattle.std.specs.Prelude.{◌≡◌, ◌+◌, ◌-◌, ◌==◌, ℕ, List, map, Option, None, Some, if◌then◌else◌, slice_set}
 use Rattle.std.specs.Option.{option_map}
-use Rattle.kheap_shelves.specs.Objects.{object}
-use Rattle.kheap_shelves.specs.declared.objects.Access.{Access as HeldAccess}
-use Rattle.kheap_shelves.specs.declared.objects.Access.TheVariants as access
-use Rattle.kheap_shelves.specs.declared.objects.Desc.{Desc}
-use Rattle.kheap_shelves.specs.declared.objects.Target.{Target as HeldTarget}
-use Rattle.kheap_shelves.specs.declared.objects.Target.TheVariants as target
+use Rattle.kheap_slabs.specs.Objects.{object}
+use Rattle.kheap_slabs.specs.declared.objects.Access.{Access as HeldAccess}
+use Rattle.kheap_slabs.specs.declared.objects.Access.TheVariants as access
+use Rattle.kheap_slabs.specs.declared.objects.Desc.{Desc}
+use Rattle.kheap_slabs.specs.declared.objects.Target.{Target as HeldTarget}
+use Rattle.kheap_slabs.specs.declared.objects.Target.TheVariants as target
 use Rattle.posix_defs.specs.Files.Descriptions.{Target, OnNode, OnPipe, OnSocket, Access, ReadOnly, WriteOnly, ReadWrite, Description, Descriptions}
 use Rattle.place_laws.specs.Placed.{Numbers, ArePlaced}
 

@@ -1,6 +1,6 @@
 -- The pipes of the heap, by the places that the machine has them at.
 use Rattle.std.specs.Prelude.{ℕ, Bool, List, Option, slice_set, unwrap_or}
-use Rattle.kheap_shelves.specs.Objects.{object}
+use Rattle.kheap_slabs.specs.Objects.{object}
 use Rattle.kheap_slabs.specs.Heap.{Heap}
 use Rattle.posix_defs.specs.Pipe.{Pipe, new_pipe, after_close}
 use Rattle.pipe_ends.specs.Standing.{StandsFor}

@@ -1,9 +1,9 @@
 -- What `poll` tells of the descriptors of a process.
 use Rattle.std.specs.Prelude.{◌≡◌, ℕ, ℤ, Option, None, Some, if◌then◌else◌}
-use Rattle.kheap_shelves.specs.Objects.{object}
-use Rattle.kheap_shelves.specs.declared.objects.Desc.{Desc}
-use Rattle.kheap_shelves.specs.declared.objects.Target.{Target as HeldTarget}
-use Rattle.kheap_shelves.specs.declared.objects.Target.TheVariants as target
+use Rattle.kheap_slabs.specs.Objects.{object}
+use Rattle.kheap_slabs.specs.declared.objects.Desc.{Desc}
+use Rattle.kheap_slabs.specs.declared.objects.Target.{Target as HeldTarget}
+use Rattle.kheap_slabs.specs.declared.objects.Target.TheVariants as target
 use Rattle.kheap_slabs.specs.Heap.{Heap}
 use Rattle.posix_defs.specs.Calls.Polling.{polled_node}
 use Rattle.posix_defs.specs.Files.Descriptions.{Access, may_write}

@@ -1,9 +1,9 @@
 -- All descriptors of a process are shared, as a fork does.
 use Rattle.std.specs.Prelude.{◌≡◌, ◌+◌, ◌<◌, ℕ, List, [], ◌∷◌, Option, None, Some, count_by, slice_set}
 use Rattle.std.specs.Option.{option_map}
-use Rattle.kheap_shelves.specs.Objects.{object, InUse}
-use Rattle.kheap_shelves.specs.declared.objects.Desc.{Desc}
-use Rattle.kheap_shelves.specs.declared.objects.Descriptor.{Descriptor}
+use Rattle.kheap_slabs.specs.Objects.{object, InUse}
+use Rattle.kheap_slabs.specs.declared.objects.Desc.{Desc}
+use Rattle.kheap_slabs.specs.declared.objects.Descriptor.{Descriptor}
 use Rattle.open_laws.specs.Described.{CountedList, counting, after_share}
 use Rattle.open_laws.specs.Owned.{names_desc, desc_count_at}
 

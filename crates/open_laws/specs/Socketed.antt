@@ -2,7 +2,7 @@
 -- by keys.
 use Rattle.std.specs.Prelude.{◌≡◌, ℕ, map}
 use Rattle.std.specs.Option.{option_map}
-use Rattle.kheap_shelves.specs.Objects.{object}
+use Rattle.kheap_slabs.specs.Objects.{object}
 use Rattle.kheap_slabs.specs.Heap.{Heap}
 use Rattle.posix_defs.specs.Socket.{Stage, Idle, Listening, Connected, Socket}
 use Rattle.posix_defs.specs.Sockets.{Sockets}

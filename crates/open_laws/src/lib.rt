@@ -3,8 +3,8 @@
 #![tactic(auto)]
 
 ghost use Rattle.std.specs.Prelude.{◌≡◌, ◌+◌, ◌<◌, ◌≤◌, ℕ, ℤ, List, [], ◌∷◌, Option, None, Some, IsSome, length};
-ghost use Rattle.kheap_shelves.specs.Objects.{object};
-ghost use Rattle.kheap_shelves.specs.declared.objects.Desc.{Desc};
+ghost use Rattle.kheap_slabs.specs.Objects.{object};
+ghost use Rattle.kheap_slabs.specs.declared.objects.Desc.{Desc};
 ghost use Rattle.kheap_slabs.specs.Heap.{Heap, IsWellFormed, empty_heap};
 ghost use Rattle.posix_defs.specs.Files.Bare.{IsBare};
 ghost use Rattle.posix_defs.specs.Files.Descriptions.{with_description};

@@ -1,6 +1,6 @@
 -- The worlds that a store stands for once what is open has changed.
 use Rattle.std.specs.Prelude.{ℕ, ◌≡◌}
-use Rattle.kabi_values.specs.declared.replies.Reply.{Reply}
+use Rattle.kabi_types.specs.declared.replies.Reply.{Reply}
 use Rattle.kabi_types.specs.declared.scripts.Script.{Script}
 use Rattle.open_laws.specs.Open.{HaveFronts}
 use Rattle.place_laws.specs.Placed.{Numbers}

@@ -1,10 +1,10 @@
 //! Laws of stores of which a call changes what is open: they go on. Each is the contract of a function that does nothing.
 #![tactic(auto)]
 
-ghost use Rattle.kabi_calls.specs.declared.calls.Call.{Call};
+ghost use Rattle.kabi_types.specs.declared.calls.Call.{Call};
 ghost use Rattle.kabi_types.specs.declared.scripts.Control.{Control};
 ghost use Rattle.kabi_types.specs.declared.scripts.Script.{Script};
-ghost use Rattle.kabi_values.specs.declared.replies.Reply.{Reply};
+ghost use Rattle.kabi_types.specs.declared.replies.Reply.{Reply};
 ghost use Rattle.open_laws.specs.Owned.{HasItsOwners};
 ghost use Rattle.open_moves.specs.Moves.{OpenMoves};
 ghost use Rattle.open_moves.specs.Worlds.{HasReached, RepliesOn};

@@ -5,10 +5,10 @@ use Rattle.std.proofs.lemmas.Bool.{cases_eq, eq-eqb, ne_eqb, false≢true, cond-
 use Rattle.posix_defs.specs.ByPid.{with_pid}
 use Rattle.posix_defs.specs.Memory.{Frames, Place, Places, places_of, place_at, with_places, with_range, names_frame, namings}
 use Rattle.posix_defs.specs.Memory as account
-use Rattle.kheap_shelves.specs.Objects.{object, InUse}
-use Rattle.kheap_shelves.specs.declared.objects.Page.{Page}
-use Rattle.kheap_shelves.specs.declared.objects.PageEntry.{PageEntry}
-use Rattle.kheap_shelves.specs.declared.objects.PageEntry.TheVariants as entry
+use Rattle.kheap_slabs.specs.Objects.{object, InUse}
+use Rattle.kheap_slabs.specs.declared.objects.Page.{Page}
+use Rattle.kheap_slabs.specs.declared.objects.PageEntry.{PageEntry}
+use Rattle.kheap_slabs.specs.declared.objects.PageEntry.TheVariants as entry
 use Rattle.kheap_slabs.specs.Heap.{Heap}
 use Rattle.kheap_slabs.specs.Owners.{Owners, with_space, IsOwned}
 use Rattle.kheap_slabs.specs.Spaces.{count_at, page_count, names_page, IsCounted}

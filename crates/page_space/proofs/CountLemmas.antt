@@ -4,15 +4,15 @@ use Rattle.std.specs.List.{Contains, sum_by, range_with_len}
 use Rattle.std.proofs.lemmas.List.Elements.{Contains-append_cases, Contains-append_right}
 use Rattle.std.proofs.lemmas.List.Sums.{sum_by-append, sum_by-cons, sum_by-set}
 use Rattle.std.proofs.lemmas.Bool.{false≢true}
-use Rattle.kheap_shelves.specs.Objects.{object, InUse, without}
-use Rattle.kheap_shelves.specs.declared.objects.Node.{Node}
-use Rattle.kheap_shelves.specs.declared.objects.PageEntry.{PageEntry}
-use Rattle.kheap_shelves.specs.declared.objects.PageEntry.TheVariants as entry
+use Rattle.kheap_slabs.specs.Objects.{object, InUse, without}
+use Rattle.kheap_slabs.specs.declared.objects.Node.{Node}
+use Rattle.kheap_slabs.specs.declared.objects.PageEntry.{PageEntry}
+use Rattle.kheap_slabs.specs.declared.objects.PageEntry.TheVariants as entry
 use Rattle.kheap_slabs.specs.Heap.{Heap, IsWellFormed}
 use Rattle.kheap_slabs.specs.Keys.{AreKeysOf}
 use Rattle.kheap_slabs.specs.Owners.{Owners, node_keys, IsOwned}
 use Rattle.kheap_slabs.specs.Spaces.{keys_in, names_page, names_in, count_at}
-use Rattle.kheap_shelves.proofs.ObjectLemmas.{InUse-within, object-without, object-without_other}
+use Rattle.kheap_slabs.proofs.ObjectLemmas.{InUse-within, object-without, object-without_other}
 use Rattle.kheap_laws.proofs.OnceLemmas.{Contains-single, IsOnce-head, IsOnce-tail}
 use Rattle.page_space.specs.Entries.{entry_of, entry_under, entry_at}
 use Rattle.page_space.specs.Sequences.{entries_naming}

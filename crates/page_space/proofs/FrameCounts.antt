@@ -4,8 +4,8 @@ use Rattle.std.specs.List.{range_with_len}
 use Rattle.std.proofs.lemmas.Bool.{cases_eq, eq-eqb, ne_eqb, cond-true, cond-false, lt-ltb, ltb-true, false≢true}
 use Rattle.std.proofs.lemmas.List.Sums.{sum_by-cons}
 use Rattle.posix_defs.specs.Memory.{Frames, namings, frames_named}
-use Rattle.kheap_shelves.specs.Objects.{InUse, count}
-use Rattle.kheap_shelves.specs.declared.objects.Page.{Page}
+use Rattle.kheap_slabs.specs.Objects.{InUse, count}
+use Rattle.kheap_slabs.specs.declared.objects.Page.{Page}
 use Rattle.page_space.specs.Accounts.{AreFrames}
 
 -- one number that passes may be left out

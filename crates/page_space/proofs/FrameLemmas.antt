@@ -1,7 +1,7 @@
 -- Counts of pages that are set.
 use Rattle.std.proofs.Common.{◌≡◌, ℕ, ◌<◌, List, [], Option, Some, sym, ap, ◌∙◌, subst, arith}
-use Rattle.kheap_shelves.specs.Objects.{object}
-use Rattle.kheap_shelves.specs.declared.objects.Page.{Page}
+use Rattle.kheap_slabs.specs.Objects.{object}
+use Rattle.kheap_slabs.specs.declared.objects.Page.{Page}
 use Rattle.kheap_slabs.specs.Heap.{Heap}
 use Rattle.kheap_slabs.specs.Spaces.{page_count, count_at, KeepsBytes}
 use Rattle.page_space.specs.Frames.{FramesStay}

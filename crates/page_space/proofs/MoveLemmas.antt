@@ -5,16 +5,16 @@ use Rattle.std.proofs.lemmas.List.{get_or_past}
 use Rattle.std.proofs.lemmas.List.Elements.{Contains-append_cases, Contains-append_left, Contains-append_right}
 use Rattle.std.proofs.lemmas.List.Sums.{get_or-le-sum_by}
 use Rattle.std.proofs.lemmas.Bool.{cases_lt, eq-eqb}
-use Rattle.kheap_shelves.specs.Objects.{object, InUse}
-use Rattle.kheap_shelves.specs.declared.objects.Node.{Node}
-use Rattle.kheap_shelves.specs.declared.objects.Page.{Page}
-use Rattle.kheap_shelves.specs.declared.objects.PageEntry.{PageEntry}
-use Rattle.kheap_shelves.specs.declared.objects.PageEntry.TheVariants as entry
+use Rattle.kheap_slabs.specs.Objects.{object, InUse}
+use Rattle.kheap_slabs.specs.declared.objects.Node.{Node}
+use Rattle.kheap_slabs.specs.declared.objects.Page.{Page}
+use Rattle.kheap_slabs.specs.declared.objects.PageEntry.{PageEntry}
+use Rattle.kheap_slabs.specs.declared.objects.PageEntry.TheVariants as entry
 use Rattle.kheap_slabs.specs.Heap.{Heap}
 use Rattle.kheap_slabs.specs.Keys.{ChangesKeys}
 use Rattle.kheap_slabs.specs.Owners.{Owners, with_space, node_keys, IsOwned}
 use Rattle.kheap_slabs.specs.Spaces.{keys_in, names_page, names_in, names_of, count_at, page_count, IsCounted}
-use Rattle.kheap_shelves.proofs.ObjectLemmas.{InUse-within}
+use Rattle.kheap_slabs.proofs.ObjectLemmas.{InUse-within}
 use Rattle.kheap_laws.proofs.OwnerLemmas.{IsOwned-spaces_apart, IsOwned-space_changes}
 use Rattle.page_space.specs.Entries.{key_of, entry_of, entry_under, entry_at, PageTurns}
 use Rattle.page_space.specs.Frames.{IsNamed, AllNamed, FramesStay}

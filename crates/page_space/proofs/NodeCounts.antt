@@ -6,15 +6,15 @@ use Rattle.std.proofs.lemmas.List.{get_or-take, get_or-drop, length-take, length
 use Rattle.std.proofs.lemmas.List.Elements.{Contains-append_right}
 use Rattle.std.proofs.lemmas.List.Sums.{sum_by-cons}
 use Rattle.posix_defs.specs.Memory.{Places, Unmapped, is_place, nodes_in}
-use Rattle.kheap_shelves.specs.Objects.{object, InUse, count}
-use Rattle.kheap_shelves.specs.declared.objects.Node.{Node}
-use Rattle.kheap_shelves.specs.declared.objects.PageEntry.{PageEntry}
-use Rattle.kheap_shelves.specs.declared.objects.PageEntry.TheVariants as entry
+use Rattle.kheap_slabs.specs.Objects.{object, InUse, count}
+use Rattle.kheap_slabs.specs.declared.objects.Node.{Node}
+use Rattle.kheap_slabs.specs.declared.objects.PageEntry.{PageEntry}
+use Rattle.kheap_slabs.specs.declared.objects.PageEntry.TheVariants as entry
 use Rattle.kheap_slabs.specs.Heap.{Heap, IsWellFormed}
 use Rattle.kheap_slabs.specs.Keys.{AreKeysOf}
 use Rattle.kheap_slabs.specs.Owners.{Owners, node_keys, IsOwned}
 use Rattle.kheap_slabs.specs.Spaces.{is_mapped, keys_in, OwnsNodes}
-use Rattle.kheap_shelves.proofs.ObjectLemmas.{object_of}
+use Rattle.kheap_slabs.proofs.ObjectLemmas.{object_of}
 use Rattle.page_space.specs.Accounts.{place_of, HasPlaces}
 use Rattle.page_space.specs.Entries.{entry_at}
 use Rattle.page_space.proofs.CountLemmas.{sum_of_keys, sum_shift, sum_range_agree}

@@ -4,9 +4,9 @@ use Rattle.std.specs.List.{Contains}
 use Rattle.std.proofs.lemmas.List.Elements.{Contains-append_cases, Contains-append_right}
 use Rattle.posix_defs.specs.Memory.{Memory, Frames, Place, place_at, places_of, stored, after_put}
 use Rattle.posix_defs.specs.Memory as account
-use Rattle.kheap_shelves.specs.Purse.{Purse}
-use Rattle.kheap_shelves.specs.declared.objects.PageEntry.{PageEntry}
-use Rattle.kheap_shelves.specs.declared.objects.PageEntry.TheVariants as entry
+use Rattle.kheap_slabs.specs.Purse.{Purse}
+use Rattle.kheap_slabs.specs.declared.objects.PageEntry.{PageEntry}
+use Rattle.kheap_slabs.specs.declared.objects.PageEntry.TheVariants as entry
 use Rattle.kheap_slabs.specs.Heap.{Heap}
 use Rattle.kheap_slabs.specs.Owners.{Owners, with_space, IsOwned}
 use Rattle.kheap_laws.proofs.OwnerLemmas.{first_there, IsOwned-space_to_front}

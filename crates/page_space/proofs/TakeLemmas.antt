@@ -5,9 +5,9 @@ use Rattle.std.proofs.lemmas.List.{take-replicate, drop-replicate, length-drop, 
 use borrow.Rule.Slice.PartMut.{mid_of, put_mid, same_len_mid}
 use Rattle.std.proofs.lemmas.List.FromFn.{length-map-range_with_len}
 use Rattle.posix_defs.specs.Memory.{Memory, zero_page, byte_at, loaded}
-use Rattle.kheap_shelves.specs.Objects.{object}
-use Rattle.kheap_shelves.specs.declared.objects.Page.{Page}
-use Rattle.kheap_shelves.specs.declared.objects.PageEntry.TheVariants as entry
+use Rattle.kheap_slabs.specs.Objects.{object}
+use Rattle.kheap_slabs.specs.declared.objects.Page.{Page}
+use Rattle.kheap_slabs.specs.declared.objects.PageEntry.TheVariants as entry
 use Rattle.kheap_slabs.specs.Heap.{Heap, IsWellFormed}
 use Rattle.page_space.specs.Contents.{content_of, StandsFor}
 use Rattle.page_space.specs.Entries.{entry_at}

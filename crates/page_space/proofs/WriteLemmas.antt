@@ -4,18 +4,18 @@ use Rattle.std.specs.Option.{option_map}
 use Rattle.std.proofs.lemmas.Bool.{cases_eq}
 use Rattle.std.proofs.lemmas.List.{length-replicate}
 use Rattle.posix_defs.specs.Memory.{Frames, zero_page, places_of}
-use Rattle.kheap_shelves.specs.Objects.{object, InUse, put}
-use Rattle.kheap_shelves.specs.Purse.{Purse}
-use Rattle.kheap_shelves.specs.Pages.{with_bytes}
-use Rattle.kheap_shelves.specs.declared.objects.Node.{Node}
-use Rattle.kheap_shelves.specs.declared.objects.Page.{Page}
-use Rattle.kheap_shelves.specs.declared.objects.PageEntry.{PageEntry}
-use Rattle.kheap_shelves.specs.declared.objects.PageEntry.TheVariants as entry
+use Rattle.kheap_slabs.specs.Objects.{object, InUse, put}
+use Rattle.kheap_slabs.specs.Purse.{Purse}
+use Rattle.kheap_slabs.specs.Pages.{with_bytes}
+use Rattle.kheap_slabs.specs.declared.objects.Node.{Node}
+use Rattle.kheap_slabs.specs.declared.objects.Page.{Page}
+use Rattle.kheap_slabs.specs.declared.objects.PageEntry.{PageEntry}
+use Rattle.kheap_slabs.specs.declared.objects.PageEntry.TheVariants as entry
 use Rattle.kheap_slabs.specs.Heap.{Heap, IsWellFormed}
 use Rattle.kheap_slabs.specs.Keys.{ChangesKeys}
 use Rattle.kheap_slabs.specs.Owners.{Owners, with_space, IsOwned}
 use Rattle.kheap_slabs.specs.Spaces.{IsCounted, count_at, page_count, keys_in, bytes_at}
-use Rattle.kheap_shelves.proofs.ObjectLemmas.{InUse-within, object-put, object-put_other}
+use Rattle.kheap_slabs.proofs.ObjectLemmas.{InUse-within, object-put, object-put_other}
 use Rattle.page_space.specs.Accounts.{HasPlaces, AreFrames, IsAccounted, AccountFollows}
 use Rattle.page_space.specs.Changes.{NamesPage, OwnChanges}
 use Rattle.page_space.specs.Contents.{content_of, content_at, SpaceMoves}

@@ -3,11 +3,11 @@ use Rattle.std.specs.Prelude.{◌≡◌, ◌≢◌, ℕ, ◌+◌, ◌<◌, ◌�
 use Rattle.std.specs.List.{Contains}
 use Rattle.posix_defs.specs.Memory.{Frames, Place, Places, place_at, places_of, with_places, namings}
 use Rattle.posix_defs.specs.Memory as account
-use Rattle.kheap_shelves.specs.Objects.{InUse}
-use Rattle.kheap_shelves.specs.declared.objects.Node.{Node}
-use Rattle.kheap_shelves.specs.declared.objects.Page.{Page}
-use Rattle.kheap_shelves.specs.declared.objects.PageEntry.{PageEntry}
-use Rattle.kheap_shelves.specs.declared.objects.PageEntry.TheVariants as entry
+use Rattle.kheap_slabs.specs.Objects.{InUse}
+use Rattle.kheap_slabs.specs.declared.objects.Node.{Node}
+use Rattle.kheap_slabs.specs.declared.objects.Page.{Page}
+use Rattle.kheap_slabs.specs.declared.objects.PageEntry.{PageEntry}
+use Rattle.kheap_slabs.specs.declared.objects.PageEntry.TheVariants as entry
 use Rattle.kheap_slabs.specs.Heap.{Heap}
 use Rattle.kheap_slabs.specs.Owners.{Owners, with_space, IsOwned}
 use Rattle.kheap_slabs.specs.Spaces.{count_at}

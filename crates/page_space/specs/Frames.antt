@@ -1,9 +1,9 @@
 -- The frames that page entries name, by their pages in the heap.
 use Rattle.std.specs.Prelude.{◌≡◌, ℕ, ◌<◌, List, Option}
-use Rattle.kheap_shelves.specs.Objects.{InUse}
-use Rattle.kheap_shelves.specs.declared.objects.Page.{Page}
-use Rattle.kheap_shelves.specs.declared.objects.PageEntry.{PageEntry}
-use Rattle.kheap_shelves.specs.declared.objects.PageEntry.TheVariants as entry
+use Rattle.kheap_slabs.specs.Objects.{InUse}
+use Rattle.kheap_slabs.specs.declared.objects.Page.{Page}
+use Rattle.kheap_slabs.specs.declared.objects.PageEntry.{PageEntry}
+use Rattle.kheap_slabs.specs.declared.objects.PageEntry.TheVariants as entry
 use Rattle.kheap_slabs.specs.Spaces.{count_at, bytes_at}
 
 -- the entry names no page, or one that is counted

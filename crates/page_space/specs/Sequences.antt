@@ -1,8 +1,8 @@
 -- Calls on the spaces of a heap, one after another, and how many entries name a page.
 use Rattle.std.specs.Prelude.{ℕ, List, [], ◌∷◌, Option, sum_by}
 use Rattle.std.specs.List.{range_with_len}
-use Rattle.kheap_shelves.specs.Purse.{Purse}
-use Rattle.kheap_shelves.specs.declared.objects.Node.{Node}
+use Rattle.kheap_slabs.specs.Purse.{Purse}
+use Rattle.kheap_slabs.specs.declared.objects.Node.{Node}
 use Rattle.kheap_slabs.specs.Heap.{Heap}
 use Rattle.kheap_slabs.specs.Keys.{Splits}
 use Rattle.kheap_slabs.specs.Owners.{Owners, with_space}

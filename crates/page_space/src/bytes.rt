@@ -1,8 +1,8 @@
 //! Bytes in the pages of an address space.
 
 ghost use Rattle.std.specs.Prelude.{◌≡◌, ◌≢◌, ◌+◌, ◌-◌, ◌/◌, ◌%◌, ◌<◌, ◌≤◌, ◌++◌, Some, length, min, true, take, drop};
-ghost use Rattle.kabi_values.specs.declared.classes.Class.TheVariants as class;
-ghost use Rattle.kheap_shelves.specs.Counts.{with_count};
+ghost use Rattle.kabi_types.specs.declared.classes.Class.TheVariants as class;
+ghost use Rattle.kheap_slabs.specs.Counts.{with_count};
 ghost use Rattle.kheap_slabs.specs.Paid.{CanPay, IsPaid};
 ghost use Rattle.kheap_slabs.specs.Spaces.{count_at};
 ghost use Rattle.page_space.specs.Accounts.{AccountFollows};
@@ -16,8 +16,7 @@ ghost use Rattle.posix_defs.specs.Needs.{pages_touched};
 use crate::frames::{drop_entry, make_page};
 use crate::rows::heap_is_well_formed;
 use crate::spaces::Space;
-use kheap_shelves::{PageEntry, Purse};
-use kheap_slabs::KHeap;
+use kheap_slabs::{KHeap, PageEntry, Purse};
 
 /// How many bytes a page has.
 const PAGE: usize = 4096;

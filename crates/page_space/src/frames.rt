@@ -1,16 +1,15 @@
 //! The frames that page entries name.
 
 ghost use Rattle.std.specs.Prelude.{◌≡◌, ◌+◌, ◌-◌, ◌<◌, ◌≤◌, None, Some};
-ghost use Rattle.kabi_values.specs.declared.classes.Class.TheVariants as class;
-ghost use Rattle.kheap_shelves.specs.Counts.{with_count};
-ghost use Rattle.kheap_shelves.specs.Objects.{object, InUse, put};
+ghost use Rattle.kabi_types.specs.declared.classes.Class.TheVariants as class;
+ghost use Rattle.kheap_slabs.specs.Counts.{with_count};
+ghost use Rattle.kheap_slabs.specs.Objects.{object, InUse, put};
 ghost use Rattle.kheap_slabs.specs.Paid.{CanPay, IsPaid, TakesNothing};
 ghost use Rattle.kheap_slabs.specs.Spaces.{names_page, count_at, CountRises, CountFalls};
 ghost use Rattle.page_space.specs.Frames.{IsNamed, AllNamed, FramesStay};
 
 use kabi_types::Class;
-use kheap_shelves::{Page, PageEntry, Purse};
-use kheap_slabs::KHeap;
+use kheap_slabs::{KHeap, Page, PageEntry, Purse};
 
 // One entry fewer names the page; with the last one it goes.
 pub(crate) fn drop_page(heap: &mut KHeap, key: u32)

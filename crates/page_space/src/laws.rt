@@ -2,9 +2,9 @@
 
 ghost use Rattle.std.specs.Prelude.{◌≡◌, ◌≢◌, ◌↔◌, ℕ, ◌+◌, ◌<◌, List, ◌∷◌, Option, length, sum_by};
 ghost use Rattle.std.specs.List.{Contains};
-ghost use Rattle.kheap_shelves.specs.Objects.{count};
-ghost use Rattle.kheap_shelves.specs.Purse.{Purse};
-ghost use Rattle.kheap_shelves.specs.declared.objects.PageEntry.TheVariants as entry;
+ghost use Rattle.kheap_slabs.specs.Objects.{count};
+ghost use Rattle.kheap_slabs.specs.Purse.{Purse};
+ghost use Rattle.kheap_slabs.specs.declared.objects.PageEntry.TheVariants as entry;
 ghost use Rattle.kheap_slabs.specs.Heap.{Heap, IsWellFormed};
 ghost use Rattle.kheap_slabs.specs.Owners.{Owners, with_space, node_keys, IsOwned};
 ghost use Rattle.kheap_slabs.specs.Spaces.{count_at, keys_in, OwnsNodes};

@@ -1,7 +1,7 @@
 ghost use Rattle.std.specs.Prelude.{IfOk, IfSome, OnErr, ok_or, ◌≡◌, ◌≢◌, ℕ, ◌+◌, ◌-◌, ◌/◌, ◌%◌, ◌<◌, ◌≤◌, IsSome, MatchBool, None, Some, length, true, is_some, if◌then◌else◌, slice_set, slice_index_or};
-ghost use Rattle.kabi_values.specs.declared.classes.Class.TheVariants as class;
-ghost use Rattle.kheap_shelves.specs.Counts.{counted, with_count};
-ghost use Rattle.kheap_shelves.specs.Objects.{count};
+ghost use Rattle.kabi_types.specs.declared.classes.Class.TheVariants as class;
+ghost use Rattle.kheap_slabs.specs.Counts.{counted, with_count};
+ghost use Rattle.kheap_slabs.specs.Objects.{count};
 ghost use Rattle.kheap_slabs.specs.Paid.{CanPay, IsPaid, PaysExactly, TakesNothing};
 ghost use Rattle.kheap_slabs.specs.Spaces.{is_mapped, mapped_count, OwnsNodes};
 ghost use Rattle.page_space.specs.Accounts.{turned_at, IsAccounted, AccountFollows, AccountForks};
@@ -12,13 +12,12 @@ ghost use Rattle.posix_defs.specs.Memory.{Memory, is_mapped_range, lowest_free_r
 ghost use Rattle.posix_defs.specs.Memory as account;
 ghost use Rattle.posix_defs.specs.Needs.{nodes_for};
 ghost use Rattle.page_space.specs.Runs.{IsFreeFrom, IsMappedRun, HasUnmapped};
-ghost use Rattle.kabi_values.specs.declared.errnos.Errno.TheVariants.{EMFILE};
+ghost use Rattle.kabi_types.specs.declared.errnos.Errno.TheVariants.{EMFILE};
 
 use crate::frames::{drop_entry, share_entry};
 use crate::rows::heap_is_well_formed;
 use kabi_types::{Class, Errno};
-use kheap_shelves::{Node, PageEntry, Purse};
-use kheap_slabs::KHeap;
+use kheap_slabs::{KHeap, Node, PageEntry, Purse};
 use std::marker::Model;
 
 /// How many pages one Node has entries of.

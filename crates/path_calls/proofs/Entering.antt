@@ -1,16 +1,16 @@
 -- A call that has its caller work elsewhere leads to the world that its answer reaches.
 use Rattle.std.proofs.Common.{◌≡◌, ℕ, ◌<◌, ◌&&◌, ◌||◌, not, Bool, true, false, cond, List, Option, None, Some, is_none, Ok, Err, Result, pos, refl, ap, sym, ◌∙◌, subst}
 use Rattle.std.specs.Prelude.{IsOk}
-use Rattle.kabi_calls.specs.Arguments.{path_fault}
-use Rattle.kabi_calls.specs.PathParts.{components}
-use Rattle.kabi_calls.specs.declared.calls.Call.TheVariants as call
+use Rattle.kabi_types.specs.Arguments.{path_fault}
+use Rattle.kabi_types.specs.PathParts.{components}
+use Rattle.kabi_types.specs.declared.calls.Call.TheVariants as call
 use Rattle.kabi_types.specs.declared.scripts.Script.{Script}
-use Rattle.kabi_values.specs.declared.errnos.Errno.{Errno}
-use Rattle.kabi_values.specs.declared.errnos.Errno.TheVariants.{ENOTDIR}
-use Rattle.kabi_values.specs.declared.replies.Reply.{Reply}
-use Rattle.kabi_values.specs.declared.replies.Reply.TheVariants.{Fail, Val}
-use Rattle.kheap_shelves.specs.Purse.{Purse}
-use Rattle.kheap_shelves.specs.declared.objects.Proc.{Proc}
+use Rattle.kabi_types.specs.declared.errnos.Errno.{Errno}
+use Rattle.kabi_types.specs.declared.errnos.Errno.TheVariants.{ENOTDIR}
+use Rattle.kabi_types.specs.declared.replies.Reply.{Reply}
+use Rattle.kabi_types.specs.declared.replies.Reply.TheVariants.{Fail, Val}
+use Rattle.kheap_slabs.specs.Purse.{Purse}
+use Rattle.kheap_slabs.specs.declared.objects.Proc.{Proc}
 use Rattle.kheap_slabs.specs.Heap.{Heap}
 use Rattle.memfs_ops.specs.FileTree.{KeepsLed, KnowsWay, Pays, Stands, TreeView, in_call, one_more}
 use Rattle.disk_layout.specs.Disk.{Disk}

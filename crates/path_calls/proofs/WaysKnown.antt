@@ -3,7 +3,7 @@ use Rattle.std.proofs.Common.{◌≡◌, ℕ, ◌&&◌, not, Bool, true, false, 
 use Rattle.std.specs.List.{AllByRecursion}
 use Rattle.std.specs.Map.{keys_of}
 use Rattle.std.specs.Str.{bytes_eq}
-use Rattle.kabi_values.specs.declared.errnos.Errno.{Errno}
+use Rattle.kabi_types.specs.declared.errnos.Errno.{Errno}
 use Rattle.cached_disk.specs.TreeLent.{IsKnown, TreeParts}
 use Rattle.name_cache.specs.Names.{IsNameKey}
 use Rattle.vnode_cache.specs.Nodes.{node_slot}
@@ -12,7 +12,7 @@ use Rattle.posix_defs.specs.PathCalls.{node_led}
 use Rattle.posix_defs.specs.Paths.{go_on, leads, name_leads, on_from}
 use Rattle.posix_defs.specs.declared.walked.Walked.{Walked}
 use Rattle.posix_defs.specs.declared.walked.Walked.TheVariants as walked
-use Rattle.kabi_values.specs.declared.errnos.Errno.TheVariants.{ENOTDIR}
+use Rattle.kabi_types.specs.declared.errnos.Errno.TheVariants.{ENOTDIR}
 use Rattle.posix_defs.specs.Queries.{Query, AskName, AskNode, AskParent, asks, asks_kind, then_asks}
 use Rattle.posix_defs.specs.Reaching.{has_name, knows, knows_on}
 use Rattle.posix_defs.specs.Tree.{Tree, found, is_directory, parent_at}

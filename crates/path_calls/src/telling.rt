@@ -1,8 +1,8 @@
 //! What is told of a node: `stat`.
 
 ghost use Rattle.std.specs.Prelude.{◌≡◌, ◌≤◌, None};
-ghost use Rattle.kabi_calls.specs.Arguments.{argument_fault};
-ghost use Rattle.kabi_calls.specs.declared.calls.Call.{Call};
+ghost use Rattle.kabi_types.specs.Arguments.{argument_fault};
+ghost use Rattle.kabi_types.specs.declared.calls.Call.{Call};
 ghost use Rattle.kheap_slabs.specs.Paid.{IsPaid};
 ghost use Rattle.memfs_ops.specs.FileTree.{MayWalk};
 ghost use Rattle.posix_defs.specs.Calls.OnNames.{stat};
@@ -13,7 +13,7 @@ ghost use Rattle.store_objects.specs.Standing.{StandsFor};
 ghost use Rattle.store_objects.specs.Walking.{Reaches};
 
 use kabi_types::{Control, Reply, Script};
-use kheap_shelves::Purse;
+use kheap_slabs::Purse;
 use posix_defs::Turned;
 use store_objects::{Objects, directory_of, go_on};
 

@@ -6,7 +6,7 @@ use Rattle.std.proofs.lemmas.Option.{none-some, cond_some}
 use Rattle.std.proofs.lemmas.List.{drop_all, drop_more, take_rest, length-take-le}
 use Rattle.std.proofs.lemmas.List.Sums.{prefix_len-le-length, passes_at_first, fails_before_first}
 use Rattle.std.proofs.lemmas.List.Splits.{slice_split-cons_yes, slice_split_first, slice_split_none}
-use Rattle.kabi_calls.specs.PathParts.{components, is_slash, has_bytes}
+use Rattle.kabi_types.specs.PathParts.{components, is_slash, has_bytes}
 
 -- where the first name begins
 abbrev pub begin_of : List ℕ → ℕ

@@ -6,7 +6,7 @@ use Rattle.std.proofs.lemmas.Bool.{and_parts, ltb-true}
 use Rattle.std.proofs.lemmas.List.Sums.{AllPass-from_list_all}
 use Rattle.posix_defs.specs.Tree.{File, Directory, SocketName, new_tree}
 use Rattle.posix_defs.specs.IsTree.{IsEntryName, IsTree}
-use Rattle.kabi_calls.specs.Arguments.{path_fault}
+use Rattle.kabi_types.specs.Arguments.{path_fault}
 use Rattle.posix_defs.specs.Paths.{resolve, last_name}
 use Rattle.tree_laws.proofs.PathLeads.{last_is_entry_name}
 use Rattle.tree_laws.proofs.NewTree.{new_is_tree}

@@ -1,6 +1,6 @@
 -- One component on: where the rest of a path leads, and what it asks.
 use Rattle.std.proofs.Common.{◌≡◌, ℕ, Bool, true, List, [], ◌∷◌, ◌++◌, Result, Ok, ap, subst}
-use Rattle.kabi_values.specs.declared.errnos.Errno.{Errno}
+use Rattle.kabi_types.specs.declared.errnos.Errno.{Errno}
 use Rattle.posix_defs.specs.Asking.{AskedInTurn}
 use Rattle.posix_defs.specs.Tree.{Tree}
 use Rattle.posix_defs.specs.Paths.{go_on, leads, step}

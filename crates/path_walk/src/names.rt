@@ -2,7 +2,7 @@ ghost use Rattle.std.specs.Prelude.{◌≡◌, ◌<◌, ◌∷◌, [], not, leng
 ghost use Rattle.std.specs.List.{position};
 ghost use Rattle.std.specs.Str.{bytes_eq};
 ghost use Rattle.posix_defs.specs.DiskContents.{own_name, parent_name};
-ghost use Rattle.kabi_calls.specs.PathParts.{components, is_slash};
+ghost use Rattle.kabi_types.specs.PathParts.{components, is_slash};
 ghost use Rattle.posix_defs.specs.Paths.{ends_in_slash, is_absolute};
 
 const SLASH: u8 = b'/';

@@ -2,8 +2,8 @@ ghost use Rattle.std.specs.Prelude.{◌≡◌, ◌∷◌, [], true, false, if◌
 ghost use Rattle.std.specs.List.{list_any};
 ghost use Rattle.posix_defs.specs.Asking.{AskedInTurn};
 ghost use Rattle.posix_defs.specs.Tree.{Tree, found, is_directory, is_in_use};
-ghost use Rattle.kabi_calls.specs.PathParts.{components, is_long};
-ghost use Rattle.kabi_calls.specs.Arguments.{path_fault};
+ghost use Rattle.kabi_types.specs.PathParts.{components, is_long};
+ghost use Rattle.kabi_types.specs.Arguments.{path_fault};
 ghost use Rattle.posix_defs.specs.Paths.{last_leads, leads, name_leads, resolve, step};
 ghost use Rattle.posix_defs.specs.Queries.{AskName, AskNode, asks, asks_kind, component_asks, queries_of};
 

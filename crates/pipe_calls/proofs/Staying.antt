@@ -1,6 +1,6 @@
 -- No call on descriptors that closes nothing changes the tree, which of its nodes are open, or the names of sockets.
 use Rattle.std.proofs.Common.{◌≡◌, ◌++◌, ℕ, ℤ, zero, suc, [], ◌∷◌, length, Option, None, Some, refl, ◌∙◌}
-use Rattle.kabi_calls.specs.Arguments.{count_of}
+use Rattle.kabi_types.specs.Arguments.{count_of}
 use Rattle.kabi_types.specs.declared.scripts.Script.{Script}
 use Rattle.posix_defs.specs.Answer.{Answer}
 use Rattle.posix_defs.specs.Calls.Opened.{Opened, answer_on, opened_at}

@@ -1,6 +1,6 @@
 //! `dup` and `fcntl`, which close nothing.
 
-ghost use Rattle.kabi_calls.specs.declared.calls.Call.{Call};
+ghost use Rattle.kabi_types.specs.declared.calls.Call.{Call};
 ghost use Rattle.kheap_slabs.specs.Paid.{TakesNothing};
 ghost use Rattle.posix_defs.specs.Calls.OnDescriptors.{dup, fcntl};
 ghost use Rattle.store_objects.specs.Objects.{AreKept, Runs};

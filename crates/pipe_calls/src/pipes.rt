@@ -1,7 +1,7 @@
 //! `pipe`.
 
 ghost use Rattle.std.specs.Prelude.{◌<◌, ◌≤◌};
-ghost use Rattle.kabi_calls.specs.declared.calls.Call.{Call};
+ghost use Rattle.kabi_types.specs.declared.calls.Call.{Call};
 ghost use Rattle.kheap_slabs.specs.Paid.{CanPay, IsPaid};
 ghost use Rattle.posix_defs.specs.Calls.OnPipes.{pipe};
 ghost use Rattle.store_objects.specs.Objects.{AreKept, Runs};
@@ -9,7 +9,7 @@ ghost use Rattle.store_objects.specs.Standing.{Performs};
 
 use crate::replies::pair;
 use kabi_types::{Control, Script};
-use kheap_shelves::Purse;
+use kheap_slabs::Purse;
 use posix_defs::Turned;
 use proc_pipes::make_pipe;
 use store_objects::{Objects, go_on};

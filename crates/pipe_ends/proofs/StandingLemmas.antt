@@ -3,14 +3,14 @@ use Rattle.std.proofs.Common.{◌≡◌, ◌≢◌, ◌==◌, ◌&&◌, Bool, tr
 use Rattle.std.proofs.lemmas.Bool.Decides.{nat_tests}
 use Rattle.posix_defs.specs.Pipe.{Pipe, capacity, new_pipe, after_read, without_reader, without_writer, after_close}
 use Rattle.posix_defs.specs.QueuePlace.{QueuePlace, after_take, after_put}
-use Rattle.kheap_shelves.specs.Objects.{object, put, without}
-use Rattle.kheap_shelves.specs.declared.objects.Pipe.{Pipe as HeldPipe}
-use Rattle.kheap_shelves.specs.declared.objects.QueueParts.{QueueParts}
+use Rattle.kheap_slabs.specs.Objects.{object, put, without}
+use Rattle.kheap_slabs.specs.declared.objects.Pipe.{Pipe as HeldPipe}
+use Rattle.kheap_slabs.specs.declared.objects.QueueParts.{QueueParts}
 use Rattle.kheap_slabs.specs.Heap.{Heap}
 use Rattle.kheap_slabs.specs.Outside.{KeepsOutside}
 use Rattle.kheap_slabs.specs.Owners.{OwnsItsObjects}
 use Rattle.kheap_slabs.specs.Queues.{empty_queue}
-use Rattle.kheap_shelves.proofs.ObjectLemmas.{object-put_other, object-without_other}
+use Rattle.kheap_slabs.proofs.ObjectLemmas.{object-put_other, object-without_other}
 use Rattle.kheap_laws.proofs.QueueLemmas.{OwnsChunks-fresh}
 use Rattle.chunk_queue.specs.Chained.{place_of, Turns, OnlyChunks, TakesOut}
 use Rattle.chunk_queue.specs.Held.{HasBytes, KeepsChunksBut, PipeGoes, PipeKeepsBytes}

@@ -1,5 +1,5 @@
 ghost use Rattle.std.specs.Prelude.{◌≡◌, ℕ, Some, None, []};
-ghost use Rattle.kheap_shelves.specs.Objects.{object};
+ghost use Rattle.kheap_slabs.specs.Objects.{object};
 ghost use Rattle.kheap_slabs.specs.Owners.{OwnsItsObjects};
 ghost use Rattle.kheap_slabs.specs.Paid.{TakesNothing};
 ghost use Rattle.posix_defs.specs.Pipe.{Pipe as PlainPipe, after_close};
@@ -7,8 +7,7 @@ ghost use Rattle.posix_defs.specs.QueuePlace.{at_front};
 ghost use Rattle.pipe_ends.specs.Standing.{StandsFor, HasEndAt, place_with, LeavesOthers, Turned};
 
 use chunk_queue::Queue;
-use kheap_shelves::Pipe;
-use kheap_slabs::KHeap;
+use kheap_slabs::{KHeap, Pipe};
 
 /// Closes one end of a pipe: a description that had it is gone.
 ///

@@ -1,7 +1,7 @@
 //! Laws of pipes in the heap. Each is the contract of a function that does nothing.
 
 ghost use Rattle.std.specs.Prelude.{◌≡◌, ◌≢◌, ℕ};
-ghost use Rattle.kheap_shelves.specs.Objects.{object};
+ghost use Rattle.kheap_slabs.specs.Objects.{object};
 ghost use Rattle.kheap_slabs.specs.Heap.{Heap};
 ghost use Rattle.posix_defs.specs.Pipe.{Pipe};
 ghost use Rattle.chunk_queue.specs.Held.{PipeKeepsBytes};

@@ -1,15 +1,14 @@
 ghost use Rattle.std.specs.Prelude.{◌≡◌, ◌-◌, ◌<◌, None};
-ghost use Rattle.kabi_values.specs.declared.classes.Class.TheVariants as class;
-ghost use Rattle.kheap_shelves.specs.Counts.{with_count};
-ghost use Rattle.kheap_shelves.specs.Objects.{object};
+ghost use Rattle.kabi_types.specs.declared.classes.Class.TheVariants as class;
+ghost use Rattle.kheap_slabs.specs.Counts.{with_count};
+ghost use Rattle.kheap_slabs.specs.Objects.{object};
 ghost use Rattle.kheap_slabs.specs.Owners.{OwnsItsObjects};
 ghost use Rattle.kheap_slabs.specs.Paid.{CanPay, IsPaid};
 ghost use Rattle.posix_defs.specs.Pipe.{new_pipe};
 ghost use Rattle.pipe_ends.specs.Standing.{StandsFor, LeavesOthers};
 
 use kabi_types::Class;
-use kheap_shelves::{Pipe, Purse, QueueParts};
-use kheap_slabs::KHeap;
+use kheap_slabs::{KHeap, Pipe, Purse, QueueParts};
 
 /// A pipe with both ends and no bytes. Its key.
 pub fn pipe_make(heap: &mut KHeap, purse: &mut Purse) -> u32

@@ -1,6 +1,6 @@
 ghost use Rattle.std.specs.Prelude.{◌≡◌, ℕ, ◌+◌, ◌<◌, ◌≤◌, Some, ◌++◌, length, take, drop, min};
-ghost use Rattle.kheap_shelves.specs.Objects.{object};
-ghost use Rattle.kheap_shelves.specs.declared.objects.Pipe.{Pipe as HeldPipe};
+ghost use Rattle.kheap_slabs.specs.Objects.{object};
+ghost use Rattle.kheap_slabs.specs.declared.objects.Pipe.{Pipe as HeldPipe};
 ghost use Rattle.kheap_slabs.specs.Owners.{OwnsItsObjects};
 ghost use Rattle.kheap_slabs.specs.Paid.{TakesNothing};
 ghost use Rattle.posix_defs.specs.Pipe.{Pipe as PlainPipe, pipe_read as read_answer, after_read};
@@ -10,8 +10,7 @@ ghost use Rattle.chunk_queue.specs.Moving.{moving_of, moved_by, UnlessMoved, wou
 ghost use Rattle.pipe_ends.specs.Standing.{StandsFor, IsPipeAt, account, LeavesOthers, Turned};
 
 use chunk_queue::{Moved, Queue};
-use kheap_shelves::Pipe;
-use kheap_slabs::KHeap;
+use kheap_slabs::{KHeap, Pipe};
 
 /// Reads bytes from a pipe, as many as are there and fit. None are the end of the file: nobody can write any more.
 ///

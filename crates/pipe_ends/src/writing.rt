@@ -1,5 +1,5 @@
 ghost use Rattle.std.specs.Prelude.{◌≡◌, ℕ, ◌+◌, ◌/◌, ◌<◌, ◌≤◌, Bool, Some, ◌++◌, length, min, IfSome, MatchOption};
-ghost use Rattle.kheap_shelves.specs.Objects.{object};
+ghost use Rattle.kheap_slabs.specs.Objects.{object};
 ghost use Rattle.kheap_slabs.specs.Owners.{OwnsItsObjects};
 ghost use Rattle.kheap_slabs.specs.Paid.{CanPay, IsPaid};
 ghost use Rattle.posix_defs.specs.Pipe.{Pipe as PlainPipe, capacity, Moves, free_in, not_now as waiting, pipe_write as write_answer, after_write};
@@ -11,8 +11,7 @@ ghost use Rattle.pipe_ends.specs.Standing.{StandsFor, IsPipeAt, account, LeavesO
 use crate::WHOLE;
 use chunk_queue::{Moved, Queue, fitting, room_in};
 use kabi_types::Errno;
-use kheap_shelves::{Pipe, Purse};
-use kheap_slabs::KHeap;
+use kheap_slabs::{KHeap, Pipe, Purse};
 
 /// Writes bytes into a pipe, those that are left of a write of n. How many went.
 ///

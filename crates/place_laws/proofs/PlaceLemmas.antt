@@ -2,9 +2,9 @@
 use Rattle.std.proofs.Common.{◌≡◌, ◌≢◌, ℕ, zero, suc, ◌<◌, ◌≤◌, length-append, Bool, true, false, List, [], ◌∷◌, ◌++◌, length, set, get_or, Option, None, Some, IsSome, refl, sym, ap, subst, ◌∙◌, cond, eqb, inl, inr, eq-eqb, ne_eqb, arith}
 use Rattle.std.proofs.lemmas.Bool.{cases_eq, cases_lt}
 use Rattle.std.proofs.lemmas.List.{get_or-set_same, get_or-set_other, get_or_append_left, get_or_at, get_or_past}
-use Rattle.kheap_shelves.specs.Objects.{object, InUse, put, without}
-use Rattle.kheap_shelves.proofs.ObjectLemmas.{object-put, object-put_other, object-without, object-without_other, object_of, InUse-within}
-use Rattle.kheap_shelves.specs.declared.objects.Page.{Page}
+use Rattle.kheap_slabs.specs.Objects.{object, InUse, put, without}
+use Rattle.kheap_slabs.proofs.ObjectLemmas.{object-put, object-put_other, object-without, object-without_other, object_of, InUse-within}
+use Rattle.kheap_slabs.specs.declared.objects.Page.{Page}
 use Rattle.kheap_slabs.specs.Spaces.{count_at}
 use Rattle.posix_defs.specs.Memory.{Places, namings}
 use Rattle.place_laws.specs.Placed.{ArePlaced, numbered, SaysStill, OthersStay, named_times, frames_there, Counts}

@@ -1,8 +1,8 @@
 -- Objects of the heap stand for things of the machine. The heap names its objects by keys, which are used again; the machine
 -- names what was made by places, which are not. Numbers say which place each key in use has.
 use Rattle.std.specs.Prelude.{◌≡◌, ◌≢◌, ◌==◌, ℕ, ◌<◌, List, Option, None, Some, if◌then◌else◌}
-use Rattle.kheap_shelves.specs.Objects.{object, InUse}
-use Rattle.kheap_shelves.specs.declared.objects.Page.{Page}
+use Rattle.kheap_slabs.specs.Objects.{object, InUse}
+use Rattle.kheap_slabs.specs.declared.objects.Page.{Page}
 use Rattle.posix_defs.specs.Memory.{Places, namings}
 
 -- the place that each key has, of the classes whose things the machine names by places

@@ -3,8 +3,8 @@
 #![tactic(auto)]
 
 ghost use Rattle.std.specs.Prelude.{◌≡◌, ◌≢◌, ◌++◌, ◌<◌, ℕ, List, [], ◌∷◌, Option, None, Some, length, slice_set};
-ghost use Rattle.kheap_shelves.specs.Objects.{object, InUse, put, without};
-ghost use Rattle.kheap_shelves.specs.declared.objects.Page.{Page};
+ghost use Rattle.kheap_slabs.specs.Objects.{object, InUse, put, without};
+ghost use Rattle.kheap_slabs.specs.declared.objects.Page.{Page};
 ghost use Rattle.kheap_slabs.specs.Spaces.{count_at};
 ghost use Rattle.posix_defs.specs.Memory.{Places, namings};
 ghost use Rattle.place_laws.specs.Placed.{ArePlaced, numbered, frames_there, Counts};

@@ -2,14 +2,14 @@
 use Rattle.std.proofs.Common.{◌≡◌, ℕ, ◌+◌, ◌-◌, ◌*◌, ◌/◌, ◌≤◌, ◌==◌, max, ℤ, pos, negsuc, Bool, true, false, cond, ◌&&◌, length, Option, None, Some, is_some, refl, ap, ◌∙◌, arith}
 use Rattle.std.specs.Option.{option_or}
 use Rattle.std.proofs.lemmas.Bool.Decides.{nat_tests}
-use Rattle.kabi_calls.specs.Arguments.{argument_fault, count_of, invalid_unless, moved_fault, range_fault, is_within, is_from}
-use Rattle.kabi_calls.specs.Call.{kind_of}
-use Rattle.kabi_values.specs.Class.{size}
-use Rattle.kabi_calls.specs.declared.calls.Call.{Call}
-use Rattle.kabi_calls.specs.declared.calls.Call.TheVariants as call
-use Rattle.kabi_values.specs.declared.classes.Class.TheVariants as class
-use Rattle.kabi_values.specs.declared.classes.Need.{Need}
-use Rattle.kabi_values.specs.declared.errnos.Errno.{Errno}
+use Rattle.kabi_types.specs.Arguments.{argument_fault, count_of, invalid_unless, moved_fault, range_fault, is_within, is_from}
+use Rattle.kabi_types.specs.Call.{kind_of}
+use Rattle.kabi_types.specs.Class.{size}
+use Rattle.kabi_types.specs.declared.calls.Call.{Call}
+use Rattle.kabi_types.specs.declared.calls.Call.TheVariants as call
+use Rattle.kabi_types.specs.declared.classes.Class.TheVariants as class
+use Rattle.kabi_types.specs.declared.classes.Need.{Need}
+use Rattle.kabi_types.specs.declared.errnos.Errno.{Errno}
 use Rattle.posix_defs.specs.PriceList.{price_of}
 use Rattle.posix_defs.specs.Needs.{bound, chunks_for, cost, is_write, need_of, nodes_for, objects_of, pages_in, pages_touched, read_need, stored_bytes}
 use Rattle.posix_defs.specs.Sizes.{bytes_of, no_need}

@@ -1,8 +1,8 @@
 -- What memory and queues take of the kernel heap, which the plain machine doesn't tell.
 use Rattle.std.specs.Prelude.{ℕ, ◌+◌, ◌-◌, ◌*◌, ◌%◌, ◌==◌, nat_lt, if◌then◌else◌, List, [], map, length, Option, None, Some, is_some, slice_index}
 use Rattle.std.specs.List.{count_by, range_with_len, sum}
-use Rattle.kabi_values.specs.Class.{size}
-use Rattle.kabi_values.specs.declared.classes.Class.TheVariants as class
+use Rattle.kabi_types.specs.Class.{size}
+use Rattle.kabi_types.specs.declared.classes.Class.TheVariants as class
 use Rattle.posix_defs.specs.QueuePlace.{chunks_of}
 use Rattle.posix_defs.specs.Memory.{Frames, boot_frames, frames_named, nodes_named, without_dead}
 use Rattle.posix_defs.specs.Pipe.{Pipe}

@@ -1,9 +1,9 @@
 -- How a program goes on: its local statements, its next call, and where a reply goes.
 use Rattle.std.specs.Prelude.{ℕ, zero, suc, ◌+◌, ℤ, pos, ◌-ℤ◌, int_lt, int_le, Bool, not, ◌&&◌, if◌then◌else◌, List, [], map, length, Option, None, Some, slice_get, slice_set, slice_index_or}
 use Rattle.std.specs.Int.{w64, int_wrapping_add}
-use Rattle.kabi_calls.specs.declared.calls.Call.{Call}
-use Rattle.kabi_calls.specs.declared.calls.Call.TheVariants as call
-use Rattle.kabi_values.specs.declared.replies.Reply.{Reply}
+use Rattle.kabi_types.specs.declared.calls.Call.{Call}
+use Rattle.kabi_types.specs.declared.calls.Call.TheVariants as call
+use Rattle.kabi_types.specs.declared.replies.Reply.{Reply}
 use Rattle.kabi_types.specs.declared.scripts.Control.{Control}
 use Rattle.kabi_types.specs.declared.scripts.Operand.{Operand}
 use Rattle.kabi_types.specs.declared.scripts.Operand.TheVariants.{Reg, Number}
@@ -13,7 +13,7 @@ use Rattle.kabi_types.specs.declared.scripts.Statement.{Statement}
 use Rattle.kabi_types.specs.declared.scripts.Statement.TheVariants as statement
 use Rattle.kabi_types.specs.declared.scripts.Program.{Program}
 use Rattle.kabi_types.specs.declared.scripts.Script.{Script}
-use Rattle.kabi_values.specs.Reply.{first_of, second_of}
+use Rattle.kabi_types.specs.Reply.{first_of, second_of}
 use Rattle.posix_defs.specs.Made.{made}
 
 -- the value of a register, a signed number

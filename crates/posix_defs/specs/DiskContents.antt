@@ -1,8 +1,8 @@
 -- What a node of a disk holds: its bytes, the entries of a directory, and the disk of a new root.
 use Rattle.std.specs.Prelude.{ℕ, ◌+◌, ◌-◌, ◌*◌, ◌/◌, ◌%◌, ◌^◌, ◌<◌, ◌≡◌, ◌≢◌, ◌⊎◌, min, List, [], ◌∷◌, ◌++◌, map, length, replicate, slice_index}
 use Rattle.std.specs.List.{range_with_len, flat_map, AllByRecursion}
-use Rattle.kabi_values.specs.declared.inodes.Inode.{Inode}
-use Rattle.kabi_values.specs.declared.inodes.DirEntry.{DirEntry}
+use Rattle.kabi_types.specs.declared.inodes.Inode.{Inode}
+use Rattle.kabi_types.specs.declared.inodes.DirEntry.{DirEntry}
 use Rattle.posix_defs.specs.DiskFormat.{block_size, inode_size, direct_pointers, table_end, IsEntry, inode_bytes, entry_bytes}
 use Rattle.posix_defs.specs.SoundDisk.{block_bytes, HasInode, Data, named_at}
 use Rattle.posix_defs.specs.Tree.{directory}

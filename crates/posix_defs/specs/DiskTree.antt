@@ -1,6 +1,6 @@
 -- When a disk stands for a tree, and what a change of one node leaves.
 use Rattle.std.specs.Prelude.{ℕ, ◌<◌, ◌≤◌, ◌≡◌, ◌≢◌, List, ◌∷◌, length, Option, None, Some}
-use Rattle.kabi_values.specs.declared.inodes.Inode.{Inode}
+use Rattle.kabi_types.specs.declared.inodes.Inode.{Inode}
 use Rattle.posix_defs.specs.DiskFormat.{table_nodes}
 use Rattle.posix_defs.specs.SoundDisk.{HasInode, Sound, IsFreeNode}
 use Rattle.posix_defs.specs.DiskContents.{node_bytes, HasEntries, entry_for, own_name, parent_name}

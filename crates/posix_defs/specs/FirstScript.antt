@@ -1,13 +1,13 @@
 -- A worked example: a process asks for its pid and ends, on a heap of 8192 bytes.
 use Rattle.std.specs.Prelude.{ℕ, ℤ, pos, List, [], ◌∷◌, Option, None, Some, codes}
-use Rattle.kabi_calls.specs.declared.calls.CallKind.{CallKind}
-use Rattle.kabi_calls.specs.declared.calls.CallKind.TheVariants as kind
+use Rattle.kabi_types.specs.declared.calls.CallKind.{CallKind}
+use Rattle.kabi_types.specs.declared.calls.CallKind.TheVariants as kind
 use Rattle.kabi_types.specs.declared.entries.Entry.{Entry}
 use Rattle.kabi_types.specs.declared.entries.Entry.TheVariants as entry
 use Rattle.kabi_types.specs.declared.entries.Event.{Event}
 use Rattle.kabi_types.specs.declared.entries.Event.TheVariants.{Ask, Admit, Turn}
 use Rattle.kabi_types.specs.declared.entries.Noted.{Noted}
-use Rattle.kabi_values.specs.declared.replies.Reply.TheVariants.{Val}
+use Rattle.kabi_types.specs.declared.replies.Reply.TheVariants.{Val}
 use Rattle.kabi_types.specs.declared.scripts.Chooser.TheVariants.{Plain}
 use Rattle.kabi_types.specs.declared.scripts.Operand.TheVariants.{Number}
 use Rattle.kabi_types.specs.declared.scripts.Policy.TheVariants.{Heaviest}

@@ -1,7 +1,7 @@
 -- `fork`: a child that is what its parent is, and goes on where its parent does.
 use Rattle.std.specs.Prelude.{ℕ, ◌+◌, pos, Bool, nat_le, ◌||◌, if◌then◌else◌, [], ◌∷◌, ◌++◌, Option, None, Some}
-use Rattle.kabi_values.specs.declared.errnos.Errno.TheVariants.{EAGAIN}
-use Rattle.kabi_values.specs.declared.replies.Reply.TheVariants.{Val}
+use Rattle.kabi_types.specs.declared.errnos.Errno.TheVariants.{EAGAIN}
+use Rattle.kabi_types.specs.declared.replies.Reply.TheVariants.{Val}
 use Rattle.kabi_types.specs.declared.scripts.Script.{Script}
 use Rattle.posix_defs.specs.Process.{Process, how_many, process_at}
 use Rattle.posix_defs.specs.Plain.{Plain, control_of, last_pid}

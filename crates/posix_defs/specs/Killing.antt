@@ -1,7 +1,7 @@
 -- `kill`: a process ends another, or itself.
 use Rattle.std.specs.Prelude.{ℕ, ◌==◌, ℤ, pos, negsuc, Bool, false, if◌then◌else◌, Option, None, Some}
-use Rattle.kabi_values.specs.declared.errnos.Errno.TheVariants.{EPERM, ESRCH}
-use Rattle.kabi_values.specs.declared.replies.Reply.TheVariants.{Val}
+use Rattle.kabi_types.specs.declared.errnos.Errno.TheVariants.{EPERM, ESRCH}
+use Rattle.kabi_types.specs.declared.replies.Reply.TheVariants.{Val}
 use Rattle.kabi_types.specs.declared.scripts.Script.{Script}
 use Rattle.posix_defs.specs.Process.{Process, process_at, runs}
 use Rattle.posix_defs.specs.Plain.{Plain}

@@ -1,9 +1,9 @@
-pub use Rattle.kabi_calls.specs.Call
-pub use Rattle.kabi_values.specs.Class
-pub use Rattle.kabi_values.specs.Errno
-pub use Rattle.kabi_values.specs.Reply
-pub use Rattle.kabi_calls.specs.PathParts
-pub use Rattle.kabi_calls.specs.Arguments
+pub use Rattle.kabi_types.specs.Call
+pub use Rattle.kabi_types.specs.Class
+pub use Rattle.kabi_types.specs.Errno
+pub use Rattle.kabi_types.specs.Reply
+pub use Rattle.kabi_types.specs.PathParts
+pub use Rattle.kabi_types.specs.Arguments
 pub mod PriceList
 pub mod Sizes
 pub mod Needs
@@ -46,7 +46,7 @@ pub mod Choice
 pub mod CoreRun
 pub mod History
 pub mod Lines
-pub use Rattle.kabi_calls.specs.Words
+pub use Rattle.kabi_types.specs.Words
 pub mod PriceText
 pub mod FirstScript
 pub mod Asking

@@ -2,9 +2,9 @@
 use Rattle.std.specs.Prelude.{ℕ, ◌+◌, ◌/◌, ◌%◌, ◌==◌, false, if◌then◌else◌, List, [], ◌∷◌, ◌++◌, length, Option, None, Some, codes, decimal}
 use Rattle.std.specs.Fmt.{digits, signed_decimal}
 use Rattle.std.specs.List.{flat_map}
-use Rattle.kabi_calls.specs.Words.{word_of}
-use Rattle.kabi_values.specs.Errno.{name_of}
-use Rattle.kabi_calls.specs.declared.calls.CallKind.{CallKind}
+use Rattle.kabi_types.specs.Words.{word_of}
+use Rattle.kabi_types.specs.Errno.{name_of}
+use Rattle.kabi_types.specs.declared.calls.CallKind.{CallKind}
 use Rattle.kabi_types.specs.declared.entries.Cached.{Cached}
 use Rattle.kabi_types.specs.declared.entries.Cached.TheVariants as cached
 use Rattle.kabi_types.specs.declared.entries.End.{End}
@@ -14,10 +14,10 @@ use Rattle.kabi_types.specs.declared.entries.Entry.TheVariants as entry
 use Rattle.kabi_types.specs.declared.entries.Event.{Event}
 use Rattle.kabi_types.specs.declared.entries.Event.TheVariants as event
 use Rattle.kabi_types.specs.declared.entries.Noted.{Noted}
-use Rattle.kabi_values.specs.declared.replies.NodeKind.{NodeKind}
-use Rattle.kabi_values.specs.declared.replies.NodeKind.TheVariants as node
-use Rattle.kabi_values.specs.declared.replies.Reply.{Reply}
-use Rattle.kabi_values.specs.declared.replies.Reply.TheVariants as reply
+use Rattle.kabi_types.specs.declared.replies.NodeKind.{NodeKind}
+use Rattle.kabi_types.specs.declared.replies.NodeKind.TheVariants as node
+use Rattle.kabi_types.specs.declared.replies.Reply.{Reply}
+use Rattle.kabi_types.specs.declared.replies.Reply.TheVariants as reply
 use Rattle.kabi_types.specs.declared.scripts.FaultKind.{FaultKind}
 use Rattle.kabi_types.specs.declared.scripts.FaultKind.TheVariants as wrong
 use Rattle.kabi_types.specs.declared.scripts.ScriptFault.{ScriptFault}

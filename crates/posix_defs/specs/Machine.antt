@@ -1,11 +1,11 @@
 -- The machine of POSIX.1-2017: what one call of a live process is answered, the argument check first. No heap and no cache
 -- occur in it.
 use Rattle.std.specs.Prelude.{ℕ, pos, Bool, true, false, Option, None, Some}
-use Rattle.kabi_calls.specs.Arguments.{argument_fault}
-use Rattle.kabi_calls.specs.declared.calls.Call.{Call}
-use Rattle.kabi_calls.specs.declared.calls.Call.TheVariants as call
-use Rattle.kabi_values.specs.declared.errnos.Errno.{Errno}
-use Rattle.kabi_values.specs.declared.replies.Reply.TheVariants as reply
+use Rattle.kabi_types.specs.Arguments.{argument_fault}
+use Rattle.kabi_types.specs.declared.calls.Call.{Call}
+use Rattle.kabi_types.specs.declared.calls.Call.TheVariants as call
+use Rattle.kabi_types.specs.declared.errnos.Errno.{Errno}
+use Rattle.kabi_types.specs.declared.replies.Reply.TheVariants as reply
 use Rattle.kabi_types.specs.declared.scripts.Script.{Script}
 use Rattle.posix_defs.specs.Process.{parent_of}
 use Rattle.posix_defs.specs.Plain.{Plain, call_of}

@@ -1,11 +1,11 @@
 -- The calls on memory: `mmap`, `munmap`, and `store` and `load`, which move bytes between a program and its memory.
 use Rattle.std.specs.Prelude.{ℕ, ◌*◌, ◌/◌, pos, ℤ, if◌then◌else◌, List, length, Option, None, Some}
-use Rattle.kabi_calls.specs.Arguments.{count_of, page_size}
-use Rattle.kabi_calls.specs.declared.calls.Call.{Call}
-use Rattle.kabi_calls.specs.declared.calls.Call.TheVariants as call
-use Rattle.kabi_values.specs.declared.errnos.Errno.TheVariants.{EFAULT, EMFILE}
-use Rattle.kabi_values.specs.declared.replies.Reply.{Reply}
-use Rattle.kabi_values.specs.declared.replies.Reply.TheVariants.{Val, Bytes}
+use Rattle.kabi_types.specs.Arguments.{count_of, page_size}
+use Rattle.kabi_types.specs.declared.calls.Call.{Call}
+use Rattle.kabi_types.specs.declared.calls.Call.TheVariants as call
+use Rattle.kabi_types.specs.declared.errnos.Errno.TheVariants.{EFAULT, EMFILE}
+use Rattle.kabi_types.specs.declared.replies.Reply.{Reply}
+use Rattle.kabi_types.specs.declared.replies.Reply.TheVariants.{Val, Bytes}
 use Rattle.kabi_types.specs.declared.scripts.Script.{Script}
 use Rattle.posix_defs.specs.Needs.{pages_in, pages_touched}
 use Rattle.posix_defs.specs.Memory.{Frames, Memory, after_clear, after_fork, after_map, after_put, after_unmap, is_mapped_range, loaded, lowest_run, stored, with_pages, without_pages}

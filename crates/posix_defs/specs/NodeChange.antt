@@ -1,6 +1,6 @@
 -- What a call leaves of a disk that changes one node: its inode, the blocks that it names, and the map with them.
 use Rattle.std.specs.Prelude.{ℕ, ◌+◌, ◌*◌, ◌<◌, ◌≤◌, ◌≡◌, ◌≢◌, ◌⊎◌, List, length, nat_lt}
-use Rattle.kabi_values.specs.declared.inodes.Inode.{Inode}
+use Rattle.kabi_types.specs.declared.inodes.Inode.{Inode}
 use Rattle.posix_defs.specs.DiskFormat.{block_size, direct_pointers, block_pointers, table_end, table_nodes, data_blocks, blocks_of, IsPointer, IsInode, inode_bytes}
 use Rattle.posix_defs.specs.SoundDisk.{block_bytes, table_bytes, HasInode, pointer_at, Place, HasPlace, named_at, IsMarked, IsFreeBlock, free_in_map}
 use Rattle.posix_defs.specs.DiskContents.{data_block, zeros}

@@ -4,13 +4,13 @@ use Rattle.std.specs.Prelude.{ℕ, ◌*◌, ◌/◌, ◌==◌, ◌&&◌, ◌||�
 use Rattle.std.specs.List.{last_or, flat_map, position_from, starts_with}
 use Rattle.std.specs.Option.{option_map_or, ok_or}
 use Rattle.std.specs.Str.{bytes_eq}
-use Rattle.kabi_calls.specs.PathParts.{components}
-use Rattle.kabi_values.specs.declared.errnos.Errno.{Errno}
-use Rattle.kabi_values.specs.declared.errnos.Errno.TheVariants.{EACCES, EADDRINUSE, EBUSY, EEXIST, EINVAL, EISDIR, ENOENT, ENOEXEC, ENOSPC, ENOTDIR, ENOTEMPTY, EOPNOTSUPP, EPERM}
-use Rattle.kabi_values.specs.declared.inodes.DirEntry.{DirEntry}
-use Rattle.kabi_values.specs.declared.replies.NodeKind.{NodeKind}
-use Rattle.kabi_values.specs.declared.replies.NodeKind.TheVariants as kinds
-use Rattle.kabi_values.specs.declared.replies.StatInfo.{StatInfo}
+use Rattle.kabi_types.specs.PathParts.{components}
+use Rattle.kabi_types.specs.declared.errnos.Errno.{Errno}
+use Rattle.kabi_types.specs.declared.errnos.Errno.TheVariants.{EACCES, EADDRINUSE, EBUSY, EEXIST, EINVAL, EISDIR, ENOENT, ENOEXEC, ENOSPC, ENOTDIR, ENOTEMPTY, EOPNOTSUPP, EPERM}
+use Rattle.kabi_types.specs.declared.inodes.DirEntry.{DirEntry}
+use Rattle.kabi_types.specs.declared.replies.NodeKind.{NodeKind}
+use Rattle.kabi_types.specs.declared.replies.NodeKind.TheVariants as kinds
+use Rattle.kabi_types.specs.declared.replies.StatInfo.{StatInfo}
 use Rattle.kabi_types.specs.declared.scripts.Program.{Program}
 use Rattle.posix_defs.specs.declared.walked.Walked.{Walked}
 use Rattle.posix_defs.specs.declared.walked.Walked.TheVariants as walked

@@ -1,12 +1,12 @@
 -- The price list as it is printed.
 use Rattle.std.specs.Prelude.{ℕ, ◌==◌, if◌then◌else◌, List, [], ◌∷◌, ◌++◌, codes, decimal}
 use Rattle.std.specs.List.{flat_map}
-use Rattle.kabi_calls.specs.Call.{all_kinds}
-use Rattle.kabi_values.specs.Class.{size}
-use Rattle.kabi_calls.specs.Words.{word_of}
-use Rattle.kabi_calls.specs.declared.calls.CallKind.{CallKind}
-use Rattle.kabi_values.specs.declared.classes.Class.{Class}
-use Rattle.kabi_values.specs.declared.classes.Class.TheVariants as class
+use Rattle.kabi_types.specs.Call.{all_kinds}
+use Rattle.kabi_types.specs.Class.{size}
+use Rattle.kabi_types.specs.Words.{word_of}
+use Rattle.kabi_types.specs.declared.calls.CallKind.{CallKind}
+use Rattle.kabi_types.specs.declared.classes.Class.{Class}
+use Rattle.kabi_types.specs.declared.classes.Class.TheVariants as class
 use Rattle.posix_defs.specs.Lines.{newline, blank}
 use Rattle.posix_defs.specs.PriceList.{price_of}
 use Rattle.posix_defs.specs.Sizes.{fixed, reserve}

@@ -1,10 +1,10 @@
 -- What is asked of a tree of directories on the way along a path.
 use Rattle.std.specs.Prelude.{ℕ, Bool, true, if◌then◌else◌, List, [], ◌∷◌, ◌++◌, Option, None, Some, Result, Ok, Err}
 use Rattle.std.specs.Str.{bytes_eq}
-use Rattle.kabi_values.specs.declared.errnos.Errno.{Errno}
+use Rattle.kabi_types.specs.declared.errnos.Errno.{Errno}
 use Rattle.posix_defs.specs.DiskContents.{own_name, parent_name}
 use Rattle.posix_defs.specs.Tree.{Tree, found}
-use Rattle.kabi_calls.specs.PathParts.{components}
+use Rattle.kabi_types.specs.PathParts.{components}
 use Rattle.posix_defs.specs.Paths.{ends_in_slash, begins_at, step}
 
 -- one question

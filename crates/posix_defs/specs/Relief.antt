@@ -3,8 +3,8 @@ use Rattle.std.specs.Prelude.{ℕ, ◌≡◌, ◌==◌, ◌≤◌, false, List, 
 use Rattle.std.specs.List.{list_any}
 use Rattle.kabi_types.specs.declared.entries.Cached.{Cached}
 use Rattle.kabi_types.specs.declared.entries.Cached.TheVariants.{Name, Block, Vnode}
-use Rattle.kabi_values.specs.declared.errnos.Errno.TheVariants.{ENOMEM}
-use Rattle.kabi_values.specs.declared.replies.Reply.TheVariants.{Fail}
+use Rattle.kabi_types.specs.declared.errnos.Errno.TheVariants.{ENOMEM}
+use Rattle.kabi_types.specs.declared.replies.Reply.TheVariants.{Fail}
 use Rattle.kabi_types.specs.declared.scripts.Script.{Script}
 use Rattle.posix_defs.specs.Plain.{Plain, answered}
 use Rattle.posix_defs.specs.Ending.{die}

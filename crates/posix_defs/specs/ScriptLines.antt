@@ -1,9 +1,9 @@
 -- What a line of a script says, by its words.
 use Rattle.std.specs.Prelude.{ℕ, ◌%◌, pos, unsigned_abs, ◌==◌, nat_le, if◌then◌else◌, List, [], ◌∷◌, length, Option, None, Some, Result, Ok, Err, codes}
-use Rattle.kabi_calls.specs.Call.{all_kinds}
-use Rattle.kabi_calls.specs.Words.{word_of}
-use Rattle.kabi_calls.specs.declared.calls.CallKind.{CallKind}
-use Rattle.kabi_calls.specs.declared.calls.CallKind.TheVariants as kind
+use Rattle.kabi_types.specs.Call.{all_kinds}
+use Rattle.kabi_types.specs.Words.{word_of}
+use Rattle.kabi_types.specs.declared.calls.CallKind.{CallKind}
+use Rattle.kabi_types.specs.declared.calls.CallKind.TheVariants as kind
 use Rattle.kabi_types.specs.declared.scripts.Chooser.TheVariants.{Choices, Seed}
 use Rattle.kabi_types.specs.declared.scripts.FaultKind.{FaultKind}
 use Rattle.kabi_types.specs.declared.scripts.FaultKind.TheVariants.{UnknownWord, OutOfRange}

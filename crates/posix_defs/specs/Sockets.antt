@@ -1,6 +1,6 @@
 -- All sockets, and what their calls answer and leave.
 use Rattle.std.specs.Prelude.{ℕ, zero, suc, ℤ, ◌+◌, ◌-◌, ◌==◌, ◌&&◌, ◌||◌, nat_le, nat_lt, min, Bool, true, false, List, [], ◌∷◌, ◌++◌, length, take, drop, Option, None, Some, unwrap_or, slice_index_or, if◌then◌else◌}
-use Rattle.kabi_values.specs.declared.errnos.Errno.TheVariants as errno
+use Rattle.kabi_types.specs.declared.errnos.Errno.TheVariants as errno
 use Rattle.posix_defs.specs.Pipe.{Moving, Moves, Fails, capacity, not_now, is_asked}
 use Rattle.posix_defs.specs.Socket.{Stage, Idle, Listening, Connected, Socket, new_socket, connected_to, peer_of, waiting_of, is_shut_read, is_shut_write, listening, without_first, without_peer, after_shutdown}
 

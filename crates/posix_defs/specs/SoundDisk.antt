@@ -2,7 +2,7 @@
 use Rattle.std.specs.Prelude.{ℕ, ◌+◌, ◌-◌, ◌*◌, ◌/◌, ◌%◌, ◌<◌, ◌≤◌, ◌≡◌, ◌≢◌, ◌⊎◌, ◌↔◌, not, List, [], length, take, drop, slice_index, slice_index_or, nat_lt, nat_eq, cond}
 use Rattle.std.specs.Int.{w32, from_be_bytes, bit_at}
 use Rattle.std.specs.List.{range_with_len, sum_by, count_by}
-use Rattle.kabi_values.specs.declared.inodes.Inode.{Inode}
+use Rattle.kabi_types.specs.declared.inodes.Inode.{Inode}
 use Rattle.posix_defs.specs.DiskFormat.{block_size, inode_size, inodes_in_block, direct_pointers, block_pointers, table_end, table_nodes, data_blocks, blocks_of, IsPointer, IsInode, inode_bytes}
 
 -- the bytes of a block

@@ -1,8 +1,8 @@
 -- Who is killed where heap has to be freed: the heaviest live process but the first, or the youngest.
 use Rattle.std.specs.Prelude.{ℕ, ◌+◌, ◌*◌, ◌==◌, ◌&&◌, not, nat_le, if◌then◌else◌, List, [], ◌∷◌, Option, None, Some}
-use Rattle.kabi_values.specs.Class.{size}
-use Rattle.kabi_values.specs.declared.classes.Class.TheVariants as class
-use Rattle.kabi_values.specs.declared.classes.Weight.{Weight}
+use Rattle.kabi_types.specs.Class.{size}
+use Rattle.kabi_types.specs.declared.classes.Class.TheVariants as class
+use Rattle.kabi_types.specs.declared.classes.Weight.{Weight}
 use Rattle.kabi_types.specs.declared.scripts.Policy.{Policy}
 use Rattle.kabi_types.specs.declared.scripts.Policy.TheVariants.{Heaviest, Youngest}
 use Rattle.posix_defs.specs.Memory.{frames_in, nodes_in, places_of}

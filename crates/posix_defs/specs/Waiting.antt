@@ -1,8 +1,8 @@
 -- `waitpid`: an ended child is told, and goes from the table.
 use Rattle.std.specs.Prelude.{ℕ, ◌+◌, ◌==◌, ◌&&◌, ◌||◌, ℤ, pos, negsuc, Bool, true, false, if◌then◌else◌, [], ◌∷◌, Option, None, Some}
 use Rattle.std.specs.Option.{option_or}
-use Rattle.kabi_values.specs.declared.errnos.Errno.TheVariants.{ECHILD}
-use Rattle.kabi_values.specs.declared.replies.Reply.TheVariants.{Val, Waited}
+use Rattle.kabi_types.specs.declared.errnos.Errno.TheVariants.{ECHILD}
+use Rattle.kabi_types.specs.declared.replies.Reply.TheVariants.{Val, Waited}
 use Rattle.kabi_types.specs.declared.scripts.Script.{Script}
 use Rattle.posix_defs.specs.ByPid.{with_pid}
 use Rattle.posix_defs.specs.Process.{Table, Process, Status, Alive, Ended}

@@ -1,12 +1,12 @@
 -- What the core knows of a store: the plain machine, its account, what the caches keep, and the count of reads.
 use Rattle.std.specs.Prelude.{ℕ, ◌+◌, ◌*◌, ◌==◌, ◌≡◌, ◌≢◌, ◌<◌, Bool, true, false, not, if◌then◌else◌, List, [], ◌∷◌, ◌++◌, length, None, Some, is_some}
 use Rattle.std.specs.List.{AllByRecursion, list_any}
-use Rattle.kabi_values.specs.Class.{size}
-use Rattle.kabi_values.specs.declared.classes.Class.TheVariants as class
+use Rattle.kabi_types.specs.Class.{size}
+use Rattle.kabi_types.specs.declared.classes.Class.TheVariants as class
 use Rattle.kabi_types.specs.declared.entries.Cached.{Cached}
 use Rattle.kabi_types.specs.declared.entries.Cached.TheVariants.{Name, Block, Vnode}
 use Rattle.kabi_types.specs.declared.scripts.Script.{Script}
-use Rattle.kabi_calls.specs.PathParts.{is_dots}
+use Rattle.kabi_types.specs.PathParts.{is_dots}
 use Rattle.posix_defs.specs.Process.{Table, runs}
 use Rattle.posix_defs.specs.Tree.{Tree, root, found, is_in_use}
 use Rattle.posix_defs.specs.Plain.{Plain, boot_plain}

@@ -5,12 +5,12 @@ use Rattle.std.specs.List.{position_from}
 use Rattle.std.specs.Option.{option_map}
 use Rattle.std.proofs.Math.ListN.{get_or-map}
 use Rattle.std.proofs.lemmas.List.{get_or_past}
-use Rattle.kabi_calls.specs.Arguments.{count_of, may_be_descriptor, most_descriptors}
+use Rattle.kabi_types.specs.Arguments.{count_of, may_be_descriptor, most_descriptors}
 use Rattle.desc_table.specs.Numbered.{descriptor_in, descriptors_in}
-use Rattle.kheap_shelves.specs.Objects.{object}
-use Rattle.kheap_shelves.specs.declared.objects.Desc.{Desc}
-use Rattle.kheap_shelves.specs.declared.objects.Descriptor.{Descriptor as HeldDescriptor}
-use Rattle.kheap_shelves.specs.declared.objects.Proc.{Proc}
+use Rattle.kheap_slabs.specs.Objects.{object}
+use Rattle.kheap_slabs.specs.declared.objects.Desc.{Desc}
+use Rattle.kheap_slabs.specs.declared.objects.Descriptor.{Descriptor as HeldDescriptor}
+use Rattle.kheap_slabs.specs.declared.objects.Proc.{Proc}
 use Rattle.kheap_slabs.specs.Heap.{Heap, IsWellFormed}
 use Rattle.open_laws.specs.Described.{Counted, counted_in}
 use Rattle.open_laws.specs.Open.{descriptor_by, descriptors_by}

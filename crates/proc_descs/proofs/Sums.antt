@@ -3,7 +3,7 @@ use Rattle.std.proofs.Common.{◌≡◌, ℕ, zero, suc, ◌+◌, ◌<◌, ◌�
 use Rattle.std.specs.Prelude.{count_by, slice_get, sum_by}
 use Rattle.std.specs.List.{list_any}
 use Rattle.std.proofs.lemmas.List.Sums.{sum_by-cons}
-use Rattle.kheap_shelves.specs.Objects.{object}
+use Rattle.kheap_slabs.specs.Objects.{object}
 
 pub or_true : (b : Bool) → (b || true) ≡ true
 or_true true = refl

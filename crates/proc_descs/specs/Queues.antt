@@ -1,8 +1,8 @@
 -- Where the bytes of queues stand, and the fronts that the account has of them.
 use Rattle.std.specs.Prelude.{ℕ, ◌≡◌, ◌<◌, Some}
 use Rattle.chunk_queue.specs.Chained.{place_of}
-use Rattle.kheap_shelves.specs.Objects.{object}
-use Rattle.kheap_shelves.specs.declared.objects.Pipe.{Pipe}
+use Rattle.kheap_slabs.specs.Objects.{object}
+use Rattle.kheap_slabs.specs.declared.objects.Pipe.{Pipe}
 use Rattle.kheap_slabs.specs.Heap.{Heap}
 use Rattle.posix_defs.specs.Account.{Account, fronts_after, pipe_lengths, socket_lengths}
 use Rattle.posix_defs.specs.Files.State.{Files}

@@ -2,7 +2,7 @@
 
 ghost use Rattle.std.specs.Prelude.{◌≡◌, ◌<◌, [], IsSome, None, Some, is_none, slice_index_or};
 ghost use Rattle.std.specs.List.{list_all};
-ghost use Rattle.kheap_shelves.specs.declared.objects.Proc.{Proc as HeldProc};
+ghost use Rattle.kheap_slabs.specs.declared.objects.Proc.{Proc as HeldProc};
 ghost use Rattle.kheap_slabs.specs.Heap.{IsWellFormed};
 ghost use Rattle.kheap_slabs.specs.Paid.{TakesNothing};
 ghost use Rattle.open_laws.specs.Owned.{HasItsOwners};
@@ -16,8 +16,7 @@ ghost use Rattle.proc_descs.specs.Having.{AreListed, ClosesAll, ClosesNumber, Ha
 
 use desc_table::drop_desc;
 use kabi_types::MOST_DESCRIPTORS;
-use kheap_shelves::Proc;
-use kheap_slabs::KHeap;
+use kheap_slabs::{KHeap, Proc};
 use proc_table::ProcTable;
 
 /// A process has a number open no more (POSIX close). With the last descriptor that names it a description goes, and what it was

@@ -1,7 +1,7 @@
 //! Laws of what processes have open. Each is the contract of a function that does nothing.
 
 ghost use Rattle.std.specs.Prelude.{◌≡◌, ℕ};
-ghost use Rattle.kheap_shelves.specs.Objects.{InUse};
+ghost use Rattle.kheap_slabs.specs.Objects.{InUse};
 ghost use Rattle.kheap_slabs.specs.Heap.{Heap};
 ghost use Rattle.open_laws.specs.Described.{CountedList};
 ghost use Rattle.open_laws.specs.Open.{AreOpen, HaveFronts};

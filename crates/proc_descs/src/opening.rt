@@ -1,7 +1,7 @@
 //! What the numbers of a process name, and how a process has one name something.
 
 ghost use Rattle.std.specs.Prelude.{◌≡◌, ◌<◌, ℕ, List, ◌∷◌, IsSome, None, Some, length};
-ghost use Rattle.kabi_calls.specs.Arguments.{count_of, may_be_descriptor};
+ghost use Rattle.kabi_types.specs.Arguments.{count_of, may_be_descriptor};
 ghost use Rattle.kheap_slabs.specs.Paid.{TakesNothing};
 ghost use Rattle.open_laws.specs.Open.{descriptor_by};
 ghost use Rattle.open_laws.specs.Owned.{HasItsOwners};
@@ -15,8 +15,7 @@ ghost use Rattle.proc_descs.specs.Naming.{ChangesNumbers, NamesNumber, named_at,
 
 use crate::closing::is_well_formed;
 use kabi_types::MOST_DESCRIPTORS;
-use kheap_shelves::{Descriptor, Proc};
-use kheap_slabs::KHeap;
+use kheap_slabs::{Descriptor, KHeap, Proc};
 use proc_table::ProcTable;
 
 /// The descriptors of a process, by number.

@@ -3,10 +3,10 @@ use Rattle.std.proofs.Common.{◌≡◌, ◌≢◌, ◌⊎◌, ℕ, zero, suc, �
 use Rattle.std.specs.Prelude.{is_some}
 use Rattle.std.proofs.lemmas.Bool.{cases_eq}
 use Rattle.kheap_laws.proofs.PaidLemmas.{CanPay-kept, IsPaid-nothing}
-use Rattle.kheap_shelves.specs.Purse.{Purse}
-use Rattle.kheap_shelves.specs.declared.objects.Block.{Block}
-use Rattle.kheap_shelves.specs.declared.objects.Name.{Name}
-use Rattle.kheap_shelves.specs.declared.objects.Vnode.{Vnode}
+use Rattle.kheap_slabs.specs.Purse.{Purse}
+use Rattle.kheap_slabs.specs.declared.objects.Block.{Block}
+use Rattle.kheap_slabs.specs.declared.objects.Name.{Name}
+use Rattle.kheap_slabs.specs.declared.objects.Vnode.{Vnode}
 use Rattle.kheap_slabs.specs.Heap.{Heap}
 use Rattle.kheap_slabs.specs.Paid.{AreFills, HasFills, TakesNothing}
 use Rattle.memfs_ops.specs.Closing.{HeldToClose, left_tree, one_less}

@@ -4,12 +4,12 @@ use Rattle.std.specs.Prelude.{is_some}
 use Rattle.std.specs.Option.{option_map}
 use Rattle.std.proofs.lemmas.Bool.{cases_eq}
 use Rattle.std.proofs.lemmas.List.{get_or-set_other, get_or-set_same}
-use Rattle.kheap_shelves.specs.Objects.{object}
-use Rattle.kheap_shelves.specs.declared.objects.Desc.{Desc}
-use Rattle.kheap_shelves.specs.declared.objects.Descriptor.{Descriptor as HeldDescriptor}
-use Rattle.kheap_shelves.specs.declared.objects.Target.{Target}
-use Rattle.kheap_shelves.specs.declared.objects.Target.TheVariants as target
-use Rattle.kheap_shelves.proofs.ObjectLemmas.{InUse-within}
+use Rattle.kheap_slabs.specs.Objects.{object}
+use Rattle.kheap_slabs.specs.declared.objects.Desc.{Desc}
+use Rattle.kheap_slabs.specs.declared.objects.Descriptor.{Descriptor as HeldDescriptor}
+use Rattle.kheap_slabs.specs.declared.objects.Target.{Target}
+use Rattle.kheap_slabs.specs.declared.objects.Target.TheVariants as target
+use Rattle.kheap_slabs.proofs.ObjectLemmas.{InUse-within}
 use Rattle.kheap_slabs.specs.Heap.{Heap}
 use Rattle.block_cache.specs.Blocks.{KeepsBlocks, TrueToDisk}
 use Rattle.name_cache.specs.Names.{KeepsNames, TrueNames}

@@ -5,8 +5,8 @@ use Rattle.std.proofs.lemmas.Bool.{cases_eq}
 use Rattle.std.proofs.lemmas.List.{map-set}
 use Rattle.kheap_laws.proofs.OwnerLemmas.{IsOwned-same}
 use Rattle.kheap_laws.proofs.TableLemmas.{OwnsItsObjects-along}
-use Rattle.kheap_shelves.specs.Objects.{InUse, object, put}
-use Rattle.kheap_shelves.specs.declared.objects.Desc.{Desc}
+use Rattle.kheap_slabs.specs.Objects.{InUse, object, put}
+use Rattle.kheap_slabs.specs.declared.objects.Desc.{Desc}
 use Rattle.kheap_slabs.specs.Heap.{Heap}
 use Rattle.open_laws.specs.Described.{Counted, CountedList, counted_in}
 use Rattle.open_laws.specs.Open.{AreOpen, HaveFronts}

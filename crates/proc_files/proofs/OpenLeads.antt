@@ -1,8 +1,8 @@
 -- What an open leads to in the tree: a node that may be open so, beside which each node in use is of the kind that it was.
 use Rattle.std.proofs.Common.{◌≡◌, ◌≢◌, ℕ, ℤ, Bool, true, false, cond, not, ◌&&◌, ◌||◌, List, [], Option, Some, Result, Ok, Err, is_some, refl, ap, sym, subst, ◌∙◌, inl, inr}
 use Rattle.std.proofs.lemmas.Bool.{cases_Bool, cases_eq, cond-true, cond-false, false≢true}
-use Rattle.kabi_values.specs.declared.errnos.Errno.{Errno}
-use Rattle.kabi_values.specs.declared.errnos.Errno.TheVariants.{EEXIST, EISDIR, ENOENT, EOPNOTSUPP}
+use Rattle.kabi_types.specs.declared.errnos.Errno.{Errno}
+use Rattle.kabi_types.specs.declared.errnos.Errno.TheVariants.{EEXIST, EISDIR, ENOENT, EOPNOTSUPP}
 use Rattle.posix_defs.specs.Calls.OnFiles.{opening_of}
 use Rattle.posix_defs.specs.FileBytes.{resized}
 use Rattle.posix_defs.specs.Files.Descriptions.{Access, ReadOnly, ReadWrite, WriteOnly, access_of, may_write}

@@ -1,13 +1,13 @@
 -- Bytes of a node are put in a process's memory, and then maybe the offset moves.
 use Rattle.std.proofs.Common.{◌≡◌, ℕ, ◌%◌, ℤ, pos, true, List, length, Option, Some, refl, ap, sym, subst, ◌∙◌}
-use Rattle.kabi_calls.specs.Arguments.{count_of}
-use Rattle.kabi_calls.specs.declared.calls.Call.{Call}
-use Rattle.kabi_values.specs.declared.replies.Reply.TheVariants.{Val}
+use Rattle.kabi_types.specs.Arguments.{count_of}
+use Rattle.kabi_types.specs.declared.calls.Call.{Call}
+use Rattle.kabi_types.specs.declared.replies.Reply.TheVariants.{Val}
 use Rattle.kabi_types.specs.declared.scripts.Script.{Script}
-use Rattle.kheap_shelves.specs.Objects.{object, put as put_desc}
-use Rattle.kheap_shelves.specs.Purse.{Purse}
-use Rattle.kheap_shelves.specs.declared.objects.Desc.{Desc}
-use Rattle.kheap_shelves.specs.declared.objects.Target.TheVariants as target
+use Rattle.kheap_slabs.specs.Objects.{object, put as put_desc}
+use Rattle.kheap_slabs.specs.Purse.{Purse}
+use Rattle.kheap_slabs.specs.declared.objects.Desc.{Desc}
+use Rattle.kheap_slabs.specs.declared.objects.Target.TheVariants as target
 use Rattle.kheap_slabs.specs.Heap.{Heap}
 use Rattle.kheap_slabs.specs.Paid.{IsPaid}
 use Rattle.kheap_laws.proofs.PaidLemmas.{IsPaid-trans}

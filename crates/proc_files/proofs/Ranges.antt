@@ -3,10 +3,10 @@ use Rattle.std.proofs.Common.{◌≡◌, ◌≢◌, ℕ, zero, suc, ◌+◌, ◌
 use Rattle.std.proofs.lemmas.Bool.Decides.{eqb_tells, leb_tells}
 use Rattle.std.specs.Prelude.{nat_le}
 use Rattle.std.specs.Option.{option_or}
-use Rattle.kabi_calls.specs.Arguments.{count_of, invalid_unless, is_from, is_within, moved_fault, placed_fault, range_fault}
-use Rattle.kabi_values.specs.declared.errnos.Errno.TheVariants.{EINVAL}
+use Rattle.kabi_types.specs.Arguments.{count_of, invalid_unless, is_from, is_within, moved_fault, placed_fault, range_fault}
+use Rattle.kabi_types.specs.declared.errnos.Errno.TheVariants.{EINVAL}
 use Rattle.kheap_laws.proofs.OwnerLemmas.{IsOwned-same}
-use Rattle.kheap_shelves.specs.Purse.{Purse}
+use Rattle.kheap_slabs.specs.Purse.{Purse}
 use Rattle.kheap_slabs.specs.Heap.{Heap}
 use Rattle.kheap_slabs.specs.Owners.{with_space}
 use Rattle.memfs_ops.specs.Fetching.{Fetches}

@@ -1,11 +1,11 @@
 -- What a read of a node reads of the disk, and what it leaves cached.
 use Rattle.std.proofs.Common.{◌≡◌, ℕ, ◌+◌, ◌-◌, ◌/◌, ◌<◌, ℤ, Some, ap, refl, subst, sym, ◌∙◌}
 use Rattle.std.specs.List.{AllByRecursion}
-use Rattle.kabi_values.specs.declared.inodes.Inode.{Inode}
-use Rattle.kheap_shelves.specs.Objects.{object}
-use Rattle.kheap_shelves.specs.declared.objects.Desc.{Desc}
-use Rattle.kheap_shelves.specs.declared.objects.Descriptor.{Descriptor as HeldDescriptor}
-use Rattle.kheap_shelves.specs.declared.objects.Target.TheVariants as target
+use Rattle.kabi_types.specs.declared.inodes.Inode.{Inode}
+use Rattle.kheap_slabs.specs.Objects.{object}
+use Rattle.kheap_slabs.specs.declared.objects.Desc.{Desc}
+use Rattle.kheap_slabs.specs.declared.objects.Descriptor.{Descriptor as HeldDescriptor}
+use Rattle.kheap_slabs.specs.declared.objects.Target.TheVariants as target
 use Rattle.kheap_slabs.specs.Heap.{Heap}
 use Rattle.memfs_file.specs.Ranges.{asked_to_read}
 use Rattle.cached_disk.specs.Lent.{IsCached}

@@ -1,13 +1,13 @@
 -- A description of a node is made, and the place that the machine has for it.
 use Rattle.std.specs.Prelude.{ℕ, ◌<◌, ◌≡◌, ℤ, true, if◌then◌else◌, [], ◌∷◌, ◌++◌, length, None, Some}
 use Rattle.kabi_types.specs.declared.scripts.Script.{Script}
-use Rattle.kabi_values.specs.declared.replies.Reply.{Reply}
-use Rattle.kheap_shelves.specs.Objects.{object, put}
-use Rattle.kheap_shelves.specs.declared.objects.Access.{Access as HeldAccess}
-use Rattle.kheap_shelves.specs.declared.objects.Access.TheVariants as mode
-use Rattle.kheap_shelves.specs.declared.objects.Desc.{Desc}
-use Rattle.kheap_shelves.specs.declared.objects.Proc.{Proc}
-use Rattle.kheap_shelves.specs.declared.objects.Target.TheVariants as target
+use Rattle.kabi_types.specs.declared.replies.Reply.{Reply}
+use Rattle.kheap_slabs.specs.Objects.{object, put}
+use Rattle.kheap_slabs.specs.declared.objects.Access.{Access as HeldAccess}
+use Rattle.kheap_slabs.specs.declared.objects.Access.TheVariants as mode
+use Rattle.kheap_slabs.specs.declared.objects.Desc.{Desc}
+use Rattle.kheap_slabs.specs.declared.objects.Proc.{Proc}
+use Rattle.kheap_slabs.specs.declared.objects.Target.TheVariants as target
 use Rattle.kheap_slabs.specs.Heap.{Heap}
 use Rattle.memfs_ops.specs.FileTree.{TreeView}
 use Rattle.place_laws.specs.Placed.{Numbers, numbered}

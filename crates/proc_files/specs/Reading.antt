@@ -1,17 +1,17 @@
 -- Bytes of a node that are put in a process's memory, and which machine a call leads to.
 use Rattle.std.specs.Prelude.{ℕ, ◌+◌, ◌-◌, ◌/◌, ◌<◌, ◌≤◌, ◌≡◌, ℤ, Bool, true, List, Option, None, Some, IsSome, Result, Ok, Err}
 use Rattle.std.specs.List.{AllByRecursion}
-use Rattle.kabi_calls.specs.Arguments.{count_of}
-use Rattle.kabi_calls.specs.declared.calls.Call.{Call}
-use Rattle.kabi_values.specs.declared.errnos.Errno.{Errno}
-use Rattle.kabi_values.specs.declared.inodes.Inode.{Inode}
-use Rattle.kabi_values.specs.declared.replies.Reply.{Reply}
+use Rattle.kabi_types.specs.Arguments.{count_of}
+use Rattle.kabi_types.specs.declared.calls.Call.{Call}
+use Rattle.kabi_types.specs.declared.errnos.Errno.{Errno}
+use Rattle.kabi_types.specs.declared.inodes.Inode.{Inode}
+use Rattle.kabi_types.specs.declared.replies.Reply.{Reply}
 use Rattle.kabi_types.specs.declared.scripts.Script.{Script}
-use Rattle.kheap_shelves.specs.Objects.{object}
-use Rattle.kheap_shelves.specs.Purse.{Purse}
-use Rattle.kheap_shelves.specs.declared.objects.Desc.{Desc}
-use Rattle.kheap_shelves.specs.declared.objects.Descriptor.{Descriptor as HeldDescriptor}
-use Rattle.kheap_shelves.specs.declared.objects.Target.TheVariants as target
+use Rattle.kheap_slabs.specs.Objects.{object}
+use Rattle.kheap_slabs.specs.Purse.{Purse}
+use Rattle.kheap_slabs.specs.declared.objects.Desc.{Desc}
+use Rattle.kheap_slabs.specs.declared.objects.Descriptor.{Descriptor as HeldDescriptor}
+use Rattle.kheap_slabs.specs.declared.objects.Target.TheVariants as target
 use Rattle.kheap_slabs.specs.Heap.{Heap}
 use Rattle.memfs_file.specs.Ranges.{asked_to_read}
 use Rattle.cached_disk.specs.Lent.{IsCached}

@@ -1,10 +1,10 @@
 -- Where a seek leads.
 use Rattle.std.specs.Prelude.{ℕ, zero, suc, ◌%◌, ◌==◌, ◌&&◌, not, nat_lt, ◌≡◌, ℤ, pos, negsuc, ◌+ℤ◌, Bool, if◌then◌else◌, Result, Ok, Err}
-use Rattle.kabi_calls.specs.Arguments.{count_of}
-use Rattle.kabi_values.specs.declared.errnos.Errno.{Errno}
-use Rattle.kabi_values.specs.declared.errnos.Errno.TheVariants.{EINVAL, EOVERFLOW}
-use Rattle.kheap_shelves.specs.Objects.{put}
-use Rattle.kheap_shelves.specs.declared.objects.Desc.{Desc}
+use Rattle.kabi_types.specs.Arguments.{count_of}
+use Rattle.kabi_types.specs.declared.errnos.Errno.{Errno}
+use Rattle.kabi_types.specs.declared.errnos.Errno.TheVariants.{EINVAL, EOVERFLOW}
+use Rattle.kheap_slabs.specs.Objects.{put}
+use Rattle.kheap_slabs.specs.declared.objects.Desc.{Desc}
 use Rattle.kheap_slabs.specs.Heap.{Heap}
 use Rattle.posix_defs.specs.Calls.OnFiles.{greatest_offset}
 use Rattle.posix_defs.specs.Tree.{Tree, is_directory, size_at}

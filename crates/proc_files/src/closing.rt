@@ -14,8 +14,7 @@ ghost use Rattle.proc_descs.specs.Queues.{QueuesStand};
 ghost use Rattle.proc_files.specs.Closing.{ClosesHolding, MayClose};
 ghost use Rattle.proc_files.specs.Holding.{HoldFiles, HoldSome};
 
-use kheap_shelves::Purse;
-use kheap_slabs::KHeap;
+use kheap_slabs::{KHeap, Purse};
 use memfs_ops::FileTree;
 use proc_descs::close_one;
 use proc_table::ProcTable;

@@ -1,7 +1,7 @@
 //! What is open on a node, and where, and what the heap keeps.
 
 ghost use Rattle.std.specs.Prelude.{◌≡◌, ℕ, Some};
-ghost use Rattle.kheap_shelves.specs.Objects.{object};
+ghost use Rattle.kheap_slabs.specs.Objects.{object};
 ghost use Rattle.kheap_slabs.specs.Heap.{IsWellFormed};
 ghost use Rattle.kheap_slabs.specs.Paid.{TakesNothing};
 ghost use Rattle.open_laws.specs.Described.{access_in};
@@ -11,8 +11,7 @@ ghost use Rattle.posix_defs.specs.Tree.{Tree, is_directory};
 ghost use Rattle.proc_files.specs.Seeking.{MovesDesc};
 
 use kabi_types::{NodeKind, StatInfo};
-use kheap_shelves::{Access, Desc};
-use kheap_slabs::KHeap;
+use kheap_slabs::{Access, Desc, KHeap};
 use proc_queues::Found;
 
 /// Whether what is told of a node is told of a directory.

@@ -11,8 +11,7 @@ ghost use Rattle.proc_table.specs.Table.{key_of};
 ghost use Rattle.proc_descs.specs.Having.{AreListed, HaveOpen};
 ghost use Rattle.proc_files.specs.Reading.{IsOffNodes, IsOnNode};
 
-use kheap_shelves::Target;
-use kheap_slabs::KHeap;
+use kheap_slabs::{KHeap, Target};
 use proc_descs::descriptor_of;
 use proc_table::ProcTable;
 

@@ -2,13 +2,13 @@
 
 ghost use Rattle.std.specs.Prelude.{◌≡◌, ◌-◌, ◌<◌, ◌≤◌, ◌^◌, ℕ, ℤ, List, [], ◌∷◌, IfSome, IsSome, None, OnErr, OnOk, Some, false, true};
 ghost use Rattle.std.specs.List.{All};
-ghost use Rattle.kabi_calls.specs.Arguments.{argument_fault};
-ghost use Rattle.kabi_calls.specs.declared.calls.Call.{Call};
+ghost use Rattle.kabi_types.specs.Arguments.{argument_fault};
+ghost use Rattle.kabi_types.specs.declared.calls.Call.{Call};
 ghost use Rattle.kabi_types.specs.declared.scripts.Script.{Script};
-ghost use Rattle.kabi_values.specs.OpenFlags.{are_open_flags};
-ghost use Rattle.kabi_values.specs.declared.classes.Class.TheVariants as class;
-ghost use Rattle.kheap_shelves.specs.Counts.{with_count};
-ghost use Rattle.kheap_shelves.specs.declared.objects.Proc.{Proc};
+ghost use Rattle.kabi_types.specs.OpenFlags.{are_open_flags};
+ghost use Rattle.kabi_types.specs.declared.classes.Class.TheVariants as class;
+ghost use Rattle.kheap_slabs.specs.Counts.{with_count};
+ghost use Rattle.kheap_slabs.specs.declared.objects.Proc.{Proc};
 ghost use Rattle.kheap_slabs.specs.Paid.{CanPay, HasFills, IsPaid};
 ghost use Rattle.memfs_ops.specs.FileTree.{KeepsLast, KnowsWay, MayWalk, Stands, in_call};
 ghost use Rattle.memfs_ops.specs.Opening.{asks_of};
@@ -36,8 +36,7 @@ ghost use Rattle.proc_files.specs.Opening.{AnswersAnew, HaveAnew, MakesDesc, Wor
 use crate::nodes::is_well_formed;
 use desc_table::Descs;
 use kabi_types::{Class, Errno, OpenFlags};
-use kheap_shelves::{Access, Desc, DescFlags, Descriptor, Purse, Target};
-use kheap_slabs::KHeap;
+use kheap_slabs::{Access, Desc, DescFlags, Descriptor, KHeap, Purse, Target};
 use memfs_ops::{FileTree, Opening};
 use proc_descs::{open_one, places_of};
 use proc_table::ProcTable;

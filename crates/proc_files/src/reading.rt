@@ -2,11 +2,11 @@
 
 ghost use Rattle.std.specs.Prelude.{◌≡◌, ◌/◌, ◌-◌, ◌+◌, ◌%◌, ◌≤◌, ◌<◌, ℕ, None, Some, IsSome, length};
 ghost use Rattle.std.specs.List.{AllByRecursion};
-ghost use Rattle.kabi_calls.specs.Arguments.{argument_fault, count_of};
-ghost use Rattle.kabi_calls.specs.declared.calls.Call.{Call};
+ghost use Rattle.kabi_types.specs.Arguments.{argument_fault, count_of};
+ghost use Rattle.kabi_types.specs.declared.calls.Call.{Call};
 ghost use Rattle.kabi_types.specs.declared.scripts.Script.{Script};
-ghost use Rattle.kabi_values.specs.declared.inodes.Inode.{Inode};
-ghost use Rattle.kheap_shelves.specs.declared.objects.Desc.{Desc as HeldDesc};
+ghost use Rattle.kabi_types.specs.declared.inodes.Inode.{Inode};
+ghost use Rattle.kheap_slabs.specs.declared.objects.Desc.{Desc as HeldDesc};
 ghost use Rattle.kheap_slabs.specs.Paid.{IsPaid};
 ghost use Rattle.memfs_ops.specs.Fetching.{MayFetch};
 ghost use Rattle.memfs_ops.specs.FileTree.{Stands};
@@ -35,8 +35,7 @@ ghost use Rattle.proc_files.specs.Reading.{HoldsDirectory, HoldsFile, IsOnNode, 
 use crate::nodes::{is_directory, may_read, move_to};
 use crate::spaces::{FileBuffer, Range, range_of};
 use kabi_types::Errno;
-use kheap_shelves::{Purse, Target};
-use kheap_slabs::KHeap;
+use kheap_slabs::{KHeap, Purse, Target};
 use memfs_ops::FileTree;
 use proc_descs::count_of;
 use proc_queues::opened;

@@ -2,10 +2,10 @@
 
 ghost use Rattle.std.specs.Prelude.{◌≡◌, ◌<◌, ℕ, zero, suc, [], IfOk, IsSome, OnErr, Some, Result, Ok, Err, nat_lt, if◌then◌else◌, pos, ◌+ℤ◌, ◌-◌};
 ghost use Rattle.kabi_types.specs.declared.scripts.Script.{Script};
-ghost use Rattle.kabi_calls.specs.Arguments.{count_of};
-ghost use Rattle.kabi_values.specs.declared.errnos.Errno.{Errno as Fault};
-ghost use Rattle.kabi_values.specs.declared.errnos.Errno.TheVariants.{EINVAL};
-ghost use Rattle.kheap_shelves.specs.Objects.{object};
+ghost use Rattle.kabi_types.specs.Arguments.{count_of};
+ghost use Rattle.kabi_types.specs.declared.errnos.Errno.{Errno as Fault};
+ghost use Rattle.kabi_types.specs.declared.errnos.Errno.TheVariants.{EINVAL};
+ghost use Rattle.kheap_slabs.specs.Objects.{object};
 ghost use Rattle.kheap_slabs.specs.Paid.{TakesNothing};
 ghost use Rattle.memfs_ops.specs.FileTree.{HeldSome, IsUsed, Stands};
 ghost use Rattle.open_laws.specs.Owned.{HasItsOwners};
@@ -23,8 +23,7 @@ ghost use Rattle.proc_files.specs.Seeking.{MovesDesc, between_entries, offset_at
 
 use crate::nodes::{is_directory, move_to};
 use kabi_types::{Errno, StatInfo};
-use kheap_shelves::Target;
-use kheap_slabs::KHeap;
+use kheap_slabs::{KHeap, Target};
 use memfs_ops::FileTree;
 use proc_descs::count_of;
 use proc_queues::{Found, opened};

@@ -1,7 +1,7 @@
 //! `ftruncate`.
 
 ghost use Rattle.std.specs.Prelude.{◌≡◌, ℕ, [], IsSome, OnErr};
-ghost use Rattle.kabi_calls.specs.Arguments.{count_of};
+ghost use Rattle.kabi_types.specs.Arguments.{count_of};
 ghost use Rattle.kabi_types.specs.declared.scripts.Script.{Script};
 ghost use Rattle.memfs_ops.specs.Fetching.{MayFetch};
 ghost use Rattle.memfs_ops.specs.FileTree.{Pays};
@@ -17,8 +17,7 @@ ghost use Rattle.proc_files.specs.Holding.{HoldFiles, HoldSome};
 
 use crate::nodes::{is_directory, may_write};
 use kabi_types::Errno;
-use kheap_shelves::{Purse, Target};
-use kheap_slabs::KHeap;
+use kheap_slabs::{KHeap, Purse, Target};
 use memfs_ops::FileTree;
 use proc_descs::count_of;
 use proc_queues::opened;

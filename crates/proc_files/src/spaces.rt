@@ -1,7 +1,7 @@
 //! The bytes of a process's memory that a call names.
 
 ghost use Rattle.std.specs.Prelude.{◌≡◌, ◌==◌, ◌+◌, ◌<◌, ◌≤◌, IfSome, None, is_some};
-ghost use Rattle.kabi_calls.specs.Arguments.{count_of, range_fault};
+ghost use Rattle.kabi_types.specs.Arguments.{count_of, range_fault};
 ghost use Rattle.proc_table.specs.Procs.{IsAlive};
 ghost use Rattle.proc_table.specs.Table.{processes};
 ghost use Rattle.proc_queues.specs.Spaces.{HasSpace};

@@ -1,8 +1,8 @@
 //! `exec`: which program a process starts.
 
 ghost use Rattle.std.specs.Prelude.{◌≡◌, ℕ, IsSome, None, Ok, Some};
-ghost use Rattle.kabi_calls.specs.Arguments.{path_fault};
-ghost use Rattle.kheap_shelves.specs.declared.objects.Proc.{Proc};
+ghost use Rattle.kabi_types.specs.Arguments.{path_fault};
+ghost use Rattle.kheap_slabs.specs.declared.objects.Proc.{Proc};
 ghost use Rattle.memfs_ops.specs.FileTree.{KeepsLed, KnowsWay, MayWalk, Pays, Stands, in_call};
 ghost use Rattle.memfs_ops.specs.Starting.{ArePrograms, KeepsLine, KnowsLine};
 ghost use Rattle.place_laws.specs.Placed.{Numbers};
@@ -21,8 +21,7 @@ ghost use Rattle.proc_files.specs.Opening.{WorksSomewhere};
 
 use crate::opening::directory_of;
 use kabi_types::{Errno, Script};
-use kheap_shelves::Purse;
-use kheap_slabs::KHeap;
+use kheap_slabs::{KHeap, Purse};
 use memfs_ops::FileTree;
 use proc_table::ProcTable;
 

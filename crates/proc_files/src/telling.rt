@@ -16,8 +16,7 @@ ghost use Rattle.proc_files.specs.Answering.{AnswersHolding, StaysOffNodes};
 ghost use Rattle.proc_files.specs.Holding.{HoldFiles, HoldSome, IsHeldIn};
 
 use kabi_types::{Errno, NodeKind, StatInfo};
-use kheap_shelves::Target;
-use kheap_slabs::KHeap;
+use kheap_slabs::{KHeap, Target};
 use memfs_ops::FileTree;
 use proc_queues::opened;
 use proc_table::ProcTable;

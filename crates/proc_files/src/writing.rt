@@ -1,8 +1,8 @@
 //! `write` and `pwrite` of files.
 
 ghost use Rattle.std.specs.Prelude.{◌≡◌, ◌+◌, ◌≤◌, ◌<◌, ℕ, None, if◌then◌else◌};
-ghost use Rattle.kabi_calls.specs.Arguments.{argument_fault, count_of};
-ghost use Rattle.kabi_calls.specs.declared.calls.Call.{Call};
+ghost use Rattle.kabi_types.specs.Arguments.{argument_fault, count_of};
+ghost use Rattle.kabi_types.specs.declared.calls.Call.{Call};
 ghost use Rattle.kabi_types.specs.declared.scripts.Script.{Script};
 ghost use Rattle.kheap_slabs.specs.Paid.{IsPaid};
 ghost use Rattle.memfs_ops.specs.Changing.{LedTo};
@@ -28,8 +28,7 @@ ghost use Rattle.proc_files.specs.Reading.{HoldsFile, IsOnNode, LeadsHolding};
 use crate::nodes::{is_directory, may_write, move_to};
 use crate::spaces::{FileBuffer, Range, range_of};
 use kabi_types::Errno;
-use kheap_shelves::{Desc, Purse, Target};
-use kheap_slabs::KHeap;
+use kheap_slabs::{Desc, KHeap, Purse, Target};
 use memfs_ops::FileTree;
 use proc_descs::count_of;
 use proc_queues::opened;

@@ -1,8 +1,8 @@
 -- Where the heap stands for what the machine has once a call has made sockets, each key that was in use has the place that it had,
 -- and no socket of the machine gets another name, no key of the heap does.
 use Rattle.std.proofs.Common.{◌≡◌, ℕ, Option, None, Some, refl, sym, ap, ◌∙◌}
-use Rattle.kheap_shelves.specs.Objects.{InUse}
-use Rattle.kheap_shelves.proofs.ObjectLemmas.{object_of}
+use Rattle.kheap_slabs.specs.Objects.{InUse}
+use Rattle.kheap_slabs.proofs.ObjectLemmas.{object_of}
 use Rattle.kheap_slabs.specs.Heap.{Heap}
 use Rattle.open_laws.specs.Socketed.{AreSocketed}
 use Rattle.place_laws.specs.Placed.{Numbers}

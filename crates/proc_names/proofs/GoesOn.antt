@@ -2,8 +2,8 @@
 -- another name, no key of the heap does.
 use Rattle.std.proofs.Common.{◌≡◌, ℕ, cond, [], length, Option, None, Some, IsSome, is_some, refl, sym, ap, ◌∙◌, arith}
 use Rattle.std.proofs.lemmas.List.{get_or_past}
-use Rattle.kheap_shelves.specs.Objects.{InUse, object}
-use Rattle.kheap_shelves.specs.declared.objects.Sock.{Sock}
+use Rattle.kheap_slabs.specs.Objects.{InUse, object}
+use Rattle.kheap_slabs.specs.declared.objects.Sock.{Sock}
 use Rattle.kheap_slabs.specs.Heap.{Heap}
 use Rattle.open_laws.specs.Owned.{HasItsOwners}
 use Rattle.open_laws.specs.Socketed.{AreRenamed, socket_by}
@@ -14,7 +14,7 @@ use Rattle.posix_defs.specs.Files.State.{Files}
 use Rattle.posix_defs.specs.Sockets.{Sockets, sock_at}
 use Rattle.usock_core.specs.Standing.{StandsFor as SocketsStandFor}
 use Rattle.usock_core.proofs.StandingLemmas.{LeavesOthers-refl, found, used_from}
-use Rattle.kheap_shelves.proofs.ObjectLemmas.{object_of}
+use Rattle.kheap_slabs.proofs.ObjectLemmas.{object_of}
 use Rattle.proc_table.specs.Table.{TableView}
 use Rattle.proc_descs.specs.Having.{HaveOpen}
 use Rattle.proc_pipes.specs.Opening.{KeepsNumbers}

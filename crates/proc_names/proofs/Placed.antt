@@ -1,7 +1,7 @@
 -- Who is bound and who listens, in a table of sockets by key and in the same one by place.
 use Rattle.std.proofs.Common.{◌≡◌, ℕ, ◌≤◌, Bool, cond, List, map, length, Option, None, Some, IsSome, is_some, refl, sym, ap, ◌∙◌, arith}
 use Rattle.std.specs.Option.{option_map}
-use Rattle.kabi_values.specs.declared.errnos.Errno.TheVariants.{EINVAL, EISCONN}
+use Rattle.kabi_types.specs.declared.errnos.Errno.TheVariants.{EINVAL, EISCONN}
 use Rattle.open_laws.specs.Socketed.{AreRenamed, stage_by}
 use Rattle.open_laws.proofs.SocketLemmas.{placed_at, placed_stage, placed_there}
 use Rattle.posix_defs.specs.Files.SocketNames.{listener_at}

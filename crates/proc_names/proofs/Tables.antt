@@ -1,8 +1,8 @@
 -- Which key of the heap has which name, as the table of sockets says it.
 use Rattle.std.proofs.Common.{◌≡◌, ◌≢◌, ℕ, ◌≤◌, length, Option, None, Some, IsSome, unwrap_or, refl, sym, ap, ◌∙◌, arith}
-use Rattle.kheap_shelves.specs.Objects.{InUse, object}
-use Rattle.kheap_shelves.specs.declared.objects.Sock.{Sock}
-use Rattle.kheap_shelves.proofs.ObjectLemmas.{InUse-within}
+use Rattle.kheap_slabs.specs.Objects.{InUse, object}
+use Rattle.kheap_slabs.specs.declared.objects.Sock.{Sock}
+use Rattle.kheap_slabs.proofs.ObjectLemmas.{InUse-within}
 use Rattle.kheap_slabs.specs.Heap.{Heap}
 use Rattle.posix_defs.specs.Socket.{Socket, new_socket}
 use Rattle.posix_defs.specs.Sockets.{Sockets, sock_at, socket_at, with_name}

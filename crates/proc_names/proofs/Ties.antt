@@ -2,8 +2,8 @@
 use Rattle.std.proofs.Common.{◌≡◌, ◌≢◌, ℕ, ◌<◌, List, length, Option, None, Some, is_some, sym, ap, ◌∙◌, inl, inr}
 use Rattle.std.proofs.lemmas.Bool.{cases_eq}
 use Rattle.std.proofs.lemmas.List.{get_or-set_other, get_or-set_same}
-use Rattle.kheap_shelves.specs.Objects.{object, put, without}
-use Rattle.kheap_shelves.proofs.ObjectLemmas.{InUse-within}
+use Rattle.kheap_slabs.specs.Objects.{object, put, without}
+use Rattle.kheap_slabs.proofs.ObjectLemmas.{InUse-within}
 use Rattle.holding_laws.specs.Names.{AreBound}
 
 same_number : {a b : ℕ} → Some a ≡ Some b → a ≡ b

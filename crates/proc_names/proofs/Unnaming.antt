@@ -1,8 +1,8 @@
 -- A number is closed whose socket, where one goes with it, has lost its name before: what is other is what any close changes.
 use Rattle.std.proofs.Common.{◌≡◌, ℕ, List, Option, None, ap, sym, ◌∙◌}
 use Rattle.std.specs.Prelude.{slice_set}
-use Rattle.kheap_shelves.specs.Objects.{object, put}
-use Rattle.kheap_shelves.specs.declared.objects.Proc.{Proc}
+use Rattle.kheap_slabs.specs.Objects.{object, put}
+use Rattle.kheap_slabs.specs.declared.objects.Proc.{Proc}
 use Rattle.kheap_slabs.specs.Heap.{Heap}
 use Rattle.proc_table.specs.Table.{TableView}
 use Rattle.proc_files.specs.Closing.{ClosesHolding}

@@ -1,6 +1,6 @@
 -- Several numbers of a process are closed, one after another.
 use Rattle.std.specs.Prelude.{ℕ, zero, suc, ◌≡◌, ◌<◌, ◌≤◌, Bool, true, false, if◌then◌else◌, List, Option, None, Some, slice_index_or, slice_set}
-use Rattle.kheap_shelves.specs.declared.objects.Descriptor.{Descriptor as HeldDescriptor}
+use Rattle.kheap_slabs.specs.declared.objects.Descriptor.{Descriptor as HeldDescriptor}
 use Rattle.kheap_slabs.specs.Heap.{Heap}
 use Rattle.posix_defs.specs.Files.Closing.{after_close}
 use Rattle.posix_defs.specs.Files.Descriptions.{Description, description_at}

@@ -1,7 +1,7 @@
 -- What heap, table, tree and the table of names stand for: files, whose sockets have names in the tree.
 use Rattle.std.specs.Prelude.{ℕ, ◌<◌, ◌≡◌, true, List, length, Option, Some}
 use Rattle.holding_laws.specs.Holders.{HaveNames}
-use Rattle.kheap_shelves.specs.declared.objects.Proc.{Proc}
+use Rattle.kheap_slabs.specs.declared.objects.Proc.{Proc}
 use Rattle.kheap_slabs.specs.Heap.{Heap}
 use Rattle.memfs_ops.specs.FileTree.{TreeView}
 use Rattle.place_laws.specs.Placed.{Numbers}

@@ -3,7 +3,7 @@
 ghost use Rattle.std.specs.Prelude.{◌≡◌, ◌<◌, ◌≤◌, ◌^◌, ℕ, [], IsSome, OnErr, length};
 ghost use Rattle.std.specs.List.{All};
 ghost use Rattle.cached_disk.specs.TreeLent.{with_cached};
-ghost use Rattle.kabi_calls.specs.Arguments.{path_fault};
+ghost use Rattle.kabi_types.specs.Arguments.{path_fault};
 ghost use Rattle.kabi_types.specs.declared.scripts.Script.{Script};
 ghost use Rattle.kheap_slabs.specs.Paid.{HasFills, IsPaid};
 ghost use Rattle.memfs_ops.specs.FileTree.{MayWalk};
@@ -23,8 +23,7 @@ use crate::directories::directory_of;
 use crate::naming::give_name;
 use bound_table::BoundTable;
 use kabi_types::Errno;
-use kheap_shelves::Purse;
-use kheap_slabs::KHeap;
+use kheap_slabs::{KHeap, Purse};
 use memfs_ops::FileTree;
 use proc_socks::socket_of;
 use proc_table::ProcTable;

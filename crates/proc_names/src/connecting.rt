@@ -2,7 +2,7 @@
 
 ghost use Rattle.std.specs.Prelude.{◌≡◌, ◌<◌, ◌≤◌, ℕ, [], List, Option, None, IsSome, OnErr, OnOk};
 ghost use Rattle.std.specs.Option.{ForSome};
-ghost use Rattle.kabi_calls.specs.Arguments.{path_fault};
+ghost use Rattle.kabi_types.specs.Arguments.{path_fault};
 ghost use Rattle.kabi_types.specs.declared.scripts.Script.{Script};
 ghost use Rattle.kheap_slabs.specs.Paid.{HasFills, IsPaid};
 ghost use Rattle.memfs_ops.specs.FileTree.{KeepsLed, KnowsWay, MayWalk, Stands, in_call};
@@ -27,8 +27,7 @@ ghost use Rattle.proc_names.specs.Holding.{HoldNames, WorksAt, WorksInSome};
 use crate::directories::directory_of;
 use bound_table::BoundTable;
 use kabi_types::Errno;
-use kheap_shelves::{Purse, SockState};
-use kheap_slabs::KHeap;
+use kheap_slabs::{KHeap, Purse, SockState};
 use memfs_ops::FileTree;
 use proc_socks::socket_of;
 use proc_table::ProcTable;

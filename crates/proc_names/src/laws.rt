@@ -1,7 +1,7 @@
 //! Laws of names of sockets. Each is the contract of a function that does nothing.
 
 ghost use Rattle.std.specs.Prelude.{◌≡◌, ℕ, ℤ, [], List, IsSome, length, ◌+◌};
-ghost use Rattle.kheap_shelves.specs.Objects.{InUse};
+ghost use Rattle.kheap_slabs.specs.Objects.{InUse};
 ghost use Rattle.kheap_slabs.specs.Heap.{Heap};
 ghost use Rattle.open_laws.specs.Owned.{HasItsOwners};
 ghost use Rattle.place_laws.specs.Placed.{Numbers};

@@ -2,7 +2,7 @@
 
 ghost use Rattle.std.specs.Prelude.{◌≡◌, ◌<◌, ℕ, [], List, None, Some, length};
 ghost use Rattle.std.specs.List.{Contains};
-ghost use Rattle.kheap_shelves.specs.Objects.{object, put, without};
+ghost use Rattle.kheap_slabs.specs.Objects.{object, put, without};
 ghost use Rattle.kheap_slabs.specs.Owners.{OwnsItsObjects};
 ghost use Rattle.kheap_slabs.specs.Paid.{TakesNothing};
 ghost use Rattle.memfs_ops.specs.FileTree.{TreeView};

@@ -1,12 +1,12 @@
 -- The first process alone: it is in its table, and nothing is open.
 use Rattle.std.proofs.Common.{◌≡◌, ◌⊎◌, ℕ, zero, suc, ◌+◌, ◌/◌, ◌<◌, ◌==◌, ◌++◌, cond, List, [], ◌∷◌, map, length, replicate, count_by, Option, None, Some, IsSome, is_some, refl, ap, sym, ◌∙◌, subst, arith, inl, inr}
 use Rattle.std.specs.List.{Contains, cons_option}
-use Rattle.kabi_values.specs.Class.{size}
-use Rattle.kabi_values.specs.declared.classes.Class.TheVariants as class
+use Rattle.kabi_types.specs.Class.{size}
+use Rattle.kabi_types.specs.declared.classes.Class.TheVariants as class
 use Rattle.kheap_laws.proofs.KeyLemmas.{contains_or_not}
 use Rattle.kheap_laws.proofs.OnceLemmas.{Contains-single}
-use Rattle.kheap_shelves.specs.Objects.{InUse, object}
-use Rattle.kheap_shelves.specs.declared.objects.Proc.{Proc}
+use Rattle.kheap_slabs.specs.Objects.{InUse, object}
+use Rattle.kheap_slabs.specs.declared.objects.Proc.{Proc}
 use Rattle.kheap_slabs.specs.Heap.{Heap, empty_heap}
 use Rattle.kheap_slabs.specs.Owners.{IsOwned, Owners, OwnsItsObjects, pipe_queues, sock_queues, spaces_of}
 use Rattle.open_laws.specs.Owned.{HasItsOwners, desc_count, namings_in, namings_of}

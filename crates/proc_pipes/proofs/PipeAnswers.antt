@@ -1,8 +1,8 @@
 -- What the machine answers to `pipe`, and which files it has then.
 use Rattle.std.proofs.Common.{◌≡◌, ℕ, ◌+◌, ◌++◌, false, [], ◌∷◌, length, None, Some, refl, sym, ap, ◌∙◌, arith, length-append}
 use Rattle.std.specs.Option.{option_and_then, option_map}
-use Rattle.kabi_values.specs.declared.errnos.Errno.TheVariants.{EMFILE}
-use Rattle.kabi_values.specs.declared.replies.Reply.TheVariants.{Pair}
+use Rattle.kabi_types.specs.declared.errnos.Errno.TheVariants.{EMFILE}
+use Rattle.kabi_types.specs.declared.replies.Reply.TheVariants.{Pair}
 use Rattle.kabi_types.specs.declared.scripts.Script.{Script}
 use Rattle.posix_defs.specs.Answer.{failed, replied}
 use Rattle.posix_defs.specs.Calls.OnPipes.{pipe, piped, piped_under}

@@ -1,14 +1,14 @@
 -- A pipe, and then a Desc for each of its ends, one after another.
 use Rattle.std.proofs.Common.{◌≡◌, ℕ, ◌-◌, ◌<◌, List, Option, None, Some, length, sym, ap, subst, ◌∙◌, arith}
-use Rattle.kabi_values.specs.declared.classes.Class.TheVariants as class
+use Rattle.kabi_types.specs.declared.classes.Class.TheVariants as class
 use Rattle.std.proofs.lemmas.List.{length-set}
 use Rattle.kheap_laws.proofs.OnceLemmas.{Contains-single}
 use Rattle.kheap_laws.proofs.TableLemmas.{OwnsItsObjects-along}
-use Rattle.kheap_shelves.specs.Counts.{with_count}
-use Rattle.kheap_shelves.specs.Objects.{object, put}
-use Rattle.kheap_shelves.specs.Purse.{Purse}
-use Rattle.kheap_shelves.specs.declared.objects.Access.TheVariants as mode
-use Rattle.kheap_shelves.specs.declared.objects.Desc.{Desc}
+use Rattle.kheap_slabs.specs.Counts.{with_count}
+use Rattle.kheap_slabs.specs.Objects.{object, put}
+use Rattle.kheap_slabs.specs.Purse.{Purse}
+use Rattle.kheap_slabs.specs.declared.objects.Access.TheVariants as mode
+use Rattle.kheap_slabs.specs.declared.objects.Desc.{Desc}
 use Rattle.kheap_slabs.specs.Heap.{Heap}
 use Rattle.kheap_slabs.specs.Owners.{OwnsItsObjects, pipe_queues, sock_queues, spaces_of}
 use Rattle.pipe_ends.specs.Standing.{LeavesOthers, StandsFor}

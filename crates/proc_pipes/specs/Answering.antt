@@ -1,10 +1,10 @@
 -- What the caller of a call on descriptors is answered, and which machine heap and table stand for then.
 use Rattle.std.specs.Prelude.{ℕ, ◌≡◌, ◌==◌, ℤ, pos, Bool, if◌then◌else◌, Option, None, Result, Ok, Err}
-use Rattle.kabi_calls.specs.Arguments.{count_of}
-use Rattle.kabi_values.specs.declared.errnos.Errno.{Errno}
-use Rattle.kabi_values.specs.declared.replies.Reply.{Reply}
-use Rattle.kabi_values.specs.declared.replies.StatInfo.{StatInfo}
-use Rattle.kabi_values.specs.declared.replies.Reply.TheVariants.{Fail, Pair, Stat, Val}
+use Rattle.kabi_types.specs.Arguments.{count_of}
+use Rattle.kabi_types.specs.declared.errnos.Errno.{Errno}
+use Rattle.kabi_types.specs.declared.replies.Reply.{Reply}
+use Rattle.kabi_types.specs.declared.replies.StatInfo.{StatInfo}
+use Rattle.kabi_types.specs.declared.replies.Reply.TheVariants.{Fail, Pair, Stat, Val}
 use Rattle.kabi_types.specs.declared.scripts.Script.{Script}
 use Rattle.kheap_slabs.specs.Heap.{Heap}
 use Rattle.place_laws.specs.Placed.{Numbers}

@@ -2,8 +2,8 @@
 
 ghost use Rattle.std.specs.Prelude.{◌≡◌, ◌<◌, ◌≤◌, ℕ, List, [], IsSome, OnErr, Some};
 ghost use Rattle.kabi_types.specs.declared.scripts.Script.{Script};
-ghost use Rattle.kheap_shelves.specs.Objects.{InUse, object};
-ghost use Rattle.kheap_shelves.specs.declared.objects.Desc.{Desc as HeldDesc};
+ghost use Rattle.kheap_slabs.specs.Objects.{InUse, object};
+ghost use Rattle.kheap_slabs.specs.declared.objects.Desc.{Desc as HeldDesc};
 ghost use Rattle.kheap_slabs.specs.Paid.{TakesNothing};
 ghost use Rattle.open_laws.specs.Described.{access_in, counted_in};
 ghost use Rattle.open_laws.specs.Owned.{HasItsOwners};
@@ -19,8 +19,7 @@ ghost use Rattle.proc_pipes.specs.Answering.{Answers, value_of, with_flags};
 
 use crate::sharing::share_lowest;
 use kabi_types::Errno;
-use kheap_shelves::{Access, Desc, DescFlags};
-use kheap_slabs::KHeap;
+use kheap_slabs::{Access, Desc, DescFlags, KHeap};
 use proc_descs::{count_of, descriptor_of, mark_one};
 use proc_table::ProcTable;
 

@@ -2,9 +2,9 @@
 
 ghost use Rattle.std.specs.Prelude.{◌≡◌, ◌-◌, ◌<◌, ◌≤◌, ℕ, [], ◌∷◌, IsSome, None, OnErr, OnOk, length};
 ghost use Rattle.kabi_types.specs.declared.scripts.Script.{Script};
-ghost use Rattle.kabi_values.specs.declared.classes.Class.TheVariants as class;
-ghost use Rattle.kheap_shelves.specs.Counts.{with_count};
-ghost use Rattle.kheap_shelves.specs.Objects.{object, put};
+ghost use Rattle.kabi_types.specs.declared.classes.Class.TheVariants as class;
+ghost use Rattle.kheap_slabs.specs.Counts.{with_count};
+ghost use Rattle.kheap_slabs.specs.Objects.{object, put};
 ghost use Rattle.kheap_slabs.specs.Owners.{OwnsItsObjects};
 ghost use Rattle.kheap_slabs.specs.Paid.{CanPay, IsPaid};
 ghost use Rattle.open_laws.specs.Owned.{HasItsOwners};
@@ -20,8 +20,7 @@ ghost use Rattle.proc_pipes.specs.Opening.{AnswersAnew, PipeOpens, end_of};
 
 use crate::sharing::lowest_from;
 use kabi_types::{Class, Errno};
-use kheap_shelves::{Access, Desc, DescFlags, Descriptor, Purse, Target};
-use kheap_slabs::KHeap;
+use kheap_slabs::{Access, Desc, DescFlags, Descriptor, KHeap, Purse, Target};
 use pipe_ends::pipe_make;
 use proc_descs::open_one;
 use proc_table::ProcTable;

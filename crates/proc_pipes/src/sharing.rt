@@ -2,7 +2,7 @@
 
 ghost use Rattle.std.specs.Prelude.{◌≡◌, ◌≢◌, ◌<◌, ◌≤◌, [], IfOk, IfSome, IsSome, OnErr, None, Some, false, length};
 ghost use Rattle.kabi_types.specs.declared.scripts.Script.{Script};
-ghost use Rattle.kheap_shelves.specs.Objects.{InUse};
+ghost use Rattle.kheap_slabs.specs.Objects.{InUse};
 ghost use Rattle.kheap_slabs.specs.Heap.{IsWellFormed};
 ghost use Rattle.kheap_slabs.specs.Paid.{TakesNothing};
 ghost use Rattle.open_laws.specs.Owned.{HasItsOwners};
@@ -21,8 +21,7 @@ ghost use Rattle.proc_pipes.specs.Answering.{Answers, first_of, node_replaced, v
 
 use desc_table::{Descs, share_desc};
 use kabi_types::{Errno, MOST_DESCRIPTORS};
-use kheap_shelves::Descriptor;
-use kheap_slabs::KHeap;
+use kheap_slabs::{Descriptor, KHeap};
 use proc_descs::{close_one, count_of, descriptor_of, may_be_descriptor, open_one, places_of};
 use proc_table::ProcTable;
 

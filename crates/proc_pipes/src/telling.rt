@@ -14,8 +14,7 @@ ghost use Rattle.proc_descs.specs.Having.{AreListed, HaveOpen, OpensNoNode};
 ghost use Rattle.proc_pipes.specs.Answering.{stat_of};
 
 use kabi_types::{Errno, NodeKind, StatInfo};
-use kheap_shelves::Target;
-use kheap_slabs::KHeap;
+use kheap_slabs::{KHeap, Target};
 use proc_descs::descriptor_of;
 use proc_table::ProcTable;
 

@@ -4,12 +4,12 @@ use Rattle.std.specs.Prelude.{nat_le}
 use Rattle.std.specs.List.{range_with_len}
 use Rattle.std.proofs.lemmas.Bool.Decides.{eqb_tells, leb_tells}
 use Rattle.std.proofs.lemmas.List.FromFn.{length-map-range_with_len}
-use Rattle.kabi_values.specs.declared.errnos.Errno.TheVariants.{EAGAIN, EPIPE}
+use Rattle.kabi_types.specs.declared.errnos.Errno.TheVariants.{EAGAIN, EPIPE}
 use Rattle.chunk_queue.specs.Moving.{UnlessMoved, moved_by, moving_of}
 use Rattle.chunk_queue.specs.declared.moved.Moved.{Moved}
 use Rattle.chunk_queue.specs.declared.moved.Moved.TheVariants as moved
-use Rattle.kheap_shelves.specs.declared.objects.Chunk.{Chunk}
-use Rattle.kheap_shelves.specs.declared.objects.Pipe.{Pipe as HeldPipe}
+use Rattle.kheap_slabs.specs.declared.objects.Chunk.{Chunk}
+use Rattle.kheap_slabs.specs.declared.objects.Pipe.{Pipe as HeldPipe}
 use Rattle.kheap_slabs.specs.Heap.{Heap}
 use Rattle.page_space.specs.Contents.{SpaceMoves}
 use Rattle.pipe_ends.specs.Standing.{LeavesOthers}

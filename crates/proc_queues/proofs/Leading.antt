@@ -1,7 +1,7 @@
 -- What an answer leads to, where the heap is as it was.
 use Rattle.std.proofs.Common.{◌≡◌, ℕ, refl, ap, sym, ◌∙◌, subst}
-use Rattle.kabi_calls.specs.declared.calls.Call.{Call}
-use Rattle.kabi_values.specs.declared.replies.Reply.{Reply}
+use Rattle.kabi_types.specs.declared.calls.Call.{Call}
+use Rattle.kabi_types.specs.declared.replies.Reply.{Reply}
 use Rattle.kabi_types.specs.declared.scripts.Script.{Script}
 use Rattle.kheap_slabs.specs.Heap.{Heap}
 use Rattle.open_laws.specs.Open.{HaveFronts}

@@ -5,8 +5,8 @@ use Rattle.std.specs.Prelude.{nat_le}
 use Rattle.std.specs.Int.{cast_unsigned}
 use Rattle.std.specs.Option.{option_or}
 use Rattle.std.proofs.lemmas.Bool.Decides.{leb_tells}
-use Rattle.kabi_calls.specs.Arguments.{count_of, invalid_unless, moved_fault, range_fault}
-use Rattle.kabi_values.specs.declared.errnos.Errno.TheVariants.{EINVAL}
+use Rattle.kabi_types.specs.Arguments.{count_of, invalid_unless, moved_fault, range_fault}
+use Rattle.kabi_types.specs.declared.errnos.Errno.TheVariants.{EINVAL}
 use Rattle.posix_defs.specs.Memory.{Memory, is_mapped_range, loaded}
 use Rattle.posix_defs.specs.Needs.{pages_touched}
 

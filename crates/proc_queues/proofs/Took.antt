@@ -2,7 +2,7 @@
 use Rattle.std.proofs.Common.{◌≡◌, ℕ, zero, suc, ◌+◌, ◌<◌, ◌≤◌, Bool, List, [], ◌∷◌, ◌++◌, take, drop, length, length-append, min, Option, refl, ap, sym, subst, ◌∙◌, arith}
 use Rattle.std.proofs.lemmas.List.{length-take-le}
 use Rattle.kheap_laws.proofs.PaidLemmas.{IsPaid-nothing, IsPaid-trans, TakesNothing-bytes}
-use Rattle.kheap_shelves.specs.Purse.{Purse, left_bytes}
+use Rattle.kheap_slabs.specs.Purse.{Purse, left_bytes}
 use Rattle.kheap_slabs.specs.Heap.{Heap, live_bytes}
 use Rattle.kheap_slabs.specs.Owners.{OwnsItsObjects, with_space}
 use Rattle.kheap_slabs.specs.Paid.{CanPay, IsPaid, TakesNothing}

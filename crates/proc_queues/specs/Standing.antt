@@ -1,6 +1,6 @@
 -- Which machines the heap and the table of its processes stand for, and what a call leaves of it.
 use Rattle.std.specs.Prelude.{◌≡◌, ℕ, []}
-use Rattle.kabi_calls.specs.declared.calls.Call.{Call}
+use Rattle.kabi_types.specs.declared.calls.Call.{Call}
 use Rattle.kabi_types.specs.declared.scripts.Script.{Script}
 use Rattle.kheap_slabs.specs.Heap.{Heap}
 use Rattle.open_laws.specs.Open.{HaveFronts}

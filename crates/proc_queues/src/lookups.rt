@@ -3,7 +3,7 @@
 ghost use Rattle.std.specs.Prelude.{◌≡◌, [], IfSome, IsSome, Some};
 ghost use Rattle.std.specs.Option.{option_map};
 ghost use Rattle.kabi_types.specs.declared.scripts.Script.{Script};
-ghost use Rattle.kheap_shelves.specs.Objects.{object};
+ghost use Rattle.kheap_slabs.specs.Objects.{object};
 ghost use Rattle.open_laws.specs.Described.{access_in};
 ghost use Rattle.open_laws.specs.Owned.{HasItsOwners};
 ghost use Rattle.place_laws.specs.Placed.{Numbers};
@@ -17,8 +17,7 @@ ghost use Rattle.proc_table.specs.Table.{key_of};
 ghost use Rattle.proc_queues.specs.Found.{IsNamed, held_at, opened_in};
 
 use kabi_types::MOST_DESCRIPTORS;
-use kheap_shelves::{Access, Desc, Descriptor};
-use kheap_slabs::KHeap;
+use kheap_slabs::{Access, Desc, Descriptor, KHeap};
 use proc_table::ProcTable;
 
 /// What a number of a process names.

@@ -1,8 +1,8 @@
 //! `poll`.
 
 ghost use Rattle.std.specs.Prelude.{◌≡◌, ◌==◌, ◌&&◌, ◌≤◌, ℤ, IsSome, length};
-ghost use Rattle.kabi_calls.specs.Arguments.{is_minus_one};
-ghost use Rattle.kabi_calls.specs.declared.calls.Call.{Call};
+ghost use Rattle.kabi_types.specs.Arguments.{is_minus_one};
+ghost use Rattle.kabi_types.specs.declared.calls.Call.{Call};
 ghost use Rattle.kabi_types.specs.declared.scripts.Script.{Script};
 ghost use Rattle.place_laws.specs.Placed.{Numbers};
 ghost use Rattle.posix_defs.specs.Account.{Account};

@@ -1,7 +1,7 @@
 //! The address space of a process, and the bytes that a call names in it.
 
 ghost use Rattle.std.specs.Prelude.{◌≡◌, ◌+◌, ◌<◌, ◌≤◌, None, length};
-ghost use Rattle.kabi_calls.specs.Arguments.{count_of, range_fault};
+ghost use Rattle.kabi_types.specs.Arguments.{count_of, range_fault};
 ghost use Rattle.page_space.specs.Contents.{IsOwnedWith, StandsFor as IsMemory};
 ghost use Rattle.page_space.specs.Entries.{IsMappedRange};
 ghost use Rattle.posix_defs.specs.Memory.{Memory, loaded};

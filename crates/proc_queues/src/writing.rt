@@ -1,8 +1,8 @@
 //! `write` to a pipe.
 
 ghost use Rattle.std.specs.Prelude.{◌≡◌, ℕ, ◌+◌, ◌-◌, ◌<◌, ◌≤◌, None};
-ghost use Rattle.kabi_calls.specs.Arguments.{argument_fault, count_of};
-ghost use Rattle.kabi_calls.specs.declared.calls.Call.{Call};
+ghost use Rattle.kabi_types.specs.Arguments.{argument_fault, count_of};
+ghost use Rattle.kabi_types.specs.declared.calls.Call.{Call};
 ghost use Rattle.kabi_types.specs.declared.scripts.Script.{Script};
 ghost use Rattle.kheap_slabs.specs.Owners.{OwnsItsObjects};
 ghost use Rattle.kheap_slabs.specs.Paid.{CanPay, IsPaid};
@@ -30,8 +30,7 @@ use crate::lookups::writable;
 use crate::spaces::{fetch, space_of, start_of};
 use chunk_queue::Moved;
 use kabi_types::{Errno, Reply};
-use kheap_shelves::{Purse, Target};
-use kheap_slabs::KHeap;
+use kheap_slabs::{KHeap, Purse, Target};
 use page_space::Space;
 use pipe_ends::{pipe_write, pipe_write_waits};
 use posix_defs::Turned;

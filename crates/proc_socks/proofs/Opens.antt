@@ -2,13 +2,13 @@
 use Rattle.std.proofs.Common.{◌≡◌, ℕ, zero, suc, ◌<◌, ◌++◌, false, List, [], ◌∷◌, length, Option, None, Some, IsSome, refl, sym, ap, subst, ◌∙◌, arith}
 use Rattle.std.specs.Prelude.{replicate, slice_index_or}
 use Rattle.chunk_queue.proofs.HeldLemmas.{HasBytes-same}
-use Rattle.kheap_shelves.specs.Objects.{InUse, object, put}
-use Rattle.kheap_shelves.specs.declared.objects.Access.{Access}
-use Rattle.kheap_shelves.specs.declared.objects.Desc.{Desc}
-use Rattle.kheap_shelves.specs.declared.objects.Descriptor.{Descriptor as HeldDescriptor}
-use Rattle.kheap_shelves.specs.declared.objects.Proc.{Proc}
-use Rattle.kheap_shelves.specs.declared.objects.Target.{Target}
-use Rattle.kheap_shelves.specs.declared.objects.Target.TheVariants as target
+use Rattle.kheap_slabs.specs.Objects.{InUse, object, put}
+use Rattle.kheap_slabs.specs.declared.objects.Access.{Access}
+use Rattle.kheap_slabs.specs.declared.objects.Desc.{Desc}
+use Rattle.kheap_slabs.specs.declared.objects.Descriptor.{Descriptor as HeldDescriptor}
+use Rattle.kheap_slabs.specs.declared.objects.Proc.{Proc}
+use Rattle.kheap_slabs.specs.declared.objects.Target.{Target}
+use Rattle.kheap_slabs.specs.declared.objects.Target.TheVariants as target
 use Rattle.kheap_slabs.specs.Heap.{Heap}
 use Rattle.open_laws.specs.Described.{AreDescribed, CountedList, counted_in, target_in}
 use Rattle.open_laws.specs.Open.{AreOpen, descriptor_by, descriptors_by}

@@ -4,8 +4,8 @@ use Rattle.std.proofs.Common.{◌≡◌, ◌≢◌, ◌⊎◌, ℕ, zero, suc, �
 use Rattle.std.proofs.lemmas.Bool.{cases_lt}
 use Rattle.std.proofs.lemmas.List.{get_or_past}
 use Rattle.chunk_queue.proofs.JoinedLemmas.{Contains-cons}
-use Rattle.kheap_shelves.specs.Objects.{object}
-use Rattle.kabi_values.specs.declared.errnos.Errno.TheVariants.{EDESTADDRREQ, EINVAL}
+use Rattle.kheap_slabs.specs.Objects.{object}
+use Rattle.kabi_types.specs.declared.errnos.Errno.TheVariants.{EDESTADDRREQ, EINVAL}
 use Rattle.open_laws.specs.Socketed.{AreRenamed, socket_by, stage_by}
 use Rattle.open_laws.proofs.SocketLemmas.{placed_at, placed_stage, renamed_changed}
 use Rattle.place_laws.specs.Placed.{ArePlaced, numbered}

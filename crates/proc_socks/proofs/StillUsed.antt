@@ -1,7 +1,7 @@
 -- A socket that was in use is in use still, whatever is made or taken beside it.
 use Rattle.std.proofs.Common.{◌≡◌, ℕ, zero, suc, [], ◌∷◌, Option, None, Some, IsSome, List, refl, subst, sym}
-use Rattle.kheap_shelves.specs.Objects.{InUse, object}
-use Rattle.kheap_shelves.specs.declared.objects.Sock.{Sock}
+use Rattle.kheap_slabs.specs.Objects.{InUse, object}
+use Rattle.kheap_slabs.specs.declared.objects.Sock.{Sock}
 use Rattle.kheap_slabs.specs.Heap.{Heap}
 use Rattle.open_laws.specs.Owned.{HasItsOwners}
 use Rattle.posix_defs.specs.Socket.{Socket, connected_to, new_socket, without_first}

@@ -3,16 +3,16 @@ use Rattle.std.proofs.Common.{◌≡◌, ◌≢◌, ℕ, ℤ, pos, ◌+◌, ◌<
 use Rattle.std.proofs.lemmas.Bool.{cases_eq}
 use Rattle.std.proofs.lemmas.List.{get_or-set_other}
 use Rattle.std.specs.Prelude.{MatchResult, Result, Ok, Err, IsOk, is_ok}
-use Rattle.kabi_values.specs.declared.errnos.Errno.{Errno}
-use Rattle.kabi_values.specs.declared.errnos.Errno.TheVariants.{EBADF, EMFILE, ENOTSOCK}
-use Rattle.kabi_values.specs.declared.replies.Reply.TheVariants.{Pair, Val}
+use Rattle.kabi_types.specs.declared.errnos.Errno.{Errno}
+use Rattle.kabi_types.specs.declared.errnos.Errno.TheVariants.{EBADF, EMFILE, ENOTSOCK}
+use Rattle.kabi_types.specs.declared.replies.Reply.TheVariants.{Pair, Val}
 use Rattle.kabi_types.specs.declared.scripts.Script.{Script}
-use Rattle.kheap_shelves.specs.Objects.{InUse, object, put}
-use Rattle.kheap_shelves.specs.declared.objects.Desc.{Desc}
-use Rattle.kheap_shelves.specs.declared.objects.Descriptor.{Descriptor as HeldDescriptor}
-use Rattle.kheap_shelves.specs.declared.objects.Target.{Target}
-use Rattle.kheap_shelves.specs.declared.objects.Target.TheVariants as target
-use Rattle.kheap_shelves.proofs.ObjectLemmas.{InUse-within, object_of}
+use Rattle.kheap_slabs.specs.Objects.{InUse, object, put}
+use Rattle.kheap_slabs.specs.declared.objects.Desc.{Desc}
+use Rattle.kheap_slabs.specs.declared.objects.Descriptor.{Descriptor as HeldDescriptor}
+use Rattle.kheap_slabs.specs.declared.objects.Target.{Target}
+use Rattle.kheap_slabs.specs.declared.objects.Target.TheVariants as target
+use Rattle.kheap_slabs.proofs.ObjectLemmas.{InUse-within, object_of}
 use Rattle.kheap_slabs.specs.Heap.{Heap}
 use Rattle.open_laws.specs.Described.{access_in, counted_in, target_in}
 use Rattle.open_laws.specs.Owned.{HasItsOwners, sock_in, sock_of, socks_named}

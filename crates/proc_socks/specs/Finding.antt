@@ -1,11 +1,11 @@
 -- The socket that a number of a process is open on, and what the machine answers then.
 use Rattle.std.specs.Prelude.{ℕ, ◌≡◌, ℤ, Bool, true, false, if◌then◌else◌, Option, None, Some, IsSome, Result, Ok, Err}
-use Rattle.kabi_values.specs.declared.errnos.Errno.{Errno}
-use Rattle.kabi_values.specs.declared.errnos.Errno.TheVariants.{EBADF}
+use Rattle.kabi_types.specs.declared.errnos.Errno.{Errno}
+use Rattle.kabi_types.specs.declared.errnos.Errno.TheVariants.{EBADF}
 use Rattle.kabi_types.specs.declared.scripts.Script.{Script}
-use Rattle.kheap_shelves.specs.Objects.{object}
-use Rattle.kheap_shelves.specs.declared.objects.Desc.{Desc}
-use Rattle.kheap_shelves.specs.declared.objects.Descriptor.{Descriptor as HeldDescriptor}
+use Rattle.kheap_slabs.specs.Objects.{object}
+use Rattle.kheap_slabs.specs.declared.objects.Desc.{Desc}
+use Rattle.kheap_slabs.specs.declared.objects.Descriptor.{Descriptor as HeldDescriptor}
 use Rattle.kheap_slabs.specs.Heap.{Heap}
 use Rattle.open_laws.specs.Owned.{sock_in, sock_of}
 use Rattle.place_laws.specs.Placed.{Numbers}

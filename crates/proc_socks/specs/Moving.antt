@@ -1,6 +1,6 @@
 -- What a read and a write of a socket leave.
 use Rattle.std.specs.Prelude.{ℕ, ◌≡◌, ◌≤◌, List, [], Option, take}
-use Rattle.kheap_shelves.specs.Purse.{Purse}
+use Rattle.kheap_slabs.specs.Purse.{Purse}
 use Rattle.kheap_slabs.specs.Heap.{Heap}
 use Rattle.kheap_slabs.specs.Paid.{TakesNothing}
 use Rattle.page_space.specs.Putting.{Puts}

@@ -1,9 +1,9 @@
 -- The places that the machine has for what is new, and what a call that makes something is answered.
 use Rattle.std.specs.Prelude.{ℕ, ◌≡◌, ◌+◌, ◌++◌, [], ◌∷◌, length, Option, None, Some, Result, Ok, Err, pos}
 use Rattle.kabi_types.specs.declared.scripts.Script.{Script}
-use Rattle.kabi_values.specs.declared.errnos.Errno.{Errno}
-use Rattle.kabi_values.specs.declared.replies.Reply.TheVariants.{Fail, Val}
-use Rattle.kheap_shelves.specs.Objects.{InUse, object}
+use Rattle.kabi_types.specs.declared.errnos.Errno.{Errno}
+use Rattle.kabi_types.specs.declared.replies.Reply.TheVariants.{Fail, Val}
+use Rattle.kheap_slabs.specs.Objects.{InUse, object}
 use Rattle.kheap_slabs.specs.Heap.{Heap}
 use Rattle.place_laws.specs.Placed.{Numbers, numbered}
 use Rattle.posix_defs.specs.Answer.{Answer, Blocked}

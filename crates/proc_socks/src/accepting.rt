@@ -3,8 +3,8 @@
 ghost use Rattle.std.specs.Prelude.{◌≡◌, ◌-◌, ◌<◌, ℕ, ℤ, [], IsSome, Ok};
 ghost use Rattle.std.specs.List.{Contains};
 ghost use Rattle.kabi_types.specs.declared.scripts.Script.{Script};
-ghost use Rattle.kabi_values.specs.declared.classes.Class.TheVariants as class;
-ghost use Rattle.kheap_shelves.specs.Counts.{with_count};
+ghost use Rattle.kabi_types.specs.declared.classes.Class.TheVariants as class;
+ghost use Rattle.kheap_slabs.specs.Counts.{with_count};
 ghost use Rattle.kheap_slabs.specs.Paid.{CanPay, IsPaid};
 ghost use Rattle.open_laws.specs.Owned.{HasItsOwners, socks_named};
 ghost use Rattle.place_laws.specs.Placed.{Numbers};
@@ -23,8 +23,7 @@ ghost use Rattle.proc_socks.specs.Opening.{Accepts, IfTaken, StillUsed, UnlessTa
 use crate::describing::open_on;
 use crate::finding::{Found, lowest_from, socket_of};
 use kabi_types::Errno;
-use kheap_shelves::Purse;
-use kheap_slabs::KHeap;
+use kheap_slabs::{KHeap, Purse};
 use proc_table::ProcTable;
 use usock_core::{Accepted, accept};
 

@@ -1,9 +1,9 @@
 //! A description of a socket, and a number that names it.
 
 ghost use Rattle.std.specs.Prelude.{◌≡◌, ◌-◌, ◌<◌, ℕ, List, [], ◌∷◌, IsSome, None, false};
-ghost use Rattle.kabi_values.specs.declared.classes.Class.TheVariants as class;
-ghost use Rattle.kheap_shelves.specs.Counts.{with_count};
-ghost use Rattle.kheap_shelves.specs.Objects.{object, put};
+ghost use Rattle.kabi_types.specs.declared.classes.Class.TheVariants as class;
+ghost use Rattle.kheap_slabs.specs.Counts.{with_count};
+ghost use Rattle.kheap_slabs.specs.Objects.{object, put};
 ghost use Rattle.kheap_slabs.specs.Paid.{CanPay, IsPaid};
 ghost use Rattle.open_laws.specs.Owned.{CountsItsNames, HasItsOwners};
 ghost use Rattle.place_laws.specs.Placed.{Numbers};
@@ -17,8 +17,7 @@ ghost use Rattle.proc_socks.specs.Opening.{OpensMore, described_more, with_desc}
 ghost use Rattle.proc_socks.specs.Owning.{HasOwnersBut, desc_on};
 
 use kabi_types::Class;
-use kheap_shelves::{Access, Desc, DescFlags, Descriptor, Purse, Target};
-use kheap_slabs::KHeap;
+use kheap_slabs::{Access, Desc, DescFlags, Descriptor, KHeap, Purse, Target};
 use proc_descs::open_one;
 use proc_table::ProcTable;
 

@@ -18,8 +18,7 @@ ghost use Rattle.proc_socks.specs.Finding.{FindsSocket, FindsToMove, IsOnSocket,
 
 use desc_table::Descs;
 use kabi_types::Errno;
-use kheap_shelves::{Access, Target};
-use kheap_slabs::KHeap;
+use kheap_slabs::{Access, KHeap, Target};
 use proc_descs::{descriptor_of, places_of};
 use proc_table::ProcTable;
 

@@ -2,8 +2,8 @@
 
 ghost use Rattle.std.specs.Prelude.{◌≡◌, ◌-◌, ◌<◌, ◌≤◌, [], ◌∷◌, IsSome, OnErr, OnOk};
 ghost use Rattle.kabi_types.specs.declared.scripts.Script.{Script};
-ghost use Rattle.kabi_values.specs.declared.classes.Class.TheVariants as class;
-ghost use Rattle.kheap_shelves.specs.Counts.{with_count};
+ghost use Rattle.kabi_types.specs.declared.classes.Class.TheVariants as class;
+ghost use Rattle.kheap_slabs.specs.Counts.{with_count};
 ghost use Rattle.kheap_slabs.specs.Paid.{CanPay, IsPaid};
 ghost use Rattle.open_laws.specs.Owned.{HasItsOwners};
 ghost use Rattle.place_laws.specs.Placed.{Numbers};
@@ -21,8 +21,7 @@ ghost use Rattle.proc_socks.specs.Opening.{OpensBoth, StillUsed};
 use crate::describing::{describe, open_on};
 use crate::finding::lowest_from;
 use kabi_types::Errno;
-use kheap_shelves::{Descriptor, Purse};
-use kheap_slabs::KHeap;
+use kheap_slabs::{Descriptor, KHeap, Purse};
 use proc_descs::open_one;
 use proc_table::ProcTable;
 use usock_core::{sock_make, sock_pair};

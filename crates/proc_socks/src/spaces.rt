@@ -1,7 +1,7 @@
 //! The address space of a process, and the bytes that a call names in it.
 
 ghost use Rattle.std.specs.Prelude.{◌≡◌, ◌+◌, ◌<◌, ◌≤◌, None};
-ghost use Rattle.kabi_calls.specs.Arguments.{count_of, range_fault};
+ghost use Rattle.kabi_types.specs.Arguments.{count_of, range_fault};
 ghost use Rattle.proc_table.specs.Procs.{IsAlive};
 ghost use Rattle.proc_table.specs.Table.{processes};
 ghost use Rattle.proc_queues.specs.Spaces.{HasSpace};

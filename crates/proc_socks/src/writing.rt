@@ -1,8 +1,8 @@
 //! `write` to a socket.
 
 ghost use Rattle.std.specs.Prelude.{◌≡◌, ℕ, ◌+◌, ◌-◌, ◌<◌, ◌≤◌, [], None};
-ghost use Rattle.kabi_calls.specs.Arguments.{argument_fault, count_of};
-ghost use Rattle.kabi_calls.specs.declared.calls.Call.{Call};
+ghost use Rattle.kabi_types.specs.Arguments.{argument_fault, count_of};
+ghost use Rattle.kabi_types.specs.declared.calls.Call.{Call};
 ghost use Rattle.kabi_types.specs.declared.scripts.Script.{Script};
 ghost use Rattle.kheap_slabs.specs.Owners.{OwnsItsObjects};
 ghost use Rattle.kheap_slabs.specs.Paid.{CanPay, IsPaid};
@@ -32,8 +32,7 @@ use crate::finding::mover_of;
 use crate::spaces::{space_of, start_of};
 use chunk_queue::Moved;
 use kabi_types::{Errno, Reply};
-use kheap_shelves::{Purse, SockState};
-use kheap_slabs::KHeap;
+use kheap_slabs::{KHeap, Purse, SockState};
 use page_space::Space;
 use posix_defs::Turned;
 use proc_queues::{Buffer, CAPACITY};

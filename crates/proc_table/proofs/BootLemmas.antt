@@ -1,6 +1,6 @@
 -- The first process is put in the heap.
 use Rattle.std.proofs.Common.{◌≡◌, ℕ, [], ◌∷◌, None, Some, refl, sym, ap, subst, lit<, lit≤}
-use Rattle.kheap_shelves.specs.Objects.{object, put}
+use Rattle.kheap_slabs.specs.Objects.{object, put}
 use Rattle.kheap_slabs.specs.Heap.{Heap}
 use Rattle.kheap_slabs.specs.Owners.{Owners, IsOwned}
 use Rattle.kheap_laws.proofs.OwnerLemmas.{IsOwned-space_joins}

@@ -1,7 +1,7 @@
 -- A live process loses its memory.
 use Rattle.std.proofs.Common.{◌≡◌, ℕ, List, Option, None, Some, filter, map, refl, sym, ap, ◌∙◌, subst}
-use Rattle.kheap_shelves.specs.Objects.{object, put}
-use Rattle.kheap_shelves.specs.declared.objects.Proc.{Proc}
+use Rattle.kheap_slabs.specs.Objects.{object, put}
+use Rattle.kheap_slabs.specs.declared.objects.Proc.{Proc}
 use Rattle.kheap_slabs.specs.Heap.{Heap}
 use Rattle.kheap_slabs.specs.Owners.{Owners, with_space, IsOwned}
 use Rattle.kheap_laws.proofs.OwnerLemmas.{IsOwned-space_joins}

@@ -2,8 +2,8 @@
 use Rattle.std.proofs.Common.{◌≡◌, ℕ, zero, suc, ◌+◌, ◌<◌, ◌≤◌, Bool, true, false, cond, List, [], ◌∷◌, ◌++◌, length, drop, Option, is_some, refl, sym, ap, ◌∙◌, subst, arith, slice_set, get_or, append_assoc, append-nil, length-append}
 use Rattle.std.proofs.lemmas.List.{drop_all}
 use Rattle.std.specs.Option.{option_and_then}
-use Rattle.kheap_shelves.specs.Objects.{object}
-use Rattle.kheap_shelves.specs.declared.objects.Proc.{Proc}
+use Rattle.kheap_slabs.specs.Objects.{object}
+use Rattle.kheap_slabs.specs.declared.objects.Proc.{Proc}
 use Rattle.kheap_slabs.specs.Heap.{Heap}
 use Rattle.kheap_slabs.specs.Paid.{TakesNothing}
 use Rattle.kheap_laws.proofs.PaidLemmas.{TakesNothing-trans}

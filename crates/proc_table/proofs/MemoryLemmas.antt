@@ -4,7 +4,7 @@ use Rattle.std.specs.List.{AllByRecursion, range_with_len}
 use Rattle.std.proofs.lemmas.Bool.Decides.{eqb_tells}
 use Rattle.std.proofs.lemmas.List.{get_or-replicate, length-replicate}
 use Rattle.std.proofs.lemmas.List.FromFn.{fill_by_all, get_or-map-range_with_len, length-map-range_with_len}
-use Rattle.kheap_shelves.specs.declared.objects.Proc.{Proc}
+use Rattle.kheap_slabs.specs.declared.objects.Proc.{Proc}
 use Rattle.kheap_slabs.specs.Heap.{Heap}
 use Rattle.kheap_slabs.specs.Spaces.{keys_in}
 use Rattle.page_space.specs.Contents.{StandsFor, content_at, content_of}

@@ -1,9 +1,9 @@
 -- What the account says of the memory of all processes.
 use Rattle.std.specs.Prelude.{ℕ, ◌≡◌, List, Option, None, Result, Ok, Err, length}
 use Rattle.std.specs.List.{AllByRecursion}
-use Rattle.kabi_values.specs.declared.errnos.Errno.{Errno}
-use Rattle.kheap_shelves.specs.declared.objects.Node.{Node}
-use Rattle.kheap_shelves.specs.declared.objects.Proc.{Proc}
+use Rattle.kabi_types.specs.declared.errnos.Errno.{Errno}
+use Rattle.kheap_slabs.specs.declared.objects.Node.{Node}
+use Rattle.kheap_slabs.specs.declared.objects.Proc.{Proc}
 use Rattle.kheap_slabs.specs.Heap.{Heap}
 use Rattle.page_space.specs.Accounts.{AreFrames, HasPlaces}
 use Rattle.posix_defs.specs.Memory.{Frames, after_fork, no_places, places_of}

@@ -1,11 +1,11 @@
 -- What a change of the table leaves to all others.
 use Rattle.std.specs.Prelude.{ℕ, ◌≡◌, ◌-◌, ◌<◌, List, [], ◌∷◌, ◌++◌, length, Option, None, Some}
 use Rattle.std.specs.List.{AllByRecursion, Contains}
-use Rattle.kabi_values.specs.declared.classes.Class.TheVariants as class
-use Rattle.kheap_shelves.specs.Counts.{with_count}
-use Rattle.kheap_shelves.specs.Objects.{object, put}
-use Rattle.kheap_shelves.specs.Purse.{Purse}
-use Rattle.kheap_shelves.specs.declared.objects.Proc.{Proc}
+use Rattle.kabi_types.specs.declared.classes.Class.TheVariants as class
+use Rattle.kheap_slabs.specs.Counts.{with_count}
+use Rattle.kheap_slabs.specs.Objects.{object, put}
+use Rattle.kheap_slabs.specs.Purse.{Purse}
+use Rattle.kheap_slabs.specs.declared.objects.Proc.{Proc}
 use Rattle.kheap_slabs.specs.Heap.{Heap}
 use Rattle.kheap_slabs.specs.Keys.{ChangesKeys}
 use Rattle.kheap_slabs.specs.Owners.{Owners, IsOwned}

@@ -1,7 +1,7 @@
 -- Which descriptors of the plain machine the processes in the heap have.
 use Rattle.std.specs.Prelude.{ℕ, ◌≡◌, List, None, length}
 use Rattle.std.specs.List.{AllByRecursion}
-use Rattle.kheap_shelves.specs.declared.objects.Proc.{Proc}
+use Rattle.kheap_slabs.specs.declared.objects.Proc.{Proc}
 use Rattle.kheap_slabs.specs.Heap.{Heap}
 use Rattle.posix_defs.specs.Files.Descriptors.{none_open}
 use Rattle.posix_defs.specs.Files.State.{Files, descriptors_of}

@@ -1,8 +1,8 @@
 -- Processes as they stand in the heap, by rising pid.
 use Rattle.std.specs.Prelude.{ℕ, ◌≡◌, ◌==◌, ℤ, pos, negsuc, if◌then◌else◌, List, [], ◌∷◌, map, replicate, Option, None, Some}
 use Rattle.std.specs.List.{AllByRecursion, range_with_len}
-use Rattle.kheap_shelves.specs.declared.objects.Descriptor.{Descriptor}
-use Rattle.kheap_shelves.specs.declared.objects.Proc.{Proc}
+use Rattle.kheap_slabs.specs.declared.objects.Descriptor.{Descriptor}
+use Rattle.kheap_slabs.specs.declared.objects.Proc.{Proc}
 use Rattle.kheap_slabs.specs.Heap.{Heap}
 use Rattle.page_space.specs.Contents.{content_at}
 use Rattle.posix_defs.specs.Memory.{Memory}

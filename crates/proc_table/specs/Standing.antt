@@ -1,10 +1,10 @@
 -- Which table of the plain machine the processes are, and what its calls answer.
 use Rattle.std.specs.Prelude.{ℕ, zero, suc, ◌+◌, ◌≡◌, ◌==◌, ◌||◌, not, ℤ, pos, negsuc, Bool, true, false, if◌then◌else◌, List, [], ◌∷◌, ◌++◌, length, None, Some, Result, Ok, Err}
-use Rattle.kabi_values.specs.declared.errnos.Errno.{Errno}
-use Rattle.kabi_values.specs.declared.errnos.Errno.TheVariants.{ECHILD}
-use Rattle.kabi_values.specs.declared.replies.Reply.TheVariants.{Val, Waited}
+use Rattle.kabi_types.specs.declared.errnos.Errno.{Errno}
+use Rattle.kabi_types.specs.declared.errnos.Errno.TheVariants.{ECHILD}
+use Rattle.kabi_types.specs.declared.replies.Reply.TheVariants.{Val, Waited}
 use Rattle.kabi_types.specs.declared.scripts.Script.{Script}
-use Rattle.kheap_shelves.specs.declared.objects.Proc.{Proc}
+use Rattle.kheap_slabs.specs.declared.objects.Proc.{Proc}
 use Rattle.kheap_slabs.specs.Heap.{Heap}
 use Rattle.posix_defs.specs.Answer.{Answer, failed, replied}
 use Rattle.posix_defs.specs.ByPid.{with_pid}

@@ -2,13 +2,12 @@
 
 ghost use Rattle.std.specs.Prelude.{◌≡◌, ◌+◌, ◌<◌, [], ◌∷◌, slice_set, is_some};
 ghost use Rattle.std.specs.Option.{option_and_then, option_copied};
-ghost use Rattle.kheap_shelves.specs.Objects.{object, InUse};
+ghost use Rattle.kheap_slabs.specs.Objects.{object, InUse};
 ghost use Rattle.kheap_slabs.specs.Paid.{TakesNothing};
 ghost use Rattle.proc_table.specs.Changes.{is_wanted, left_behind, verdict};
 
 use kabi_types::Errno;
-use kheap_shelves::Proc;
-use kheap_slabs::KHeap;
+use kheap_slabs::{KHeap, Proc};
 
 /// The pid of the process that was not forked.
 pub(crate) const INIT: u32 = 1;

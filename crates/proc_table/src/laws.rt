@@ -3,9 +3,9 @@
 
 ghost use Rattle.std.specs.Prelude.{◌≡◌, ◌≢◌, ◌+◌, ◌≤◌, ℕ, ℤ, true, List, [], ◌∷◌, ◌++◌, filter, length, map, Option, None, Some};
 ghost use Rattle.kabi_types.specs.declared.scripts.Script.{Script};
-ghost use Rattle.kheap_shelves.specs.Objects.{object};
-ghost use Rattle.kheap_shelves.specs.declared.objects.Desc.{Desc};
-ghost use Rattle.kheap_shelves.specs.declared.objects.Proc.{Proc};
+ghost use Rattle.kheap_slabs.specs.Objects.{object};
+ghost use Rattle.kheap_slabs.specs.declared.objects.Desc.{Desc};
+ghost use Rattle.kheap_slabs.specs.declared.objects.Proc.{Proc};
 ghost use Rattle.kheap_slabs.specs.Heap.{Heap};
 ghost use Rattle.kheap_slabs.specs.Owners.{Owners, IsOwned};
 ghost use Rattle.page_space.specs.Accounts.{AccountMoves, IsAccounted};

@@ -1,12 +1,12 @@
 ghost use Rattle.std.specs.Prelude.{IfOk, IfSome, OnErr, OnOk, ◌≡◌, ◌+◌, ◌-◌, ◌==◌, ◌<◌, ◌≤◌, not, false, [], ◌∷◌, ◌++◌, filter, length, map, None, Some};
 ghost use Rattle.std.specs.List.{filter_map, list_any};
 ghost use Rattle.std.specs.Option.{option_copied, option_map};
-ghost use Rattle.kabi_values.specs.Class.{size};
-ghost use Rattle.kabi_values.specs.declared.classes.Class.TheVariants as class;
+ghost use Rattle.kabi_types.specs.Class.{size};
+ghost use Rattle.kabi_types.specs.declared.classes.Class.TheVariants as class;
 ghost use Rattle.kabi_types.specs.declared.scripts.Script.{Script};
-ghost use Rattle.kheap_shelves.specs.Counts.{with_count};
-ghost use Rattle.kheap_shelves.specs.Objects.{object, InUse};
-ghost use Rattle.kheap_shelves.specs.declared.objects.Proc.{Proc as HeldProc};
+ghost use Rattle.kheap_slabs.specs.Counts.{with_count};
+ghost use Rattle.kheap_slabs.specs.Objects.{object, InUse};
+ghost use Rattle.kheap_slabs.specs.declared.objects.Proc.{Proc as HeldProc};
 ghost use Rattle.kheap_slabs.specs.Heap.{Heap, live_bytes, Makes};
 ghost use Rattle.kheap_slabs.specs.Owners.{Owners, IsOwned};
 ghost use Rattle.kheap_slabs.specs.Paid.{CanPay, IsPaid, PaysExactly, TakesNothing};
@@ -28,8 +28,7 @@ use crate::reaped::Reaped;
 use arrayvec::ArrayVec;
 use desc_table::share_descs;
 use kabi_types::{Class, Control, Errno};
-use kheap_shelves::{Proc, Purse};
-use kheap_slabs::KHeap;
+use kheap_slabs::{KHeap, Proc, Purse};
 use page_space::Space;
 use std::marker::Model;
 

@@ -4,7 +4,7 @@ use Rattle.std.proofs.Common.{◌≡◌, ℕ, zero, suc, ◌+◌, ◌<◌, ◌&&
 use Rattle.std.specs.List.{list_any, range_with_len}
 use Rattle.std.proofs.lemmas.Bool.{cases_eq}
 use Rattle.std.proofs.lemmas.List.{get_or-set_other}
-use Rattle.kheap_shelves.proofs.ObjectLemmas.{InUse-within}
+use Rattle.kheap_slabs.proofs.ObjectLemmas.{InUse-within}
 use Rattle.posix_defs.specs.Files.Closing.{after_close, after_closes, after_end_of, after_ends_of, all_numbers, close_in, description_gone, gone_in, released, target_closed}
 use Rattle.posix_defs.specs.Files.Descriptions.{Access, Description, Descriptions, OnNode, OnPipe, OnSocket, Target, description_at, with_description}
 use Rattle.posix_defs.specs.Files.Descriptors.{Descriptor, descriptor_at, is_named}

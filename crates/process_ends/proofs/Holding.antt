@@ -1,7 +1,7 @@
 -- What the objects hold of files through the steps of an end.
 use Rattle.std.proofs.Common.{◌≡◌, ℕ, ◌+◌, ◌<◌, List, Option, length, ap, sym, subst, arith}
 use Rattle.kheap_slabs.specs.Heap.{Heap}
-use Rattle.kheap_shelves.specs.declared.objects.Sock.{Sock}
+use Rattle.kheap_slabs.specs.declared.objects.Sock.{Sock}
 use Rattle.memfs_ops.specs.FileTree.{Stands, TreeView}
 use Rattle.place_laws.specs.Placed.{Numbers}
 use Rattle.posix_defs.specs.DiskFormat.{table_nodes}

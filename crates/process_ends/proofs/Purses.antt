@@ -2,7 +2,7 @@
 use Rattle.std.proofs.Common.{◌≡◌, ℕ, ◌+◌, ◌≤◌, max, refl, sym, ap, subst, arith}
 use Rattle.kheap_laws.proofs.FillLemmas.{AreFills-none}
 use Rattle.kheap_laws.proofs.PaidLemmas.{CanPay-kept, IsPaid-bytes}
-use Rattle.kheap_shelves.specs.Purse.{Purse, left_bytes}
+use Rattle.kheap_slabs.specs.Purse.{Purse, left_bytes}
 use Rattle.kheap_slabs.specs.Heap.{Heap, live_bytes}
 use Rattle.kheap_slabs.specs.Paid.{CanPay, HasFills, IsPaid}
 use Rattle.posix_defs.specs.Sizes.{reserve}

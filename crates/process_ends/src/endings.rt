@@ -28,7 +28,7 @@ ghost use Rattle.store_objects.specs.Standing.{IsSound, StandsFor};
 ghost use Rattle.store_objects.specs.Trees.{KeptStays};
 ghost use Rattle.store_objects.specs.Uses.{UsesAtMost};
 
-use kheap_shelves::Purse;
+use kheap_slabs::Purse;
 use proc_names::close_each;
 use store_objects::{Objects, directory_of, kept_back, let_go};
 

@@ -2,15 +2,14 @@
 //! the heap's bytes.
 
 ghost use Rattle.std.specs.Prelude.{◌≡◌, ◌+◌, ◌<◌, ◌≤◌, ℕ, true, IsSome};
-ghost use Rattle.kheap_shelves.specs.Objects.{InUse};
+ghost use Rattle.kheap_slabs.specs.Objects.{InUse};
 ghost use Rattle.kheap_slabs.specs.Heap.{live_bytes};
 ghost use Rattle.posix_defs.specs.Files.Descriptors.{descriptor_at};
 
 mod opens;
 
 use desc_table::{Descs, share_desc};
-use kheap_shelves::{Access, Desc, DescFlags, Target};
-use kheap_slabs::KHeap;
+use kheap_slabs::{Access, Desc, DescFlags, KHeap, Target};
 use std::process::Abort;
 use std::test::Fail;
 

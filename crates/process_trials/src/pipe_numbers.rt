@@ -6,8 +6,7 @@ ghost use Rattle.kheap_slabs.specs.Paid.{CanPay};
 ghost use Rattle.proc_pipes.specs.Opening.{CanOpen};
 
 use kabi_types::{Errno, Memory, Need};
-use kheap_shelves::Purse;
-use kheap_slabs::KHeap;
+use kheap_slabs::{KHeap, Purse};
 use proc_pipes::{close_number, control, dup_one, dup_to, make_pipe};
 use proc_table::ProcTable;
 use std::alloc::Global;

@@ -7,8 +7,7 @@ ghost use Rattle.proc_table.specs.Procs.{IsAlive};
 ghost use Rattle.proc_table.specs.Table.{Holds, processes};
 
 use kabi_types::{Errno, Memory, Need};
-use kheap_shelves::Purse;
-use kheap_slabs::KHeap;
+use kheap_slabs::{KHeap, Purse};
 use page_space::Space;
 use proc_table::{ProcTable, Reaped};
 use std::alloc::Global;

@@ -7,8 +7,7 @@ ghost use Rattle.page_space.specs.Contents.{IsOwnedWith};
 mod sharing;
 
 use kabi_types::{Memory, Need};
-use kheap_shelves::Purse;
-use kheap_slabs::KHeap;
+use kheap_slabs::{KHeap, Purse};
 use page_space::Space;
 use std::alloc::Global;
 use std::process::Abort;

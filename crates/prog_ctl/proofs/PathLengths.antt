@@ -2,7 +2,7 @@
 use Rattle.std.proofs.Common.{◌≡◌, ℕ, zero, suc, ◌≤◌, Bool, true, false, cond, ◌||◌, List, [], ◌∷◌, length, refl, ap, ◌∙◌, arith}
 use Rattle.std.specs.List.{filter, list_any, onto_first, slice_split}
 use Rattle.std.proofs.lemmas.Bool.{le-ltb}
-use Rattle.kabi_calls.specs.PathParts.{components, has_bytes, is_long, is_slash}
+use Rattle.kabi_types.specs.PathParts.{components, has_bytes, is_long, is_slash}
 
 -- none of these parts is longer
 abbrev AreWithin : ℕ → List (List ℕ) → Type 0

@@ -4,7 +4,7 @@ use Rattle.std.specs.Prelude.{slice_get, if◌then◌else◌, int_lt, pos}
 use Rattle.kabi_types.specs.declared.scripts.Control.{Control}
 use Rattle.kabi_types.specs.declared.scripts.Statement.{Statement}
 use Rattle.kabi_types.specs.declared.scripts.Statement.TheVariants as statement
-use Rattle.kabi_values.specs.declared.replies.Reply.{Reply}
+use Rattle.kabi_types.specs.declared.replies.Reply.{Reply}
 use Rattle.kabi_types.specs.declared.scripts.Script.{Script}
 use Rattle.posix_defs.specs.Control.{after, after_at, afresh, at_place, body_of, call_at, call_of, carry_on, forward, local, local_at, passes, register_of, settle, settled, statement_of, statements_of, value_of}
 use Rattle.prog_ctl.specs.Runnable.{IsLater, IsRunnableAt, Rests}

@@ -1,7 +1,7 @@
 -- Which calls may block.
 use Rattle.std.proofs.Common.{◌≡◌, ℕ, ℤ, List, None, refl}
-use Rattle.kabi_calls.specs.declared.calls.CallKind.{CallKind}
-use Rattle.kabi_calls.specs.declared.calls.CallKind.TheVariants as kind
+use Rattle.kabi_types.specs.declared.calls.CallKind.{CallKind}
+use Rattle.kabi_types.specs.declared.calls.CallKind.TheVariants as kind
 use Rattle.posix_defs.specs.Made.{made}
 use Rattle.prog_ctl.specs.Waits.{wait_of}
 

@@ -1,8 +1,8 @@
 -- Where a control may stand, and what running its program needs.
 use Rattle.std.specs.Prelude.{ℕ, ⊤, Bool, true, false, ◌<◌, ◌≤◌, ◌≡◌, List, length, Option, None, Some, slice_get, IfSome}
 use Rattle.std.specs.List.{AllByRecursion}
-use Rattle.kabi_calls.specs.declared.calls.CallKind.{CallKind}
-use Rattle.kabi_calls.specs.declared.calls.CallKind.TheVariants as kind
+use Rattle.kabi_types.specs.declared.calls.CallKind.{CallKind}
+use Rattle.kabi_types.specs.declared.calls.CallKind.TheVariants as kind
 use Rattle.kabi_types.specs.declared.scripts.Operand.{Operand}
 use Rattle.kabi_types.specs.declared.scripts.Operand.TheVariants.{Reg, Number}
 use Rattle.kabi_types.specs.declared.scripts.Statement.{Statement}

@@ -1,8 +1,8 @@
 -- What a call waits for, and what is asked for with it.
 use Rattle.std.specs.Prelude.{Option, None, Some}
-use Rattle.kabi_calls.specs.declared.calls.Call.{Call}
-use Rattle.kabi_calls.specs.declared.calls.Call.TheVariants as call
-use Rattle.kabi_calls.specs.Call.{kind_of}
+use Rattle.kabi_types.specs.declared.calls.Call.{Call}
+use Rattle.kabi_types.specs.declared.calls.Call.TheVariants as call
+use Rattle.kabi_types.specs.Call.{kind_of}
 use Rattle.posix_defs.specs.Needs.{bound}
 use Rattle.posix_defs.specs.declared.phases.Asked.{Asked}
 use Rattle.prog_ctl.specs.declared.waits.Awaited.{Awaited}

@@ -2,8 +2,8 @@
 
 ghost use Rattle.std.specs.Prelude.{◌≡◌, is_none};
 ghost use Rattle.std.specs.List.{list_any};
-ghost use Rattle.kabi_calls.specs.Arguments.{path_fault, paths_fault, renamed_fault};
-ghost use Rattle.kabi_calls.specs.PathParts.{components, ends_in_dots, is_dots, is_long};
+ghost use Rattle.kabi_types.specs.Arguments.{path_fault, paths_fault, renamed_fault};
+ghost use Rattle.kabi_types.specs.PathParts.{components, ends_in_dots, is_dots, is_long};
 ghost use Rattle.posix_defs.specs.Made as spec;
 
 use crate::made::text_at;

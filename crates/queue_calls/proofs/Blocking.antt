@@ -1,13 +1,13 @@
 -- A call with a wrong operand never blocks, nor does a read or a write of a node.
 use Rattle.std.proofs.Common.{◌≡◌, ◌&&◌, ℕ, ◌==◌, ℤ, Bool, true, false, cond, List, Option, None, Some, is_some, Result, Ok, Err, refl, sym}
 use Rattle.std.specs.Prelude.{◌||◌, is_none}
-use Rattle.kabi_calls.specs.Arguments.{count_of, invalid_unless, is_minus_one, is_number}
-use Rattle.kabi_calls.specs.declared.calls.Call.TheVariants as call
-use Rattle.kabi_values.specs.declared.errnos.Errno.{Errno}
-use Rattle.kabi_values.specs.declared.short_lists.PollEntry.{PollEntry}
+use Rattle.kabi_types.specs.Arguments.{count_of, invalid_unless, is_minus_one, is_number}
+use Rattle.kabi_types.specs.declared.calls.Call.TheVariants as call
+use Rattle.kabi_types.specs.declared.errnos.Errno.{Errno}
+use Rattle.kabi_types.specs.declared.short_lists.PollEntry.{PollEntry}
 use Rattle.kabi_types.specs.declared.scripts.Script.{Script}
 use Rattle.posix_defs.specs.Answer.{Answer, Blocked, replied}
-use Rattle.kabi_values.specs.declared.replies.Reply.TheVariants.{Polled}
+use Rattle.kabi_types.specs.declared.replies.Reply.TheVariants.{Polled}
 use Rattle.posix_defs.specs.Calls.Opened.{Opened, answer_on, if_readable, if_writable, opened_at}
 use Rattle.posix_defs.specs.Calls.Polling.{hits_of, poll, revents_of}
 use Rattle.posix_defs.specs.Calls.Reading.{is_directory_target, of_bytes, read, read_target, unless_directory}

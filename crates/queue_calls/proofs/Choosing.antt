@@ -1,8 +1,8 @@
 -- A read or a write goes by what its number is open on.
 use Rattle.std.proofs.Common.{◌≡◌, ℕ, ℤ, Bool, [], false, Option, None, Some, IsSome, is_some, refl, ap, sym, ◌∙◌}
-use Rattle.kheap_shelves.specs.declared.objects.Descriptor.{Descriptor}
-use Rattle.kheap_shelves.specs.declared.objects.Target.{Target}
-use Rattle.kheap_shelves.specs.declared.objects.Target.TheVariants as target
+use Rattle.kheap_slabs.specs.declared.objects.Descriptor.{Descriptor}
+use Rattle.kheap_slabs.specs.declared.objects.Target.{Target}
+use Rattle.kheap_slabs.specs.declared.objects.Target.TheVariants as target
 use Rattle.kheap_slabs.specs.Heap.{Heap}
 use Rattle.open_laws.specs.Described.{node_in}
 use Rattle.open_laws.specs.Owned.{HasItsOwners, sock_in, sock_of}

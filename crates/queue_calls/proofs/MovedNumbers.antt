@@ -3,8 +3,8 @@ use Rattle.std.proofs.Common.{◌≡◌, ◌≤◌, ◌&&◌, ℤ, pos, negsuc, 
 use Rattle.std.specs.Prelude.{nat_le}
 use Rattle.std.specs.Option.{option_or}
 use Rattle.std.proofs.lemmas.Bool.Decides.{leb_tells}
-use Rattle.kabi_calls.specs.Arguments.{count_of, invalid_unless, moved_fault, range_fault}
-use Rattle.kabi_values.specs.declared.errnos.Errno.TheVariants.{EINVAL}
+use Rattle.kabi_types.specs.Arguments.{count_of, invalid_unless, moved_fault, range_fault}
+use Rattle.kabi_types.specs.declared.errnos.Errno.TheVariants.{EINVAL}
 
 -- what holds of three numbers holds of the same three
 pub of_three : (P : ℤ → ℤ → ℤ → Type 0) (a b c x y z : ℤ) → a ≡ x → b ≡ y → c ≡ z → P a b c → P x y z

@@ -2,11 +2,11 @@
 use Rattle.std.proofs.Common.{◌≡◌, ℕ, ◌+◌, ◌-◌, ◌≤◌, ◌++◌, ◌==◌, ◌&&◌, ℤ, pos, Bool, true, false, cond, List, drop, take, Option, None, Some, is_some, refl, ap, sym, ◌∙◌, arith, inl, inr}
 use Rattle.std.specs.Prelude.{nat_le}
 use Rattle.std.proofs.lemmas.Bool.Decides.{eqb_tells, leb_tells}
-use Rattle.kabi_calls.specs.Arguments.{count_of, is_minus_one}
-use Rattle.kabi_values.specs.declared.errnos.Errno.TheVariants.{EAGAIN, EBADF, EFAULT, EISDIR, ENOTCONN, EPIPE}
-use Rattle.kabi_values.specs.declared.replies.Reply.{Reply}
-use Rattle.kabi_values.specs.declared.replies.Reply.TheVariants.{Fail, Polled, Val}
-use Rattle.kabi_values.specs.declared.short_lists.PollEntry.{PollEntry}
+use Rattle.kabi_types.specs.Arguments.{count_of, is_minus_one}
+use Rattle.kabi_types.specs.declared.errnos.Errno.TheVariants.{EAGAIN, EBADF, EFAULT, EISDIR, ENOTCONN, EPIPE}
+use Rattle.kabi_types.specs.declared.replies.Reply.{Reply}
+use Rattle.kabi_types.specs.declared.replies.Reply.TheVariants.{Fail, Polled, Val}
+use Rattle.kabi_types.specs.declared.short_lists.PollEntry.{PollEntry}
 use Rattle.kabi_types.specs.declared.scripts.Script.{Script}
 use Rattle.kern_laws.proofs.Remembering.{remembers_family}
 use Rattle.posix_defs.specs.Answer.{Answer, Blocked, Done, Ended, Part, replied}

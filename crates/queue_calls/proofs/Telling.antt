@@ -1,7 +1,7 @@
 -- A call leads the objects of a store to what it was told.
 use Rattle.std.proofs.Common.{◌≡◌, ℕ, refl, sym, subst, ◌∙◌}
-use Rattle.kabi_calls.specs.declared.calls.Call.{Call}
-use Rattle.kabi_values.specs.declared.replies.Reply.{Reply}
+use Rattle.kabi_types.specs.declared.calls.Call.{Call}
+use Rattle.kabi_types.specs.declared.replies.Reply.{Reply}
 use Rattle.kabi_types.specs.declared.scripts.Script.{Script}
 use Rattle.kheap_slabs.specs.Heap.{Heap}
 use Rattle.place_laws.specs.Placed.{Numbers}

@@ -1,7 +1,7 @@
 //! What operands a call that moves bytes takes.
 
 ghost use Rattle.std.specs.Prelude.{◌≡◌, is_none};
-ghost use Rattle.kabi_calls.specs.Arguments.{count_of, is_within, lie_in_space, moved_fault};
+ghost use Rattle.kabi_types.specs.Arguments.{count_of, is_within, lie_in_space, moved_fault};
 
 /// The most bytes that a call may be asked to move.
 const SSIZE_MAX: i64 = 32767;

@@ -1,7 +1,7 @@
 //! `poll`.
 
 ghost use Rattle.std.specs.Prelude.{◌≡◌, true};
-ghost use Rattle.kabi_calls.specs.declared.calls.Call.{Call};
+ghost use Rattle.kabi_types.specs.declared.calls.Call.{Call};
 ghost use Rattle.kabi_types.specs.declared.scripts.Script.{Script};
 ghost use Rattle.kheap_slabs.specs.Paid.{TakesNothing};
 ghost use Rattle.posix_defs.specs.Calls.Polling.{poll};

@@ -1,8 +1,8 @@
 //! `read` and `write` of what a number is open on, a pipe or a socket.
 
 ghost use Rattle.std.specs.Prelude.{◌≡◌, ◌-◌, ◌≤◌, None};
-ghost use Rattle.kabi_calls.specs.Arguments.{argument_fault, count_of};
-ghost use Rattle.kabi_calls.specs.declared.calls.Call.{Call};
+ghost use Rattle.kabi_types.specs.Arguments.{argument_fault, count_of};
+ghost use Rattle.kabi_types.specs.declared.calls.Call.{Call};
 ghost use Rattle.kabi_types.specs.declared.scripts.Script.{Script};
 ghost use Rattle.kheap_slabs.specs.Paid.{CanPay, IsPaid};
 ghost use Rattle.place_laws.specs.Placed.{Numbers};
@@ -17,8 +17,7 @@ ghost use Rattle.proc_queues.specs.Standing.{IsKept, Leads, StandsFor};
 ghost use Rattle.proc_table.specs.Procs.{IsAlive};
 ghost use Rattle.proc_table.specs.Table.{processes};
 
-use kheap_shelves::Purse;
-use kheap_slabs::KHeap;
+use kheap_slabs::{KHeap, Purse};
 use posix_defs::Turned;
 use proc_files::is_on_node;
 use proc_queues::{Buffer, read, read_waits, write, write_waits};

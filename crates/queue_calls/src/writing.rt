@@ -1,8 +1,8 @@
 //! `write`.
 
 ghost use Rattle.std.specs.Prelude.{◌≡◌, ◌-◌, ◌≤◌, None, true};
-ghost use Rattle.kabi_calls.specs.Arguments.{argument_fault, count_of};
-ghost use Rattle.kabi_calls.specs.declared.calls.Call.{Call};
+ghost use Rattle.kabi_types.specs.Arguments.{argument_fault, count_of};
+ghost use Rattle.kabi_types.specs.declared.calls.Call.{Call};
 ghost use Rattle.kabi_types.specs.declared.scripts.Script.{Script};
 ghost use Rattle.kheap_slabs.specs.Paid.{CanPay, IsPaid};
 ghost use Rattle.posix_defs.specs.Calls.Writing.{write};
@@ -18,7 +18,7 @@ use crate::operands::may_move;
 use crate::queues::{write_queue, write_queue_waits};
 use crate::told::{do_part, go_on_done};
 use kabi_types::{Control, Script};
-use kheap_shelves::Purse;
+use kheap_slabs::Purse;
 use posix_defs::Turned;
 use proc_queues::Buffer;
 use store_objects::Objects;

@@ -1,13 +1,12 @@
 ghost use Rattle.std.specs.Prelude.{◌≡◌, ◌+◌, ◌<◌, ◌≤◌};
-ghost use Rattle.kheap_shelves.specs.Objects.{InUse};
+ghost use Rattle.kheap_slabs.specs.Objects.{InUse};
 ghost use Rattle.kheap_slabs.specs.Heap.{live_bytes};
 
 use kabi_types::{Control, Inode, Name27};
-use kheap_shelves::{
-    Access, Block, Chunk, Desc, DescFlags, Descriptor, Name, Node, Page, PageEntry, Pipe, Proc,
-    QueueParts, Sock, SockState, Target, Vnode,
+use kheap_slabs::{
+    Access, Block, Chunk, Desc, DescFlags, Descriptor, KHeap, Name, Node, Page, PageEntry, Pipe,
+    Proc, QueueParts, Sock, SockState, Target, Vnode,
 };
-use kheap_slabs::KHeap;
 use std::test::Fail;
 
 fn proc_of(pid: u32) -> Proc {

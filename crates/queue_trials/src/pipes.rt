@@ -7,8 +7,7 @@ ghost use Rattle.pipe_ends.specs.Standing.{IsPipeAt, HasEndAt};
 
 use chunk_queue::Moved;
 use kabi_types::{Class, Errno, Memory, Need};
-use kheap_shelves::Purse;
-use kheap_slabs::KHeap;
+use kheap_slabs::{KHeap, Purse};
 use pipe_ends::{
     close_end, pipe_make, pipe_polled, pipe_read, pipe_read_waits, pipe_write, pipe_write_waits,
 };

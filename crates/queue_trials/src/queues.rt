@@ -6,8 +6,7 @@ ghost use Rattle.chunk_queue.specs.Chained.{IsQueueIn};
 
 use chunk_queue::Queue;
 use kabi_types::{Class, Memory, Need};
-use kheap_shelves::{Purse, QueueParts};
-use kheap_slabs::KHeap;
+use kheap_slabs::{KHeap, Purse, QueueParts};
 use std::alloc::Global;
 use std::process::Abort;
 use std::test::Fail;

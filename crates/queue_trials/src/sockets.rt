@@ -10,8 +10,7 @@ ghost use Rattle.usock_core.specs.Standing.{IsSocketIn, IsHeldIn};
 
 use chunk_queue::Moved;
 use kabi_types::{Errno, Memory, Need};
-use kheap_shelves::{Purse, SockState};
-use kheap_slabs::KHeap;
+use kheap_slabs::{KHeap, Purse, SockState};
 use std::alloc::Global;
 use std::process::Abort;
 use std::test::Fail;

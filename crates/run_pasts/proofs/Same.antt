@@ -5,18 +5,18 @@ use Rattle.std.proofs.lemmas.Bool.{false≢true}
 use Rattle.std.proofs.lemmas.Bool.Decides.{Decides-eqb, Decides-int_eq}
 use Rattle.std.proofs.lemmas.Option.{same_Some}
 use Rattle.std.proofs.lemmas.Slice.Eq.{bytes_eq-Decides}
-use Rattle.kabi_calls.specs.Call.{all_kinds}
-use Rattle.kabi_calls.specs.Words.{word_of}
-use Rattle.kabi_calls.specs.declared.calls.CallKind.{CallKind}
-use Rattle.kabi_calls.specs.declared.calls.CallKind.TheVariants as kind
-use Rattle.kabi_values.specs.Errno.{number_of}
-use Rattle.kabi_values.specs.declared.errnos.Errno.{Errno}
-use Rattle.kabi_values.specs.declared.errnos.Errno.TheVariants as errno
-use Rattle.kabi_values.specs.declared.replies.NodeKind.{NodeKind}
-use Rattle.kabi_values.specs.declared.replies.NodeKind.TheVariants as node
-use Rattle.kabi_values.specs.declared.replies.Reply.{Reply}
-use Rattle.kabi_values.specs.declared.replies.Reply.TheVariants as reply
-use Rattle.kabi_values.specs.declared.replies.StatInfo.{StatInfo}
+use Rattle.kabi_types.specs.Call.{all_kinds}
+use Rattle.kabi_types.specs.Words.{word_of}
+use Rattle.kabi_types.specs.declared.calls.CallKind.{CallKind}
+use Rattle.kabi_types.specs.declared.calls.CallKind.TheVariants as kind
+use Rattle.kabi_types.specs.Errno.{number_of}
+use Rattle.kabi_types.specs.declared.errnos.Errno.{Errno}
+use Rattle.kabi_types.specs.declared.errnos.Errno.TheVariants as errno
+use Rattle.kabi_types.specs.declared.replies.NodeKind.{NodeKind}
+use Rattle.kabi_types.specs.declared.replies.NodeKind.TheVariants as node
+use Rattle.kabi_types.specs.declared.replies.Reply.{Reply}
+use Rattle.kabi_types.specs.declared.replies.Reply.TheVariants as reply
+use Rattle.kabi_types.specs.declared.replies.StatInfo.{StatInfo}
 use Rattle.kabi_types.specs.declared.entries.Cached.{Cached}
 use Rattle.kabi_types.specs.declared.entries.Cached.TheVariants as cached
 use Rattle.kabi_types.specs.declared.entries.Entry.{Entry}

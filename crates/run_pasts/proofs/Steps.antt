@@ -3,8 +3,8 @@ use Rattle.std.proofs.Common.{◌≡◌, ℕ, ◌+◌, ◌<◌, ◌≤◌, not, 
 use Rattle.std.proofs.lemmas.Bool.{false≢true, leb-true, le-leb}
 use Rattle.std.proofs.lemmas.Bool.Decides.{Decides-eqb, Decides-ltb}
 use Rattle.std.proofs.lemmas.Option.{cond_some, none-some, same_Some}
-use Rattle.kabi_calls.specs.Call.{kind_of}
-use Rattle.kabi_calls.specs.declared.calls.CallKind.{CallKind}
+use Rattle.kabi_types.specs.Call.{kind_of}
+use Rattle.kabi_types.specs.declared.calls.CallKind.{CallKind}
 use Rattle.kabi_types.specs.declared.entries.Cached.{Cached}
 use Rattle.kabi_types.specs.declared.entries.Entry.{Entry}
 use Rattle.kabi_types.specs.declared.entries.Entry.TheVariants as entry

@@ -1,9 +1,9 @@
 -- Worked histories: scripts, and entries that workers may have made of them, in one of the orders in which they may come.
 use Rattle.std.specs.Prelude.{ℕ, suc, pos, negsuc, List, [], ◌∷◌, Option, None, Some, option_map, unwrap_or, codes}
-use Rattle.kabi_calls.specs.declared.calls.CallKind.{CallKind}
-use Rattle.kabi_calls.specs.declared.calls.CallKind.TheVariants as kind
-use Rattle.kabi_values.specs.declared.errnos.Errno.TheVariants.{ECHILD, EFAULT, ESRCH}
-use Rattle.kabi_values.specs.declared.replies.Reply.TheVariants.{Val, Waited, Fail}
+use Rattle.kabi_types.specs.declared.calls.CallKind.{CallKind}
+use Rattle.kabi_types.specs.declared.calls.CallKind.TheVariants as kind
+use Rattle.kabi_types.specs.declared.errnos.Errno.TheVariants.{ECHILD, EFAULT, ESRCH}
+use Rattle.kabi_types.specs.declared.replies.Reply.TheVariants.{Val, Waited, Fail}
 use Rattle.kabi_types.specs.declared.entries.Cached.TheVariants as cached
 use Rattle.kabi_types.specs.declared.entries.Entry.{Entry}
 use Rattle.kabi_types.specs.declared.entries.Entry.TheVariants as entry

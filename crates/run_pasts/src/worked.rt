@@ -2,10 +2,10 @@
 //! function that does nothing.
 
 ghost use Rattle.std.specs.Prelude.{◌≡◌, [], ◌∷◌};
-ghost use Rattle.kabi_calls.specs.declared.calls.CallKind.TheVariants.{Exit, Getpid, Kill, Poll, Waitpid};
+ghost use Rattle.kabi_types.specs.declared.calls.CallKind.TheVariants.{Exit, Getpid, Kill, Poll, Waitpid};
 ghost use Rattle.kabi_types.specs.declared.entries.Cached.TheVariants.{Name};
 ghost use Rattle.kabi_types.specs.declared.entries.Entry.TheVariants.{Done, Evicted, Gone, Killed, Slept};
-ghost use Rattle.kabi_values.specs.declared.replies.Reply.TheVariants.{Waited};
+ghost use Rattle.kabi_types.specs.declared.replies.Reply.TheVariants.{Waited};
 ghost use Rattle.run_pasts.specs.Worked.{cached_script, crowded, crowded_script, crowding, dreaming, dropped, falls, gave, good, killed, killed_script, killing, spent, spent_script, starved, starved_script};
 
 /// All twenty entries of a process in a loop may come; another pid is no answer, and nothing is cached that could go.

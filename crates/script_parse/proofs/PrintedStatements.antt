@@ -4,9 +4,9 @@ use Rattle.std.specs.Prelude.{not, ◌&&◌, nat_le, if◌then◌else◌, codes}
 use Rattle.std.specs.List.{AllByRecursion}
 use Rattle.std.proofs.lemmas.Bool.{and_parts}
 use Rattle.std.proofs.lemmas.List.{length-map}
-use Rattle.kabi_calls.specs.Words.{word_of}
-use Rattle.kabi_calls.specs.declared.calls.CallKind.{CallKind}
-use Rattle.kabi_calls.specs.declared.calls.CallKind.TheVariants as kind
+use Rattle.kabi_types.specs.Words.{word_of}
+use Rattle.kabi_types.specs.declared.calls.CallKind.{CallKind}
+use Rattle.kabi_types.specs.declared.calls.CallKind.TheVariants as kind
 use Rattle.kabi_types.specs.declared.scripts.Chooser.TheVariants.{Choices, Seed}
 use Rattle.kabi_types.specs.declared.scripts.FaultKind.TheVariants.{UnknownWord, OutOfRange}
 use Rattle.kabi_types.specs.declared.scripts.Operand.{Operand}

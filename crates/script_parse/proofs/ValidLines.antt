@@ -2,7 +2,7 @@
 use Rattle.std.proofs.Common.{◌≡◌, ◌≤◌, ◌%◌, ℕ, true, ◌==◌, List, [], ◌∷◌, length, Option, None, Some, Result, Ok, Err, IfOk, refl, arith}
 use Rattle.std.specs.Prelude.{⊤, nat_le, codes}
 use Rattle.std.specs.List.{AllByRecursion}
-use Rattle.kabi_calls.specs.declared.calls.CallKind.{CallKind}
+use Rattle.kabi_types.specs.declared.calls.CallKind.{CallKind}
 use Rattle.kabi_types.specs.declared.scripts.Chooser.TheVariants.{Choices, Seed}
 use Rattle.kabi_types.specs.declared.scripts.FaultKind.{FaultKind}
 use Rattle.kabi_types.specs.declared.scripts.Operand.{Operand}

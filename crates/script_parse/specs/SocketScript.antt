@@ -1,6 +1,6 @@
 -- A worked example: a process asks for a socket.
 use Rattle.std.specs.Prelude.{ℕ, List, [], ◌∷◌, None, Some, codes}
-use Rattle.kabi_calls.specs.declared.calls.CallKind.TheVariants as kind
+use Rattle.kabi_types.specs.declared.calls.CallKind.TheVariants as kind
 use Rattle.kabi_types.specs.declared.scripts.Chooser.TheVariants.{Plain}
 use Rattle.kabi_types.specs.declared.scripts.Policy.TheVariants.{Heaviest}
 use Rattle.kabi_types.specs.declared.scripts.Script.{Script}

@@ -6,7 +6,7 @@ ghost use Rattle.posix_defs.specs.Canonical as spec;
 ghost use Rattle.posix_defs.specs.Canonical.{words_text, further_words, word_text};
 ghost use Rattle.posix_defs.specs.ScriptLines as lines;
 ghost use Rattle.posix_defs.specs.declared.said.Word.TheVariants.{Bare, Quoted};
-ghost use Rattle.kabi_calls.specs.Words.{word_of};
+ghost use Rattle.kabi_types.specs.Words.{word_of};
 ghost use Rattle.script_print.specs.Printing.{Adds};
 
 use crate::output::Output;

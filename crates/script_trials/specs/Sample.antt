@@ -1,6 +1,6 @@
 -- A script that the tests run.
 use Rattle.std.specs.Prelude.{pos, neg_ℤ, [], ◌∷◌, List, None, Some, codes}
-use Rattle.kabi_calls.specs.declared.calls.CallKind.TheVariants as kind
+use Rattle.kabi_types.specs.declared.calls.CallKind.TheVariants as kind
 use Rattle.kabi_types.specs.declared.scripts.Chooser.TheVariants.{Plain}
 use Rattle.kabi_types.specs.declared.scripts.Operand.TheVariants.{Reg, Number}
 use Rattle.kabi_types.specs.declared.scripts.Policy.TheVariants.{Heaviest}

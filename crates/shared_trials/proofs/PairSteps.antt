@@ -1,7 +1,7 @@
 -- What the two processes of the tests do, by cases.
 use Rattle.std.proofs.Common.{◌≡◌, ◌≢◌, ℕ, zero, suc, ◌+◌, ◌≤◌, max, ap, ◌∙◌, Bool, true, false, cond, not, [], lit≤, refl, sym, subst, arith}
 use Rattle.std.specs.Prelude.{Option, None, Some, is_some}
-use Rattle.kabi_calls.specs.declared.calls.Call.{Call}
+use Rattle.kabi_types.specs.declared.calls.Call.{Call}
 use Rattle.kabi_types.specs.declared.entries.Cached.{Cached}
 use Rattle.kabi_types.specs.declared.entries.Cached.TheVariants.{Name, Block, Vnode}
 use Rattle.kabi_types.specs.declared.scripts.Script.{Script}

@@ -1,8 +1,8 @@
 -- The script that the tests run, and the worlds of its two processes.
 use Rattle.std.specs.Prelude.{ℕ, zero, suc, ◌+◌, Bool, true, false, cond, pos, List, [], ◌∷◌, replicate, Option, None, Some, codes}
-use Rattle.kabi_calls.specs.declared.calls.Call.{Call}
-use Rattle.kabi_calls.specs.declared.calls.Call.TheVariants as call
-use Rattle.kabi_calls.specs.declared.calls.CallKind.TheVariants as kind
+use Rattle.kabi_types.specs.declared.calls.Call.{Call}
+use Rattle.kabi_types.specs.declared.calls.Call.TheVariants as call
+use Rattle.kabi_types.specs.declared.calls.CallKind.TheVariants as kind
 use Rattle.kabi_types.specs.declared.entries.Cached.{Cached}
 use Rattle.kabi_types.specs.declared.entries.Cached.TheVariants.{Name, Block, Vnode}
 use Rattle.kabi_types.specs.declared.scripts.Chooser.TheVariants.{Plain}
@@ -11,8 +11,8 @@ use Rattle.kabi_types.specs.declared.scripts.Operand.TheVariants.{Number}
 use Rattle.kabi_types.specs.declared.scripts.Policy.TheVariants.{Heaviest}
 use Rattle.kabi_types.specs.declared.scripts.Script.{Script}
 use Rattle.kabi_types.specs.declared.scripts.Statement.TheVariants.{Invoke}
-use Rattle.kabi_values.specs.declared.errnos.Errno.TheVariants.{EBADF}
-use Rattle.kabi_values.specs.declared.replies.Reply.TheVariants.{Fail, Val}
+use Rattle.kabi_types.specs.declared.errnos.Errno.TheVariants.{EBADF}
+use Rattle.kabi_types.specs.declared.replies.Reply.TheVariants.{Fail, Val}
 use Rattle.posix_defs.specs.declared.turner.Turned.{Turned}
 use Rattle.posix_defs.specs.declared.turner.Turned.TheVariants.{Done, Ended, Gone}
 use Rattle.posix_defs.specs.Files.State.{boot_files, with_heir}

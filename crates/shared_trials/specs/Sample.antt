@@ -1,6 +1,6 @@
 -- The script that tests run, and the worlds of its one process.
 use Rattle.std.specs.Prelude.{ℕ, Bool, if◌then◌else◌, pos, List, [], ◌∷◌, replicate, None, Some, codes}
-use Rattle.kabi_calls.specs.declared.calls.CallKind.TheVariants as kind
+use Rattle.kabi_types.specs.declared.calls.CallKind.TheVariants as kind
 use Rattle.kabi_types.specs.declared.scripts.Chooser.TheVariants.{Plain}
 use Rattle.kabi_types.specs.declared.scripts.Operand.TheVariants.{Number}
 use Rattle.kabi_types.specs.declared.scripts.Policy.TheVariants.{Heaviest}

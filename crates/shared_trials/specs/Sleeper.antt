@@ -1,8 +1,8 @@
 -- The script of the process that sleeps, and its worlds.
 use Rattle.std.specs.Prelude.{ℕ, ◌==◌, ℤ, pos, negsuc, Bool, true, false, cond, List, [], ◌∷◌, replicate, None, Some, codes}
-use Rattle.kabi_calls.specs.declared.calls.Call.{Call}
-use Rattle.kabi_calls.specs.declared.calls.Call.TheVariants as call
-use Rattle.kabi_calls.specs.declared.calls.CallKind.TheVariants as kind
+use Rattle.kabi_types.specs.declared.calls.Call.{Call}
+use Rattle.kabi_types.specs.declared.calls.Call.TheVariants as call
+use Rattle.kabi_types.specs.declared.calls.CallKind.TheVariants as kind
 use Rattle.kabi_types.specs.declared.scripts.Chooser.TheVariants.{Plain}
 use Rattle.kabi_types.specs.declared.scripts.Control.{Control}
 use Rattle.kabi_types.specs.declared.scripts.Operand.TheVariants.{Number, Reg}
@@ -11,7 +11,7 @@ use Rattle.kabi_types.specs.declared.scripts.Script.{Script}
 use Rattle.kabi_types.specs.declared.scripts.Statement.{Statement}
 use Rattle.kabi_types.specs.declared.scripts.Statement.TheVariants.{If, Invoke}
 use Rattle.kabi_types.specs.declared.scripts.Test.TheVariants.{Lt}
-use Rattle.kabi_values.specs.declared.replies.Reply.TheVariants.{Pair, Val}
+use Rattle.kabi_types.specs.declared.replies.Reply.TheVariants.{Pair, Val}
 use Rattle.posix_defs.specs.declared.turner.Turned.{Turned}
 use Rattle.posix_defs.specs.declared.turner.Turned.TheVariants.{Done, Gone, Part, Sleep}
 use Rattle.posix_defs.specs.Calls.OnPipes.{piped}

@@ -1,7 +1,7 @@
 -- What a worker of the tests keeps between two of its steps.
 use Rattle.std.specs.Prelude.{◌≡◌, ℕ, Option, None, Some, Bool, true, false}
 use Rattle.atomic_table.specs.Seated.{TableId}
-use Rattle.kabi_calls.specs.declared.calls.Call.{Call}
+use Rattle.kabi_types.specs.declared.calls.Call.{Call}
 use Rattle.kabi_types.specs.declared.scripts.Script.{Script}
 use Rattle.charge_words.specs.Names.{ChargeWord, SeatState as ChargeState}
 use Rattle.turn_words.specs.Items.{heard}

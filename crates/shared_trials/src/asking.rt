@@ -1,7 +1,7 @@
 //! What a process asks for with a call.
 
 ghost use Rattle.std.specs.Prelude.{◌≡◌};
-ghost use Rattle.kabi_calls.specs.Call.{kind_of};
+ghost use Rattle.kabi_types.specs.Call.{kind_of};
 ghost use Rattle.posix_defs.specs.Needs.{bound};
 
 use kabi_types::Call;

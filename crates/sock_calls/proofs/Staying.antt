@@ -1,6 +1,6 @@
 -- No call on sockets without a name changes the tree, which of its nodes are open, or the name of a socket.
 use Rattle.std.proofs.Common.{◌≡◌, ◌++◌, ℕ, ℤ, ◌+◌, [], ◌∷◌, length, Option, None, Some, is_some, refl, ◌∙◌}
-use Rattle.kabi_values.specs.declared.errnos.Errno.{Errno}
+use Rattle.kabi_types.specs.declared.errnos.Errno.{Errno}
 use Rattle.kabi_types.specs.declared.scripts.Script.{Script}
 use Rattle.open_moves.proofs.Leaving.{new_named, nodes_behind, pair_named, same_named, same_opened}
 use Rattle.pipe_calls.proofs.Staying.{Stay, on_opened}

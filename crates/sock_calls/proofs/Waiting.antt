@@ -1,6 +1,6 @@
 -- A call that would block leaves the objects as they were.
 use Rattle.std.proofs.Common.{◌≡◌, ℕ, subst, sym}
-use Rattle.kabi_calls.specs.declared.calls.Call.{Call}
+use Rattle.kabi_types.specs.declared.calls.Call.{Call}
 use Rattle.kabi_types.specs.declared.scripts.Script.{Script}
 use Rattle.kheap_slabs.specs.Heap.{Heap}
 use Rattle.posix_defs.specs.Answer.{Answer, Blocked}

@@ -1,8 +1,8 @@
 -- What an `accept` is told.
 use Rattle.std.specs.Prelude.{ℕ, pos, Option, None, Some, Result, Ok, Err}
-use Rattle.kabi_values.specs.declared.errnos.Errno.{Errno}
-use Rattle.kabi_values.specs.declared.replies.Reply.{Reply}
-use Rattle.kabi_values.specs.declared.replies.Reply.TheVariants.{Fail, Val}
+use Rattle.kabi_types.specs.declared.errnos.Errno.{Errno}
+use Rattle.kabi_types.specs.declared.replies.Reply.{Reply}
+use Rattle.kabi_types.specs.declared.replies.Reply.TheVariants.{Fail, Val}
 
 -- the number of the socket that was taken, or why there is none; nothing yet where it has to wait
 abbrev pub told_as : Result (Option ℕ) Errno → Option Reply

@@ -2,7 +2,7 @@
 
 ghost use Rattle.std.specs.Prelude.{◌⊎◌, ℕ};
 ghost use Rattle.kabi_types.specs.declared.scripts.Script.{Script};
-ghost use Rattle.kheap_shelves.specs.Objects.{InUse};
+ghost use Rattle.kheap_slabs.specs.Objects.{InUse};
 ghost use Rattle.sock_calls.specs.Holding.{IsOpenIn, WaitsIn};
 ghost use Rattle.store_objects.specs.Objects.{AreKept};
 ghost use Rattle.store_objects.specs.declared.objects.Objects.{Objects};

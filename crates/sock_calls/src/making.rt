@@ -1,7 +1,7 @@
 //! `socket` and `socketpair`.
 
 ghost use Rattle.std.specs.Prelude.{◌<◌, ◌≤◌};
-ghost use Rattle.kabi_calls.specs.declared.calls.Call.{Call};
+ghost use Rattle.kabi_types.specs.declared.calls.Call.{Call};
 ghost use Rattle.kheap_slabs.specs.Paid.{CanPay, IsPaid};
 ghost use Rattle.posix_defs.specs.Calls.OnSockets.{socket, socketpair};
 ghost use Rattle.posix_defs.specs.World.{World};
@@ -9,7 +9,7 @@ ghost use Rattle.store_objects.specs.Objects.{AreKept, Runs};
 ghost use Rattle.store_objects.specs.Standing.{Performs, StandsFor};
 
 use kabi_types::{Control, Script};
-use kheap_shelves::Purse;
+use kheap_slabs::Purse;
 use pipe_calls::{pair, value};
 use posix_defs::Turned;
 use proc_socks::{make_pair, make_socket};

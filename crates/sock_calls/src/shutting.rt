@@ -1,7 +1,7 @@
 //! `listen` and `shutdown`.
 
 ghost use Rattle.std.specs.Prelude.{◌≡◌};
-ghost use Rattle.kabi_calls.specs.declared.calls.Call.{Call};
+ghost use Rattle.kabi_types.specs.declared.calls.Call.{Call};
 ghost use Rattle.kheap_slabs.specs.Paid.{TakesNothing};
 ghost use Rattle.posix_defs.specs.Calls.OnSockets.{listen, shutdown};
 ghost use Rattle.proc_pipes.specs.Answering.{zero_of};

@@ -2,12 +2,12 @@
 use Rattle.std.proofs.Common.{◌≡◌, ℕ, ◌+◌, ◌-◌, ◌/◌, ◌≤◌, ◌==◌, Bool, true, false, cond, List, [], count_by, Option, Some, refl, ap, sym, subst, ◌∙◌, arith, None, w64, Contains, ℤ}
 use Rattle.std.specs.Int.{cast_unsigned}
 use Rattle.std.specs.Option.{option_map}
-use Rattle.kabi_calls.specs.Arguments.{count_of, moved_fault}
-use Rattle.kheap_shelves.specs.Objects.{object, put}
-use Rattle.kheap_shelves.specs.Purse.{Purse}
-use Rattle.kheap_shelves.specs.declared.objects.Proc.{Proc}
-use Rattle.kheap_shelves.specs.declared.objects.Sock.{Sock}
-use Rattle.kheap_shelves.specs.declared.objects.SockState.TheVariants as state
+use Rattle.kabi_types.specs.Arguments.{count_of, moved_fault}
+use Rattle.kheap_slabs.specs.Objects.{object, put}
+use Rattle.kheap_slabs.specs.Purse.{Purse}
+use Rattle.kheap_slabs.specs.declared.objects.Proc.{Proc}
+use Rattle.kheap_slabs.specs.declared.objects.Sock.{Sock}
+use Rattle.kheap_slabs.specs.declared.objects.SockState.TheVariants as state
 use Rattle.kheap_slabs.specs.Heap.{Heap}
 use Rattle.kheap_slabs.specs.Owners.{OwnsItsObjects}
 use Rattle.open_laws.specs.Owned.{HasItsOwners, socks_named}

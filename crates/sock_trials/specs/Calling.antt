@@ -1,7 +1,7 @@
 -- The first process, whose calls may be made.
 use Rattle.std.specs.Prelude.{ℕ, ◌≡◌, IsSome, List, [], Option, None, Some}
-use Rattle.kheap_shelves.specs.Objects.{object}
-use Rattle.kheap_shelves.specs.declared.objects.Proc.{Proc}
+use Rattle.kheap_slabs.specs.Objects.{object}
+use Rattle.kheap_slabs.specs.declared.objects.Proc.{Proc}
 use Rattle.kheap_slabs.specs.Heap.{Heap}
 use Rattle.open_laws.specs.Owned.{HasItsOwners}
 use Rattle.page_space.specs.Contents.{IsOwnedWith}

@@ -5,8 +5,7 @@ ghost use Rattle.kheap_slabs.specs.Paid.{CanPay};
 ghost use Rattle.sock_trials.specs.Calling.{CanCall, HasSpaceAt};
 
 use kabi_types::{Memory, Need};
-use kheap_shelves::Purse;
-use kheap_slabs::KHeap;
+use kheap_slabs::{KHeap, Purse};
 use page_space::Space;
 use proc_table::ProcTable;
 use std::alloc::Global;

@@ -4,8 +4,7 @@ ghost use Rattle.sock_trials.specs.Calling.{CanCall};
 
 use crate::memory::{has, purse, store};
 use kabi_types::{Call, Errno, PollEntry, PollList, Reply};
-use kheap_shelves::SockState;
-use kheap_slabs::KHeap;
+use kheap_slabs::{KHeap, SockState};
 use posix_defs::Turned;
 use proc_pipes::{close_number, control, dup_one, make_pipe};
 use proc_queues::{CAPACITY, poll};

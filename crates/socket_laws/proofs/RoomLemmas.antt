@@ -1,7 +1,7 @@
 -- No call moves more bytes than a queue holds, so the others of a longer one don't matter.
 use Rattle.std.proofs.Common.{◌≡◌, ℕ, zero, suc, ◌<◌, ◌≤◌, ◌==◌, Bool, true, false, List, [], ◌∷◌, ◌++◌, length, min, take, Option, None, Some, if◌then◌else◌, inl, inr, refl, sym, ap, ◌∙◌, arith}
 use Rattle.std.proofs.lemmas.Bool.{cases_lt, lt-leb}
-use Rattle.kabi_values.specs.declared.errnos.Errno.TheVariants as errno
+use Rattle.kabi_types.specs.declared.errnos.Errno.TheVariants as errno
 use Rattle.posix_defs.specs.Pipe.{Pipe, Moves, Fails, capacity, free_in, pipe_read, pipe_write, after_write}
 use Rattle.posix_defs.specs.Socket.{Stage, Idle, Listening, Connected, peer_of, is_shut_read}
 use Rattle.posix_defs.specs.Sockets.{Sockets, socket_at, stage_at, free_at, sent_to, write_within, write_to, write_in_stage, sock_write, read_in_stage, sock_read, after_write as after_sock_write}

@@ -4,7 +4,7 @@ use Rattle.std.proofs.lemmas.Bool.{leb-true, leb-false}
 use Rattle.std.proofs.lemmas.List.{length-take}
 use Rattle.std.proofs.lemmas.List.Elements.{Contains-append_right}
 use Rattle.std.specs.Prelude.{if◌then◌else◌, nat_le, ◌==◌}
-use Rattle.kabi_values.specs.declared.errnos.Errno.TheVariants as errno
+use Rattle.kabi_types.specs.declared.errnos.Errno.TheVariants as errno
 use Rattle.posix_defs.specs.Pipe.{Moves, Fails, capacity, not_now}
 use Rattle.posix_defs.specs.Socket.{Stage, Idle, Listening, Connected, Socket, new_socket, connected_to, peer_of, waiting_of, is_connected, is_shut_read, listening, behind_first, without_first, without_peer, shuts_reading, shuts_writing, shut_further, after_shutdown}
 use Rattle.posix_defs.specs.Sockets.{Sockets, sock_at, socket_at, stage_at, with_socket, with_stage, with_bytes, with_name, with_new, with_pair, after_listen, is_refused, after_connect, after_accept, after_read, sock_write, write_in_stage, write_to, write_within, free_at, sent_to, after_write, after_shut, left_alone, gone, all_gone, after_close, backlog}

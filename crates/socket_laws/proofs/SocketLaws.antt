@@ -3,7 +3,7 @@ use Rattle.std.proofs.Common.{◌≡◌, ◌≢◌, inl, inr, ℕ, ℤ, ◌<◌,
 use Rattle.std.proofs.lemmas.Bool.{le-leb, lt-leb}
 use Rattle.std.proofs.lemmas.List.{take_all}
 use Rattle.std.specs.Prelude.{nat_lt, min, ◌||◌}
-use Rattle.kabi_values.specs.declared.errnos.Errno.TheVariants as errno
+use Rattle.kabi_types.specs.declared.errnos.Errno.TheVariants as errno
 use Rattle.posix_defs.specs.Pipe.{Moves, Fails}
 use Rattle.socket_laws.specs.QueueRuns.{QueueStep, Puts, Takes, left_after, put_in, taken_out}
 use Rattle.posix_defs.specs.Socket.{Stage, Idle, Listening, Connected, Socket, connected_to, peer_of, waiting_of, is_connected, is_shut_read, is_shut_write, without_first, without_peer, shuts_reading, shuts_writing, shut_further, after_shutdown, accept, Takes as Accepts}

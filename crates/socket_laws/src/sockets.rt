@@ -8,7 +8,7 @@ ghost use Rattle.posix_defs.specs.Pipe.{Moves, Blocks, Fails};
 ghost use Rattle.socket_laws.specs.QueueRuns.{QueueStep, put_in, taken_out};
 ghost use Rattle.socket_laws.specs.SocketRuns.{after_steps};
 ghost use Rattle.socket_laws.specs.WorkedSockets.{two_connected, one_shut, one_listens, one_waits, one_accepted, hi_written, client_closed, hi_read, with_clients, left_client};
-ghost use Rattle.kabi_values.specs.declared.errnos.Errno.TheVariants.{EINVAL, EAGAIN, EMFILE, EPIPE, EISCONN, ENOTCONN, EDESTADDRREQ, EOPNOTSUPP};
+ghost use Rattle.kabi_types.specs.declared.errnos.Errno.TheVariants.{EINVAL, EAGAIN, EMFILE, EPIPE, EISCONN, ENOTCONN, EDESTADDRREQ, EOPNOTSUPP};
 ghost use Rattle.posix_defs.specs.SocketLinks.{AreLinked, AreHeld, WaitsNowhere, NoneTwice};
 
 /// A socket that is made at the next free place stands behind all others, and a change at a place leaves the places of all.

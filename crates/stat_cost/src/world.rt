@@ -1,14 +1,13 @@
 //! A tree of files in a heap, with a path of directories.
 ghost use Rattle.std.specs.Prelude.{◌≡◌, ◌≤◌, ◌<◌, ◌^◌, None, IsTrue, IfOk, IfSome};
 ghost use Rattle.std.specs.List.{All};
-ghost use Rattle.kabi_calls.specs.Arguments.{path_fault};
+ghost use Rattle.kabi_types.specs.Arguments.{path_fault};
 ghost use Rattle.memfs_ops.specs.FileTree.{MayWalk};
 ghost use Rattle.stat_cost.specs.Standing.{StandsForSome};
 
 use crate::words::Plan;
 use kabi_types::{Call, Memory, Need, Path};
-use kheap_shelves::Purse;
-use kheap_slabs::KHeap;
+use kheap_slabs::{KHeap, Purse};
 use memfs_ops::FileTree;
 use std::alloc::Global;
 

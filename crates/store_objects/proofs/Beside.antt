@@ -1,9 +1,9 @@
 -- Objects whose caches have become others, with their part of the heap, and all else of which is the same.
 use Rattle.std.proofs.Common.{◌≡◌, ℕ, true, List, Option, refl}
 use Rattle.kabi_types.specs.declared.scripts.Script.{Script}
-use Rattle.kheap_shelves.specs.declared.objects.Block.{Block}
-use Rattle.kheap_shelves.specs.declared.objects.Name.{Name}
-use Rattle.kheap_shelves.specs.declared.objects.Vnode.{Vnode}
+use Rattle.kheap_slabs.specs.declared.objects.Block.{Block}
+use Rattle.kheap_slabs.specs.declared.objects.Name.{Name}
+use Rattle.kheap_slabs.specs.declared.objects.Vnode.{Vnode}
 use Rattle.kheap_slabs.specs.Heap.{Heap}
 use Rattle.kheap_slabs.specs.Owners.{AreOwnersOf, IsOwned, Owners}
 use Rattle.open_laws.proofs.GoingLemmas.{held_open_on}

@@ -1,7 +1,7 @@
 -- The account of a store has nothing of who has ended.
 use Rattle.std.proofs.Common.{◌≡◌, ℕ, suc, ◌+◌, ◌<◌, not, Bool, true, false, cond, List, [], ◌∷◌, length, get_or, Option, None, Some, is_some, refl, ap, sym, ◌∙◌, arith}
 use Rattle.kabi_types.specs.declared.scripts.Script.{Script}
-use Rattle.kheap_shelves.specs.declared.objects.Proc.{Proc}
+use Rattle.kheap_slabs.specs.declared.objects.Proc.{Proc}
 use Rattle.kheap_slabs.specs.Spaces.{keys_in}
 use Rattle.posix_defs.specs.Account.{forget_dead}
 use Rattle.posix_defs.specs.Memory.{Frames, Places, kept_from, no_places, places_of}

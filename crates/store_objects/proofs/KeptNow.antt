@@ -11,11 +11,11 @@ use Rattle.std.proofs.lemmas.List.Elements.{All-get_or}
 use Rattle.std.proofs.lemmas.Map.Entries.{length-keys_of}
 use Rattle.std.proofs.lemmas.Option.{slice_get_within}
 use Rattle.std.proofs.lemmas.Slice.Eq.{bytes_eq-Decides}
-use Rattle.kabi_calls.specs.PathParts.{is_dots}
-use Rattle.kheap_shelves.specs.Objects.{count}
-use Rattle.kheap_shelves.specs.declared.objects.Block.{Block}
-use Rattle.kheap_shelves.specs.declared.objects.Name.{Name}
-use Rattle.kheap_shelves.specs.declared.objects.Vnode.{Vnode}
+use Rattle.kabi_types.specs.PathParts.{is_dots}
+use Rattle.kheap_slabs.specs.Objects.{count}
+use Rattle.kheap_slabs.specs.declared.objects.Block.{Block}
+use Rattle.kheap_slabs.specs.declared.objects.Name.{Name}
+use Rattle.kheap_slabs.specs.declared.objects.Vnode.{Vnode}
 use Rattle.kheap_slabs.specs.Heap.{Heap}
 use Rattle.lru_index.specs.Keys.{same_name}
 use Rattle.lru_index.specs.declared.keys.NameKey.{NameKey}

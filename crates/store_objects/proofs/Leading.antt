@@ -1,7 +1,7 @@
 -- The worlds that an answer of a call leads to.
 use Rattle.std.proofs.Common.{◌≡◌, ℕ, List, Option, map, refl, ap, sym, ◌∙◌}
-use Rattle.kabi_calls.specs.declared.calls.Call.{Call}
-use Rattle.kabi_values.specs.declared.replies.Reply.{Reply}
+use Rattle.kabi_types.specs.declared.calls.Call.{Call}
+use Rattle.kabi_types.specs.declared.replies.Reply.{Reply}
 use Rattle.kabi_types.specs.declared.scripts.Script.{Script}
 use Rattle.posix_defs.specs.Account.{Account, account_on, forget_dead, fronts_after, pipe_lengths, socket_lengths, unread_in_pipe, unread_in_socket}
 use Rattle.posix_defs.specs.Answer.{Blocked, Ended, replied}

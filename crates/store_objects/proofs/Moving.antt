@@ -5,7 +5,7 @@ use Rattle.std.specs.Option.{option_map}
 use Rattle.kabi_types.specs.declared.scripts.Control.{Control}
 use Rattle.kabi_types.specs.declared.scripts.Script.{Script}
 use Rattle.kern_laws.proofs.Remembering.{moves_on}
-use Rattle.kheap_shelves.specs.declared.objects.Proc.{Proc}
+use Rattle.kheap_slabs.specs.declared.objects.Proc.{Proc}
 use Rattle.kheap_slabs.specs.Heap.{Heap}
 use Rattle.memfs_ops.specs.Closing.{one_less}
 use Rattle.memfs_ops.specs.FileTree.{Stands, one_more}

@@ -6,8 +6,8 @@ use Rattle.std.specs.Map.{keys_of, lookup, remove_entry}
 use Rattle.std.specs.Option.{option_map}
 use Rattle.std.proofs.lemmas.Bool.{cases_eq}
 use Rattle.std.proofs.lemmas.List.Sums.{sum_by-cons}
-use Rattle.kheap_shelves.specs.Objects.{InUse, count, object, without}
-use Rattle.kheap_shelves.proofs.ObjectLemmas.{count-without, object-without_other}
+use Rattle.kheap_slabs.specs.Objects.{InUse, count, object, without}
+use Rattle.kheap_slabs.proofs.ObjectLemmas.{count-without, object-without_other}
 use Rattle.lru_index.specs.Order.{Order}
 use Rattle.lru_index.proofs.Pairs.{length_removed}
 use Rattle.cache_laws.specs.Caches.{Keeps, key_at}

@@ -5,9 +5,9 @@ use Rattle.std.specs.List.{Contains, cons_option}
 use Rattle.std.proofs.lemmas.Bool.Decides.{eqb_tells}
 use Rattle.std.proofs.lemmas.List.{get_or-set_same}
 use Rattle.std.proofs.lemmas.List.Sums.{sum_by-cons, sum_by-set}
-use Rattle.kheap_shelves.specs.Objects.{InUse, object, without}
-use Rattle.kheap_shelves.proofs.ObjectLemmas.{InUse-within}
-use Rattle.kheap_shelves.specs.declared.objects.Proc.{Proc}
+use Rattle.kheap_slabs.specs.Objects.{InUse, object, without}
+use Rattle.kheap_slabs.proofs.ObjectLemmas.{InUse-within}
+use Rattle.kheap_slabs.specs.declared.objects.Proc.{Proc}
 use Rattle.kheap_slabs.specs.Heap.{Heap}
 use Rattle.kheap_slabs.specs.Keys.{AreKeysOf, Splits}
 use Rattle.kheap_slabs.specs.Owners.{AreOwnersOf, IsOwned, Owners, OwnsItsObjects, SameOwners, pipe_queues, sock_queues, spaces_of}

@@ -5,8 +5,8 @@ use Rattle.std.specs.List.{range_with_len, sum}
 use Rattle.std.proofs.lemmas.Bool.{cases_eq}
 use Rattle.std.proofs.lemmas.List.{get_or-set_other, get_or-set_same}
 use Rattle.std.proofs.lemmas.List.Sums.{sum_by-cons}
-use Rattle.kheap_shelves.specs.Objects.{InUse, object}
-use Rattle.kheap_shelves.proofs.ObjectLemmas.{InUse-within}
+use Rattle.kheap_slabs.specs.Objects.{InUse, object}
+use Rattle.kheap_slabs.proofs.ObjectLemmas.{InUse-within}
 use Rattle.place_laws.specs.Placed.{ArePlaced}
 
 module _ {Y : Type 0} (g : ℕ → Option Y → ℕ) where

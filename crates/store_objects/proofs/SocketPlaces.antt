@@ -1,8 +1,8 @@
 -- The sockets of the heap have the places of the machine's, with as many bytes.
 use Rattle.std.proofs.Common.{◌≡◌, ℕ, length, Option, None, Some, is_some, refl, ap, sym, ◌∙◌, subst}
-use Rattle.kheap_shelves.specs.Objects.{InUse, object}
-use Rattle.kheap_shelves.proofs.ObjectLemmas.{object_of}
-use Rattle.kheap_shelves.specs.declared.objects.Sock.{Sock}
+use Rattle.kheap_slabs.specs.Objects.{InUse, object}
+use Rattle.kheap_slabs.proofs.ObjectLemmas.{object_of}
+use Rattle.kheap_slabs.specs.declared.objects.Sock.{Sock}
 use Rattle.kheap_slabs.specs.Heap.{Heap}
 use Rattle.open_laws.specs.Socketed.{AreSocketed, socket_by}
 use Rattle.place_laws.specs.Placed.{ArePlaced, Numbers}

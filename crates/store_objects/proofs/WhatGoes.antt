@@ -10,8 +10,8 @@ use Rattle.std.proofs.lemmas.List.Sums.{sum_by-cons}
 use Rattle.kabi_types.specs.declared.entries.Cached.{Cached}
 use Rattle.kabi_types.specs.declared.entries.Cached.TheVariants.{Name, Block, Vnode}
 use Rattle.kabi_types.specs.declared.scripts.Script.{Script}
-use Rattle.kheap_shelves.specs.Objects.{object}
-use Rattle.kheap_shelves.specs.declared.objects.Vnode.{Vnode as HeldVnode}
+use Rattle.kheap_slabs.specs.Objects.{object}
+use Rattle.kheap_slabs.specs.declared.objects.Vnode.{Vnode as HeldVnode}
 use Rattle.kheap_slabs.specs.Heap.{Heap}
 use Rattle.lru_index.specs.Order.{Order}
 use Rattle.vnode_cache.specs.Nodes.{AreHeld, Nodes, is_loose, loose_count, node_is_loose}

@@ -1,7 +1,7 @@
 -- The processes where one is gone.
 use Rattle.std.proofs.Common.{◌≡◌, ◌≢◌, ℕ, ◌==◌, not, false, cond, List, [], ◌∷◌, filter, None, Some, refl, ap, sym, ◌∙◌, inl, inr}
 use Rattle.std.proofs.lemmas.Bool.Decides.{eqb_tells}
-use Rattle.kheap_shelves.specs.declared.objects.Proc.{Proc}
+use Rattle.kheap_slabs.specs.declared.objects.Proc.{Proc}
 use Rattle.proc_table.specs.Changes.{is_other}
 use Rattle.proc_table.specs.Procs.{proc_of}
 

@@ -3,7 +3,7 @@ use Rattle.std.specs.Prelude.{ℕ, ◌≡◌, ◌==◌, ◌<◌, Bool, false, no
 use Rattle.std.specs.List.{AllByRecursion}
 use Rattle.kabi_types.specs.declared.scripts.Control.{Control}
 use Rattle.kabi_types.specs.declared.scripts.Script.{Script}
-use Rattle.kheap_shelves.specs.declared.objects.Proc.{Proc}
+use Rattle.kheap_slabs.specs.declared.objects.Proc.{Proc}
 use Rattle.kheap_slabs.specs.Keys.{AreKeysOf}
 use Rattle.kheap_slabs.specs.Owners.{Owners}
 use Rattle.open_laws.specs.Owned.{HasItsOwners}

@@ -1,7 +1,7 @@
 -- What a purse has, by what its call moves bytes of.
 use Rattle.std.specs.Prelude.{[]}
-use Rattle.kabi_values.specs.declared.classes.Need.{Need}
-use Rattle.kheap_shelves.specs.Purse.{Purse}
+use Rattle.kabi_types.specs.declared.classes.Need.{Need}
+use Rattle.kheap_slabs.specs.Purse.{Purse}
 use Rattle.posix_defs.specs.Sizes.{no_need}
 use Rattle.store_objects.specs.declared.purses.Target.{Target}
 use Rattle.store_objects.specs.declared.purses.Target.TheVariants.{File, Queue}

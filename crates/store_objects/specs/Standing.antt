@@ -1,9 +1,9 @@
 -- Which worlds the objects of a store stand for, family by family, and what a turn of a call does to them.
 use Rattle.std.specs.Prelude.{ℕ, ◌≡◌, true, None, Some}
-use Rattle.kabi_calls.specs.declared.calls.Call.{Call}
-use Rattle.kabi_values.specs.declared.replies.Reply.{Reply}
+use Rattle.kabi_types.specs.declared.calls.Call.{Call}
+use Rattle.kabi_types.specs.declared.replies.Reply.{Reply}
 use Rattle.kabi_types.specs.declared.scripts.Script.{Script}
-use Rattle.kheap_shelves.specs.declared.objects.Proc.{Proc}
+use Rattle.kheap_slabs.specs.declared.objects.Proc.{Proc}
 use Rattle.memfs_ops.specs.FileTree.{Stands, one_more}
 use Rattle.posix_defs.specs.Account.{account_on, with_frames}
 use Rattle.posix_defs.specs.Answer.{Answer}

@@ -1,7 +1,7 @@
 -- Where the processes of a heap work, and who holds the directories that these are.
 use Rattle.std.specs.Prelude.{ℕ, ◌≡◌, ◌==◌, true, if◌then◌else◌, List, [], ◌∷◌, is_none}
 use Rattle.std.specs.List.{AllByRecursion}
-use Rattle.kheap_shelves.specs.declared.objects.Proc.{Proc}
+use Rattle.kheap_slabs.specs.declared.objects.Proc.{Proc}
 use Rattle.memfs_ops.specs.Closing.{one_less}
 use Rattle.memfs_ops.specs.FileTree.{one_more}
 use Rattle.posix_defs.specs.Plain.{root}

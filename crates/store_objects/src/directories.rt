@@ -1,7 +1,7 @@
 //! Who works in a directory holds it.
 
 ghost use Rattle.std.specs.Prelude.{◌≡◌, ◌≢◌, ◌<◌, ℕ, IsSome, Some};
-ghost use Rattle.kheap_shelves.specs.declared.objects.Proc.{Proc};
+ghost use Rattle.kheap_slabs.specs.declared.objects.Proc.{Proc};
 ghost use Rattle.kheap_slabs.specs.Paid.{TakesNothing};
 ghost use Rattle.kabi_types.specs.declared.scripts.Control.{Control};
 ghost use Rattle.kabi_types.specs.declared.scripts.Script.{Script};

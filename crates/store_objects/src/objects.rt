@@ -9,8 +9,7 @@ ghost use Rattle.store_objects.specs.Objects.{IsCaller, MovesOn, WorksElsewhere,
 
 use bound_table::BoundTable;
 use kabi_types::Control;
-use kheap_shelves::Proc;
-use kheap_slabs::KHeap;
+use kheap_slabs::{KHeap, Proc};
 use memfs_ops::FileTree;
 use proc_table::ProcTable;
 

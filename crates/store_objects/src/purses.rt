@@ -1,14 +1,14 @@
 //! The purse of a turn.
 
 ghost use Rattle.std.specs.Prelude.{◌≡◌, ◌≤◌};
-ghost use Rattle.kabi_calls.specs.declared.calls.Call.{Call};
-ghost use Rattle.kheap_shelves.specs.Purse.{left_bytes};
+ghost use Rattle.kabi_types.specs.declared.calls.Call.{Call};
+ghost use Rattle.kheap_slabs.specs.Purse.{left_bytes};
 ghost use Rattle.posix_defs.specs.Needs.{bound, need_of};
 ghost use Rattle.posix_defs.specs.Sizes.{reserve};
 ghost use Rattle.store_objects.specs.Purses.{closing_need, need_for, unspent};
 
 use kabi_types::Need;
-use kheap_shelves::Purse;
+use kheap_slabs::Purse;
 
 /// What a call moves bytes of.
 #[derive(Clone, Copy)]

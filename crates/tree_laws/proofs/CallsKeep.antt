@@ -4,9 +4,9 @@ use Rattle.std.specs.Option.{option_map}
 use Rattle.std.specs.List.{All}
 use Rattle.std.proofs.lemmas.Bool.{cases_Bool, cond-true, cond-false, and_right, or_left, or_right, and_cases, not-false, eqb-true, eqb-false, both_ways, not_from_true}
 use Rattle.std.proofs.lemmas.List.{nil_from_length, set-get_or}
-use Rattle.kabi_calls.specs.Arguments.{path_fault}
-use Rattle.kabi_values.specs.declared.errnos.Errno.{Errno}
-use Rattle.kabi_values.specs.declared.errnos.Errno.TheVariants as errnos
+use Rattle.kabi_types.specs.Arguments.{path_fault}
+use Rattle.kabi_types.specs.declared.errnos.Errno.{Errno}
+use Rattle.kabi_types.specs.declared.errnos.Errno.TheVariants as errnos
 use Rattle.posix_defs.specs.declared.walked.Walked.{Walked}
 use Rattle.posix_defs.specs.declared.walked.Walked.TheVariants as walked
 use Rattle.posix_defs.specs.DiskFormat.{blocks_of}

@@ -4,7 +4,7 @@ use Rattle.std.specs.List.{sum_by, Contains}
 use Rattle.std.proofs.lemmas.Bool.{cases_eq, cases_lt, eqb-true, ne_eqb}
 use Rattle.std.proofs.lemmas.List.Sums.{sum_by-cons}
 use Rattle.std.proofs.lemmas.List.Elements.{Contains-get_or}
-use Rattle.kabi_values.specs.declared.inodes.DirEntry.{DirEntry}
+use Rattle.kabi_types.specs.declared.inodes.DirEntry.{DirEntry}
 use Rattle.posix_defs.specs.Tree.{Tree, root, node_at, is_directory, links_at, entries_in, entries_at, parent_at, climbed}
 use Rattle.posix_defs.specs.TreeChanges.{no_entry}
 use Rattle.posix_defs.specs.IsTree.{IsTree, names_node, named_in, names_of, unnamed_links}

@@ -2,7 +2,7 @@
 use Rattle.std.proofs.Common.{◌≡◌, ◌≢◌, ℕ, Bool, true, false, inl, inr, List, [], eqb, Option, Some, None, Ok, sym, ap, subst, ◌∙◌}
 use Rattle.std.proofs.lemmas.Bool.{cases_eq, cond-true, cond-false, false≢true, eq-eqb, ne_eqb}
 use Rattle.std.proofs.lemmas.Option.{same_Some, none-some}
-use Rattle.kabi_values.specs.declared.inodes.DirEntry.{DirEntry}
+use Rattle.kabi_types.specs.declared.inodes.DirEntry.{DirEntry}
 use Rattle.posix_defs.specs.Tree.{Content, Tree, node_at, with_node, is_directory, is_directory_in, entries_in, entries_at, found, found_among}
 use Rattle.posix_defs.specs.TreeChanges.{entry_put, entry_taken, entry_aimed, entry_renamed, with_entries, with_new, make, unlink, hung_if_directory, rename_over, rename_to}
 use Rattle.posix_defs.specs.IsTree.{IsEntryName, IsNewContent, IsTree}

@@ -6,7 +6,7 @@ use Rattle.std.proofs.lemmas.Bool.{cases_Bool, cases_lt, cond-false}
 use Rattle.std.proofs.lemmas.List.{get_or_default, length-set, get_or-set_other}
 use Rattle.std.proofs.lemmas.List.Folds.{find-append, position_or_len-set}
 use Rattle.std.proofs.lemmas.Slice.Eq.{bytes_eq-Decides}
-use Rattle.kabi_values.specs.declared.inodes.DirEntry.{DirEntry}
+use Rattle.kabi_types.specs.declared.inodes.DirEntry.{DirEntry}
 use Rattle.posix_defs.specs.DiskContents.{entry_for}
 use Rattle.posix_defs.specs.Tree.{has_name, found_among}
 use Rattle.posix_defs.specs.TreeChanges.{place_of, no_entry, entry_put, entry_taken, entry_aimed, entry_renamed}

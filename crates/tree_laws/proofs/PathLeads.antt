@@ -7,15 +7,15 @@ use Rattle.std.proofs.lemmas.Option.{none-some, same_Some}
 use Rattle.std.proofs.lemmas.List.{get_or_past}
 use Rattle.std.proofs.lemmas.Slice.Eq.{bytes_eq-Decides}
 use Rattle.std.proofs.lemmas.List.Elements.{All-cons, All-head, All-tail}
-use Rattle.kabi_values.specs.declared.errnos.Errno.{Errno}
-use Rattle.kabi_values.specs.declared.errnos.Errno.TheVariants.{ENOENT, ENAMETOOLONG, ENOTDIR}
+use Rattle.kabi_types.specs.declared.errnos.Errno.{Errno}
+use Rattle.kabi_types.specs.declared.errnos.Errno.TheVariants.{ENOENT, ENAMETOOLONG, ENOTDIR}
 use Rattle.posix_defs.specs.declared.walked.Walked.{Walked}
 use Rattle.posix_defs.specs.declared.walked.Walked.TheVariants as walked
 use Rattle.posix_defs.specs.DiskContents.{own_name, parent_name}
 use Rattle.posix_defs.specs.Tree.{Tree, root, is_directory, parent_at, found}
 use Rattle.posix_defs.specs.IsTree.{IsEntryName, IsTree}
-use Rattle.kabi_calls.specs.PathParts.{is_slash, has_bytes, components, is_long}
-use Rattle.kabi_calls.specs.Arguments.{path_fault}
+use Rattle.kabi_types.specs.PathParts.{is_slash, has_bytes, components, is_long}
+use Rattle.kabi_types.specs.Arguments.{path_fault}
 use Rattle.posix_defs.specs.Paths.{begins_at, is_absolute, on_from, step, name_leads, last_leads, go_on, leads, ends_in_slash, resolve, IsLed, last_name}
 use Rattle.tree_laws.proofs.TreeFacts.{step_to_directory}
 

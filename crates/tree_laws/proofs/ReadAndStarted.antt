@@ -6,8 +6,8 @@ use Rattle.std.specs.List.{All, position_from, starts_with}
 use Rattle.std.specs.Option.{option_map, ok_or}
 use Rattle.std.specs.Prelude.{Result}
 use Rattle.std.proofs.lemmas.List.{take-take}
-use Rattle.kabi_values.specs.declared.errnos.Errno.{Errno}
-use Rattle.kabi_values.specs.declared.errnos.Errno.TheVariants.{ENOEXEC}
+use Rattle.kabi_types.specs.declared.errnos.Errno.{Errno}
+use Rattle.kabi_types.specs.declared.errnos.Errno.TheVariants.{ENOEXEC}
 use Rattle.kabi_types.specs.declared.scripts.Program.{Program}
 use Rattle.posix_defs.specs.FileBytes.{overwritten, fitting}
 use Rattle.posix_defs.specs.Tree.{File, Node, Tree, node_at, with_node}

@@ -1,8 +1,8 @@
 -- Trees for worked calls, written out node by node, on disks of 16 blocks: 14 are for files.
 use Rattle.std.specs.Prelude.{ℕ, ◌-◌, Bool, true, false, List, [], ◌∷◌, ◌++◌, map, length, replicate, Option, None, Some, Result, codes}
 use Rattle.std.specs.List.{range_with_len}
-use Rattle.kabi_values.specs.declared.errnos.Errno.{Errno}
-use Rattle.kabi_values.specs.declared.inodes.DirEntry.{DirEntry}
+use Rattle.kabi_types.specs.declared.errnos.Errno.{Errno}
+use Rattle.kabi_types.specs.declared.inodes.DirEntry.{DirEntry}
 use Rattle.posix_defs.specs.DiskContents.{entry_for}
 use Rattle.posix_defs.specs.Tree.{File, Directory, SocketName, Node, Tree}
 use Rattle.posix_defs.specs.PathCalls.{Opening, rename_path, link_path, unlink_path, rmdir_path}

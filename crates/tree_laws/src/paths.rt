@@ -6,7 +6,7 @@ ghost use Rattle.posix_defs.specs.DiskContents.{own_name, parent_name};
 ghost use Rattle.posix_defs.specs.Tree.{Tree, climbed, is_directory, parent_at, root};
 ghost use Rattle.posix_defs.specs.TreeChanges.{IsAtOrAbove, is_at_or_above};
 ghost use Rattle.posix_defs.specs.IsTree.{IsEntryName, IsTree};
-ghost use Rattle.kabi_calls.specs.Arguments.{path_fault};
+ghost use Rattle.kabi_types.specs.Arguments.{path_fault};
 ghost use Rattle.posix_defs.specs.Paths.{IsLed, last_name, resolve, step};
 
 /// Where a path leads is there. Its faults are ENOENT and ENOTDIR alone.

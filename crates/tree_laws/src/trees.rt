@@ -2,7 +2,7 @@
 
 ghost use Rattle.std.specs.Prelude.{◌≡◌, ◌≢◌, ℕ, ◌+◌, ◌^◌, ◌<◌, ◌≤◌, Bool, true, false, List, [], None, Some, Ok, Err, length, max, slice_index, take, drop};
 ghost use Rattle.std.specs.List.{All};
-ghost use Rattle.kabi_values.specs.declared.errnos.Errno.TheVariants.{EFBIG, ENOSPC};
+ghost use Rattle.kabi_types.specs.declared.errnos.Errno.TheVariants.{EFBIG, ENOSPC};
 ghost use Rattle.posix_defs.specs.DiskFormat.{greatest_size};
 ghost use Rattle.posix_defs.specs.FileBytes.{overwritten, resized};
 ghost use Rattle.posix_defs.specs.Tree.{Content, File, Tree, entries_at, found, is_directory, is_in_use, new_tree, node_at};

@@ -2,15 +2,15 @@
 //! nothing.
 
 ghost use Rattle.std.specs.Prelude.{◌≡◌, ℕ, ◌+◌, true, false, List, [], ◌∷◌, None, Some, Ok, Err, is_ok, map, replicate, codes};
-ghost use Rattle.kabi_values.specs.declared.errnos.Errno.TheVariants.{EACCES, EBUSY, EEXIST, EFBIG, EINVAL, EISDIR, ENAMETOOLONG, ENOENT, ENOEXEC, ENOSPC, ENOTDIR, ENOTEMPTY};
-ghost use Rattle.kabi_values.specs.declared.replies.NodeKind.TheVariants as kinds;
+ghost use Rattle.kabi_types.specs.declared.errnos.Errno.TheVariants.{EACCES, EBUSY, EEXIST, EFBIG, EINVAL, EISDIR, ENAMETOOLONG, ENOENT, ENOEXEC, ENOSPC, ENOTDIR, ENOTEMPTY};
+ghost use Rattle.kabi_types.specs.declared.replies.NodeKind.TheVariants as kinds;
 ghost use Rattle.posix_defs.specs.declared.walked.Walked.TheVariants.{Node, Named, Free, Fail};
 ghost use Rattle.posix_defs.specs.DiskFormat.{blocks_of};
 ghost use Rattle.posix_defs.specs.DiskContents.{entry_for};
 ghost use Rattle.posix_defs.specs.FileBytes.{capacity, fitting, overwritten, resized};
 ghost use Rattle.posix_defs.specs.Tree.{File, entries_at, free_blocks, free_node, links_at, new_tree, parent_at};
 ghost use Rattle.posix_defs.specs.TreeChanges.{closed, is_at_or_above, make, rename_over, rename_to, resize, unlink, write};
-ghost use Rattle.kabi_calls.specs.Arguments.{path_fault};
+ghost use Rattle.kabi_types.specs.Arguments.{path_fault};
 ghost use Rattle.posix_defs.specs.Paths.{resolve};
 ghost use Rattle.posix_defs.specs.PathCalls.{exec_path, link_path, list_node, mkdir_path, open_path, read_node, rename_path, rmdir_path, stat_path, unlink_path};
 ghost use Rattle.tree_laws.specs.WorkedTrees.{one_file, four_files, three_directories, with_a, with_b, with_f, with_g, with_script, two_programs, nowhere, to_write};

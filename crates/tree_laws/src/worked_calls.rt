@@ -2,7 +2,7 @@
 //! nothing.
 
 ghost use Rattle.std.specs.Prelude.{◌≡◌, true, List, [], ◌∷◌, None, Some, Ok, Err, is_ok, map, codes};
-ghost use Rattle.kabi_values.specs.declared.errnos.Errno.TheVariants.{EACCES, EADDRINUSE, EBUSY, EEXIST, EINVAL, EISDIR, EMLINK, ENOENT, ENOEXEC, ENOSPC, ENOTDIR, ENOTEMPTY, EOPNOTSUPP, EPERM};
+ghost use Rattle.kabi_types.specs.declared.errnos.Errno.TheVariants.{EACCES, EADDRINUSE, EBUSY, EEXIST, EINVAL, EISDIR, EMLINK, ENOENT, ENOEXEC, ENOSPC, ENOTDIR, ENOTEMPTY, EOPNOTSUPP, EPERM};
 ghost use Rattle.posix_defs.specs.DiskContents.{entry_for};
 ghost use Rattle.posix_defs.specs.Tree.{free_blocks};
 ghost use Rattle.posix_defs.specs.PathCalls.{bind_path, enter_path, exec_path, find_socket, link_path, mkdir_path, open_path, rename_path, rmdir_path, unlink_path};

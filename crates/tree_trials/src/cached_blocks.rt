@@ -1,6 +1,6 @@
 //! A disk of 16 blocks behind a cache, by hand: what is read, how often, and the bytes of the heap.
 ghost use Rattle.std.specs.Prelude.{◌≡◌, ◌<◌, [], IfOk, length};
-ghost use Rattle.kheap_shelves.specs.Purse.{left_bytes};
+ghost use Rattle.kheap_slabs.specs.Purse.{left_bytes};
 ghost use Rattle.memfs_file.specs.FileChange.{IsInUse};
 ghost use Rattle.posix_defs.specs.SoundDisk.{Sound};
 ghost use Rattle.cached_disk.specs.Lent.{AreLent};
@@ -9,8 +9,7 @@ use block_cache::BlockCache;
 use cached_disk::{CachedBlocks, inode_through, read_through};
 use disk_layout::RamDisk;
 use kabi_types::{Inode, Memory, Need};
-use kheap_shelves::Purse;
-use kheap_slabs::KHeap;
+use kheap_slabs::{KHeap, Purse};
 use posix_defs::Blocks;
 use std::alloc::Global;
 use std::process::Abort;

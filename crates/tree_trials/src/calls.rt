@@ -1,7 +1,7 @@
 //! The calls of a tree of files, each with a purse of its own.
 ghost use Rattle.std.specs.Prelude.{◌≡◌, ℕ, ◌<◌, ◌^◌, ◌%◌, false, None, IsTrue, IfOk};
 ghost use Rattle.std.specs.List.{All};
-ghost use Rattle.kabi_calls.specs.Arguments.{path_fault};
+ghost use Rattle.kabi_types.specs.Arguments.{path_fault};
 ghost use Rattle.posix_defs.specs.PathCalls.{is_socket_kind, stat_info};
 ghost use Rattle.posix_defs.specs.Tree.{Tree};
 ghost use Rattle.memfs_ops.specs.FileTree.{Stands};

@@ -1,11 +1,11 @@
 //! A street of directories on a disk of 16 blocks, walked through three caches by hand: where each path leads, how often the
 //! disk was read then, what each cache has, and the bytes of the heap.
 ghost use Rattle.std.specs.Prelude.{◌≡◌, ◌≢◌, ◌≤◌, ◌*◌, [], None, true, IfOk, IsTrue, length};
-ghost use Rattle.kabi_calls.specs.Arguments.{path_fault};
+ghost use Rattle.kabi_types.specs.Arguments.{path_fault};
 ghost use Rattle.posix_defs.specs.DiskTree.{StandsFor};
 ghost use Rattle.posix_defs.specs.SoundDisk.{HasNode};
 ghost use Rattle.posix_defs.specs.Tree.{Tree, found, is_directory};
-ghost use Rattle.kheap_shelves.specs.Purse.{left_bytes};
+ghost use Rattle.kheap_slabs.specs.Purse.{left_bytes};
 ghost use Rattle.memfs_node.specs.NodeOnDisk.{HasTree};
 ghost use Rattle.cached_disk.specs.TreeLent.{LentForSome};
 
@@ -13,8 +13,7 @@ use block_cache::BlockCache;
 use cached_disk::{node_named, walk_through};
 use disk_layout::RamDisk;
 use kabi_types::{Call, Inode, Memory, Name27, Need, Path};
-use kheap_shelves::Purse;
-use kheap_slabs::KHeap;
+use kheap_slabs::{KHeap, Purse};
 use lru_index::NameKey;
 use memfs_node::{NewNode, inode_at, make_named};
 use name_cache::NameCache;

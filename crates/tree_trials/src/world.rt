@@ -7,8 +7,7 @@ ghost use Rattle.posix_defs.specs.Tree.{Tree};
 ghost use Rattle.tree_trials.specs.Trials.{StandsHeld, holders, times};
 
 use kabi_types::{Cached, Memory, Need};
-use kheap_shelves::Purse;
-use kheap_slabs::KHeap;
+use kheap_slabs::{KHeap, Purse};
 use memfs_ops::FileTree;
 use std::alloc::Global;
 use std::process::Abort;

@@ -1,15 +1,15 @@
 -- What the sockets of a heap stand for after each call.
 use Rattle.std.proofs.Common.{◌≡◌, inl, inr, ℕ, zero, suc, ℤ, ◌≤◌, Bool, true, false, List, [], ◌∷◌, ◌++◌, take, drop, length, Option, None, Some, is_some, IsSome, refl, sym, ap, subst, ◌∙◌, arith}
 use Rattle.std.specs.Prelude.{◌||◌, if◌then◌else◌}
-use Rattle.kheap_shelves.specs.Objects.{object}
-use Rattle.kheap_shelves.specs.declared.objects.Sock.{Sock}
-use Rattle.kheap_shelves.specs.declared.objects.SockState.TheVariants as state
+use Rattle.kheap_slabs.specs.Objects.{object}
+use Rattle.kheap_slabs.specs.declared.objects.Sock.{Sock}
+use Rattle.kheap_slabs.specs.declared.objects.SockState.TheVariants as state
 use Rattle.kheap_slabs.specs.Heap.{Heap}
 use Rattle.kheap_slabs.specs.Owners.{OwnsItsObjects}
 use Rattle.std.proofs.lemmas.Bool.{cases_eq}
 use Rattle.std.proofs.lemmas.List.{append-nil}
-use Rattle.kheap_shelves.proofs.ObjectLemmas.{object_of}
-use Rattle.kabi_values.specs.declared.errnos.Errno.TheVariants as errno
+use Rattle.kheap_slabs.proofs.ObjectLemmas.{object_of}
+use Rattle.kabi_types.specs.declared.errnos.Errno.TheVariants as errno
 use Rattle.posix_defs.specs.Pipe.{Fails}
 use Rattle.posix_defs.specs.QueuePlace.{QueuePlace, after_take}
 use Rattle.posix_defs.specs.Socket.{Stage, Idle, Listening, Connected, Socket, new_socket, peer_of, waiting_of, listen_fault, listening, behind_first, without_first, shuts_reading, shuts_writing, shut_further, after_shutdown}

@@ -5,13 +5,13 @@ use Rattle.std.proofs.lemmas.Iterator.Adapters.{position_from-zero}
 use Rattle.std.specs.List.{position, position_from}
 use Rattle.std.specs.Prelude.{MatchOption, MatchBool, Result, Ok, Err, IsOk, slice_set}
 use Rattle.std.proofs.Common.{Fits, w64, ◌*◌}
-use Rattle.kabi_values.specs.declared.errnos.Errno.{Errno}
-use Rattle.kabi_values.specs.declared.errnos.Errno.TheVariants as errno
-use Rattle.kheap_shelves.specs.Objects.{object, InUse}
-use Rattle.kheap_shelves.specs.declared.objects.Sock.{Sock}
-use Rattle.kheap_shelves.specs.declared.objects.SockState.TheVariants as state
+use Rattle.kabi_types.specs.declared.errnos.Errno.{Errno}
+use Rattle.kabi_types.specs.declared.errnos.Errno.TheVariants as errno
+use Rattle.kheap_slabs.specs.Objects.{object, InUse}
+use Rattle.kheap_slabs.specs.declared.objects.Sock.{Sock}
+use Rattle.kheap_slabs.specs.declared.objects.SockState.TheVariants as state
 use Rattle.kheap_slabs.specs.Heap.{Heap}
-use Rattle.kheap_shelves.proofs.ObjectLemmas.{object_of}
+use Rattle.kheap_slabs.proofs.ObjectLemmas.{object_of}
 use Rattle.posix_defs.specs.Socket.{Stage, Idle, Listening, Connected, new_socket, connected_to, peer_of, waiting_of, connect_fault}
 use Rattle.posix_defs.specs.Sockets.{Sockets, socket_at, stage_at, with_socket, with_stage, with_pair, is_refused, after_connect, backlog}
 use Rattle.socket_laws.proofs.SocketTable.{sock_at-with, sock_at-with_other, length-with_there, there_within, Changed-with}

@@ -1,10 +1,10 @@
 -- The sockets of a heap are those that descriptions name and those that wait, before and after each call.
 use Rattle.std.proofs.Common.{inl, inr, ◌≡◌, ◌≢◌, ℕ, zero, suc, get_or, ℤ, ◌<◌, ◌≤◌, List, [], ◌∷◌, length, Option, None, Some, IsSome, refl, sym, ap, ◌∙◌, arith, Contains}
-use Rattle.kheap_shelves.specs.Objects.{object}
-use Rattle.kheap_shelves.specs.declared.objects.Sock.{Sock}
-use Rattle.kheap_shelves.specs.declared.objects.SockState.TheVariants as state
+use Rattle.kheap_slabs.specs.Objects.{object}
+use Rattle.kheap_slabs.specs.declared.objects.Sock.{Sock}
+use Rattle.kheap_slabs.specs.declared.objects.SockState.TheVariants as state
 use Rattle.kheap_slabs.specs.Heap.{Heap}
-use Rattle.kheap_shelves.proofs.ObjectLemmas.{object_of}
+use Rattle.kheap_slabs.proofs.ObjectLemmas.{object_of}
 use Rattle.posix_defs.specs.Socket.{Listening, new_socket, connected_to, waiting_of}
 use Rattle.posix_defs.specs.Sockets.{Sockets, sock_at, stage_at, with_socket, with_name, with_new, with_pair, after_listen, after_connect, after_accept, after_read, after_write, after_shut, after_close}
 use Rattle.posix_defs.specs.SocketLinks.{AreHeld}

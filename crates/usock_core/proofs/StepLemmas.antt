@@ -1,12 +1,12 @@
 -- What each step leaves.
 use Rattle.std.proofs.Common.{◌≡◌, ◌≢◌, ℕ, ◌<◌, List, drop, length, None, Some, refl, sym, ap, ◌∙◌, arith}
-use Rattle.kheap_shelves.specs.Objects.{object, put, without}
-use Rattle.kheap_shelves.specs.declared.objects.Sock.{Sock}
-use Rattle.kheap_shelves.specs.declared.objects.QueueParts.{QueueParts}
+use Rattle.kheap_slabs.specs.Objects.{object, put, without}
+use Rattle.kheap_slabs.specs.declared.objects.Sock.{Sock}
+use Rattle.kheap_slabs.specs.declared.objects.QueueParts.{QueueParts}
 use Rattle.kheap_slabs.specs.Heap.{Heap}
 use Rattle.kheap_slabs.specs.Owners.{OwnsItsObjects}
 use Rattle.kheap_slabs.specs.Queues.{empty_queue}
-use Rattle.kheap_shelves.proofs.ObjectLemmas.{InUse-within, put-within, length-put, length-without, object-put_other, object-without_other}
+use Rattle.kheap_slabs.proofs.ObjectLemmas.{InUse-within, put-within, length-put, length-without, object-put_other, object-without_other}
 use Rattle.kheap_laws.proofs.TableLemmas.{OwnsItsObjects-sock_comes}
 use Rattle.posix_defs.specs.QueuePlace.{QueuePlace, after_take, at_front}
 use Rattle.posix_defs.specs.Sockets.{socket_at}

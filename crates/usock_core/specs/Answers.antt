@@ -1,7 +1,7 @@
 -- What the calls answer, as the plain machine says it.
 use Rattle.std.specs.Prelude.{◌≡◌, ℕ, Bool, true, false, List, ◌∷◌, Option, None, Some, Result, Err, IsOk}
-use Rattle.kabi_values.specs.declared.errnos.Errno.{Errno}
-use Rattle.kheap_shelves.specs.Objects.{object, InUse}
+use Rattle.kabi_types.specs.declared.errnos.Errno.{Errno}
+use Rattle.kheap_slabs.specs.Objects.{object, InUse}
 use Rattle.kheap_slabs.specs.Heap.{Heap}
 use Rattle.posix_defs.specs.Socket.{Accepting, Takes, Waits, Refuses}
 use Rattle.posix_defs.specs.Sockets.{Sockets, after_connect, after_accept}

@@ -9,8 +9,7 @@ ghost use Rattle.usock_core.specs.Standing.{IsHeldIn, StandsFor, IsSocketIn, Que
 use crate::Accepted;
 use crate::steps::replace;
 use kabi_types::Errno;
-use kheap_shelves::{Sock, SockState};
-use kheap_slabs::KHeap;
+use kheap_slabs::{KHeap, Sock, SockState};
 
 /// Takes the socket that waited first for a listening one (POSIX accept). `room` says that a descriptor is free for it.
 ///

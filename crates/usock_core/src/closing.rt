@@ -1,5 +1,5 @@
 ghost use Rattle.std.specs.Prelude.{ℕ, List, ◌∷◌, ◌≡◌, ◌||◌, None, Some, MatchResult};
-ghost use Rattle.kheap_shelves.specs.declared.objects.SockState.TheVariants as state;
+ghost use Rattle.kheap_slabs.specs.declared.objects.SockState.TheVariants as state;
 ghost use Rattle.std.specs.List.{Contains};
 ghost use Rattle.kheap_slabs.specs.Owners.{OwnsItsObjects};
 ghost use Rattle.kheap_slabs.specs.Paid.{TakesNothing};
@@ -12,8 +12,7 @@ ghost use Rattle.usock_core.specs.Standing.{IsHeldIn, StandsFor, IsSocketIn, IsC
 
 use crate::steps::{drop_bytes, remove, replace};
 use kabi_types::Errno;
-use kheap_shelves::{Sock, SockState};
-use kheap_slabs::KHeap;
+use kheap_slabs::{KHeap, Sock, SockState};
 
 const SHUT_RD: i64 = 0;
 

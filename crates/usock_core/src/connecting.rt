@@ -1,8 +1,8 @@
 ghost use Rattle.std.specs.Prelude.{ℕ, List, ◌≡◌, ◌-◌, ◌<◌, Err, is_none, position, MatchOption, MatchResult, MatchBool, IsOk, OnOk};
 ghost use Rattle.std.specs.Option.{ForSome};
-ghost use Rattle.kabi_values.specs.declared.classes.Class.TheVariants as class;
-ghost use Rattle.kabi_values.specs.declared.errnos.Errno.TheVariants as errno;
-ghost use Rattle.kheap_shelves.specs.Counts.{with_count};
+ghost use Rattle.kabi_types.specs.declared.classes.Class.TheVariants as class;
+ghost use Rattle.kabi_types.specs.declared.errnos.Errno.TheVariants as errno;
+ghost use Rattle.kheap_slabs.specs.Counts.{with_count};
 ghost use Rattle.kheap_slabs.specs.Owners.{OwnsItsObjects};
 ghost use Rattle.kheap_slabs.specs.Paid.{CanPay, IsPaid};
 ghost use Rattle.posix_defs.specs.Socket.{connect_fault};
@@ -13,8 +13,7 @@ ghost use Rattle.usock_core.specs.Standing.{IsHeldIn, StandsFor, IsSocketIn, IsI
 use crate::making::connected_to;
 use crate::steps::{add, replace};
 use kabi_types::Errno;
-use kheap_shelves::{Purse, Sock, SockState};
-use kheap_slabs::KHeap;
+use kheap_slabs::{KHeap, Purse, Sock, SockState};
 
 /// Whether a socket can be connected: EISCONN where it is, EOPNOTSUPP where it listens (POSIX connect).
 pub fn can_connect(heap: &KHeap, key: u32) -> Result<(), Errno>

@@ -2,9 +2,9 @@
 
 ghost use Rattle.std.specs.Prelude.{◌≡◌, ℕ, List, Some, []};
 ghost use Rattle.std.specs.List.{Contains};
-ghost use Rattle.kheap_shelves.specs.Objects.{object};
-ghost use Rattle.kheap_shelves.specs.declared.objects.Sock.{Sock};
-ghost use Rattle.kheap_shelves.specs.declared.objects.SockState.TheVariants as state;
+ghost use Rattle.kheap_slabs.specs.Objects.{object};
+ghost use Rattle.kheap_slabs.specs.declared.objects.Sock.{Sock};
+ghost use Rattle.kheap_slabs.specs.declared.objects.SockState.TheVariants as state;
 ghost use Rattle.kheap_slabs.specs.Heap.{Heap, empty_heap};
 ghost use Rattle.posix_defs.specs.Sockets.{Sockets};
 ghost use Rattle.chunk_queue.specs.Held.{SockKeepsBytes};

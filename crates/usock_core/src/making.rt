@@ -1,7 +1,7 @@
 ghost use Rattle.std.specs.Prelude.{List, ◌∷◌, ◌≡◌, ◌≢◌, ℕ, ◌-◌, ◌<◌, None};
-ghost use Rattle.kabi_values.specs.declared.classes.Class.TheVariants as class;
-ghost use Rattle.kheap_shelves.specs.Counts.{with_count};
-ghost use Rattle.kheap_shelves.specs.Objects.{object, InUse};
+ghost use Rattle.kabi_types.specs.declared.classes.Class.TheVariants as class;
+ghost use Rattle.kheap_slabs.specs.Counts.{with_count};
+ghost use Rattle.kheap_slabs.specs.Objects.{object, InUse};
 ghost use Rattle.kheap_slabs.specs.Owners.{OwnsItsObjects};
 ghost use Rattle.kheap_slabs.specs.Paid.{CanPay, IsPaid};
 ghost use Rattle.kheap_slabs.specs.Queues.{empty_queue};
@@ -10,8 +10,7 @@ ghost use Rattle.posix_defs.specs.Sockets.{Sockets, with_new, with_pair};
 ghost use Rattle.usock_core.specs.Standing.{IsHeldIn, IsShape, StandsFor, QueuesStay, LeavesOthers};
 
 use crate::steps::{add, replace};
-use kheap_shelves::{Purse, QueueParts, Sock, SockState};
-use kheap_slabs::KHeap;
+use kheap_slabs::{KHeap, Purse, QueueParts, Sock, SockState};
 
 /// A socket that is neither listening nor connected, without bytes.
 const NEW: Sock = Sock {

@@ -8,8 +8,7 @@ ghost use Rattle.usock_core.specs.Standing.{IsHeldIn, StandsFor, IsSocketIn, Que
 
 use crate::steps::replace;
 use kabi_types::Errno;
-use kheap_shelves::{Sock, SockState};
-use kheap_slabs::KHeap;
+use kheap_slabs::{KHeap, Sock, SockState};
 
 /// Whether a socket can be bound to a name: EINVAL where it is bound already, EISCONN where it is connected (POSIX bind).
 pub fn can_bind(heap: &KHeap, key: u32) -> Result<(), Errno>

@@ -4,8 +4,7 @@ ghost use Rattle.posix_defs.specs.Sockets.{Sockets, socket_at, sock_polled as pl
 ghost use Rattle.usock_core.specs.Standing.{IsShape, StandsFor, IsSocketIn};
 
 use chunk_queue::{POLLHUP, POLLIN, POLLOUT, event_if, room_in};
-use kheap_shelves::{Sock, SockState};
-use kheap_slabs::KHeap;
+use kheap_slabs::{KHeap, Sock, SockState};
 
 /// What `poll` tells of a socket that is asked for these events (POSIX poll).
 ///

@@ -1,6 +1,6 @@
 ghost use Rattle.std.specs.Prelude.{ℕ, List, ◌≡◌, ◌<◌, ◌++◌, length, take, drop};
 ghost use Rattle.std.specs.Option.{ForSome};
-ghost use Rattle.kheap_shelves.specs.Objects.{InUse};
+ghost use Rattle.kheap_slabs.specs.Objects.{InUse};
 ghost use Rattle.kheap_slabs.specs.Owners.{OwnsItsObjects};
 ghost use Rattle.kheap_slabs.specs.Paid.{TakesNothing};
 ghost use Rattle.posix_defs.specs.QueuePlace.{after_take};
@@ -11,8 +11,7 @@ ghost use Rattle.usock_core.specs.Standing.{IsHeldIn, IsTable, StandsFor, IsSock
 use crate::steps::take_out;
 use chunk_queue::Moved;
 use kabi_types::Errno;
-use kheap_shelves::SockState;
-use kheap_slabs::KHeap;
+use kheap_slabs::{KHeap, SockState};
 
 /// Reads bytes from a socket, as many as are there and fit. None are the end: it was shut for reading, or its peer has
 /// closed or was shut for writing (POSIX read).

@@ -1,8 +1,8 @@
 //! The steps that the calls are made of: a socket comes, goes, or is another one from now on.
 ghost use Rattle.std.specs.Prelude.{◌≡◌, ◌+◌, ◌-◌, ◌/◌, ◌<◌, ◌≤◌, ◌++◌, None, Some, [], length, drop, min};
-ghost use Rattle.kabi_values.specs.declared.classes.Class.TheVariants as class;
-ghost use Rattle.kheap_shelves.specs.Counts.{with_count};
-ghost use Rattle.kheap_shelves.specs.Objects.{object};
+ghost use Rattle.kabi_types.specs.declared.classes.Class.TheVariants as class;
+ghost use Rattle.kheap_slabs.specs.Counts.{with_count};
+ghost use Rattle.kheap_slabs.specs.Objects.{object};
 ghost use Rattle.kheap_slabs.specs.Owners.{OwnsItsObjects};
 ghost use Rattle.kheap_slabs.specs.Paid.{CanPay, IsPaid, TakesNothing};
 ghost use Rattle.kheap_slabs.specs.Queues.{empty_queue};
@@ -12,8 +12,7 @@ ghost use Rattle.usock_core.specs.Steps.{KeepsQueue, Becomes, Comes, Goes, Turns
 
 use chunk_queue::Queue;
 use kabi_types::Class;
-use kheap_shelves::{Purse, Sock};
-use kheap_slabs::KHeap;
+use kheap_slabs::{KHeap, Purse, Sock};
 
 /// Puts a socket without bytes into the heap. Its key.
 pub(crate) fn add(heap: &mut KHeap, purse: &mut Purse, sock: Sock) -> u32

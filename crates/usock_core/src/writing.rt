@@ -1,5 +1,5 @@
 ghost use Rattle.std.specs.Prelude.{List, ◌≡◌, ℕ, ◌+◌, ◌/◌, ◌<◌, ◌≤◌, ◌++◌, Some, length, min, take};
-ghost use Rattle.kheap_shelves.specs.Objects.{object, InUse};
+ghost use Rattle.kheap_slabs.specs.Objects.{object, InUse};
 ghost use Rattle.kheap_slabs.specs.Owners.{OwnsItsObjects};
 ghost use Rattle.kheap_slabs.specs.Paid.{CanPay, IsPaid};
 ghost use Rattle.posix_defs.specs.Pipe.{capacity};
@@ -14,8 +14,7 @@ ghost use Rattle.usock_core.specs.Steps.{Sends};
 use crate::steps::put_in;
 use chunk_queue::{Moved, fitting, room_in};
 use kabi_types::Errno;
-use kheap_shelves::{Purse, Sock, SockState};
-use kheap_slabs::KHeap;
+use kheap_slabs::{KHeap, Purse, Sock, SockState};
 
 /// Writes bytes to the peer of a socket, as many as it has room for (POSIX write).
 ///

@@ -3,7 +3,7 @@ use Rattle.std.proofs.Common.{◌≡◌, ◌≢◌, ◌==◌, ◌&&◌, ◌∙�
 use Rattle.std.specs.List.{All}
 use Rattle.std.proofs.lemmas.List.Elements.{All-push, All-weaker, All-contains, Contains-push, Contains-append_left}
 use Rattle.std.proofs.lemmas.Bool.{true≢false, false≢true, cond_both, ltb-true, ltb-false, eqb-true, eqb-false, and_parts, and_cases, cases_eq}
-use Rattle.kabi_values.specs.declared.classes.Weight.{Weight}
+use Rattle.kabi_types.specs.declared.classes.Weight.{Weight}
 use Rattle.kabi_types.specs.declared.scripts.Policy.{Policy}
 use Rattle.posix_defs.specs.Victim.{score_of}
 use Rattle.victim_core.specs.declared.best.Best.{Best}

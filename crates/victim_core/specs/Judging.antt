@@ -1,7 +1,7 @@
 -- The victim among the weights that were looked at so far.
 use Rattle.std.specs.Prelude.{◌≡◌, ◌==◌, ◌&&◌, nat_lt, if◌then◌else◌, List, Option, None, Some}
 use Rattle.std.specs.List.{All}
-use Rattle.kabi_values.specs.declared.classes.Weight.{Weight}
+use Rattle.kabi_types.specs.declared.classes.Weight.{Weight}
 use Rattle.kabi_types.specs.declared.scripts.Policy.{Policy}
 use Rattle.posix_defs.specs.Victim.{score_of}
 use Rattle.victim_core.specs.declared.best.Best.{Best}

@@ -2,7 +2,7 @@
 use Rattle.std.specs.Prelude.{◌≡◌, ℕ}
 use Rattle.std.specs.Coded.{×_prop, Π_prop, Coded-set, coded_ℕ}
 use mathlib.Core.HProp.{IsProp-prop}
-use Rattle.kabi_values.specs.declared.classes.Weight.{Weight}
+use Rattle.kabi_types.specs.declared.classes.Weight.{Weight}
 use Rattle.kabi_types.specs.declared.scripts.Policy.{Policy}
 use Rattle.posix_defs.specs.Victim.{score_of}
 use Rattle.victim_core.specs.Victims.{IsInRange}

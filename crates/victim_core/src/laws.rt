@@ -1,7 +1,7 @@
 //! Laws of victims. Each is the contract of a function that does nothing.
 
 ghost use Rattle.std.specs.Prelude.{◌≡◌, ◌≢◌, ◌==◌, ℕ, ◌<◌, List, filter, not, length, slice_index, Some};
-ghost use Rattle.kabi_values.specs.declared.classes.Weight.{Weight};
+ghost use Rattle.kabi_types.specs.declared.classes.Weight.{Weight};
 ghost use Rattle.kabi_types.specs.declared.scripts.Policy.{Policy};
 ghost use Rattle.posix_defs.specs.Victim.{pid_of_greatest};
 ghost use Rattle.victim_core.specs.Victims.{IsVictim, RisesByPid};

@@ -1,10 +1,10 @@
 -- What a call filled is there still after a cached Vnode became another.
 use Rattle.std.proofs.Common.{◌≡◌, ℕ, Option, Some, None, IsSome, nat_eq, eqb-true, refl, sym, ap, subst}
 use Rattle.std.specs.Cmp.{nat_eq_equiv}
-use Rattle.kheap_shelves.specs.Objects.{InUse, put}
-use Rattle.kheap_shelves.specs.Purse.{Purse}
-use Rattle.kheap_shelves.specs.declared.objects.Vnode.{Vnode}
-use Rattle.kheap_shelves.proofs.ObjectLemmas.{InUse-put, object_of}
+use Rattle.kheap_slabs.specs.Objects.{InUse, put}
+use Rattle.kheap_slabs.specs.Purse.{Purse}
+use Rattle.kheap_slabs.specs.declared.objects.Vnode.{Vnode}
+use Rattle.kheap_slabs.proofs.ObjectLemmas.{InUse-put, object_of}
 use Rattle.kheap_slabs.specs.Heap.{Heap}
 use Rattle.kheap_slabs.specs.Paid.{AreFills}
 use Rattle.kheap_laws.proofs.FillLemmas.{AreFills-kept}

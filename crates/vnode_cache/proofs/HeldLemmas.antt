@@ -2,9 +2,9 @@
 use Rattle.std.proofs.Common.{◌≡◌, ◌≢◌, ℕ, ◌+◌, ◌-◌, ◌<◌, ◌≤◌, List, ◌∷◌, [], length, Option, Some, None, IsSome, true, refl, sym, ap, ◌∙◌, subst, inl, inr, arith, le_refl, le_trans, eqb-true}
 use Rattle.std.specs.Prelude.{nat_eq}
 use Rattle.std.proofs.lemmas.Bool.{cases_eq}
-use Rattle.kheap_shelves.specs.Objects.{object, put, without}
-use Rattle.kheap_shelves.specs.declared.objects.Vnode.{Vnode}
-use Rattle.kheap_shelves.proofs.ObjectLemmas.{InUse-within, object-put, object-put_other, object-without_other}
+use Rattle.kheap_slabs.specs.Objects.{object, put, without}
+use Rattle.kheap_slabs.specs.declared.objects.Vnode.{Vnode}
+use Rattle.kheap_slabs.proofs.ObjectLemmas.{InUse-within, object-put, object-put_other, object-without_other}
 use Rattle.vnode_cache.specs.Calls.{AreSteps, taken_off, last_of}
 use Rattle.vnode_cache.specs.Nodes.{is_loose, IsLoose, StaysHeld, StaysBut}
 

@@ -4,9 +4,9 @@ use Rattle.std.specs.Prelude.{nat_eq, remove, slice_index_or, sum_by, slice_set}
 use Rattle.std.proofs.lemmas.Bool.{cases_eq, ne_eqb}
 use Rattle.std.proofs.lemmas.List.Sums.{sum_by-cons, sum_by-set}
 use Rattle.std.proofs.lemmas.List.Folds.{sum_by-replicate}
-use Rattle.kheap_shelves.specs.Objects.{object, count, put, without}
-use Rattle.kheap_shelves.specs.declared.objects.Vnode.{Vnode}
-use Rattle.kheap_shelves.proofs.ObjectLemmas.{InUse-within, object-without_other}
+use Rattle.kheap_slabs.specs.Objects.{object, count, put, without}
+use Rattle.kheap_slabs.specs.declared.objects.Vnode.{Vnode}
+use Rattle.kheap_slabs.proofs.ObjectLemmas.{InUse-within, object-without_other}
 use Rattle.kheap_slabs.specs.Keys.{IsOnce}
 use Rattle.kheap_laws.proofs.OnceLemmas.{IsOnce-head}
 use Rattle.vnode_cache.specs.Nodes.{is_loose, IsLoose, AreLoose, loose_count}

@@ -5,12 +5,12 @@ use Rattle.std.specs.Map.{keys_of, lookup}
 use Rattle.std.specs.Option.{option_map, option_map_or, option_and_then}
 use Rattle.std.specs.Cmp.{nat_eq_equiv}
 use Rattle.std.proofs.lemmas.Map.Keys.{IsDistinct-head, IsDistinct-tail}
-use Rattle.kheap_shelves.specs.Objects.{object}
-use Rattle.kheap_shelves.specs.declared.objects.Vnode.{Vnode}
+use Rattle.kheap_slabs.specs.Objects.{object}
+use Rattle.kheap_slabs.specs.declared.objects.Vnode.{Vnode}
 use Rattle.lru_index.specs.Order.{Order, first_key, warmer, coldest_of}
 use Rattle.cache_laws.specs.Caches.{slot_of, Keeps}
 use Rattle.vnode_cache.specs.Nodes.{Nodes, is_loose, IsLoose, node_slot, node_is_loose, cached_pins, KeepsNodes, AreHeld, IsColdestLoose, loose_count}
-use Rattle.kheap_shelves.proofs.ObjectLemmas.{object_of}
+use Rattle.kheap_slabs.proofs.ObjectLemmas.{object_of}
 use Rattle.cache_laws.proofs.KeepsLemmas.{keeps_used, cached_is}
 use Rattle.vnode_cache.proofs.LooseLemmas.{loose_none}
 

@@ -2,12 +2,12 @@
 use Rattle.std.proofs.Common.{◌≡◌, ◌≢◌, ℕ, zero, suc, ◌+◌, ◌-◌, ◌<◌, ◌≤◌, List, [], replicate, Option, Some, None, IsSome, nat_eq, refl, sym, ap, ◌∙◌, subst, inl, inr, arith}
 use Rattle.std.specs.Option.{option_map, option_and_then}
 use Rattle.std.proofs.lemmas.Bool.{cases_eq}
-use Rattle.kabi_values.specs.declared.classes.Class.TheVariants as class
-use Rattle.kabi_values.specs.declared.inodes.Inode.{Inode}
-use Rattle.kheap_shelves.specs.Objects.{object, count, put}
-use Rattle.kheap_shelves.specs.Purse.{Purse}
-use Rattle.kheap_shelves.specs.declared.objects.Vnode.{Vnode}
-use Rattle.kheap_shelves.proofs.ObjectLemmas.{object-put, object-put_other, InUse-within}
+use Rattle.kabi_types.specs.declared.classes.Class.TheVariants as class
+use Rattle.kabi_types.specs.declared.inodes.Inode.{Inode}
+use Rattle.kheap_slabs.specs.Objects.{object, count, put}
+use Rattle.kheap_slabs.specs.Purse.{Purse}
+use Rattle.kheap_slabs.specs.declared.objects.Vnode.{Vnode}
+use Rattle.kheap_slabs.proofs.ObjectLemmas.{object-put, object-put_other, InUse-within}
 use Rattle.kheap_slabs.specs.Heap.{Heap}
 use Rattle.kheap_slabs.specs.Paid.{IsPaid}
 use Rattle.cache_laws.specs.Caches.{left_kept}

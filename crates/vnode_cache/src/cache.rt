@@ -4,7 +4,7 @@
 ghost use Rattle.std.specs.Prelude.{◌≡◌, ◌↔◌, ℕ, ◌+◌, ◌-◌, ◌<◌, ◌≤◌, [], None, Some, IfOk, IsSome, IsTrue, MatchOption, cond, length, nat_eq, slice_index_or, true};
 ghost use Rattle.std.specs.Bool.{MatchBool};
 ghost use Rattle.std.specs.List.{Contains};
-ghost use Rattle.kheap_shelves.specs.Objects.{InUse, count};
+ghost use Rattle.kheap_slabs.specs.Objects.{InUse, count};
 ghost use Rattle.kheap_slabs.specs.Paid.{CanPay, IsPaid, TakesNothing};
 ghost use Rattle.lru_index.specs.Order.{touched};
 ghost use Rattle.vnode_cache.specs.Nodes.{nodes, node_slot, cached_inode, cached_pins, KeepsNodes, loose_count, node_is_loose, IsLoose, AreLoose, SomeLoose, IsFirstLoose, IsColdestLoose, StaysHeld, StaysBut};
@@ -12,8 +12,7 @@ ghost use Rattle.vnode_cache.specs.Calls.{new_vnode, HasNodeFills, MayFill, Fill
 
 use cache_laws::place_of;
 use kabi_types::{Class, Inode, Memory};
-use kheap_shelves::{Purse, Vnode};
-use kheap_slabs::KHeap;
+use kheap_slabs::{KHeap, Purse, Vnode};
 use lru_index::Index;
 use std::alloc::Global;
 use std::marker::Model;

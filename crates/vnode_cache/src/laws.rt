@@ -1,9 +1,9 @@
 //! Laws of the cache of inodes, each the contract of a function that does nothing.
 ghost use Rattle.std.specs.Prelude.{◌≡◌, ℕ, ◌+◌, ◌<◌, ◌≤◌, List, [], Option, None, Some, replicate};
-ghost use Rattle.kabi_values.specs.declared.inodes.Inode.{Inode};
-ghost use Rattle.kheap_shelves.specs.Objects.{object, count, put};
-ghost use Rattle.kheap_shelves.specs.Purse.{Purse};
-ghost use Rattle.kheap_shelves.specs.declared.objects.Vnode.{Vnode};
+ghost use Rattle.kabi_types.specs.declared.inodes.Inode.{Inode};
+ghost use Rattle.kheap_slabs.specs.Objects.{object, count, put};
+ghost use Rattle.kheap_slabs.specs.Purse.{Purse};
+ghost use Rattle.kheap_slabs.specs.declared.objects.Vnode.{Vnode};
 ghost use Rattle.kheap_slabs.specs.Heap.{Heap};
 ghost use Rattle.kheap_slabs.specs.Paid.{IsPaid};
 ghost use Rattle.vnode_cache.specs.Nodes.{Nodes, nodes, node_slot, cached_inode, KeepsNodes, TrueToTable, StaysHeld, StaysBut, AgreesElsewhere};

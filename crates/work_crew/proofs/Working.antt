@@ -1,7 +1,7 @@
 -- What each call of a kernel leaves of a pass that goes on.
 use Rattle.std.proofs.Common.{◌≡◌, ℕ, true, false, List, [], ◌∷◌, ◌++◌, Option, None, Some, refl, ap, sym, ◌∙◌, subst, append_assoc, append-nil}
 use Rattle.std.specs.Prelude.{IfSome}
-use Rattle.kabi_calls.specs.declared.calls.Call.{Call}
+use Rattle.kabi_types.specs.declared.calls.Call.{Call}
 use Rattle.kabi_types.specs.declared.entries.End.{End}
 use Rattle.kabi_types.specs.declared.scripts.Script.{Script}
 use Rattle.kern_events.specs.declared.reliefs.Relief.{Relief}

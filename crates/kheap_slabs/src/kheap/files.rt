@@ -1,15 +1,16 @@
 //! Open file descriptions and what is cached of the disk.
 
 ghost use Rattle.std.specs.Prelude.{◌≡◌, ◌+◌, ◌/◌, ◌<◌, ◌≤◌, None, Some, length};
-ghost use Rattle.kabi_values.specs.Class.{size};
-ghost use Rattle.kabi_values.specs.declared.classes.Class.TheVariants as class;
-ghost use Rattle.kheap_shelves.specs.Objects.{object, InUse, count as count_of, put, without};
+ghost use Rattle.kabi_types.specs.Class.{size};
+ghost use Rattle.kabi_types.specs.declared.classes.Class.TheVariants as class;
+ghost use Rattle.kheap_slabs.specs.Objects.{object, InUse, count as count_of, put, without};
 ghost use Rattle.kheap_slabs.specs.Heap.{live_bytes, Makes, Frees};
 ghost use Rattle.kheap_slabs.specs.Paid.{TakesNothing};
 
 use super::KHeap;
+use crate::shelf::Shelf;
+use crate::{Block, Desc, Name, Vnode};
 use kabi_types::Class;
-use kheap_shelves::{Block, Desc, Name, Shelf, Vnode};
 
 impl KHeap {
     /// Puts a Desc under a key that was free, and gives the key.

@@ -1,19 +1,19 @@
 //! Processes and their memory.
 
 ghost use Rattle.std.specs.Prelude.{◌≡◌, ◌+◌, ◌/◌, ◌<◌, ◌≤◌, None, Some, length, slice_set};
-ghost use Rattle.kabi_values.specs.Class.{size};
-ghost use Rattle.kabi_values.specs.declared.classes.Class.TheVariants as class;
-ghost use Rattle.kheap_shelves.specs.Objects.{object, InUse, put, without};
-ghost use Rattle.kheap_shelves.specs.Pages.{with_bytes};
-ghost use Rattle.kheap_shelves.specs.declared.objects.Node.{Node as NodeOf};
-ghost use Rattle.kheap_shelves.specs.declared.objects.Page.{Page as PageOf};
-ghost use Rattle.kheap_shelves.specs.declared.objects.Proc.{Proc as ProcOf};
+ghost use Rattle.kabi_types.specs.Class.{size};
+ghost use Rattle.kabi_types.specs.declared.classes.Class.TheVariants as class;
+ghost use Rattle.kheap_slabs.specs.Objects.{object, InUse, put, without};
+ghost use Rattle.kheap_slabs.specs.Pages.{with_bytes};
+ghost use Rattle.kheap_slabs.specs.declared.objects.Node.{Node as NodeOf};
+ghost use Rattle.kheap_slabs.specs.declared.objects.Page.{Page as PageOf};
+ghost use Rattle.kheap_slabs.specs.declared.objects.Proc.{Proc as ProcOf};
 ghost use Rattle.kheap_slabs.specs.Heap.{live_bytes, Makes, Frees};
 ghost use Rattle.kheap_slabs.specs.Paid.{TakesNothing};
 
 use super::KHeap;
+use crate::{Node, Page, PageEntry, Proc};
 use kabi_types::{Class, Control};
-use kheap_shelves::{Node, Page, PageEntry, Proc};
 
 impl KHeap {
     /// Puts a Proc under a key that was free, and gives the key.

@@ -1,15 +1,15 @@
 //! Pipes, sockets and their bytes.
 
 ghost use Rattle.std.specs.Prelude.{◌≡◌, ◌+◌, ◌/◌, ◌<◌, ◌≤◌, None, Some};
-ghost use Rattle.kabi_values.specs.Class.{size};
-ghost use Rattle.kabi_values.specs.declared.classes.Class.TheVariants as class;
-ghost use Rattle.kheap_shelves.specs.Objects.{object, InUse, put, without};
+ghost use Rattle.kabi_types.specs.Class.{size};
+ghost use Rattle.kabi_types.specs.declared.classes.Class.TheVariants as class;
+ghost use Rattle.kheap_slabs.specs.Objects.{object, InUse, put, without};
 ghost use Rattle.kheap_slabs.specs.Heap.{live_bytes, Makes, Frees};
 ghost use Rattle.kheap_slabs.specs.Paid.{TakesNothing};
 
 use super::KHeap;
+use crate::{Chunk, Pipe, Sock};
 use kabi_types::Class;
-use kheap_shelves::{Chunk, Pipe, Sock};
 
 impl KHeap {
     /// Puts a Pipe under a key that was free, and gives the key.

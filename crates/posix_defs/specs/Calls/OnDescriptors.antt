@@ -1,8 +1,8 @@
 -- The calls on descriptors: `close`, `dup`, `dup2` and `fcntl`.
 use Rattle.std.specs.Prelude.{ℕ, zero, suc, ◌==◌, ℤ, pos, Bool, false, if◌then◌else◌, Option, None, Some}
-use Rattle.kabi_calls.specs.Arguments.{count_of, may_be_descriptor}
-use Rattle.kabi_values.specs.declared.errnos.Errno.TheVariants.{EBADF, EINVAL, EMFILE}
-use Rattle.kabi_values.specs.declared.replies.Reply.TheVariants.{Val}
+use Rattle.kabi_types.specs.Arguments.{count_of, may_be_descriptor}
+use Rattle.kabi_types.specs.declared.errnos.Errno.TheVariants.{EBADF, EINVAL, EMFILE}
+use Rattle.kabi_types.specs.declared.replies.Reply.TheVariants.{Val}
 use Rattle.kabi_types.specs.declared.scripts.Script.{Script}
 use Rattle.posix_defs.specs.Plain.{Plain, with_files}
 use Rattle.posix_defs.specs.Answer.{Answer, failed, replied}

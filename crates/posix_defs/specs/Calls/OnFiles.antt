@@ -1,13 +1,13 @@
 -- The calls that make a description of a file, and that ask for or change its offset, its size and what it is: `open`,
 -- `lseek`, `ftruncate` and `fstat`.
 use Rattle.std.specs.Prelude.{ℕ, zero, suc, ◌%◌, ◌==◌, ◌&&◌, not, nat_lt, ℤ, pos, negsuc, ◌+ℤ◌, Bool, if◌then◌else◌, List, Option, None, Some, Result, Ok, Err}
-use Rattle.kabi_calls.specs.Arguments.{count_of}
-use Rattle.kabi_values.specs.declared.errnos.Errno.{Errno}
-use Rattle.kabi_values.specs.declared.errnos.Errno.TheVariants.{EINVAL, EMFILE, EOVERFLOW, ESPIPE}
-use Rattle.kabi_values.specs.declared.replies.NodeKind.{NodeKind}
-use Rattle.kabi_values.specs.declared.replies.NodeKind.TheVariants as kinds
-use Rattle.kabi_values.specs.declared.replies.Reply.TheVariants.{Val, Stat}
-use Rattle.kabi_values.specs.declared.replies.StatInfo.{StatInfo}
+use Rattle.kabi_types.specs.Arguments.{count_of}
+use Rattle.kabi_types.specs.declared.errnos.Errno.{Errno}
+use Rattle.kabi_types.specs.declared.errnos.Errno.TheVariants.{EINVAL, EMFILE, EOVERFLOW, ESPIPE}
+use Rattle.kabi_types.specs.declared.replies.NodeKind.{NodeKind}
+use Rattle.kabi_types.specs.declared.replies.NodeKind.TheVariants as kinds
+use Rattle.kabi_types.specs.declared.replies.Reply.TheVariants.{Val, Stat}
+use Rattle.kabi_types.specs.declared.replies.StatInfo.{StatInfo}
 use Rattle.kabi_types.specs.declared.scripts.Script.{Script}
 use Rattle.posix_defs.specs.Tree.{Tree, is_directory, size_at}
 use Rattle.posix_defs.specs.TreeChanges.{resize}

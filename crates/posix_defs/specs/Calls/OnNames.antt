@@ -1,9 +1,9 @@
 -- The calls on names of the tree: `stat`, `chdir`, `mkdir`, `rmdir`, `unlink`, `link` and `rename`.
 use Rattle.std.specs.Prelude.{ℕ, ◌==◌, ◌&&◌, ◌||◌, pos, Bool, false, List, Option, None, Some, Result, Ok, Err}
 use Rattle.std.specs.List.{list_any}
-use Rattle.kabi_values.specs.declared.errnos.Errno.{Errno}
-use Rattle.kabi_values.specs.declared.replies.Reply.TheVariants.{Val, Stat}
-use Rattle.kabi_values.specs.declared.replies.StatInfo.{StatInfo}
+use Rattle.kabi_types.specs.declared.errnos.Errno.{Errno}
+use Rattle.kabi_types.specs.declared.replies.Reply.TheVariants.{Val, Stat}
+use Rattle.kabi_types.specs.declared.replies.StatInfo.{StatInfo}
 use Rattle.kabi_types.specs.declared.scripts.Script.{Script}
 use Rattle.posix_defs.specs.Tree.{Tree}
 use Rattle.posix_defs.specs.PathCalls.{stat_path, enter_path, mkdir_path, rmdir_path, unlink_path, link_path, rename_path}

@@ -1,7 +1,7 @@
 -- `pipe`: a new pipe, with a descriptor for each end.
 use Rattle.std.specs.Prelude.{ℕ, ◌++◌, [], ◌∷◌, false, length, Option, None, Some}
-use Rattle.kabi_values.specs.declared.errnos.Errno.TheVariants.{EMFILE}
-use Rattle.kabi_values.specs.declared.replies.Reply.TheVariants.{Pair}
+use Rattle.kabi_types.specs.declared.errnos.Errno.TheVariants.{EMFILE}
+use Rattle.kabi_types.specs.declared.replies.Reply.TheVariants.{Pair}
 use Rattle.kabi_types.specs.declared.scripts.Script.{Script}
 use Rattle.posix_defs.specs.Pipe.{new_pipe}
 use Rattle.posix_defs.specs.Plain.{Plain, with_files}

@@ -1,8 +1,8 @@
 -- The calls on sockets: `socket`, `socketpair`, `bind`, `listen`, `connect`, `accept` and `shutdown`.
 use Rattle.std.specs.Prelude.{ℕ, ◌+◌, ℤ, pos, false, if◌then◌else◌, List, length, Option, None, Some, is_some, Result, Ok, Err}
-use Rattle.kabi_values.specs.declared.errnos.Errno.{Errno}
-use Rattle.kabi_values.specs.declared.errnos.Errno.TheVariants.{ECONNREFUSED, EMFILE, ENOTSOCK}
-use Rattle.kabi_values.specs.declared.replies.Reply.TheVariants.{Val, Pair}
+use Rattle.kabi_types.specs.declared.errnos.Errno.{Errno}
+use Rattle.kabi_types.specs.declared.errnos.Errno.TheVariants.{ECONNREFUSED, EMFILE, ENOTSOCK}
+use Rattle.kabi_types.specs.declared.replies.Reply.TheVariants.{Val, Pair}
 use Rattle.kabi_types.specs.declared.scripts.Script.{Script}
 use Rattle.posix_defs.specs.Socket.{Accepting, Takes, Waits, Refuses, accept as accept_in, bind_fault, connect_fault, listen_fault, shutdown_fault}
 use Rattle.posix_defs.specs.Sockets.{Sockets, socket_at, stage_at, with_name, with_new, with_pair, after_accept, after_connect, after_listen, after_shut, is_refused}

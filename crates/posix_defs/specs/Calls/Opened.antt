@@ -1,7 +1,7 @@
 -- The open description that a call names by a descriptor.
 use Rattle.std.specs.Prelude.{ℕ, ℤ, if◌then◌else◌, Option, None, Some}
 use Rattle.std.specs.Option.{option_map}
-use Rattle.kabi_values.specs.declared.errnos.Errno.TheVariants.{EBADF}
+use Rattle.kabi_types.specs.declared.errnos.Errno.TheVariants.{EBADF}
 use Rattle.kabi_types.specs.declared.scripts.Script.{Script}
 use Rattle.posix_defs.specs.Plain.{Plain, with_files}
 use Rattle.posix_defs.specs.Answer.{Answer, failed}

@@ -1,9 +1,9 @@
 -- `poll`: what several descriptors are ready for.
 use Rattle.std.specs.Prelude.{ℕ, ◌+◌, ◌==◌, ◌&&◌, not, ℤ, pos, negsuc, if◌then◌else◌, List, map, Option, None, Some}
 use Rattle.std.specs.List.{count_by}
-use Rattle.kabi_calls.specs.Arguments.{is_minus_one}
-use Rattle.kabi_values.specs.declared.replies.Reply.TheVariants.{Polled}
-use Rattle.kabi_values.specs.declared.short_lists.PollEntry.{PollEntry}
+use Rattle.kabi_types.specs.Arguments.{is_minus_one}
+use Rattle.kabi_types.specs.declared.replies.Reply.TheVariants.{Polled}
+use Rattle.kabi_types.specs.declared.short_lists.PollEntry.{PollEntry}
 use Rattle.kabi_types.specs.declared.scripts.Script.{Script}
 use Rattle.posix_defs.specs.Pipe.{is_asked, polled_to_read, polled_to_write}
 use Rattle.posix_defs.specs.Sockets.{sock_polled}

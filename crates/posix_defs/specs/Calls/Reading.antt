@@ -1,8 +1,8 @@
 -- The calls that read: `read`, `pread` and `readdir`.
 use Rattle.std.specs.Prelude.{ℕ, ◌+◌, ◌==◌, ℤ, pos, Bool, false, if◌then◌else◌, List, length, take, Some}
-use Rattle.kabi_calls.specs.Arguments.{count_of}
-use Rattle.kabi_values.specs.declared.errnos.Errno.TheVariants.{EISDIR, ENOTDIR, ESPIPE}
-use Rattle.kabi_values.specs.declared.replies.Reply.TheVariants.{Val}
+use Rattle.kabi_types.specs.Arguments.{count_of}
+use Rattle.kabi_types.specs.declared.errnos.Errno.TheVariants.{EISDIR, ENOTDIR, ESPIPE}
+use Rattle.kabi_types.specs.declared.replies.Reply.TheVariants.{Val}
 use Rattle.kabi_types.specs.declared.scripts.Script.{Script}
 use Rattle.posix_defs.specs.Pipe.{Moving, Moves, Blocks, Fails, pipe_read, after_read}
 use Rattle.posix_defs.specs.Sockets.{socket_at, sock_read, after_read as socket_after_read}

@@ -1,9 +1,9 @@
 -- The calls that write: `write` and `pwrite`.
 use Rattle.std.specs.Prelude.{ℕ, ◌+◌, ◌-◌, ◌==◌, ℤ, pos, Bool, if◌then◌else◌, List, Some, Result, Ok, Err}
-use Rattle.kabi_calls.specs.Arguments.{count_of}
-use Rattle.kabi_values.specs.declared.errnos.Errno.{Errno}
-use Rattle.kabi_values.specs.declared.errnos.Errno.TheVariants.{EISDIR, ENOTCONN, ESPIPE}
-use Rattle.kabi_values.specs.declared.replies.Reply.TheVariants.{Val}
+use Rattle.kabi_types.specs.Arguments.{count_of}
+use Rattle.kabi_types.specs.declared.errnos.Errno.{Errno}
+use Rattle.kabi_types.specs.declared.errnos.Errno.TheVariants.{EISDIR, ENOTCONN, ESPIPE}
+use Rattle.kabi_types.specs.declared.replies.Reply.TheVariants.{Val}
 use Rattle.kabi_types.specs.declared.scripts.Script.{Script}
 use Rattle.posix_defs.specs.Pipe.{Moving, Moves, Blocks, Fails, pipe_write, after_write}
 use Rattle.posix_defs.specs.Socket.{is_connected}

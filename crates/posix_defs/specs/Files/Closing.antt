@@ -1,7 +1,7 @@
 -- Closing, one descriptor at a time.
 use Rattle.std.specs.Prelude.{ℕ, ◌∷◌, [], if◌then◌else◌, List, length, Option, None, Some}
 use Rattle.std.specs.List.{filter, range_with_len}
-use Rattle.kabi_calls.specs.Arguments.{most_descriptors}
+use Rattle.kabi_types.specs.Arguments.{most_descriptors}
 use Rattle.posix_defs.specs.Pipe.{after_close as pipe_after_close}
 use Rattle.posix_defs.specs.Sockets.{after_close as sockets_after_close}
 use Rattle.posix_defs.specs.TreeChanges.{closed}

@@ -2,7 +2,7 @@
 use Rattle.std.specs.Prelude.{ℕ, ◌+◌, ◌==◌, ℤ, pos, negsuc, Bool, false, List, replicate, drop, Option, None, Some, is_some, is_none, slice_index_or, slice_set}
 use Rattle.std.specs.List.{count_by, list_any, position_from}
 use Rattle.std.specs.Option.{option_and_then, option_map}
-use Rattle.kabi_calls.specs.Arguments.{most_descriptors}
+use Rattle.kabi_types.specs.Arguments.{most_descriptors}
 
 -- an open descriptor: the place of the description that it names, and whether `exec` closes it
 pub record Descriptor : Type 0 where

@@ -7,8 +7,7 @@ ghost use Rattle.desc_table.specs.Making.{MakesDesc, single};
 
 use desc_table::{Descs, drop_desc, share_desc};
 use kabi_types::{Memory, Need, PollEntry};
-use kheap_shelves::{Access, Desc, DescFlags, Purse, Target};
-use kheap_slabs::KHeap;
+use kheap_slabs::{Access, Desc, DescFlags, KHeap, Purse, Target};
 use pipe_ends::pipe_make;
 use std::alloc::Global;
 use std::process::Abort;

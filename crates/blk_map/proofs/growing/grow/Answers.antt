@@ -1,5 +1,5 @@
 use Rattle.std.proofs.Common.{Result, Ok, Err, OnOk}
-use Rattle.kabi_values.specs.declared.errnos.Errno.{Errno}
+use Rattle.kabi_types.specs.declared.errnos.Errno.{Errno}
 use Rattle.blk_map.proofs.Growth.{all_zeros}
 use Rattle.blk_map.proofs.growing.grow.Goals as goal
 

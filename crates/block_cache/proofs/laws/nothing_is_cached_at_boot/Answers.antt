@@ -1,5 +1,5 @@
 use Rattle.std.proofs.Common.{None, nat_eq, refl, replicate}
-use Rattle.kheap_shelves.specs.declared.objects.Block.{Block}
+use Rattle.kheap_slabs.specs.declared.objects.Block.{Block}
 use Rattle.cache_laws.proofs.KeepsLemmas.{keeps_none}
 use Rattle.block_cache.proofs.laws.nothing_is_cached_at_boot.Goals as goal
 

@@ -1,7 +1,7 @@
 use Rattle.std.proofs.Common.{◌/◌, nat_eq, sym, ap, ◌∙◌, subst}
-use Rattle.kabi_values.specs.Class.{size}
-use Rattle.kabi_values.specs.declared.classes.Class.TheVariants as class
-use Rattle.kheap_shelves.specs.declared.objects.Block.{Block}
+use Rattle.kabi_types.specs.Class.{size}
+use Rattle.kabi_types.specs.declared.classes.Class.TheVariants as class
+use Rattle.kheap_slabs.specs.declared.objects.Block.{Block}
 use Rattle.block_cache.specs.Blocks.{KeepsBlocks}
 use Rattle.cache_laws.proofs.KeepsLemmas.{keeps_none}
 use Rattle.cache_trials.proofs.blocks.booted.Goals as goal

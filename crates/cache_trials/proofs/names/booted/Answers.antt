@@ -1,6 +1,6 @@
 use Rattle.std.proofs.Common.{◌/◌, sym, ap, subst}
-use Rattle.kabi_values.specs.Class.{size}
-use Rattle.kabi_values.specs.declared.classes.Class.TheVariants as class
+use Rattle.kabi_types.specs.Class.{size}
+use Rattle.kabi_types.specs.declared.classes.Class.TheVariants as class
 use Rattle.name_cache.specs.Names.{same_key, key_of, KeepsNames}
 use Rattle.cache_laws.proofs.KeepsLemmas.{keeps_none}
 use Rattle.cache_trials.proofs.names.booted.Goals as goal

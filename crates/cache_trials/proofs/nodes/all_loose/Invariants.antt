@@ -1,5 +1,5 @@
 use Rattle.std.proofs.Common.{◌≡◌, ℕ, ◌<◌, true, get_or}
-use Rattle.kheap_shelves.specs.Objects.{object}
+use Rattle.kheap_slabs.specs.Objects.{object}
 use Rattle.vnode_cache.specs.Nodes.{is_loose}
 use Rattle.cache_trials.proofs.nodes.all_loose.Given as goal
 

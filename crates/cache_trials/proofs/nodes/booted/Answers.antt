@@ -1,7 +1,7 @@
 use Rattle.std.proofs.Common.{◌/◌, nat_eq, sym, ap, ◌∙◌, subst}
-use Rattle.kabi_values.specs.Class.{size}
-use Rattle.kabi_values.specs.declared.classes.Class.TheVariants as class
-use Rattle.kheap_shelves.specs.declared.objects.Vnode.{Vnode}
+use Rattle.kabi_types.specs.Class.{size}
+use Rattle.kabi_types.specs.declared.classes.Class.TheVariants as class
+use Rattle.kheap_slabs.specs.declared.objects.Vnode.{Vnode}
 use Rattle.vnode_cache.specs.Nodes.{KeepsNodes}
 use Rattle.vnode_cache.proofs.LooseLemmas.{loose_empty}
 use Rattle.cache_laws.proofs.KeepsLemmas.{keeps_none}

@@ -1,5 +1,5 @@
 use Rattle.std.proofs.Common.{◌≡◌, IsSome, Some, refl, sym, ap, ◌∙◌, subst}
-use Rattle.kheap_shelves.specs.declared.objects.Block.{Block}
+use Rattle.kheap_slabs.specs.declared.objects.Block.{Block}
 use Rattle.cached_disk.proofs.blocks.fetch.Goals as goal
 
 pub get_block-requires : goal.get_block-requires

@@ -1,5 +1,5 @@
 use Rattle.std.proofs.Common.{◌≡◌, ℕ, Option, Some, None, IsSome, refl, sym, ◌∙◌, subst}
-use Rattle.kheap_shelves.specs.declared.objects.Name.{Name}
+use Rattle.kheap_slabs.specs.declared.objects.Name.{Name}
 use Rattle.lru_index.specs.NameKeys.{name_key}
 use Rattle.lru_index.specs.declared.keys.NameKey.{NameKey}
 use Rattle.name_cache.specs.Names.{same_key, name_slot, cached_node}

@@ -1,6 +1,6 @@
 use Rattle.std.proofs.Common.{◌≡◌, ◌∙◌, None, ap, sym}
 use Rattle.std.specs.Result.{result_err}
-use Rattle.kabi_calls.specs.Arguments.{argument_fault}
+use Rattle.kabi_types.specs.Arguments.{argument_fault}
 use Rattle.posix_defs.specs.Machine.{answer_to, machine}
 use Rattle.store_objects.proofs.Callers.{caller_runs}
 use Rattle.store_objects.proofs.Paying.{uses_nothing}

@@ -1,6 +1,6 @@
 use Rattle.std.proofs.Common.{rules}
 use Rattle.std.proofs.lemmas.Int.{to_z-of_z}
-use Rattle.kabi_calls.specs.declared.calls.Call.TheVariants as call
+use Rattle.kabi_types.specs.declared.calls.Call.TheVariants as call
 use Rattle.store_objects.proofs.Paying.{uses_nothing}
 use Rattle.call_run.proofs.Dispatch.{does_one, does_three, none_open}
 use Rattle.call_run.proofs.calls.run_open.Goals as goal

@@ -1,9 +1,9 @@
 use Rattle.std.proofs.Common.{◌≡◌, Bool, true, false, ◌<◌, ◌≤◌, ◌-◌, le_refl, rules, subst, sym, w64, arith}
 use Rattle.std.proofs.lemmas.Int.{to_z-of_z}
 use mir.Val.{of_z, to_z}
-use Rattle.kabi_calls.specs.Arguments.{count_of}
-use Rattle.kabi_calls.specs.declared.calls.Call.TheVariants as call
-use Rattle.kabi_values.specs.declared.classes.Need.{Need}
+use Rattle.kabi_types.specs.Arguments.{count_of}
+use Rattle.kabi_types.specs.declared.calls.Call.TheVariants as call
+use Rattle.kabi_types.specs.declared.classes.Need.{Need}
 use Rattle.posix_defs.specs.Needs.{bound, chunks_for, pages_touched}
 use Rattle.store_objects.specs.declared.purses.Target.TheVariants.{Queue}
 use Rattle.store_objects.proofs.Paying.{can_pay, left_is, uses_paid}

@@ -1,7 +1,7 @@
 use Rattle.std.proofs.Common.{◌≡◌, Bool, true, false, ◌<◌, ◌≤◌, rules, subst, sym, arith}
 use Rattle.std.proofs.lemmas.Int.{to_z-of_z}
-use Rattle.kabi_calls.specs.declared.calls.Call.TheVariants as call
-use Rattle.kabi_values.specs.declared.classes.Need.{Need}
+use Rattle.kabi_types.specs.declared.calls.Call.TheVariants as call
+use Rattle.kabi_types.specs.declared.classes.Need.{Need}
 use Rattle.posix_defs.specs.Needs.{bound}
 use Rattle.store_objects.specs.declared.purses.Target.TheVariants.{Queue}
 use Rattle.store_objects.proofs.Paying.{can_pay, left_is, uses_nothing, uses_paid}

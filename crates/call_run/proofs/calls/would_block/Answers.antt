@@ -1,7 +1,7 @@
 use Rattle.std.proofs.Common.{◌≡◌, ◌∙◌, sym, w64, rules, Some}
 use Rattle.std.proofs.lemmas.Int.{to_z-of_z}
 use mir.Val.{of_z, to_z}
-use Rattle.kabi_calls.specs.declared.calls.Call.TheVariants.{Accept, Poll, Read, Waitpid, Write}
+use Rattle.kabi_types.specs.declared.calls.Call.TheVariants.{Accept, Poll, Read, Waitpid, Write}
 use Rattle.prog_ctl.specs.declared.waits.Awaited.TheVariants.{Bytes, Child, Events, Peer, Room}
 use Rattle.call_run.proofs.Sleeping.{blocks_as, goes_on, is_waiting, no_fault, told_one, told_three, told_two, wrong_goes_on}
 use Rattle.call_run.proofs.calls.would_block.Goals as goal

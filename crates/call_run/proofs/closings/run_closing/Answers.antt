@@ -1,7 +1,7 @@
 use Rattle.std.proofs.Common.{rules, subst, sym, w64}
 use Rattle.std.proofs.lemmas.Int.{to_z-of_z}
 use mir.Val.{of_z, to_z}
-use Rattle.kabi_calls.specs.declared.calls.Call.TheVariants as call
+use Rattle.kabi_types.specs.declared.calls.Call.TheVariants as call
 use Rattle.posix_defs.specs.Needs.{slack}
 use Rattle.store_objects.specs.Uses.{UsesAtMost}
 use Rattle.store_objects.proofs.Callers.{caller_lives, caller_runs}

@@ -1,5 +1,5 @@
 use Rattle.std.proofs.Common.{◌∙◌, ap, refl, sym}
-use Rattle.kabi_calls.specs.declared.calls.Call.TheVariants as call
+use Rattle.kabi_types.specs.declared.calls.Call.TheVariants as call
 use Rattle.posix_defs.specs.Machine.{answer_to}
 use Rattle.posix_defs.specs.Needs.{bound}
 use Rattle.store_objects.proofs.Callers.{caller_runs}

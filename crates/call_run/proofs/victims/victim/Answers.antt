@@ -1,7 +1,7 @@
 use Rattle.std.proofs.Common.{◌≡◌, List, ◌∙◌, subst}
 use Rattle.std.specs.Prelude.{IfSome, IsNone}
 use Rattle.std.specs.List.{All}
-use Rattle.kabi_values.specs.declared.classes.Weight.{Weight}
+use Rattle.kabi_types.specs.declared.classes.Weight.{Weight}
 use Rattle.victim_core.specs.Victims.{IsVictim}
 use Rattle.store_objects.specs.Objects.{procs_of}
 use Rattle.call_run.specs.Weights.{weights_in}

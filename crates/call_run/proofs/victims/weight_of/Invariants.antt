@@ -1,6 +1,6 @@
 use Rattle.std.proofs.Common.{◌≡◌, ◌≤◌, ◌+◌, ◌*◌, drop, length}
 use Rattle.std.specs.Prelude.{sum_by}
-use Rattle.kheap_shelves.specs.Objects.{object}
+use Rattle.kheap_slabs.specs.Objects.{object}
 use Rattle.kheap_slabs.specs.Spaces.{keys_in}
 use Rattle.call_run.specs.Weights.{frames_under}
 use Rattle.call_run.proofs.victims.weight_of.Given as goal

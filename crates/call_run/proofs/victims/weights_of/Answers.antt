@@ -1,8 +1,8 @@
 use Rattle.std.proofs.Common.{◌≡◌, ◌+◌, ◌++◌, Bool, cond, length, List, [], ◌∷◌, not, true, false, is_some, ap, sym, subst, ◌∙◌, append-nil, arith}
 use Rattle.std.specs.List.{All}
 use Rattle.std.proofs.lemmas.List.Elements.{All-push}
-use Rattle.kabi_values.specs.declared.classes.Weight.{Weight}
-use Rattle.kheap_shelves.specs.Objects.{object}
+use Rattle.kabi_types.specs.declared.classes.Weight.{Weight}
+use Rattle.kheap_slabs.specs.Objects.{object}
 use Rattle.proc_table.specs.declared.places.Listed.{Listed}
 use Rattle.proc_table.proofs.LeaveLemmas.{StandsAt, stands_at}
 use Rattle.victim_core.specs.Victims.{IsInRange}

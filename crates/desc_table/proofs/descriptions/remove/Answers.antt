@@ -1,6 +1,6 @@
 use Rattle.std.proofs.Common.{sym, ap, subst, refl, ◌∙◌}
-use Rattle.kabi_values.specs.declared.classes.Class.TheVariants as class
-use Rattle.kheap_shelves.specs.Objects.{without}
+use Rattle.kabi_types.specs.declared.classes.Class.TheVariants as class
+use Rattle.kheap_slabs.specs.Objects.{without}
 use Rattle.kheap_slabs.specs.Heap.{Heap}
 use Rattle.kheap_slabs.specs.Owners.{OwnsItsObjects}
 use Rattle.kheap_laws.proofs.PaidLemmas.{TakesNothing-trans, TakesNothing-freed}

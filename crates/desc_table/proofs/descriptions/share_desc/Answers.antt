@@ -1,5 +1,5 @@
 use Rattle.std.proofs.Common.{◌∷◌, ◌+◌, sym, subst, refl}
-use Rattle.kheap_shelves.specs.Objects.{put}
+use Rattle.kheap_slabs.specs.Objects.{put}
 use Rattle.kheap_slabs.specs.Heap.{Heap}
 use Rattle.kheap_slabs.specs.Owners.{OwnsItsObjects}
 use Rattle.kheap_laws.proofs.TableLemmas.{OwnsItsObjects-along}

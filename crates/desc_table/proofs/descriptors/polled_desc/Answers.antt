@@ -1,6 +1,6 @@
 use Rattle.std.proofs.Common.{sym, subst, w64}
 use Rattle.std.proofs.lemmas.Int.{to_z-of_z}
-use Rattle.kheap_shelves.specs.declared.objects.Target.{Target}
+use Rattle.kheap_slabs.specs.declared.objects.Target.{Target}
 use Rattle.open_laws.specs.Described.{access_in}
 use Rattle.open_laws.specs.Polled.{TellsTarget}
 use Rattle.open_laws.proofs.PolledLemmas.{told_end}

@@ -1,6 +1,6 @@
 use Rattle.std.proofs.Common.{◌≡◌, ℕ, ◌+◌, pos, Bool, true, false, cond}
-use Rattle.kabi_values.specs.declared.errnos.Errno.TheVariants.{EAGAIN}
-use Rattle.kabi_values.specs.declared.replies.Reply.TheVariants.{Val}
+use Rattle.kabi_types.specs.declared.errnos.Errno.TheVariants.{EAGAIN}
+use Rattle.kabi_types.specs.declared.replies.Reply.TheVariants.{Val}
 use Rattle.kabi_types.specs.declared.scripts.Script.{Script}
 use Rattle.posix_defs.specs.Plain.{Plain, last_pid}
 use Rattle.posix_defs.specs.Answer.{Done, failed, replied}

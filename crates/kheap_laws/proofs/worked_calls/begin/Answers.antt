@@ -1,7 +1,7 @@
 use Rattle.std.proofs.Common.{◌≡◌, ℕ, [], ◌∷◌, None, Some, replicate, set, refl, sym, ap, ◌∙◌, arith}
-use Rattle.kheap_shelves.specs.Objects.{object, put}
-use Rattle.kheap_shelves.specs.declared.objects.Node.{Node}
-use Rattle.kheap_shelves.specs.declared.objects.PageEntry.TheVariants as entry
+use Rattle.kheap_slabs.specs.Objects.{object, put}
+use Rattle.kheap_slabs.specs.declared.objects.Node.{Node}
+use Rattle.kheap_slabs.specs.declared.objects.PageEntry.TheVariants as entry
 use Rattle.kheap_slabs.specs.Heap.{Heap}
 use Rattle.kheap_slabs.specs.Keys.{Splits}
 use Rattle.kheap_slabs.specs.Owners.{Owners, with_space, IsOwned}

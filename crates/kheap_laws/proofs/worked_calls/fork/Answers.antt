@@ -1,5 +1,5 @@
 use Rattle.std.proofs.Common.{◌+◌, [], ◌∷◌, Some, refl, ap, ◌∙◌}
-use Rattle.kheap_shelves.specs.declared.objects.PageEntry.TheVariants as entry
+use Rattle.kheap_slabs.specs.declared.objects.PageEntry.TheVariants as entry
 use Rattle.kheap_slabs.specs.Owners.{with_space}
 use Rattle.kheap_slabs.specs.Spaces.{count_at, names_page}
 use Rattle.kheap_laws.proofs.OwnerLemmas.{first_there}

@@ -1,13 +1,13 @@
 use Rattle.std.proofs.Common.{◌≡◌, ℕ, ◌+◌, ◌<◌, List, Option, Some, length, set, get_or, refl, ap, sym, subst, ◌∙◌, inl, inr, arith, Contains}
 use Rattle.std.proofs.lemmas.Bool.Decides.{eqb_tells}
-use Rattle.kheap_shelves.specs.Objects.{object, put}
-use Rattle.kheap_shelves.specs.declared.objects.Node.{Node}
-use Rattle.kheap_shelves.specs.declared.objects.Page.{Page}
-use Rattle.kheap_shelves.specs.declared.objects.PageEntry.TheVariants as entry
+use Rattle.kheap_slabs.specs.Objects.{object, put}
+use Rattle.kheap_slabs.specs.declared.objects.Node.{Node}
+use Rattle.kheap_slabs.specs.declared.objects.Page.{Page}
+use Rattle.kheap_slabs.specs.declared.objects.PageEntry.TheVariants as entry
 use Rattle.kheap_slabs.specs.Heap.{Heap}
 use Rattle.kheap_slabs.specs.Owners.{Owners, with_space, IsOwned}
 use Rattle.kheap_slabs.specs.Spaces.{keys_in, page_count, mapped_count, count_at, names_page, CountRises, EntryChanges}
-use Rattle.kheap_shelves.proofs.ObjectLemmas.{InUse-within, InUse-put, object-put}
+use Rattle.kheap_slabs.proofs.ObjectLemmas.{InUse-within, InUse-put, object-put}
 use Rattle.kheap_laws.proofs.OwnerLemmas.{IsOwned-space_changes, SpaceChanges-sets}
 use Rattle.kheap_laws.proofs.PaidLemmas.{TakesNothing-trans}
 use Rattle.kheap_laws.proofs.SpaceLemmas.{IsCounted-most, IsCounted-names, CountRises-set, KeepsBytes-count, mapped_count-entry}

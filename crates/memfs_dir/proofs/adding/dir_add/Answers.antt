@@ -1,6 +1,6 @@
 use Rattle.std.proofs.Common.{◌≡◌, false, List, ℕ, ◌+◌, ◌/◌, sym, Result, Ok, Err, OnOk, is_err}
 use Rattle.std.proofs.lemmas.Bool.{false≢true}
-use Rattle.kabi_values.specs.declared.errnos.Errno.{Errno}
+use Rattle.kabi_types.specs.declared.errnos.Errno.{Errno}
 use Rattle.memfs_dir.proofs.Resized.{added, in_use, takes_lowest}
 use Rattle.memfs_dir.proofs.adding.dir_add.Goals as goal
 

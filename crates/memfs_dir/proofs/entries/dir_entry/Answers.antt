@@ -1,6 +1,6 @@
 use Rattle.std.proofs.Common.{ℕ, ◌/◌, ◌%◌, ◌<◌, List, Some, length, get_or, ap, ◌∙◌}
 use Rattle.std.proofs.lemmas.Option.{slice_get-get_or}
-use Rattle.kabi_values.specs.declared.inodes.DirEntry.{DirEntry}
+use Rattle.kabi_types.specs.declared.inodes.DirEntry.{DirEntry}
 use Rattle.posix_defs.specs.TreeChanges.{no_entry}
 use Rattle.memfs_dir.proofs.SlotBytes.{one_entry}
 use Rattle.memfs_dir.proofs.DirectoryBytes.{block_got, spelled, place_within}

@@ -1,5 +1,5 @@
 use Rattle.std.proofs.Common.{ℕ, ◌/◌, ◌<◌, List, length, get_or}
-use Rattle.kabi_values.specs.declared.inodes.DirEntry.{DirEntry}
+use Rattle.kabi_types.specs.declared.inodes.DirEntry.{DirEntry}
 use Rattle.posix_defs.specs.TreeChanges.{no_entry}
 use Rattle.memfs_dir.proofs.DirectoryBytes.{block_got, spelled, place_within}
 use Rattle.memfs_dir.proofs.entries.dir_node.Goals as goal

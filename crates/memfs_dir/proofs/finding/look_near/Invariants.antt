@@ -1,5 +1,5 @@
 use Rattle.std.proofs.Common.{◌≡◌, ◌≢◌, ℕ, ◌*◌, ◌<◌, List, length, get_or}
-use Rattle.kabi_values.specs.declared.inodes.DirEntry.{DirEntry}
+use Rattle.kabi_types.specs.declared.inodes.DirEntry.{DirEntry}
 use Rattle.posix_defs.specs.Asking.{AskedInTurn}
 use Rattle.posix_defs.specs.DiskContents.{HasEntries}
 use Rattle.posix_defs.specs.TreeChanges.{no_entry}

@@ -1,7 +1,7 @@
 use Rattle.std.proofs.Common.{◌≡◌, ℕ, ◌+◌, ◌/◌, ◌<◌, max, List, subst, arith}
 use Rattle.std.specs.Prelude.{IfOk, IfErr}
-use Rattle.kabi_values.specs.declared.errnos.Errno.TheVariants.{ENOSPC}
-use Rattle.kabi_values.specs.declared.inodes.Inode.{Inode}
+use Rattle.kabi_types.specs.declared.errnos.Errno.TheVariants.{ENOSPC}
+use Rattle.kabi_types.specs.declared.inodes.Inode.{Inode}
 use Rattle.posix_defs.specs.DiskFormat.{block_size, data_blocks}
 use Rattle.posix_defs.specs.FileBytes.{fitting}
 use Rattle.blk_map.specs.Growing.{GrowsBut}

@@ -1,6 +1,6 @@
 use Rattle.std.proofs.Common.{◌≡◌, ℕ, List, length, Result, Ok, refl, sym, ap, subst, ◌∙◌}
 use Rattle.std.specs.Prelude.{IsOk}
-use Rattle.kabi_values.specs.declared.inodes.Inode.{Inode}
+use Rattle.kabi_types.specs.declared.inodes.Inode.{Inode}
 use Rattle.posix_defs.specs.DiskFormat.{IsInode}
 use Rattle.posix_defs.specs.SoundDisk.{HasInode, Sound, block_bytes, table_block, slot_bytes, table_slot}
 use Rattle.disk_layout.specs.declared.faults.BadInode.{BadInode}

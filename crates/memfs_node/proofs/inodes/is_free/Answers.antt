@@ -1,6 +1,6 @@
 use Rattle.std.proofs.Common.{◌≡◌, ℕ, List, Result, Ok, refl, sym, subst}
 use Rattle.std.specs.Prelude.{IsOk}
-use Rattle.kabi_values.specs.declared.inodes.Inode.{Inode}
+use Rattle.kabi_types.specs.declared.inodes.Inode.{Inode}
 use Rattle.disk_layout.specs.declared.faults.BadInode.{BadInode}
 use Rattle.memfs_node.proofs.inodes.is_free.Goals as goal
 

@@ -1,5 +1,5 @@
 use Rattle.std.proofs.Common.{◌≡◌, ℕ, List, Result, Ok, OnOk, subst, arith}
-use Rattle.kabi_values.specs.declared.errnos.Errno.{Errno}
+use Rattle.kabi_types.specs.declared.errnos.Errno.{Errno}
 use Rattle.posix_defs.specs.NodeChange.{Grows}
 use Rattle.memfs_node.proofs.Dots.{puts}
 use Rattle.memfs_node.proofs.making.put_dots.Goals as goal

@@ -1,5 +1,5 @@
 use Rattle.std.proofs.Common.{ap}
-use Rattle.kheap_shelves.specs.Purse.{Purse}
+use Rattle.kheap_slabs.specs.Purse.{Purse}
 use Rattle.memfs_ops.proofs.BootLemmas.{root_kept}
 use Rattle.memfs_ops.proofs.file_tree.hold_root.Goals as goal
 

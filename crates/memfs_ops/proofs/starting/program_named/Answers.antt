@@ -5,7 +5,7 @@ use Rattle.std.proofs.lemmas.Iterator.{YieldsList-from_slice}
 use Rattle.std.proofs.lemmas.Iterator.Adapters.{position_from-zero}
 use Rattle.std.proofs.lemmas.Iterator.Search.{position_from_yields_List}
 use Rattle.kabi_types.specs.declared.scripts.Program.{Program}
-use Rattle.kabi_values.specs.declared.errnos.Errno.TheVariants.{ENOEXEC}
+use Rattle.kabi_types.specs.declared.errnos.Errno.TheVariants.{ENOEXEC}
 use Rattle.posix_defs.specs.PathCalls.{first_line}
 use Rattle.memfs_ops.proofs.starting.program_named.Goals as goal
 

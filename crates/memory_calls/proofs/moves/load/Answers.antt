@@ -2,9 +2,9 @@ use Rattle.std.proofs.Common.{◌≡◌, ◌≤◌, ◌<◌, ◌∙◌, subst, s
 use Rattle.std.specs.Prelude.{None}
 use Rattle.std.specs.Int.{cast_unsigned}
 use Rattle.std.proofs.lemmas.Int.{to_z-of_z}
-use Rattle.kabi_calls.specs.Arguments.{count_of, range_fault}
-use Rattle.kabi_calls.specs.declared.calls.Call.TheVariants as call
-use Rattle.kabi_values.specs.declared.replies.Reply.TheVariants.{Bytes}
+use Rattle.kabi_types.specs.Arguments.{count_of, range_fault}
+use Rattle.kabi_types.specs.declared.calls.Call.TheVariants as call
+use Rattle.kabi_types.specs.declared.replies.Reply.TheVariants.{Bytes}
 use Rattle.posix_defs.specs.Answer.{replied}
 use Rattle.posix_defs.specs.Memory.{loaded}
 use Rattle.posix_defs.specs.MemoryCalls.{in_range}

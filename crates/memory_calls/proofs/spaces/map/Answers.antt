@@ -1,10 +1,10 @@
 use Rattle.std.proofs.Common.{rules, ◌≡◌, ◌+◌, ◌-◌, ◌*◌, ◌/◌, ◌<◌, ◌≤◌, ℕ, ◌∙◌, arith, ap, length, refl, subst, sym}
-use Rattle.kabi_calls.specs.Arguments.{page_size}
-use Rattle.kabi_values.specs.declared.errnos.Errno.{Errno}
-use Rattle.kabi_values.specs.declared.errnos.Errno.TheVariants.{EMFILE}
+use Rattle.kabi_types.specs.Arguments.{page_size}
+use Rattle.kabi_types.specs.declared.errnos.Errno.{Errno}
+use Rattle.kabi_types.specs.declared.errnos.Errno.TheVariants.{EMFILE}
 use Rattle.posix_defs.specs.Process.{memory_of}
 use Rattle.std.specs.Prelude.{is_some, option_map, ok_or, Option, None, Some, Ok, Err, Result}
-use Rattle.kheap_shelves.specs.Objects.{object, put}
+use Rattle.kheap_slabs.specs.Objects.{object, put}
 use Rattle.kheap_slabs.specs.Heap.{Heap}
 use Rattle.kheap_laws.proofs.PaidLemmas.{IsPaid-nothing, IsPaid-trans}
 use Rattle.posix_defs.specs.Memory.{after_map, is_mapped, lowest_run, with_pages, zero_page}

@@ -1,5 +1,5 @@
 use Rattle.std.proofs.Common.{◌≡◌, ◌∙◌, rules}
-use Rattle.kabi_calls.specs.declared.calls.Call.TheVariants as call
+use Rattle.kabi_types.specs.declared.calls.Call.TheVariants as call
 use Rattle.posix_defs.specs.Calls.OnNames.{rmdir}
 use Rattle.store_objects.specs.Trees.{pins_in}
 use Rattle.name_calls.specs.Nodes.{has_node}

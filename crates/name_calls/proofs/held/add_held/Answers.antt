@@ -1,5 +1,5 @@
 use Rattle.std.proofs.Common.{◌≤◌, length, ◌∙◌, subst, sym, arith}
-use Rattle.kheap_shelves.specs.Objects.{object}
+use Rattle.kheap_slabs.specs.Objects.{object}
 use Rattle.proc_table.proofs.PlaceLemmas.{some_same}
 use Rattle.name_calls.specs.Nodes.{Adds, holds_node, works_at}
 use Rattle.name_calls.proofs.Adding.{held_added, none_told, works_added, works_nowhere}

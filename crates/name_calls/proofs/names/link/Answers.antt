@@ -1,4 +1,4 @@
-use Rattle.kabi_calls.specs.declared.calls.Call.TheVariants as call
+use Rattle.kabi_types.specs.declared.calls.Call.TheVariants as call
 use Rattle.posix_defs.specs.Calls.OnNames.{link}
 use Rattle.store_objects.specs.Trees.{pins_in}
 use Rattle.name_calls.proofs.Changed.{kept_mid, leads, paid_on}

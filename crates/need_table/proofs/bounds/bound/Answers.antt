@@ -1,8 +1,8 @@
 use Rattle.std.proofs.Common.{◌≡◌, ◌*◌, ◌≤◌, ℕ, max, true, false, sym, ap, ◌∙◌, subst}
-use Rattle.kabi_calls.specs.Call.{kind_of}
-use Rattle.kabi_values.specs.Class.{size}
-use Rattle.kabi_values.specs.declared.classes.Class.TheVariants.{Block, Chunk}
-use Rattle.kabi_values.specs.declared.classes.Need.{Need}
+use Rattle.kabi_types.specs.Call.{kind_of}
+use Rattle.kabi_types.specs.Class.{size}
+use Rattle.kabi_types.specs.declared.classes.Class.TheVariants.{Block, Chunk}
+use Rattle.kabi_types.specs.declared.classes.Need.{Need}
 use Rattle.posix_defs.specs.Needs.{bound, is_write}
 use Rattle.posix_defs.specs.Sizes.{bytes_of}
 use Rattle.posix_defs.proofs.PriceLemmas.{greater, most_of_right, sums}

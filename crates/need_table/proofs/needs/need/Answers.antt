@@ -1,6 +1,6 @@
 use Rattle.std.proofs.Common.{◌≡◌, true, false, None, Some, Result, Ok, Err, refl, sym, ◌∙◌, rules}
 use Rattle.std.specs.Result.{is_err, result_err}
-use Rattle.kabi_values.specs.declared.errnos.Errno.{Errno}
+use Rattle.kabi_types.specs.declared.errnos.Errno.{Errno}
 use Rattle.posix_defs.specs.Sizes.{no_need}
 use Rattle.posix_defs.proofs.PriceLemmas.{right_needs, wrong_needs}
 use Rattle.need_table.proofs.needs.need.Goals as goal

@@ -1,6 +1,6 @@
 use Rattle.std.proofs.Common.{◌≡◌, None, refl, subst, sym, w64}
 use Rattle.std.proofs.lemmas.Int.{to_z-of_z}
-use Rattle.kabi_calls.specs.declared.calls.Call.TheVariants as call
+use Rattle.kabi_types.specs.declared.calls.Call.TheVariants as call
 use Rattle.posix_defs.specs.Calls.OnDescriptors.{close}
 use Rattle.proc_descs.specs.Having.{node_closed}
 use Rattle.proc_descs.specs.Naming.{named_by}

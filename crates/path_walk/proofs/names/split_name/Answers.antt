@@ -1,5 +1,5 @@
 use Rattle.std.proofs.Common.{◌≡◌, ◌-◌, ◌<◌, ◌∷◌, List, [], ℕ, Option, unwrap_or, length, take, drop, refl, sym, ap, subst, ◌∙◌}
-use Rattle.kabi_calls.specs.PathParts.{components}
+use Rattle.kabi_types.specs.PathParts.{components}
 use Rattle.path_walk.proofs.Components.{FirstName, no_name, first_name, if_none}
 use Rattle.path_walk.proofs.names.split_name.Goals as goal
 

@@ -2,7 +2,7 @@ use Rattle.std.proofs.Common.{◌≡◌, ◌∷◌, ◌++◌, true, List, ℕ, O
 use Rattle.std.specs.List.{list_any}
 use Rattle.std.proofs.lemmas.Bool.{or_parts}
 use Rattle.posix_defs.specs.Asking.{AskedInTurn}
-use Rattle.kabi_calls.specs.PathParts.{components, is_long}
+use Rattle.kabi_types.specs.PathParts.{components, is_long}
 use Rattle.posix_defs.specs.Paths.{leads, step}
 use Rattle.posix_defs.specs.Queries.{Query, asks, component_asks}
 use Rattle.tree_laws.proofs.TreeFacts.{step_to_directory}

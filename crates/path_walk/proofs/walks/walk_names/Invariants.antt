@@ -4,7 +4,7 @@ use Rattle.std.proofs.Common.{◌≡◌, ◌∷◌, length, true, false}
 use Rattle.std.specs.List.{list_any}
 use Rattle.posix_defs.specs.Asking.{AskedInTurn}
 use Rattle.posix_defs.specs.Tree.{Tree, is_directory}
-use Rattle.kabi_calls.specs.PathParts.{components, is_long}
+use Rattle.kabi_types.specs.PathParts.{components, is_long}
 use Rattle.posix_defs.specs.Paths.{leads}
 use Rattle.posix_defs.specs.Queries.{asks}
 use Rattle.path_walk.proofs.walks.walk_names.Given as goal

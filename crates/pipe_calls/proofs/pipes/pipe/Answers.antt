@@ -1,7 +1,7 @@
 use Rattle.std.proofs.Common.{List, Option, ap, refl, subst, sym}
-use Rattle.kabi_calls.specs.declared.calls.Call.TheVariants as call
+use Rattle.kabi_types.specs.declared.calls.Call.TheVariants as call
 use Rattle.kheap_laws.proofs.PaidLemmas.{IsPaid-nothing, IsPaid-trans}
-use Rattle.kheap_shelves.specs.declared.objects.Sock.{Sock}
+use Rattle.kheap_slabs.specs.declared.objects.Sock.{Sock}
 use Rattle.posix_defs.specs.Calls.OnPipes.{pipe}
 use Rattle.holding_laws.specs.Names.{name_of}
 use Rattle.proc_pipes.specs.Opening.{AnswersAnew}

@@ -1,5 +1,5 @@
 use Rattle.std.proofs.Common.{List, [], ap, ◌∙◌, arith}
-use Rattle.kabi_values.specs.declared.classes.Class.TheVariants as class
+use Rattle.kabi_types.specs.declared.classes.Class.TheVariants as class
 use Rattle.kheap_laws.proofs.PaidLemmas.{TakesNothing-trans, TakesNothing-freed}
 use Rattle.posix_defs.specs.QueuePlace.{QueuePlace}
 use Rattle.chunk_queue.specs.Chained.{place_of}

@@ -1,7 +1,7 @@
 use Rattle.std.proofs.Common.{◌≡◌, ◌∙◌, [], is_some, None, ap, refl, subst, sym}
 use Rattle.std.specs.Prelude.{slice_index_or}
-use Rattle.kheap_shelves.specs.Objects.{object}
-use Rattle.kheap_shelves.specs.declared.objects.Proc.{Proc}
+use Rattle.kheap_slabs.specs.Objects.{object}
+use Rattle.kheap_slabs.specs.declared.objects.Proc.{Proc}
 use Rattle.kheap_slabs.specs.Heap.{Heap}
 use Rattle.kheap_laws.proofs.PaidLemmas.{TakesNothing-trans}
 use Rattle.open_laws.specs.Open.{AreOpen}

@@ -1,7 +1,7 @@
 use Rattle.std.proofs.Common.{◌≡◌, ◌<◌, ◌∙◌, true, false, None, ap, subst, sym, w64}
 use Rattle.std.specs.Prelude.{slice_index_or}
 use Rattle.std.proofs.lemmas.Int.{to_z-of_z}
-use Rattle.kabi_calls.specs.Arguments.{count_of, may_be_descriptor}
+use Rattle.kabi_types.specs.Arguments.{count_of, may_be_descriptor}
 use Rattle.proc_descs.specs.Naming.{named_at}
 use Rattle.proc_descs.proofs.NumberNames.{named_beyond, named_within, within_most}
 use Rattle.proc_descs.proofs.opening.descriptor_of.Goals as goal

@@ -1,6 +1,6 @@
 use Rattle.std.proofs.Common.{◌∙◌, ap, is_some, refl, sym}
 use Rattle.std.specs.Option.{option_map}
-use Rattle.kheap_shelves.specs.declared.objects.Proc.{Proc}
+use Rattle.kheap_slabs.specs.declared.objects.Proc.{Proc}
 use Rattle.posix_defs.specs.Process.{directory_in}
 use Rattle.proc_table.specs.Procs.{proc_of, process_of}
 use Rattle.proc_table.specs.Table.{processes}

@@ -1,9 +1,9 @@
 use Rattle.std.proofs.Common.{◌≡◌, ◌∙◌, ◌<◌, true, [], Ok, ap, refl, sym, subst, w64}
 use Rattle.std.specs.Prelude.{IfSome}
 use Rattle.std.proofs.lemmas.Int.{to_z-of_z}
-use Rattle.kabi_values.specs.OpenFlags.{are_open_flags}
+use Rattle.kabi_types.specs.OpenFlags.{are_open_flags}
 use Rattle.kheap_laws.proofs.PaidLemmas.{CanPay-kept, IsPaid-trans}
-use Rattle.kheap_shelves.specs.Purse.{Purse}
+use Rattle.kheap_slabs.specs.Purse.{Purse}
 use Rattle.kheap_slabs.specs.Heap.{Heap}
 use Rattle.memfs_ops.specs.FileTree.{KeepsLast, KnowsWay, in_call}
 use Rattle.memfs_ops.specs.Opening.{KeepsOpened, OpenedAs, asks_of}

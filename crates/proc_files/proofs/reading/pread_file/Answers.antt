@@ -1,8 +1,8 @@
 use Rattle.std.proofs.Common.{◌≡◌, ◌∙◌, ◌≤◌, ap, false, true, None, of_z, pos, refl, Some, sym, subst, to_z, w64, arith, is_some}
 use Rattle.std.proofs.lemmas.Int.{to_z-of_z}
-use Rattle.kabi_calls.specs.Arguments.{count_of, range_fault}
-use Rattle.kabi_values.specs.declared.errnos.Errno.TheVariants.{EBADF, EFAULT, EISDIR, ESPIPE}
-use Rattle.kabi_values.specs.declared.replies.Reply.TheVariants.{Fail, Val}
+use Rattle.kabi_types.specs.Arguments.{count_of, range_fault}
+use Rattle.kabi_types.specs.declared.errnos.Errno.TheVariants.{EBADF, EFAULT, EISDIR, ESPIPE}
+use Rattle.kabi_types.specs.declared.replies.Reply.TheVariants.{Fail, Val}
 use Rattle.posix_defs.specs.Calls.Reading.{put}
 use Rattle.posix_defs.specs.Needs.{pages_touched}
 use Rattle.posix_defs.specs.PathCalls.{read_node}
@@ -15,10 +15,10 @@ use Rattle.proc_files.proofs.OpenFiles.{holds_file, used_reads}
 use Rattle.proc_files.proofs.Puts.{leads_put, read_beside, read_kept, read_paid}
 use Rattle.proc_files.proofs.Ranges.{as_mapped, as_range, no_count, right_placed, some_count}
 use Rattle.proc_files.proofs.ReadAnswers.{pread_closed, pread_denied, pread_directory, pread_goes, pread_nothing, pread_refused, pread_unmapped}
-use Rattle.kabi_calls.specs.declared.calls.Call.TheVariants as call
+use Rattle.kabi_types.specs.declared.calls.Call.TheVariants as call
 use Rattle.proc_files.proofs.Saves.{keeps_read, saves_read, saves_used}
 use Rattle.proc_queues.specs.Found.{IsNamed}
-use Rattle.kheap_shelves.specs.declared.objects.Desc.{Desc}
+use Rattle.kheap_slabs.specs.declared.objects.Desc.{Desc}
 use Rattle.proc_files.proofs.reading.pread_file.Goals as goal
 
 pub opened-requires-clause-there : goal.opened-requires-clause-there

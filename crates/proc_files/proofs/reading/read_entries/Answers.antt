@@ -1,11 +1,11 @@
 use Rattle.std.proofs.Common.{◌≡◌, ◌∙◌, ◌+◌, ◌%◌, ◌≤◌, ap, false, true, List, None, of_z, Option, refl, Some, sym, subst, to_z, w64, arith, is_some}
 use Rattle.std.proofs.lemmas.Int.{to_z-of_z}
-use Rattle.kabi_calls.specs.Arguments.{count_of, range_fault}
-use Rattle.kabi_values.specs.declared.errnos.Errno.TheVariants.{EBADF, EFAULT, ENOTDIR}
-use Rattle.kabi_values.specs.declared.replies.Reply.TheVariants.{Fail}
+use Rattle.kabi_types.specs.Arguments.{count_of, range_fault}
+use Rattle.kabi_types.specs.declared.errnos.Errno.TheVariants.{EBADF, EFAULT, ENOTDIR}
+use Rattle.kabi_types.specs.declared.replies.Reply.TheVariants.{Fail}
 use Rattle.kheap_laws.proofs.PaidLemmas.{IsPaid-nothing, IsPaid-trans}
-use Rattle.kheap_shelves.specs.Objects.{object}
-use Rattle.kheap_shelves.specs.declared.objects.Desc.{Desc}
+use Rattle.kheap_slabs.specs.Objects.{object}
+use Rattle.kheap_slabs.specs.declared.objects.Desc.{Desc}
 use Rattle.posix_defs.specs.Calls.Opened.{moved_to}
 use Rattle.posix_defs.specs.Calls.Reading.{list_directory, put}
 use Rattle.posix_defs.specs.Needs.{pages_touched}
@@ -22,7 +22,7 @@ use Rattle.proc_files.proofs.OpenFiles.{holds_directory, used_reads}
 use Rattle.proc_files.proofs.Puts.{leads_moved, moved_beside, read_descs, read_kept, read_paid}
 use Rattle.proc_files.proofs.Ranges.{as_mapped, as_range, least_listed, right_listed}
 use Rattle.proc_files.proofs.ReadAnswers.{readdir_closed, readdir_file, readdir_goes, readdir_refused, readdir_unmapped}
-use Rattle.kabi_calls.specs.declared.calls.Call.TheVariants as call
+use Rattle.kabi_types.specs.declared.calls.Call.TheVariants as call
 use Rattle.proc_files.proofs.Saves.{keeps_read, saves_read, saves_used}
 use Rattle.proc_files.proofs.reading.read_entries.Goals as goal
 

@@ -1,6 +1,6 @@
 use Rattle.std.proofs.Common.{◌∙◌, ap, cond, sym}
 use Rattle.std.specs.Prelude.{Err, Ok}
-use Rattle.kabi_values.specs.declared.errnos.Errno.TheVariants.{EINVAL}
+use Rattle.kabi_types.specs.declared.errnos.Errno.TheVariants.{EINVAL}
 use Rattle.proc_files.proofs.seeking.move_between.Goals as goal
 
 pub returns-then-is_within_entry-clause-value : goal.returns-then-is_within_entry-clause-value

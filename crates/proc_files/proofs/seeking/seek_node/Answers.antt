@@ -1,6 +1,6 @@
 use Rattle.std.proofs.Common.{◌≡◌, ◌∙◌, ◌+ℤ◌, ap, pos, sym, subst, w64}
 use Rattle.std.proofs.lemmas.Int.{to_z-of_z}
-use Rattle.kabi_calls.specs.Arguments.{count_of}
+use Rattle.kabi_types.specs.Arguments.{count_of}
 use Rattle.posix_defs.specs.Tree.{is_directory}
 use Rattle.proc_files.specs.Seeking.{between_entries, offset_at, origin_in}
 use Rattle.proc_files.proofs.SeekAnswers.{sought_is}

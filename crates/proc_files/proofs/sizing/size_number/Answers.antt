@@ -1,6 +1,6 @@
 use Rattle.std.proofs.Common.{◌≡◌, ◌∙◌, [], None, Some, sym, subst, w64}
 use Rattle.std.proofs.lemmas.Int.{to_z-of_z}
-use Rattle.kabi_calls.specs.Arguments.{count_of}
+use Rattle.kabi_types.specs.Arguments.{count_of}
 use Rattle.memfs_ops.specs.Changing.{ChangedTo}
 use Rattle.posix_defs.specs.TreeChanges.{resize}
 use Rattle.holding_laws.specs.Holders.{holders}

@@ -1,6 +1,6 @@
 use Rattle.std.proofs.Common.{◌≡◌, ◌<◌, false, true, None, sym, subst, w64, arith}
 use Rattle.std.proofs.lemmas.Int.{to_z-of_z}
-use Rattle.kabi_calls.specs.Arguments.{count_of, range_fault}
+use Rattle.kabi_types.specs.Arguments.{count_of, range_fault}
 use Rattle.proc_files.proofs.Ranges.{range_tells}
 use Rattle.proc_files.proofs.spaces.range_of.Goals as goal
 

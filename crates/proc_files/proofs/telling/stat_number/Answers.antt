@@ -1,7 +1,7 @@
 use Rattle.std.proofs.Common.{◌≡◌, ◌∙◌, ap, None, Some, subst, w64}
 use Rattle.std.specs.Option.{option_map}
 use Rattle.std.proofs.lemmas.Int.{to_z-of_z}
-use Rattle.kabi_values.specs.declared.replies.Reply.TheVariants.{Stat}
+use Rattle.kabi_types.specs.declared.replies.Reply.TheVariants.{Stat}
 use Rattle.posix_defs.specs.Answer.{replied}
 use Rattle.posix_defs.specs.Calls.Opened.{opened_at}
 use Rattle.proc_queues.specs.Found.{opened_in}

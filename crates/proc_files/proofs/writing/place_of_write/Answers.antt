@@ -1,5 +1,5 @@
 use Rattle.std.proofs.Common.{◌∙◌, ap, cond, sym}
-use Rattle.kabi_values.specs.declared.replies.StatInfo.{StatInfo}
+use Rattle.kabi_types.specs.declared.replies.StatInfo.{StatInfo}
 use Rattle.posix_defs.specs.Tree.{size_at}
 use Rattle.proc_files.proofs.writing.place_of_write.Goals as goal
 

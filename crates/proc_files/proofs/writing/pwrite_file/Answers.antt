@@ -1,8 +1,8 @@
 use Rattle.std.proofs.Common.{◌≡◌, ◌∙◌, ◌≤◌, ap, false, true, None, of_z, pos, refl, Some, sym, subst, to_z, w64, arith, is_some}
 use Rattle.std.proofs.lemmas.Int.{to_z-of_z}
-use Rattle.kabi_calls.specs.Arguments.{count_of, range_fault}
-use Rattle.kabi_values.specs.declared.errnos.Errno.TheVariants.{EBADF, EFAULT, EISDIR, ESPIPE}
-use Rattle.kabi_values.specs.declared.replies.Reply.TheVariants.{Fail, Val}
+use Rattle.kabi_types.specs.Arguments.{count_of, range_fault}
+use Rattle.kabi_types.specs.declared.errnos.Errno.TheVariants.{EBADF, EFAULT, EISDIR, ESPIPE}
+use Rattle.kabi_types.specs.declared.replies.Reply.TheVariants.{Fail, Val}
 use Rattle.posix_defs.specs.Calls.Writing.{wrote_at}
 use Rattle.posix_defs.specs.Memory.{loaded}
 use Rattle.posix_defs.specs.Process.{memory_of}
@@ -16,7 +16,7 @@ use Rattle.proc_files.proofs.Ranges.{as_mapped, as_range, bytes_same, memory_her
 use Rattle.proc_files.proofs.WriteAnswers.{pwrite_closed, pwrite_denied, pwrite_directory, pwrite_goes, pwrite_nothing, pwrite_refused, pwrite_unmapped}
 use Rattle.proc_files.proofs.WriteLeads.{pwrites}
 use Rattle.posix_defs.specs.TreeChanges.{write as tree_write}
-use Rattle.kabi_calls.specs.declared.calls.Call.TheVariants as call
+use Rattle.kabi_types.specs.declared.calls.Call.TheVariants as call
 use Rattle.proc_files.proofs.writing.pwrite_file.Goals as goal
 
 pub opened-requires-clause-there : goal.opened-requires-clause-there

@@ -1,11 +1,11 @@
 use Rattle.std.proofs.Common.{◌≡◌, ◌∙◌, ◌≤◌, ◌+◌, ap, false, true, List, None, of_z, Option, pos, refl, Some, sym, subst, to_z, w64, arith, is_some}
 use Rattle.std.proofs.lemmas.Int.{to_z-of_z}
-use Rattle.kabi_calls.specs.Arguments.{count_of, range_fault}
-use Rattle.kabi_values.specs.declared.errnos.Errno.TheVariants.{EBADF, EFAULT}
-use Rattle.kabi_values.specs.declared.replies.Reply.TheVariants.{Fail, Val}
+use Rattle.kabi_types.specs.Arguments.{count_of, range_fault}
+use Rattle.kabi_types.specs.declared.errnos.Errno.TheVariants.{EBADF, EFAULT}
+use Rattle.kabi_types.specs.declared.replies.Reply.TheVariants.{Fail, Val}
 use Rattle.kheap_laws.proofs.PaidLemmas.{IsPaid-nothing, IsPaid-trans}
-use Rattle.kheap_shelves.specs.Objects.{object}
-use Rattle.kheap_shelves.specs.declared.objects.Desc.{Desc}
+use Rattle.kheap_slabs.specs.Objects.{object}
+use Rattle.kheap_slabs.specs.declared.objects.Desc.{Desc}
 use Rattle.memfs_ops.specs.Changing.{LedTo}
 use Rattle.posix_defs.specs.Calls.Writing.{wrote, write_file}
 use Rattle.posix_defs.specs.Memory.{loaded}
@@ -25,7 +25,7 @@ use Rattle.proc_files.proofs.Ranges.{as_mapped, as_range, bytes_same, memory_her
 use Rattle.proc_files.proofs.WriteAnswers.{write_closed, write_denied, write_goes, write_nothing, write_unmapped}
 use Rattle.proc_files.proofs.WriteLeads.{unmoved_beside, write_below, writes_nothing, writes_some, written_beside}
 use Rattle.posix_defs.specs.TreeChanges.{write as tree_write}
-use Rattle.kabi_calls.specs.declared.calls.Call.TheVariants as call
+use Rattle.kabi_types.specs.declared.calls.Call.TheVariants as call
 use Rattle.proc_files.proofs.writing.write_file.Goals as goal
 
 pub opened-requires-clause-there : goal.opened-requires-clause-there

@@ -1,6 +1,6 @@
 use Rattle.std.proofs.Common.{◌∙◌, [], List, Option, None, ap, is_some, sym}
 use Rattle.std.specs.Prelude.{slice_index_or}
-use Rattle.kheap_shelves.specs.declared.objects.Descriptor.{Descriptor}
+use Rattle.kheap_slabs.specs.declared.objects.Descriptor.{Descriptor}
 use Rattle.proc_descs.proofs.NumberNames.{desc_named}
 use Rattle.proc_names.proofs.Closed.{going_named}
 use Rattle.proc_names.proofs.closing.socket_going.Goals as goal

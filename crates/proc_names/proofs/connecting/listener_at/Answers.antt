@@ -1,5 +1,5 @@
 use Rattle.std.proofs.Common.{◌≡◌, ◌∙◌, inl, inr, subst, sym}
-use Rattle.kheap_shelves.specs.declared.objects.SockState.TheVariants as state
+use Rattle.kheap_slabs.specs.declared.objects.SockState.TheVariants as state
 use Rattle.usock_core.specs.Standing.{IsListeningIn}
 use Rattle.proc_names.proofs.Listening.{listener_there, no_listener, nobody_there, same_number, stage_there}
 use Rattle.proc_names.proofs.Tables.{named_used}

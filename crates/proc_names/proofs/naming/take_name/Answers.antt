@@ -1,5 +1,5 @@
 use Rattle.std.proofs.Common.{ℕ, List, Option, None, ap, is_some, subst, sym}
-use Rattle.kheap_shelves.proofs.ObjectLemmas.{InUse-within}
+use Rattle.kheap_slabs.proofs.ObjectLemmas.{InUse-within}
 use Rattle.holding_laws.specs.Names.{AreBound, name_of}
 use Rattle.proc_names.proofs.Tables.{named_now, named_others}
 use Rattle.proc_names.proofs.Ties.{bound_taken}

@@ -1,7 +1,7 @@
 use Rattle.std.proofs.Common.{◌≡◌, ◌<◌, ◌∙◌, ap, is_some, refl, subst, sym, w64, arith}
 use Rattle.std.proofs.lemmas.Int.{to_z-of_z}
-use Rattle.kabi_calls.specs.Arguments.{count_of}
-use Rattle.kabi_values.specs.declared.errnos.Errno.TheVariants.{EBADF}
+use Rattle.kabi_types.specs.Arguments.{count_of}
+use Rattle.kabi_types.specs.declared.errnos.Errno.TheVariants.{EBADF}
 use Rattle.posix_defs.specs.Calls.OnDescriptors.{close}
 use Rattle.posix_defs.specs.Files.Closing.{after_close}
 use Rattle.proc_descs.specs.Having.{HaveOpen, node_closed}

@@ -1,7 +1,7 @@
 use Rattle.std.proofs.Common.{◌≡◌, ◌<◌, ◌∙◌, Some, ap, is_some, subst, sym}
 use Rattle.std.proofs.lemmas.List.{length-set}
-use Rattle.kheap_shelves.specs.Objects.{object, put}
-use Rattle.kheap_shelves.proofs.ObjectLemmas.{InUse-within}
+use Rattle.kheap_slabs.specs.Objects.{object, put}
+use Rattle.kheap_slabs.proofs.ObjectLemmas.{InUse-within}
 use Rattle.kheap_slabs.specs.Heap.{Heap}
 use Rattle.proc_pipes.specs.Opening.{end_of}
 use Rattle.proc_pipes.proofs.piping.describe.Goals as goal

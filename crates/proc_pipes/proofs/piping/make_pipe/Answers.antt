@@ -1,8 +1,8 @@
 use Rattle.std.proofs.Common.{◌+◌, ◌∙◌, false, List, [], ◌∷◌, Option, None, ap, refl, subst, sym, arith}
 use Rattle.std.specs.Prelude.{IfSome, slice_index_or}
-use Rattle.kabi_values.specs.declared.errnos.Errno.TheVariants.{EMFILE}
-use Rattle.kabi_values.specs.declared.replies.Reply.TheVariants.{Pair}
-use Rattle.kheap_shelves.specs.declared.objects.Proc.{Proc}
+use Rattle.kabi_types.specs.declared.errnos.Errno.TheVariants.{EMFILE}
+use Rattle.kabi_types.specs.declared.replies.Reply.TheVariants.{Pair}
+use Rattle.kheap_slabs.specs.declared.objects.Proc.{Proc}
 use Rattle.kheap_slabs.specs.Heap.{Heap}
 use Rattle.kheap_laws.proofs.PaidLemmas.{CanPay-kept, IsPaid-nothing, IsPaid-trans, TakesNothing-trans}
 use Rattle.posix_defs.specs.Answer.{replied}

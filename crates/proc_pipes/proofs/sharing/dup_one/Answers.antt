@@ -1,6 +1,6 @@
 use Rattle.std.proofs.Common.{◌≡◌, ◌∙◌, [], ap, is_some, subst, sym, w64}
 use Rattle.std.proofs.lemmas.Int.{to_z-of_z}
-use Rattle.kabi_values.specs.declared.errnos.Errno.TheVariants.{EBADF}
+use Rattle.kabi_types.specs.declared.errnos.Errno.TheVariants.{EBADF}
 use Rattle.open_laws.specs.Described.{counted_in}
 use Rattle.posix_defs.specs.Calls.OnDescriptors.{dup}
 use Rattle.proc_descs.specs.Naming.{named_by}

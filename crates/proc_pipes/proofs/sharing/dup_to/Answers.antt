@@ -1,8 +1,8 @@
 use Rattle.std.proofs.Common.{◌≡◌, ◌∙◌, [], true, false, ap, refl, pos, subst, sym, w64}
 use Rattle.std.proofs.lemmas.Int.{to_z-of_z}
-use Rattle.kabi_calls.specs.Arguments.{count_of, may_be_descriptor}
-use Rattle.kabi_values.specs.declared.errnos.Errno.TheVariants.{EBADF}
-use Rattle.kabi_values.specs.declared.replies.Reply.TheVariants.{Val}
+use Rattle.kabi_types.specs.Arguments.{count_of, may_be_descriptor}
+use Rattle.kabi_types.specs.declared.errnos.Errno.TheVariants.{EBADF}
+use Rattle.kabi_types.specs.declared.replies.Reply.TheVariants.{Val}
 use Rattle.open_laws.specs.Described.{counted_in}
 use Rattle.posix_defs.specs.Answer.{replied}
 use Rattle.posix_defs.specs.Calls.OnDescriptors.{dup2, shared_at}

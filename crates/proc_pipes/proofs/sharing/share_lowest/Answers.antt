@@ -1,6 +1,6 @@
 use Rattle.std.proofs.Common.{◌∙◌, Some, false, ap, subst}
 use Rattle.std.specs.Prelude.{IfSome}
-use Rattle.kabi_values.specs.declared.errnos.Errno.TheVariants.{EMFILE}
+use Rattle.kabi_types.specs.declared.errnos.Errno.TheVariants.{EMFILE}
 use Rattle.posix_defs.specs.Calls.OnDescriptors.{duplicated}
 use Rattle.posix_defs.specs.Files.State.{with_open}
 use Rattle.proc_descs.proofs.NumberCloses.{no_some}

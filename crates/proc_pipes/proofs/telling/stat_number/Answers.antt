@@ -1,6 +1,6 @@
 use Rattle.std.proofs.Common.{◌≡◌, ◌∙◌, [], ap, is_some, subst, sym, w64}
 use Rattle.std.proofs.lemmas.Int.{to_z-of_z}
-use Rattle.kabi_values.specs.declared.replies.Reply.TheVariants.{Stat}
+use Rattle.kabi_types.specs.declared.replies.Reply.TheVariants.{Stat}
 use Rattle.posix_defs.specs.Answer.{replied}
 use Rattle.posix_defs.specs.Calls.OnFiles.{fstat}
 use Rattle.proc_descs.specs.Naming.{named_by}

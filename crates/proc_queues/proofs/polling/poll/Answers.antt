@@ -1,6 +1,6 @@
 use Rattle.std.proofs.Common.{◌==◌, ◌&&◌, ◌∙◌, ap, sym, w64}
 use Rattle.std.proofs.lemmas.Int.{to_z-of_z}
-use Rattle.kabi_calls.specs.Arguments.{is_minus_one}
+use Rattle.kabi_types.specs.Arguments.{is_minus_one}
 use Rattle.posix_defs.specs.Calls.Polling.{hits_of, revents_of}
 use Rattle.proc_queues.proofs.Polls.{leads_polled, leads_waiting}
 use Rattle.proc_queues.proofs.polling.poll.Goals as goal

@@ -2,7 +2,7 @@ use Rattle.std.proofs.Common.{◌≡◌, ◌∙◌, ◌<◌, ap, eq-eqb, false, 
 use Rattle.std.proofs.lemmas.Bool.{cases_eq}
 use Rattle.std.specs.Int.{cast_unsigned}
 use Rattle.std.proofs.lemmas.Int.{to_z-of_z}
-use Rattle.kabi_calls.specs.Arguments.{count_of}
+use Rattle.kabi_types.specs.Arguments.{count_of}
 use Rattle.posix_defs.specs.Machine.{blocks}
 use Rattle.proc_queues.specs.Found.{IsNamed}
 use Rattle.proc_queues.proofs.Finding.{alive_listed, only_pipe, pipe_of}

@@ -1,7 +1,7 @@
 use Rattle.std.proofs.Common.{◌∙◌, ◌≡◌, ◌+◌, false, [], ◌∷◌, Some, ap, arith, refl, subst, sym}
 use Rattle.std.specs.Prelude.{IfSome}
-use Rattle.kabi_values.specs.declared.replies.Reply.TheVariants.{Pair}
-use Rattle.kabi_values.specs.declared.errnos.Errno.TheVariants.{EMFILE}
+use Rattle.kabi_types.specs.declared.replies.Reply.TheVariants.{Pair}
+use Rattle.kabi_types.specs.declared.errnos.Errno.TheVariants.{EMFILE}
 use Rattle.kheap_slabs.specs.Heap.{Heap}
 use Rattle.kheap_laws.proofs.PaidLemmas.{CanPay-kept, IsPaid-nothing, IsPaid-trans, TakesNothing-trans}
 use Rattle.posix_defs.specs.Answer.{replied}

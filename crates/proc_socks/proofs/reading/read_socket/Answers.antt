@@ -1,10 +1,10 @@
 use Rattle.std.proofs.Common.{◌≡◌, ◌<◌, false, [], pos, refl, subst, true, w64}
 use Rattle.std.specs.Int.{cast_unsigned}
 use Rattle.std.proofs.lemmas.Int.{to_z-of_z}
-use Rattle.kabi_calls.specs.Arguments.{count_of}
-use Rattle.kabi_calls.specs.declared.calls.Call.TheVariants as call
-use Rattle.kabi_values.specs.declared.errnos.Errno.TheVariants.{EBADF, EFAULT}
-use Rattle.kabi_values.specs.declared.replies.Reply.TheVariants.{Fail, Val}
+use Rattle.kabi_types.specs.Arguments.{count_of}
+use Rattle.kabi_types.specs.declared.calls.Call.TheVariants as call
+use Rattle.kabi_types.specs.declared.errnos.Errno.TheVariants.{EBADF, EFAULT}
+use Rattle.kabi_types.specs.declared.replies.Reply.TheVariants.{Fail, Val}
 use Rattle.posix_defs.specs.Sockets.{sock_read}
 use Rattle.proc_queues.proofs.Finding.{alive_listed}
 use Rattle.proc_queues.proofs.Leading.{leads_over}

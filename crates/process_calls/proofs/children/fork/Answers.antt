@@ -1,7 +1,7 @@
 use Rattle.std.proofs.Common.{◌≡◌, ◌∙◌, ap, is_some, pos, refl, subst, sym, w64}
 use Rattle.std.specs.Prelude.{Ok}
 use Rattle.std.proofs.lemmas.Int.{to_z-of_z}
-use Rattle.kabi_values.specs.declared.replies.Reply.TheVariants.{Fail, Val}
+use Rattle.kabi_types.specs.declared.replies.Reply.TheVariants.{Fail, Val}
 use Rattle.kheap_laws.proofs.PaidLemmas.{IsPaid-nothing, IsPaid-trans, TakesNothing-trans}
 use Rattle.posix_defs.specs.declared.turner.Turned.TheVariants.{Done}
 use Rattle.proc_table.specs.Accounting.{HasAccount, forked_account}

@@ -1,7 +1,7 @@
 use Rattle.std.proofs.Common.{◌≡◌, ◌∙◌, ap, pos, cond, refl, subst, sym, w64}
 use Rattle.std.proofs.lemmas.Int.{to_z-of_z}
-use Rattle.kabi_values.specs.declared.errnos.Errno.TheVariants.{ECHILD}
-use Rattle.kabi_values.specs.declared.replies.Reply.TheVariants.{Fail, Val, Waited}
+use Rattle.kabi_types.specs.declared.errnos.Errno.TheVariants.{ECHILD}
+use Rattle.kabi_types.specs.declared.replies.Reply.TheVariants.{Fail, Val, Waited}
 use Rattle.posix_defs.specs.Answer.{Blocked, replied}
 use Rattle.posix_defs.specs.Plain.{with_table}
 use Rattle.posix_defs.specs.Waiting.{is_nohang}

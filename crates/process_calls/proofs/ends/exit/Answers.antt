@@ -1,6 +1,6 @@
 use Rattle.std.proofs.Common.{◌≡◌, refl, subst, w64}
 use Rattle.std.proofs.lemmas.Int.{to_z-of_z}
-use Rattle.kabi_calls.specs.declared.calls.Call.TheVariants as call
+use Rattle.kabi_types.specs.declared.calls.Call.TheVariants as call
 use Rattle.posix_defs.specs.Answer.{Ended}
 use Rattle.posix_defs.specs.Ending.{die, exit_status}
 use Rattle.posix_defs.specs.declared.turner.Turned.TheVariants as turned

@@ -1,6 +1,6 @@
 use Rattle.std.proofs.Common.{◌+◌, sym, subst}
-use Rattle.kheap_shelves.specs.Objects.{InUse}
-use Rattle.kheap_shelves.proofs.ObjectLemmas.{InUse-put}
+use Rattle.kheap_slabs.specs.Objects.{InUse}
+use Rattle.kheap_slabs.proofs.ObjectLemmas.{InUse-put}
 use Rattle.kheap_slabs.specs.Heap.{Heap}
 use Rattle.open_laws.specs.Described.{counting}
 use Rattle.process_trials.proofs.descriptors.share.Goals as goal

@@ -1,5 +1,5 @@
 use Rattle.std.proofs.Common.{ap, is_some, subst, sym, ◌∙◌}
-use Rattle.kheap_shelves.specs.Objects.{object}
+use Rattle.kheap_slabs.specs.Objects.{object}
 use Rattle.kheap_slabs.specs.Heap.{Heap}
 use Rattle.page_space.specs.Contents.{IsOwnedWith, SpaceMoves}
 use Rattle.proc_table.specs.Moves.{SpaceTurns}

@@ -1,5 +1,5 @@
 use Rattle.std.proofs.Common.{map, ap, ◌∙◌}
-use Rattle.kabi_calls.specs.Arguments.{argument_fault, path_fault, paths_fault, renamed_fault}
+use Rattle.kabi_types.specs.Arguments.{argument_fault, path_fault, paths_fault, renamed_fault}
 use Rattle.posix_defs.specs.Control.{value_of}
 use Rattle.posix_defs.specs.Made.{made, text_at}
 use Rattle.prog_ctl.proofs.Asking.{bound_by_fault, fault_on_path}

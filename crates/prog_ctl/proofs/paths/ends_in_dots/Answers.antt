@@ -4,8 +4,8 @@ use Rattle.std.specs.Option.{option_map, option_map_or, MatchOption}
 use Rattle.std.proofs.lemmas.Iterator.{items_from_drains}
 use Rattle.std.proofs.lemmas.Iterator.Consumers.{YieldsList-at, YieldsList-from_filter}
 use Rattle.std.proofs.lemmas.Iterator.Splits.{YieldsList-from_slice_split}
-use Rattle.kabi_calls.specs.PathParts.{components, has_bytes, is_dots, is_slash}
-use Rattle.kabi_calls.proofs.PathLemmas.{last_or-map}
+use Rattle.kabi_types.specs.PathParts.{components, has_bytes, is_dots, is_slash}
+use Rattle.kabi_types.proofs.PathLemmas.{last_or-map}
 use Rattle.prog_ctl.proofs.paths.ends_in_dots.Goals as goal
 
 -- a test of what is there, and false of nothing

@@ -2,7 +2,7 @@ use Rattle.std.proofs.Common.{rules, tests}
 use Rattle.std.proofs.lemmas.Iterator.Consumers.{YieldsList-at, YieldsList-from_filter}
 use Rattle.std.proofs.lemmas.Iterator.Search.{any_from_yields_List}
 use Rattle.std.proofs.lemmas.Iterator.Splits.{YieldsList-from_slice_split}
-use Rattle.kabi_calls.specs.PathParts.{has_bytes, is_long, is_slash}
+use Rattle.kabi_types.specs.PathParts.{has_bytes, is_long, is_slash}
 use Rattle.prog_ctl.proofs.paths.has_long_part.Goals as goal
 
 pub returns : goal.returns

@@ -1,6 +1,6 @@
 use Rattle.std.proofs.Common.{refl, subst, sym, w64}
 use Rattle.std.proofs.lemmas.Int.{to_z-of_z}
-use Rattle.kabi_calls.specs.declared.calls.Call.TheVariants as call
+use Rattle.kabi_types.specs.declared.calls.Call.TheVariants as call
 use Rattle.posix_defs.specs.Calls.Polling.{poll}
 use Rattle.proc_queues.specs.Standing.{Leads}
 use Rattle.store_objects.specs.Standing.{Performs}

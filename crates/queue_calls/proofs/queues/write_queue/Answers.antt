@@ -1,6 +1,6 @@
 use Rattle.std.proofs.Common.{subst, sym, w64}
 use Rattle.std.proofs.lemmas.Int.{to_z-of_z}
-use Rattle.kabi_calls.specs.declared.calls.Call.TheVariants as call
+use Rattle.kabi_types.specs.declared.calls.Call.TheVariants as call
 use Rattle.posix_defs.specs.Calls.Writing.{write}
 use Rattle.proc_files.specs.Reading.{IsOffNodes}
 use Rattle.proc_queues.specs.Standing.{Leads}

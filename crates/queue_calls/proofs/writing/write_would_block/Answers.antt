@@ -1,7 +1,7 @@
 use Rattle.std.proofs.Common.{◌≡◌, ◌∙◌, sym, w64}
 use Rattle.std.specs.Prelude.{is_none}
 use Rattle.std.proofs.lemmas.Int.{to_z-of_z}
-use Rattle.kabi_calls.specs.Arguments.{moved_fault}
+use Rattle.kabi_types.specs.Arguments.{moved_fault}
 use Rattle.posix_defs.specs.Calls.Writing.{write}
 use Rattle.posix_defs.specs.Machine.{blocks}
 use Rattle.store_objects.proofs.RunningProcs.{alive_runs}

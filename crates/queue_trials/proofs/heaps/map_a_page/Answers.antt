@@ -1,6 +1,6 @@
 use Rattle.std.proofs.Common.{rules, slice_set}
-use Rattle.kheap_shelves.specs.Objects.{InUse}
-use Rattle.kheap_shelves.proofs.ObjectLemmas.{InUse-put}
+use Rattle.kheap_slabs.specs.Objects.{InUse}
+use Rattle.kheap_slabs.proofs.ObjectLemmas.{InUse-put}
 use Rattle.queue_trials.proofs.heaps.map_a_page.Goals as goal
 
 pub get_node-requires-then-eq : goal.get_node-requires-then-eq

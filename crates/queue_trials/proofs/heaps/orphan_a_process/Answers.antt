@@ -1,6 +1,6 @@
 use Rattle.std.proofs.Common.{rules}
-use Rattle.kheap_shelves.specs.Objects.{InUse}
-use Rattle.kheap_shelves.proofs.ObjectLemmas.{InUse-put}
+use Rattle.kheap_slabs.specs.Objects.{InUse}
+use Rattle.kheap_slabs.proofs.ObjectLemmas.{InUse-put}
 use Rattle.queue_trials.proofs.heaps.orphan_a_process.Goals as goal
 
 pub get_proc-requires-then-changed : goal.get_proc-requires-then-changed

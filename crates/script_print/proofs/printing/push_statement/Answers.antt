@@ -1,6 +1,6 @@
 use Rattle.std.proofs.Common.{◌≡◌, ℕ, List, [], ◌∷◌, Option, ap, sym}
 use Rattle.std.specs.Prelude.{codes}
-use Rattle.kabi_calls.specs.Words.{word_of}
+use Rattle.kabi_types.specs.Words.{word_of}
 use Rattle.kabi_types.specs.declared.scripts.Statement.{Statement}
 use Rattle.posix_defs.specs.Canonical.{label_word, operand_word, operand_words, shown_bytes, statement_words, target_words, test_text, words_text}
 use Rattle.posix_defs.specs.ScriptLines.{shape_of}

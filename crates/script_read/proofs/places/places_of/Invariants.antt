@@ -1,6 +1,6 @@
 use Rattle.std.proofs.Common.{◌≡◌, ℕ, ◌+◌, ◌≤◌, List, length}
 use Rattle.indexmap.specs.IndexMap.{get}
-use Rattle.kabi_values.specs.contracts.short_lists.Name27PartialEq.TheImpl.{eq-value}
+use Rattle.kabi_types.specs.contracts.short_lists.Name27PartialEq.TheImpl.{eq-value}
 use Rattle.posix_defs.specs.ScriptValues.{or_else}
 use Rattle.script_read.specs.LabelPlaces.{place_from}
 use Rattle.script_read.proofs.places.places_of.Given as goal

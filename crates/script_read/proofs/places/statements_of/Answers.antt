@@ -2,7 +2,7 @@ use Rattle.std.proofs.Common.{◌≡◌, ℕ, ◌+◌, List, [], ◌∷◌, ◌+
 use Rattle.std.specs.Prelude.{reverse}
 use Rattle.std.proofs.lemmas.List.{append_assoc, length-append}
 use Rattle.indexmap.specs.IndexMap.{get}
-use Rattle.kabi_values.specs.contracts.short_lists.Name27PartialEq.TheImpl.{eq-value}
+use Rattle.kabi_types.specs.contracts.short_lists.Name27PartialEq.TheImpl.{eq-value}
 use Rattle.script_read.specs.LabelPlaces.{before, body_from, placed_in}
 use Rattle.script_read.proofs.Placing.{told, told_before, turned}
 use Rattle.script_read.proofs.places.statements_of.Goals as goal

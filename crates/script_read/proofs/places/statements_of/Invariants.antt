@@ -1,7 +1,7 @@
 use Rattle.std.proofs.Common.{◌≡◌, ◌≤◌, List, ◌++◌, length}
 use Rattle.std.specs.Prelude.{reverse}
 use Rattle.indexmap.specs.IndexMap.{get}
-use Rattle.kabi_values.specs.contracts.short_lists.Name27PartialEq.TheImpl.{eq-value}
+use Rattle.kabi_types.specs.contracts.short_lists.Name27PartialEq.TheImpl.{eq-value}
 use Rattle.posix_defs.specs.declared.said.Stated.{Stated}
 use Rattle.script_read.specs.LabelPlaces.{body_from}
 use Rattle.script_read.proofs.Placing.{told}

@@ -1,6 +1,6 @@
 use Rattle.std.proofs.Common.{of_z, refl, subst, sym, to_z, w64}
 use Rattle.std.proofs.lemmas.Int.{to_z-of_z}
-use Rattle.kabi_calls.specs.declared.calls.Call.TheVariants as call
+use Rattle.kabi_types.specs.declared.calls.Call.TheVariants as call
 use Rattle.kheap_laws.proofs.PaidLemmas.{TakesNothing-trans}
 use Rattle.open_moves.proofs.Replying.{no_frames}
 use Rattle.pipe_calls.proofs.Performing.{key_who_runs, kept_then, performs, runs_then}

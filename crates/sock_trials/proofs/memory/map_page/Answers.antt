@@ -1,5 +1,5 @@
 use Rattle.std.proofs.Common.{◌∙◌, ap, is_some}
-use Rattle.kheap_shelves.specs.Objects.{object, put}
+use Rattle.kheap_slabs.specs.Objects.{object, put}
 use Rattle.kheap_slabs.specs.Heap.{Heap}
 use Rattle.sock_trials.proofs.Calls.{called_mapped}
 use Rattle.sock_trials.proofs.memory.map_page.Goals as goal

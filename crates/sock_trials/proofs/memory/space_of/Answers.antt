@@ -1,6 +1,6 @@
 use Rattle.std.proofs.Common.{◌≡◌, ◌∙◌, ap, subst, sym}
 use Rattle.std.specs.Prelude.{is_some, Some}
-use Rattle.kheap_shelves.specs.declared.objects.Proc.{Proc}
+use Rattle.kheap_slabs.specs.declared.objects.Proc.{Proc}
 use Rattle.page_space.specs.Contents.{IsOwnedWith}
 use Rattle.proc_table.specs.Procs.{proc_of}
 use Rattle.proc_table.specs.Table.{processes}

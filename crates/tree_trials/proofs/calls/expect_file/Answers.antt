@@ -1,5 +1,5 @@
 use Rattle.std.proofs.Common.{sym, ap, ◌∙◌}
-use Rattle.kabi_values.specs.declared.replies.StatInfo.{StatInfo}
+use Rattle.kabi_types.specs.declared.replies.StatInfo.{StatInfo}
 use Rattle.tree_trials.specs.Trials.{holders}
 use Rattle.tree_trials.proofs.Holding.{keeps_file}
 use Rattle.tree_trials.proofs.calls.expect_file.Goals as goal

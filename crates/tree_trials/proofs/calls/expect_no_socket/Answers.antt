@@ -1,5 +1,5 @@
 use Rattle.std.proofs.Common.{◌≡◌, false, get_or, sym, ap, ◌∙◌, below_more, arith}
-use Rattle.kabi_values.specs.declared.replies.StatInfo.{StatInfo}
+use Rattle.kabi_types.specs.declared.replies.StatInfo.{StatInfo}
 use Rattle.posix_defs.specs.PathCalls.{is_socket, is_socket_kind}
 use Rattle.tree_trials.specs.Trials.{holders}
 use Rattle.tree_trials.proofs.Holding.{held_there, no_sockets}

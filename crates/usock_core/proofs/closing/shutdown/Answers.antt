@@ -1,7 +1,7 @@
 use Rattle.std.proofs.Common.{[], refl, ap, ◌∙◌}
 use Rattle.std.proofs.Common.{w64}
 use Rattle.std.proofs.lemmas.Int.{to_z-of_z}
-use Rattle.kheap_shelves.specs.declared.objects.Sock.{Sock}
+use Rattle.kheap_slabs.specs.declared.objects.Sock.{Sock}
 use Rattle.usock_core.proofs.CallLemmas.{shut_stands, dropped_if, kept_if}
 use Rattle.usock_core.proofs.HeldLemmas.{held_shut}
 use Rattle.usock_core.proofs.closing.shutdown.Goals as goal

@@ -1,5 +1,5 @@
 use Rattle.std.proofs.Common.{None, [], refl}
-use Rattle.kheap_shelves.specs.declared.objects.SockState.TheVariants as state
+use Rattle.kheap_slabs.specs.declared.objects.SockState.TheVariants as state
 use Rattle.kheap_slabs.specs.Queues.{empty_queue}
 use Rattle.usock_core.specs.Standing.{in_row}
 use Rattle.usock_core.proofs.CallLemmas.{made_stands}

@@ -1,5 +1,5 @@
 use Rattle.std.proofs.Common.{◌≡◌, ℕ, ◌<◌, false, get_or}
-use Rattle.kheap_shelves.specs.Objects.{object}
+use Rattle.kheap_slabs.specs.Objects.{object}
 use Rattle.vnode_cache.specs.Nodes.{is_loose}
 use Rattle.vnode_cache.proofs.cache.first_loose.Given as goal
 

@@ -1,10 +1,10 @@
 use Rattle.std.proofs.Common.{◌≡◌, ◌+◌, ◌-◌, ◌<◌, None, Some, [], ◌∷◌, ◌++◌, length, nat_eq, eqb-true, refl, sym, ap, ◌∙◌, subst, length-append}
 use Rattle.std.specs.Cmp.{nat_eq_equiv}
-use Rattle.kabi_values.specs.declared.classes.Class.TheVariants as class
-use Rattle.kheap_shelves.specs.Purse.{fills_of, with_fills}
-use Rattle.kheap_shelves.specs.Objects.{object, put}
-use Rattle.kheap_shelves.specs.declared.objects.Block.{Block}
-use Rattle.kheap_shelves.proofs.ObjectLemmas.{put-within}
+use Rattle.kabi_types.specs.declared.classes.Class.TheVariants as class
+use Rattle.kheap_slabs.specs.Purse.{fills_of, with_fills}
+use Rattle.kheap_slabs.specs.Objects.{object, put}
+use Rattle.kheap_slabs.specs.declared.objects.Block.{Block}
+use Rattle.kheap_slabs.proofs.ObjectLemmas.{put-within}
 use Rattle.kheap_slabs.specs.Paid.{AreFills}
 use Rattle.kheap_laws.proofs.FillLemmas.{AreFills-add}
 use Rattle.block_cache.specs.Blocks.{block, block_slot, KeepsBlocks}

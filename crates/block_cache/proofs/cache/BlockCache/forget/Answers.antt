@@ -1,6 +1,6 @@
 use Rattle.std.proofs.Common.{◌≡◌, ◌+◌, Some, length, nat_eq, eqb-true, sym, ap, ◌∙◌, subst}
 use Rattle.std.specs.Cmp.{nat_eq_equiv}
-use Rattle.kheap_shelves.specs.declared.objects.Block.{Block}
+use Rattle.kheap_slabs.specs.declared.objects.Block.{Block}
 use Rattle.block_cache.specs.Blocks.{block_slot, KeepsBlocks}
 use Rattle.cache_laws.proofs.KeepsLemmas.{keeps_used, keeps_dropped, long_removed}
 use Rattle.block_cache.proofs.cache.BlockCache.forget.Goals as goal

@@ -1,10 +1,10 @@
 use Rattle.std.proofs.Common.{nat_eq, eqb-true, ◌≡◌, ◌≢◌, ℕ, cond, None, Some, IsSome, length, Contains, refl, sym, ap, ◌∙◌, subst, inl, inr}
 use Rattle.std.specs.Prelude.{MatchOption, remove}
 use Rattle.std.specs.Cmp.{nat_eq_equiv}
-use Rattle.kheap_shelves.specs.declared.objects.Block.{Block}
+use Rattle.kheap_slabs.specs.declared.objects.Block.{Block}
 use Rattle.std.specs.Map.{remove_entry}
-use Rattle.kheap_shelves.specs.Objects.{InUse, without}
-use Rattle.kheap_shelves.proofs.ObjectLemmas.{object-without_other}
+use Rattle.kheap_slabs.specs.Objects.{InUse, without}
+use Rattle.kheap_slabs.proofs.ObjectLemmas.{object-without_other}
 use Rattle.kheap_slabs.specs.Paid.{AreFills}
 use Rattle.kheap_laws.proofs.FillLemmas.{AreFills-kept}
 use Rattle.kheap_laws.proofs.PaidLemmas.{IsPaid-nothing, IsPaid-refl}

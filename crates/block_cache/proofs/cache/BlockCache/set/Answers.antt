@@ -1,9 +1,9 @@
 use Rattle.std.proofs.Common.{◌≡◌, ℕ, Option, Some, None, IsSome, eqb-true, refl, sym, subst}
 use Rattle.std.specs.Prelude.{MatchOption}
 use Rattle.std.specs.Cmp.{nat_eq_equiv}
-use Rattle.kheap_shelves.specs.Objects.{put}
-use Rattle.kheap_shelves.specs.declared.objects.Block.{Block}
-use Rattle.kheap_shelves.proofs.ObjectLemmas.{InUse-within, object-put}
+use Rattle.kheap_slabs.specs.Objects.{put}
+use Rattle.kheap_slabs.specs.declared.objects.Block.{Block}
+use Rattle.kheap_slabs.proofs.ObjectLemmas.{InUse-within, object-put}
 use Rattle.block_cache.specs.Blocks.{block, block_slot, cached_block}
 use Rattle.cache_laws.proofs.KeepsLemmas.{keeps_used, cached_is}
 use Rattle.block_cache.proofs.cache.BlockCache.set.Goals as goal

@@ -1,6 +1,6 @@
 use Rattle.std.proofs.Common.{◌≡◌, nat_eq, eqb-true, Option, Some, None, ℕ, IfNone, List, sym, ap, ◌∙◌, subst}
 use Rattle.std.specs.Cmp.{nat_eq_equiv}
-use Rattle.kheap_shelves.specs.declared.objects.Block.{Block}
+use Rattle.kheap_slabs.specs.declared.objects.Block.{Block}
 use Rattle.lru_index.specs.Order.{Order, order, touched}
 use Rattle.lru_index.proofs.Pairs.{touched_absent}
 use Rattle.block_cache.specs.Blocks.{block_slot, KeepsBlocks}

@@ -2,8 +2,8 @@ use Rattle.std.proofs.Common.{subst, sym}
 use Rattle.posix_defs.specs.Control as program
 use Rattle.posix_defs.specs.Plain.{control_of}
 use Rattle.posix_defs.specs.Relief.{refused_in}
-use Rattle.kabi_values.specs.declared.errnos.Errno.TheVariants.{ENOMEM}
-use Rattle.kabi_values.specs.declared.replies.Reply.TheVariants.{Fail}
+use Rattle.kabi_types.specs.declared.errnos.Errno.TheVariants.{ENOMEM}
+use Rattle.kabi_types.specs.declared.replies.Reply.TheVariants.{Fail}
 use Rattle.call_run.specs.Stores.{IsStoreOf, Stands}
 use Rattle.call_run.proofs.Telling.{told_further}
 use Rattle.call_run.proofs.store.StoreTurner.refuse.Goals as goal

@@ -1,6 +1,6 @@
 use Rattle.std.proofs.Common.{◌≡◌, length, take, min, ap, sym, ◌∙◌, arith}
 use Rattle.std.proofs.lemmas.List.{length-take}
-use Rattle.kheap_shelves.specs.declared.objects.QueueParts.{QueueParts}
+use Rattle.kheap_slabs.specs.declared.objects.QueueParts.{QueueParts}
 use Rattle.posix_defs.specs.QueuePlace.{chunks_of}
 use Rattle.chunk_queue.proofs.StepLemmas.{owns, empty_without_last, chunks_filled}
 use Rattle.chunk_queue.proofs.queue.Queue.fill.Goals as goal

@@ -2,9 +2,9 @@ use Rattle.std.proofs.Common.{◌≡◌, ◌+◌, ◌-◌, ◌%◌, ℕ, List, l
 use Rattle.std.proofs.lemmas.Slice.{put_mid-paste}
 use Rattle.std.proofs.lemmas.List.Edits.{paste_all}
 use borrow.Rule.Slice.PartMut.{put_mid}
-use Rattle.kheap_shelves.specs.Objects.{put}
-use Rattle.kheap_shelves.specs.declared.objects.Chunk.{Chunk}
-use Rattle.kheap_shelves.specs.declared.objects.QueueParts.{QueueParts}
+use Rattle.kheap_slabs.specs.Objects.{put}
+use Rattle.kheap_slabs.specs.declared.objects.Chunk.{Chunk}
+use Rattle.kheap_slabs.specs.declared.objects.QueueParts.{QueueParts}
 use Rattle.kheap_slabs.specs.Heap.{Heap}
 use Rattle.chunk_queue.proofs.StepLemmas.{owns, last_used, fills_last, with_bytes}
 use Rattle.chunk_queue.proofs.queue.Queue.fill_last.Goals as goal

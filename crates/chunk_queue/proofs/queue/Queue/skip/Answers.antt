@@ -1,5 +1,5 @@
 use Rattle.std.proofs.Common.{rules, ◌≡◌, ap, arith}
-use Rattle.kheap_shelves.specs.declared.objects.QueueParts.{QueueParts}
+use Rattle.kheap_slabs.specs.declared.objects.QueueParts.{QueueParts}
 use Rattle.kheap_slabs.specs.Heap.{Heap}
 use Rattle.chunk_queue.proofs.StepLemmas.{passes_some, passes_all, passes_chunk, first_used}
 use Rattle.chunk_queue.proofs.queue.Queue.skip.Goals as goal

@@ -3,7 +3,7 @@ use Rattle.std.proofs.lemmas.Slice.{put_mid-paste}
 use Rattle.std.proofs.lemmas.List.Edits.{paste_all}
 use Rattle.std.proofs.lemmas.List.{length-take-le, length-drop}
 use borrow.Rule.Slice.PartMut.{put_mid}
-use Rattle.kheap_shelves.specs.declared.objects.QueueParts.{QueueParts}
+use Rattle.kheap_slabs.specs.declared.objects.QueueParts.{QueueParts}
 use Rattle.chunk_queue.specs.Chained.{owned, unread}
 use Rattle.chunk_queue.proofs.StepLemmas.{owns, first_used, first_there_is, front_bytes}
 use Rattle.chunk_queue.proofs.queue.Queue.take_front.Goals as goal

@@ -1,5 +1,5 @@
 use Rattle.std.proofs.Common.{◌≡◌, ℕ, List, sym, subst, arith}
-use Rattle.kabi_values.specs.declared.inodes.Inode.{Inode}
+use Rattle.kabi_types.specs.declared.inodes.Inode.{Inode}
 use Rattle.posix_defs.specs.SoundDisk.{HasInode}
 use Rattle.posix_defs.specs.DiskContents.{HasEntries}
 use Rattle.disk_laws.proofs.FormattedDisk.{one_inode}

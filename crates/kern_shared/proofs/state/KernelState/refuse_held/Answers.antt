@@ -1,6 +1,6 @@
 use Rattle.std.proofs.Common.{◌∷◌, ◌++◌, [], ap, ◌∙◌, subst, arith}
 use Rattle.kabi_types.specs.declared.entries.Entry.TheVariants as entry
-use Rattle.kabi_calls.specs.Call.{kind_of}
+use Rattle.kabi_types.specs.Call.{kind_of}
 use Rattle.posix_defs.specs.Relief.{refused_in}
 use Rattle.kern_shared.proofs.Picking.{lives_in_world}
 use Rattle.kern_shared.proofs.Turned.{refuse_here, refused_now, room_for_entry}

@@ -1,9 +1,9 @@
 use Rattle.std.proofs.Common.{ap, slice_set}
 use Rattle.std.proofs.lemmas.List.{length-set}
-use Rattle.kheap_shelves.specs.Objects.{InUse}
+use Rattle.kheap_slabs.specs.Objects.{InUse}
 use Rattle.kheap_slabs.specs.Heap.{Heap}
 use Rattle.kheap_slabs.specs.Metered.{heap_of}
-use Rattle.kheap_shelves.proofs.ObjectLemmas.{object_of, InUse-put}
+use Rattle.kheap_slabs.proofs.ObjectLemmas.{object_of, InUse-put}
 use Rattle.kheap_slabs.proofs.MeterLemmas.{IsMetered-node}
 use Rattle.kheap_slabs.proofs.kheap.KHeap.set_node_entry.Goals as goal
 

@@ -1,8 +1,8 @@
 use Rattle.std.proofs.Common.{ap, refl}
-use Rattle.kheap_shelves.specs.Objects.{InUse}
+use Rattle.kheap_slabs.specs.Objects.{InUse}
 use Rattle.kheap_slabs.specs.Heap.{Heap}
 use Rattle.kheap_slabs.specs.Metered.{heap_of}
-use Rattle.kheap_shelves.proofs.ObjectLemmas.{object_of, InUse-put}
+use Rattle.kheap_slabs.proofs.ObjectLemmas.{object_of, InUse-put}
 use Rattle.kheap_slabs.proofs.MeterLemmas.{IsMetered-page}
 use Rattle.kheap_slabs.proofs.kheap.KHeap.set_page_count.Goals as goal
 

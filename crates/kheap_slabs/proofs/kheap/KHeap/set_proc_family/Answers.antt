@@ -1,7 +1,7 @@
 use Rattle.std.proofs.Common.{ap}
-use Rattle.kheap_shelves.specs.Objects.{InUse}
+use Rattle.kheap_slabs.specs.Objects.{InUse}
 use Rattle.kheap_slabs.specs.Heap.{Heap}
-use Rattle.kheap_shelves.proofs.ObjectLemmas.{object_of, InUse-put}
+use Rattle.kheap_slabs.proofs.ObjectLemmas.{object_of, InUse-put}
 use Rattle.kheap_slabs.specs.Metered.{heap_of}
 use Rattle.kheap_slabs.proofs.MeterLemmas.{IsMetered-proc}
 use Rattle.kheap_slabs.proofs.kheap.KHeap.set_proc_family.Goals as goal

@@ -1,9 +1,9 @@
 use Rattle.std.proofs.Common.{ap}
-use Rattle.kheap_shelves.specs.Objects.{InUse}
-use Rattle.kheap_shelves.specs.Pages.{with_bytes}
+use Rattle.kheap_slabs.specs.Objects.{InUse}
+use Rattle.kheap_slabs.specs.Pages.{with_bytes}
 use Rattle.kheap_slabs.specs.Heap.{Heap}
 use Rattle.kheap_slabs.specs.Metered.{heap_of}
-use Rattle.kheap_shelves.proofs.ObjectLemmas.{object_of, InUse-put}
+use Rattle.kheap_slabs.proofs.ObjectLemmas.{object_of, InUse-put}
 use Rattle.kheap_slabs.proofs.MeterLemmas.{IsMetered-page, length-with_bytes}
 use Rattle.kheap_slabs.proofs.kheap.KHeap.write_page.Goals as goal
 

@@ -1,5 +1,5 @@
 use Rattle.std.proofs.Common.{◌≡◌, ℕ, length, ap, ◌∙◌, subst, arith}
-use Rattle.kabi_values.specs.declared.inodes.Inode.{Inode}
+use Rattle.kabi_types.specs.declared.inodes.Inode.{Inode}
 use Rattle.lru_index.specs.Order.{Order}
 use Rattle.lru_index.specs.declared.keys.NameKey.{NameKey}
 use Rattle.vnode_cache.specs.Nodes.{Nodes}

@@ -1,5 +1,5 @@
 use Rattle.std.proofs.Common.{Bool, not, Ok, sym, ap, ◌∙◌}
-use Rattle.kabi_values.specs.declared.errnos.Errno.TheVariants.{ENOTDIR}
+use Rattle.kabi_types.specs.declared.errnos.Errno.TheVariants.{ENOTDIR}
 use Rattle.posix_defs.specs.PathCalls as calls
 use Rattle.memfs_ops.specs.FileTree.{TreeView}
 use Rattle.memfs_ops.proofs.PinLemmas.{pays_pinned}

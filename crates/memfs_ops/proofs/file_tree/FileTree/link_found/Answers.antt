@@ -1,5 +1,5 @@
 use Rattle.std.proofs.Common.{Bool, Err, refl, sym, ◌∙◌, subst}
-use Rattle.kabi_values.specs.declared.errnos.Errno.TheVariants.{EPERM}
+use Rattle.kabi_types.specs.declared.errnos.Errno.TheVariants.{EPERM}
 use Rattle.posix_defs.specs.PathCalls as calls
 use Rattle.posix_defs.specs.Paths.{resolve}
 use Rattle.memfs_ops.specs.Changing.{ChangedTo}

@@ -1,5 +1,5 @@
 use Rattle.std.proofs.Common.{ℕ, Result, Err, refl, sym, ap, ◌∙◌, subst}
-use Rattle.kabi_values.specs.declared.errnos.Errno.{Errno}
+use Rattle.kabi_types.specs.declared.errnos.Errno.{Errno}
 use Rattle.posix_defs.specs.PathCalls as calls
 use Rattle.posix_defs.specs.Paths.{IsLed, resolve}
 use Rattle.posix_defs.specs.declared.walked.Walked.{Walked}

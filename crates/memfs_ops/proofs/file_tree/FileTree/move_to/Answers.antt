@@ -1,6 +1,6 @@
 use Rattle.std.proofs.Common.{◌≡◌, ℕ, Bool, true, None, not, List, Result, Ok, Err, refl, sym, ap, ◌∙◌, subst}
-use Rattle.kabi_values.specs.declared.errnos.Errno.{Errno}
-use Rattle.kabi_values.specs.declared.errnos.Errno.TheVariants.{ENOSPC}
+use Rattle.kabi_types.specs.declared.errnos.Errno.{Errno}
+use Rattle.kabi_types.specs.declared.errnos.Errno.TheVariants.{ENOSPC}
 use Rattle.lru_index.specs.NameKeys.{name_key}
 use Rattle.name_cache.specs.Names.{name_slot}
 use Rattle.posix_defs.specs.DiskFormat.{IsName}

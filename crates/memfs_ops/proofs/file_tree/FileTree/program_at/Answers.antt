@@ -1,8 +1,8 @@
 use Rattle.std.proofs.Common.{◌≡◌, ℕ, ◌+◌, ◌-◌, ◌/◌, ◌<◌, Bool, ◌||◌, List, length, min, take, drop, sym, ap, ◌∙◌, subst, refl, arith}
 use Rattle.std.specs.List.{AllByRecursion}
-use Rattle.kabi_values.specs.declared.inodes.Inode.{Inode}
+use Rattle.kabi_types.specs.declared.inodes.Inode.{Inode}
 use Rattle.kabi_types.specs.declared.scripts.Program.{Program}
-use Rattle.kabi_values.specs.declared.errnos.Errno.TheVariants.{EACCES}
+use Rattle.kabi_types.specs.declared.errnos.Errno.TheVariants.{EACCES}
 use Rattle.posix_defs.specs.DiskFormat.{block_size}
 use Rattle.posix_defs.specs.DiskContents.{data_block, node_bytes}
 use Rattle.posix_defs.specs.PathCalls as calls

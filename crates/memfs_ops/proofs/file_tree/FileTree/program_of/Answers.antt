@@ -1,5 +1,5 @@
 use Rattle.std.proofs.Common.{◌≡◌, ℕ, IsSome, Result, Ok, Err, sym, ap, ◌∙◌, subst}
-use Rattle.kabi_values.specs.declared.errnos.Errno.{Errno}
+use Rattle.kabi_types.specs.declared.errnos.Errno.{Errno}
 use Rattle.lru_index.specs.NameKeys.{name_key}
 use Rattle.name_cache.specs.Names.{name_slot}
 use Rattle.posix_defs.specs.PathCalls as calls

@@ -1,6 +1,6 @@
 use Rattle.std.proofs.Common.{Bool, Result, Err, refl, sym, ◌∙◌, subst}
-use Rattle.kabi_values.specs.declared.errnos.Errno.{Errno}
-use Rattle.kabi_values.specs.declared.errnos.Errno.TheVariants.{EBUSY, EINVAL, ENOENT, ENOTEMPTY}
+use Rattle.kabi_types.specs.declared.errnos.Errno.{Errno}
+use Rattle.kabi_types.specs.declared.errnos.Errno.TheVariants.{EBUSY, EINVAL, ENOENT, ENOTEMPTY}
 use Rattle.posix_defs.specs.DiskContents.{own_name, parent_name}
 use Rattle.posix_defs.specs.PathCalls as calls
 use Rattle.posix_defs.specs.Paths.{IsLed, resolve}

@@ -1,6 +1,6 @@
 use Rattle.std.proofs.Common.{ℕ, Bool, Option, Result, Ok, Err, refl, sym, ap, ◌∙◌, subst}
-use Rattle.kabi_values.specs.declared.errnos.Errno.{Errno}
-use Rattle.kabi_values.specs.declared.errnos.Errno.TheVariants.{EPERM}
+use Rattle.kabi_types.specs.declared.errnos.Errno.{Errno}
+use Rattle.kabi_types.specs.declared.errnos.Errno.TheVariants.{EPERM}
 use Rattle.posix_defs.specs.PathCalls as calls
 use Rattle.posix_defs.specs.Tree.{Tree}
 use Rattle.posix_defs.specs.TreeChanges.{unlink}

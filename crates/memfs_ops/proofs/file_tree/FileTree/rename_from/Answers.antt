@@ -1,5 +1,5 @@
 use Rattle.std.proofs.Common.{Err, refl, sym, ap, subst}
-use Rattle.kabi_values.specs.declared.errnos.Errno.TheVariants.{EBUSY}
+use Rattle.kabi_types.specs.declared.errnos.Errno.TheVariants.{EBUSY}
 use Rattle.posix_defs.specs.PathCalls as calls
 use Rattle.posix_defs.specs.Paths.{IsLed, last_name}
 use Rattle.posix_defs.specs.declared.walked.Walked.{Walked}

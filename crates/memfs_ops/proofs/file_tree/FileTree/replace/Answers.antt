@@ -1,5 +1,5 @@
 use Rattle.std.proofs.Common.{ℕ, Bool, not, ◌&&◌, eqb, Option, Some, None, Result, Ok, Err, refl, sym, ap, subst}
-use Rattle.kabi_values.specs.declared.errnos.Errno.{Errno}
+use Rattle.kabi_types.specs.declared.errnos.Errno.{Errno}
 use Rattle.posix_defs.specs.Tree.{Tree}
 use Rattle.posix_defs.specs.TreeChanges.{rename_over}
 use Rattle.tree_laws.proofs.TreeFacts.{found_in_use}

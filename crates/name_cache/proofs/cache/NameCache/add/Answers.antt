@@ -1,9 +1,9 @@
 use Rattle.std.proofs.Common.{◌≡◌, ◌+◌, ◌-◌, cond, None, Some, [], ◌∷◌, ◌++◌, length, sym, ap, ◌∙◌, subst, length-append}
-use Rattle.kabi_values.specs.declared.classes.Class.TheVariants as class
-use Rattle.kheap_shelves.specs.Purse.{fills_of, with_fills}
-use Rattle.kheap_shelves.specs.Objects.{object, put}
-use Rattle.kheap_shelves.specs.declared.objects.Name.{Name}
-use Rattle.kheap_shelves.proofs.ObjectLemmas.{put-within}
+use Rattle.kabi_types.specs.declared.classes.Class.TheVariants as class
+use Rattle.kheap_slabs.specs.Purse.{fills_of, with_fills}
+use Rattle.kheap_slabs.specs.Objects.{object, put}
+use Rattle.kheap_slabs.specs.declared.objects.Name.{Name}
+use Rattle.kheap_slabs.proofs.ObjectLemmas.{put-within}
 use Rattle.kheap_slabs.specs.Paid.{AreFills}
 use Rattle.kheap_laws.proofs.FillLemmas.{AreFills-add}
 use Rattle.lru_index.specs.Keys.{same_name}

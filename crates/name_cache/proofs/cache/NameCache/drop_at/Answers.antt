@@ -1,10 +1,10 @@
 use Rattle.std.proofs.Common.{◌≡◌, ◌+◌, cond, None, Some, IsSome, length, refl, sym, ap, ◌∙◌, subst}
 use Rattle.std.specs.Prelude.{remove}
 use Rattle.std.specs.Option.{option_map}
-use Rattle.kabi_values.specs.declared.classes.Class.TheVariants as class
-use Rattle.kheap_shelves.specs.Counts.{counted, with_count}
-use Rattle.kheap_shelves.specs.Objects.{without}
-use Rattle.kheap_shelves.specs.Purse.{Purse}
+use Rattle.kabi_types.specs.declared.classes.Class.TheVariants as class
+use Rattle.kheap_slabs.specs.Counts.{counted, with_count}
+use Rattle.kheap_slabs.specs.Objects.{without}
+use Rattle.kheap_slabs.specs.Purse.{Purse}
 use Rattle.kheap_slabs.specs.Paid.{AreFills}
 use Rattle.kheap_laws.proofs.FillLemmas.{AreFills-drop}
 use Rattle.lru_index.specs.Keys.{same_name}

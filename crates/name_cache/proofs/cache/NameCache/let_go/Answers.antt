@@ -1,7 +1,7 @@
 use Rattle.std.proofs.Common.{◌≡◌, ℕ, Some, IsSome, Contains, sym, ap, ◌∙◌, subst}
 use Rattle.std.specs.Prelude.{MatchOption}
-use Rattle.kheap_shelves.specs.Objects.{without}
-use Rattle.kheap_shelves.proofs.ObjectLemmas.{object-without_other}
+use Rattle.kheap_slabs.specs.Objects.{without}
+use Rattle.kheap_slabs.proofs.ObjectLemmas.{object-without_other}
 use Rattle.kheap_slabs.specs.Paid.{AreFills}
 use Rattle.kheap_laws.proofs.FillLemmas.{AreFills-kept}
 use Rattle.lru_index.specs.Keys.{same_name}

@@ -1,8 +1,8 @@
 use Rattle.std.proofs.Common.{◌≡◌, Some, sym, ap, ◌∙◌, subst}
 use Rattle.std.specs.Option.{option_map}
-use Rattle.kheap_shelves.specs.Objects.{object, put}
+use Rattle.kheap_slabs.specs.Objects.{object, put}
 use Rattle.lru_index.specs.NameKeys.{name_key}
-use Rattle.kheap_shelves.specs.declared.objects.Name.{Name}
+use Rattle.kheap_slabs.specs.declared.objects.Name.{Name}
 use Rattle.lru_index.specs.Keys.{same_name}
 use Rattle.name_cache.specs.Names.{key_of, name_slot, KeepsNames}
 use Rattle.name_cache.proofs.KeyLemmas.{same_key_laws}

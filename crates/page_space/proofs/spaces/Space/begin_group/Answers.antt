@@ -1,11 +1,11 @@
 use Rattle.std.proofs.Common.{◌≡◌, ◌/◌, ◌%◌, ◌<◌, ◌+◌, ◌-◌, ℕ, List, Option, length, replicate, get_or, set, None, Some, refl, sym, ap, subst, arith}
 use Rattle.std.proofs.lemmas.List.{length-replicate}
-use Rattle.kabi_values.specs.declared.classes.Need.{Need}
-use Rattle.kheap_shelves.specs.Objects.{count, object}
-use Rattle.kheap_shelves.specs.Purse.{Purse}
-use Rattle.kheap_shelves.specs.declared.objects.Node.{Node}
-use Rattle.kheap_shelves.specs.declared.objects.PageEntry.{PageEntry}
-use Rattle.kheap_shelves.specs.declared.objects.PageEntry.TheVariants as entry
+use Rattle.kabi_types.specs.declared.classes.Need.{Need}
+use Rattle.kheap_slabs.specs.Objects.{count, object}
+use Rattle.kheap_slabs.specs.Purse.{Purse}
+use Rattle.kheap_slabs.specs.declared.objects.Node.{Node}
+use Rattle.kheap_slabs.specs.declared.objects.PageEntry.{PageEntry}
+use Rattle.kheap_slabs.specs.declared.objects.PageEntry.TheVariants as entry
 use Rattle.kheap_slabs.specs.Spaces.{OwnsNodes}
 use Rattle.page_space.specs.Entries.{PageTurns}
 use Rattle.page_space.proofs.TurnLemmas.{turn-begin, mapped_set}

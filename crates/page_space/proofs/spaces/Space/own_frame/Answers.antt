@@ -1,5 +1,5 @@
 use Rattle.std.proofs.Common.{Some, sym, ap, ◌∙◌}
-use Rattle.kheap_shelves.specs.declared.objects.PageEntry.TheVariants as entry
+use Rattle.kheap_slabs.specs.declared.objects.PageEntry.TheVariants as entry
 use Rattle.page_space.specs.Contents.{content_of}
 use Rattle.page_space.proofs.MoveLemmas.{counted_used, IsNamed-entry}
 use Rattle.page_space.proofs.WriteLemmas.{zero_page_is}

@@ -1,5 +1,5 @@
 use Rattle.std.proofs.Common.{take, arith}
-use Rattle.kheap_shelves.proofs.ObjectLemmas.{object_of}
+use Rattle.kheap_slabs.proofs.ObjectLemmas.{object_of}
 use Rattle.page_space.proofs.MoveLemmas.{counted_used}
 use Rattle.page_space.proofs.PutLemmas.{PutsPiece-written}
 use Rattle.page_space.proofs.spaces.Space.put_piece.Goals as goal

@@ -1,6 +1,6 @@
 use Rattle.std.proofs.Common.{◌≡◌, ◌/◌, ◌%◌, ℕ, List, Option, get_or, set, None, Some, refl, sym, ap, ◌∙◌, subst, arith}
-use Rattle.kheap_shelves.specs.Objects.{count}
-use Rattle.kheap_shelves.proofs.ObjectLemmas.{count-put_used, object_of}
+use Rattle.kheap_slabs.specs.Objects.{count}
+use Rattle.kheap_slabs.proofs.ObjectLemmas.{count-put_used, object_of}
 use Rattle.page_space.specs.Entries.{entry_at, PageTurns}
 use Rattle.page_space.proofs.KeyPlaces.{key_there}
 use Rattle.page_space.proofs.TurnLemmas.{turn-set, mapped_set}

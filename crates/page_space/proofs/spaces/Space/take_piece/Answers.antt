@@ -1,7 +1,7 @@
 use borrow.Rule.Slice.PartMut.{mid_of}
 use Rattle.std.proofs.lemmas.List.{length-take-le}
 use Rattle.std.proofs.Common.{◌/◌, ◌%◌, ◌++◌, ℕ, drop, replicate, sym, ap, ◌∙◌, arith}
-use Rattle.kheap_shelves.specs.declared.objects.PageEntry.TheVariants as entry
+use Rattle.kheap_slabs.specs.declared.objects.PageEntry.TheVariants as entry
 use Rattle.page_space.proofs.MoveLemmas.{counted_used, IsNamed-entry}
 use Rattle.page_space.proofs.TakeLemmas.{taken_zero, taken_frame}
 use Rattle.page_space.proofs.spaces.Space.take_piece.Goals as goal

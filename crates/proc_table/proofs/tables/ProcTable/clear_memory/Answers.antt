@@ -1,5 +1,5 @@
 use Rattle.std.proofs.Common.{◌≡◌, Some, is_some, ap, subst, sym, ◌∙◌}
-use Rattle.kheap_shelves.specs.Objects.{object}
+use Rattle.kheap_slabs.specs.Objects.{object}
 use Rattle.kheap_slabs.specs.Heap.{Heap}
 use Rattle.page_space.specs.Contents.{IsOwnedWith}
 use Rattle.proc_table.proofs.ClearLemmas.{cleared-account, cleared-memory, cleared-moves, cleared-procs, cleared-table}

@@ -1,6 +1,6 @@
 use Rattle.std.proofs.Common.{◌≡◌, ◌∙◌, ap, sym, refl}
 use Rattle.std.specs.Prelude.{is_some, Option, None, true, false}
-use Rattle.kheap_shelves.specs.declared.objects.Proc.{Proc}
+use Rattle.kheap_slabs.specs.declared.objects.Proc.{Proc}
 use Rattle.proc_table.proofs.PlaceLemmas.{key_of-none, key_of-proc}
 use Rattle.store_objects.proofs.objects.Objects.move_on.Goals as goal
 

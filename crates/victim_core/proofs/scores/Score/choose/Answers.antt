@@ -1,6 +1,6 @@
 use Rattle.std.proofs.Common.{take, get_or, refl}
 use Rattle.std.proofs.lemmas.List.{take_more, take_all}
-use Rattle.kabi_values.specs.declared.classes.Weight.{Weight}
+use Rattle.kabi_types.specs.declared.classes.Weight.{Weight}
 use Rattle.victim_core.proofs.JudgingLemmas.{judged_past_first, judged_past, none_judged}
 use Rattle.victim_core.proofs.scores.Score.choose.Goals as goal
 use Rattle.victim_core.proofs.scores.Score.choose.Goals.{then-weight-ne-FIRST_PROCESS, else-weight-ne-FIRST_PROCESS}

@@ -1,12 +1,12 @@
 use Rattle.std.proofs.Common.{◌≡◌, cond, ◌+◌, ◌-◌, ◌<◌, ◌≤◌, ℕ, None, Some, [], ◌∷◌, ◌++◌, length, nat_eq, eqb-true, refl, sym, ap, ◌∙◌, subst, arith, length-append}
 use Rattle.std.specs.Cmp.{nat_eq_equiv}
-use Rattle.kheap_shelves.specs.Objects.{object, count, put}
-use Rattle.kheap_shelves.specs.declared.objects.Vnode.{Vnode}
+use Rattle.kheap_slabs.specs.Objects.{object, count, put}
+use Rattle.kheap_slabs.specs.declared.objects.Vnode.{Vnode}
 use Rattle.vnode_cache.specs.Nodes.{node_slot, KeepsNodes, loose_count, StaysHeld}
 use Rattle.cache_laws.specs.Caches.{slot_of, Keeps}
-use Rattle.kabi_values.specs.declared.classes.Class.TheVariants as class
-use Rattle.kheap_shelves.specs.Purse.{fills_of, with_fills}
-use Rattle.kheap_shelves.proofs.ObjectLemmas.{put-within, count-put_new}
+use Rattle.kabi_types.specs.declared.classes.Class.TheVariants as class
+use Rattle.kheap_slabs.specs.Purse.{fills_of, with_fills}
+use Rattle.kheap_slabs.proofs.ObjectLemmas.{put-within, count-put_new}
 use Rattle.kheap_slabs.specs.Paid.{AreFills}
 use Rattle.kheap_laws.proofs.FillLemmas.{AreFills-add}
 use Rattle.cache_laws.proofs.KeepsLemmas.{keeps_put, cached_is}

@@ -1,14 +1,14 @@
 use Rattle.std.proofs.Common.{◌≡◌, cond, ◌+◌, None, Some, IsSome, length, nat_eq, eqb-true, refl, sym, ap, ◌∙◌, subst}
 use Rattle.std.specs.Cmp.{nat_eq_equiv}
-use Rattle.kheap_shelves.specs.Objects.{object, without}
-use Rattle.kheap_shelves.specs.declared.objects.Vnode.{Vnode}
+use Rattle.kheap_slabs.specs.Objects.{object, without}
+use Rattle.kheap_slabs.specs.declared.objects.Vnode.{Vnode}
 use Rattle.vnode_cache.specs.Nodes.{is_loose, node_slot, KeepsNodes, IsLoose, loose_count, StaysHeld}
 use Rattle.cache_laws.specs.Caches.{Keeps}
 use Rattle.std.specs.Prelude.{remove}
 use Rattle.std.specs.Option.{option_map}
-use Rattle.kabi_values.specs.declared.classes.Class.TheVariants as class
-use Rattle.kheap_shelves.specs.Counts.{counted, with_count}
-use Rattle.kheap_shelves.specs.Purse.{Purse}
+use Rattle.kabi_types.specs.declared.classes.Class.TheVariants as class
+use Rattle.kheap_slabs.specs.Counts.{counted, with_count}
+use Rattle.kheap_slabs.specs.Purse.{Purse}
 use Rattle.kheap_slabs.specs.Paid.{AreFills}
 use Rattle.kheap_laws.proofs.FillLemmas.{AreFills-drop}
 use Rattle.cache_laws.proofs.KeepsLemmas.{keeps_dropped, long_removed, one_key, none_either}

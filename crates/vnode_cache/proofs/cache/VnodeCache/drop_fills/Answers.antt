@@ -1,6 +1,6 @@
 use Rattle.std.proofs.Common.{rules, sym, ap, subst}
 use Rattle.std.specs.Prelude.{slice_index_or}
-use Rattle.kheap_shelves.specs.Objects.{without}
+use Rattle.kheap_slabs.specs.Objects.{without}
 use Rattle.kheap_laws.proofs.PaidLemmas.{IsPaid-trans}
 use Rattle.vnode_cache.specs.Nodes.{AreLoose}
 use Rattle.vnode_cache.proofs.HeldLemmas.{held_then}

@@ -2,7 +2,7 @@ use Rattle.std.proofs.Common.{sym, ap, ◌∙◌}
 use Rattle.vnode_cache.specs.Nodes.{node_slot}
 use Rattle.std.proofs.Common.{eqb-true}
 use Rattle.std.specs.Cmp.{nat_eq_equiv}
-use Rattle.kheap_shelves.specs.declared.objects.Vnode.{Vnode}
+use Rattle.kheap_slabs.specs.declared.objects.Vnode.{Vnode}
 use Rattle.cache_laws.proofs.KeepsLemmas.{absent_found}
 use Rattle.vnode_cache.proofs.OrderLemmas.{unpinned_is_loose, loose_at}
 use Rattle.vnode_cache.proofs.cache.VnodeCache.forget.Goals as goal

@@ -1,5 +1,5 @@
 use Rattle.std.proofs.Common.{ℕ, Contains, sym, ◌∙◌, subst, inl, inr, arith}
-use Rattle.kheap_shelves.specs.Objects.{InUse}
+use Rattle.kheap_slabs.specs.Objects.{InUse}
 use Rattle.vnode_cache.specs.Nodes.{SomeLoose, IsFirstLoose}
 use Rattle.vnode_cache.proofs.cache.VnodeCache.make_room.Goals as goal
 

@@ -1,6 +1,6 @@
 use Rattle.std.proofs.Common.{eqb-true}
 use Rattle.std.specs.Cmp.{nat_eq_equiv}
-use Rattle.kheap_shelves.specs.declared.objects.Vnode.{Vnode}
+use Rattle.kheap_slabs.specs.declared.objects.Vnode.{Vnode}
 use Rattle.cache_laws.proofs.KeepsLemmas.{keeps_used}
 use Rattle.vnode_cache.proofs.cache.VnodeCache.pins.Goals as goal
 

@@ -1,7 +1,7 @@
 use Rattle.std.proofs.Common.{◌≡◌, Some, nat_eq, eqb-true, refl, sym, ap, ◌∙◌, subst, le_refl}
 use Rattle.std.specs.Cmp.{nat_eq_equiv}
-use Rattle.kheap_shelves.specs.Objects.{object, put}
-use Rattle.kheap_shelves.specs.declared.objects.Vnode.{Vnode}
+use Rattle.kheap_slabs.specs.Objects.{object, put}
+use Rattle.kheap_slabs.specs.declared.objects.Vnode.{Vnode}
 use Rattle.vnode_cache.specs.Nodes.{loose_count, StaysHeld}
 use Rattle.cache_laws.specs.Caches.{Keeps}
 use Rattle.std.specs.Option.{option_map}

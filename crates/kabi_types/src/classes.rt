@@ -1,0 +1,73 @@
+ghost use Rattle.std.specs.Prelude.{◌≡◌};
+ghost use Rattle.kabi_types.specs.Class.{size};
+
+/// A class of kernel objects.
+#[derive(Clone, Copy, Debug, PartialEq, Eq)]
+pub enum Class {
+    /// A process; after its end too, until its parent has waited for it.
+    Proc,
+    /// A group of 64 neighbouring page entries.
+    Node,
+    /// A frame of memory.
+    Page,
+    /// An open file description.
+    Desc,
+    /// A cached inode.
+    Vnode,
+    /// A cached directory entry.
+    Name,
+    /// A cached disk block.
+    Block,
+    Pipe,
+    /// 512 bytes of a queue.
+    Chunk,
+    /// A socket.
+    Sock,
+}
+
+impl Class {
+    /// How many bytes of kernel heap an object takes.
+    pub fn bytes(self) -> u64
+        ensures { result ≡ size self }
+    {
+        match self {
+            Class::Proc => 512,
+            Class::Node => 512,
+            Class::Page => 4096,
+            Class::Desc => 64,
+            Class::Vnode => 128,
+            Class::Name => 64,
+            Class::Block => 1088,
+            Class::Pipe => 128,
+            Class::Chunk => 576,
+            Class::Sock => 128,
+        }
+    }
+}
+
+/// How many objects of each class a call may make.
+#[derive(Clone, Copy, Debug, Default, PartialEq, Eq)]
+pub struct Need {
+    pub proc: u32,
+    pub node: u32,
+    pub page: u32,
+    pub desc: u32,
+    pub vnode: u32,
+    pub name: u32,
+    pub block: u32,
+    pub pipe: u32,
+    pub chunk: u32,
+    pub sock: u32,
+}
+
+/// What a process weighs where a victim is chosen.
+#[derive(Clone, Copy, Debug, Default, PartialEq, Eq)]
+pub struct Weight {
+    pub pid: u32,
+    /// How many of its page entries name a frame.
+    pub frames: u32,
+    /// How many of its groups of 64 page entries have a mapped page.
+    pub nodes: u32,
+    /// How many descriptors it has open.
+    pub descs: u32,
+}

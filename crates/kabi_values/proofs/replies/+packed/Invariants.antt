@@ -1,5 +1,0 @@
-use Rattle.std.proofs.Common.{length}
-use Rattle.kabi_values.proofs.replies.+packed.Given as goal
-
-abbrev pub decreases-packed : goal.decreases-packed
-decreases-packed l = length l.bytes.now

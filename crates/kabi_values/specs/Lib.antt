@@ -1,5 +1,0 @@
-pub mod Class
-pub mod Errno
-pub mod OpenFlags
-pub mod Packed
-pub mod Reply

@@ -1,4 +1,0 @@
-pub mod GivenKeys
-pub mod ObjectLemmas
-pub mod PurseLemmas
-pub mod ShelfLemmas
