@@ -11,8 +11,6 @@ mod chain;
 mod index;
 mod keys;
 mod names;
-#[cfg(test)]
-mod tests;
 
 pub use index::Index;
 pub use keys::{Key, NameKey};

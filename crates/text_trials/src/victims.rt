@@ -124,33 +124,30 @@ fn victim_counted(asked: &Cell<u32>, policy: Policy, weights: &[Weight]) -> Opti
 
 #[test]
 fn victims_by_both_scores(rt: HostRuntime) -> Result<(), Fail> {
-    for (rows, by_weight, by_age) in ROWS {
+    for (k, (rows, by_weight, by_age)) in ROWS.iter().enumerate() {
         let weights = weights_of(&rt, rt.alloc(), rows)?;
         let heaviest = victim(Policy::Heaviest, weights.as_slice());
         let youngest = victim(Policy::Youngest, weights.as_slice());
-        assert!(rt;
-            heaviest == *by_weight && youngest == *by_age,
-            "{weights:?}"
-        );
+        assert!(rt; heaviest == *by_weight && youngest == *by_age, "row {k}");
     }
     Ok(())
 }
 
 #[test]
 fn the_stored_closures_are_asked(rt: HostRuntime) -> Result<(), Fail> {
-    for (rows, by_weight, by_age) in ROWS {
+    for (k, (rows, by_weight, by_age)) in ROWS.iter().enumerate() {
         let weights = weights_of(&rt, rt.alloc(), rows)?;
         let others = rows.iter().filter(|row| row.0 != 1).count();
         let asked = Cell::new(0);
         let heaviest = victim_counted(&asked, Policy::Heaviest, weights.as_slice());
         assert!(rt;
             heaviest == *by_weight && asked.get() as usize == others,
-            "{weights:?}"
+            "row {k}"
         );
         let youngest = victim_counted(&asked, Policy::Youngest, weights.as_slice());
         assert!(rt;
             youngest == *by_age && asked.get() as usize == others + others,
-            "{weights:?}"
+            "row {k}"
         );
     }
     Ok(())

@@ -1,13 +1,8 @@
-use Rattle.std.proofs.Common.{length, ◌-◌, ◌≡◌, ◌≤◌, take}
-use Rattle.std.specs.Io.KnownBytes.{Appends}
+use Rattle.std.proofs.Common.{length, ◌-◌, ◌≤◌}
 use Rattle.text_trials.proofs.streams.write_whole.Given as goal
 
 abbrev pub invariant-loop-done : goal.invariant-loop-done
-invariant-loop-done g l = record {
-  within : l.done ≤ length l.text;
-  bytes : Appends (g.K.Sink.held l.initial.sink) (g.K.Sink.held l.sink) (take l.done l.text);
-  no_fault : g.K.Sink.faults l.sink ≡ g.K.Sink.faults l.initial.sink;
-}
+invariant-loop-done g l = l.done ≤ length l.text
 
 abbrev pub decreases-loop-done : goal.decreases-loop-done
 decreases-loop-done g l = length l.text - l.done

@@ -1,5 +1,7 @@
-use crate::{Index, Key, NameKey};
+//! The order of use, by hand and beside the same in the plainest way.
+
 use kabi_types::{Memory, Name27};
+use lru_index::{Index, Key, NameKey};
 use std::alloc::Global;
 use std::test::Fail;
 
