@@ -17,7 +17,7 @@ ghost use Rattle.call_run.specs.Families.{HasHalf, IsFresh, IsOffFiles, IsOnFile
 
 use file_calls::{ftruncate, lseek, pread, pwrite, read, readdir, write};
 use kabi_types::{Call, Need, Script};
-use open_calls::fstat;
+use file_calls::fstat;
 use posix_defs::Turned;
 use proc_files::{FileBuffer, is_on_node};
 use store_objects::{Caller, Objects, Target, purse_for};

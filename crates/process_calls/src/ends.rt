@@ -17,7 +17,7 @@ ghost use Rattle.store_objects.specs.Walking.{Serves};
 
 use kabi_types::{Control, Reply, Script};
 use posix_defs::Turned;
-use process_ends::{SIGKILL, end};
+use crate::{SIGKILL, end};
 use store_objects::{Objects, go_on};
 
 /// Ends a process that isn't the first.
