@@ -8,9 +8,9 @@ ghost use Rattle.posix_defs.specs.World.{World};
 ghost use Rattle.store_objects.specs.Objects.{AreKept, Runs};
 ghost use Rattle.store_objects.specs.Standing.{Performs, StandsFor};
 
+use crate::replies::{pair, value};
 use kabi_types::{Control, Script};
 use kheap_slabs::Purse;
-use crate::replies::{pair, value};
 use posix_defs::Turned;
 use proc_socks::{make_pair, make_socket};
 use store_objects::{Objects, go_on};
