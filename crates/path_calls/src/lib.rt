@@ -3,14 +3,14 @@
 #![tactic(auto)]
 
 mod directories;
-mod entering;
 mod held;
 mod names;
 mod node_set;
 mod replies;
 mod telling;
+mod working;
 
 pub use directories::{mkdir, rmdir};
-pub use entering::chdir;
 pub use names::{link, rename, unlink};
 pub use telling::stat;
+pub use working::chdir;

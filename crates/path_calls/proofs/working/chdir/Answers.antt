@@ -6,7 +6,7 @@ use Rattle.store_objects.specs.Trees.{pins_in}
 use Rattle.store_objects.proofs.FewPins.{few_pins}
 use Rattle.path_calls.proofs.Entering.{does_enter, does_refuse, has_entered, works_in_one}
 use Rattle.path_calls.proofs.Walked.{keeps_looked, kept_mid, looked, runs_mid}
-use Rattle.path_calls.proofs.entering.chdir.Goals as goal
+use Rattle.path_calls.proofs.working.chdir.Goals as goal
 
 pub directory_of-cwd-requires-clause-stored : goal.directory_of-cwd-requires-clause-stored
 directory_of-cwd-requires-clause-stored c = c.requires.stands.1.kept.holds.stored
