@@ -310,7 +310,8 @@ class Picture:
         if answer.startswith("= ") and len(answer) < 8:
             return call.asked, unique([f"{text} {answer}", f"{call.name} {answer}", call.name]), ""
         if answer.startswith("= "):
-            forms = [f"{text} {answer}", f"{call.name} {answer}", f"{call.name} {answer[:5]}…", call.name]
+            begins = answer.split()[1][:5]
+            forms = [f"{text} {answer}", f"{call.name} {answer}", f"{call.name} = {begins}…", call.name]
             return call.asked, unique(forms), ""
         return call.asked, unique([text, call.name]), ""
 
@@ -320,7 +321,8 @@ class Picture:
         ]
         if process.how == "killed":
             event = self.run.events[process.ended - 1]
-            labels.append((process.ended, [f"killed: p{event.waiter} needs {event.bound}", "killed"], "red"))
+            who = f"p{event.waiter}" if event.waiter != process.pid else "its own call"
+            labels.append((process.ended, [f"killed: {who} needs {event.bound}", "killed"], "red"))
         elif process.how:
             labels.append((process.ended, [process.how, process.how.split()[-1]], ""))
         return sorted(labels, key=lambda it: it[0])
