@@ -310,8 +310,10 @@ class Picture:
         if answer.startswith("= ") and len(answer) < 8:
             return call.asked, unique([f"{text} {answer}", f"{call.name} {answer}", call.name]), ""
         if answer.startswith("= "):
-            begins = answer.split()[1][:5]
-            forms = [f"{text} {answer}", f"{call.name} {answer}", f"{call.name} = {begins}…", call.name]
+            # Its first word; of bytes the first few.
+            begins = answer.split()[1]
+            cut = [f"{call.name} = {begins[:it]}…" for it in ((5, 3) if begins.startswith("x") else (5,))]
+            forms = [f"{text} {answer}", f"{call.name} {answer}", *cut, call.name]
             return call.asked, unique(forms), ""
         return call.asked, unique([text, call.name]), ""
 
