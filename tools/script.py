@@ -494,7 +494,8 @@ class Script:
     def no_label(self, program, label):
         known = f"its labels are {listed(program.places)}" if program.places else "it has none"
         wanted = f"a label of the program {program.name}: {known}"
-        return label.fault("no such label", wanted, hints.guess(label.text, program.places))
+        hint = hints.guess(label.text, program.places) or f"No line of this program is: label {label.text}"
+        return label.fault("no such label", wanted, hint)
 
     def close_text(self):
         if self.open is not None:
