@@ -1,6 +1,7 @@
 pub mod Along
 pub mod Behind
 pub mod Booting
+pub mod Boxing
 pub mod Crew
 pub mod OnePast
 pub mod Ending

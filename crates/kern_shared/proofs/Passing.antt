@@ -15,7 +15,6 @@ use Rattle.posix_defs.specs.Needs.{bound}
 use Rattle.posix_defs.specs.Plain.{call_of}
 use Rattle.posix_defs.specs.Process.{is_alive}
 use Rattle.posix_defs.specs.Sizes.{room}
-use Rattle.posix_defs.specs.World.{World}
 use Rattle.charge_words.specs.declared.rule.ChargeView.{ChargeView}
 use Rattle.charge_words.specs.Names.{ChargeWord, SeatState as ChargeState}
 use Rattle.turn_words.specs.declared.items.Item.{Item}
@@ -32,11 +31,11 @@ use Rattle.kern_shared.specs.declared.attends.Attended.TheVariants as attended
 use Rattle.kern_shared.specs.declared.picks.Picked.{Picked}
 use Rattle.kern_shared.specs.declared.picks.Picked.TheVariants as picked
 use Rattle.kern_shared.specs.Attends.{HasReserved, HoldsCall, IsUnused, TellsSpent, told_item}
+use Rattle.kern_shared.specs.Boxed.{IsBoxed}
 use Rattle.kern_shared.specs.Passes.{AttendsTo, HoldsJust, HoldsPicked, IsAtRest, PassesOn, PutsBack, Takes, TurnsInTurn, given_behind, given_by, is_given_one}
 use Rattle.kern_shared.specs.Picks.{Picks, picked_item}
 use Rattle.kern_shared.specs.Relieves.{Relieves}
 use Rattle.kern_shared.specs.Shared.{IsShared, goes_on, is_free, sleeps_on}
-use Rattle.kern_shared.specs.Shares.{KernelValue, Shares}
 use Rattle.kern_shared.proofs.Along.{call_at_take, call_stands}
 use Rattle.kern_shared.proofs.OnePast.{one_past}
 
@@ -175,9 +174,9 @@ holds_by given now mine n result none is just =
     subst (λ o. HoldsJust o (mine ++ (n, picked_item result) ∷ [])) (sym is) (holds_picked mine n result (subst (λ o. HoldsJust o mine) none just))
 
 -- what may be put back and passed on as an item may be so as the same item by another name
-pub shares_as : {T : Type 0} (stands_for : T → World → Type 0) (script_of : T → Script) (script : Script) (steps : ℕ) (charge : ChargeWord) (value : KernelValue T) (items : List Item) (x item : Item)
-    → x ≡ item → Shares stands_for script_of script steps charge value (items ++ said item) → Shares stands_for script_of script steps charge value (items ++ said x)
-shares_as stands_for script_of script steps charge value items x item same s = subst (λ i. Shares stands_for script_of script steps charge value (items ++ said i)) (sym same) s
+pub shares_as : {S : Type 0} (stands : S → List Item → Type 0) (script : Script) (steps : ℕ) (state : S) (idle : Bool) (reserves : ℕ) (items : List Item) (x item : Item)
+    → x ≡ item → IsBoxed stands script steps state idle reserves (items ++ said item) → IsBoxed stands script steps state idle reserves (items ++ said x)
+shares_as stands script steps state idle reserves items x item same s = subst (λ i. IsBoxed stands script steps state idle reserves (items ++ said i)) (sym same) s
 
 told_said : (p : ℕ) (call : Call) (answer : Attended) → OfTurn answer → told_item p call answer ∷ [] ≡ said (told_item p call answer)
 told_said p call (attended.Done _) turn = refl
@@ -189,11 +188,11 @@ told_said p call (attended.Ended _) turn = refl
 told_said p call attended.Gone turn = refl
 told_said p call attended.Spent turn = refl
 
-pub told_shares : {T : Type 0} (stands_for : T → World → Type 0) (script_of : T → Script) (script : Script) (steps : ℕ) (charge : ChargeWord) (value : KernelValue T) (items : List Item)
-    (p : ℕ) (call : Call) (answer : Attended) → OfTurn answer → Shares stands_for script_of script steps charge value (items ++ told_item p call answer ∷ [])
-    → Shares stands_for script_of script steps charge value (items ++ said (told_item p call answer))
-told_shares stands_for script_of script steps charge value items p call answer turn s =
-    subst (λ l. Shares stands_for script_of script steps charge value (items ++ l)) (told_said p call answer turn) s
+pub told_shares : {S : Type 0} (stands : S → List Item → Type 0) (script : Script) (steps : ℕ) (state : S) (idle : Bool) (reserves : ℕ) (items : List Item)
+    (p : ℕ) (call : Call) (answer : Attended) → OfTurn answer → IsBoxed stands script steps state idle reserves (items ++ told_item p call answer ∷ [])
+    → IsBoxed stands script steps state idle reserves (items ++ said (told_item p call answer))
+told_shares stands script steps state idle reserves items p call answer turn s =
+    subst (λ l. IsBoxed stands script steps state idle reserves (items ++ l)) (told_said p call answer turn) s
 
 pub returns_as : (before mine : List Placed) (x item : Item) → mine ≡ before → x ≡ item → MayReturn before item → MayReturn mine x
 returns_as before mine x item mine_is same may = subst (λ l. MayReturn l x) (sym mine_is) (subst (MayReturn before) (sym same) may)

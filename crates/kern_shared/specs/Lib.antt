@@ -1,4 +1,5 @@
 pub mod Attends
+pub mod Boxed
 pub mod Closing
 pub mod Laws
 pub mod Lists

@@ -29,6 +29,7 @@ fn split_charge(
     ensures charge { seat.new.charge ≡ word.now }
     ensures boot { seat.new.known.is_boot ≡ true }
     ensures holds { seat.new.known.holds ≡ seat.old.known.holds }
+    ensures reserves { seat.new.known.reserves ≡ seat.old.known.reserves }
     ensures seats { IfOk result (λ owns. (vec_len owns ≡ count) × AllByRecursion (IsEmpty word.now) owns.items) }
 {
     let mut owns = Vec::with_capacity(alloc, count as usize)?;
@@ -99,6 +100,7 @@ impl<T: Turner + Drop, L: RunName> Kernel<T, L> {
         requires seat { seat.charge ≡ charge }
         requires boot { (seat.known.is_boot ≡ true) × (seat.known.others ≡ 0) }
         requires holds { seat.known.holds ≡ fixed }
+        requires unused { seat.known.reserves ≡ 0 }
         ensures count { IfOk result (λ r. vec_len r.1 ≡ workers) }
         ensures each { IfOk result (λ r. AllByRecursion (λ p. IsAtRest L.script L.steps L.charge r.0.turns p.turn p.own p.given × (p.given ≡ None)) r.1.items) }
         ensures last { IfOk result (λ r. HasLast (λ others last. IsFirst (length others) last.turn) r.1.items) }

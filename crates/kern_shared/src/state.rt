@@ -93,7 +93,8 @@ impl<T: Turner + Drop, L: RunName> KernelState<T, L> {
         requires word { seat.charge.heap ≡ (T.script store).heap }
         requires boot { seat.known.is_boot ≡ true }
         requires holds { seat.known.holds ≡ fixed }
-        ensures { IfOk result (λ state. ⟦<KernelState<T, L> as Chronicle>⟧.stands state []) }
+        ensures stands { IfOk result (λ state. ⟦<KernelState<T, L> as Chronicle>⟧.stands state []) }
+        ensures seat { IfOk result (λ state. state.seat ≡ seat) }
     {
         let history = Vec::with_capacity(alloc, steps as usize)?;
         let held = Vec::with_capacity(alloc, steps as usize + 1)?;

@@ -92,6 +92,42 @@ const SLEEPS_LAST: &[Row] = &[
     (2, Ask::Pick, Told::Over(End::AllAsleep)),
 ];
 
+/// While the process is held nobody is found, again and again, also behind a relief that changes nothing. Once it was given back,
+/// or its call was answered, the next one that asks is given it.
+const FINDS_NOBODY: &[Row] = &[
+    (1, Ask::Pick, Told::Run(1, CallKind::Mmap)),
+    (2, Ask::Pick, Told::Idle),
+    (2, Ask::Pick, Told::Idle),
+    (2, Ask::Relieve, Told::Helped(Relief::Fits(1))),
+    (2, Ask::Pick, Told::Idle),
+    (1, Ask::Release, Told::Released),
+    (2, Ask::Pick, Told::Run(1, CallKind::Mmap)),
+    (1, Ask::Pick, Told::Idle),
+    (2, Ask::Attend, Told::Value(4096)),
+    (1, Ask::Pick, Told::Run(1, CallKind::Pipe)),
+    (2, Ask::Pick, Told::Idle),
+    (1, Ask::Release, Told::Released),
+];
+
+const MAPPED: Left = (&[Line::Done(1, CallKind::Mmap)], None, 3328);
+
+#[test]
+fn nobody_is_found_until_something_changes(rt: HostRuntime) -> Result<(), Fail> {
+    assert!(rt;
+        sleeper_goes_so(
+            &rt,
+            rt.alloc(),
+            Size {
+                heap: 16384,
+                steps: 100
+            },
+            FINDS_NOBODY,
+            &MAPPED
+        )?
+    );
+    Ok(())
+}
+
 #[test]
 fn who_reads_what_is_not_there_sleeps(rt: HostRuntime) -> Result<(), Fail> {
     assert!(rt;

@@ -98,6 +98,7 @@ fn run<R: Wait, T: Turner + Drop, L: RunName>(
     requires word { charge.heap ≡ size.heap }
     requires seat { seat.charge ≡ charge }
     requires boot { (seat.known.is_boot ≡ true) × (seat.known.others ≡ 0) × (seat.known.holds ≡ fixed) }
+    requires unused { seat.known.reserves ≡ 0 }
 {
     let Size { heap, steps } = size;
     let (kernel, mut passes) = Kernel::<T, L>::boot(alloc, store, steps, heap, 2, charge, seat)?;

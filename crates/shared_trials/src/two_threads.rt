@@ -74,6 +74,7 @@ fn run<R: Threads + Wait + Sync, L: RunName + Send + Sync>(
     requires heap { charge.heap ≡ heap }
     requires seat { seat.charge ≡ charge }
     requires boot { (seat.known.is_boot ≡ true) × (seat.known.others ≡ 0) × (seat.known.holds ≡ fixed) }
+    requires unused { seat.known.reserves ≡ 0 }
 {
     let (kernel, mut passes) = Kernel::<Pair, L>::boot(
         alloc,

@@ -42,6 +42,7 @@ pub fn run_workers<
     requires seat { seat.charge ≡ charge }
     requires boot { (seat.known.is_boot ≡ true) × (seat.known.others ≡ 0) }
     requires holds { seat.known.holds ≡ fixed }
+    requires unused { seat.known.reserves ≡ 0 }
     ensures { IfOk result (λ closed. (end : End) × (closed.end ≡ Some end)
         × IsWhole T.stands T.script (T.script store) steps closed.history end closed.charged closed.store) }
 {

@@ -9,6 +9,7 @@ invariant-loop-owns l =
       charge : l.seat.charge ≡ l.word;
       boot : l.seat.known.is_boot ≡ true;
       holds : l.seat.known.holds ≡ l.initial.seat.known.holds;
+      reserves : l.seat.known.reserves ≡ l.initial.seat.known.reserves;
       room : l.count ≤ vec_capacity l.owns;
       many : length l.owns.items ≤ l.count;
       each : AllByRecursion (IsEmpty l.word) l.owns.items;

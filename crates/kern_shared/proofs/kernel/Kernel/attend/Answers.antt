@@ -43,7 +43,7 @@ returns-clause-pass g c =
     let s = told_shares _ _ _ _ _ _ (heard c.begin-state.new.seat.known.seen) c.args.pid c.args.call.now c.turn_held-answer.result turn (c.turn_held-answer.ensures.stands (heard c.begin-state.new.seat.known.seen) c.begin-state.ensures.value
     (has_at_take _ _ _ _ c.begin-state.ensures g.L.RunName.script g.L.RunName.steps g.L.RunName.charge _ _ c.args.pass.now.given c.args.pid c.args.call.now c.requires.pass c.requires.given c.requires.holds)) in
     rests _ _ _ _ _ _ _ c.begin-state.ensures c.end.ensures g.L.RunName.script g.L.RunName.steps g.L.RunName.charge _ c.args.pass.now.own c.turn_held-answer.new.own c.args.pass.now.given _
-    (told_item c.args.pid c.args.call.now c.turn_held-answer.result) c.item_of_answer.ensures c.requires.pass c.turn_held-answer.ensures.own.0 c.turn_held-answer.ensures.own.1 c.turn_held-answer.ensures.own.2 (s.past, s.shared)
+    (told_item c.args.pid c.args.call.now c.turn_held-answer.result) c.item_of_answer.ensures c.requires.pass c.turn_held-answer.ensures.own.0 c.turn_held-answer.ensures.own.1 c.turn_held-answer.ensures.own.2 (s.value.past, s.value.shared)
     (holds_told c.args.pass.now.turn.known.mine _ c.args.pid c.args.call.now c.turn_held-answer.result turn (just_one c.args.pass.now.given c.args.pass.now.turn.known.mine c.args.pid c.requires.pass.holds c.requires.given))
 
 pub returns-clause-given : goal.returns-clause-given

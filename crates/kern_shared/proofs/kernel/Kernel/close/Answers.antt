@@ -8,7 +8,8 @@ use Rattle.kern_shared.proofs.kernel.Kernel.close.Goals as goal
 
 pub returns : goal.returns
 returns g c =
-    let s = c.close.ensures.value in
+    let b = c.close.ensures.value in
+    let s = b.value in
     let seen = c.gather.new.first.known.seen in
     let P : Pass g.row.T.Denot g.row.L.Denot → Type 0 = λ p. IsPrefix p.turn.known.seen seen in
-    (seen, s.past, subst (AllByRecursion P) (sym (last_goes _ _ _ _ c.pop.ensures.items c.in-Some.is)) (all_more P _ _ c.gather.ensures.each c.gather.ensures.own), s.shared, c.close-2.ensures (heard seen) s.past s s.shared)
+    (seen, s.past, subst (AllByRecursion P) (sym (last_goes _ _ _ _ c.pop.ensures.items c.in-Some.is)) (all_more P _ _ c.gather.ensures.each c.gather.ensures.own), s.shared, c.close-2.ensures (heard seen) s.past b s.shared)

@@ -21,7 +21,7 @@ pub returns-clause-pass : goal.returns-clause-pass
 returns-clause-pass g c =
     let s = c.release_held.ensures.stands (heard c.begin-state.new.seat.known.seen) c.begin-state.ensures.value (given_at_take _ _ _ _ c.begin-state.ensures g.L.RunName.script g.L.RunName.steps g.L.RunName.charge _ _ c.args.pass.now.given c.in-Some.pid c.requires.pass c.in-Some.is) in
     rests _ _ _ _ _ _ _ c.begin-state.ensures c.end.ensures g.L.RunName.script g.L.RunName.steps g.L.RunName.charge _ c.args.pass.now.own c.args.pass.now.own c.args.pass.now.given _ (Back c.in-Some.pid) refl
-    c.requires.pass c.requires.pass.of_charge c.requires.pass.empty c.requires.pass.unused (s.past, s.shared) (holds_back c.args.pass.now.turn.known.mine _ c.in-Some.pid (just_one c.args.pass.now.given c.args.pass.now.turn.known.mine c.in-Some.pid c.requires.pass.holds c.in-Some.is))
+    c.requires.pass c.requires.pass.of_charge c.requires.pass.empty c.requires.pass.unused (s.value.past, s.value.shared) (holds_back c.args.pass.now.turn.known.mine _ c.in-Some.pid (just_one c.args.pass.now.given c.args.pass.now.turn.known.mine c.in-Some.pid c.requires.pass.holds c.in-Some.is))
 
 -- what holds of the process that was given holds where one was
 returned : {T : Type 0} (stands : T → List Item → Type 0) (script : Script) (steps : ℕ) (before after : TurnView T) (given : Option ℕ) (pid : ℕ) → given ≡ Some pid
