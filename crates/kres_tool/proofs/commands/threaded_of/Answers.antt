@@ -1,0 +1,1 @@
+use Rattle.kres_tool.proofs.commands.threaded_of.Goals as goal
