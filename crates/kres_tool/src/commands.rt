@@ -47,9 +47,9 @@ pub enum Threaded {
 pub fn threaded_of(words: &[String]) -> Option<Threaded>
     ensures { MatchOption result (AsksNoThread words.now) (λ threaded. Asks words.now (command_by threaded)) }
 {
-    match command_of(words)? {
-        Command::OnScript(Task::Threads(workers)) => Some(Threaded::Script(workers)),
-        Command::Groups(workers) => Some(Threaded::Groups(workers)),
+    match command_of(words) {
+        Some(Command::OnScript(Task::Threads(workers))) => Some(Threaded::Script(workers)),
+        Some(Command::Groups(workers)) => Some(Threaded::Groups(workers)),
         _ => None,
     }
 }

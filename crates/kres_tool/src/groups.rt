@@ -12,8 +12,7 @@ ghost use Rattle.kres_tool.specs.Tool.{GroupsEnd, ListEnds, input, output};
 use crate::reading::read_text;
 use crate::statuses::Status;
 use crate::text::Text as Taken;
-use crate::tool::tell_fault;
-use crate::writing::write_text;
+use crate::tool::{put_bytes, tell_fault};
 use call_run::Store;
 use group_heap::{
     Group, GroupEnd, GroupFault, GroupList, report_groups, run_groups, split_groups,
@@ -148,7 +147,7 @@ fn answer_list<
     let Ok(text) = report_list(rt, alloc, workers, list, heaviest, youngest) else {
         return Status::Memory;
     };
-    match write_text(sink, text.items()) {
+    match put_bytes(sink, text.items()) {
         Ok(()) => Status::Finished,
         Err(_) => Status::WriteFault,
     }

@@ -136,7 +136,14 @@ pub fn tell_usage<K: Sink>(sink: &mut K) -> Status
 fn put<K: Sink>(sink: &mut K, text: &str) -> Result<(), Failed>
     ensures { HasPut (output K.held K.faults K.put_gives sink.old sink.new) text.now result }
 {
-    write_text(sink, text.as_bytes())
+    put_bytes(sink, text.as_bytes())
+}
+
+/// The same of a text's bytes.
+pub fn put_bytes<K: Sink>(sink: &mut K, bytes: &[u8]) -> Result<(), Failed>
+    ensures { HasPut (output K.held K.faults K.put_gives sink.old sink.new) bytes.now result }
+{
+    write_text(sink, bytes)
 }
 
 /// Writes a text that needs no script, where the host had the memory to make it.
