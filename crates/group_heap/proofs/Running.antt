@@ -9,7 +9,7 @@ use Rattle.charge_words.specs.Rule.{fresh}
 use Rattle.group_heap.specs.declared.groups.Group.{Group}
 use Rattle.group_heap.specs.declared.groups.GroupEnd.{GroupEnd}
 use Rattle.group_heap.specs.declared.groups.GroupEnd.TheVariants as end
-use Rattle.group_heap.specs.Runs.{BecomesOf, EachBecomes, IsAtStart, IsDone, Leaves, Says, has_waited}
+use Rattle.group_heap.specs.Runs.{BecomesOf, EachBecomes, IsAtStart, IsDone, Leaves, Says, has_waited, section_of, sections_of}
 use Rattle.group_heap.specs.Seats.{HoldsNothing, IsReady, WasCalled, seated, unseated}
 
 -- what holds at each place holds of all
@@ -108,3 +108,17 @@ module _ {T : Type 0} (stands_for : T → World → Type 0) (marks high : T → 
       subst (EachBecomes stands_for marks high whole old) (sym back_is)
       (each_becomes charge old called (long ∙ ap length handed_is)
       (subst (λ xs. (place : ℕ) (d : Group T) → place < length xs → WasCalled stands_for marks high whole charge (get_or xs place d) (get_or called place d)) handed_is each))
+
+  kept_section : (old new : Group T) → new.name ≡ old.name → new.script ≡ old.script → section_of new ≡ section_of old
+  kept_section old new name script =
+      let kept : section_of new ≡ section_of old = ap (λ n. record { name = n; script = new.script }) name ∙ ap (λ s. record { name = old.name; script = s }) script in kept
+
+  -- groups keep their names and scripts
+  pub sections_kept : (old new : List (Group T)) → length new ≡ length old → EachBecomes stands_for marks high whole old new → sections_of new ≡ sections_of old
+  sections_kept [] [] long each = refl
+  sections_kept [] (group ∷ new) long each = absurd (omega (arith, long))
+  sections_kept (group ∷ old) [] long each = absurd (omega (arith, long))
+  sections_kept (before ∷ old) (after ∷ new) long each =
+      let head = each zero before (omega arith) in
+      ap (λ section. section ∷ sections_of new) (kept_section before after head.name head.script)
+      ∙ ap (λ sections. section_of before ∷ sections) (sections_kept old new (omega (arith, long)) (λ place d within. each (suc place) d (omega (arith, within))))
