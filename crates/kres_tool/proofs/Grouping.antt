@@ -1,8 +1,17 @@
 -- What becomes of a text of groups, and that what is written of them keeps the headline.
-use Rattle.std.proofs.Common.{◌≡◌, ℕ, ◌⊎◌, List, Option, Result, Ok, Err, inl, inr, refl, ap, subst}
+use Rattle.std.proofs.Common.{◌≡◌, ℕ, ◌+◌, ◌<◌, ◌⊎◌, List, [], ◌∷◌, ◌++◌, length, take, get_or, Option, Some, Result, Ok, Err, inl, inr, refl, sym, ap, ◌∙◌, subst}
+use Rattle.std.specs.List.{AllByRecursion, slice_get}
+use Rattle.std.proofs.lemmas.List.{map-append, take_more}
+use Rattle.std.proofs.lemmas.Option.{slice_get-get_or}
 use Rattle.kabi_types.specs.declared.scripts.ScriptFault.{ScriptFault}
+use Rattle.call_run.specs.Stores.{StoreView}
+use Rattle.group_heap.proofs.Running.{sections_kept}
 use Rattle.group_heap.proofs.Telling.{keeps_groups}
 use Rattle.group_heap.proofs.ValidSections.{groups_valid}
+use Rattle.group_heap.specs.declared.groups.Group.{Group}
+use Rattle.group_heap.specs.declared.lists.Section.{Section}
+use Rattle.group_heap.specs.Reports.{IsGroupReport}
+use Rattle.group_heap.specs.Runs.{EachBecomes, IsDone, section_of, sections_of}
 use Rattle.group_heap.specs.Texts.{Groups, ReadsGroups}
 use Rattle.posix_defs.specs.Lines.{fault_line}
 use Rattle.kres_tool.specs.declared.groups.Grouping.{Grouping}
@@ -82,3 +91,32 @@ groups_keep i o status.Spent ends = tt
 groups_keep i o status.ReadFault ends = tt
 groups_keep i o status.WriteFault ends = tt
 groups_keep i o status.Memory ends = tt
+
+-- a section more, by the group that was booted for it
+pub sections_more : {T : Type 0} (groups : List (Group T)) (sections : List Section) (place : ℕ) (group : Group T) → place < length sections
+    → sections_of groups ≡ take place sections
+    → ((section : Section) → slice_get sections place ≡ Some section → group.name ≡ section.name)
+    → ((section : Section) → slice_get sections place ≡ Some section → group.script ≡ section.script)
+    → sections_of (groups ++ group ∷ []) ≡ take (place + 1) sections
+sections_more groups sections place group within so_far named scripted =
+    let section = get_or sections place (section_of group) in
+    let there = slice_get-get_or sections place (section_of group) within in
+    let same : section_of group ≡ section =
+    ap (λ n. record { name = n; script = group.script }) (named section there) ∙ ap (λ s. record { name = section.name; script = s }) (scripted section there) in
+    map-append section_of groups (group ∷ [])
+    ∙ ap (λ before. before ++ section_of group ∷ []) so_far
+    ∙ ap (λ s. take place sections ++ s ∷ []) same
+    ∙ sym (take_more sections place (section_of group) within)
+
+-- groups that were booted for a list, and have run, are reported as that list's
+pub report_of : {X : Type 0} (list : Groups) (booted ran : List (Group StoreView)) (text : List ℕ) → length ran ≡ length booted → sections_of booted ≡ list.sections
+    → EachBecomes stands marks high list.whole booted ran ⊎ ((ran ≡ booted) × X) → AllByRecursion (IsDone stands marks high list.whole) ran
+    → ((whole : ℕ) → AllByRecursion (IsDone stands marks high whole) ran → IsGroupReport stands marks high whole (sections_of ran) text)
+    → IsReportOf list text
+report_of list booted ran text long are becomes done tells =
+    subst (λ sections. IsGroupReport stands marks high list.whole sections text)
+    (elim becomes [
+      | inl each ↦ sections_kept stands marks high list.whole booted ran long each ∙ are
+      | inr same ↦ ap sections_of same.0 ∙ are
+    ])
+    (tells list.whole done)

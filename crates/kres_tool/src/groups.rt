@@ -99,7 +99,8 @@ fn boot_groups<F: Scorer + Copy, G: Scorer + Copy>(
     let mut groups = Vec::new(alloc);
     for place in 0..list.len() {
         let score = Score::new(heaviest, youngest);
-        groups.push(boot_group(alloc, list.name(place), list.script(place), score)?)?;
+        let group = boot_group(alloc, list.name(place), list.script(place), score)?;
+        groups.push(group)?;
     }
     Ok(groups)
 }

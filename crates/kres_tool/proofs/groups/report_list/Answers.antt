@@ -1,3 +1,4 @@
+use Rattle.std.proofs.lemmas.Result.{IfOk-weaker}
 use denote.Exit.{no}
 use denote.Param.{param}
 use denote.Param.Send.{IsSend, arg_send, param_send, recorded_send, sendable, struct_send, view_send}
@@ -12,6 +13,7 @@ use Rattle.kheap_slabs.proofs.kheap.KHeap.TheSendSync as kheap
 use Rattle.proc_table.proofs.tables.ProcTable.TheSendSync as procs
 use Rattle.store_objects.specs.contracts.objects.Objects as held
 use Rattle.victim_core.proofs.scores.Score.TheSendSync as score
+use Rattle.kres_tool.proofs.Grouping.{report_of}
 use Rattle.kres_tool.proofs.groups.report_list.Goals as goal
 
 -- the store may cross threads, since each of its fields may
@@ -25,3 +27,10 @@ run_groups-requires-send-T g c κs within =
     let whole : IsSend (store_row (param 2 g.row.F) (param 3 g.row.G) g.F.Scorer g.G.Scorer) =
     view_send _ _ _ _ _ (recorded_send (inside.the_field (param 2 g.row.F) (param 3 g.row.G) g.F.Scorer g.G.Scorer).row _ _ (inside.the_type (param 2 g.row.F) (param 3 g.row.G) g.F.Scorer g.G.Scorer).to_one fields) in
     param_send _ _ (arg_send _ no _ whole)
+
+pub returns : goal.returns
+returns g c =
+    IfOk-weaker c.report_groups.result _ _
+    (λ text tells. report_of c.args.list.now c.in_ok-groups.groups.items c.run_groups.new.groups text c.run_groups.auto.groups c.in_ok-groups.ensures.sections
+    c.run_groups.ensures.each c.in_ok-run_groups.ensures.ran tells)
+    c.report_groups.ensures.report
