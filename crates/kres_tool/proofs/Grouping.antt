@@ -73,12 +73,12 @@ grouped i o (whole, source, wrote) =
     elim (told source.text whole status.Finished source.answers) [
       | inl bad ↦ absurd (let wrong : status.Finished ≡ status.BadScript = bad in cc)
       | inr found ↦ record {
-          groups = found.0;
-          read = record { text = source.text; taken = source.taken; no_fault = source.no_fault; reads = found.1 };
-          whole = whole;
-          wrote = wrote;
-          keeps = keeps_groups stands marks high found.0.whole found.0.sections whole (groups_valid source.text found.0 found.1) found.2;
-        }
+        groups = found.0;
+        read = record { text = source.text; taken = source.taken; no_fault = source.no_fault; reads = found.1 };
+        whole = whole;
+        wrote = wrote;
+        keeps = keeps_groups stands marks high found.0.whole found.0.sections whole (groups_valid source.text found.0 found.1) found.2;
+      }
     ]
 
 pub groups_keep : (i : Input) (o : Output) (st : Status) → GroupsEnd i o st → GroupsKeep i o st

@@ -14,9 +14,7 @@ use crate::statuses::Status;
 use crate::text::Text as Taken;
 use crate::tool::{put_bytes, tell_fault};
 use call_run::Store;
-use group_heap::{
-    Group, GroupEnd, GroupFault, GroupList, report_groups, run_groups, split_groups,
-};
+use group_heap::{Group, GroupEnd, GroupFault, GroupList, report_groups, run_groups, split_groups};
 use kabi_types::{Memory, Name27, Script, ScriptFault, Text};
 use kern_core::Core;
 use kio_ports::{Sink, Source};
@@ -126,12 +124,7 @@ fn report_list<R: Threads + Wait + Sync, F: Scorer + Send + Copy, G: Scorer + Se
 }
 
 /// Runs the groups of a list, and writes their report.
-fn answer_list<
-    R: Threads + Wait + Sync,
-    K: Sink,
-    F: Scorer + Send + Copy,
-    G: Scorer + Send + Copy,
->(
+fn answer_list<R: Threads + Wait + Sync, K: Sink, F: Scorer + Send + Copy, G: Scorer + Send + Copy>(
     rt: &R,
     alloc: Global,
     workers: u32,
