@@ -5,7 +5,7 @@ use Rattle.std.proofs.lemmas.Fmt.{decimal_injective}
 use Rattle.kres_tool.specs.declared.commands.Command.{Command}
 use Rattle.kres_tool.specs.declared.commands.Command.TheVariants.{OnScript, Table, Gen, Load, Groups}
 use Rattle.kres_tool.specs.declared.commands.Task.TheVariants as task
-use Rattle.kres_tool.specs.Words.{Asks, IsAllowed, most_rounds, most_workers, words_of}
+use Rattle.kres_tool.specs.Words.{Asks, AsksNoThread, IsAllowed, command_by, most_rounds, most_workers, threaded_by, words_of}
 
 -- the first and the second byte of the first of some words
 first_byte : List (List ℕ) → ℕ
@@ -97,8 +97,28 @@ one_command (Groups workers) (Groups workers') few few' same = same_groups worke
 pub asks_once : {A : Type 0} (words : List (String A)) (first second : Command) → Asks words first → Asks words second → first ≡ second
 asks_once words first second asks asks_too = one_command first second asks.1 asks_too.1 (sym asks.0 ∙ asks_too.0)
 
--- words that are another command, or none, don't ask for this one
-pub not_asked : {A : Type 0} (words : List (String A)) (found : Option Command) (wanted : Command) → MatchOption found ((command : Command) → Asks words command → ⊥) (Asks words)
-    → (found ≡ Some wanted → ⊥) → Asks words wanted → ⊥
-not_asked words None wanted none other asks = none wanted asks
-not_asked words (Some command) wanted asked other asks = other (ap Some (asks_once words command wanted asked asks))
+-- what a command that is asked for does in threads; where it starts none, no other that does is asked for
+pub threads_or_none : {A : Type 0} (words : List (String A)) (command : Command) → Asks words command
+    → MatchOption (threaded_by command) (AsksNoThread words) (λ threaded. Asks words (command_by threaded))
+threads_or_none words (OnScript (task.Threads workers)) asks = asks
+threads_or_none words (Groups workers) asks = asks
+threads_or_none words (OnScript task.Sim) asks = record {
+  script = λ workers others. absurd (let same : OnScript task.Sim ≡ OnScript (task.Threads workers) = asks_once words (OnScript task.Sim) (OnScript (task.Threads workers)) asks others in cc);
+  groups = λ workers others. absurd (let same : OnScript task.Sim ≡ Groups workers = asks_once words (OnScript task.Sim) (Groups workers) asks others in cc);
+}
+threads_or_none words (OnScript task.Print) asks = record {
+  script = λ workers others. absurd (let same : OnScript task.Print ≡ OnScript (task.Threads workers) = asks_once words (OnScript task.Print) (OnScript (task.Threads workers)) asks others in cc);
+  groups = λ workers others. absurd (let same : OnScript task.Print ≡ Groups workers = asks_once words (OnScript task.Print) (Groups workers) asks others in cc);
+}
+threads_or_none words Table asks = record {
+  script = λ workers others. absurd (let same : Table ≡ OnScript (task.Threads workers) = asks_once words Table (OnScript (task.Threads workers)) asks others in cc);
+  groups = λ workers others. absurd (let same : Table ≡ Groups workers = asks_once words Table (Groups workers) asks others in cc);
+}
+threads_or_none words (Gen rounds) asks = record {
+  script = λ workers others. absurd (let same : Gen rounds ≡ OnScript (task.Threads workers) = asks_once words (Gen rounds) (OnScript (task.Threads workers)) asks others in cc);
+  groups = λ workers others. absurd (let same : Gen rounds ≡ Groups workers = asks_once words (Gen rounds) (Groups workers) asks others in cc);
+}
+threads_or_none words (Load rounds) asks = record {
+  script = λ workers others. absurd (let same : Load rounds ≡ OnScript (task.Threads workers) = asks_once words (Load rounds) (OnScript (task.Threads workers)) asks others in cc);
+  groups = λ workers others. absurd (let same : Load rounds ≡ Groups workers = asks_once words (Load rounds) (Groups workers) asks others in cc);
+}

@@ -1,5 +1,5 @@
 -- The words of the command line.
-use Rattle.std.specs.Prelude.{ℕ, ⊤, ◌≡◌, ◌≤◌, List, [], ◌∷◌, map, String, string_bytes, codes, decimal}
+use Rattle.std.specs.Prelude.{ℕ, ⊤, ◌≡◌, ◌≤◌, List, [], ◌∷◌, map, Option, Some, None, String, string_bytes, codes, decimal}
 use Rattle.kres_tool.specs.declared.commands.Command.{Command}
 use Rattle.kres_tool.specs.declared.commands.Command.TheVariants.{OnScript, Table, Gen, Load, Groups}
 use Rattle.kres_tool.specs.declared.commands.Threaded.{Threaded}
@@ -20,6 +20,16 @@ words_of (Groups workers) = codes "groups" ∷ decimal workers ∷ []
 abbrev pub command_by : Threaded → Command
 command_by (threaded.Script workers) = OnScript (Threads workers)
 command_by (threaded.Groups workers) = Groups workers
+
+-- what the command does in threads
+abbrev pub threaded_by : Command → Option Threaded
+threaded_by (OnScript (Threads workers)) = Some (threaded.Script workers)
+threaded_by (OnScript Sim) = None
+threaded_by (OnScript Print) = None
+threaded_by Table = None
+threaded_by (Gen rounds) = None
+threaded_by (Load rounds) = None
+threaded_by (Groups workers) = Some (threaded.Groups workers)
 
 -- the most rounds of a generated script
 abbrev pub most_rounds : ℕ

@@ -1,6 +1,6 @@
 ghost use Rattle.std.specs.Prelude.{◌≡◌, ℕ, ◌≤◌, [], ◌∷◌, IfNone, IfSome, MatchOption, decimal};
 ghost use Rattle.kres_tool.specs.declared.commands.Command.{Command};
-ghost use Rattle.kres_tool.specs.Words.{Asks, AsksNoThread, IsAllowed, command_by, most_workers, words_of};
+ghost use Rattle.kres_tool.specs.Words.{Asks, AsksNoThread, IsAllowed, command_by, most_workers, threaded_by, words_of};
 
 /// What is done with a script that is read from the source.
 #[derive(Clone, Copy, Debug, PartialEq, Eq)]
@@ -48,9 +48,22 @@ pub fn threaded_of(words: &[String]) -> Option<Threaded>
     ensures { MatchOption result (AsksNoThread words.now) (λ threaded. Asks words.now (command_by threaded)) }
 {
     match command_of(words) {
-        Some(Command::OnScript(Task::Threads(workers))) => Some(Threaded::Script(workers)),
-        Some(Command::Groups(workers)) => Some(Threaded::Groups(workers)),
-        _ => None,
+        Some(command) => threaded_by(command),
+        None => None,
+    }
+}
+
+/// What a command does in threads; None where it starts none.
+fn threaded_by(command: Command) -> Option<Threaded>
+    ensures { result ≡ threaded_by command }
+{
+    match command {
+        Command::OnScript(Task::Threads(workers)) => Some(Threaded::Script(workers)),
+        Command::Groups(workers) => Some(Threaded::Groups(workers)),
+        Command::OnScript(Task::Sim | Task::Print)
+        | Command::Table
+        | Command::Gen(_)
+        | Command::Load(_) => None,
     }
 }
 
