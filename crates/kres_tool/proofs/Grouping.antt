@@ -108,15 +108,15 @@ sections_more groups sections place group within so_far named scripted =
     ∙ ap (λ s. take place sections ++ s ∷ []) same
     ∙ sym (take_more sections place (section_of group) within)
 
--- groups that were booted for a list, and have run, are reported as that list's
-pub report_of : {X : Type 0} (list : Groups) (booted ran : List (Group StoreView)) (text : List ℕ) → length ran ≡ length booted → sections_of booted ≡ list.sections
-    → EachBecomes stands marks high list.whole booted ran ⊎ ((ran ≡ booted) × X) → AllByRecursion (IsDone stands marks high list.whole) ran
-    → ((whole : ℕ) → AllByRecursion (IsDone stands marks high whole) ran → IsGroupReport stands marks high whole (sections_of ran) text)
-    → IsReportOf list text
-report_of list booted ran text long are becomes done tells =
-    subst (λ sections. IsGroupReport stands marks high list.whole sections text)
+-- groups that have run are reported by the names and scripts that they had
+pub report_of : {X : Type 0} (whole : ℕ) (booted ran : List (Group StoreView)) (text : List ℕ) → length ran ≡ length booted
+    → EachBecomes stands marks high whole booted ran ⊎ ((ran ≡ booted) × X) → AllByRecursion (IsDone stands marks high whole) ran
+    → ((n : ℕ) → AllByRecursion (IsDone stands marks high n) ran → IsGroupReport stands marks high n (sections_of ran) text)
+    → IsGroupReport stands marks high whole (sections_of booted) text
+report_of whole booted ran text long becomes done tells =
+    subst (λ sections. IsGroupReport stands marks high whole sections text)
     (elim becomes [
-      | inl each ↦ sections_kept stands marks high list.whole booted ran long each ∙ are
-      | inr same ↦ ap sections_of same.0 ∙ are
+      | inl each ↦ sections_kept stands marks high whole booted ran long each
+      | inr same ↦ ap sections_of same.0
     ])
-    (tells list.whole done)
+    (tells whole done)

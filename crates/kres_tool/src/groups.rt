@@ -4,9 +4,10 @@ ghost use Rattle.std.specs.Prelude.{◌≡◌, ◌<◌, ◌≤◌, IfOk};
 ghost use Rattle.std.specs.List.{AllByRecursion};
 ghost use Rattle.kabi_types.specs.declared.scripts.Policy.TheVariants.{Heaviest, Youngest};
 ghost use Rattle.posix_defs.specs.ValidScript.{IsValid};
+ghost use Rattle.group_heap.specs.Reports.{IsGroupReport};
 ghost use Rattle.group_heap.specs.Runs.{IsAtStart, sections_of};
 ghost use Rattle.kres_tool.specs.Groups.{AreFit, IsGroupsReadAs, IsReportOf, SaysGroups};
-ghost use Rattle.kres_tool.specs.Run.{stands};
+ghost use Rattle.kres_tool.specs.Run.{high, marks, stands};
 ghost use Rattle.kres_tool.specs.Tool.{GroupsEnd, ListEnds, input, output};
 
 use crate::reading::read_text;
@@ -103,6 +104,24 @@ fn boot_groups<F: Scorer + Copy, G: Scorer + Copy>(
     Ok(groups)
 }
 
+/// Runs groups by so many workers, and reports them.
+fn report_ran<R: Threads + Wait + Sync, F: Scorer + Send, G: Scorer + Send>(
+    rt: &R,
+    alloc: Global,
+    workers: u32,
+    whole: u64,
+    groups: &mut [Group<Store<F, G>>],
+) -> Result<Text, Memory>
+    requires least { 8192 ≤ whole }
+    requires most { whole ≤ 8388608 }
+    requires start { AllByRecursion (IsAtStart stands (λ store. store.script)) groups.old }
+    ensures { IfOk result (IsGroupReport stands marks high whole (sections_of groups.old)) }
+{
+    a_tree_of_files_crosses_threads();
+    run_groups(rt, alloc, groups, whole, workers)?;
+    report_groups(alloc, groups)
+}
+
 /// Runs the groups of a list by so many workers, and reports them.
 fn report_list<R: Threads + Wait + Sync, F: Scorer + Send + Copy, G: Scorer + Send + Copy>(
     rt: &R,
@@ -118,9 +137,7 @@ fn report_list<R: Threads + Wait + Sync, F: Scorer + Send + Copy, G: Scorer + Se
     ensures { IfOk result (IsReportOf list.now) }
 {
     let mut groups = boot_groups(alloc, list, heaviest, youngest)?;
-    a_tree_of_files_crosses_threads();
-    run_groups(rt, alloc, groups.as_mut_slice(), list.whole(), workers)?;
-    report_groups(alloc, groups.as_slice())
+    report_ran(rt, alloc, workers, list.whole(), groups.as_mut_slice())
 }
 
 /// Runs the groups of a list, and writes their report.

@@ -10,8 +10,8 @@ use Rattle.kres_tool.specs.Run.{stands}
 use Rattle.kres_tool.proofs.Grouping.{sections_more}
 use Rattle.kres_tool.proofs.groups.boot_groups.Goals as goal
 
-pub boot_group-group-requires : goal.boot_group-group-requires
-boot_group-group-requires g c =
+pub boot_group-requires : goal.boot_group-requires
+boot_group-requires g c =
     let list = c.args.list.now in
     let place = c.loop-place.place in
     let test = c.loop-place-test.true in let long = c.len.ensures in
