@@ -14,7 +14,7 @@ pub boot_group-requires : goal.boot_group-requires
 boot_group-requires g c =
     let list = c.args.list.now in
     let place = c.loop-place.place in
-    let test = c.loop-place-test.true in let long = c.len.ensures in
+    let test = c.loop-place-test.true in let long = c.len-place-end.ensures in
     let within : place < length list.sections = omega (arith, test, long) in
     let d : Section = record { name = c.name.result; script = c.script.result.now } in
     subst IsValid (sym (c.script.ensures (get_or list.sections place d) (slice_get-get_or list.sections place d within)))
@@ -24,7 +24,7 @@ pub loop-place-preserved : goal.loop-place-preserved
 loop-place-preserved g c =
     let here = c.loop-place in
     let list = c.args.list.now in
-    let test = c.loop-place-test.true in let long = c.len.ensures in
+    let test = c.loop-place-test.true in let long = c.len-place-end.ensures in
     let within : here.place < length list.sections = omega (arith, test, long) in
     let group = c.in_ok-group.group in
     record {
