@@ -1,6 +1,5 @@
 -- How far a text of groups is read.
-use Rattle.std.proofs.Common.{◌≡◌, ℕ, ◌+◌, ◌≤◌, List, [], ◌∷◌, ◌++◌, length, Option, None, Some, Result, Ok, Err, refl, sym, ap, ◌∙◌, subst, arith}
-use Rattle.std.specs.Borrow.{Bor}
+use Rattle.std.proofs.Common.{◌≡◌, ℕ, ◌+◌, ◌≤◌, List, [], ◌∷◌, ◌++◌, length, Option, None, Some, Result, Ok, Err, sym, ap, ◌∙◌, subst}
 use Rattle.kabi_types.specs.declared.scripts.FaultKind.{FaultKind}
 use Rattle.kabi_types.specs.declared.scripts.FaultKind.TheVariants.{NoInit}
 use Rattle.kabi_types.specs.declared.scripts.Script.{Script}
@@ -13,7 +12,7 @@ use Rattle.group_heap.specs.declared.faults.GroupFault.{GroupFault}
 use Rattle.group_heap.specs.declared.faults.GroupFault.TheVariants as fault
 use Rattle.group_heap.specs.declared.lists.Section.{Section}
 use Rattle.group_heap.specs.Fronts.{BeginsFirst, BeginsNone, IsFront, LeadsTo}
-use Rattle.group_heap.specs.Lines.{Cuts, lines_left}
+use Rattle.group_heap.specs.Lines.{Cuts}
 use Rattle.group_heap.specs.Outcomes.{Outcome, ReadsBehind, SaysAt, told_at, told_behind}
 use Rattle.group_heap.specs.Texts.{Groups, ReadsFront, ReadsGroups, ReadsSections, fault_at, fault_behind, front_said, groups_of, lines_of, section_said, text_of}
 use Rattle.group_heap.specs.Texts as spec

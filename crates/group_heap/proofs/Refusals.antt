@@ -1,5 +1,5 @@
 -- Why a line is refused, with its number.
-use Rattle.std.proofs.Common.{◌≡◌, ℕ, List, Result, Ok, Err, refl, sym, subst}
+use Rattle.std.proofs.Common.{◌≡◌, ℕ, List, Result, Err, refl, sym, subst}
 use Rattle.kabi_types.specs.declared.scripts.FaultKind.{FaultKind}
 use Rattle.posix_defs.specs.declared.said.Word.{Word}
 use Rattle.script_words.specs.Telling.{Tells}

@@ -1,5 +1,5 @@
 -- What becomes of groups, from seats that are handed out to seats that are taken back.
-use Rattle.std.proofs.Common.{◌≡◌, ℕ, zero, suc, ◌<◌, Bool, true, false, ◌||◌, List, [], ◌∷◌, ◌++◌, length, map, take, drop, get_or, Some, refl, sym, ap, ◌∙◌, subst, arith}
+use Rattle.std.proofs.Common.{◌≡◌, ℕ, zero, suc, ◌<◌, Bool, true, false, ◌||◌, List, [], ◌∷◌, ◌++◌, length, map, take, drop, get_or, refl, sym, ap, ◌∙◌, subst, arith}
 use Rattle.std.specs.List.{AllByRecursion, list_any}
 use Rattle.std.proofs.lemmas.List.{get_or-map, length-map}
 use Rattle.kabi_types.specs.declared.scripts.Script.{Script}
@@ -10,7 +10,7 @@ use Rattle.group_heap.specs.declared.groups.Group.{Group}
 use Rattle.group_heap.specs.declared.groups.GroupEnd.{GroupEnd}
 use Rattle.group_heap.specs.declared.groups.GroupEnd.TheVariants as end
 use Rattle.group_heap.specs.Runs.{BecomesOf, EachBecomes, IsAtStart, IsDone, Leaves, Says, has_waited, section_of, sections_of}
-use Rattle.group_heap.specs.Seats.{HoldsNothing, IsReady, WasCalled, seated, unseated}
+use Rattle.group_heap.specs.Seats.{IsReady, WasCalled, seated, unseated}
 
 -- what holds at each place holds of all
 pub all_of_places : {X : Type 0} (P : X → Type 0) (xs : List X) → ((place : ℕ) (d : X) → place < length xs → P (get_or xs place d)) → AllByRecursion P xs

@@ -1,5 +1,5 @@
 -- The report of groups, and when it is that of these sections.
-use Rattle.std.specs.Prelude.{ℕ, ◌+◌, ◌≡◌, ◌<◌, ◌≤◌, Bool, true, false, List, [], ◌∷◌, ◌++◌, length, codes, count_by, decimal}
+use Rattle.std.specs.Prelude.{ℕ, ◌≡◌, ◌<◌, ◌≤◌, Bool, true, false, List, [], ◌∷◌, ◌++◌, length, codes, count_by, decimal}
 use Rattle.kabi_types.specs.declared.entries.End.{End}
 use Rattle.posix_defs.specs.Lines.{newline}
 use Rattle.posix_defs.specs.World.{World}

@@ -1,5 +1,5 @@
 -- Groups while they run: each has a seat of the charge word.
-use Rattle.std.specs.Prelude.{ℕ, ◌≡◌, List, None, Some}
+use Rattle.std.specs.Prelude.{ℕ, ◌≡◌, None, Some}
 use Rattle.kabi_types.specs.declared.scripts.Script.{Script}
 use Rattle.posix_defs.specs.ValidScript.{IsValid}
 use Rattle.posix_defs.specs.World.{World}

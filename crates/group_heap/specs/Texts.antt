@@ -1,5 +1,5 @@
 -- A text of groups: how much all of them may hold, and a section for each; or the fault that it has.
-use Rattle.std.specs.Prelude.{ℕ, ◌+◌, ◌≡◌, ◌<◌, ◌≤◌, Bool, true, false, ◌==◌, nat_le, if◌then◌else◌, List, [], ◌∷◌, ◌++◌, length, Option, None, Some, is_some, Result, Ok, Err, codes}
+use Rattle.std.specs.Prelude.{ℕ, ◌+◌, ◌≡◌, ◌<◌, ◌≤◌, Bool, true, ◌==◌, nat_le, if◌then◌else◌, List, [], ◌∷◌, ◌++◌, length, Option, None, Some, is_some, Result, Ok, Err, codes}
 use Rattle.std.specs.List.{All, join_with_byte, list_any, slice_split}
 use Rattle.std.specs.Str.{IsUtf8, bytes_eq}
 use Rattle.kabi_types.specs.declared.scripts.FaultKind.{FaultKind}

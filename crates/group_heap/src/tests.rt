@@ -184,7 +184,7 @@ fn a_text_of_a_byte_more_is_too_long(rt: HostRuntime) -> Result<(), Fail> {
     let alloc = rt.alloc();
     let mut text = Vec::new(alloc);
     text.extend_from_slice(b"whole 8192\ngroup a\nprogram init\nend\n#")?;
-    while text.len() < 1048576 {
+    for _ in text.len()..1048576 {
         text.push(b'x')?;
     }
     assert!(rt; split_groups(alloc, text.as_slice()).is_ok_and(|list| list.len() == 1));

@@ -113,7 +113,7 @@ fn a_stream_that_fails_is_told(rt: HostRuntime) -> Result<(), Fail> {
 fn a_text_that_is_too_long_has_no_other_fault(rt: HostRuntime) -> Result<(), Fail> {
     let mut text = Vec::new(rt.alloc());
     text.extend_from_slice(b"nonsense\n#")?;
-    while text.len() < 1048577 {
+    for _ in text.len()..1048577 {
         text.push(b'x')?;
     }
     expect_answer(

@@ -1,5 +1,5 @@
 use Rattle.std.proofs.Common.{◌≡◌, ◌-◌, ◌++◌, ◌∷◌, [], ap, sym, ◌∙◌, take, arith, append_assoc}
-use Rattle.std.proofs.lemmas.List.{append-nil, length-append}
+use Rattle.std.proofs.lemmas.List.{append-nil}
 use Rattle.group_heap.specs.Lines.{bytes_left, lines_left}
 use Rattle.group_heap.specs.Texts.{lines_of, text_of}
 use Rattle.group_heap.proofs.Cutting.{bytes_more, bytes_of, front_of, joined, length_more, no_more, one_more, starts}

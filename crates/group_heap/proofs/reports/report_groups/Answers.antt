@@ -1,4 +1,4 @@
-use Rattle.std.proofs.Common.{◌≡◌, ◌++◌, string_bytes, ap, ◌∙◌}
+use Rattle.std.proofs.Common.{◌++◌, string_bytes, ap, ◌∙◌}
 use Rattle.group_heap.specs.Reports.{all_lines}
 use Rattle.group_heap.specs.Telling.{told_each}
 use Rattle.group_heap.proofs.Telling.{is_report, report_is}

@@ -1,4 +1,4 @@
-use Rattle.std.proofs.Common.{◌≡◌, ℕ, ◌<◌, length, map, inl, slice_index_or, ap, sym, ◌∙◌, subst, arith}
+use Rattle.std.proofs.Common.{inl, slice_index_or, sym, ◌∙◌, subst, arith}
 use Rattle.std.specs.List.{AllByRecursion}
 use Rattle.group_heap.specs.declared.groups.Group.{Group}
 use Rattle.group_heap.specs.Seats.{HoldsNothing, IsReady, WasCalled}

@@ -1,4 +1,4 @@
-use Rattle.std.proofs.Common.{◌≤◌, ◌+◌, Err, length, subst, arith}
+use Rattle.std.proofs.Common.{Err, subst, arith}
 use Rattle.posix_defs.specs.ScriptText.{ReadsText}
 use Rattle.script_read.specs.Reading.{Outcome}
 use Rattle.group_heap.proofs.FirstFaults.{fault_line}

@@ -1,4 +1,4 @@
-use Rattle.std.proofs.Common.{◌≡◌, ◌≤◌, List, [], Ok, Err, length, subst, arith}
+use Rattle.std.proofs.Common.{List, Ok, Err, subst, arith}
 use Rattle.std.proofs.lemmas.Result.{err_from_is_err_and}
 use Rattle.group_heap.specs.declared.lists.Section.{Section}
 use Rattle.group_heap.specs.Outcomes.{Outcome}
