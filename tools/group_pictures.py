@@ -8,6 +8,7 @@ from html import escape
 
 from drawing import FAINT, STYLE, TOP, Picture, Told, comment_of, folded
 from report import NoReport, Run
+from script import BadScript
 
 GROUP = re.compile(r"group (?P<name>\S+) (?P<refused>refused )?heap (?P<heap>\d+)")
 END = re.compile(r"end groups (?P<groups>\d+) refused (?P<refused>\d+)")
@@ -70,7 +71,10 @@ class Groups:
         told = Told(None)
         told.title = f"group {name}"
         if name in sections:
-            told.take(sections[name])
+            try:
+                told.take(sections[name])
+            except BadScript as fault:
+                raise NoReport(f"the text of group {name}: {fault}") from None
         run = Run("\n".join(lines), told.script)
         return Picture(run, told, 1, min(len(run.events), MOST))
 
