@@ -6,7 +6,7 @@ use Rattle.kres_tool.specs.Run.{high, marks, stands}
 use Rattle.kres_tool.proofs.groups.report_list.Goals as goal
 
 pub report_ran-requires-clause-start : goal.report_ran-requires-clause-start
-report_ran-requires-clause-start g c =
+report_ran-requires-clause-start g c = λ κs live.
     subst (AllByRecursion (IsAtStart stands (λ store. store.script))) (sym c.as_mut_slice.ensures.value) c.in_ok-groups.ensures.start
 
 pub returns : goal.returns
