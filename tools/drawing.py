@@ -72,20 +72,33 @@ def counted(names):
     return ", ".join(it if names.count(it) == 1 else f"{names.count(it)} {it}s" for it in dict.fromkeys(names))
 
 
+def comment_of(lines):
+    """The comment that the lines of a text begin with."""
+    lines = [line.strip() for line in lines]
+    told = next((place for place, line in enumerate(lines) if not line.startswith("#")), len(lines))
+    return " ".join(line.lstrip("# ") for line in lines[:told])
+
+
 class Told:
     """What a picture takes from a script: a title, the file's name, the heap, and the comment that it begins with."""
 
     def __init__(self, path):
-        self.file = os.path.basename(path) if path else ""
-        self.title = os.path.splitext(self.file)[0].replace("_", " ") or "a run"
+        self.name_by(path or "")
         self.script, self.heap, self.said = None, None, ""
         if path:
             with open(path, "rb") as file:
-                self.script = Script(file.read())
-            self.heap = self.script.heap
-            lines = [line.strip() for line in self.script.lines]
-            told = next((place for place, line in enumerate(lines) if not line.startswith("#")), len(lines))
-            self.said = " ".join(line.lstrip("# ") for line in lines[:told])
+                self.take(file.read())
+
+    def name_by(self, path):
+        """Takes the name of a script's file."""
+        self.file = os.path.basename(path)
+        self.title = os.path.splitext(self.file)[0].replace("_", " ") or "a run"
+
+    def take(self, text):
+        """Takes what the text of a script tells."""
+        self.script = Script(text)
+        self.heap = self.script.heap
+        self.said = comment_of(self.script.lines)
 
 
 class Picture:
@@ -143,8 +156,8 @@ class Picture:
         self.labels()
         if not self.run.is_threads:
             self.chart()
-        height = self.legend(self.bottom + 40) + 22
-        size = f'width="{self.width:.0f}" height="{height:.0f}" viewBox="0 0 {self.width:.0f} {height:.0f}"'
+        self.height = self.legend(self.bottom + 40) + 22
+        size = f'width="{self.width:.0f}" height="{self.height:.0f}" viewBox="0 0 {self.width:.0f} {self.height:.0f}"'
         return "\n".join([
             f'<svg xmlns="http://www.w3.org/2000/svg" {size} role="img">',
             f"<title>{escape(self.told.title)}</title>",

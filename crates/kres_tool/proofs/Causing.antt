@@ -6,19 +6,24 @@ use Rattle.kabi_types.specs.declared.entries.End.TheVariants as end
 use Rattle.kabi_types.specs.declared.scripts.Script.{Script}
 use Rattle.kabi_types.specs.declared.scripts.ScriptFault.{ScriptFault}
 use Rattle.call_run.specs.Stores.{StoreView}
+use Rattle.group_heap.proofs.OneReading.{groups_once}
+use Rattle.group_heap.specs.Texts.{Groups as Groups', ReadsGroups}
+use Rattle.group_heap.specs.Texts as group_texts
 use Rattle.posix_defs.specs.Lines.{fault_line}
 use Rattle.posix_defs.specs.ScriptText.{ReadsText}
 use Rattle.script_parse.proofs.TextReads.{reads_as}
 use Rattle.kres_tool.specs.declared.commands.Command.{Command}
-use Rattle.kres_tool.specs.declared.commands.Command.TheVariants.{OnScript, Table, Gen, Load}
+use Rattle.kres_tool.specs.declared.commands.Command.TheVariants.{OnScript, Table, Gen, Load, Groups}
 use Rattle.kres_tool.specs.declared.commands.Task.{Task}
 use Rattle.kres_tool.specs.declared.commands.Task.TheVariants as task
 use Rattle.kres_tool.specs.declared.statuses.Status.{Status}
 use Rattle.kres_tool.specs.declared.statuses.Status.TheVariants as status
-use Rattle.kres_tool.specs.Causes.{Completes, EndsRun, HasCause, HasScript, IsDone, IsTold, NoPutFailed, NothingFailed, TellsEnd, TellsFault}
+use Rattle.kres_tool.specs.Causes.{AreReported, Completes, EndsRun, HasCause, HasGroups, HasScript, IsDone, IsTold, NoPutFailed, NothingFailed, TellsEnd, TellsFault, TellsGroupsFault}
+use Rattle.kres_tool.specs.Groups.{AnswersGroups, IsReportOf}
+use Rattle.kres_tool.specs.Groups as group_answers
 use Rattle.kres_tool.specs.Read.{HasTaken}
 use Rattle.kres_tool.specs.Status.{status_of}
-use Rattle.kres_tool.specs.Tool.{Answered, AnswersText, CommandEnds, Input, LoadEnds, Loaded, Makes, Obeys, OthersEnd, Output, TaskEnds, TextEnds, Wrote, makes, refuses, runs, usage_line}
+use Rattle.kres_tool.specs.Tool.{Answered, AnsweredGroups, AnswersText, CommandEnds, GroupsEnd, Input, LoadEnds, Loaded, Makes, Obeys, OthersEnd, Output, TaskEnds, TextEnds, Wrote, makes, refuses, runs, usage_line}
 use Rattle.kres_tool.specs.Words.{Asks}
 use Rattle.kres_tool.proofs.Outcomes.{says_short}
 
@@ -65,6 +70,20 @@ tells_end i o handed asked st (whole, source, wrote) other =
       | inr said ↦ record { text = source.text; taken = source.taken; script = said.0; says = said.1; whole = whole; makes = said.2; wrote = wrote }
     ]
 
+-- what answers a text of groups is the line of its fault, or their report
+groups_answer_is : (text whole : List ℕ) (st : Status) → AnswersGroups text whole st
+    → ((st ≡ status.BadScript) × ((fault : ScriptFault) × ReadsGroups text (Err fault) × (whole ≡ fault_line fault)))
+    ⊎ ((st ≡ status.Finished) × ((groups : Groups') × ReadsGroups text (Ok groups) × IsReportOf groups whole))
+groups_answer_is text whole _ (group_answers.AnswersGroups.refuses fault why is) = inl (refl, (fault, why, is))
+groups_answer_is text whole _ (group_answers.AnswersGroups.reports groups says is) = inr (refl, (groups, says, is))
+
+tells_groups_fault : (i : Input) (o : Output) → AnsweredGroups i o status.BadScript → TellsGroupsFault i o
+tells_groups_fault i o (whole, source, wrote) =
+    elim (groups_answer_is source.text whole status.BadScript source.answers) [
+      | inl bad ↦ record { text = source.text; taken = source.taken; fault = bad.1.0; has = bad.1.1; wrote = subst (Wrote o) bad.1.2 wrote }
+      | inr said ↦ absurd (let wrong : status.BadScript ≡ status.Finished = said.0 in cc)
+    ]
+
 module _ {A : Type 0} (words : List (String A)) where
   ends_run : (i : Input) (o : Output) (handed : Option StoreView) (asked : Task) (st : Status) → Asks words (OnScript asked) → Answered i o handed asked st
       → (st ≡ status.BadScript → ⊥) → (st ≡ status.Finished → ⊥) → EndsRun words i o handed st
@@ -75,12 +94,12 @@ module _ {A : Type 0} (words : List (String A)) where
   task_cause : (i : Input) (o : Output) (handed : Option StoreView) (asked : Task) (st : Status) → Asks words (OnScript asked) → TaskEnds i o handed asked st
       → HasCause words i o handed st
   task_cause i o handed asked status.Finished asks ends = (OnScript asked, asks, ends)
-  task_cause i o handed asked status.BadScript asks ends = (asked, asks, tells_fault i o handed asked ends)
+  task_cause i o handed asked status.BadScript asks ends = inl ((asked, asks), tells_fault i o handed asked ends)
   task_cause i o handed asked status.Usage asks ends = absurd ends
   task_cause i o handed asked status.Starved asks ends = ends_run i o handed asked status.Starved asks ends (λ is. (cc)) (λ is. (cc))
   task_cause i o handed asked status.AllAsleep asks ends = ends_run i o handed asked status.AllAsleep asks ends (λ is. (cc)) (λ is. (cc))
   task_cause i o handed asked status.Spent asks ends = ends_run i o handed asked status.Spent asks ends (λ is. (cc)) (λ is. (cc))
-  task_cause i o handed asked status.ReadFault asks (risen, untouched, none) = (asked, asks, risen, untouched)
+  task_cause i o handed asked status.ReadFault asks (risen, untouched, none) = (inl (asked, asks), risen, untouched)
   task_cause i o handed asked status.WriteFault asks (whole, store, st, source, broke, none) =
       (broke.fault, (whole, inl (OnScript asked, asks, (store, st, source)), broke))
   task_cause i o handed asked status.Memory asks (untouched, none) = (OnScript asked, asks, untouched)
@@ -120,6 +139,19 @@ module _ {A : Type 0} (words : List (String A)) where
   load_cause i o handed rounds status.WriteFault asks (whole, store, st, is, broke, none) = (broke.fault, (whole, inl (Load rounds, asks, (store, st, is)), broke))
   load_cause i o handed rounds status.Memory asks (untouched, none) = (Load rounds, asks, untouched)
 
+  groups_cause : (i : Input) (o : Output) (handed : Option StoreView) (workers : ℕ) (st : Status) → Asks words (Groups workers) → CommandEnds i o handed (Groups workers) st
+      → HasCause words i o handed st
+  groups_cause i o handed workers status.Finished asks ends = (Groups workers, asks, ends)
+  groups_cause i o handed workers status.BadScript asks ends = inr ((workers, asks), tells_groups_fault i o ends.0)
+  groups_cause i o handed workers status.Usage asks ends = absurd ends.0
+  groups_cause i o handed workers status.Starved asks ends = absurd ends.0
+  groups_cause i o handed workers status.AllAsleep asks ends = absurd ends.0
+  groups_cause i o handed workers status.Spent asks ends = absurd ends.0
+  groups_cause i o handed workers status.ReadFault asks ends = (inr (workers, asks), ends.0.0, ends.0.1)
+  groups_cause i o handed workers status.WriteFault asks ends =
+      let it = ends.0 in (it.3.fault, (it.0, inl (Groups workers, asks, (it.1, it.2)), it.3))
+  groups_cause i o handed workers status.Memory asks ends = (Groups workers, asks, ends.0)
+
   -- of words that are a command
   pub command_cause : (i : Input) (o : Output) (handed : Option StoreView) (command : Command) (st : Status) → Asks words command
       → CommandEnds i o handed command st → HasCause words i o handed st
@@ -127,6 +159,7 @@ module _ {A : Type 0} (words : List (String A)) where
   command_cause i o handed Table st asks ends = table_cause i o handed st asks ends
   command_cause i o handed (Gen rounds) st asks ends = gen_cause i o handed rounds st asks ends
   command_cause i o handed (Load rounds) st asks ends = load_cause i o handed rounds st asks ends
+  command_cause i o handed (Groups workers) st asks ends = groups_cause i o handed workers st asks ends
 
   -- and of others
   pub others_cause : (i : Input) (o : Output) (handed : Option StoreView) (st : Status) → ((command : Command) → Asks words command → ⊥) → OthersEnd o st
@@ -191,6 +224,33 @@ task_done i o handed asked script status.ReadFault ends there none = absurd (non
 task_done i o handed asked script status.WriteFault (whole, store, st, source, broke, nothing) there none = absurd (none.1 broke.fault)
 task_done i o handed asked script status.Memory ends there none = inr refl
 
+-- groups that are there are reported
+groups_short : (text : List ℕ) (groups : Groups') → ReadsGroups text (Ok groups) → length text ≤ 1048576
+groups_short text groups (group_texts.ReadsGroups.reads outcome short says) = short
+
+groups_answered : (i : Input) (o : Output) (groups : Groups') (st : Status) → AnsweredGroups i o st → HasGroups i groups → AreReported o groups st
+groups_answered i o groups st (whole, source, wrote) there =
+    let same : source.text ≡ there.text =
+    took_all there.text source.text i.left' (subst (λ left. HasTaken source.text left i.left') there.there source.taken) (groups_short there.text groups there.says) in
+    elim (groups_answer_is there.text whole st (subst (λ text. AnswersGroups text whole st) same source.answers)) [
+      | inl bad ↦ absurd (let wrong : Err bad.1.0 ≡ Ok groups = groups_once there.text (Err bad.1.0) (Ok groups) bad.1.1 there.says in cc)
+      | inr said ↦
+          let once = groups_once there.text (Ok said.1.0) (Ok groups) said.1.1 there.says in
+          let alike : said.1.0 ≡ groups = cc in
+          inl (said.0, (whole, subst (λ g. IsReportOf g whole) alike said.1.2, wrote))
+    ]
+
+groups_done : (i : Input) (o : Output) (groups : Groups') (st : Status) → GroupsEnd i o st → HasGroups i groups → NothingFailed i o → AreReported o groups st
+groups_done i o groups status.Finished ends there none = groups_answered i o groups status.Finished ends there
+groups_done i o groups status.BadScript ends there none = groups_answered i o groups status.BadScript ends there
+groups_done i o groups status.ReadFault ends there none = absurd (none.0 ends.0)
+groups_done i o groups status.WriteFault (whole, st, source, broke) there none = absurd (none.1 broke.fault)
+groups_done i o groups status.Memory ends there none = inr refl
+groups_done i o groups status.Usage ends there none = absurd ends
+groups_done i o groups status.Starved ends there none = absurd ends
+groups_done i o groups status.AllAsleep ends there none = absurd ends
+groups_done i o groups status.Spent ends there none = absurd ends
+
 text_done : (o : Output) (whole : List ℕ) (st : Status) → TextEnds o whole st → NoPutFailed o → IsTold o whole status.Finished st
 text_done o whole status.Finished wrote none = inl (refl, wrote)
 text_done o whole status.WriteFault broke none = absurd (none broke.fault)
@@ -232,5 +292,6 @@ completes words i o handed st obeys = record {
   table = λ asks none. let ends = obeys.commands Table asks in text_done o _ st ends.0 none;
   gen = λ rounds asks none. let ends = obeys.commands (Gen rounds) asks in text_done o _ st ends.0 none;
   load = λ rounds asks none. load_done o handed rounds st (obeys.commands (Load rounds) asks) none;
+  groups = λ workers groups asks there none. let ends = obeys.commands (Groups workers) asks in groups_done i o groups st ends.0 there none;
   others = λ nothing none. let ends = obeys.others nothing in others_done o st ends.0 none;
 }

@@ -1,5 +1,6 @@
 pub mod Asking
 pub mod Causing
+pub mod Grouping
 pub mod Headlines
 pub mod Histories
 pub mod Numbers

@@ -8,15 +8,18 @@ use Rattle.posix_defs.specs.Generated.{generated}
 use Rattle.posix_defs.specs.History.{IsRun, Past}
 use Rattle.posix_defs.specs.World.{World, base, pins}
 use Rattle.call_run.specs.Stores.{StoreView}
+use Rattle.group_heap.specs.Reports.{KeepsGroups}
+use Rattle.group_heap.specs.Texts.{Groups as Groups'}
 use Rattle.run_report.specs.Headline.{EntryKeeps, KeepsHeadline}
 use Rattle.run_report.specs.Histories.{report_threads}
 use Rattle.run_report.specs.Summaries.{KeepsSummary}
 use Rattle.work_crew.specs.Whole.{MayEnd}
-use Rattle.kres_tool.specs.declared.commands.Command.TheVariants.{OnScript, Load}
+use Rattle.kres_tool.specs.declared.commands.Command.TheVariants.{OnScript, Load, Groups}
 use Rattle.kres_tool.specs.declared.commands.Task.TheVariants.{Sim, Threads}
 use Rattle.kres_tool.specs.declared.statuses.Status.{Status}
 use Rattle.kres_tool.specs.declared.statuses.Status.TheVariants.{Finished, Starved, AllAsleep, Spent}
 use Rattle.kres_tool.specs.Causes.{Completes, HasCause}
+use Rattle.kres_tool.specs.Groups.{HasGroupsReadAs}
 use Rattle.kres_tool.specs.Read.{HasReadAs}
 use Rattle.kres_tool.specs.Run.{high, marks, stands}
 use Rattle.kres_tool.specs.Status.{status_of}
@@ -122,7 +125,20 @@ ThreadsKeep i o handed AllAsleep = HasThreaded i o handed AllAsleep
 ThreadsKeep i o handed Spent = HasThreaded i o handed Spent
 ThreadsKeep i o handed _ = ⊤
 
--- What the tool does on these words, and what is so of each report that it has written of a run, by the core or by workers,
+-- The source had a text of groups, and the sink got their whole report, of which each part keeps the headline for its own script.
+pub record HasGrouped (i : Input) (o : Output) : Type 0 where
+  pub groups : Groups'
+  pub read : HasGroupsReadAs (Ok groups) i.left i.left' i.takes i.takes'
+  pub whole : List ℕ
+  pub wrote : Wrote o whole
+  pub keeps : KeepsGroups stands marks high groups.whole groups.sections whole
+
+-- where all was written
+abbrev pub GroupsKeep : Input → Output → Status → Type 0
+GroupsKeep i o Finished = HasGrouped i o
+GroupsKeep i o _ = ⊤
+
+-- What the tool does on these words, and what is so of each report that it has written of a run, by the core or by workers, of groups,
 -- and of each summary. Its answer
 -- has its cause, and where nothing fails it is the end of what was asked for.
 pub record ObeysAndKeeps {A : Type 0} (words : List (String A)) (i : Input) (o : Output) (handed : Option StoreView) (status : Status) : Type 0 where
@@ -130,5 +146,6 @@ pub record ObeysAndKeeps {A : Type 0} (words : List (String A)) (i : Input) (o :
   pub headline : Asks words (OnScript Sim) → SimKeeps i o handed status
   pub threads : (workers : ℕ) → Asks words (OnScript (Threads workers)) → ThreadsKeep i o handed status
   pub loads : (rounds : ℕ) → Asks words (Load rounds) → LoadKeeps o rounds handed status
+  pub groups : (workers : ℕ) → Asks words (Groups workers) → GroupsKeep i o status
   pub causes : HasCause words i o handed status
   pub complete : Completes words i o handed status

@@ -2,6 +2,7 @@ pub mod Read
 pub mod Run
 pub mod Status
 pub mod Words
+pub mod Groups
 pub mod Tool
 pub mod Causes
 pub mod Headline

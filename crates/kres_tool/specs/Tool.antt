@@ -4,6 +4,7 @@ use Rattle.std.specs.Io.KnownBytes.{Appends}
 use Rattle.kabi_types.specs.declared.scripts.Script.{Script}
 use Rattle.kabi_types.specs.declared.scripts.ScriptFault.{ScriptFault}
 use Rattle.call_run.specs.Stores.{StoreView}
+use Rattle.group_heap.specs.Texts.{Groups as Groups'}
 use Rattle.kio_ports.specs.declared.failed.Failed.{Failed}
 use Rattle.kio_ports.specs.Faults.{HasRisen}
 use Rattle.kio_ports.specs.Offers.{PutsAll}
@@ -13,18 +14,19 @@ use Rattle.posix_defs.specs.Lines.{fault_line}
 use Rattle.posix_defs.specs.PriceText.{table_text}
 use Rattle.posix_defs.specs.ScriptText.{ReadsText}
 use Rattle.kres_tool.specs.declared.commands.Command.{Command}
-use Rattle.kres_tool.specs.declared.commands.Command.TheVariants.{OnScript, Table, Gen, Load}
+use Rattle.kres_tool.specs.declared.commands.Command.TheVariants.{OnScript, Table, Gen, Load, Groups}
 use Rattle.kres_tool.specs.declared.commands.Task.{Task}
 use Rattle.kres_tool.specs.declared.commands.Task.TheVariants as task
 use Rattle.kres_tool.specs.declared.statuses.Status.{Status}
 use Rattle.kres_tool.specs.declared.statuses.Status.TheVariants.{Finished, BadScript, Usage, Starved, AllAsleep, Spent, ReadFault, WriteFault, Memory}
+use Rattle.kres_tool.specs.Groups.{AnswersGroups, IsReportOf}
 use Rattle.kres_tool.specs.Read.{HasTaken}
 use Rattle.kres_tool.specs.Run.{IsLoadOf, IsRunOf, IsThreadsRunOf}
 use Rattle.kres_tool.specs.Words.{Asks}
 
 -- what is written where the words aren't the program's
 abbrev pub usage_line : List ℕ
-usage_line = codes "usage: kres sim | threads W | print | table | gen N | load N\n"
+usage_line = codes "usage: kres sim | threads W | print | table | gen N | load N | groups W\n"
 
 -- The source before and after: the bytes that it has left, where it tells them, how many takes have failed, and that
 -- nothing was asked of it.
@@ -169,13 +171,41 @@ LoadEnds o handed rounds WriteFault = (whole : List ℕ) × (store : Option Stor
 LoadEnds o handed rounds Memory = o.untouched × (handed ≡ None)
 LoadEnds o handed rounds _ = ⊥
 
+-- What may become of the report of groups that were read.
+abbrev pub ListEnds : Output → Groups' → Status → Type 0
+ListEnds o groups Finished = (whole : List ℕ) × IsReportOf groups whole × Wrote o whole
+ListEnds o groups WriteFault = (whole : List ℕ) × IsReportOf groups whole × Broke o whole
+ListEnds o groups Memory = o.untouched
+ListEnds o groups _ = ⊥
+
+-- What was read, to its end or to the byte that is too many, is answered so where groups are run.
+pub record AnswersGroupsSource (i : Input) (whole : List ℕ) (status : Status) : Type 0 where
+  pub text : List ℕ
+  pub taken : HasTaken text i.left i.left'
+  pub no_fault : i.takes' ≡ i.takes
+  pub answers : AnswersGroups text whole status
+
+-- what was read is answered whole, with this status
+abbrev pub AnsweredGroups : Input → Output → Status → Type 0
+AnsweredGroups i o status = (whole : List ℕ) × AnswersGroupsSource i whole status × Wrote o whole
+
+-- What a run of groups may end with, whatever the ends of the groups are.
+abbrev pub GroupsEnd : Input → Output → Status → Type 0
+GroupsEnd i o Finished = AnsweredGroups i o Finished
+GroupsEnd i o BadScript = AnsweredGroups i o BadScript
+GroupsEnd i o ReadFault = HasRisen i.takes i.takes' × o.untouched
+GroupsEnd i o WriteFault = (whole : List ℕ) × (status : Status) × AnswersGroupsSource i whole status × Broke o whole
+GroupsEnd i o Memory = o.untouched
+GroupsEnd i o _ = ⊥
+
 -- what a command may end with: `table` writes the price list, `gen` the generated script in its canonical form, and
--- `load` the summary of its run
+-- `load` the summary of its run; `groups` hands no store out
 abbrev pub CommandEnds : Input → Output → Option StoreView → Command → Status → Type 0
 CommandEnds i o handed (OnScript asked) status = TaskEnds i o handed asked status
 CommandEnds i o handed Table status = TextEnds o table_text status × (handed ≡ None)
 CommandEnds i o handed (Gen rounds) status = TextEnds o (canonical (generated rounds)) status × (handed ≡ None)
 CommandEnds i o handed (Load rounds) status = LoadEnds o handed rounds status
+CommandEnds i o handed (Groups workers) status = GroupsEnd i o status × (handed ≡ None)
 
 -- what other words may end with
 abbrev pub OthersEnd : Output → Status → Type 0
@@ -184,8 +214,8 @@ OthersEnd o WriteFault = Broke o usage_line
 OthersEnd o _ = ⊥
 
 -- What the tool does on these words: what they ask for, or the line that says which words there are. Only what reads a
--- script touches the source.
+-- script or groups touches the source.
 pub record Obeys {A : Type 0} (words : List (String A)) (i : Input) (o : Output) (handed : Option StoreView) (status : Status) : Type 0 where
   pub commands : (command : Command) → Asks words command → CommandEnds i o handed command status
   pub others : ((command : Command) → Asks words command → ⊥) → OthersEnd o status × (handed ≡ None)
-  pub untouched : ((task : Task) → Asks words (OnScript task) → ⊥) → i.untouched
+  pub untouched : ((task : Task) → Asks words (OnScript task) → ⊥) → ((workers : ℕ) → Asks words (Groups workers) → ⊥) → i.untouched

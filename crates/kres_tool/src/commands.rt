@@ -1,8 +1,6 @@
 ghost use Rattle.std.specs.Prelude.{◌≡◌, ℕ, ◌≤◌, [], ◌∷◌, IfNone, IfSome, MatchOption, decimal};
 ghost use Rattle.kres_tool.specs.declared.commands.Command.{Command};
-ghost use Rattle.kres_tool.specs.declared.commands.Command.TheVariants.{OnScript};
-ghost use Rattle.kres_tool.specs.declared.commands.Task.TheVariants.{Threads};
-ghost use Rattle.kres_tool.specs.Words.{Asks, IsAllowed, most_workers, words_of};
+ghost use Rattle.kres_tool.specs.Words.{Asks, AsksNoThread, IsAllowed, command_by, most_workers, threaded_by, words_of};
 
 /// What is done with a script that is read from the source.
 #[derive(Clone, Copy, Debug, PartialEq, Eq)]
@@ -26,6 +24,8 @@ pub enum Command {
     Gen(u32),
     /// Runs the generated script of so many rounds, and sums its run up.
     Load(u32),
+    /// Reads a text of groups, and runs them by so many workers.
+    Groups(u32),
 }
 
 /// The most rounds of a generated script.
@@ -34,14 +34,36 @@ const MOST_ROUNDS: u32 = 1000;
 /// The most workers that run a script.
 const MOST_WORKERS: u32 = 64;
 
-/// By how many workers the words want a script to be run; None where they are another command, or none.
-pub fn workers_asked(words: &[String]) -> Option<u32>
-    ensures { MatchOption result ((workers : ℕ) → Asks words.now (OnScript (Threads workers)) → ⊥)
-        (λ workers. Asks words.now (OnScript (Threads workers))) }
+/// What the words want done in threads.
+#[derive(Clone, Copy, Debug, PartialEq, Eq)]
+pub enum Threaded {
+    /// A script is run by so many workers.
+    Script(u32),
+    /// Groups are run by so many workers.
+    Groups(u32),
+}
+
+/// What the words want done in threads; None where they are another command, or none.
+pub fn threaded_of(words: &[String]) -> Option<Threaded>
+    ensures { MatchOption result (AsksNoThread words.now) (λ threaded. Asks words.now (command_by threaded)) }
 {
     match command_of(words) {
-        Some(Command::OnScript(Task::Threads(workers))) => Some(workers),
-        _ => None,
+        Some(command) => threaded_by(command),
+        None => None,
+    }
+}
+
+/// What a command does in threads; None where it starts none.
+fn threaded_by(command: Command) -> Option<Threaded>
+    ensures { result ≡ threaded_by command }
+{
+    match command {
+        Command::OnScript(Task::Threads(workers)) => Some(Threaded::Script(workers)),
+        Command::Groups(workers) => Some(Threaded::Groups(workers)),
+        Command::OnScript(Task::Sim | Task::Print)
+        | Command::Table
+        | Command::Gen(_)
+        | Command::Load(_) => None,
     }
 }
 
@@ -86,6 +108,9 @@ fn with_number(word: &str, number: &str) -> Option<Command>
     }
     if word == "threads" {
         return Some(Command::OnScript(Task::Threads(workers_of(number)?)));
+    }
+    if word == "groups" {
+        return Some(Command::Groups(workers_of(number)?));
     }
     None
 }

@@ -2,6 +2,7 @@
 #![tactic(auto)]
 
 mod commands;
+mod groups;
 mod lines;
 mod program;
 mod reading;

@@ -31,8 +31,8 @@ pub fn run_program<
     S: Source,
     K: Sink,
     D: Door + Sync,
-    F: Scorer + Send,
-    G: Scorer + Send,
+    F: Scorer + Send + Copy,
+    G: Scorer + Send + Copy,
 >(
     rt: &R,
     alloc: Global,
@@ -66,8 +66,8 @@ fn run_words<
     S: Source,
     K: Sink,
     D: Door + Sync,
-    F: Scorer + Send,
-    G: Scorer + Send,
+    F: Scorer + Send + Copy,
+    G: Scorer + Send + Copy,
 >(
     rt: &R,
     alloc: Global,

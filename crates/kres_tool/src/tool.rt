@@ -4,17 +4,18 @@ ghost use Rattle.posix_defs.specs.Canonical.{canonical};
 ghost use Rattle.posix_defs.specs.Generated.{generated};
 ghost use Rattle.posix_defs.specs.ValidScript.{IsValid};
 ghost use Rattle.kres_tool.specs.Causes.{Completes, HasCause};
-ghost use Rattle.kres_tool.specs.Headline.{LoadKeeps, SimKeeps, ThreadsKeep};
+ghost use Rattle.kres_tool.specs.Headline.{GroupsKeep, LoadKeeps, SimKeeps, ThreadsKeep};
 ghost use Rattle.kres_tool.specs.Run.{IsLoadOf, IsRunOf};
 ghost use Rattle.kres_tool.specs.Status.{status_of};
 ghost use Rattle.kres_tool.specs.Tool.{CommandEnds, FaultEnds, HandsOut, HasPut, LoadEnds, Obeys, OthersEnd, ScriptEnds, TaskEnds, TextEnds, input, output};
-ghost use Rattle.kres_tool.specs.Words.{Asks, IsAllowed, most_rounds};
+ghost use Rattle.kres_tool.specs.Words.{Asks, AsksNoThread, IsAllowed, most_rounds};
 ghost use Rattle.kres_tool.specs.declared.commands.Command.{Command};
-ghost use Rattle.kres_tool.specs.declared.commands.Command.TheVariants.{Load, OnScript};
+ghost use Rattle.kres_tool.specs.declared.commands.Command.TheVariants.{Groups, Load, OnScript};
 ghost use Rattle.kres_tool.specs.declared.commands.Task.{Task};
 ghost use Rattle.kres_tool.specs.declared.commands.Task.TheVariants.{Sim, Threads};
 
-use crate::commands::{Command, Task, command_of, workers_asked};
+use crate::commands::{Command, Task, Threaded, command_of, threaded_of};
+use crate::groups::answer_groups;
 use crate::lines::fault_line;
 use crate::reading::{Reading, read_script};
 use crate::statuses::Status;
@@ -36,7 +37,7 @@ use victim_core::{Score, Scorer};
 use work_crew::Door;
 
 /// What is written where the words aren't the program's.
-const USAGE: &str = "usage: kres sim | threads W | print | table | gen N | load N\n";
+const USAGE: &str = "usage: kres sim | threads W | print | table | gen N | load N | groups W\n";
 
 /// Runs the tool on the words after the program's name: reads what they ask for from the source, and writes the whole
 /// answer to the sink. The two closures score processes by weight and by age. Where workers run a script, they pass the door.
@@ -48,8 +49,8 @@ pub fn run_tool<
     S: Source,
     K: Sink,
     D: Door + Sync,
-    F: Scorer + Send,
-    G: Scorer + Send,
+    F: Scorer + Send + Copy,
+    G: Scorer + Send + Copy,
 >(
     rt: &R,
     alloc: Global,
@@ -66,15 +67,20 @@ pub fn run_tool<
     ensures obeys { Obeys words.now (input S.left S.faults source.old source.new) (output K.held K.faults K.put_gives sink.old sink.new) store_out.new result }
     ensures headline { Asks words.now (OnScript Sim) → SimKeeps (input S.left S.faults source.old source.new) (output K.held K.faults K.put_gives sink.old sink.new) store_out.new result }
     ensures threads { (workers : ℕ) → Asks words.now (OnScript (Threads workers)) → ThreadsKeep (input S.left S.faults source.old source.new) (output K.held K.faults K.put_gives sink.old sink.new) store_out.new result }
+    ensures groups { (workers : ℕ) → Asks words.now (Groups workers) → GroupsKeep (input S.left S.faults source.old source.new) (output K.held K.faults K.put_gives sink.old sink.new) result }
     ensures loads { (rounds : ℕ) → Asks words.now (Load rounds) → LoadKeeps (output K.held K.faults K.put_gives sink.old sink.new) rounds store_out.new result }
     ensures causes { HasCause words.now (input S.left S.faults source.old source.new) (output K.held K.faults K.put_gives sink.old sink.new) store_out.new result }
     ensures complete { Completes words.now (input S.left S.faults source.old source.new) (output K.held K.faults K.put_gives sink.old sink.new) store_out.new result }
 {
-    match workers_asked(words) {
-        Some(workers) => {
+    match threaded_of(words) {
+        Some(Threaded::Script(workers)) => {
             forget(store_out);
             let score = Score::new(heaviest, youngest);
             run_by_threads(rt, alloc, workers, source, sink, door, score, store_out)
+        }
+        Some(Threaded::Groups(workers)) => {
+            forget(store_out);
+            answer_groups(rt, alloc, workers, source, sink, heaviest, youngest)
         }
         None => run_plain(alloc, words, source, sink, heaviest, youngest, store_out),
     }
@@ -92,7 +98,7 @@ pub fn run_plain<S: Source, K: Sink, F: Scorer, G: Scorer>(
 ) -> Status
     requires by_weight { F.scores heaviest Heaviest }
     requires by_age { G.scores youngest Youngest }
-    requires plain { (workers : ℕ) → Asks words.now (OnScript (Threads workers)) → ⊥ }
+    requires plain { AsksNoThread words.now }
     ensures obeys { Obeys words.now (input S.left S.faults source.old source.new) (output K.held K.faults K.put_gives sink.old sink.new) store_out.new result }
     ensures headline { Asks words.now (OnScript Sim) → SimKeeps (input S.left S.faults source.old source.new) (output K.held K.faults K.put_gives sink.old sink.new) store_out.new result }
     ensures loads { (rounds : ℕ) → Asks words.now (Load rounds) → LoadKeeps (output K.held K.faults K.put_gives sink.old sink.new) rounds store_out.new result }
@@ -130,7 +136,14 @@ pub fn tell_usage<K: Sink>(sink: &mut K) -> Status
 fn put<K: Sink>(sink: &mut K, text: &str) -> Result<(), Failed>
     ensures { HasPut (output K.held K.faults K.put_gives sink.old sink.new) text.now result }
 {
-    write_text(sink, text.as_bytes())
+    put_bytes(sink, text.as_bytes())
+}
+
+/// The same of a text's bytes.
+pub fn put_bytes<K: Sink>(sink: &mut K, bytes: &[u8]) -> Result<(), Failed>
+    ensures { HasPut (output K.held K.faults K.put_gives sink.old sink.new) bytes.now result }
+{
+    write_text(sink, bytes)
 }
 
 /// Writes a text that needs no script, where the host had the memory to make it.
@@ -166,15 +179,17 @@ fn obey<S: Source, K: Sink, F: Scorer, G: Scorer>(
 ) -> Status
     requires allowed { IsAllowed command }
     requires plain { (workers : ℕ) → command ≢ OnScript (Threads workers) }
+    requires no_groups { (workers : ℕ) → command ≢ Groups workers }
     requires none { store_out.old ≡ None }
     ensures ends { CommandEnds (input S.left S.faults source.old source.new) (output K.held K.faults K.put_gives sink.old sink.new) store_out.new command result }
-    ensures untouched { ((task : Task) → command ≢ OnScript task) → source.new ≡ source.old }
+    ensures untouched { ((task : Task) → command ≢ OnScript task) → ((workers : ℕ) → command ≢ Groups workers) → source.new ≡ source.old }
 {
     match command {
         Command::OnScript(task) => answer_source(alloc, task, source, sink, score, store_out),
         Command::Table => tell(sink, table(alloc)),
         Command::Gen(rounds) => tell(sink, generated_text(alloc, rounds)),
         Command::Load(rounds) => load(alloc, rounds, sink, score, store_out),
+        Command::Groups(_) => unreachable!(),
     }
 }
 

@@ -5,6 +5,8 @@
 #[cfg(test)]
 mod crews;
 #[cfg(test)]
+mod groups;
+#[cfg(test)]
 mod histories;
 #[cfg(test)]
 mod hostile;

@@ -32,12 +32,13 @@ pub const PID_HISTORY: &str = "1 p1 done getpid = 1
 end finished entries 2 charged 2304 reads 0
 ";
 
-const USAGE: &str = "usage: kres sim | threads W | print | table | gen N | load N\n";
+const USAGE: &str = "usage: kres sim | threads W | print | table | gen N | load N | groups W\n";
 
 /// What the store that the tool hands out has in use, in bytes, and how many blocks it has read.
 type Left = Option<(u64, u64)>;
 
-fn run_with<D: Door + Sync, F: Scorer + Send, G: Scorer + Send>(
+/// What the tool answers to these words with scores of its caller's, and what it leaves.
+pub fn run_with<D: Door + Sync, F: Scorer + Send + Copy, G: Scorer + Send + Copy>(
     rt: &(impl AllocGlobal + Threads + Wait + Sync),
     words: &[String],
     source: &mut MemSource,
@@ -503,6 +504,11 @@ const OTHER_WORDS: &[&str] = &[
     "load 01",
     "load 1001",
     "load x",
+    "groups",
+    "groups 0",
+    "groups 01",
+    "groups 65",
+    "groups 2 2",
 ];
 
 /// The words of a line aren't the program's, and the source isn't touched.

@@ -13,5 +13,5 @@ returns g c =
           (λ words. ObeysAndKeeps words (input g.S.Source.left g.S.Source.faults c.args.source.now c.run_tool-status.new.source)
           (output g.K.Sink.held g.K.Sink.faults g.K.Sink.put_gives c.args.sink.now c.run_tool-status.new.sink) c.run_tool-status.new.store_out c.run_tool-status.result)
           same
-          (record { obeys = c.run_tool-status.ensures.obeys; headline = c.run_tool-status.ensures.headline; threads = c.run_tool-status.ensures.threads; loads = c.run_tool-status.ensures.loads; causes = c.run_tool-status.ensures.causes; complete = c.run_tool-status.ensures.complete }),
+          (record { obeys = c.run_tool-status.ensures.obeys; headline = c.run_tool-status.ensures.headline; threads = c.run_tool-status.ensures.threads; loads = c.run_tool-status.ensures.loads; groups = c.run_tool-status.ensures.groups; causes = c.run_tool-status.ensures.causes; complete = c.run_tool-status.ensures.complete }),
     )

@@ -26,7 +26,7 @@ returns-in-Load-clause-ends g c =
     subst (λ command. CommandEnds i o c.load.new.store_out command c.load.result) (sym c.in-Load.is) c.load.ensures
 
 pub returns-in-OnScript-clause-untouched : goal.returns-in-OnScript-clause-untouched
-returns-in-OnScript-clause-untouched g c = λ other. absurd (other c.in-OnScript.task c.in-OnScript.is)
+returns-in-OnScript-clause-untouched g c = λ other no_groups. absurd (other c.in-OnScript.task c.in-OnScript.is)
 
 pub answer_source-requires-clause-plain : goal.answer_source-requires-clause-plain
 answer_source-requires-clause-plain g c = λ workers is. c.requires.plain workers (c.in-OnScript.is ∙ ap OnScript is)

@@ -9,7 +9,10 @@ use Rattle.kres_tool.proofs.Asking.{asks_once}
 use Rattle.kres_tool.proofs.tool.run_plain.Goals as goal
 
 pub obey-requires-clause-plain : goal.obey-requires-clause-plain
-obey-requires-clause-plain g c = λ workers is. c.requires.plain workers (subst (Asks c.args.words.now) is c.in-Some.ensures)
+obey-requires-clause-plain g c = λ workers is. c.requires.plain.script workers (subst (Asks c.args.words.now) is c.in-Some.ensures)
+
+pub obey-requires-clause-no_groups : goal.obey-requires-clause-no_groups
+obey-requires-clause-no_groups g c = λ workers is. c.requires.plain.groups workers (subst (Asks c.args.words.now) is c.in-Some.ensures)
 
 obeyed : goal.returns-in-Some-clause-obeys
 obeyed g c = record {
@@ -19,7 +22,8 @@ obeyed g c = record {
       (output g.K.Sink.held g.K.Sink.faults g.K.Sink.put_gives c.args.sink.now c.obey.new.sink) c.obey.new.store_out asked c.obey.result)
       (asks_once c.args.words.now c.in-Some.command command c.in-Some.ensures asks) c.obey.ensures.ends;
   others = λ none. absurd (none c.in-Some.command c.in-Some.ensures);
-  untouched = λ none. c.obey.ensures.untouched (λ task is. none task (subst (Asks c.args.words.now) is c.in-Some.ensures));
+  untouched = λ none no_groups.
+      c.obey.ensures.untouched (λ task is. none task (subst (Asks c.args.words.now) is c.in-Some.ensures)) (λ workers is. no_groups workers (subst (Asks c.args.words.now) is c.in-Some.ensures));
 }
 
 pub returns-in-Some-clause-obeys : goal.returns-in-Some-clause-obeys
@@ -49,7 +53,7 @@ said_so : goal.returns-in-None-clause-obeys
 said_so g c = record {
   commands = λ command asks. absurd (c.in-None.ensures command asks);
   others = λ _. (c.tell_usage.ensures, c.forget.ensures);
-  untouched = λ _. refl;
+  untouched = λ _ _. refl;
 }
 
 pub returns-in-None-clause-obeys : goal.returns-in-None-clause-obeys
