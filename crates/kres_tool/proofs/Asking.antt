@@ -1,5 +1,5 @@
 -- The commands that words are.
-use Rattle.std.proofs.Common.{◌≡◌, ℕ, ◌≤◌, List, [], ◌∷◌, Option, None, Some, MatchOption, refl, sym, ap, ◌∙◌, arith}
+use Rattle.std.proofs.Common.{◌≡◌, ℕ, ◌≤◌, List, [], ◌∷◌, MatchOption, refl, sym, ap, ◌∙◌, arith}
 use Rattle.std.specs.Prelude.{String}
 use Rattle.std.proofs.lemmas.Fmt.{decimal_injective}
 use Rattle.kres_tool.specs.declared.commands.Command.{Command}

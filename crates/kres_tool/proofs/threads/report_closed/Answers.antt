@@ -1,4 +1,4 @@
-use Rattle.std.proofs.Common.{◌≡◌, ◌<◌, ◌^◌, ◌∙◌, ap, length, subst, sym}
+use Rattle.std.proofs.Common.{◌<◌, ◌^◌, ◌∙◌, ap, length, subst, sym}
 use Rattle.run_report.specs.Histories.{report_threads}
 use Rattle.kres_tool.proofs.threads.report_closed.Goals as goal
 

@@ -1,7 +1,7 @@
 use Rattle.std.proofs.Common.{refl, subst}
 use Rattle.kres_tool.specs.declared.commands.Command.TheVariants.{OnScript, Load}
 use Rattle.kres_tool.specs.declared.commands.Task.TheVariants.{Sim}
-use Rattle.kres_tool.specs.Tool.{CommandEnds, Input, Obeys, Output, input, output}
+use Rattle.kres_tool.specs.Tool.{CommandEnds, input, output}
 use Rattle.kres_tool.specs.Words.{Asks}
 use Rattle.kres_tool.proofs.Causing.{command_cause, completes, others_cause}
 use Rattle.kres_tool.proofs.Headlines.{load_keeps, sim_keeps}

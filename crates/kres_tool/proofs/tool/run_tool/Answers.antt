@@ -1,8 +1,7 @@
 use Rattle.std.proofs.Common.{◌≡◌, ◌≤◌, arith, subst}
-use Rattle.kres_tool.specs.declared.commands.Command.{Command}
 use Rattle.kres_tool.specs.declared.commands.Command.TheVariants.{OnScript, Load, Groups}
 use Rattle.kres_tool.specs.declared.commands.Task.TheVariants.{Sim, Threads}
-use Rattle.kres_tool.specs.Tool.{CommandEnds, Input, Output, input, output}
+use Rattle.kres_tool.specs.Tool.{CommandEnds, input, output}
 use Rattle.kres_tool.specs.Words.{Asks, command_by}
 use Rattle.kres_tool.proofs.Causing.{command_cause, completes}
 use Rattle.kres_tool.proofs.Histories.{threads_keep}
