@@ -105,16 +105,8 @@ fn hold_root(heap: &mut KHeap, vnodes: &mut VnodeCache, inode: Inode)
     ensures capacity { vnodes.new.order.capacity ≡ vnodes.old.order.capacity }
 {
     let mut purse = Purse::of(Need {
-        proc: 0,
-        node: 0,
-        page: 0,
-        desc: 0,
         vnode: 1,
-        name: 0,
-        block: 0,
-        pipe: 0,
-        chunk: 0,
-        sock: 0,
+        ..Need::default()
     });
     vnodes.fill(heap, &mut purse, 1, inode);
     vnodes.pin(heap, 1);

@@ -7,7 +7,7 @@ ghost use Rattle.kabi_types.specs.declared.calls.Call.{Call};
 ghost use Rattle.kabi_types.specs.declared.scripts.Script.{Script};
 ghost use Rattle.kabi_types.specs.OpenFlags.{are_open_flags};
 ghost use Rattle.kabi_types.specs.declared.classes.Class.TheVariants as class;
-ghost use Rattle.kheap_slabs.specs.Counts.{with_count};
+ghost use Rattle.kabi_types.specs.Counts.{with_count};
 ghost use Rattle.kheap_slabs.specs.declared.objects.Proc.{Proc};
 ghost use Rattle.kheap_slabs.specs.Paid.{CanPay, HasFills, IsPaid};
 ghost use Rattle.memfs_ops.specs.FileTree.{KeepsLast, KnowsWay, MayWalk, Stands, in_call};

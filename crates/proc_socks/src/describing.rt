@@ -2,7 +2,7 @@
 
 ghost use Rattle.std.specs.Prelude.{◌≡◌, ◌-◌, ◌<◌, ℕ, List, [], ◌∷◌, IsSome, None, false};
 ghost use Rattle.kabi_types.specs.declared.classes.Class.TheVariants as class;
-ghost use Rattle.kheap_slabs.specs.Counts.{with_count};
+ghost use Rattle.kabi_types.specs.Counts.{with_count};
 ghost use Rattle.kheap_slabs.specs.Objects.{object, put};
 ghost use Rattle.kheap_slabs.specs.Paid.{CanPay, IsPaid};
 ghost use Rattle.open_laws.specs.Owned.{CountsItsNames, HasItsOwners};

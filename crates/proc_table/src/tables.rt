@@ -4,7 +4,7 @@ ghost use Rattle.std.specs.Option.{option_copied, option_map};
 ghost use Rattle.kabi_types.specs.Class.{size};
 ghost use Rattle.kabi_types.specs.declared.classes.Class.TheVariants as class;
 ghost use Rattle.kabi_types.specs.declared.scripts.Script.{Script};
-ghost use Rattle.kheap_slabs.specs.Counts.{with_count};
+ghost use Rattle.kabi_types.specs.Counts.{with_count};
 ghost use Rattle.kheap_slabs.specs.Objects.{object, InUse};
 ghost use Rattle.kheap_slabs.specs.declared.objects.Proc.{Proc as HeldProc};
 ghost use Rattle.kheap_slabs.specs.Heap.{Heap, live_bytes, Makes};
