@@ -3,7 +3,7 @@ use Rattle.std.proofs.Common.{◌≡◌, ◌≢◌, ℕ, ◌==◌, Bool, true, f
 use Rattle.std.specs.List.{AllByRecursion}
 use Rattle.std.specs.Option.{option_map}
 use Rattle.kheap_slabs.specs.declared.objects.Proc.{Proc}
-use Rattle.proc_table.specs.Procs.{HasClosed, HasNoneOpenOnce, IsLight, no_descriptors, proc_of}
+use Rattle.proc_table.specs.Procs.{HasClosed, HasNoneOpenOnce, IsLight, OpensNone, no_descriptors, proc_of, with_numbers}
 use Rattle.proc_table.proofs.FamilyLemmas.{proc_has_pid}
 use Rattle.proc_table.proofs.PlaceLemmas.{eqb_other, eqb_same}
 use Rattle.process_ends.specs.Endings.{shut}
@@ -35,7 +35,7 @@ shut_nodes pid proc = by_pid (proc.pid == pid)
     by_pid true = refl
     by_pid false = refl
 
-pub light_shut : (proc : Proc) → IsLight proc → IsLight (record proc { descriptors = no_descriptors })
+pub light_shut : (proc : Proc) → IsLight proc → IsLight (with_numbers proc no_descriptors)
 light_shut proc light = record { memory = light.memory; descriptors = by_status proc.status }
   where
     by_status : (status : Option ℕ) → HasNoneOpenOnce status no_descriptors
@@ -50,7 +50,7 @@ has_shut pid (proc ∷ procs) = ((λ own. by_pid (proc.pid == pid) refl (sym (sh
     isnt : {X : Type 0} → true ≡ false → X
     isnt e = cc
 
-    by_pid : (b : Bool) → (proc.pid == pid) ≡ b → proc.pid ≡ pid → (cond b (record proc { descriptors = no_descriptors }) proc).descriptors ≡ no_descriptors
+    by_pid : (b : Bool) → (proc.pid == pid) ≡ b → proc.pid ≡ pid → OpensNone (cond b (with_numbers proc no_descriptors) proc)
     by_pid true test own = refl
     by_pid false test own = isnt (sym (eqb_same proc.pid pid own) ∙ test)
 

@@ -55,7 +55,7 @@ use Rattle.proc_table.specs.Changes.{replaced}
 use Rattle.proc_table.specs.Moves.{TableMoves}
 use Rattle.proc_descs.specs.Having.{AreListed, places_in}
 use Rattle.holding_laws.specs.Names.{AreBound, name_in, name_of}
-use Rattle.proc_table.specs.Procs.{first_proc, proc_of}
+use Rattle.proc_table.specs.Procs.{first_proc, numbers_in, proc_of}
 use Rattle.proc_table.specs.Standing.{IsTable}
 use Rattle.proc_table.specs.Table.{no_table, processes}
 use Rattle.proc_table.proofs.LawLemmas.{on-account, on-moves, on-procs, on-table}
@@ -390,7 +390,7 @@ boot_opens script objects control booted = record {
     list = [];
     opened = opened;
     descriptors = record {
-      each = λ pid. each pid ∙ sym (ap (λ procs. descriptors_by boot_numbers.descs (places_in (proc_of procs pid))) booted.first);
+      each = λ pid. each pid ∙ sym (ap (λ procs. descriptors_by boot_numbers.descs (places_in (numbers_in objects.heap) (proc_of procs pid))) booted.first);
       made = sym booted.last;
     };
   };
@@ -404,13 +404,13 @@ boot_opens script objects control booted = record {
     opened : AreOpen boot_numbers objects.heap [] (boot_files script.disk)
     opened = booted.opened boot_numbers (boot_files script.disk) (boot_bare script.disk)
 
-    each : (pid : ℕ) → descriptors_of (boot_files script.disk) pid ≡ descriptors_by boot_numbers.descs (places_in (proc_of (record first_proc { control = control } ∷ []) pid))
+    each : (pid : ℕ) → descriptors_of (boot_files script.disk) pid ≡ descriptors_by boot_numbers.descs (places_in (numbers_in objects.heap) (proc_of (record first_proc { control = control } ∷ []) pid))
     each pid = bare.descriptors pid ∙ sym (by_hit (1 == pid))
       where
         bare : IsBare (boot_files script.disk)
         bare = boot_bare script.disk
 
-        by_hit : (hit : Bool) → descriptors_by boot_numbers.descs (places_in (cond hit (Some (record first_proc { control = control })) None)) ≡ none_open
+        by_hit : (hit : Bool) → descriptors_by boot_numbers.descs (places_in (numbers_in objects.heap) (cond hit (Some (record first_proc { control = control })) None)) ≡ none_open
         by_hit true = none_by boot_numbers.descs
         by_hit false = none_by boot_numbers.descs
 
