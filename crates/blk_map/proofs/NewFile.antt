@@ -32,7 +32,7 @@ is_inode blocks =
 
 takes_none : (size : ℕ) → size ≡ 0 → (place : Place) → ¬ (HasPlace size place)
 takes_none size e (Data index) = λ lt. omega (arith, e, lt)
-takes_none size e Pointers = λ lt. omega (arith, e, lt)
+takes_none size e (Pointers block) = λ lt. omega (arith, e, lt)
 
 pub replaces : (number : ℕ) (before after : List (List ℕ)) (old : Inode) → Sound before → HasInode before number old → old.size ≡ 0 → length after ≡ length before → table_bytes after number ≡ inode_bytes empty_file
     → ((node : ℕ) → 0 < node → node ≢ number → table_bytes after node ≡ table_bytes before node) → ((block : ℕ) → block ≢ table_block number → block_bytes after block ≡ block_bytes before block)
@@ -46,7 +46,7 @@ replaces number before after old sound had empty count slot slots others =
       inode = is_inode (length before);
       slot = slot;
       slots = λ node pos within other. slots node pos other;
-      pointers = λ k large lt. absurd (omega (arith, large));
+      pointers = λ block at large lt. absurd (omega (arith, large));
       once = λ i j at_i at_j same. absurd (takes_none 0 refl i at_i);
       taken = λ place within. absurd (takes_none 0 refl place within);
       untouched = λ block above below marked none. others block (λ e. omega (arith, e, at.1, above));

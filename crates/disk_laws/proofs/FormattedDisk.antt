@@ -154,11 +154,11 @@ which disk formatted enough most node inode has =
 -- a node of 64 bytes takes one block, and an empty one takes none
 only_first : (place : Place) → HasPlace 64 place → place ≡ Data 0
 only_first (Data index) lt = let first : index ≡ 0 = omega (arith, lt) in ap Data first
-only_first Pointers lt = absurd (omega (arith, lt))
+only_first (Pointers block) lt = absurd (omega (arith, lt))
 
 takes_none : (place : Place) → ¬ (HasPlace 0 place)
 takes_none (Data index) lt = omega (arith, lt)
-takes_none Pointers lt = omega (arith, lt)
+takes_none (Pointers block) lt = omega (arith, lt)
 
 -- who names a block is the root, and names one
 names_one : (disk : List (List ℕ)) → IsFormatted (length disk) disk → 16 ≤ length disk → length disk ≤ 4096 → (node : ℕ) (inode : Inode) (place : Place) → HasInode disk node inode → HasPlace inode.size place
@@ -202,7 +202,7 @@ formatted_is_sound disk formatted enough most =
             | inl root ↦ (new_root (length disk), root.1)
             | inr free ↦ (no_inode, free)
           ];
-      pointers = λ node inode k has large lt. absurd (omega (arith, large, small disk formatted enough most node inode has));
+      pointers = λ node inode block at has large lt. absurd (omega (arith, large, small disk formatted enough most node inode has));
       once = λ first second one other i j has also at_i at_j same.
           let a = names_one disk formatted enough most first one i has at_i in
           let b = names_one disk formatted enough most second other j also at_j in
