@@ -5,13 +5,14 @@ use Rattle.std.proofs.lemmas.List.{get_or-replicate, get_or_past, length-replica
 use Rattle.kabi_types.specs.declared.inodes.Inode.{Inode}
 use Rattle.posix_defs.specs.DiskFormat.{block_size, IsInode, inode_bytes}
 use Rattle.posix_defs.specs.SoundDisk.{block_bytes, table_block, table_slot, slot_bytes, table_bytes, HasInode, Place, Data, Pointers, HasPlace, bit_of, Sound}
+use Rattle.posix_defs.specs.DiskContents.{blank_inode}
 use Rattle.posix_defs.specs.NodeChange.{Replaces}
 use Rattle.disk_laws.proofs.OneNode.{stays_sound, this_has, changes_node}
 use Rattle.blk_map.proofs.Blocks.{in_table}
 use Rattle.blk_map.proofs.Inodes.{pointer_is}
 
 abbrev pub empty_file : Inode
-empty_file = record { kind = 1; nlink = 1; size = 0; direct = replicate 10 0; indirect = 0 }
+empty_file = record blank_inode { kind = 1; nlink = 1 }
 
 zero_at : (k : ℕ) → ◌≡◌ {A = ℕ} (get_or (replicate 10 0) k 0) 0
 zero_at k = elim (cases_lt k 10) [

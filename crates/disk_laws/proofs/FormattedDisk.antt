@@ -9,7 +9,7 @@ use Rattle.std.proofs.lemmas.Nat.Bits.{bit_at_ones, bit_at_ones_above}
 use Rattle.kabi_types.specs.declared.inodes.Inode.{Inode}
 use Rattle.posix_defs.specs.DiskFormat.{block_size, table_end, table_nodes, IsPointer, IsInode, IsEntry, inode_bytes, entry_bytes}
 use Rattle.posix_defs.specs.SoundDisk.{block_bytes, table_bytes, HasInode, Place, Data, Pointers, HasPlace, named_at, IsNamed, map_bit, IsMarked, Sound}
-use Rattle.posix_defs.specs.DiskContents.{data_block, byte_at, node_bytes, IsDirectoryOf, entry_for, own_name, parent_name, zeros, first_marked, new_root, new_entries, IsFormatted}
+use Rattle.posix_defs.specs.DiskContents.{blank_inode, data_block, byte_at, node_bytes, IsDirectoryOf, entry_for, own_name, parent_name, zeros, first_marked, new_root, new_entries, IsFormatted}
 use Rattle.disk_laws.proofs.DiskSpelling.{same_inode, length-inode_bytes}
 
 -- ---- the map
@@ -37,7 +37,7 @@ is_unmarked disk formatted number lt past = λ (is : IsMarked disk number).
 
 -- an inode that is free
 pub no_inode : Inode
-no_inode = record { kind = 0; nlink = 0; size = 0; direct = replicate 10 0; indirect = 0 }
+no_inode = blank_inode
 
 free_bytes : inode_bytes no_inode ≡ replicate 64 0
 unfolding inode_bytes no_inode
