@@ -13,6 +13,7 @@ use disk_layout::RamDisk;
 use kabi_types::{Class, Inode, Memory, Need};
 use kheap_slabs::{KHeap, Purse};
 use name_cache::NameCache;
+use posix_defs::blank_inode;
 use std::alloc::Global;
 use std::marker::Model;
 use vnode_cache::VnodeCache;
@@ -91,7 +92,7 @@ fn root_of(blocks: u32) -> Inode
         nlink: 1,
         size: 64,
         direct,
-        indirect: 0,
+        ..blank_inode()
     }
 }
 
