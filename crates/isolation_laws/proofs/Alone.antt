@@ -1,7 +1,7 @@
 -- Whatever another process's call is answered, a process that lives before it and after it keeps its own.
 use Rattle.std.proofs.Common.{◌≡◌, ◌≢◌, ℕ, ◌+◌, ◌≤◌, ◌==◌, ℤ, pos, negsuc, Bool, true, false, cond, [], ◌∷◌, length, Option, None, Some, unwrap_or, refl, ap, sym, ◌∙◌, subst, inl, inr, arith}
 use Rattle.std.proofs.lemmas.Bool.Decides.{eqb_tells}
-use Rattle.kabi_types.specs.Arguments.{argument_fault}
+use Rattle.kabi_types.specs.Arguments.{argument_fault, count_of}
 use Rattle.kabi_types.specs.declared.calls.Call.{Call}
 use Rattle.kabi_types.specs.declared.calls.Call.TheVariants as calls
 use Rattle.kabi_types.specs.declared.errnos.Errno.{Errno}
@@ -149,7 +149,7 @@ module _ (script : Script) (plain : Plain) (pid who : ℕ) (apart : who ≢ pid)
         }))
     by_shape call lives given spared stepped (shape.ends status is) = subst Sparing (sym is) (λ still. ended pid status lives still)
     by_shape call lives given spared stepped (shape.ends_another target signal called first own lived is) = subst Sparing (sym is) (λ still.
-        goes_on (die plain target 9) (Val (pos 0)) (ended target 9 lived still))
+        goes_on (die plain target (count_of signal)) (Val (pos 0)) (ended target (count_of signal) lived still))
 
     -- ---- calls that make or end a process
 
@@ -172,10 +172,10 @@ module _ (script : Script) (plain : Plain) (pid who : ℕ) (apart : who ≢ pid)
     kill_spares lives (negsuc n) signal = fails ESRCH
     kill_spares lives (pos target) signal = go (process_at plain.table target) refl
       where
-        strikes : is_alive plain.table target ≡ true → Sparing (struck script plain pid target)
-        strikes lived = either (target == pid) _ _ (λ still. ended pid 9 lives still) (λ still. goes_on (die plain target 9) (Val (pos 0)) (ended target 9 lived still))
+        strikes : is_alive plain.table target ≡ true → Sparing (struck script plain pid target (count_of signal))
+        strikes lived = either (target == pid) _ _ (λ still. ended pid (count_of signal) lives still) (λ still. goes_on (die plain target (count_of signal)) (Val (pos 0)) (ended target (count_of signal) lived still))
 
-        by_life : (b : Bool) → is_alive plain.table target ≡ b → Sparing (cond b (struck script plain pid target) (replied script plain pid (Val (pos 0))))
+        by_life : (b : Bool) → is_alive plain.table target ≡ b → Sparing (cond b (struck script plain pid target (count_of signal)) (replied script plain pid (Val (pos 0))))
         by_life true lived = strikes lived
         by_life false over = λ still. goes_on plain (Val (pos 0)) nothing
 

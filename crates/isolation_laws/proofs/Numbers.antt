@@ -13,6 +13,7 @@ use Rattle.posix_defs.specs.Files.Descriptors.{Descriptor, descriptor_at, descri
 use Rattle.posix_defs.specs.Files.Descriptions.{Description, description_at}
 use Rattle.posix_defs.specs.Files.State.{Files, described_as, descriptors_of, opened_as, with_heir, with_open}
 use Rattle.posix_defs.specs.Calls.Opened.{Opened, opened_at}
+use Rattle.machine_laws.proofs.Stepping.{ends_nobody}
 use Rattle.machine_laws.specs.Described.{AreDescribed}
 use Rattle.machine_laws.specs.FileSteps as step
 use Rattle.machine_laws.specs.FileSteps.{IsStep, is_ending}
@@ -212,7 +213,8 @@ module _ (plain : Plain) (pid who : ℕ) (call : Call) (next : Files) (apart : w
   step_spares (step.sends fd addr n done given place k which named on moves is) = same _ is refl refl
   step_spares (step.starts is) = by _ is (execs who pid plain.files apart)
   step_spares (step.forks which is) = absurd (no_fork which)
-  step_spares (step.ends other ending is) = absurd (true_false ending no_end)
+  step_spares (step.ends_caller ending is) = absurd (true_false ending (ends_nobody call no_end).0)
+  step_spares (step.ends_other other ending is) = absurd (true_false ending (ends_nobody call no_end).1)
 
 -- ---- what a number names
 

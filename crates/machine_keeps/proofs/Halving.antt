@@ -39,7 +39,7 @@ use Rattle.kern_laws.proofs.Remembering.{alive_still}
 use Rattle.kern_laws.proofs.TablePlaces.{below_or_not, get_front, get_set_same, is_gone, same_in_front, was_made, with_other}
 use Rattle.answer_laws.proofs.GoingOn.{call_part}
 use Rattle.machine_laws.specs.FileSteps as step
-use Rattle.machine_laws.specs.FileSteps.{IsStep, LeadsTo, is_ending}
+use Rattle.machine_laws.specs.FileSteps.{IsStep, LeadsTo, is_ending, may_end_caller, may_end_other}
 use Rattle.machine_laws.specs.Placed.{IsPlaced}
 use Rattle.machine_laws.specs.Reached.{IsReached}
 use Rattle.answer_laws.specs.Shapes as shape
@@ -51,7 +51,7 @@ use Rattle.machine_laws.proofs.Reaches.{reached_keeps}
 use Rattle.answer_laws.proofs.Shapes.{machine_shape}
 use Rattle.machine_laws.proofs.SharedOffsets.{stay_open}
 use Rattle.machine_laws.proofs.Shutting.{same_of, target_same}
-use Rattle.machine_laws.proofs.Stepping.{step_of}
+use Rattle.machine_laws.proofs.Stepping.{ends_nobody, step_of}
 use Rattle.machine_keeps.proofs.Closings.{IsClosedUnder, close_holds, exec_holds, one_end_holds, without}
 use Rattle.machine_keeps.proofs.Inductions.{by_induction}
 use Rattle.machine_keeps.proofs.Items.{pushed_front, true_false}
@@ -236,7 +236,8 @@ module _ (plain : Plain) (pid : ℕ) (call : Call) (next : Files) (who : ℕ) (a
   step_keeps (step.starts is) = by _ is (keeps_named plain.files _ who
       (exec_holds (λ other. who ≢ other) (StaysNamed plain.files who) (named_closed plain.files who) plain.files pid apart (stays_now plain.files who)))
   step_keeps (step.forks which is) = absurd (no_fork which)
-  step_keeps (step.ends dead ending is) = absurd (true_false (is_ending call) ending no_end)
+  step_keeps (step.ends_caller ending is) = absurd (true_false (may_end_caller call) ending (ends_nobody call no_end).0)
+  step_keeps (step.ends_other dead ending is) = absurd (true_false (may_end_other call) ending (ends_nobody call no_end).1)
 
 -- ---- controls
 
@@ -304,23 +305,23 @@ die_half script plain pid status half who alive some = let was = survives plain.
 -- ---- kill
 
 kill_is : (script : Script) (plain : Plain) (pid : ℕ) (Holds : Answer → Type 0) → ((e : Errno) → Holds (failed script plain pid e)) → Holds (replied script plain pid (Val (pos 0)))
-    → Holds (Ended 9 (die plain pid 9)) → ((target : ℕ) → Holds (replied script (die plain target 9) pid (Val (pos 0)))) → (target signal : ℤ) → Holds (kill script plain pid target signal)
+    → ((status : ℕ) → Holds (Ended status (die plain pid status))) → ((target status : ℕ) → Holds (replied script (die plain target status) pid (Val (pos 0)))) → (target signal : ℤ) → Holds (kill script plain pid target signal)
 kill_is script plain pid Holds fails says ends others (negsuc n) signal = fails ESRCH
 kill_is script plain pid Holds fails says ends others (pos target) signal = go (process_at plain.table target)
   where
-    strikes : (own : Bool) → Holds (cond own (Ended 9 (die plain pid 9)) (replied script (die plain target 9) pid (Val (pos 0))))
-    strikes true = ends
-    strikes false = others target
+    strikes : (own : Bool) → Holds (cond own (Ended (count_of signal) (die plain pid (count_of signal))) (replied script (die plain target (count_of signal)) pid (Val (pos 0))))
+    strikes true = ends (count_of signal)
+    strikes false = others target (count_of signal)
 
-    lives : (b : Bool) → Holds (cond b (struck script plain pid target) (replied script plain pid (Val (pos 0))))
+    lives : (b : Bool) → Holds (cond b (struck script plain pid target (count_of signal)) (replied script plain pid (Val (pos 0))))
     lives true = strikes (target == pid)
     lives false = says
 
-    first : (process : Process) (b : Bool) → Holds (cond b (failed script plain pid EPERM) (killing.ends script plain pid target process))
+    first : (process : Process) (b : Bool) → Holds (cond b (failed script plain pid EPERM) (killing.ends script plain pid target (count_of signal) process))
     first process true = fails EPERM
     first process false = lives (runs process.status)
 
-    asks : (process : Process) (b : Bool) → Holds (cond b (replied script plain pid (Val (pos 0))) (cond (target == 1) (failed script plain pid EPERM) (killing.ends script plain pid target process)))
+    asks : (process : Process) (b : Bool) → Holds (cond b (replied script plain pid (Val (pos 0))) (cond (target == 1) (failed script plain pid EPERM) (killing.ends script plain pid target (count_of signal) process)))
     asks process true = says
     asks process false = first process (target == 1)
 
@@ -451,7 +452,7 @@ module _ (script : Script) (plain : Plain) (pid : ℕ) (half : Half script plain
   by_shape call asked no_fork no_end given stepped (shape.reaps child status ended is) = subst (LeadsTo (Half script)) (sym is)
       (answered_half script plain (reaped plain child) pid (Waited child status) half refl (λ who apart lives. lives_reaped child who lives) (λ who apart lives. keeps_same plain.files plain.files who refl refl))
   by_shape call asked no_fork no_end given stepped (shape.ends status is) = subst (LeadsTo (Half script)) (sym is) (die_half script plain pid status half)
-  by_shape call asked no_fork no_end given stepped (shape.ends_another target signal called first own lives is) = subst (LeadsTo (Half script)) (sym is) (dies_on target 9 (Val (pos 0)))
+  by_shape call asked no_fork no_end given stepped (shape.ends_another target signal called first own lives is) = subst (LeadsTo (Half script)) (sym is) (dies_on target (count_of signal) (Val (pos 0)))
 
   -- ---- calls that end a process, and `fork`
 
@@ -461,7 +462,7 @@ module _ (script : Script) (plain : Plain) (pid : ℕ) (half : Half script plain
     where
       go : (fault : Option Errno) → LeadsTo (Half script) (unless_wrong script plain pid fault (kill script plain pid target signal))
       go (Some e) = still (Fail e)
-      go None = kill_is script plain pid (LeadsTo (Half script)) (λ e. still (Fail e)) (still (Val (pos 0))) (die_half script plain pid 9 half) (λ dead. dies_on dead 9 (Val (pos 0))) target signal
+      go None = kill_is script plain pid (LeadsTo (Half script)) (λ e. still (Fail e)) (still (Val (pos 0))) (λ status. die_half script plain pid status half) (λ dead status. dies_on dead status (Val (pos 0))) target signal
   ends_on _ is = absurd (true_false false is refl)
 
   fork_on : LeadsTo (Half script) (machine script plain pid calls.Fork)

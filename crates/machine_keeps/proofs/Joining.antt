@@ -446,7 +446,8 @@ module _ (plain : Plain) (pid : ℕ) (call : Call) (next : Files) (joined : Hold
       (write_held plain.files.sockets (named_sockets plain.files.descriptions) place (bytes_left plain pid addr (count_of n) done) k joined.0 joined.1)
   step_joined (step.starts is) = by _ is (exec_holds anybody Holds closes plain.files pid tt joined)
   step_joined (step.forks which is) = same _ is refl refl
-  step_joined (step.ends who ending is) = by _ is (closed_by_holds anybody Holds closes plain.files who (λ other. tt) joined)
+  step_joined (step.ends_caller ending is) = by _ is (closed_by_holds anybody Holds closes plain.files pid (λ other. tt) joined)
+  step_joined (step.ends_other who ending is) = by _ is (closed_by_holds anybody Holds closes plain.files who (λ other. tt) joined)
 
 -- ---- every machine
 

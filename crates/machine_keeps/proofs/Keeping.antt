@@ -118,7 +118,7 @@ module _ (script : Script) (plain : Plain) (pid : ℕ) (holds : Holds plain) (jo
   by_shape call stores_bytes given stepped (shape.reaps child status ended is) = subst (LeadsTo Holds) (sym is)
       (answered_holds (reaped plain child) (Waited child status) (record { rooted = holds.rooted; pipes = holds.pipes; table = reaped_kept plain.files.tree plain.table child holds.table }))
   by_shape call stores_bytes given stepped (shape.ends status is) = subst (LeadsTo Holds) (sym is) (die_holds pid status)
-  by_shape call stores_bytes given stepped (shape.ends_another target signal called first own lives is) = subst (LeadsTo Holds) (sym is) (answered_holds (die plain target 9) (Val (pos 0)) (die_holds target 9))
+  by_shape call stores_bytes given stepped (shape.ends_another target signal called first own lives is) = subst (LeadsTo Holds) (sym is) (answered_holds (die plain target (count_of signal)) (Val (pos 0)) (die_holds target (count_of signal)))
 
   answers_hold : (call : Call) → is_alive plain.table pid ≡ true → ((path : List ℕ) → Contains (paths_of call) path → ArePathBytes path) → ((addr : ℤ) (bytes : List ℕ) → call ≡ calls.Store addr bytes → AreBytes bytes)
       → LeadsTo Holds (machine script plain pid call)

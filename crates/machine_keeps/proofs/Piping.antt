@@ -525,7 +525,8 @@ module _ (plain : Plain) (pid : ℕ) (call : Call) (next : Files) (piped : Holds
   step_piped (step.sends fd addr n done opened place k which named on moves is) = same _ is refl refl
   step_piped (step.starts is) = by _ is (exec_holds anybody Holds closes plain.files pid tt piped)
   step_piped (step.forks which is) = same _ is refl refl
-  step_piped (step.ends who ending is) = by _ is (closed_by_holds anybody Holds closes plain.files who (λ pid. tt) piped)
+  step_piped (step.ends_caller ending is) = by _ is (closed_by_holds anybody Holds closes plain.files pid (λ pid. tt) piped)
+  step_piped (step.ends_other who ending is) = by _ is (closed_by_holds anybody Holds closes plain.files who (λ pid. tt) piped)
 
 -- ---- answers
 

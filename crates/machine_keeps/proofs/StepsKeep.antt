@@ -407,4 +407,5 @@ module _ (plain : Plain) (pid : ℕ) (call : Call) (next : Files) (rooted : Root
       (write_once plain.files.sockets place (bytes_left plain pid addr (count_of n) done) k joined.0 rooted.alone) refl refl refl refl
   step_after (step.starts is) = by _ is (exec_after plain rooted pipes joined pid)
   step_after (step.forks which is) = same _ is refl refl refl refl
-  step_after (step.ends who ending is) = by _ is (closed_after plain rooted pipes joined who)
+  step_after (step.ends_caller ending is) = by _ is (closed_after plain rooted pipes joined pid)
+  step_after (step.ends_other who ending is) = by _ is (closed_after plain rooted pipes joined who)

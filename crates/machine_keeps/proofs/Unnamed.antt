@@ -277,7 +277,8 @@ module _ (plain : Plain) (pid : ℕ) (call : Call) (next : Files) (holds : Holds
       (write_fewer plain.files.sockets place (bytes_left plain pid addr (count_of n) done) k holds.0.0)
   step_names (step.starts is) = by_both _ is (exec_holds anybody Holds closes plain.files pid tt holds)
   step_names (step.forks which is) = same _ is refl refl
-  step_names (step.ends who ending is) = by_both _ is (closed_by_holds anybody Holds closes plain.files who (λ other. tt) holds)
+  step_names (step.ends_caller ending is) = by_both _ is (closed_by_holds anybody Holds closes plain.files pid (λ other. tt) holds)
+  step_names (step.ends_other who ending is) = by_both _ is (closed_by_holds anybody Holds closes plain.files who (λ other. tt) holds)
 
 -- ---- every machine
 

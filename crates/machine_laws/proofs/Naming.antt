@@ -530,7 +530,8 @@ module _ (plain : Plain) (pid : ℕ) (call : Call) (next : Files) (told : Told p
   step_told (step.sends fd addr n done opened place k which named on moves is) = same _ is refl refl
   step_told (step.starts is) = by _ is (exec_told plain.files pid told)
   step_told (step.forks which is) = by _ is (heir_told plain.files pid told)
-  step_told (step.ends who ending is) = by _ is (closed_told plain.files who told)
+  step_told (step.ends_caller ending is) = by _ is (closed_told plain.files pid told)
+  step_told (step.ends_other who ending is) = by _ is (closed_told plain.files who told)
 
 -- ---- answers
 

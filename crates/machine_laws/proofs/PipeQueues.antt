@@ -215,7 +215,8 @@ module _ (plain : Plain) (pid : ℕ) (call : Call) (place : ℕ) (pipe : Pipe) (
   kept (step.sends fd addr n done opened at k which named on moves is) = same _ is refl
   kept (step.starts is) = faded _ is _ refl refl (exec_fades plain.files pid)
   kept (step.forks which is) = same _ is refl
-  kept (step.ends who ending is) = faded _ is _ refl refl (closed_by_fades plain.files who)
+  kept (step.ends_caller ending is) = faded _ is _ refl refl (closed_by_fades plain.files pid)
+  kept (step.ends_other who ending is) = faded _ is _ refl refl (closed_by_fades plain.files who)
 
 pub others : (script : Script) (plain : Plain) (pid : ℕ) (call : Call) (place : ℕ) (pipe : Pipe) → pipe_there plain.files place ≡ Some pipe
     → LeadsTo (λ next. NoneGoes plain.files next.files → (pipe_there next.files place ≡ Some pipe) ⊎ Queues plain pid call place) (machine script plain pid call)

@@ -99,7 +99,8 @@ module _ (plain : Plain) (pid : ℕ) (call : Call) (next : Files) (no_fork : cal
   step_shuts (step.sends fd addr n done opened place k which named on moves is) = same _ is refl
   step_shuts (step.starts is) = by _ is (exec_shuts pid plain.files pid)
   step_shuts (step.forks which is) = absurd (no_fork which)
-  step_shuts (step.ends who ending is) = by _ is (closed_shuts pid plain.files who)
+  step_shuts (step.ends_caller ending is) = by _ is (closed_shuts pid plain.files pid)
+  step_shuts (step.ends_other who ending is) = by _ is (closed_shuts pid plain.files who)
 
 -- ---- answers
 
@@ -275,7 +276,7 @@ module _ (script : Script) (plain : Plain) (pid : ℕ) (placed : IsPlaced plain)
       (placed_on plain _ pid placed alive (length_with plain.table child None) (length_with plain.controls pid _) (λ who gone. alive_reaped plain.table child who ended gone) (shuts_same pid _ _ refl))
   by_shape call no_fork given stepped (shape.ends status is) = subst (LeadsTo IsPlaced) (sym is) (die_placed plain pid status placed)
   by_shape call no_fork given stepped (shape.ends_another target signal called first own lives is) = subst (LeadsTo IsPlaced) (sym is)
-      (answered_placed script (die plain target 9) pid (Val (pos 0)) (die_placed plain target 9 placed))
+      (answered_placed script (die plain target (count_of signal)) pid (Val (pos 0)) (die_placed plain target (count_of signal) placed))
 
   fork_on : LeadsTo IsPlaced (machine script plain pid calls.Fork)
   fork_on = go (is_full plain)

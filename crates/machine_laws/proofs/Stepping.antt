@@ -43,7 +43,15 @@ use Rattle.posix_defs.specs.Calls.OnSockets as on_sockets
 use Rattle.posix_defs.specs.Calls.Polling.{hits_of, poll, revents_of}
 use Rattle.machine_laws.proofs.Between.{listed_between, of_file, sought_between}
 use Rattle.machine_laws.specs.FileSteps as step
-use Rattle.machine_laws.specs.FileSteps.{IsStep, LeadsTo, WritesNode, is_ending}
+use Rattle.machine_laws.specs.FileSteps.{IsStep, LeadsTo, WritesNode, is_ending, may_end_caller, may_end_other}
+
+-- a call that ends no process ends neither its caller nor another
+pub ends_nobody : (which : Call) → is_ending which ≡ false → (may_end_caller which ≡ false) × (may_end_other which ≡ false)
+ends_nobody which none = both (may_end_caller which) (may_end_other which) none
+  where
+    both : (itself another : Bool) → (itself || another) ≡ false → (itself ≡ false) × (another ≡ false)
+    both true another e = absurd (cc)
+    both false another e = (refl, e)
 
 -- what is asked of an answer
 abbrev Stepped : Plain → ℕ → Call → Answer → Type 0
@@ -333,12 +341,12 @@ module _ (script : Script) (plain : Plain) (pid : ℕ) (which : Call) where
       go None = either (any_from pid wanted 1 plain.table) _ _ (λ some. either (is_nohang options) _ _ (λ yes. step.stays refl) (λ no. tt)) (λ none. step.stays refl)
       go (Some exited) = step.stays refl
 
-  kills : (target signal : ℤ) → is_ending which ≡ true → Stepped plain pid which (kill script plain pid target signal)
-  kills (negsuc n) signal ending = step.stays refl
-  kills (pos target) signal ending = go (process_at plain.table target)
+  kills : (target signal : ℤ) → may_end_caller which ≡ true → may_end_other which ≡ true → Stepped plain pid which (kill script plain pid target signal)
+  kills (negsuc n) signal itself another = step.stays refl
+  kills (pos target) signal itself another = go (process_at plain.table target)
     where
-      strikes : Stepped plain pid which (struck script plain pid target)
-      strikes = either (target == pid) _ _ (λ own. step.ends pid ending refl) (λ other. step.ends target ending refl)
+      strikes : Stepped plain pid which (struck script plain pid target (count_of signal))
+      strikes = either (target == pid) _ _ (λ own. step.ends_caller itself refl) (λ other. step.ends_other target another refl)
 
       go : (o : Option Process) → Stepped plain pid which (sent_to script plain pid target signal o)
       go None = step.stays refl
@@ -470,9 +478,9 @@ module _ (script : Script) (plain : Plain) (pid : ℕ) where
   right call.SchedYield = step.stays refl
   right call.Fork = forks_step script plain pid _ refl
   right (call.Exec path) = execs script plain pid _ path
-  right (call.Exit status) = step.ends pid refl refl
+  right (call.Exit status) = step.ends_caller refl refl
   right (call.Waitpid wanted options) = waits script plain pid _ wanted options
-  right (call.Kill target signal) = kills script plain pid _ target signal refl
+  right (call.Kill target signal) = kills script plain pid _ target signal refl refl
   right (call.Mmap size) = maps script plain pid _ size
   right (call.Munmap addr size) = step.stays refl
   right (call.Store addr bytes) = ranged script plain pid _ addr (length bytes) _ (step.stays refl)

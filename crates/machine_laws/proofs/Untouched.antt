@@ -70,7 +70,8 @@ module _ (plain : Plain) (pid : ℕ) (call : Call) (next : Files) (unnamed : nam
   by_step (step.sends fd addr n done opened place k which named_by on moves is) = tree_of _ is refl
   by_step (step.starts is) = kept _ is (λ none. tree_kept plain.files _ (exec_fades plain.files pid) none)
   by_step (step.forks which is) = tree_of _ is refl
-  by_step (step.ends who ending is) = kept _ is (λ none. tree_kept plain.files _ (closed_by_fades plain.files who) none)
+  by_step (step.ends_caller ending is) = kept _ is (λ none. tree_kept plain.files _ (closed_by_fades plain.files pid) none)
+  by_step (step.ends_other who ending is) = kept _ is (λ none. tree_kept plain.files _ (closed_by_fades plain.files who) none)
 
 pub leaves_tree : (script : Script) (plain : Plain) (pid : ℕ) (call : Call)
     → LeadsTo (λ next. reaches_node plain pid call next ≡ false → next.files.tree ≡ plain.files.tree) (machine script plain pid call)

@@ -1,5 +1,5 @@
 -- How files change in one call: by one step, whatever the machine answers.
-use Rattle.std.specs.Prelude.{ℕ, ◌≡◌, ◌-◌, ◌%◌, ◌==◌, ℤ, Bool, true, false, List, length, Option, None, Some, Ok}
+use Rattle.std.specs.Prelude.{ℕ, ◌≡◌, ◌-◌, ◌%◌, ◌==◌, ◌||◌, ℤ, Bool, true, false, List, length, Option, None, Some, Ok}
 use Rattle.kabi_types.specs.Arguments.{count_of, may_be_descriptor}
 use Rattle.kabi_types.specs.declared.calls.Call.{Call}
 use Rattle.kabi_types.specs.declared.calls.Call.TheVariants as calls
@@ -35,11 +35,20 @@ LeadsTo Holds (Done reply next) = Holds next
 LeadsTo Holds (Part moved next) = Holds next
 LeadsTo Holds (Ended status next) = Holds next
 
+-- the calls that may end their caller
+abbrev pub may_end_caller : Call → Bool
+may_end_caller (calls.Exit status) = true
+may_end_caller (calls.Kill target signal) = true
+may_end_caller _ = false
+
+-- the calls that may end another process
+abbrev pub may_end_other : Call → Bool
+may_end_other (calls.Kill target signal) = true
+may_end_other _ = false
+
 -- the calls that may end a process
 abbrev pub is_ending : Call → Bool
-is_ending (calls.Exit status) = true
-is_ending (calls.Kill target signal) = true
-is_ending _ = false
+is_ending call = may_end_caller call || may_end_other call
 
 -- a call's descriptor is open on a node, for writing
 pub record WritesNode (plain : Plain) (pid : ℕ) (call : Call) (fd : ℤ) (opened : Opened) (number : ℕ) : Type 0 where
@@ -162,5 +171,7 @@ pub data IsStep (plain : Plain) (pid : ℕ) (call : Call) (next : Files) : Type 
   starts : next ≡ after_exec_of plain.files pid → IsStep plain pid call next
   -- a child has open what its parent has
   forks : call ≡ calls.Fork → next ≡ with_heir plain.files pid → IsStep plain pid call next
-  -- a process ends, and what it has open is closed
-  ends : (who : ℕ) → is_ending call ≡ true → next ≡ closed_by plain.files who → IsStep plain pid call next
+  -- its caller ends, and what it has open is closed
+  ends_caller : may_end_caller call ≡ true → next ≡ closed_by plain.files pid → IsStep plain pid call next
+  -- another process ends, and what that one has open is closed
+  ends_other : (who : ℕ) → may_end_other call ≡ true → next ≡ closed_by plain.files who → IsStep plain pid call next

@@ -361,7 +361,7 @@ impl ProcTable {
         requires { Holds heap.now self.now }
         ensures verdict { result ≡ verdict signal (target_of (processes heap.now self.now) target) }
         ensures kill { (script : Script) (plain : Plain) → IsTable heap.now self.now plain.table
-            → kill script plain _pid target signal ≡ answered_by script plain _pid target result }
+            → kill script plain _pid target signal ≡ answered_by script plain _pid target signal result }
     {
         judge(self.target(heap, target), signal)
     }
