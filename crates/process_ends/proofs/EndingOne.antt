@@ -15,7 +15,7 @@ use Rattle.holding_laws.specs.Holders.{holders}
 use Rattle.proc_table.specs.Changes.{ended, is_other}
 use Rattle.proc_table.specs.Moves.{TableMoves}
 use Rattle.proc_table.specs.Opening.{HaveOpen as TableOpen}
-use Rattle.proc_table.specs.Procs.{HasClosed, no_descriptors, numbers_in, proc_of}
+use Rattle.proc_table.specs.Procs.{HasClosed, no_descriptors, numbers_in, proc_of, with_numbers}
 use Rattle.proc_table.proofs.OpenLemmas.{have_ended}
 use Rattle.proc_table.proofs.PlaceLemmas.{eqb_other}
 use Rattle.store_objects.specs.declared.objects.Objects.{Objects}
@@ -59,9 +59,9 @@ shut_work pid (proc ∷ procs) = by_pid (proc.pid == pid) refl (shut_work pid pr
     others = filter (is_other pid) procs
 
     by_pid : (b : Bool) → (proc.pid == pid) ≡ b → directories_in rest ≡ directories_in others
-        → directories_in (cond (is_other pid (cond b (record proc { descriptors = no_descriptors }) proc)) (cond b (record proc { descriptors = no_descriptors }) proc ∷ rest) rest)
+        → directories_in (cond (is_other pid (cond b (with_numbers proc no_descriptors) proc)) (cond b (with_numbers proc no_descriptors) proc ∷ rest) rest)
         ≡ directories_in (cond (not b) (proc ∷ others) others)
-    by_pid true e same = ap (λ b. directories_in (cond (not b) (record proc { descriptors = no_descriptors } ∷ rest) rest)) e ∙ same
+    by_pid true e same = ap (λ b. directories_in (cond (not b) (with_numbers proc no_descriptors ∷ rest) rest)) e ∙ same
     by_pid false e same = ap (λ b. directories_in (cond (not b) (proc ∷ rest) rest)) e ∙ ap (behind proc) same
 
 -- so all others hold what they held, and it holds its directory no more

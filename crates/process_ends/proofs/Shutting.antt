@@ -9,29 +9,29 @@ use Rattle.proc_table.proofs.PlaceLemmas.{eqb_other, eqb_same}
 use Rattle.process_ends.specs.Endings.{shut}
 
 -- what a process has, it has whatever its descriptors are
-pub all_shut : (P : Proc → Type 0) (pid : ℕ) (procs : List Proc) → ((proc : Proc) → P proc → P (record proc { descriptors = no_descriptors })) → AllByRecursion P procs
+pub all_shut : (P : Proc → Type 0) (pid : ℕ) (procs : List Proc) → ((proc : Proc) → P proc → P (with_numbers proc no_descriptors)) → AllByRecursion P procs
     → AllByRecursion P (map (shut pid) procs)
 all_shut P pid [] lasts all = tt
 all_shut P pid (proc ∷ procs) lasts all = (by_pid (proc.pid == pid), all_shut P pid procs lasts all.1)
   where
-    by_pid : (b : Bool) → P (cond b (record proc { descriptors = no_descriptors }) proc)
+    by_pid : (b : Bool) → P (cond b (with_numbers proc no_descriptors) proc)
     by_pid true = lasts proc all.0
     by_pid false = all.0
 
 pub shut_other : (pid : ℕ) (proc : Proc) → proc.pid ≢ pid → shut pid proc ≡ proc
-shut_other pid proc apart = ap (λ b. cond b (record proc { descriptors = no_descriptors }) proc) (eqb_other proc.pid pid apart)
+shut_other pid proc apart = ap (λ b. cond b (with_numbers proc no_descriptors) proc) (eqb_other proc.pid pid apart)
 
 pub shut_pid : (pid : ℕ) (proc : Proc) → (shut pid proc).pid ≡ proc.pid
 shut_pid pid proc = by_pid (proc.pid == pid)
   where
-    by_pid : (b : Bool) → (cond b (record proc { descriptors = no_descriptors }) proc).pid ≡ proc.pid
+    by_pid : (b : Bool) → (cond b (with_numbers proc no_descriptors) proc).pid ≡ proc.pid
     by_pid true = refl
     by_pid false = refl
 
 pub shut_nodes : (pid : ℕ) (proc : Proc) → (shut pid proc).nodes ≡ proc.nodes
 shut_nodes pid proc = by_pid (proc.pid == pid)
   where
-    by_pid : (b : Bool) → (cond b (record proc { descriptors = no_descriptors }) proc).nodes ≡ proc.nodes
+    by_pid : (b : Bool) → (cond b (with_numbers proc no_descriptors) proc).nodes ≡ proc.nodes
     by_pid true = refl
     by_pid false = refl
 
