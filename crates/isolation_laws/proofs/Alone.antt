@@ -13,7 +13,7 @@ use Rattle.kabi_types.specs.declared.scripts.Script.{Script}
 use Rattle.posix_defs.specs.Answer as answer
 use Rattle.posix_defs.specs.Answer.{Answer, failed, replied}
 use Rattle.posix_defs.specs.Control as program
-use Rattle.posix_defs.specs.Ending.{closed_by, die, die_in, exit_status}
+use Rattle.posix_defs.specs.Ending.{closed_by, die, die_in}
 use Rattle.posix_defs.specs.Forking.{child_of, is_full, with_child}
 use Rattle.posix_defs.specs.Killing.{is_asking, kill, sent_to, struck}
 use Rattle.posix_defs.specs.Machine.{machine, unless_wrong}

@@ -15,7 +15,7 @@ use Rattle.kabi_types.specs.declared.scripts.Script.{Script}
 use Rattle.posix_defs.specs.Answer.{Answer, Ended, failed, replied}
 use Rattle.posix_defs.specs.ByPid.{at_pid, with_pid}
 use Rattle.posix_defs.specs.Control as program
-use Rattle.posix_defs.specs.Ending.{closed_by, die, exit_status}
+use Rattle.posix_defs.specs.Ending.{closed_by, die}
 use Rattle.posix_defs.specs.Forking.{child_of, is_full, with_child}
 use Rattle.posix_defs.specs.Killing.{is_asking, kill, sent_to, struck}
 use Rattle.posix_defs.specs.Killing as killing

@@ -29,7 +29,7 @@ use Rattle.socket_laws.proofs.SocketCalls.{accept_linked, close_linked, connect_
 use Rattle.socket_laws.proofs.SocketHeld.{accept_held, close_held, connect_held, listen_held, named_held, new_held, pair_held, read_held, shut_held, write_held}
 use Rattle.socket_laws.proofs.SocketTable.{with-length}
 use Rattle.machine_laws.specs.FileSteps as step
-use Rattle.machine_laws.specs.FileSteps.{IsStep, LeadsTo}
+use Rattle.machine_laws.specs.FileSteps.{IsStep}
 use Rattle.machine_laws.specs.Reached.{IsReached}
 use Rattle.machine_laws.proofs.Places.{not_some, naming}
 use Rattle.machine_keeps.specs.Joined.{AreJoined}

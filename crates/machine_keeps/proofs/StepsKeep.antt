@@ -36,7 +36,7 @@ use Rattle.socket_laws.proofs.SocketTable.{there_within as sock_within, with-len
 use Rattle.tree_laws.proofs.CallsKeep.{bind_path_keeps, link_path_keeps, mkdir_path_keeps, open_path_keeps, rename_path_keeps, rmdir_path_keeps, unlink_path_keeps}
 use Rattle.tree_laws.proofs.FileKeeps.{resize_keeps, wrote, write_keeps}
 use Rattle.machine_laws.specs.FileSteps as step
-use Rattle.machine_laws.specs.FileSteps.{IsStep, LeadsTo, WritesNode}
+use Rattle.machine_laws.specs.FileSteps.{IsStep, WritesNode}
 use Rattle.machine_laws.proofs.Places.{naming, not_some, some_same}
 use Rattle.machine_keeps.specs.Bytes.{AreBytes, HasMemoryBytes}
 use Rattle.machine_keeps.specs.Texts.{ArePathBytes}
