@@ -12,7 +12,7 @@ use Rattle.posix_defs.specs.Killing.{is_asking, kill, sigkill}
 use Rattle.posix_defs.specs.Plain.{Plain}
 use Rattle.posix_defs.specs.Process.{Process, process_at, runs}
 
-struck_by_nine : Script → Plain → ℕ → ℕ → Answer
+abbrev struck_by_nine : Script → Plain → ℕ → ℕ → Answer
 struck_by_nine script plain pid target =
     cond (target == pid) (Ended sigkill (die plain pid sigkill)) (replied script (die plain target sigkill) pid (Val (pos 0)))
 
@@ -36,7 +36,6 @@ second false b e = cc
 
 pub kill_as_before : (script : Script) (plain : Plain) (pid : ℕ) (target signal : ℤ) → argument_fault (call.Kill target signal) ≡ None
     → kill script plain pid target signal ≡ killed_by_nine script plain pid target signal
-unfolding struck_by_nine
 kill_as_before script plain pid target signal right = by_signal signal (second (is_from 1 target) (is_number 0 signal || is_number 9 signal) (valid _ right))
   where
     nine : (number : ℕ) (o : Option Process) → process_at plain.table number ≡ o → kill script plain pid (pos number) (pos 9) ≡ killed_by_nine script plain pid (pos number) (pos 9)
