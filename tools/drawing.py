@@ -89,13 +89,14 @@ class Told:
 
 
 class Picture:
-    """The SVG of the events from first to last of a run; the elements are written from the back to the front."""
+    """The SVG of the events from first to last of a run; the elements are written from the back to the front. Where it can be
+    scrolled, on a page, an event has room for the name of a call."""
 
-    def __init__(self, run, told, first, last):
-        self.run, self.told, self.first, self.last = run, told, first, last
+    def __init__(self, run, told, first, last, is_scrolled=False):
+        self.run, self.told, self.first, self.last, self.is_scrolled = run, told, first, last, is_scrolled
         self.wakings = wakers_of(run)
         count = last - first + 1
-        self.step = min(64.0, max(4.2, 1160 / (count + 1)))
+        self.step = min(64.0, max(20 if is_scrolled else 4.2, 1160 / (count + 1)))
         self.lanes = [it for it in run.processes.values() if it.born <= last and (it.gone or last) >= first]
         self.lane = 50 if len(self.lanes) <= 14 else 34 if len(self.lanes) <= 24 else 18
         self.right = LEFT + self.step * (count + 1)
@@ -126,7 +127,7 @@ class Picture:
     # The whole
 
     def draw(self):
-        said = folded(self.told.said, self.width - 48, 12.5)
+        said = folded(self.told.said, min(self.width - 48, 880) if self.is_scrolled else self.width - 48, 12.5)
         self.lanes_top = TOP + 52 + 17 * len(said) + 22
         self.chart_top = self.lanes_top + self.lane * len(self.lanes) + 34
         # Where threads ran it, bytes aren't told, and there is no chart.
@@ -309,7 +310,10 @@ class Picture:
         if answer.startswith("= ") and len(answer) < 8:
             return call.asked, unique([f"{text} {answer}", f"{call.name} {answer}", call.name]), ""
         if answer.startswith("= "):
-            forms = [f"{text} {answer}", f"{call.name} {answer}", f"{call.name} {answer[:5]}…", call.name]
+            # Its first word; of bytes the first few.
+            begins = answer.split()[1]
+            cut = [f"{call.name} = {begins[:it]}…" for it in ((5, 3) if begins.startswith("x") else (5,))]
+            forms = [f"{text} {answer}", f"{call.name} {answer}", *cut, call.name]
             return call.asked, unique(forms), ""
         return call.asked, unique([text, call.name]), ""
 
@@ -319,7 +323,8 @@ class Picture:
         ]
         if process.how == "killed":
             event = self.run.events[process.ended - 1]
-            labels.append((process.ended, [f"killed: p{event.waiter} needs {event.bound}", "killed"], "red"))
+            who = f"p{event.waiter}" if event.waiter != process.pid else "its own call"
+            labels.append((process.ended, [f"killed: {who} needs {event.bound}", "killed"], "red"))
         elif process.how:
             labels.append((process.ended, [process.how, process.how.split()[-1]], ""))
         return sorted(labels, key=lambda it: it[0])

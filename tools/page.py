@@ -108,7 +108,8 @@ class Page:
             return [self.evicted(event)]
         who = f"p{event.pid}"
         if event.word == "killed":
-            return [f"{who} is killed for p{event.waiter}, whose call needs {event.bound}; {event.live} bytes were live"]
+            need = f"for p{event.waiter}, whose call needs" if event.waiter != event.pid else "since its own call needs"
+            return [f"{who} is killed {need} {event.bound}; {event.live} bytes were live"]
         if event.word == "refused":
             return [f"{who} is told ENOMEM: {event.call} may take {event.bound}, which the heap can never give"]
         if event.word == "ended":

@@ -158,7 +158,8 @@ class Run:
                 break
             event = read_event(line, shapes)
             if event is None or event.number != place:
-                raise NoReport(f"line {place} is no line of a report: {line[:60]}")
+                seen = "".join(it if it.isprintable() else "\ufffd" for it in line[:60])
+                raise NoReport(f"line {place} is no line of a report: {seen}")
             self.events.append(event)
         if not lines or not self.end or len(lines) != len(self.events) + 1:
             raise NoReport("a report ends with the line that begins with 'end', and this text doesn't")

@@ -3,83 +3,14 @@
 The first line at fault is told, and of its faults the first in the list of kinds. A fault knows where it stands on the line,
 what may stand there (`wanted`), and, of the commonest mistakes, what was probably meant (`hint`).
 """
-import difflib
 import re
 from collections import namedtuple
 from dataclasses import dataclass, field
+from itertools import permutations
 
-# The kinds of faults, in the order in which they are told of one line.
-KINDS = ("not utf-8", "unknown word", "bad number", "out of range", "no such label", "wrong way", "twice defined",
-         "unended", "no init", "too long")
-MOST_BYTES = 1048576
-MOST_PROGRAMS = 64
-# Constants, by the operand for which they are meant.
-CONSTANTS = {
-    "FLAGS": {"O_RDONLY": 0, "O_WRONLY": 1, "O_RDWR": 2, "O_CREAT": 64, "O_EXCL": 128, "O_TRUNC": 512, "O_APPEND": 1024,
-              "O_NONBLOCK": 2048, "O_CLOEXEC": 524288},
-    "WHENCE": {"SEEK_SET": 0, "SEEK_CUR": 1, "SEEK_END": 2},
-    "COMMAND": {"F_DUPFD": 0, "F_GETFD": 1, "F_SETFD": 2, "F_GETFL": 3, "F_SETFL": 4, "FD_CLOEXEC": 1},
-    "OPTIONS": {"WNOHANG": 1},
-    "SIGNAL": {"SIGKILL": 9},
-    "HOW": {"SHUT_RD": 0, "SHUT_WR": 1, "SHUT_RDWR": 2},
-    "EVENTS": {"POLLIN": 1, "POLLOUT": 4, "POLLERR": 8, "POLLHUP": 16, "POLLNVAL": 32},
-}
-NUMBERS = {name: number for group in CONSTANTS.values() for name, number in group.items()}
-# The operands of each call, in their order. PATH and TEXT stand in quotes, all others are values.
-CALLS = {name: operands.split() for operands, names in {
-    "": "getpid getppid sched_yield fork pipe socket socketpair",
-    "STATUS": "exit",
-    "LENGTH": "mmap",
-    "FD": "close dup fstat listen accept",
-    "PID OPTIONS": "waitpid",
-    "PID SIGNAL": "kill",
-    "ADDRESS LENGTH": "munmap",
-    "ADDRESS COUNT": "load",
-    "FD NEW": "dup2",
-    "FD LENGTH": "ftruncate",
-    "FD HOW": "shutdown",
-    "FD COMMAND ARGUMENT": "fcntl",
-    "FD ADDRESS COUNT": "read write readdir",
-    "FD OFFSET WHENCE": "lseek",
-    "FD ADDRESS COUNT PLACE": "pread pwrite",
-    "PATH": "exec stat chdir mkdir rmdir unlink",
-    "PATH NEW_PATH": "link rename",
-    "PATH FLAGS": "open",
-    "FD PATH": "bind connect",
-    "ADDRESS TEXT": "store",
-    "TIMEOUT": "poll",
-}.items() for name in names.split()}
-STATEMENTS = {
-    "set": ["REGISTER", "VALUE"],
-    "add": ["REGISTER", "VALUE"],
-    "if": ["VALUE", "TEST", "VALUE", "LABEL"],
-    "jump": ["LABEL"],
-    "label": ["NAME"],
-    "loop": ["REGISTER", "LABEL"],
-    "end": [],
-}
-RANGES = {"heap": (8192, 8388608), "disk": (16, 4096), "steps": (1, 100000), "seed": (0, 2147483647)}
-MOST_CHOICES, MOST_CHOICE = 1000, 4294967295
-SETTINGS = {**{name: ["NUMBER"] for name in RANGES}, "policy": ["POLICY"], "choices": ["NUMBER"], "program": ["NAME"]}
-DEFAULTS = {"heap": 65536, "disk": 64, "steps": 1000, "policy": "heaviest"}
-TESTS = ("==", "!=", "<", "<=")
-NAME = re.compile(r"[a-z][a-z0-9_]{0,26}")
-REGISTER = re.compile(r"r([0-9]|1[0-5])")
-BLANKS = " \t\r"
-VALUE = "a number, a register (r0 to r15)"
-NO_COMMAS = "A call and its operands stand with blanks between them, without brackets and commas."
-BAR = "A bar stands between two constants without blanks: O_RDWR|O_CREAT"
-A_NAME = "1 to 27 of the letters a to z, digits and _, a letter first"
-MAY_STAND = {
-    "REGISTER": "a register: r0 to r15",
-    "TEST": "a test: ==, !=, < or <=",
-    "LABEL": f"the name of a label: {A_NAME}",
-    "NAME": f"a name: {A_NAME}",
-    "POLICY": "heaviest or youngest",
-    "PATH": "a path in double quotes",
-    "NEW_PATH": "a path in double quotes",
-    "TEXT": "a text of at most 64 bytes in double quotes",
-}
+import hints
+from language import (BLANKS, CALLS, CONSTANTS, DEFAULTS, KINDS, MAY_STAND, MOST_BYTES, MOST_CHOICE, MOST_CHOICES,
+                      MOST_PROGRAMS, NAME, NUMBERS, RANGES, REGISTER, SETTINGS, STATEMENTS, TESTS, form_of, may_stand)
 
 Register = namedtuple("Register", "number")
 
@@ -142,13 +73,6 @@ def listed(names):
     return names[0] if len(names) == 1 else f"{', '.join(names[:-1])} and {names[-1]}"
 
 
-def near(text, names):
-    """The name that a word was probably meant to be; None where it is like none."""
-    upper = text.isupper()
-    found = difflib.get_close_matches(text, [it for it in names if it.isupper() == upper], 1, 0.6)
-    return found[0] if found else None
-
-
 # Words
 
 
@@ -182,7 +106,8 @@ def words_of(line):
         elif line[at] == '"':
             said, end = text_from(line, at)
             if end < len(line) and line[end] not in BLANKS:
-                raise Fault("unknown word", end, len(line), "a blank", "A blank stands behind a text in quotes.")
+                hint = hints.NO_SIGNS if line[end] in ",;)" else "A blank stands behind a text in quotes."
+                raise Fault("unknown word", end, len(line), "a blank", hint)
             words.append(Word(line[at:end], at, end, said))
             at = end
         else:
@@ -200,64 +125,33 @@ def number_of(word, low, high, wanted):
     if not re.match(r"[0-9-]", word.text):
         raise word.fault("unknown word", wanted)
     if not re.fullmatch(r"-?[0-9]+", word.text):
-        hint = "Numbers are decimal." if re.match(r"-?0x", word.text) else NO_COMMAS if word.text.endswith(",") else ""
-        raise word.fault("bad number", wanted, hint or f"{word.text} begins as a number, and is none.")
+        raise word.fault("bad number", wanted, hints.number_hint(word.text))
     number = int(word.text)
     if not low <= number <= high:
         raise word.fault("out of range", wanted, f"The number is from {low} to {high}.")
     return number
 
 
-def constant_hint(text, name):
-    """What to say of a word that is no constant and was meant to be one."""
-    for part in text.split("|"):
-        if part in NUMBERS:
-            continue
-        if not part:
-            return BAR
-        if part.upper() in NUMBERS:
-            return f"{part} is no constant: {part.upper()} is."
-        close = near(part, CONSTANTS.get(name, NUMBERS)) or near(part, NUMBERS)
-        return f"{part} is no constant" + (f"; {close} is." if close else ".")
-    return ""
-
-
-def may_stand(name):
-    """What may stand where an operand of this name is wanted."""
-    if name in MAY_STAND:
-        return f"{name}, {MAY_STAND[name]}" if name in ("PATH", "NEW_PATH", "TEXT") else MAY_STAND[name]
-    constants = f" or of these, joined by |: {', '.join(CONSTANTS[name])}" if name in CONSTANTS else " or a constant"
-    return f"{name}, {VALUE}{constants}" if name != "VALUE" else f"{VALUE}{constants}"
-
-
 def value_of(word, name):
     """A register, a number, or constants that bars join."""
-    wanted = may_stand(name)
-    if word.said is not None:
-        raise word.fault("unknown word", wanted, "Quotes are for paths and for what store puts in memory.")
-    if REGISTER.fullmatch(word.text):
+    wanted, parts = may_stand(name), word.text.split("|")
+    if word.said is None and REGISTER.fullmatch(word.text):
         return Register(int(word.text[1:]))
-    if re.match(r"[0-9-]", word.text):
+    if word.said is None and re.match(r"[0-9-]", word.text):
         return number_of(word, -(2 ** 63), 2 ** 63 - 1, wanted)
-    parts = word.text.split("|")
-    if all(it in NUMBERS for it in parts):
+    if word.said is None and all(it in NUMBERS for it in parts):
         number = 0
         for it in parts:
             number |= NUMBERS[it]
         return number
-    if re.fullmatch(r"[rR]\d+", word.text):
-        raise word.fault("unknown word", wanted, "The registers are r0 to r15.")
-    if word.text.startswith(("/", ".")):
-        raise word.fault("unknown word", wanted, "This looks like a path, and a value is wanted.")
-    raise word.fault("unknown word", wanted, constant_hint(word.text, name))
+    raise word.fault("unknown word", wanted, hints.value_hint(word, name))
 
 
 def text_of(word, name):
     """A path, or the bytes of store."""
     wanted = may_stand(name)
     if word.said is None:
-        what = "A path stands" if name != "TEXT" else "What is stored stands"
-        raise word.fault("unknown word", wanted, f'{what} in double quotes: "{word.text.strip(chr(39))}"')
+        raise word.fault("unknown word", wanted, hints.text_hint(word, name))
     most = 64 if name == "TEXT" else 255
     if len(word.said) > most:
         raise word.fault("out of range", wanted, f"It has {len(word.said)} bytes, and {most} are the most.")
@@ -269,24 +163,19 @@ def text_of(word, name):
 def register_of(word):
     if word.said is None and REGISTER.fullmatch(word.text):
         return Register(int(word.text[1:]))
-    raise word.fault("unknown word", MAY_STAND["REGISTER"],
-                     "The registers are r0 to r15." if re.fullmatch(r"[rR]\d+", word.text) else "")
+    raise word.fault("unknown word", MAY_STAND["REGISTER"], hints.register_hint(word))
 
 
 def name_of(word, name="NAME"):
     if word.said is None and NAME.fullmatch(word.text):
         return word.text
-    colon = "A label is named without its colon." if word.text.endswith(":") else ""
-    hint = "A name stands without quotes." if word.said is not None else colon
-    raise word.fault("unknown word", MAY_STAND[name], hint)
+    raise word.fault("unknown word", MAY_STAND[name], hints.name_hint(word))
 
 
 def test_of(word):
     if word.text in TESTS:
         return word.text
-    hint = {"=": "Whether two values are the same is asked by ==.", ">": "Turn it round: a > b is b < a.",
-            ">=": "Turn it round: a >= b is b <= a."}.get(word.text, "")
-    raise word.fault("unknown word", MAY_STAND["TEST"], hint)
+    raise word.fault("unknown word", MAY_STAND["TEST"], hints.test_hint(word.text))
 
 
 def policy_of(word):
@@ -311,17 +200,16 @@ def operand_of(word, name):
 # The words behind the first one of a line
 
 
-def form_of(head, names):
-    """How a statement is written."""
-    return " ".join([head, *(f'"{it}"' if it in ("PATH", "NEW_PATH", "TEXT") else it for it in names)])
-
-
 def fits(word, name):
     try:
         operand_of(word, name)
         return True
     except Fault:
         return False
+
+
+def all_fit(words, names):
+    return all(map(fits, words, names))
 
 
 def least(faults):
@@ -344,8 +232,8 @@ def each(readers):
 
 def comment_among(words):
     """The fault of words of which one begins a comment; None where none does."""
-    comment = next((it for it in words if it.text.startswith("#") or it.text == "//"), None)
-    return comment and comment.fault("unknown word", "nothing", "A comment stands on a line of its own, which begins with #.")
+    comment = next((it for it in words if it.text.startswith(("#", ";", "/*")) or it.text == "//"), None)
+    return comment and comment.fault("unknown word", "nothing", hints.COMMENT)
 
 
 def too_few(head, words, names, form):
@@ -369,14 +257,17 @@ def least_of_words(words, names, form):
 
 
 def too_many(head, words, names, form):
-    """The fault of a statement with a word too many."""
-    extra = words[len(names)]
-    count = "no operand" if not names else "one operand" if len(names) == 1 else f"{len(names)} operands"
-    if head.text in ("set", "add") and words[1].text in ("=", "+="):
-        return words[1].fault("unknown word", may_stand("VALUE"), f"{head.text} is written without a sign: {form}")
-    if any(it.text == "|" for it in words):
-        return extra.fault("unknown word", "nothing", BAR)
-    return extra.fault("unknown word", "nothing", f"There is a word too many: {head.text} has {count}: {form}")
+    """The fault of a statement with a word too many: that one without which all others fit, if there is just one."""
+    equals = next((it for it in words if it.text in ("=", "+=", ":=")), None)
+    if equals and head.text in ("set", "add", *SETTINGS):
+        calls = [it.text for it in words if it.text in CALLS]
+        hint = f"What a call answers gets into a register so: {words[0].text} = {calls[0]}" if calls else ""
+        return equals.fault("unknown word", "nothing", hint or f"{head.text} is written without a sign: {form}")
+    alone = [it for it in words if all_fit([other for other in words if other is not it], names)]
+    extra = alone[0] if len(words) == len(names) + 1 and len(alone) == 1 else words[len(names)]
+    if head.text == "if" and words[3].text in ("goto", "jump", "then"):
+        extra = words[3]
+    return extra.fault("unknown word", "nothing", hints.many_hint(head, words, names, form))
 
 
 def operands_of(head, words, names, form=None):
@@ -388,7 +279,12 @@ def operands_of(head, words, names, form=None):
         raise too_few(head, words, names, form)
     if len(words) > len(names):
         raise too_many(head, words, names, form)
-    return each(lambda word=word, name=name: operand_of(word, name) for word, name in zip(words, names))
+    try:
+        return each(lambda word=word, name=name: operand_of(word, name) for word, name in zip(words, names))
+    except Fault as fault:
+        if fault.kind == "unknown word" and any(all_fit(it, names) for it in permutations(words)):
+            fault.hint = f"The operands stand in this order: {form}"
+        raise
 
 
 def poll_operands(head, words):
@@ -396,7 +292,10 @@ def poll_operands(head, words):
     form = "poll TIMEOUT FD EVENTS .., with up to eight pairs"
     if comment_among(words):
         raise comment_among(words)
-    if len(words) % 2 != 1:
+    is_short = len(words) % 2 != 1
+    if is_short and words and all(it in CONSTANTS["EVENTS"] for it in words[1].text.split("|")):
+        raise words[1].fault("unknown word", may_stand("FD"), f"TIMEOUT or FD is missing: {form}")
+    if is_short:
         end = (words or [head])[-1].end + 1
         raise Fault("unknown word", end, end, may_stand("EVENTS" if words else "TIMEOUT"), f"A value is missing: {form}")
     names = ["TIMEOUT"] + ["FD", "EVENTS"] * (len(words) // 2)
@@ -409,33 +308,6 @@ def poll_operands(head, words):
 # Lines
 
 
-def call_hint(text):
-    """What to say of a word that is no statement."""
-    if "(" in text or text.endswith(","):
-        return NO_COMMAS
-    if text.endswith(":"):
-        return f"A label is written so: label {text[:-1]}"
-    if text in SETTINGS and text != "program":
-        return f"{text} is a setting, and stands outside programs."
-    if text.lower() in CALLS or text.lower() in STATEMENTS:
-        return f"Words are written in small letters: {text.lower()}"
-    close = near(text, [*CALLS, *STATEMENTS])
-    return f"Is it {close}?" if close else ""
-
-
-def no_call_hint(head, rest, gets):
-    """What to say of a word that is no call, by what stands around it."""
-    if gets and head.text in STATEMENTS:
-        return "Registers get the values of calls alone; set rK V gives one a value."
-    if not gets and REGISTER.fullmatch(head.text) and any(it.text in CALLS for it in rest[:3]):
-        return "Between the registers and a call stands =: r1 = getpid"
-    if not gets and REGISTER.fullmatch(head.text):
-        return "A register gets a value by set rK V, or from a call: r1 = getpid"
-    if gets and (REGISTER.fullmatch(head.text) or re.match(r"-?[0-9]", head.text)):
-        return "Behind = stands a call; set rK V gives a register a value."
-    return call_hint(head.text)
-
-
 def call_of(words, gets):
     """A call, whose values these registers get."""
     wanted = "a statement (set, add, if, jump, label, loop, end) or a call" if not gets else "a call"
@@ -443,9 +315,12 @@ def call_of(words, gets):
         raise Fault("unknown word", gets[-1].end + 3, gets[-1].end + 3, wanted, "Behind = the call is missing.")
     head, rest = words[0], words[1:]
     if head.text not in CALLS or head.said is not None:
+        hint = hints.no_call_hint(head, rest, gets)
         if not gets and rest and REGISTER.fullmatch(head.text):
-            raise rest[0].fault("unknown word", "=, and behind it a call", no_call_hint(head, rest, gets))
-        raise head.fault("unknown word", wanted, no_call_hint(head, rest, gets))
+            registers = next((at for at, it in enumerate(rest) if not REGISTER.fullmatch(it.text)), len(rest))
+            # Behind two registers stands =.
+            raise rest[min(registers, 1, len(rest) - 1)].fault("unknown word", "=, and behind it a call", hint)
+        raise head.fault("unknown word", wanted, hint)
     operands = poll_operands(head, rest) if head.text == "poll" else operands_of(head, rest, CALLS[head.text])
     return head.text, operands
 
@@ -479,24 +354,31 @@ def choices_of(head, words):
     return told
 
 
+def number_setting(head, words):
+    """What a setting that is one number gets."""
+    low, high = RANGES[head.text]
+    wanted, form = f"a number from {low} to {high}", f"{head.text} N"
+    if comment_among(words):
+        raise comment_among(words)
+    if not words:
+        raise Fault("unknown word", head.end + 1, head.end + 1, wanted, f"A number is missing: {form}")
+    if len(words) > 1:
+        raise too_many(head, words, ["NUMBER"], form)
+    return number_of(words[0], low, high, wanted)
+
+
 def setting_of(words):
     """What a line outside programs sets, as its slot, the word, and the value; seed and choices share a slot."""
     head, rest = words[0], words[1:]
     if head.text not in SETTINGS:
-        inside = head.text in CALLS or head.text in STATEMENTS or any(it.text == "=" for it in rest[:2])
-        hint = "No program is open here: a statement stands behind a line program NAME, and before its end."
-        close = near(head.text, SETTINGS)
-        raise head.fault("unknown word", f"a setting ({', '.join(it for it in SETTINGS if it != 'program')}) or program NAME",
-                         hint if inside else f"Is it {close}?" if close else "")
+        settings = ", ".join(it for it in SETTINGS if it != "program")
+        raise head.fault("unknown word", f"a setting ({settings}) or program NAME", hints.setting_hint(head, rest))
     if head.text == "choices":
         return "chooser", head, choices_of(head, rest)
     if head.text in RANGES:
-        low, high = RANGES[head.text]
-        wanted = f"a number from {low} to {high}"
-        if len(rest) != 1:
-            operands_of(head, rest, ["NUMBER"], f"{head.text} N")
-        return "chooser" if head.text == "seed" else head.text, head, number_of(rest[0], low, high, wanted)
-    return head.text, head, operands_of(head, rest, SETTINGS[head.text])[0]
+        return "chooser" if head.text == "seed" else head.text, head, number_setting(head, rest)
+    form = "policy heaviest, or policy youngest" if head.text == "policy" else None
+    return head.text, head, operands_of(head, rest, SETTINGS[head.text], form)[0]
 
 
 # The whole
@@ -523,6 +405,7 @@ class Script:
 
     def take(self, number, raw):
         """One more line. In a program its fault waits for the end, since a program without end is at fault before."""
+        words = []
         try:
             words = self.words_of(raw)
             if not words:
@@ -532,6 +415,8 @@ class Script:
             else:
                 self.take_in_program(number, words)
         except Fault as fault:
+            if fault.kind in ("unknown word", "bad number") and fault.hint != hints.COMMENT:
+                fault.hint = hints.line_hint([it for it in words if it.start < fault.end]) or fault.hint
             if self.open is None:
                 raise BadScript(number, fault) from None
             self.pending.append((number, fault))
@@ -607,10 +492,10 @@ class Script:
         return None
 
     def no_label(self, program, label):
-        close = near(label.text, program.places)
         known = f"its labels are {listed(program.places)}" if program.places else "it has none"
         wanted = f"a label of the program {program.name}: {known}"
-        return label.fault("no such label", wanted, f"Is it {close}?" if close else "")
+        hint = hints.guess(label.text, program.places) or f"No line of this program is: label {label.text}"
+        return label.fault("no such label", wanted, hint)
 
     def close_text(self):
         if self.open is not None:

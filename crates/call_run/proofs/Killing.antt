@@ -6,7 +6,7 @@ use Rattle.machine_keeps.proofs.Turning.{killed_reached}
 use Rattle.posix_defs.specs.Killing.{sigkill}
 use Rattle.posix_defs.specs.Relief.{Kills}
 use Rattle.posix_defs.specs.World.{World, live_of}
-use Rattle.process_ends.specs.Ending.{WorldWithout}
+use Rattle.process_calls.specs.Ending.{WorldWithout}
 use Rattle.store_objects.specs.declared.objects.Objects.{Objects}
 use Rattle.store_objects.specs.Standing.{StandsFor}
 use Rattle.store_objects.proofs.LiveIs.{live_is}

@@ -23,16 +23,14 @@ use crate::closings::{is_closing, run_closing};
 use crate::files::{is_on_file, run_filed};
 use crate::names::{is_named, run_named};
 use kabi_types::{Call, Errno, Memory, Need, Reply, Script, may_wait};
-use memory_calls::{load, mmap, munmap, store};
-use pipe_calls::{dup, fcntl, pipe};
 use posix_defs::Turned;
 use proc_files::{FileBuffer, MOST_MOVED};
-use process_calls::{fork, wait, would_sleep};
+use process_calls::{fork, load, mmap, munmap, store, wait, would_sleep};
 use prog_ctl::Awaited;
 use queue_calls::{
-    Buffer, CAPACITY, poll, poll_would_block, read, read_would_block, write, write_would_block,
+    Buffer, CAPACITY, accept, accept_would_block, dup, fcntl, listen, pipe, poll, poll_would_block,
+    read, read_would_block, shutdown, socket, socketpair, write, write_would_block,
 };
-use sock_calls::{accept, accept_would_block, listen, shutdown, socket, socketpair};
 use std::alloc::Global;
 use store_objects::{Caller, Objects, Target, go_on, purse_for};
 

@@ -14,8 +14,8 @@ ghost use Rattle.store_objects.specs.Uses.{UsesAtMost};
 ghost use Rattle.store_objects.specs.Walking.{Serves};
 ghost use Rattle.call_run.specs.Families.{is_closing};
 
+use file_calls::{close, dup2};
 use kabi_types::{Call, Script};
-use open_calls::{close, dup2};
 use posix_defs::Turned;
 use process_calls::{exit, signal_process};
 use store_objects::{Caller, Objects};

@@ -15,9 +15,8 @@ ghost use Rattle.store_objects.specs.Uses.{UsesAtMost};
 ghost use Rattle.store_objects.specs.Walking.{Serves};
 ghost use Rattle.call_run.specs.Families.{HasHalf, IsFresh, IsOffFiles, IsOnFile, changes_file, is_filed, takes_file};
 
-use file_calls::{ftruncate, lseek, pread, pwrite, read, readdir, write};
+use file_calls::{fstat, ftruncate, lseek, pread, pwrite, read, readdir, write};
 use kabi_types::{Call, Need, Script};
-use open_calls::fstat;
 use posix_defs::Turned;
 use proc_files::{FileBuffer, is_on_node};
 use store_objects::{Caller, Objects, Target, purse_for};

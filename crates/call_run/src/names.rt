@@ -14,11 +14,9 @@ ghost use Rattle.store_objects.specs.Uses.{UsesAtMost};
 ghost use Rattle.store_objects.specs.Walking.{Serves};
 ghost use Rattle.call_run.specs.Families.{HasPaths, is_named, is_renaming};
 
-use bind_calls::{bind, connect};
+use file_calls::{bind, connect, exec, open};
 use kabi_types::{Call, Need, Script};
-use name_calls::{link, mkdir, rename, rmdir, unlink};
-use open_calls::{exec, open};
-use path_calls::{chdir, stat};
+use path_calls::{chdir, link, mkdir, rename, rmdir, stat, unlink};
 use posix_defs::Turned;
 use store_objects::{Caller, Objects, Target, purse_for};
 

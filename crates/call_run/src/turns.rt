@@ -17,7 +17,7 @@ ghost use Rattle.call_run.specs.Stores.{IsStoreOf};
 use crate::calls::{self, Buffers};
 use kabi_types::{Cached, Call, Errno, Need, Reply, Script};
 use posix_defs::{Asked, Turned};
-use process_ends::{INIT, SIGKILL, end};
+use process_calls::{INIT, SIGKILL, end};
 use prog_ctl::Awaited;
 use store_objects::{Objects, go_on};
 

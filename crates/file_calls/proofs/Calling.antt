@@ -34,7 +34,7 @@ use Rattle.store_objects.specs.Objects.{AreKept, Runs, procs_of}
 use Rattle.store_objects.specs.Standing.{IsSound, StandsFor}
 use Rattle.store_objects.specs.Trees.{KeepsTree, others_in}
 use Rattle.store_objects.specs.Walking.{Serves}
-use Rattle.store_files.proofs.StoreFiles.{holds_names}
+use Rattle.file_moves.proofs.StoreFiles.{holds_names}
 use Rattle.store_objects.proofs.Keeping.{listed_in}
 use Rattle.store_objects.proofs.Replies.{GoesOn}
 use Rattle.store_objects.proofs.RunningProcs.{has_key}

@@ -1,5 +1,16 @@
+pub mod Purses
+pub mod Reached
+pub mod CallingOpens
+pub mod Opened
+pub mod Opens
+pub mod Closed
+pub mod Programs
+pub mod Forgotten
+pub mod Shed
+pub mod Execs
 pub mod Kin
 pub mod Cached
 pub mod Sought
 pub mod Needed
 pub mod Calling
+pub mod CallingNames

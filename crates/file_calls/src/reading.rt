@@ -15,7 +15,7 @@ ghost use Rattle.store_objects.specs.Standing.{IsSound, StandsFor};
 ghost use Rattle.store_objects.specs.Walking.{Serves};
 ghost use Rattle.store_objects.specs.declared.purses.Target.TheVariants.{File};
 
-use crate::replies::count;
+use crate::replies::value;
 use kabi_types::{Control, Script};
 use kheap_slabs::Purse;
 use posix_defs::Turned;
@@ -61,7 +61,7 @@ pub fn read(
         addr,
         n,
     );
-    go_on(script, objects, pid, control, count(moved))
+    go_on(script, objects, pid, control, value(moved))
 }
 
 /// Reads at most n bytes of the file that a number is open on into memory, from a place of the file on, as many as are there; the
@@ -105,7 +105,7 @@ pub fn pread(
         n,
         at,
     );
-    go_on(script, objects, pid, control, count(moved))
+    go_on(script, objects, pid, control, value(moved))
 }
 
 /// Reads entries of the directory that a number is open on into memory, of 32 bytes each, from the description's offset on, as many
@@ -146,5 +146,5 @@ pub fn readdir(
         addr,
         n,
     );
-    go_on(script, objects, pid, control, count(moved))
+    go_on(script, objects, pid, control, value(moved))
 }

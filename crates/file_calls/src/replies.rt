@@ -1,17 +1,17 @@
-//! What a call on files tells its caller.
+//! What a call on files, on descriptors or on names of sockets tells its caller.
 
 ghost use Rattle.std.specs.Prelude.{◌≡◌, ◌≤◌, IfOk};
 ghost use Rattle.posix_defs.specs.Calls.OnFiles.{greatest_offset};
-ghost use Rattle.proc_pipes.specs.Answering.{value_of, zero_of};
+ghost use Rattle.proc_pipes.specs.Answering.{stat_of, value_of, zero_of};
 
-use kabi_types::{Errno, Reply};
+use kabi_types::{Errno, Reply, StatInfo};
 
-/// How many bytes, or why there are none.
-pub(crate) fn count(moved: Result<u32, Errno>) -> Reply
-    ensures { result ≡ value_of moved }
+/// A number, as of a descriptor or of bytes, or why there is none.
+pub(crate) fn value(told: Result<u32, Errno>) -> Reply
+    ensures { result ≡ value_of told }
 {
-    match moved {
-        Ok(count) => Reply::Val(i64::from(count)),
+    match told {
+        Ok(value) => Reply::Val(i64::from(value)),
         Err(errno) => Reply::Fail(errno),
     }
 }
@@ -33,6 +33,16 @@ pub(crate) fn zero(done: Result<(), Errno>) -> Reply
 {
     match done {
         Ok(()) => Reply::Val(0),
+        Err(errno) => Reply::Fail(errno),
+    }
+}
+
+/// What a number is open on, or why that can't be told.
+pub(crate) fn stat(told: Result<StatInfo, Errno>) -> Reply
+    ensures { result ≡ stat_of told }
+{
+    match told {
+        Ok(info) => Reply::Stat(info),
         Err(errno) => Reply::Fail(errno),
     }
 }

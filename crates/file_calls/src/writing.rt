@@ -15,7 +15,7 @@ ghost use Rattle.store_objects.specs.Standing.{IsSound, StandsFor};
 ghost use Rattle.store_objects.specs.Walking.{Serves};
 ghost use Rattle.store_objects.specs.declared.purses.Target.TheVariants.{File};
 
-use crate::replies::count;
+use crate::replies::value;
 use kabi_types::{Control, Script};
 use kheap_slabs::Purse;
 use posix_defs::Turned;
@@ -63,7 +63,7 @@ pub fn write(
         addr,
         n,
     );
-    go_on(script, objects, pid, control, count(moved))
+    go_on(script, objects, pid, control, value(moved))
 }
 
 /// Writes n bytes of memory to the file that a number is open on, at a place of it, whatever O_APPEND says, as many as there is room
@@ -107,5 +107,5 @@ pub fn pwrite(
         n,
         at,
     );
-    go_on(script, objects, pid, control, count(moved))
+    go_on(script, objects, pid, control, value(moved))
 }

@@ -3,3 +3,4 @@ pub mod Staying
 pub mod Within
 pub mod Answered
 pub mod Serving
+pub mod StoreFiles

@@ -1,5 +1,6 @@
-//! Laws of stores of which a call changes files: what is open, their tree with what is cached of it, and names of sockets. They go
-//! on. Each is the contract of a function that does nothing.
+//! Laws of the files of a store: what it has of files and of names of sockets, as the calls on them take it, and that a store goes
+//! on of which a call changes what is open, the tree with what is cached of it, or names of sockets. Each is the contract of a
+//! function that does nothing.
 #![tactic(auto)]
 
 ghost use Rattle.kabi_types.specs.declared.calls.Call.{Call};
@@ -19,6 +20,10 @@ ghost use Rattle.store_objects.specs.Objects.{AreKept, Runs};
 ghost use Rattle.store_objects.specs.Standing.{IsSound, StandsFor, answered_in};
 ghost use Rattle.store_objects.specs.Walking.{Serves};
 ghost use Rattle.store_objects.specs.declared.objects.Objects.{Objects};
+
+mod laws;
+
+pub use laws::a_store_holds_its_files;
 
 /// Where of a store only what is open, memory, the tree of files and names of sockets have changed, its objects are kept, who ran
 /// runs where he stood, and they stand for each world of which they have what has changed.

@@ -1,8 +1,16 @@
-//! A turn of each call that looks along a path leads the objects of a store to what the call's definition says: `stat` and `chdir`.
+//! A turn of each call that looks along a path or changes names of the tree of files leads the objects of a store to what the call's
+//! definition says: `stat`, `chdir`, `mkdir`, `rmdir`, `unlink`, `link` and `rename`.
 #![tactic(auto)]
 
 mod directories;
+mod held;
+mod names;
+mod node_set;
+mod replies;
 mod telling;
+mod working;
 
-pub use directories::chdir;
+pub use directories::{mkdir, rmdir};
+pub use names::{link, rename, unlink};
 pub use telling::stat;
+pub use working::chdir;

@@ -35,7 +35,7 @@ use Rattle.store_objects.specs.declared.objects.Objects.{Objects}
 use Rattle.store_objects.specs.Standing.{IsSound, Performs, StandsFor, answered_in}
 use Rattle.store_objects.specs.Walking.{KeepsOn, Serves, WorldReached}
 use Rattle.store_objects.proofs.Replies.{GoesOn, does_said}
-use Rattle.process_ends.specs.Ending.{WorldWithout}
+use Rattle.process_calls.specs.Ending.{WorldWithout}
 
 -- a process has ended: from each world that the objects stood for, they stand for one without it
 abbrev pub Dies : Script → Objects → ℕ → ℕ → Objects → Type 0

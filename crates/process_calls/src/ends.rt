@@ -16,9 +16,9 @@ ghost use Rattle.store_objects.specs.Standing.{IsSound, StandsFor};
 ghost use Rattle.store_objects.specs.Uses.{UsesAtMost};
 ghost use Rattle.store_objects.specs.Walking.{Serves};
 
+use crate::end;
 use kabi_types::{Control, Reply, Script};
 use posix_defs::Turned;
-use process_ends::end;
 use store_objects::{Objects, go_on};
 
 /// Ends a process that isn't the first, with a signal.

@@ -5,3 +5,10 @@ pub mod Queueing
 pub mod Naming
 pub mod Telling
 pub mod Blocking
+pub mod Staying
+pub mod Performing
+pub mod Holding
+pub mod StayingSockets
+pub mod NamingSockets
+pub mod Taking
+pub mod Waiting

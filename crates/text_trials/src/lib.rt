@@ -1,4 +1,5 @@
-//! Values and calls, prices, victims, generated scripts, lines of reports, and the streams that they go through, by hand. Tests alone.
+//! Values and calls, prices, victims, scripts that are read, told their faults, printed and gone through, generated scripts, lines of
+//! reports, and the streams that they go through, by hand. Tests alone.
 #![tactic(auto)]
 
 #[cfg(test)]
@@ -9,6 +10,8 @@ mod generated;
 mod lines;
 #[cfg(test)]
 mod prices;
+#[cfg(test)]
+mod scripts;
 #[cfg(test)]
 mod streams;
 #[cfg(test)]

@@ -1,4 +1,5 @@
-//! The tool's answers to words, scripts and streams by hand. Tests alone.
+//! Stores of scripts turn by turn, with the heap's bytes at each step, and the tool's answers to words, scripts and streams, by hand.
+//! Tests alone.
 #![tactic(auto)]
 
 #[cfg(test)]
@@ -17,5 +18,7 @@ mod processes;
 mod runs;
 #[cfg(test)]
 mod shell;
+#[cfg(test)]
+mod store;
 #[cfg(test)]
 mod words;

@@ -1,4 +1,4 @@
-//! A disk behind its caches and the tree of files over them, by hand. Tests alone.
+//! The disk, its nodes and paths; each cache; a disk behind its caches and the tree of files over them, by hand. Tests alone.
 #![tactic(auto)]
 
 #[cfg(test)]
@@ -6,7 +6,11 @@ mod by_hand;
 #[cfg(test)]
 mod cached_blocks;
 #[cfg(test)]
+mod caches;
+#[cfg(test)]
 mod calls;
+#[cfg(test)]
+mod disk;
 #[cfg(test)]
 mod held;
 #[cfg(test)]

@@ -18,7 +18,7 @@ use Rattle.proc_pipes.specs.Answering.{value_of}
 use Rattle.store_objects.specs.declared.objects.Objects.{Objects}
 use Rattle.store_objects.specs.Standing.{IsSound, StandsFor}
 use Rattle.store_objects.specs.Trees.{others_in}
-use Rattle.store_files.proofs.StoreFiles.{holds_names}
+use Rattle.file_moves.proofs.StoreFiles.{holds_names}
 use Rattle.store_objects.proofs.Keeping.{listed_in}
 use Rattle.file_moves.proofs.Within.{within_nothing}
 use Rattle.file_calls.proofs.Calling.{AnswersSo, HasChanged, holds_some, kept_changed, key_who_runs, leaves_others, mid_of, runs_changed, serves_changed}

@@ -50,14 +50,14 @@ pub go_on-requires-clause-kept : goal.go_on-requires-clause-kept
 go_on-requires-clause-kept c =
     kept_moved c.args.script.now c.args.objects.now c.pwrite_file-moved.new.heap c.pwrite_file-moved.new.tree c.args.pid (call.Pwrite c.args.fd c.args.addr c.args.n c.args.at) c.args.fd (λ plain. pwrite c.args.script.now plain c.args.pid c.args.fd c.args.addr c.args.n c.args.at) c.count.result
     (moved c.args.script.now c.args.objects.now c.pwrite_file-moved.new.heap c.pwrite_file-moved.new.tree c.args.pid c.args.fd c.args.addr c.args.n c.args.at _ _ _ _ c.pwrite_file-moved.result c.count.result
-    (to_z-of_z w64 c.args.fd c.ranges.fd) (to_z-of_z w64 c.args.addr c.ranges.addr) (to_z-of_z w64 c.args.n c.ranges.n) (to_z-of_z w64 c.args.at c.ranges.at) c.count.ensures c.pwrite_file-moved.ensures.beside c.requires.stands
+    (to_z-of_z w64 c.args.fd c.ranges.fd) (to_z-of_z w64 c.args.addr c.ranges.addr) (to_z-of_z w64 c.args.n c.ranges.n) (to_z-of_z w64 c.args.at c.ranges.at) c.value.ensures c.pwrite_file-moved.ensures.beside c.requires.stands
     c.heap_is_well_formed.ensures c.pwrite_file-moved.ensures.kept c.requires.right c.pwrite_file-moved.ensures.stays (c.pwrite_file-moved.ensures.leads c.args.script.now))
 
 pub go_on-requires-clause-runs : goal.go_on-requires-clause-runs
 go_on-requires-clause-runs c =
     runs_moved c.args.script.now c.args.objects.now c.pwrite_file-moved.new.heap c.pwrite_file-moved.new.tree c.args.pid (call.Pwrite c.args.fd c.args.addr c.args.n c.args.at) c.args.fd (λ plain. pwrite c.args.script.now plain c.args.pid c.args.fd c.args.addr c.args.n c.args.at) c.count.result
     (moved c.args.script.now c.args.objects.now c.pwrite_file-moved.new.heap c.pwrite_file-moved.new.tree c.args.pid c.args.fd c.args.addr c.args.n c.args.at _ _ _ _ c.pwrite_file-moved.result c.count.result
-    (to_z-of_z w64 c.args.fd c.ranges.fd) (to_z-of_z w64 c.args.addr c.ranges.addr) (to_z-of_z w64 c.args.n c.ranges.n) (to_z-of_z w64 c.args.at c.ranges.at) c.count.ensures c.pwrite_file-moved.ensures.beside c.requires.stands
+    (to_z-of_z w64 c.args.fd c.ranges.fd) (to_z-of_z w64 c.args.addr c.ranges.addr) (to_z-of_z w64 c.args.n c.ranges.n) (to_z-of_z w64 c.args.at c.ranges.at) c.value.ensures c.pwrite_file-moved.ensures.beside c.requires.stands
     c.heap_is_well_formed.ensures c.pwrite_file-moved.ensures.kept c.requires.right c.pwrite_file-moved.ensures.stays (c.pwrite_file-moved.ensures.leads c.args.script.now))
     c.args.control c.requires.runs
 
@@ -70,7 +70,7 @@ pub returns-clause-does : goal.returns-clause-does
 returns-clause-does c =
     serves_moved c.args.script.now c.args.objects.now c.pwrite_file-moved.new.heap c.pwrite_file-moved.new.tree c.args.pid (call.Pwrite c.args.fd c.args.addr c.args.n c.args.at) c.args.fd (λ plain. pwrite c.args.script.now plain c.args.pid c.args.fd c.args.addr c.args.n c.args.at) c.count.result
     (moved c.args.script.now c.args.objects.now c.pwrite_file-moved.new.heap c.pwrite_file-moved.new.tree c.args.pid c.args.fd c.args.addr c.args.n c.args.at _ _ _ _ c.pwrite_file-moved.result c.count.result
-    (to_z-of_z w64 c.args.fd c.ranges.fd) (to_z-of_z w64 c.args.addr c.ranges.addr) (to_z-of_z w64 c.args.n c.ranges.n) (to_z-of_z w64 c.args.at c.ranges.at) c.count.ensures c.pwrite_file-moved.ensures.beside c.requires.stands
+    (to_z-of_z w64 c.args.fd c.ranges.fd) (to_z-of_z w64 c.args.addr c.ranges.addr) (to_z-of_z w64 c.args.n c.ranges.n) (to_z-of_z w64 c.args.at c.ranges.at) c.value.ensures c.pwrite_file-moved.ensures.beside c.requires.stands
     c.heap_is_well_formed.ensures c.pwrite_file-moved.ensures.kept c.requires.right c.pwrite_file-moved.ensures.stays (c.pwrite_file-moved.ensures.leads c.args.script.now))
     c.go_on.result c.go_on.new.objects
     (within_paid c.args.objects.now (mid_of c.args.objects.now c.pwrite_file-moved.new.heap c.pwrite_file-moved.new.tree) c.args.purse.now c.pwrite_file-moved.new.purse (call.Pwrite c.args.fd c.args.addr c.args.n c.args.at) c.pwrite_file-moved.ensures.paid

@@ -50,14 +50,14 @@ pub go_on-requires-clause-kept : goal.go_on-requires-clause-kept
 go_on-requires-clause-kept c =
     kept_moved c.args.script.now c.args.objects.now c.write_file-moved.new.heap c.write_file-moved.new.tree c.args.pid (call.Write c.args.fd c.args.addr c.args.n 0) c.args.fd (λ plain. write c.args.script.now plain c.args.pid c.args.fd c.args.addr c.args.n 0) c.count.result
     (moved c.args.script.now c.args.objects.now c.write_file-moved.new.heap c.write_file-moved.new.tree c.args.pid c.args.fd c.args.addr c.args.n _ _ _ c.write_file-moved.result c.count.result
-    (to_z-of_z w64 c.args.fd c.ranges.fd) (to_z-of_z w64 c.args.addr c.ranges.addr) (to_z-of_z w64 c.args.n c.ranges.n) c.count.ensures c.write_file-moved.ensures.beside c.requires.stands
+    (to_z-of_z w64 c.args.fd c.ranges.fd) (to_z-of_z w64 c.args.addr c.ranges.addr) (to_z-of_z w64 c.args.n c.ranges.n) c.value.ensures c.write_file-moved.ensures.beside c.requires.stands
     c.heap_is_well_formed.ensures c.write_file-moved.ensures.kept c.requires.right c.write_file-moved.ensures.stays (c.write_file-moved.ensures.leads c.args.script.now))
 
 pub go_on-requires-clause-runs : goal.go_on-requires-clause-runs
 go_on-requires-clause-runs c =
     runs_moved c.args.script.now c.args.objects.now c.write_file-moved.new.heap c.write_file-moved.new.tree c.args.pid (call.Write c.args.fd c.args.addr c.args.n 0) c.args.fd (λ plain. write c.args.script.now plain c.args.pid c.args.fd c.args.addr c.args.n 0) c.count.result
     (moved c.args.script.now c.args.objects.now c.write_file-moved.new.heap c.write_file-moved.new.tree c.args.pid c.args.fd c.args.addr c.args.n _ _ _ c.write_file-moved.result c.count.result
-    (to_z-of_z w64 c.args.fd c.ranges.fd) (to_z-of_z w64 c.args.addr c.ranges.addr) (to_z-of_z w64 c.args.n c.ranges.n) c.count.ensures c.write_file-moved.ensures.beside c.requires.stands
+    (to_z-of_z w64 c.args.fd c.ranges.fd) (to_z-of_z w64 c.args.addr c.ranges.addr) (to_z-of_z w64 c.args.n c.ranges.n) c.value.ensures c.write_file-moved.ensures.beside c.requires.stands
     c.heap_is_well_formed.ensures c.write_file-moved.ensures.kept c.requires.right c.write_file-moved.ensures.stays (c.write_file-moved.ensures.leads c.args.script.now))
     c.args.control c.requires.runs
 
@@ -70,7 +70,7 @@ pub returns-clause-does : goal.returns-clause-does
 returns-clause-does c =
     serves_moved c.args.script.now c.args.objects.now c.write_file-moved.new.heap c.write_file-moved.new.tree c.args.pid (call.Write c.args.fd c.args.addr c.args.n 0) c.args.fd (λ plain. write c.args.script.now plain c.args.pid c.args.fd c.args.addr c.args.n 0) c.count.result
     (moved c.args.script.now c.args.objects.now c.write_file-moved.new.heap c.write_file-moved.new.tree c.args.pid c.args.fd c.args.addr c.args.n _ _ _ c.write_file-moved.result c.count.result
-    (to_z-of_z w64 c.args.fd c.ranges.fd) (to_z-of_z w64 c.args.addr c.ranges.addr) (to_z-of_z w64 c.args.n c.ranges.n) c.count.ensures c.write_file-moved.ensures.beside c.requires.stands
+    (to_z-of_z w64 c.args.fd c.ranges.fd) (to_z-of_z w64 c.args.addr c.ranges.addr) (to_z-of_z w64 c.args.n c.ranges.n) c.value.ensures c.write_file-moved.ensures.beside c.requires.stands
     c.heap_is_well_formed.ensures c.write_file-moved.ensures.kept c.requires.right c.write_file-moved.ensures.stays (c.write_file-moved.ensures.leads c.args.script.now))
     c.go_on.result c.go_on.new.objects
     (within_paid c.args.objects.now (mid_of c.args.objects.now c.write_file-moved.new.heap c.write_file-moved.new.tree) c.args.purse.now c.write_file-moved.new.purse (call.Write c.args.fd c.args.addr c.args.n 0) c.write_file-moved.ensures.paid

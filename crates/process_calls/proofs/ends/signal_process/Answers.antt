@@ -11,7 +11,7 @@ use Rattle.proc_table.specs.Procs.{IsAlive}
 use Rattle.proc_table.specs.Standing.{IsTable, answered_by, pid_of}
 use Rattle.store_objects.specs.Objects.{procs_of}
 use Rattle.store_objects.specs.Walking.{Serves}
-use Rattle.process_ends.proofs.EndingOthers.{alive_made}
+use Rattle.process_calls.proofs.EndingOthers.{alive_made}
 use Rattle.store_objects.proofs.Paying.{uses_nothing}
 use Rattle.process_calls.proofs.Striking.{IsStruck, answered_as, does_strike, does_tell, few_signals, number_of, struck_by}
 use Rattle.process_calls.proofs.ends.signal_process.Goals as goal

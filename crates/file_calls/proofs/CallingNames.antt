@@ -1,0 +1,166 @@
+-- A call on names of sockets has changed the objects of a store, and its caller goes on.
+use Rattle.std.proofs.Common.{◌≡◌, ℕ, ◌<◌, ◌≤◌, ◌&&◌, ◌||◌, ℤ, true, false, List, [], length, Option, None, cond, is_none, is_some, refl, ap, sym, ◌∙◌, arith}
+use Rattle.std.specs.Option.{option_map}
+use Rattle.std.specs.Prelude.{IsSome}
+use Rattle.kabi_types.specs.Arguments.{argument_fault}
+use Rattle.kabi_types.specs.declared.calls.Call.{Call}
+use Rattle.kabi_types.specs.declared.calls.Call.TheVariants as call
+use Rattle.kabi_types.specs.declared.scripts.Control.{Control}
+use Rattle.kabi_types.specs.declared.scripts.Script.{Script}
+use Rattle.kabi_types.specs.declared.classes.Need.{Need}
+use Rattle.kabi_types.specs.declared.errnos.Errno.{Errno}
+use Rattle.kabi_types.specs.declared.replies.Reply.{Reply}
+use Rattle.kheap_slabs.specs.Purse.{Purse}
+use Rattle.kheap_slabs.specs.Heap.{Heap, IsWellFormed}
+use Rattle.kheap_slabs.specs.Paid.{IsPaid}
+use Rattle.memfs_ops.specs.FileTree.{TreeView}
+use Rattle.open_laws.specs.Owned.{HasItsOwners}
+use Rattle.place_laws.specs.Placed.{Numbers}
+use Rattle.posix_defs.specs.Answer.{Answer}
+use Rattle.posix_defs.specs.Memory.{Frames}
+use Rattle.posix_defs.specs.MemoryCalls.{frames_after}
+use Rattle.posix_defs.specs.Needs.{need_of, objects_of}
+use Rattle.posix_defs.specs.Plain.{Plain, with_files}
+use Rattle.posix_defs.specs.Process.{directory_in, directory_of}
+use Rattle.posix_defs.specs.Reaching.{ends_node}
+use Rattle.posix_defs.specs.Sizes.{no_need}
+use Rattle.posix_defs.specs.World.{World}
+use Rattle.posix_defs.specs.declared.turner.Turned.{Turned}
+use Rattle.posix_defs.specs.declared.turner.Turned.TheVariants as turned
+use Rattle.proc_descs.specs.Having.{AreListed}
+use Rattle.proc_descs.specs.Queues.{QueuesStand}
+use Rattle.holding_laws.specs.Holders.{holders}
+use Rattle.proc_names.specs.Answering.{AnswersConnecting, AnswersNaming, NamesChange}
+use Rattle.proc_names.specs.Holding.{HoldNames, WorksAt}
+use Rattle.proc_socks.proofs.Told.{keeps_same}
+use Rattle.proc_table.specs.Procs.{IsAlive, process_of}
+use Rattle.proc_table.specs.Table.{key_of}
+use Rattle.proc_table.proofs.FamilyLemmas.{process_is}
+use Rattle.store_objects.specs.declared.objects.Objects.{Objects}
+use Rattle.store_objects.specs.Objects.{AreKept, Runs, procs_of}
+use Rattle.store_objects.specs.Standing.{IsSound, StandsFor}
+use Rattle.store_objects.specs.Trees.{others_in}
+use Rattle.store_objects.specs.Walking.{Serves}
+use Rattle.file_moves.proofs.StoreFiles.{holds_names}
+use Rattle.store_objects.proofs.Replies.{GoesOn}
+use Rattle.store_objects.proofs.RunningProcs.{has_key}
+use Rattle.file_moves.specs.Moves.{FileMoves}
+use Rattle.file_moves.specs.Worlds.{LeavesCached}
+use Rattle.file_moves.proofs.Answered.{answered_holding}
+use Rattle.file_moves.proofs.Moving.{kept_turned, runs_turned}
+use Rattle.file_moves.proofs.Serving.{serves}
+use Rattle.file_moves.proofs.Staying.{holds_elsewhere, memory_elsewhere, moves_elsewhere}
+use Rattle.file_moves.proofs.Within.{within_paid}
+
+-- ---- what calls ask
+
+-- who runs is alive, and has a key
+pub alive_who_runs : (objects : Objects) (pid : ℕ) (control : Control) → Runs objects pid control → IsAlive (procs_of objects) pid
+alive_who_runs objects pid control runs = record { proc = runs.proc; there = runs.found; runs = runs.up }
+
+pub key_who_runs : (script : Script) (objects : Objects) (pid : ℕ) (control : Control) → AreKept script objects → Runs objects pid control → IsSome (key_of objects.procs.listed pid)
+key_who_runs script objects pid control kept runs = has_key script objects pid kept (alive_who_runs objects pid control runs)
+
+-- a process works where the machine says
+works_at : (script : Script) (objects : Objects) (world : World) (pid : ℕ) → StandsFor script objects world → WorksAt objects.heap objects.procs pid (directory_of world.plain.table pid)
+works_at script objects world pid stands = λ proc found.
+    sym (ap directory_in (process_is objects.heap world.plain.table (procs_of objects) pid stands.processes.table.present ∙ ap (option_map (process_of objects.heap)) found))
+
+-- a purse of the need of a connect has a socket
+pub left_sock : (had : ℕ) (which : Call) → argument_fault which ≡ None → had ≡ (need_of which).sock → (objects_of which).sock ≡ 1 → 0 < had
+unfolding need_of
+left_sock had which right needed one =
+    let all : (need_of which).sock ≡ (objects_of which).sock = ap (λ (fault : Option Errno). (cond (is_some fault) no_need (objects_of which)).sock) right in omega (arith, needed, all, one)
+
+-- ---- what they leave of the caches
+
+never : {X : Type 0} → true ≡ false → X
+never e = cc
+
+-- where a path is walked, and no more than walked
+pub bind_cached : (old mid : Objects) (world : World) (pid : ℕ) (fd : ℤ) (path : List ℕ) (said : Reply) (next : Plain) → argument_fault (call.Bind fd path) ≡ None
+    → LeavesCached old mid world pid (call.Bind fd path) said next
+bind_cached old mid world pid fd path said next right = record {
+  untouched = λ none. never (sym (ap (λ (fault : Option Errno). (is_none fault && true) || ends_node world.plain.files next.files) right) ∙ none);
+  left = λ ok. tt;
+  known = λ known. never (sym known);
+}
+
+pub connect_cached : (old mid : Objects) (world : World) (pid : ℕ) (fd : ℤ) (path : List ℕ) (said : Reply) (next : Plain) → argument_fault (call.Connect fd path) ≡ None
+    → LeavesCached old mid world pid (call.Connect fd path) said next
+connect_cached old mid world pid fd path said next right = record {
+  untouched = λ none. never (sym (ap (λ (fault : Option Errno). (is_none fault && true) || ends_node world.plain.files next.files) right) ∙ none);
+  left = λ ok. tt;
+  known = λ known. never (sym known);
+}
+
+-- ---- what they leave of the store
+
+-- the objects with that heap, that tree, and these names
+abbrev pub mid_of : Objects → Heap → TreeView → List (Option ℕ) → Objects
+mid_of old heap fs names = record { heap = heap; procs = old.procs; tree = fs; names = names }
+
+-- Whatever files they hold, the call is answered so, and they hold those that it leads to, where what is new has numbers.
+abbrev pub AnswersSo : Objects → Heap → TreeView → List (Option ℕ) → Script → ℕ → (Plain → Answer) → Reply → Type 0
+AnswersSo old heap fs names script pid answer said =
+    (numbers : Numbers) (others : ℕ → ℕ) (plain : Plain) → HoldNames numbers others old.heap old.procs old.tree old.names plain.files → WorksAt old.heap old.procs pid (directory_of plain.table pid)
+    → AnswersConnecting numbers others old.heap heap old.procs fs names script plain pid (answer plain) said
+
+-- so it is where nothing is new
+pub anew : (old : Heap) (numbers : Numbers) (others : ℕ → ℕ) (objects : Objects) (heap : Heap) (fs : TreeView) (names : List (Option ℕ)) (script : Script) (plain : Plain) (pid : ℕ) (answer : Answer) (said : Reply)
+    → AnswersNaming numbers others heap objects.procs fs names script plain pid answer said → AnswersConnecting numbers others old heap objects.procs fs names script plain pid answer said
+anew old numbers others objects heap fs names script plain pid answer said it = record { now = numbers; keeps = keeps_same old numbers; answers = it }
+
+-- A call has changed names, sockets or the tree of a store that stood for a sound world, and is told so.
+pub record HasNamed (script : Script) (old : Objects) (heap : Heap) (fs : TreeView) (names : List (Option ℕ)) (pid : ℕ) (answer : Plain → Answer) (said : Reply) : Type 0 where
+  pub world : (world : World) × StandsFor script old world × IsSound world.plain
+  pub well : IsWellFormed old.heap
+  pub changes : NamesChange old.heap heap
+  pub listed : AreListed heap old.procs
+  pub owners : HasItsOwners heap []
+  pub queues : QueuesStand old.heap heap
+  pub places : length names ≡ length old.names
+  pub answers : AnswersSo old heap fs names script pid answer said
+
+module _ (script : Script) (old : Objects) (heap : Heap) (fs : TreeView) (names : List (Option ℕ)) (pid : ℕ) (answer : Plain → Answer) (said : Reply)
+    (named : HasNamed script old heap fs names pid answer said) where
+  abbrev mid : Objects
+  mid = mid_of old heap fs names
+
+  told : (world : World) → (stands : StandsFor script old world) → IsSound world.plain
+      → AnswersConnecting stands.files.numbers (others_in world.plain) old.heap heap old.procs fs names script world.plain pid (answer world.plain) said
+  told world stands sound =
+      let holds : HoldNames stands.files.numbers (others_in world.plain) old.heap old.procs old.tree old.names world.plain.files = holds_names script old world stands named.well sound in
+      named.answers stands.files.numbers (others_in world.plain) world.plain holds (works_at script old world pid stands)
+
+  same_procs : heap.procs ≡ old.heap.procs
+  same_procs = ap (λ (h : Heap). h.procs) named.changes
+
+  moves : FileMoves old mid
+  moves =
+      let world = named.world.0 in
+      let kept : AreKept script old = named.world.1.kept in
+      let it = (told world named.world.1 named.world.2).answers in
+      moves_elsewhere old mid refl same_procs
+      (record { holds = holds_elsewhere old mid refl same_procs kept.holds named.listed named.owners; listed = named.listed; owners = named.owners })
+      it.holds.bound named.places (it.files.tree, holders (others_in world.plain) it.files, it.holds.held.tree) (ap (λ (h : Heap). h.heap) named.changes)
+
+  pub kept_named : AreKept script mid
+  kept_named = kept_turned script old mid named.world.1.kept moves
+
+  pub runs_named : (control : Control) → Runs old pid control → Runs mid pid control
+  runs_named control runs = runs_turned old mid pid control moves runs
+
+  -- behind it its caller goes on
+  pub serves_named : (which : Call) (before after : Purse) (is : Turned) (new : Objects) → IsPaid old.heap before heap after → before.left ≡ need_of which → old.tree.disk.reads ≤ fs.disk.reads
+      → is ≡ turned.Done said → GoesOn script mid pid said new → ((frames : Frames) → frames_after frames pid which said ≡ frames)
+      → ((world : World) (next : Plain) → LeavesCached old mid world pid which said next) → Serves script old pid which answer is new
+  serves_named which before after is new paid needed reads tells goes none cached =
+      serves script old mid new pid which said is
+      (within_paid old mid before after which paid (ap (λ (need : Need). need.name) needed) (ap (λ (need : Need). need.block) needed) (ap (λ (need : Need). need.vnode) needed) reads) tells answer moves goes
+      (λ world stands sound alive.
+      let it = told world stands sound in
+      answered_holding script old mid world stands pid which said (answer world.plain) it.now
+      (memory_elsewhere old mid refl same_procs (ap (λ (h : Heap). h.nodes) named.changes) (ap (λ (h : Heap). h.pages) named.changes)) named.queues it.keeps.pipes it.keeps.socks (none world.account.frames)
+      (record { files = it.answers.files; replies = it.answers.replies; holds = it.answers.holds.held })
+      (cached world (with_files world.plain it.answers.files)))

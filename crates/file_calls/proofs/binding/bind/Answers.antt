@@ -1,0 +1,90 @@
+use Rattle.std.proofs.Common.{◌≡◌, ℕ, ℤ, List, [], Option, Result, length, refl, subst, sym, w64}
+use Rattle.std.proofs.lemmas.Int.{to_z-of_z}
+use Rattle.kabi_types.specs.declared.calls.Call.TheVariants as call
+use Rattle.kabi_types.specs.declared.scripts.Script.{Script}
+use Rattle.kabi_types.specs.declared.errnos.Errno.{Errno}
+use Rattle.kabi_types.specs.declared.replies.Reply.{Reply}
+use Rattle.kheap_laws.proofs.PaidLemmas.{IsPaid-nothing, IsPaid-trans}
+use Rattle.kheap_slabs.specs.Heap.{Heap, IsWellFormed}
+use Rattle.memfs_ops.specs.FileTree.{TreeView}
+use Rattle.open_laws.specs.Owned.{HasItsOwners}
+use Rattle.posix_defs.specs.Calls.OnSockets.{bind}
+use Rattle.posix_defs.specs.World.{World}
+use Rattle.proc_descs.specs.Having.{AreListed}
+use Rattle.proc_descs.specs.Queues.{QueuesStand}
+use Rattle.proc_names.specs.Answering.{NamesChange}
+use Rattle.proc_pipes.specs.Answering.{zero_of}
+use Rattle.store_objects.specs.declared.objects.Objects.{Objects}
+use Rattle.store_objects.specs.Standing.{IsSound, StandsFor}
+use Rattle.file_moves.proofs.StoreFiles.{works_in_some}
+use Rattle.store_objects.proofs.Keeping.{listed_in}
+use Rattle.open_moves.proofs.Replying.{no_frames}
+use Rattle.file_calls.proofs.CallingNames.{AnswersSo, HasNamed, alive_who_runs, anew, bind_cached, kept_named, key_who_runs, runs_named, serves_named}
+use Rattle.file_calls.proofs.binding.bind.Goals as goal
+
+named : (script : Script) (old : Objects) (heap : Heap) (fs : TreeView) (names : List (Option ℕ)) (pid : ℕ) (fd as_fd : ℤ) (path : List ℕ) (is : Result (Unit {0}) Errno) (said : Reply) → as_fd ≡ fd → said ≡ zero_of is
+    → (world : World) × StandsFor script old world × IsSound world.plain → IsWellFormed old.heap → NamesChange old.heap heap → AreListed heap old.procs → HasItsOwners heap [] → QueuesStand old.heap heap
+    → length names ≡ length old.names → AnswersSo old heap fs names script pid (λ plain. bind script plain pid as_fd path) (zero_of is)
+    → HasNamed script old heap fs names pid (λ plain. bind script plain pid fd path) said
+named script old heap fs names pid fd as_fd path is said same tells world well changes listed owners queues places answers = record {
+  world = world;
+  well = well;
+  changes = changes;
+  listed = listed;
+  owners = owners;
+  queues = queues;
+  places = places;
+  answers = subst (λ z. AnswersSo old heap fs names script pid (λ plain. bind script plain pid z path) said) same
+      (subst (AnswersSo old heap fs names script pid (λ plain. bind script plain pid as_fd path)) (sym tells) answers);
+}
+
+pub bind_number-done-requires-clause-listed : goal.bind_number-done-requires-clause-listed
+bind_number-done-requires-clause-listed c =
+    listed_in c.args.script.now c.args.objects.now c.requires.stands.1.kept
+
+pub bind_number-done-requires-clause-owners : goal.bind_number-done-requires-clause-owners
+bind_number-done-requires-clause-owners c =
+    c.requires.stands.1.kept.owners
+
+pub bind_number-done-requires-clause-there : goal.bind_number-done-requires-clause-there
+bind_number-done-requires-clause-there c =
+    key_who_runs c.args.script.now c.args.objects.now c.args.pid c.args.control c.requires.stands.1.kept c.requires.runs
+
+pub bind_number-done-requires-clause-hold : goal.bind_number-done-requires-clause-hold
+bind_number-done-requires-clause-hold c =
+    works_in_some c.args.script.now c.args.objects.now c.requires.stands.0 c.requires.stands.1 c.heap_is_well_formed.ensures c.requires.stands.2 c.args.pid
+    (alive_who_runs c.args.objects.now c.args.pid c.args.control c.requires.runs)
+
+pub bind_number-done-requires-clause-path : goal.bind_number-done-requires-clause-path
+bind_number-done-requires-clause-path c =
+    c.requires.right
+
+pub go_on-requires-clause-kept : goal.go_on-requires-clause-kept
+go_on-requires-clause-kept c =
+    kept_named c.args.script.now c.args.objects.now c.bind_number-done.new.heap c.bind_number-done.new.tree c.bind_number-done.new.names c.args.pid (λ plain. bind c.args.script.now plain c.args.pid c.args.fd c.args.path.now) c.zero.result
+    (named c.args.script.now c.args.objects.now c.bind_number-done.new.heap c.bind_number-done.new.tree c.bind_number-done.new.names c.args.pid c.args.fd _ c.args.path.now c.bind_number-done.result c.zero.result (to_z-of_z w64 c.args.fd c.ranges.fd) c.zero.ensures c.requires.stands
+    c.heap_is_well_formed.ensures c.bind_number-done.ensures.changes c.bind_number-done.ensures.listed c.bind_number-done.ensures.owners c.bind_number-done.ensures.queues c.bind_number-done.ensures.places
+    (λ n o plain hold works. anew c.args.objects.now.heap n o c.args.objects.now c.bind_number-done.new.heap c.bind_number-done.new.tree c.bind_number-done.new.names c.args.script.now plain c.args.pid _ _ (c.bind_number-done.ensures.answers n o c.args.script.now plain hold works)))
+
+pub go_on-requires-clause-runs : goal.go_on-requires-clause-runs
+go_on-requires-clause-runs c =
+    runs_named c.args.script.now c.args.objects.now c.bind_number-done.new.heap c.bind_number-done.new.tree c.bind_number-done.new.names c.args.pid (λ plain. bind c.args.script.now plain c.args.pid c.args.fd c.args.path.now) c.zero.result
+    (named c.args.script.now c.args.objects.now c.bind_number-done.new.heap c.bind_number-done.new.tree c.bind_number-done.new.names c.args.pid c.args.fd _ c.args.path.now c.bind_number-done.result c.zero.result (to_z-of_z w64 c.args.fd c.ranges.fd) c.zero.ensures c.requires.stands
+    c.heap_is_well_formed.ensures c.bind_number-done.ensures.changes c.bind_number-done.ensures.listed c.bind_number-done.ensures.owners c.bind_number-done.ensures.queues c.bind_number-done.ensures.places
+    (λ n o plain hold works. anew c.args.objects.now.heap n o c.args.objects.now c.bind_number-done.new.heap c.bind_number-done.new.tree c.bind_number-done.new.names c.args.script.now plain c.args.pid _ _ (c.bind_number-done.ensures.answers n o c.args.script.now plain hold works)))
+    c.args.control c.requires.runs
+
+pub returns-clause-paid : goal.returns-clause-paid
+returns-clause-paid c =
+    IsPaid-trans c.args.objects.now.heap c.args.purse.now c.bind_number-done.new.heap c.bind_number-done.new.purse c.go_on.new.objects.heap c.bind_number-done.new.purse c.bind_number-done.ensures.paid
+    (IsPaid-nothing c.bind_number-done.new.heap c.go_on.new.objects.heap c.bind_number-done.new.purse c.bind_number-done.new.purse c.go_on.ensures.takes refl refl)
+
+pub returns-clause-does : goal.returns-clause-does
+returns-clause-does c =
+    serves_named c.args.script.now c.args.objects.now c.bind_number-done.new.heap c.bind_number-done.new.tree c.bind_number-done.new.names c.args.pid (λ plain. bind c.args.script.now plain c.args.pid c.args.fd c.args.path.now) c.zero.result
+    (named c.args.script.now c.args.objects.now c.bind_number-done.new.heap c.bind_number-done.new.tree c.bind_number-done.new.names c.args.pid c.args.fd _ c.args.path.now c.bind_number-done.result c.zero.result (to_z-of_z w64 c.args.fd c.ranges.fd) c.zero.ensures c.requires.stands
+    c.heap_is_well_formed.ensures c.bind_number-done.ensures.changes c.bind_number-done.ensures.listed c.bind_number-done.ensures.owners c.bind_number-done.ensures.queues c.bind_number-done.ensures.places
+    (λ n o plain hold works. anew c.args.objects.now.heap n o c.args.objects.now c.bind_number-done.new.heap c.bind_number-done.new.tree c.bind_number-done.new.names c.args.script.now plain c.args.pid _ _ (c.bind_number-done.ensures.answers n o c.args.script.now plain hold works)))
+    (call.Bind c.args.fd c.args.path.now) c.args.purse.now c.bind_number-done.new.purse c.go_on.result c.go_on.new.objects c.bind_number-done.ensures.paid c.requires.needed c.bind_number-done.ensures.reads c.go_on.ensures.told c.go_on.ensures.goes
+    (no_frames (call.Bind c.args.fd c.args.path.now) (λ frames pid value. refl) c.args.pid c.zero.result)
+    (λ world next. bind_cached c.args.objects.now _ world c.args.pid c.args.fd c.args.path.now c.zero.result next c.requires.right)

@@ -1,0 +1,85 @@
+use Rattle.std.proofs.Common.{◌≡◌, None, refl, subst, sym, w64}
+use Rattle.std.proofs.lemmas.Int.{to_z-of_z}
+use Rattle.kabi_types.specs.declared.calls.Call.TheVariants as call
+use Rattle.posix_defs.specs.Calls.OnDescriptors.{close}
+use Rattle.proc_descs.specs.Having.{node_closed}
+use Rattle.proc_descs.specs.Naming.{named_by}
+use Rattle.proc_files.specs.Holding.{HoldSome}
+use Rattle.proc_names.specs.Answering.{AnswersNaming}
+use Rattle.proc_pipes.specs.Answering.{zero_of}
+use Rattle.open_moves.proofs.Replying.{no_frames}
+use Rattle.store_objects.proofs.Keeping.{listed_in}
+use Rattle.store_objects.proofs.Paying.{uses_nothing, uses_then}
+use Rattle.file_moves.proofs.Within.{within_same}
+use Rattle.file_calls.proofs.CallingOpens.{holds_some_names, kept_mid, key_who_runs, mid, runs_mid, serves_naming}
+use Rattle.file_calls.proofs.Purses.{can_pay, may_close, uses_back}
+use Rattle.file_calls.proofs.Reached.{closed_off, first_off, leaves_numbers}
+use Rattle.file_calls.proofs.closing.close.Goals as goal
+
+pub close_number-closed-requires-clause-listed : goal.close_number-closed-requires-clause-listed
+close_number-closed-requires-clause-listed c = listed_in c.args.script.now c.args.objects.now c.requires.stands.1.kept
+
+pub close_number-closed-requires-clause-owners : goal.close_number-closed-requires-clause-owners
+close_number-closed-requires-clause-owners c = c.requires.stands.1.kept.owners
+
+pub close_number-closed-requires-clause-there : goal.close_number-closed-requires-clause-there
+close_number-closed-requires-clause-there c = key_who_runs c.args.script.now c.args.objects.now c.args.pid c.args.control c.requires.stands.1.kept c.requires.runs
+
+pub close_number-closed-requires-clause-hold : goal.close_number-closed-requires-clause-hold
+close_number-closed-requires-clause-hold c =
+    holds_some_names c.args.script.now c.args.objects.now c.requires.stands.0 c.requires.stands.1 c.requires.stands.2 c.heap_is_well_formed.ensures
+
+pub close_number-closed-requires-clause-may : goal.close_number-closed-requires-clause-may
+close_number-closed-requires-clause-may c =
+    let purse = c.kept_back-purse in
+    may_close c.args.objects.now.heap purse.result purse.ensures.value (can_pay c.args.objects.now.heap purse.result purse.ensures.bytes c.requires.room)
+
+pub go_on-requires-clause-kept : goal.go_on-requires-clause-kept
+go_on-requires-clause-kept c =
+    let n = c.close_number-closed in
+    let some = n.ensures.hold in
+    kept_mid c.args.script.now c.args.objects.now n.new.heap n.new.tree n.new.names c.args.pid c.args.control c.requires.stands.1.kept c.requires.runs n.ensures.changes n.ensures.listed n.ensures.owners
+    some.hold.bound n.ensures.places (record { numbers = some.numbers; others = some.others; files = some.files; hold = some.hold.held })
+
+pub go_on-requires-clause-runs : goal.go_on-requires-clause-runs
+go_on-requires-clause-runs c =
+    let n = c.close_number-closed in
+    let some = n.ensures.hold in
+    runs_mid c.args.script.now c.args.objects.now n.new.heap n.new.tree n.new.names c.args.pid c.args.control c.requires.stands.1.kept c.requires.runs n.ensures.changes n.ensures.listed n.ensures.owners
+    some.hold.bound n.ensures.places (record { numbers = some.numbers; others = some.others; files = some.files; hold = some.hold.held })
+
+pub returns-clause-uses : goal.returns-clause-uses
+returns-clause-uses c =
+    let n = c.close_number-closed in
+    let purse = c.kept_back-purse in
+    uses_then c.args.objects.now.heap n.new.heap c.go_on.new.objects.heap _
+    (uses_back c.args.objects.now.heap n.new.heap purse.result n.new.purse n.ensures.same purse.ensures.bytes n.ensures.paid)
+    (uses_nothing n.new.heap c.go_on.new.objects.heap 0 _ c.go_on.ensures.takes)
+
+pub returns-clause-does : goal.returns-clause-does
+returns-clause-does c =
+    let script = c.args.script.now in
+    let old = c.args.objects.now in
+    let pid = c.args.pid in
+    let n = c.close_number-closed in
+    let some = n.ensures.hold in
+    let kept = c.requires.stands.1.kept in
+    let which = call.Close c.args.fd in
+    let said = c.zero.result in
+    let fd = to_z-of_z w64 c.args.fd c.ranges.fd in
+    let one : HoldSome n.new.heap old.procs n.new.tree = record { numbers = some.numbers; others = some.others; files = some.files; hold = some.hold.held } in
+    serves_naming script old n.new.heap n.new.tree n.new.names pid c.args.control kept c.requires.runs n.ensures.changes n.ensures.listed n.ensures.owners some.hold.bound n.ensures.places one
+    which said c.go_on.result c.go_on.new.objects (λ plain. close script plain pid c.args.fd) c.heap_is_well_formed.ensures
+    (within_same old (mid script old n.new.heap n.new.tree n.new.names pid c.args.control kept c.requires.runs n.ensures.changes n.ensures.listed n.ensures.owners some.hold.bound n.ensures.places one)
+    c.kept_back-purse.result n.new.purse which n.ensures.paid n.ensures.same n.ensures.reads)
+    n.ensures.queues c.go_on.ensures.told c.go_on.ensures.goes (no_frames which (λ frames pid value. refl) pid said)
+    (λ numbers others plain hold.
+    subst (AnswersNaming numbers others n.new.heap old.procs n.new.tree n.new.names script plain pid (close script plain pid c.args.fd)) (sym c.zero.ensures)
+    (subst (λ z. AnswersNaming numbers others n.new.heap old.procs n.new.tree n.new.names script plain pid (close script plain pid z) (zero_of n.result)) fd
+    (n.ensures.answers numbers others script plain hold)))
+    (λ world next stands.
+    leaves_numbers old (mid script old n.new.heap n.new.tree n.new.names pid c.args.control kept c.requires.runs n.ensures.changes n.ensures.listed n.ensures.owners some.hold.bound n.ensures.places one)
+    world pid which (record { right = refl; paths = refl; leaves = refl; walks = refl }) said next
+    (λ off.
+    (subst (λ z. node_closed old.heap.descs (named_by old.heap old.procs pid z) ≡ None → n.new.tree ≡ old.tree) fd n.ensures.stays)
+    (closed_off stands.files.numbers old.heap old.procs world.plain.files pid stands.files.opened (listed_in script old kept) kept.owners c.args.fd (first_off _ _ off))))

@@ -1,0 +1,98 @@
+use Rattle.std.proofs.Common.{◌≡◌, None, of_z, refl, subst, sym, to_z, w64}
+use Rattle.std.proofs.lemmas.Int.{to_z-of_z}
+use Rattle.kabi_types.specs.declared.calls.Call.TheVariants as call
+use Rattle.posix_defs.specs.Calls.OnDescriptors.{dup2}
+use Rattle.posix_defs.specs.Answer.{replied}
+use Rattle.posix_defs.specs.Calls.Opened.{opened_at}
+use Rattle.posix_defs.specs.Plain.{with_files}
+use Rattle.posix_defs.specs.Reaching.{is_on_node}
+use Rattle.proc_files.specs.Holding.{HoldSome}
+use Rattle.proc_names.specs.Answering.{AnswersNaming}
+use Rattle.proc_pipes.specs.Answering.{node_replaced, value_of}
+use Rattle.open_moves.proofs.Replying.{no_frames}
+use Rattle.store_objects.specs.Trees.{others_in}
+use Rattle.file_moves.proofs.StoreFiles.{holds_names}
+use Rattle.store_objects.proofs.Keeping.{listed_in}
+use Rattle.store_objects.proofs.Paying.{uses_nothing, uses_then}
+use Rattle.file_moves.proofs.Within.{within_same}
+use Rattle.file_calls.proofs.CallingOpens.{holds_some_names, kept_mid, key_who_runs, mid, runs_mid, serves_naming}
+use Rattle.file_calls.proofs.Purses.{can_pay, may_close, uses_back}
+use Rattle.file_calls.proofs.Reached.{leaves_numbers, second_off, stays_replaced}
+use Rattle.file_calls.proofs.closing.dup2.Goals as goal
+
+pub dup_number-made-requires-clause-listed : goal.dup_number-made-requires-clause-listed
+dup_number-made-requires-clause-listed c = listed_in c.args.script.now c.args.objects.now c.requires.stands.1.kept
+
+pub dup_number-made-requires-clause-owners : goal.dup_number-made-requires-clause-owners
+dup_number-made-requires-clause-owners c = c.requires.stands.1.kept.owners
+
+pub dup_number-made-requires-clause-there : goal.dup_number-made-requires-clause-there
+dup_number-made-requires-clause-there c = key_who_runs c.args.script.now c.args.objects.now c.args.pid c.args.control c.requires.stands.1.kept c.requires.runs
+
+pub dup_number-made-requires-clause-hold : goal.dup_number-made-requires-clause-hold
+dup_number-made-requires-clause-hold c =
+    holds_some_names c.args.script.now c.args.objects.now c.requires.stands.0 c.requires.stands.1 c.requires.stands.2 c.heap_is_well_formed.ensures
+
+pub dup_number-made-requires-clause-may : goal.dup_number-made-requires-clause-may
+dup_number-made-requires-clause-may c =
+    let purse = c.kept_back-purse in
+    may_close c.args.objects.now.heap purse.result purse.ensures.value (can_pay c.args.objects.now.heap purse.result purse.ensures.bytes c.requires.room)
+
+pub go_on-requires-clause-kept : goal.go_on-requires-clause-kept
+go_on-requires-clause-kept c =
+    let n = c.dup_number-made in
+    let some = n.ensures.hold in
+    kept_mid c.args.script.now c.args.objects.now n.new.heap n.new.tree n.new.names c.args.pid c.args.control c.requires.stands.1.kept c.requires.runs n.ensures.changes n.ensures.listed n.ensures.owners
+    some.hold.bound n.ensures.places (record { numbers = some.numbers; others = some.others; files = some.files; hold = some.hold.held })
+
+pub go_on-requires-clause-runs : goal.go_on-requires-clause-runs
+go_on-requires-clause-runs c =
+    let n = c.dup_number-made in
+    let some = n.ensures.hold in
+    runs_mid c.args.script.now c.args.objects.now n.new.heap n.new.tree n.new.names c.args.pid c.args.control c.requires.stands.1.kept c.requires.runs n.ensures.changes n.ensures.listed n.ensures.owners
+    some.hold.bound n.ensures.places (record { numbers = some.numbers; others = some.others; files = some.files; hold = some.hold.held })
+
+pub returns-clause-uses : goal.returns-clause-uses
+returns-clause-uses c =
+    let n = c.dup_number-made in
+    let purse = c.kept_back-purse in
+    uses_then c.args.objects.now.heap n.new.heap c.go_on.new.objects.heap _
+    (uses_back c.args.objects.now.heap n.new.heap purse.result n.new.purse n.ensures.same purse.ensures.bytes n.ensures.paid)
+    (uses_nothing n.new.heap c.go_on.new.objects.heap 0 _ c.go_on.ensures.takes)
+
+pub returns-clause-does : goal.returns-clause-does
+returns-clause-does c =
+    let script = c.args.script.now in
+    let old = c.args.objects.now in
+    let pid = c.args.pid in
+    let n = c.dup_number-made in
+    let some = n.ensures.hold in
+    let kept = c.requires.stands.1.kept in
+    let which = call.Dup2 c.args.fd c.args.to in
+    let said = c.value.result in
+    let fd = to_z-of_z w64 c.args.fd c.ranges.fd in
+    let to = to_z-of_z w64 c.args.to c.ranges.to in
+    let one : HoldSome n.new.heap old.procs n.new.tree = record { numbers = some.numbers; others = some.others; files = some.files; hold = some.hold.held } in
+    serves_naming script old n.new.heap n.new.tree n.new.names pid c.args.control kept c.requires.runs n.ensures.changes n.ensures.listed n.ensures.owners some.hold.bound n.ensures.places one
+    which said c.go_on.result c.go_on.new.objects (λ plain. dup2 script plain pid c.args.fd c.args.to) c.heap_is_well_formed.ensures
+    (within_same old (mid script old n.new.heap n.new.tree n.new.names pid c.args.control kept c.requires.runs n.ensures.changes n.ensures.listed n.ensures.owners some.hold.bound n.ensures.places one)
+    c.kept_back-purse.result n.new.purse which n.ensures.paid n.ensures.same n.ensures.reads)
+    n.ensures.queues c.go_on.ensures.told c.go_on.ensures.goes (no_frames which (λ frames pid value. refl) pid said)
+    (λ numbers others plain hold.
+    subst (AnswersNaming numbers others n.new.heap old.procs n.new.tree n.new.names script plain pid (dup2 script plain pid c.args.fd c.args.to)) (sym c.value.ensures)
+    (subst (λ z. AnswersNaming numbers others n.new.heap old.procs n.new.tree n.new.names script plain pid (dup2 script plain pid c.args.fd z) (value_of n.result)) to
+    (subst (λ z. AnswersNaming numbers others n.new.heap old.procs n.new.tree n.new.names script plain pid (dup2 script plain pid z (to_z w64 (of_z w64 c.args.to))) (value_of n.result)) fd
+    (n.ensures.answers numbers others script plain hold))))
+    (λ world next stands.
+    leaves_numbers old (mid script old n.new.heap n.new.tree n.new.names pid c.args.control kept c.requires.runs n.ensures.changes n.ensures.listed n.ensures.owners some.hold.bound n.ensures.places one)
+    world pid which (record { right = refl; paths = refl; leaves = refl; walks = refl }) said next
+    (λ off.
+    let first = c.requires.stands in
+    let it = n.ensures.answers first.1.files.numbers (others_in first.0.plain) script first.0.plain (holds_names script old first.0 first.1 c.heap_is_well_formed.ensures first.2) in
+    stays_replaced stands.files.numbers old.heap old.procs world.plain.files script first.0.plain it.files pid c.args.fd c.args.to n.result old.tree n.new.tree _
+    (subst (λ z. dup2 script first.0.plain pid c.args.fd z ≡ replied script (with_files first.0.plain it.files) pid (value_of n.result)) to
+    (subst (λ z. dup2 script first.0.plain pid z (to_z w64 (of_z w64 c.args.to)) ≡ replied script (with_files first.0.plain it.files) pid (value_of n.result)) fd it.replies))
+    n.ensures.unchanged (λ same. same.1)
+    (subst (λ z. node_replaced old.heap old.procs pid c.args.fd z ≡ None → n.new.tree ≡ old.tree) to
+    (subst (λ z. node_replaced old.heap old.procs pid z (to_z w64 (of_z w64 c.args.to)) ≡ None → n.new.tree ≡ old.tree) fd n.ensures.stays))
+    stands.files.opened (listed_in script old kept) kept.owners (second_off (is_on_node world.plain.files (opened_at world.plain.files pid c.args.fd)) _ off)))

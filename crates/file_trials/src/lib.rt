@@ -1,9 +1,0 @@
-//! The calls of one process on open files by hand. Tests alone.
-#![tactic(auto)]
-
-#[cfg(test)]
-mod desk;
-#[cfg(test)]
-mod rows;
-#[cfg(test)]
-mod steps;

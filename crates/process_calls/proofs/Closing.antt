@@ -1,0 +1,153 @@
+-- The processes of a store when one has closed all that it had open.
+use Rattle.std.proofs.Common.{◌≡◌, ℕ, ◌<◌, ◌==◌, Bool, true, false, cond, List, [], map, length, Option, None, Some, refl, ap, sym, ◌∙◌, subst}
+use Rattle.std.specs.List.{AllByRecursion}
+use Rattle.std.specs.Option.{option_map}
+use Rattle.kabi_types.specs.declared.scripts.Script.{Script}
+use Rattle.kheap_slabs.specs.Objects.{object, put}
+use Rattle.kheap_slabs.specs.declared.objects.Descriptor.{Descriptor as HeldDescriptor}
+use Rattle.kheap_slabs.specs.declared.objects.Proc.{Proc}
+use Rattle.kheap_slabs.specs.Heap.{Heap}
+use Rattle.kheap_slabs.specs.Owners.{OwnsItsObjects}
+use Rattle.memfs_ops.specs.FileTree.{TreeView}
+use Rattle.open_laws.specs.Owned.{HasItsOwners}
+use Rattle.posix_defs.specs.Memory.{Frames}
+use Rattle.posix_defs.specs.Process.{Table}
+use Rattle.proc_descs.specs.Having.{AreListed}
+use Rattle.proc_names.specs.Ending.{ClosesEach}
+use Rattle.holding_laws.specs.Names.{AreBound, name_of}
+use Rattle.proc_table.specs.Accounting.{HasAccount}
+use Rattle.proc_table.specs.Procs.{IsAlive, IsLight, no_descriptors, proc_of, process_of, with_numbers}
+use Rattle.proc_table.specs.Standing.{AreFrom, IsTable}
+use Rattle.proc_table.specs.Table.{Holds, TableView, processes, procs_at}
+use Rattle.proc_table.proofs.AccountLemmas.{becomes_account}
+use Rattle.proc_table.proofs.FamilyLemmas.{changed_table}
+use Rattle.proc_table.proofs.HoldLemmas.{content_kept}
+use Rattle.proc_table.proofs.MemoryLemmas.{process_of-same}
+use Rattle.proc_table.proofs.OwnLemmas.{all_by}
+use Rattle.proc_table.proofs.PlaceLemmas.{Follows, eqb_same, follows_one, follows_procs, key_of-proc, some_same}
+use Rattle.proc_table.proofs.TurnLemmas.{all_changed, all_kept}
+use Rattle.store_objects.specs.declared.objects.Objects.{Objects}
+use Rattle.store_objects.specs.Objects.{AreAtCalls, AreKept, IsAtCall, most_nodes, procs_of}
+use Rattle.store_objects.specs.Trees.{KeepsTree}
+use Rattle.store_objects.proofs.Peeling.{by_pid}
+use Rattle.process_calls.specs.Endings.{shut}
+use Rattle.process_calls.proofs.Shutting.{all_shut, found_shut, light_shut, shut_nodes, shut_other, shut_pid}
+
+-- ---- the table
+
+module _ (old new : Heap) (kept : TableView) (pid : ℕ) (holds : Holds old kept) (closes : ClosesEach old new kept pid) where
+  abbrev becomes : Proc → Option Proc
+  becomes proc = Some (shut pid proc)
+
+  abbrev was : Proc
+  was = closes.changes.proc
+
+  abbrev at : ℕ
+  at = closes.changes.key
+
+  has_pid : was.pid ≡ pid
+  has_pid =
+      let named = key_of-proc old.procs kept.listed pid at holds.stored closes.changes.named in
+      ap (λ (p : Proc). p.pid) (some_same (object old.procs at) was named.0 closes.changes.there named.1) ∙ named.2
+
+  empties : new.procs ≡ put old.procs at (with_numbers was no_descriptors)
+  empties = closes.changes.procs ∙ ap (λ (places : List (Option HeldDescriptor)). put old.procs at (with_numbers was places)) closes.none
+
+  follows : Follows becomes old.procs new.procs kept.listed
+  follows = subst (λ procs. Follows becomes old.procs procs kept.listed) (sym empties)
+      (follows_one becomes old.procs at pid was (Some (with_numbers was no_descriptors)) kept.listed 0 kept.last
+      (λ proc apart. ap Some (shut_other pid proc apart)) closes.changes.there
+      (ap (λ b. Some (cond b (with_numbers was no_descriptors) was)) (eqb_same was.pid pid has_pid)) holds.stored holds.rising closes.changes.named)
+
+  pub shut_procs : processes new kept ≡ map (shut pid) (processes old kept)
+  shut_procs =
+      ap (procs_at new.procs) (sym (all_kept (shut pid) old.procs kept.listed holds.stored))
+      ∙ follows_procs becomes old.procs new.procs kept.listed holds.stored follows
+      ∙ all_changed (shut pid) (processes old kept)
+
+  same_nodes : new.nodes ≡ old.nodes
+  same_nodes = ap (λ (h : Heap). h.nodes) closes.changes.beside
+
+  same_pages : new.pages ≡ old.pages
+  same_pages = ap (λ (h : Heap). h.pages) closes.changes.beside
+
+  -- they are the machine's still
+  pub shut_table : (table : Table) → IsTable old kept table → IsTable new kept table
+  shut_table table is = record {
+    present = subst (AreFrom new 1 table) (sym shut_procs)
+        (changed_table is.present new (shut pid)
+        (all_by (λ proc. (process_of new (shut pid proc) ≡ process_of old proc) × ((shut pid proc).pid ≡ proc.pid)) (processes old kept)
+        (λ proc. (by_pid proc (proc.pid == pid), shut_pid pid proc))));
+    made = is.made;
+  }
+    where
+      in_heap : (proc : Proc) → process_of new proc ≡ process_of old proc
+      in_heap proc = process_of-same old new proc (λ page. content_kept old new proc.nodes page same_nodes same_pages)
+
+      by_pid : (proc : Proc) (b : Bool) → process_of new (cond b (with_numbers proc no_descriptors) proc) ≡ process_of old proc
+      by_pid proc true = in_heap proc
+      by_pid proc false = in_heap proc
+
+  becomes_it : (proc now : Proc) → becomes proc ≡ Some now → now ≡ shut pid proc
+  becomes_it proc now is = some_same (Some now) now (shut pid proc) refl (sym is)
+
+  never : {X : Type 0} (proc : Proc) → Some proc ≡ None → X
+  never proc e = cc
+
+  -- with the memory that they had
+  pub shut_account : (frames : Frames) → HasAccount old kept frames → HasAccount new kept frames
+  shut_account frames has =
+      becomes_account (λ (proc : Proc). Unit {0}) becomes old new kept kept frames
+      (λ proc now is. ap (λ (p : Proc). p.pid) (becomes_it proc now is) ∙ shut_pid pid proc)
+      (λ proc now its is. ap (λ (p : Proc). p.nodes) (becomes_it proc now is) ∙ shut_nodes pid proc)
+      (λ proc its is. never (shut pid proc) is)
+      (all_by (λ (proc : Proc). Unit {0}) (processes old kept) (λ proc. tt))
+      (shut_procs ∙ sym (all_changed (shut pid) (processes old kept))) refl same_nodes same_pages has
+
+  -- the table holds
+  pub shut_holds : AreListed new kept → OwnsItsObjects new → Holds new kept
+  shut_holds listed owns =
+      let by = by_pid new kept listed owns in
+      record {
+        stored = listed.stored;
+        rising = listed.rising;
+        light = subst (AllByRecursion IsLight) (sym shut_procs) (all_shut IsLight pid (processes old kept) light_shut holds.light);
+        owned = (record { spaces = []; queues = by.queues }, by.owned);
+      }
+
+-- who closes is alive still
+pub alive_shut : (procs now : List Proc) (pid : ℕ) → now ≡ map (shut pid) procs → IsAlive procs pid → IsAlive now pid
+alive_shut procs now pid is alive = record {
+  proc = shut pid alive.proc;
+  there = ap (λ all. proc_of all pid) is ∙ found_shut pid procs pid ∙ ap (option_map (shut pid)) alive.there;
+  runs = by_pid (alive.proc.pid == pid) ∙ alive.runs;
+}
+  where
+    by_pid : (b : Bool) → (cond b (with_numbers alive.proc no_descriptors) alive.proc).status ≡ alive.proc.status
+    by_pid true = refl
+    by_pid false = refl
+
+-- the objects with another heap, another tree and other names
+abbrev pub with_heap : Objects → Heap → TreeView → List (Option ℕ) → Objects
+with_heap old heap tree names = record { heap = heap; procs = old.procs; tree = tree; names = names }
+
+-- What the objects keep they keep.
+pub kept_shut : (script : Script) (old : Objects) (heap : Heap) (tree : TreeView) (names : List (Option ℕ)) (pid : ℕ) → AreKept script old → ClosesEach old.heap heap old.procs pid
+    → AreListed heap old.procs → HasItsOwners heap [] → AreBound (name_of heap.socks) names → length names ≡ length old.names → KeepsTree heap tree
+    → AreKept script (with_heap old heap tree names)
+kept_shut script old heap tree names pid kept closes listed owners bound long caches = record {
+  holds = shut_holds old.heap heap old.procs pid kept.holds closes listed owners.objects;
+  all = listed.all;
+  owners = owners;
+  groups = subst (AllByRecursion (λ proc. length proc.nodes ≡ 4)) (sym is) (all_shut (λ proc. length proc.nodes ≡ 4) pid (procs_of old) (λ proc four. four) kept.groups);
+  calls = subst (AreAtCalls script) (sym is)
+      (all_shut (λ proc. proc.status ≡ None → IsAtCall script proc) pid (procs_of old)
+      (λ proc at up. let here : IsAtCall script proc = at up in record { stands = here.stands; rests = here.rests }) kept.calls);
+  bound = bound;
+  places = subst (λ n. most_nodes < n) (sym long) kept.places;
+  caches = caches;
+  size = ap (λ (h : Heap). h.heap) closes.changes.beside ∙ kept.size;
+}
+  where
+    is : processes heap old.procs ≡ map (shut pid) (procs_of old)
+    is = shut_procs old.heap heap old.procs pid kept.holds closes

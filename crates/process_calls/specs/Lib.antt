@@ -1,0 +1,3 @@
+pub mod Endings
+pub mod Ending
+pub mod Spaces

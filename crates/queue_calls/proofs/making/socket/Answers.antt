@@ -1,0 +1,61 @@
+use Rattle.std.proofs.Common.{refl, subst, sym}
+use Rattle.kabi_types.specs.declared.calls.Call.TheVariants as call
+use Rattle.kheap_laws.proofs.PaidLemmas.{IsPaid-nothing, IsPaid-trans}
+use Rattle.open_moves.proofs.Replying.{no_frames}
+use Rattle.queue_calls.proofs.Performing.{key_who_runs, kept_then, performs_anew, runs_then}
+use Rattle.posix_defs.specs.Calls.OnSockets.{socket}
+use Rattle.proc_pipes.specs.Answering.{value_of}
+use Rattle.proc_pipes.specs.Opening.{AnswersAnew}
+use Rattle.store_objects.proofs.Keeping.{listed_in}
+use Rattle.queue_calls.proofs.NamingSockets.{names_made}
+use Rattle.queue_calls.proofs.StayingSockets.{socket_stays}
+use Rattle.queue_calls.proofs.making.socket.Goals as goal
+
+pub make_socket-requires-clause-listed : goal.make_socket-requires-clause-listed
+make_socket-requires-clause-listed c = let some = c.requires.stands in listed_in c.args.script.now c.args.objects.now some.1.kept
+
+pub make_socket-requires-clause-owners : goal.make_socket-requires-clause-owners
+make_socket-requires-clause-owners c = let some = c.requires.stands in some.1.kept.owners
+
+pub make_socket-requires-clause-there : goal.make_socket-requires-clause-there
+make_socket-requires-clause-there c = let some = c.requires.stands in key_who_runs c.args.script.now c.args.objects.now c.args.pid c.args.control some.1.kept c.requires.runs
+
+pub go_on-requires-clause-kept : goal.go_on-requires-clause-kept
+go_on-requires-clause-kept c =
+    let some = c.requires.stands in
+    let done = c.make_socket.ensures in
+    let names = names_made c.args.script.now c.args.objects.now c.make_socket.new.heap c.args.pid (value_of c.make_socket.result) (λ plain. socket c.args.script.now plain c.args.pid)
+    (λ plain. socket_stays c.args.script.now plain c.args.pid) some done.still (λ numbers plain have. done.answers numbers c.args.script.now plain have) in
+    kept_then c.args.script.now c.args.objects.now c.make_socket.new.heap c.args.pid c.args.control some.1.kept c.requires.runs done.changes done.listed done.owners names
+
+pub go_on-requires-clause-runs : goal.go_on-requires-clause-runs
+go_on-requires-clause-runs c =
+    let some = c.requires.stands in
+    let done = c.make_socket.ensures in
+    let names = names_made c.args.script.now c.args.objects.now c.make_socket.new.heap c.args.pid (value_of c.make_socket.result) (λ plain. socket c.args.script.now plain c.args.pid)
+    (λ plain. socket_stays c.args.script.now plain c.args.pid) some done.still (λ numbers plain have. done.answers numbers c.args.script.now plain have) in
+    runs_then c.args.script.now c.args.objects.now c.make_socket.new.heap c.args.pid c.args.control some.1.kept c.requires.runs done.changes done.listed done.owners names
+
+pub returns-clause-paid : goal.returns-clause-paid
+returns-clause-paid c =
+    IsPaid-trans c.args.objects.now.heap c.args.purse.now c.make_socket.new.heap c.make_socket.new.purse c.go_on.new.objects.heap c.make_socket.new.purse c.make_socket.ensures.paid
+    (IsPaid-nothing c.make_socket.new.heap c.go_on.new.objects.heap c.make_socket.new.purse c.make_socket.new.purse c.go_on.ensures.takes refl refl)
+
+pub returns-clause-does : goal.returns-clause-does
+returns-clause-does c =
+    let some = c.requires.stands in
+    let script = c.args.script.now in
+    let old = c.args.objects.now in
+    let heap = c.make_socket.new.heap in
+    let pid = c.args.pid in
+    let done = c.make_socket.ensures in
+    let names = names_made c.args.script.now c.args.objects.now c.make_socket.new.heap c.args.pid (value_of c.make_socket.result) (λ plain. socket c.args.script.now plain c.args.pid)
+    (λ plain. socket_stays c.args.script.now plain c.args.pid) some done.still (λ numbers plain have. done.answers numbers c.args.script.now plain have) in
+    let said = c.value-reply.result in
+    performs_anew script old heap pid c.args.control some.1.kept c.requires.runs done.changes done.listed done.owners names
+    c.go_on.new.objects call.Socket said c.go_on.result (λ plain. socket script plain pid)
+    done.queues
+    (λ plain. socket_stays script plain pid) c.go_on.ensures.told c.go_on.ensures.goes (no_frames call.Socket (λ frames pid value. refl) pid said)
+    (λ numbers plain have.
+    subst (AnswersAnew numbers old.heap heap old.procs script plain pid (socket script plain pid)) (sym c.value-reply.ensures)
+    (done.answers numbers script plain have))

@@ -1,0 +1,69 @@
+//! `accept`.
+
+ghost use Rattle.std.specs.Prelude.{◌≡◌, ◌<◌, true};
+ghost use Rattle.kabi_types.specs.declared.calls.Call.{Call};
+ghost use Rattle.kabi_types.specs.declared.scripts.Script.{Script};
+ghost use Rattle.kheap_slabs.specs.Paid.{CanPay, IsPaid};
+ghost use Rattle.posix_defs.specs.Calls.OnSockets.{accept};
+ghost use Rattle.posix_defs.specs.Machine.{blocks, machine};
+ghost use Rattle.posix_defs.specs.Process.{is_alive};
+ghost use Rattle.posix_defs.specs.World.{World};
+ghost use Rattle.queue_calls.specs.Taking.{told_as};
+ghost use Rattle.store_objects.specs.Objects.{AreKept, Runs};
+ghost use Rattle.store_objects.specs.Standing.{Performs, StandsFor};
+
+use kabi_types::{Control, Errno, Reply, Script};
+use kheap_slabs::Purse;
+use posix_defs::Turned;
+use proc_socks::{accept_number, accept_waits};
+use store_objects::{Objects, go_on};
+
+/// Takes the socket that waited first for the one that a number is open on: the lowest number that is free names it, and is told.
+/// It sleeps where none waits (POSIX accept).
+///
+/// EBADF where the number isn't open, ENOTSOCK where it is open on something else, EINVAL where the socket doesn't listen, EMFILE
+/// where no number is free, EAGAIN in place of a sleep where the description has O_NONBLOCK.
+///
+/// <https://pubs.opengroup.org/onlinepubs/9699919799/functions/accept.html>
+pub fn accept(
+    script: &Script,
+    objects: &mut Objects,
+    purse: &mut Purse,
+    pid: u32,
+    control: Control,
+    fd: i64,
+) -> Turned
+    requires stands { (world : World) × StandsFor script.now objects.old world }
+    requires runs { Runs objects.old pid control }
+    requires room { CanPay objects.old.heap purse.old }
+    requires left_desc { 0 < purse.old.left.desc }
+    ensures kept { AreKept script.now objects.new }
+    ensures paid { IsPaid objects.old.heap purse.old objects.new.heap purse.new }
+    ensures does { Performs script.now objects.old pid (Call.Accept fd) (λ plain. accept script.now plain pid fd) result objects.new }
+{
+    let taken = accept_number(&mut objects.heap, purse, &objects.procs, pid, fd);
+    match told(taken) {
+        Some(reply) => go_on(script, objects, pid, control, reply),
+        None => Turned::Sleep,
+    }
+}
+
+/// Whether an `accept` of a live process would sleep, whatever its operand is.
+pub fn accept_would_block(objects: &Objects, pid: u32, fd: i64) -> bool
+    requires { (script : Script) × (world : World) × StandsFor script objects.now world × (is_alive world.plain.table pid ≡ true) }
+    ensures { (script : Script) (world : World) → StandsFor script objects.now world
+        → result ≡ blocks (machine script world.plain pid (Call.Accept fd)) }
+{
+    accept_waits(&objects.heap, &objects.procs, pid, fd)
+}
+
+// The number of the socket that was taken, or why there is none; None where the caller has to wait for one.
+fn told(taken: Result<Option<u32>, Errno>) -> Option<Reply>
+    ensures { result ≡ told_as taken }
+{
+    match taken {
+        Ok(Some(number)) => Some(Reply::Val(i64::from(number))),
+        Ok(None) => None,
+        Err(errno) => Some(Reply::Fail(errno)),
+    }
+}

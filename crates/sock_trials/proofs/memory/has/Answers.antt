@@ -1,7 +1,0 @@
-use Rattle.sock_trials.proofs.memory.has.Goals as goal
-
-pub mapped-requires-clause-owned : goal.mapped-requires-clause-owned
-mapped-requires-clause-owned g c = c.space_of-space.ensures.owned
-
-pub copy_out-requires-clause-owned : goal.copy_out-requires-clause-owned
-copy_out-requires-clause-owned g c = c.space_of-space.ensures.owned
