@@ -458,7 +458,7 @@ module _ (script : Script) (plain : Plain) (pid : ℕ) (asked : Call) where
       running other process found false lives = none
 
       first : (process : Process) → process_at plain.table target ≡ Some process → (b : Bool) → (target == 1) ≡ b
-          → Shaped script plain pid asked (cond b (failed script plain pid errno.EPERM) (killing.ends script plain pid target process))
+          → Shaped script plain pid asked (cond b (failed script plain pid errno.EPERM) (killing.ends script plain pid target (count_of signal) process))
       first process found true same = fails errno.EPERM (λ e. cc)
       first process found false apart = running other process found (runs process.status) refl
         where
