@@ -18,3 +18,4 @@ pub mod Needing
 pub mod Waking
 pub mod Forgetting
 pub mod Telling
+pub mod Resting

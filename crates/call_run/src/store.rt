@@ -59,7 +59,8 @@ impl<F: Scorer, G: Scorer> Store<F, G> {
             done: 0,
         };
         prog_ctl::go_to_call(&script, &mut control);
-        let objects = booted(alloc, script.heap, script.disk, control)?;
+        let mut objects = booted(alloc, script.heap, script.disk, control)?;
+        objects.heap.mark();
         Ok(Store {
             script,
             objects,
@@ -95,7 +96,9 @@ impl<F: Scorer, G: Scorer> Turner for Store<F, G> {
 
     ghost marks = { λ store. store.objects.heap.marks };
 
-    ghost high = { λ store. store.objects.heap.high };
+    ghost high = { λ store. store.objects.heap.last_high };
+
+    ghost risen = { λ store. store.objects.heap.high };
 
     // A call has room for two paths: each function that hands one on pays for that room once more.
     #[inline(never)]

@@ -40,11 +40,15 @@ pub trait Turner {
     /// The store stands for this world.
     ghost stands: { Self → World → Type 0 };
 
-    /// How often the kernel heap was marked, modulo 2^64. Each call that may change the store marks it once, at its begin.
+    /// How often the kernel heap was marked, modulo 2^64. Each call that may change the store marks it once.
     ghost marks: { Self → ℕ };
 
-    /// The most bytes of kernel heap that were in use at a moment since the last mark, that at the mark among them.
+    /// The most bytes of kernel heap that were in use at a moment between the last two marks, those at both among them.
     ghost high: { Self → ℕ };
+
+    /// The most bytes of kernel heap that were in use at a moment since the last mark, that at the mark among them. Between
+    /// two calls it is what is in use, so wherever in a call the mark stands, the most of the whole call is `high` or that.
+    ghost risen: { Self → ℕ };
 
     /// The call that a live process makes next.
     fn next(&self, pid: u32) -> Call
@@ -134,7 +138,7 @@ pub trait Turner {
     /// How many bytes of kernel heap are in use.
     fn live(&self) -> u64
         ensures bytes { (world : World) → stands self.now world → result ≡ live_of world }
-        ensures below { result ≤ high self.now };
+        ensures rests { (world : World) → stands self.now world → live_of world ≡ risen self.now };
 
     /// How many blocks were read from the disk since boot; it stands still at its type's end.
     fn reads(&self) -> u64
