@@ -19,3 +19,4 @@ pub mod Waking
 pub mod Forgetting
 pub mod Telling
 pub mod Resting
+pub mod BytesCached

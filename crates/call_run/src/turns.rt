@@ -1,6 +1,7 @@
 //! Turns over a script and its objects, as the core asks for them.
 
 ghost use Rattle.std.specs.Prelude.{◌≡◌, ◌≢◌, ◌+◌, ◌%◌, ◌^◌, ◌≤◌, true, false};
+ghost use Rattle.file_calls.specs.Bytes.{ReadsCached};
 ghost use Rattle.kabi_types.specs.declared.scripts.Script.{Script};
 ghost use Rattle.posix_defs.specs.Needs.{bound, need_of, slack};
 ghost use Rattle.posix_defs.specs.Plain.{call_of};
@@ -76,6 +77,7 @@ pub fn turn(
     ensures kept { AreKept script.now objects.new }
     ensures turned { (world : World) → IsStoreOf script.now objects.old world
         → (after : World) × IsStoreOf script.now objects.new after × TurnsTo script.now world pid call.now result after }
+    ensures cached { ReadsCached objects.old pid call.now result objects.new }
     ensures marked { objects.new.heap.marks ≡ (objects.old.heap.marks + 1) % 2 ^ 64 }
     ensures since { (world : World) → IsStoreOf script.now objects.old world → live_of world ≤ objects.new.heap.last_high }
     ensures high { (world : World) → IsStoreOf script.now objects.old world → objects.new.heap.last_high ≤ live_of world + bound call.now + slack call.now }
@@ -103,6 +105,7 @@ fn run_own(
     ensures kept { AreKept script.now objects.new }
     ensures turned { (world : World) → IsStoreOf script.now objects.old world
         → (after : World) × IsStoreOf script.now objects.new after × TurnsTo script.now world pid call.now result after }
+    ensures cached { ReadsCached objects.old pid call.now result objects.new }
     ensures uses { UsesAtMost objects.old.heap objects.new.heap (bound call.now) (slack call.now) }
 {
     objects.heap_is_well_formed();

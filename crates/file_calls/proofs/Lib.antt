@@ -3,3 +3,4 @@ pub mod Cached
 pub mod Sought
 pub mod Needed
 pub mod Calling
+pub mod BytesCached

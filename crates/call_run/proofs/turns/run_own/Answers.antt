@@ -1,4 +1,4 @@
-use Rattle.std.proofs.Common.{◌≡◌, ◌+◌, ◌≤◌, ◌∙◌, ℕ, subst, sym, arith}
+use Rattle.std.proofs.Common.{◌≡◌, ◌+◌, ◌≤◌, ◌∙◌, ℕ, refl, subst, sym, arith}
 use Rattle.kheap_slabs.specs.Heap.{live_bytes}
 use Rattle.posix_defs.specs.Machine.{machine}
 use Rattle.posix_defs.specs.Needs.{bound}
@@ -12,6 +12,8 @@ use Rattle.store_objects.proofs.RunningProcs.{alive_is}
 use Rattle.call_run.proofs.Resting.{nothing_used}
 use Rattle.call_run.proofs.Stores.{same_room, sound_store, turn_done, turn_half, turn_own, turn_paths}
 use Rattle.call_run.proofs.Worlds.{gone_on, turns_on}
+use Rattle.file_calls.specs.Bytes.{ReadsCached}
+use Rattle.file_calls.proofs.BytesCached.{nothing_read}
 use Rattle.call_run.proofs.turns.run_own.Goals as goal
 
 pub run-turned-requires-clause-caller : goal.run-turned-requires-clause-caller
@@ -77,3 +79,11 @@ returns-clause-turned c = λ world at.
     subst (λ p. Serves script old p which (λ plain. machine script plain p which) c.run-turned.result new) caller.same c.run-turned.ensures.does in
     turns_on script old new world pid which c.run-turned.result alive at.reached own room live c.heap_is_well_formed-2.ensures c.run-turned.ensures.uses.live
     (does world at.stands (sound_store script old world at) alive)
+
+pub returns-in_default-clause-cached : goal.returns-in_default-clause-cached
+returns-in_default-clause-cached c = nothing_read c.args.objects.now c.args.objects.now c.args.pid c.args.call.now _ refl refl
+
+pub returns-clause-cached : goal.returns-clause-cached
+returns-clause-cached c =
+    let caller : IsCaller c.args.objects.now c.args.pid c.in-Some.caller = c.in-Some.ensures.some in
+    subst (λ p. ReadsCached c.args.objects.now p c.args.call.now c.run-turned.result c.run-turned.new.objects) caller.same c.run-turned.ensures.cached

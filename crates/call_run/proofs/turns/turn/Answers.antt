@@ -1,7 +1,8 @@
-use Rattle.std.proofs.Common.{◌≡◌, ◌+◌, ◌≤◌}
+use Rattle.std.proofs.Common.{◌≡◌, ◌+◌, ◌≤◌, refl}
 use Rattle.kheap_slabs.specs.Heap.{Heap}
 use Rattle.posix_defs.specs.Needs.{bound, slack}
 use Rattle.call_run.proofs.Resting.{mark_counts, mark_goes_on, mark_high, mark_keeps, mark_rests, mark_since}
+use Rattle.file_calls.proofs.BytesCached.{reads_on}
 use Rattle.call_run.proofs.turns.turn.Goals as goal
 
 pub returns-clause-kept : goal.returns-clause-kept
@@ -26,3 +27,6 @@ returns-clause-high c = λ world at.
 
 pub returns-clause-rests : goal.returns-clause-rests
 returns-clause-rests c = mark_rests c.run_own-turned.new.objects c.mark.new.self c.mark.ensures
+
+pub returns-clause-cached : goal.returns-clause-cached
+returns-clause-cached c = reads_on c.args.objects.now c.run_own-turned.new.objects _ c.args.pid c.args.call.now c.run_own-turned.result refl c.run_own-turned.ensures.cached
