@@ -1,5 +1,7 @@
 ghost use Rattle.std.specs.Prelude.{◌≡◌, ◌≢◌, ℕ, ◌+◌, ◌%◌, ◌^◌, ◌≤◌, true, false, not};
+ghost use Rattle.kabi_types.specs.declared.calls.Call.{Call as CallOf};
 ghost use Rattle.kabi_types.specs.declared.scripts.Script.{Script};
+ghost use Rattle.posix_defs.specs.declared.turner.Turned.{Turned as Told};
 ghost use Rattle.posix_defs.specs.Needs.{bound, need_of, slack};
 ghost use Rattle.posix_defs.specs.Sizes.{reserve};
 ghost use Rattle.posix_defs.specs.Process.{is_alive};
@@ -50,6 +52,10 @@ pub trait Turner {
     /// two calls it is what is in use, so wherever in a call the mark stands, the most of the whole call is `high` or that.
     ghost risen: { Self → ℕ };
 
+    /// What a turn says beside worlds: from the store before it, by a process's call of which this was told, to the store after it. A
+    /// store that has nothing to say has it always.
+    ghost beside: { Self → ℕ → CallOf → Told → Self → Type 0 };
+
     /// The call that a live process makes next.
     fn next(&self, pid: u32) -> Call
         requires { (world : World) × stands self.now world × (is_alive world.plain.table pid ≡ true) }
@@ -73,6 +79,7 @@ pub trait Turner {
         ensures script { script self.new ≡ script self.old }
         ensures turned { (world : World) → stands self.old world
             → (after : World) × stands self.new after × TurnsTo (script self.old) world pid call.now result after }
+        ensures beside { beside self.old pid call.now result self.new }
         ensures marked { marks self.new ≡ (marks self.old + 1) % 2 ^ 64 }
         ensures since { (world : World) → stands self.old world → live_of world ≤ high self.new }
         ensures high { (world : World) → stands self.old world → high self.new ≤ live_of world + bound call.now + slack call.now };

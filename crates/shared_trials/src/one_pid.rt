@@ -64,6 +64,8 @@ impl Turner for OnePid {
 
     ghost risen = { λ store. live_at store.lives };
 
+    ghost beside = { λ _ _ _ _ _. Unit {0} };
+
     fn next(&self, _pid: u32) -> Call {
         if self.place == 0 {
             Call::Getpid

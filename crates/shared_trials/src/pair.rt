@@ -251,6 +251,8 @@ impl Turner for Pair {
 
     ghost risen = { λ store. live_at store.scene store.cached };
 
+    ghost beside = { λ _ _ _ _ _. Unit {0} };
+
     fn next(&self, pid: u32) -> Call {
         match act_of(who(pid), self.scene) {
             Some(act) => call_as(act),

@@ -153,6 +153,8 @@ impl Turner for Sleeper {
 
     ghost risen = { λ store. live_in store.stage };
 
+    ghost beside = { λ _ _ _ _ _. Unit {0} };
+
     fn next(&self, _pid: u32) -> Call {
         call_at(self.stage)
     }

@@ -5,6 +5,7 @@ use Rattle.posix_defs.specs.Process.{is_alive}
 use Rattle.posix_defs.specs.Sizes.{reserve}
 use Rattle.posix_defs.specs.World.{live_of}
 use Rattle.posix_defs.specs.Turn.{TurnsTo}
+use Rattle.file_calls.specs.Bytes.{ReadsCached}
 use Rattle.call_run.specs.Stores.{IsAtRest, IsStoreOf, Stands}
 use Rattle.call_run.proofs.store.StoreTurner.turn.Goals as goal
 
@@ -40,3 +41,7 @@ returns-clause-high g c = λ world stands. c.turn-turned.ensures.high world (sub
 
 pub turn-turned-requires-clause-rests : goal.turn-turned-requires-clause-rests
 turn-turned-requires-clause-rests g c = let may = c.requires.may in subst (λ store. IsAtRest store.objects) (sym c.self.view_is) may.1.rests
+
+pub returns-clause-beside : goal.returns-clause-beside
+returns-clause-beside g c =
+    subst (λ store. ReadsCached store.objects c.args.pid c.args.call.now c.turn-turned.result c.turn-turned.new.objects) c.self.view_is c.turn-turned.ensures.cached
