@@ -116,7 +116,8 @@ pub fn pread(
 /// Reads entries of the directory that a number is open on into memory, of 32 bytes each, from the description's offset on, as many
 /// whole ones as n bytes and the end allow; the offset moves behind them. Tells how many bytes; none are the end.
 ///
-/// Of what is read and cached the same holds as of `read`. EBADF where the number isn't open, ENOTDIR of all but a directory, EFAULT where a page that n bytes would touch isn't mapped.
+/// Of what is read and cached the same holds as of `read`. EBADF where the number isn't open, ENOTDIR of all but a directory,
+/// EFAULT where a page that n bytes would touch isn't mapped.
 ///
 /// <https://pubs.opengroup.org/onlinepubs/9699919799/functions/readdir.html>
 pub fn readdir(
