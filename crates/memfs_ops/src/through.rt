@@ -9,7 +9,7 @@ ghost use Rattle.posix_defs.specs.TreeChanges.{most_links};
 ghost use Rattle.memfs_dir.specs.Listed.{IsFullBeside};
 ghost use Rattle.memfs_node.specs.NodeOnDisk.{DropsLink, Retags};
 ghost use Rattle.cached_disk.specs.Lent.{parts, AreLent, GoesOn};
-ghost use Rattle.memfs_ops.specs.Entries.{edited, MayEdit};
+ghost use Rattle.memfs_ops.specs.Entries.{edited, MayEdit, PutsLowest};
 
 use crate::entries::{EntryEdit, edit_entry};
 use block_cache::BlockCache;
@@ -37,6 +37,7 @@ pub(crate) fn edit_through(
         → StandsFor disk.new.blocks (edited edit.now tree dir) }
     ensures node { HasNode disk.new.blocks dir inode.new }
     ensures changes { ChangesNode disk.old.blocks disk.new.blocks dir }
+    ensures lowest { PutsLowest edit.now disk.old.blocks disk.new.blocks }
     ensures lent { AreLent heap.new purse.new cache.new disk.new }
     ensures goes_on { GoesOn (parts heap.old purse.old cache.old disk.old)
         (parts heap.new purse.new cache.new disk.new) }

@@ -5,7 +5,7 @@ use Rattle.memfs_node.specs.NodeOnDisk.{KeepsOthers}
 use Rattle.memfs_ops.specs.FileTree.{TreeView}
 use Rattle.memfs_ops.proofs.ChangeLemmas.{pays_changed}
 use Rattle.memfs_ops.proofs.StepLemmas.{free_kept, free_on}
-use Rattle.memfs_ops.specs.Entries.{edited}
+use Rattle.memfs_ops.specs.Entries.{edited, PutsLowest}
 use Rattle.memfs_ops.proofs.file_tree.FileTree.edit_dir.Goals as goal
 
 pub edit_in-requires-clause-may : goal.edit_in-requires-clause-may
@@ -40,3 +40,6 @@ returns-clause-mid c = λ told tree pins mid. c.renew.ensures.stands told (edite
 
 pub returns-clause-node : goal.returns-clause-node
 returns-clause-node c = subst (λ (v : TreeView). HasNode v.disk.blocks c.args.dir c.edit_in.new.inode) (sym c.renew.ensures.same) c.edit_in.ensures.node
+
+pub returns-clause-lowest : goal.returns-clause-lowest
+returns-clause-lowest c = subst (λ (v : TreeView). PutsLowest c.args.edit.now c.args.self.now.disk.blocks v.disk.blocks) (sym c.renew.ensures.same) c.edit_in.ensures.lowest
