@@ -55,15 +55,15 @@ read_entries-moved-requires-clause-left c =
 
 pub go_on-requires-clause-kept : goal.go_on-requires-clause-kept
 go_on-requires-clause-kept c =
-    kept_moved c.args.script.now c.args.objects.now c.read_entries-moved.new.heap c.read_entries-moved.new.tree c.args.pid (call.Readdir c.args.fd c.args.addr c.args.n) c.args.fd (λ plain. readdir c.args.script.now plain c.args.pid c.args.fd c.args.addr c.args.n) c.count.result
-    (moved c.args.script.now c.args.objects.now c.read_entries-moved.new.heap c.read_entries-moved.new.tree c.args.pid c.args.fd c.args.addr c.args.n _ _ _ c.read_entries-moved.result c.count.result
+    kept_moved c.args.script.now c.args.objects.now c.read_entries-moved.new.heap c.read_entries-moved.new.tree c.args.pid (call.Readdir c.args.fd c.args.addr c.args.n) c.args.fd (λ plain. readdir c.args.script.now plain c.args.pid c.args.fd c.args.addr c.args.n) c.value.result
+    (moved c.args.script.now c.args.objects.now c.read_entries-moved.new.heap c.read_entries-moved.new.tree c.args.pid c.args.fd c.args.addr c.args.n _ _ _ c.read_entries-moved.result c.value.result
     (to_z-of_z w64 c.args.fd c.ranges.fd) (to_z-of_z w64 c.args.addr c.ranges.addr) (to_z-of_z w64 c.args.n c.ranges.n) c.value.ensures c.read_entries-moved.ensures.beside c.requires.stands
     c.heap_is_well_formed.ensures c.read_entries-moved.ensures.kept c.requires.right c.read_entries-moved.ensures.stays (c.read_entries-moved.ensures.leads c.args.script.now))
 
 pub go_on-requires-clause-runs : goal.go_on-requires-clause-runs
 go_on-requires-clause-runs c =
-    runs_moved c.args.script.now c.args.objects.now c.read_entries-moved.new.heap c.read_entries-moved.new.tree c.args.pid (call.Readdir c.args.fd c.args.addr c.args.n) c.args.fd (λ plain. readdir c.args.script.now plain c.args.pid c.args.fd c.args.addr c.args.n) c.count.result
-    (moved c.args.script.now c.args.objects.now c.read_entries-moved.new.heap c.read_entries-moved.new.tree c.args.pid c.args.fd c.args.addr c.args.n _ _ _ c.read_entries-moved.result c.count.result
+    runs_moved c.args.script.now c.args.objects.now c.read_entries-moved.new.heap c.read_entries-moved.new.tree c.args.pid (call.Readdir c.args.fd c.args.addr c.args.n) c.args.fd (λ plain. readdir c.args.script.now plain c.args.pid c.args.fd c.args.addr c.args.n) c.value.result
+    (moved c.args.script.now c.args.objects.now c.read_entries-moved.new.heap c.read_entries-moved.new.tree c.args.pid c.args.fd c.args.addr c.args.n _ _ _ c.read_entries-moved.result c.value.result
     (to_z-of_z w64 c.args.fd c.ranges.fd) (to_z-of_z w64 c.args.addr c.ranges.addr) (to_z-of_z w64 c.args.n c.ranges.n) c.value.ensures c.read_entries-moved.ensures.beside c.requires.stands
     c.heap_is_well_formed.ensures c.read_entries-moved.ensures.kept c.requires.right c.read_entries-moved.ensures.stays (c.read_entries-moved.ensures.leads c.args.script.now))
     c.args.control c.requires.runs
@@ -75,8 +75,8 @@ returns-clause-paid c =
 
 pub returns-clause-does : goal.returns-clause-does
 returns-clause-does c =
-    serves_moved c.args.script.now c.args.objects.now c.read_entries-moved.new.heap c.read_entries-moved.new.tree c.args.pid (call.Readdir c.args.fd c.args.addr c.args.n) c.args.fd (λ plain. readdir c.args.script.now plain c.args.pid c.args.fd c.args.addr c.args.n) c.count.result
-    (moved c.args.script.now c.args.objects.now c.read_entries-moved.new.heap c.read_entries-moved.new.tree c.args.pid c.args.fd c.args.addr c.args.n _ _ _ c.read_entries-moved.result c.count.result
+    serves_moved c.args.script.now c.args.objects.now c.read_entries-moved.new.heap c.read_entries-moved.new.tree c.args.pid (call.Readdir c.args.fd c.args.addr c.args.n) c.args.fd (λ plain. readdir c.args.script.now plain c.args.pid c.args.fd c.args.addr c.args.n) c.value.result
+    (moved c.args.script.now c.args.objects.now c.read_entries-moved.new.heap c.read_entries-moved.new.tree c.args.pid c.args.fd c.args.addr c.args.n _ _ _ c.read_entries-moved.result c.value.result
     (to_z-of_z w64 c.args.fd c.ranges.fd) (to_z-of_z w64 c.args.addr c.ranges.addr) (to_z-of_z w64 c.args.n c.ranges.n) c.value.ensures c.read_entries-moved.ensures.beside c.requires.stands
     c.heap_is_well_formed.ensures c.read_entries-moved.ensures.kept c.requires.right c.read_entries-moved.ensures.stays (c.read_entries-moved.ensures.leads c.args.script.now))
     c.go_on.result c.go_on.new.objects

@@ -48,15 +48,15 @@ write_file-moved-requires-clause-hold c = holds_some c.args.script.now c.args.ob
 
 pub go_on-requires-clause-kept : goal.go_on-requires-clause-kept
 go_on-requires-clause-kept c =
-    kept_moved c.args.script.now c.args.objects.now c.write_file-moved.new.heap c.write_file-moved.new.tree c.args.pid (call.Write c.args.fd c.args.addr c.args.n 0) c.args.fd (λ plain. write c.args.script.now plain c.args.pid c.args.fd c.args.addr c.args.n 0) c.count.result
-    (moved c.args.script.now c.args.objects.now c.write_file-moved.new.heap c.write_file-moved.new.tree c.args.pid c.args.fd c.args.addr c.args.n _ _ _ c.write_file-moved.result c.count.result
+    kept_moved c.args.script.now c.args.objects.now c.write_file-moved.new.heap c.write_file-moved.new.tree c.args.pid (call.Write c.args.fd c.args.addr c.args.n 0) c.args.fd (λ plain. write c.args.script.now plain c.args.pid c.args.fd c.args.addr c.args.n 0) c.value.result
+    (moved c.args.script.now c.args.objects.now c.write_file-moved.new.heap c.write_file-moved.new.tree c.args.pid c.args.fd c.args.addr c.args.n _ _ _ c.write_file-moved.result c.value.result
     (to_z-of_z w64 c.args.fd c.ranges.fd) (to_z-of_z w64 c.args.addr c.ranges.addr) (to_z-of_z w64 c.args.n c.ranges.n) c.value.ensures c.write_file-moved.ensures.beside c.requires.stands
     c.heap_is_well_formed.ensures c.write_file-moved.ensures.kept c.requires.right c.write_file-moved.ensures.stays (c.write_file-moved.ensures.leads c.args.script.now))
 
 pub go_on-requires-clause-runs : goal.go_on-requires-clause-runs
 go_on-requires-clause-runs c =
-    runs_moved c.args.script.now c.args.objects.now c.write_file-moved.new.heap c.write_file-moved.new.tree c.args.pid (call.Write c.args.fd c.args.addr c.args.n 0) c.args.fd (λ plain. write c.args.script.now plain c.args.pid c.args.fd c.args.addr c.args.n 0) c.count.result
-    (moved c.args.script.now c.args.objects.now c.write_file-moved.new.heap c.write_file-moved.new.tree c.args.pid c.args.fd c.args.addr c.args.n _ _ _ c.write_file-moved.result c.count.result
+    runs_moved c.args.script.now c.args.objects.now c.write_file-moved.new.heap c.write_file-moved.new.tree c.args.pid (call.Write c.args.fd c.args.addr c.args.n 0) c.args.fd (λ plain. write c.args.script.now plain c.args.pid c.args.fd c.args.addr c.args.n 0) c.value.result
+    (moved c.args.script.now c.args.objects.now c.write_file-moved.new.heap c.write_file-moved.new.tree c.args.pid c.args.fd c.args.addr c.args.n _ _ _ c.write_file-moved.result c.value.result
     (to_z-of_z w64 c.args.fd c.ranges.fd) (to_z-of_z w64 c.args.addr c.ranges.addr) (to_z-of_z w64 c.args.n c.ranges.n) c.value.ensures c.write_file-moved.ensures.beside c.requires.stands
     c.heap_is_well_formed.ensures c.write_file-moved.ensures.kept c.requires.right c.write_file-moved.ensures.stays (c.write_file-moved.ensures.leads c.args.script.now))
     c.args.control c.requires.runs
@@ -68,8 +68,8 @@ returns-clause-paid c =
 
 pub returns-clause-does : goal.returns-clause-does
 returns-clause-does c =
-    serves_moved c.args.script.now c.args.objects.now c.write_file-moved.new.heap c.write_file-moved.new.tree c.args.pid (call.Write c.args.fd c.args.addr c.args.n 0) c.args.fd (λ plain. write c.args.script.now plain c.args.pid c.args.fd c.args.addr c.args.n 0) c.count.result
-    (moved c.args.script.now c.args.objects.now c.write_file-moved.new.heap c.write_file-moved.new.tree c.args.pid c.args.fd c.args.addr c.args.n _ _ _ c.write_file-moved.result c.count.result
+    serves_moved c.args.script.now c.args.objects.now c.write_file-moved.new.heap c.write_file-moved.new.tree c.args.pid (call.Write c.args.fd c.args.addr c.args.n 0) c.args.fd (λ plain. write c.args.script.now plain c.args.pid c.args.fd c.args.addr c.args.n 0) c.value.result
+    (moved c.args.script.now c.args.objects.now c.write_file-moved.new.heap c.write_file-moved.new.tree c.args.pid c.args.fd c.args.addr c.args.n _ _ _ c.write_file-moved.result c.value.result
     (to_z-of_z w64 c.args.fd c.ranges.fd) (to_z-of_z w64 c.args.addr c.ranges.addr) (to_z-of_z w64 c.args.n c.ranges.n) c.value.ensures c.write_file-moved.ensures.beside c.requires.stands
     c.heap_is_well_formed.ensures c.write_file-moved.ensures.kept c.requires.right c.write_file-moved.ensures.stays (c.write_file-moved.ensures.leads c.args.script.now))
     c.go_on.result c.go_on.new.objects
