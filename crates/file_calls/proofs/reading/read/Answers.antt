@@ -87,5 +87,5 @@ returns-clause-does c =
 pub returns-clause-cached : goal.returns-clause-cached
 returns-clause-cached c =
     let m = c.read_file-moved in
-    bytes_cached c.args.objects.now c.go_on.new.objects m.new.tree c.args.pid _ c.args.fd _ (λ (desc : Desc). desc.offset) m.result c.count.result c.go_on.result
-    (to_z-of_z w64 c.args.fd c.ranges.fd) (refl) c.count.ensures c.go_on.ensures.told c.go_on.ensures.tree m.ensures.saved m.ensures.last
+    bytes_cached c.args.objects.now c.go_on.new.objects m.new.tree c.args.pid _ c.args.fd _ (λ (desc : Desc). desc.offset) m.result c.value.result c.go_on.result
+    (to_z-of_z w64 c.args.fd c.ranges.fd) (refl) c.value.ensures c.go_on.ensures.told c.go_on.ensures.tree m.ensures.saved m.ensures.last
