@@ -1,8 +1,10 @@
 -- What calls take of the free blocks, one after the other.
-use Rattle.std.proofs.Common.{◌≡◌, ℕ, ◌<◌, inl, inr, List, length, sym, ap, ◌∙◌, subst, arith}
+use Rattle.std.proofs.Common.{◌≡◌, ◌≢◌, ℕ, ◌<◌, inl, inr, List, length, sym, ap, ◌∙◌, subst, arith}
 use Rattle.std.proofs.lemmas.Bool.{cases_eq}
-use Rattle.posix_defs.specs.SoundDisk.{block_bytes, bit_of, map_bit, IsFreeBlock}
-use Rattle.blk_map.specs.Named.{FreesNone, TakesLowest, TakesNone}
+use Rattle.posix_defs.specs.DiskTree.{ChangesNode}
+use Rattle.posix_defs.specs.SoundDisk.{block_bytes, bit_of, map_bit, IsFreeBlock, IsMarked, Sound}
+use Rattle.disk_laws.proofs.OthersStay.{what_is_taken_stays}
+use Rattle.blk_map.specs.Named.{FreesNone, PrefersLowest, TakesLowest, TakesNone}
 
 -- where the map is what it was nothing is taken and nothing is freed
 pub same_takes_none : (before after : List (List ℕ)) → block_bytes after 0 ≡ block_bytes before 0 → TakesNone before after
@@ -40,3 +42,21 @@ lowest_then_lowest before between after count also first frees second block othe
       | inl taken ↦ first block other free taken left_then
       | inr later ↦ second block other (omega (arith, free.0, count), later) marked left
     ]
+
+-- ---- where blocks are given back, too
+
+pub none_preferred : (before after : List (List ℕ)) → TakesNone before after → PrefersLowest before after
+none_preferred before after none block other free marked was left = absurd (free.1 (none block marked))
+
+pub unchanged_preferred : (before after : List (List ℕ)) → after ≡ before → PrefersLowest before after
+unchanged_preferred before after same = none_preferred before after (same_takes_none before after (ap (λ (disk : List (List ℕ)). block_bytes disk 0) same))
+
+pub preferred_then : (before between after : List (List ℕ)) → between ≡ before → PrefersLowest between after → PrefersLowest before after
+preferred_then before between after same lowest = subst (λ (disk : List (List ℕ)). PrefersLowest disk after) same lowest
+
+-- One node takes blocks, then another one gives some back, and then the map stays: what the first took it keeps.
+pub taken_and_given : (before taken given after : List (List ℕ)) (one other : ℕ) → one ≢ other → Sound before → ChangesNode before taken one → ChangesNode taken given other
+    → length after ≡ length given → TakesLowest before taken → TakesNone taken given → TakesNone given after → FreesNone given after → PrefersLowest before after
+taken_and_given before taken given after one other apart sound first second count lowest none none_then frees block left free marked was still =
+    let kept : IsMarked taken left → IsMarked after left = λ is. frees left (what_is_taken_stays before taken given one other apart sound first second left was is) in
+    lowest block left free (none block (none_then block marked)) (omega (arith, still.0, count, first.blocks, second.blocks), λ is. still.1 (kept is))

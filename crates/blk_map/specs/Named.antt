@@ -29,6 +29,10 @@ TakesNone before after = (block : ℕ) → IsMarked after block → IsMarked bef
 abbrev pub FreesNone : List (List ℕ) → List (List ℕ) → Type 0
 FreesNone before after = (block : ℕ) → IsMarked before block → IsMarked after block
 
--- the blocks that were taken are the lowest of those that were free
+-- of the blocks that were free those that were taken are lower than those that are left
+abbrev pub PrefersLowest : List (List ℕ) → List (List ℕ) → Type 0
+PrefersLowest before after = (block other : ℕ) → IsFreeBlock before block → IsMarked after block → IsFreeBlock before other → IsFreeBlock after other → block < other
+
+-- the blocks that were taken are the lowest of those that were free, and of those that are given back
 abbrev pub TakesLowest : List (List ℕ) → List (List ℕ) → Type 0
 TakesLowest before after = (block other : ℕ) → IsFreeBlock before block → IsMarked after block → IsFreeBlock after other → block < other

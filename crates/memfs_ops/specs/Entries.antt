@@ -5,7 +5,7 @@ use Rattle.posix_defs.specs.DiskContents.{own_name, parent_name}
 use Rattle.posix_defs.specs.DiskFormat.{IsName}
 use Rattle.posix_defs.specs.Tree.{Tree, found}
 use Rattle.posix_defs.specs.TreeChanges.{with_entries, entry_put, entry_taken, entry_renamed, hung}
-use Rattle.blk_map.specs.Named.{TakesLowest}
+use Rattle.blk_map.specs.Named.{FreesNone, TakesLowest, TakesNone}
 use Rattle.memfs_dir.specs.Listed.{IsFull}
 use Rattle.memfs_ops.specs.declared.entries.EntryEdit.{EntryEdit}
 use Rattle.memfs_ops.specs.declared.entries.EntryEdit.TheVariants as edits
@@ -33,7 +33,10 @@ MayEdit (edits.Take name) disk tree dir inode = HasEntry tree dir name
 MayEdit (edits.Set from to node) disk tree dir inode = HasEntry tree dir from × IsName to × (0 < node)
 MayEdit (edits.Hang parent) disk tree dir inode = 0 < parent
 
--- what is put finds its place in the lowest free blocks, where it takes any
-abbrev pub PutsLowest : EntryEdit → List (List ℕ) → List (List ℕ) → Type 0
-PutsLowest (edits.Put name node) before after = TakesLowest before after
-PutsLowest _ before after = Unit {0}
+-- What is put finds its place in the lowest free blocks, where it takes any; what is taken out takes none; and what changes in
+-- its place leaves the map.
+abbrev pub TakesFor : EntryEdit → List (List ℕ) → List (List ℕ) → Type 0
+TakesFor (edits.Put name node) before after = TakesLowest before after
+TakesFor (edits.Take name) before after = TakesNone before after
+TakesFor (edits.Set from to node) before after = TakesNone before after × FreesNone before after
+TakesFor (edits.Hang parent) before after = TakesNone before after × FreesNone before after

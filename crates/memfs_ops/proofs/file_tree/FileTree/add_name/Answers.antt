@@ -161,4 +161,4 @@ returns-clause-lowest c =
     let l = c.link_node in
     let e = c.edit_dir in
     lowest_then c.args.self.now.disk.blocks h.new.self.disk.blocks e.new.self.disk.blocks (h.ensures.bytes ∙ c.inode-dir.ensures.looks.on.bytes ∙ c.inode-inode.ensures.looks.on.bytes)
-    (none_then_lowest h.new.self.disk.blocks l.new.self.disk.blocks e.new.self.disk.blocks l.ensures.others.blocks l.ensures.takes_none e.ensures.lowest)
+    (none_then_lowest h.new.self.disk.blocks l.new.self.disk.blocks e.new.self.disk.blocks l.ensures.others.blocks l.ensures.takes_none e.ensures.takes)
