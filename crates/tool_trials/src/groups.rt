@@ -62,23 +62,6 @@ fn groups_are_told_in_their_order(rt: HostRuntime) -> Result<(), Fail> {
     Ok(())
 }
 
-/// To be run with each allocation refused in turn: the whole report is written, or none of it for want of memory.
-#[test]
-fn groups_end_right_whichever_allocation_is_refused(rt: HostRuntime) {
-    if let Ok(outcome) = outcome_of(&rt, "groups 2", ONE_RUNS.as_bytes(), NONE) {
-        let written = outcome.sink.bytes();
-        let right = match outcome.status {
-            Status::Memory => written.is_empty(),
-            status => status == Status::Finished && written == ONE_RUNS_REPORT.as_bytes(),
-        };
-        check(
-            &rt,
-            right && outcome.left.is_none(),
-            "the report or nothing",
-        );
-    }
-}
-
 /// The first take fails; and the second put, behind ten bytes.
 #[test]
 fn a_stream_that_fails_is_told(rt: HostRuntime) -> Result<(), Fail> {
