@@ -445,20 +445,20 @@ module _ (script : Script) (plain : Plain) (pid : ℕ) (asked : Call) where
       none = says _ refl
 
       strikes : target ≢ 1 → is_alive plain.table target ≡ true → (own : Bool) → (target == pid) ≡ own
-          → Shaped script plain pid asked (cond own (answer.Ended 9 (die plain pid 9)) (replied script (die plain target 9) pid (reply.Val (pos 0))))
-      strikes other alive true same = shape.ends 9 refl
+          → Shaped script plain pid asked (cond own (answer.Ended (count_of signal) (die plain pid (count_of signal))) (replied script (die plain target (count_of signal)) pid (reply.Val (pos 0))))
+      strikes other alive true same = shape.ends (count_of signal) refl
       strikes other alive false apart = shape.ends_another target signal called other (λ same. differ target pid apart same) alive refl
         where
           differ : (a b : ℕ) → (a == b) ≡ false → a ≢ b
           differ a b apart same = elim (eqb_tells a b) [ inl alike ↦ (let f = alike.0 in cc) | inr two ↦ two.1 same ]
 
       running : target ≢ 1 → (process : Process) → process_at plain.table target ≡ Some process → (b : Bool) → runs process.status ≡ b
-          → Shaped script plain pid asked (cond b (struck script plain pid target) (replied script plain pid (reply.Val (pos 0))))
+          → Shaped script plain pid asked (cond b (struck script plain pid target (count_of signal)) (replied script plain pid (reply.Val (pos 0))))
       running other process found true lives = strikes other (ap is_alive_in found ∙ lives) (target == pid) refl
       running other process found false lives = none
 
       first : (process : Process) → process_at plain.table target ≡ Some process → (b : Bool) → (target == 1) ≡ b
-          → Shaped script plain pid asked (cond b (failed script plain pid errno.EPERM) (killing.ends script plain pid target process))
+          → Shaped script plain pid asked (cond b (failed script plain pid errno.EPERM) (killing.ends script plain pid target (count_of signal) process))
       first process found true same = fails errno.EPERM (λ e. cc)
       first process found false apart = running other process found (runs process.status) refl
         where

@@ -90,4 +90,4 @@ pub data HasShape (script : Script) (plain : Plain) (pid : ℕ) (call : Call) (a
   ends : (status : ℕ) → answer ≡ Ended status (die plain pid status) → HasShape script plain pid call answer
   -- another live process ends, which isn't the first
   ends_another : (target : ℕ) (signal : ℤ) → call ≡ calls.Kill (pos target) signal → target ≢ 1 → target ≢ pid → is_alive plain.table target ≡ true
-      → answer ≡ replied script (die plain target 9) pid (Val (pos 0)) → HasShape script plain pid call answer
+      → answer ≡ replied script (die plain target (count_of signal)) pid (Val (pos 0)) → HasShape script plain pid call answer

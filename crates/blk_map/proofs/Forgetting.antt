@@ -2,8 +2,9 @@
 use Rattle.std.proofs.Common.{◌≡◌, ℕ, ◌+◌, ◌-◌, ◌*◌, ◌<◌, ◌≤◌, ◌⊎◌, inl, inr, List, length, get_or, ap, ◌∙◌, arith}
 use Rattle.std.proofs.lemmas.Bool.{cases_lt}
 use Rattle.kabi_types.specs.declared.inodes.Inode.{Inode}
-use Rattle.posix_defs.specs.DiskFormat.{block_size, data_blocks, IsInode}
+use Rattle.posix_defs.specs.DiskFormat.{block_size, data_blocks, IsInode, most_blocks}
 use Rattle.posix_defs.specs.SoundDisk.{block_bytes, pointer_at, Place, Data, Pointers, HasPlace, named_at}
+use Rattle.disk_laws.proofs.FreeBlocks.{large_of}
 use Rattle.blk_map.specs.Named.{pointer_to}
 use Rattle.blk_map.proofs.Inodes.{names_in_hand, none_needed}
 
@@ -46,7 +47,7 @@ each f k lt = elim (cases_lt 10 (data_blocks f.size)) [
       | inr last ↦
           let gone = f.gone few was in
           let at : k ≡ data_blocks f.old.size - data_blocks f.size = omega (arith, lt, last, gone.0) in
-          (Pointers, was, λ is. omega (arith, is, few), ap (λ (n : ℕ). get_or f.dropped n 0) at ∙ gone.1)
+          (Pointers 0, omega (arith, was), λ is. omega (arith, is, few), ap (λ (n : ℕ). get_or f.dropped n 0) at ∙ gone.1)
     ]
     | inr small ↦ of_bytes f k (omega (arith, lt, (f.stays (inr small)).0))
   ]
@@ -68,9 +69,9 @@ all f (Data index) had gone =
     let lt : k < data_blocks f.old.size - data_blocks f.size = omega (arith, had, past) in
     let back : data_blocks f.size + k ≡ index = omega (arith, past) in
     (k, omega (arith, lt, least f), data_one f k lt ∙ ap (λ (n : ℕ). named_at f.before f.old (Data n)) back)
-all f Pointers had gone =
-    let few : data_blocks f.size ≤ 10 = elim (cases_lt 10 (data_blocks f.size)) [ inl lt ↦ absurd (gone lt) | inr le ↦ le ] in
-    let is = f.gone few had in
+all f (Pointers block) had gone =
+    let few : data_blocks f.size ≤ 10 = elim (cases_lt 10 (data_blocks f.size)) [ inl lt ↦ absurd (gone (omega (arith, lt, had))) | inr le ↦ le ] in
+    let is = f.gone few (large_of f.old.size block had) in
     (data_blocks f.old.size - data_blocks f.size, omega (arith, is.0), is.1)
 
 pub pointers_gone : (f : Forgetting) → data_blocks f.size ≤ 10 → f.indirect ≡ 0
@@ -79,7 +80,7 @@ pointers_gone f few = elim (cases_lt 10 (data_blocks f.old.size)) [
   | inr small ↦ (f.stays (inr small)).1 ∙ none_needed (length f.before) f.old.indirect (10 * block_size) f.old.size (omega (arith, small)) f.valid.pointers.indirect
 ]
 
-pub most_of : (blocks : ℕ) (old : Inode) → IsInode blocks old → data_blocks old.size ≤ 266
+pub most_of : (blocks : ℕ) (old : Inode) → IsInode blocks old → data_blocks old.size ≤ most_blocks
 most_of blocks old valid = omega (arith, valid.kind.size)
 
 pub same_data_ones : (old : Inode) (size : ℕ) (behind first : List ℕ) (had left : ℕ) → had ≡ data_blocks old.size → left ≡ data_blocks size
@@ -114,7 +115,7 @@ abbrev pub forgetting : (before : List (List ℕ)) (old : Inode) (size : ℕ) (b
     → (left ≤ 10 → 10 < had → (count ≡ before_count + 1) × (get_or dropped before_count 0 ≡ old.indirect) × (indirect ≡ 0))
     → ((10 < left) ⊎ (had ≤ 10) → (count ≡ before_count) × (indirect ≡ old.indirect)) → Forgetting
 forgetting before old size behind first dropped before_count count indirect had left valid less had_is left_is large many data_ones kept gone stays =
-    let few : data_blocks old.size ≤ 266 = most_of (length before) old valid in
+    let few : data_blocks old.size ≤ most_blocks = most_of (length before) old valid in
     record {
       before = before;
       old = old;

@@ -3,10 +3,10 @@ use Rattle.std.proofs.Common.{◌≡◌, ◌≢◌, ℕ, ◌+◌, ◌-◌, ◌*�
 use Rattle.std.proofs.lemmas.Bool.{cases_lt}
 use Rattle.std.proofs.lemmas.List.{length-set, get_or-set_same, get_or-set_other}
 use Rattle.kabi_types.specs.declared.inodes.Inode.{Inode}
-use Rattle.posix_defs.specs.DiskFormat.{block_size, table_end, table_nodes, data_blocks, IsForFiles, inode_bytes}
-use Rattle.posix_defs.specs.SoundDisk.{block_bytes, table_block, table_bytes, HasInode, pointer_at, Place, Data, Pointers, HasPlace, named_at, bit_of, IsMarked, Sound}
+use Rattle.posix_defs.specs.DiskFormat.{block_size, table_end, table_nodes, data_blocks, IsForFiles, inode_bytes, IsPointer, needs_pointer, pointer_blocks, most_blocks}
+use Rattle.posix_defs.specs.SoundDisk.{block_bytes, table_block, table_bytes, HasInode, pointer_at, Place, Data, Pointers, HasPlace, named_at, bit_of, IsMarked, Sound, pointer_block}
 use Rattle.posix_defs.specs.NodeChange.{Names, Replaces, Resizes}
-use Rattle.disk_laws.proofs.FreeBlocks.{named_is_for_files, direct_at, behind_at}
+use Rattle.disk_laws.proofs.FreeBlocks.{named_is_for_files, direct_at, behind_at, large_of, of_each}
 use Rattle.disk_laws.proofs.OneNode.{named_is_marked, this_has, changes_node, free_after}
 use Rattle.blk_map.specs.Named.{MayHaveSize, pointer_to}
 use Rattle.blk_map.proofs.Blocks.{in_table, same_table}
@@ -61,16 +61,16 @@ had_blocks v = data_blocks v.old.size
 abbrev left_blocks : Giving → ℕ
 left_blocks v = data_blocks v.size
 
-most : (v : Giving) → had_blocks v ≤ 266
+most : (v : Giving) → had_blocks v ≤ most_blocks
 most v = omega (arith, v.had.valid.kind.size)
 
 was : (v : Giving) (place : Place) → HasPlace v.size place → HasPlace v.old.size place
 was v (Data index) lt = omega (arith, lt, v.less)
-was v Pointers lt = omega (arith, lt, v.less)
+was v (Pointers block) lt = omega (arith, lt, v.less)
 
 is_or_not : (v : Giving) (place : Place) → HasPlace v.size place ⊎ ¬ (HasPlace v.size place)
 is_or_not v (Data index) = elim (cases_lt index (left_blocks v)) [ inl lt ↦ inl lt | inr le ↦ inr (λ lt. omega (arith, lt, le)) ]
-is_or_not v Pointers = elim (cases_lt 10 (left_blocks v)) [ inl lt ↦ inl lt | inr le ↦ inr (λ lt. omega (arith, lt, le)) ]
+is_or_not v (Pointers block) = elim (cases_lt block (pointer_blocks v.size)) [ inl lt ↦ inl lt | inr le ↦ inr (λ lt. omega (arith, lt, le)) ]
 
 files : (v : Giving) (place : Place) → HasPlace v.old.size place → IsForFiles (length v.before) (named_at v.before v.old place)
 files v place within = named_is_for_files v.before v.sound v.number v.old place v.had within
@@ -89,7 +89,7 @@ cleared_others v block other = ap (λ (disk : List (List ℕ)). block_bytes disk
 bit_now : (v : Giving) (block : ℕ) → bit_of (block_bytes v.after 0) block ≡ bit_of v.map block
 bit_now v block =
     let map : block_bytes v.after 0 ≡ v.map =
-    v.after_others 0 (λ e. omega (arith, e, (this_table v).0)) (λ large e. omega (arith, e, v.pointers_stay large, (files v Pointers (omega (arith, large, v.less))).0))
+    v.after_others 0 (λ e. omega (arith, e, (this_table v).0)) (λ large e. omega (arith, e, v.pointers_stay large, (files v (Pointers 0) (omega (arith, large, v.less))).0))
     ∙ ap (λ (disk : List (List ℕ)). block_bytes disk 0) v.map_set ∙ get_or-set_same v.before 0 v.map [] (omega (arith, v.sound.size.0)) in
     ap (λ (bytes : List ℕ). bit_of bytes block) map
 
@@ -111,7 +111,7 @@ name_now v index lt = elim (cases_lt index 10) [
 
 name : (v : Giving) (place : Place) → HasPlace v.size place → named_at v.after (left v) place ≡ named_at v.before v.old place
 name v (Data index) lt = name_now v index lt ∙ v.names_others index (inl lt) ∙ name_then v index (omega (arith, lt, v.less))
-name v Pointers lt = v.pointers_stay lt
+name v (Pointers block) lt = v.pointers_stay (large_of v.size block lt)
 
 -- what isn't needed is 0
 none_at : (v : Giving) (index : ℕ) → left_blocks v ≤ index → (had_blocks v ≤ index → pointer_to v.old.direct v.behind index ≡ 0) → pointer_to v.direct_now v.behind_now index ≡ 0
@@ -131,7 +131,7 @@ behind_old_none : (v : Giving) (k : ℕ) → had_blocks v ≤ 10 + k → k < 256
 behind_old_none v k past lt = elim (cases_lt 10 (had_blocks v)) [
   | inl large ↦
       v.behind_large large k lt
-      ∙ none_needed (length v.before) (pointer_at (block_bytes v.before v.old.indirect) k) ((10 + k) * block_size) v.old.size (omega (arith, past)) (v.sound.pointers v.number v.old k v.had (omega (arith, large)) lt)
+      ∙ none_needed (length v.before) (pointer_at (block_bytes v.before v.old.indirect) k) ((10 + k) * block_size) v.old.size (omega (arith, past)) (v.sound.pointers v.number v.old 0 k v.had (omega (arith, large)) lt)
   | inr few ↦ v.behind_small few k lt
 ]
 
@@ -149,7 +149,7 @@ points v =
       direct = λ k lt within.
           subst (IsForFiles (length v.before)) (sym (name v (Data k) within) ∙ direct_at v.after (left v) k lt) (files v (Data k) (omega (arith, within, v.less)));
       none = direct_none v;
-      pointers = λ large. subst (IsForFiles (length v.before)) (sym (v.pointers_stay large)) (files v Pointers (omega (arith, large, v.less)));
+      pointers = λ large. subst (IsForFiles (length v.before)) (sym (v.pointers_stay large)) (files v (Pointers 0) (omega (arith, large, v.less)));
       no_pointers = v.pointers_gone;
     }
 
@@ -187,7 +187,8 @@ replaces v =
       slots = λ node pos within other.
           let at = in_table (length v.before) node pos within in
           v.after_slots node pos (subst (λ (n : ℕ). node ≤ table_nodes n) (sym (count_cleared v)) within) other ∙ same_table v.before v.cleared node (cleared_others v (table_block node) (λ e. omega (arith, e, at.0)));
-      pointers = λ k large lt.
+      pointers = λ block k large lt.
+          of_each (λ n. IsPointer (length v.before) (needs_pointer v.size n k) (pointer_at (block_bytes v.after (pointer_block (left v) n)) k)) v.size block large (
           let back : 10 + k - 10 ≡ k = omega arith in
           pointer_is (length v.before) (pointer_at (block_bytes v.after v.indirect) k) ((10 + k) * block_size) v.size (
           λ needed.
@@ -195,11 +196,11 @@ replaces v =
           subst (IsForFiles (length v.before)) (
           sym (name v (Data (10 + k)) within) ∙ behind_at v.after (left v) (10 + k) (omega arith) ∙ ap (λ (n : ℕ). pointer_at (block_bytes v.after v.indirect) n) back
           ) (files v (Data (10 + k)) (was v (Data (10 + k)) within))
-          ) (λ past. behind_none v (omega (arith, large)) k lt (omega (arith, past)));
+          ) (λ past. behind_none v (omega (arith, large)) k lt (omega (arith, past))));
       once = λ i j at_i at_j same.
           (v.sound.once v.number v.number v.old v.old i j v.had v.had (was v i at_i) (was v j at_j) (sym (name v i at_i) ∙ same ∙ name v j at_j)).1;
       taken = λ place within. inl (record { place = place; within = was v place within; same = name v place within });
-      untouched = λ block above below marked none. stays_there v block above (λ large e. none (record { place = Pointers; within = was v Pointers large; same = e }));
+      untouched = λ block above below marked none. stays_there v block above (λ large e. none (record { place = Pointers 0; within = was v (Pointers 0) (omega (arith, large)); same = e }));
       marked = λ block lt marked. inr (v.map_only block (sym (bit_now v block) ∙ marked));
       freed = λ block lt marked names. names_still v block marked names;
       stays = λ block lt marked none.
@@ -210,7 +211,7 @@ replaces v =
       rest = λ block past lt marked. v.sound.rest block past lt (v.map_only block (sym (bit_now v block) ∙ marked));
     }
 
-apart_places : (index : ℕ) → Data index ≢ Pointers
+apart_places : (index : ℕ) → Data index ≢ Pointers 0
 apart_places index = λ e. cc
 
 pub gives : (v : Giving) → Resizes v.number v.before v.old v.size v.after (left v)
@@ -223,7 +224,7 @@ gives v =
       kept = λ index lt also. (
         name v (Data index) also,
         stays_there v (named_at v.before v.old (Data index)) (files v (Data index) lt).0 (
-            λ large e. apart_places index (v.sound.once v.number v.number v.old v.old (Data index) Pointers v.had v.had lt (was v Pointers large) e).1
+            λ large e. apart_places index (v.sound.once v.number v.number v.old v.old (Data index) (Pointers 0) v.had v.had lt (was v (Pointers 0) (omega (arith, large))) e).1
             ),
       );
       free = free_after v.number v.before v.old v.after (left v) v.sound change;

@@ -2,11 +2,11 @@
 use Rattle.std.proofs.Common.{◌≡◌, ◌≢◌, ℕ, ◌+◌, ◌-◌, ◌*◌, ◌<◌, ◌≤◌, ◌⊎◌, inl, inr, List, length, get_or, ltb, refl, sym, ap, subst, ◌∙◌, arith}
 use Rattle.std.proofs.lemmas.Bool.{cases_lt}
 use Rattle.kabi_types.specs.declared.inodes.Inode.{Inode}
-use Rattle.posix_defs.specs.DiskFormat.{block_size, table_end, table_nodes, data_blocks, blocks_of, IsForFiles, IsPointer, inode_bytes}
-use Rattle.posix_defs.specs.SoundDisk.{block_bytes, table_bytes, HasInode, pointer_at, Place, Data, Pointers, HasPlace, named_at, IsMarked, Sound, IsFreeBlock, free_in_map}
+use Rattle.posix_defs.specs.DiskFormat.{block_size, table_end, table_nodes, data_blocks, pointer_blocks, blocks_of, needs_pointer, IsForFiles, IsPointer, inode_bytes, most_blocks}
+use Rattle.posix_defs.specs.SoundDisk.{block_bytes, table_bytes, HasInode, pointer_at, pointer_block, Place, Data, Pointers, HasPlace, named_at, IsMarked, Sound, IsFreeBlock, free_in_map}
 use Rattle.posix_defs.specs.DiskContents.{data_block, zeros}
 use Rattle.posix_defs.specs.NodeChange.{Names, Replaces, Resizes, Grows}
-use Rattle.disk_laws.proofs.FreeBlocks.{named_is_for_files, direct_at, behind_at}
+use Rattle.disk_laws.proofs.FreeBlocks.{named_is_for_files, direct_at, behind_at, large_of, of_each}
 use Rattle.disk_laws.proofs.OneNode.{named_is_marked, this_has, changes_node, free_after}
 use Rattle.blk_map.specs.Growing.{GrowsBut}
 use Rattle.blk_map.specs.Named.{MayHaveSize}
@@ -27,7 +27,7 @@ pub record Growth : Type 0 where
   pub had : HasInode before number old
   pub kind : MayHaveSize old.kind size
   pub more : old.size ≤ size
-  pub most : data_blocks size ≤ 266
+  pub most : data_blocks size ≤ most_blocks
   pub count : length after ≡ length before
   pub fields : (new.kind ≡ old.kind) × (new.nlink ≡ old.nlink) × (new.size ≡ size)
   pub ten : length new.direct ≡ 10
@@ -76,7 +76,7 @@ last_one g k lt behind = elim (cases_lt 10 (data_blocks g.size)) [
 
 abbrev key : Growth → Place → ℕ
 key g (Data index) = index - data_blocks g.old.size
-key g Pointers = data_blocks g.size - data_blocks g.old.size
+key g (Pointers block) = data_blocks g.size - data_blocks g.old.size
 
 record IsOld (g : Growth) (place : Place) : Type 0 where
   within : HasPlace g.old.size place
@@ -92,14 +92,14 @@ where_from g (Data index) lt = elim (cases_lt index (data_blocks g.old.size)) [
   | inl old ↦ inl (record { within = old; same = g.kept_names index old })
   | inr behind ↦ inr (record { within = omega (arith, behind, lt, many_data g); same = g.new_names index behind lt; none = λ is. omega (arith, is, behind) })
 ]
-where_from g Pointers large = elim (cases_lt 10 (data_blocks g.old.size)) [
-  | inl was ↦ inl (record { within = was; same = g.old_pointers was })
+where_from g (Pointers block) has = (let large = large_of g.size block has in elim (cases_lt 10 (data_blocks g.old.size)) [
+  | inl was ↦ inl (record { within = omega (arith, was, has); same = g.old_pointers was })
   | inr few ↦ inr (record { within = omega (arith, one_more g few large); same = g.new_pointers few large; none = λ is. omega (arith, is, few) })
-]
+])
 
 still : (g : Growth) (place : Place) → HasPlace g.old.size place → HasPlace g.size place
 still g (Data index) lt = omega (arith, lt, g.more)
-still g Pointers lt = omega (arith, lt, g.more)
+still g (Pointers block) lt = omega (arith, lt, g.more)
 
 was_marked : (g : Growth) (place : Place) → HasPlace g.old.size place → IsMarked g.before (named_at g.before g.old place)
 was_marked g place within = named_is_marked g.before g.sound g.number g.old place g.had within
@@ -110,13 +110,13 @@ same_key g (Data x) (Data y) at_i at_j not_i not_j e =
     let also : data_blocks g.old.size ≤ y = elim (cases_lt y (data_blocks g.old.size)) [ inl lt ↦ absurd (not_j lt) | inr le ↦ le ] in
     let same : x ≡ y = omega (arith, e, low, also) in
     ap Data same
-same_key g (Data x) Pointers at_i at_j not_i not_j e =
+same_key g (Data x) (Pointers block) at_i at_j not_i not_j e =
     let low : data_blocks g.old.size ≤ x = elim (cases_lt x (data_blocks g.old.size)) [ inl lt ↦ absurd (not_i lt) | inr le ↦ le ] in
     absurd (omega (arith, e, low, at_i))
-same_key g Pointers (Data y) at_i at_j not_i not_j e =
+same_key g (Pointers block) (Data y) at_i at_j not_i not_j e =
     let low : data_blocks g.old.size ≤ y = elim (cases_lt y (data_blocks g.old.size)) [ inl lt ↦ absurd (not_j lt) | inr le ↦ le ] in
     absurd (omega (arith, e, low, at_j))
-same_key g Pointers Pointers at_i at_j not_i not_j e = refl
+same_key g (Pointers x) (Pointers y) at_i at_j not_i not_j e = let same : x ≡ y = omega (arith, at_i, at_j) in ap Pointers same
 
 -- ---- the node's own facts
 
@@ -159,7 +159,7 @@ points g =
       ten = g.ten;
       direct = λ k lt within. subst (IsForFiles (length g.before)) (direct_at g.after g.new k lt) (is_for_files g (Data k) within);
       none = λ k lt past. g.direct_rest k past lt;
-      pointers = λ large. is_for_files g Pointers large;
+      pointers = λ large. is_for_files g (Pointers 0) (omega (arith, large));
       no_pointers = g.no_pointers;
     }
 
@@ -183,7 +183,7 @@ names_given g k lt = elim (cases_lt k (data_blocks g.size - data_blocks g.old.si
       record { place = Data index; within = within_now g (Data index) within; same = ap (λ (n : ℕ). get_or g.taken n 0) (sym back) ∙ sym (g.new_names index (omega arith) within) }
   | inr behind ↦
       let last = last_one g k lt behind in
-      record { place = Pointers; within = within_now g Pointers last.1; same = ap (λ (n : ℕ). get_or g.taken n 0) last.2 ∙ sym (g.new_pointers last.0 last.1) }
+      record { place = Pointers 0; within = within_now g (Pointers 0) (omega (arith, last.1)); same = ap (λ (n : ℕ). get_or g.taken n 0) last.2 ∙ sym (g.new_pointers last.0 last.1) }
 ]
 
 names_still : (g : Growth) (block : ℕ) → Names g.before g.old block → Names g.after g.new block
@@ -204,7 +204,9 @@ replaces g =
       inode = is_inode (length g.before) g.size g.old g.new g.sound.size.1 g.had.valid g.kind g.most g.fields (points g);
       slot = g.slot;
       slots = g.slots;
-      pointers = λ k large lt. behind_pointer g k large lt;
+      pointers = λ block at has lt.
+          of_each (λ n. IsPointer (length g.before) (needs_pointer g.new.size n at) (pointer_at (block_bytes g.after (pointer_block g.new n)) at)) g.new.size block has
+          (behind_pointer g at (omega (arith, has)) lt);
       once = λ i j at_i at_j same. named_once g i j (now_within g i at_i) (now_within g j at_j) same;
       taken = λ place within. elim (where_from g place (now_within g place within)) [
         | inl a ↦ inl (record { place = place; within = a.within; same = a.same })
@@ -213,9 +215,9 @@ replaces g =
       untouched = λ block above below marked others.
           g.untouched block above below (not_given g block marked) (
           λ large e.
-          elim (where_from g Pointers large) [
-            | inl a ↦ others (record { place = Pointers; within = a.within; same = e ∙ a.same })
-            | inr a ↦ not_given g block marked (key g Pointers) a.within (sym a.same ∙ sym e)
+          elim (where_from g (Pointers 0) (omega (arith, large))) [
+            | inl a ↦ others (record { place = Pointers 0; within = a.within; same = e ∙ a.same })
+            | inr a ↦ not_given g block marked (key g (Pointers 0)) a.within (sym a.same ∙ sym e)
           ]
           );
       marked = λ block lt marked. elim (g.only block marked) [
@@ -234,7 +236,7 @@ replaces g =
       ];
     }
 
-apart_places : (index : ℕ) → Data index ≢ Pointers
+apart_places : (index : ℕ) → Data index ≢ Pointers 0
 apart_places index = λ e. cc
 
 -- a block of its bytes stays as it is
@@ -244,9 +246,9 @@ bytes_kept g index lt =
     let files = named_is_for_files g.before g.sound g.number g.old (Data index) g.had lt in
     g.untouched (data_block g.before g.old index) files.0 files.1 (not_given g (data_block g.before g.old index) marked) (
     λ large e.
-    elim (where_from g Pointers large) [
-      | inl a ↦ absurd (apart_places index (g.sound.once g.number g.number g.old g.old (Data index) Pointers g.had g.had lt a.within (e ∙ a.same)).1)
-      | inr a ↦ not_given g (data_block g.before g.old index) marked (key g Pointers) a.within (sym a.same ∙ sym e)
+    elim (where_from g (Pointers 0) (omega (arith, large))) [
+      | inl a ↦ absurd (apart_places index (g.sound.once g.number g.number g.old g.old (Data index) (Pointers 0) g.had g.had lt a.within (e ∙ a.same)).1)
+      | inr a ↦ not_given g (data_block g.before g.old index) marked (key g (Pointers 0)) a.within (sym a.same ∙ sym e)
     ]
     )
 

@@ -3,7 +3,7 @@ use Rattle.std.proofs.Common.{◌≡◌, ◌≢◌, ℕ, ◌-◌, ◌*◌, ◌%�
 use Rattle.std.proofs.lemmas.Bool.{cases_lt, lt-ltb, le-ltb, cond-true, cond-false}
 use Rattle.std.proofs.lemmas.List.{get_or_past}
 use Rattle.kabi_types.specs.declared.inodes.Inode.{Inode}
-use Rattle.posix_defs.specs.DiskFormat.{block_size, data_blocks, IsForFiles, IsPointer, Fits, IsOfKind, IsInode}
+use Rattle.posix_defs.specs.DiskFormat.{block_size, data_blocks, IsForFiles, IsPointer, Fits, IsOfKind, IsInode, most_blocks}
 use Rattle.posix_defs.specs.SoundDisk.{block_bytes, pointer_at, Data, named_at}
 use Rattle.disk_laws.proofs.FreeBlocks.{direct_at, behind_at}
 use Rattle.blk_map.specs.Named.{MayHaveSize, pointer_to}
@@ -15,7 +15,7 @@ pub pointer_behind : (direct behind : List ℕ) (index : ℕ) → 10 ≤ index �
 pointer_behind direct behind index le = cond-false (ltb index 10) _ _ (le-ltb index 10 le)
 
 -- the pointers in hand are those that the node has
-pub names_in_hand : (disk : List (List ℕ)) (old : Inode) (behind : List ℕ) → data_blocks old.size ≤ 266 → (10 < data_blocks old.size → (k : ℕ) → k < 256 → get_or behind k 0 ≡ pointer_at (block_bytes disk old.indirect) k)
+pub names_in_hand : (disk : List (List ℕ)) (old : Inode) (behind : List ℕ) → data_blocks old.size ≤ most_blocks → (10 < data_blocks old.size → (k : ℕ) → k < 256 → get_or behind k 0 ≡ pointer_at (block_bytes disk old.indirect) k)
     → (index : ℕ) → index < data_blocks old.size → pointer_to old.direct behind index ≡ named_at disk old (Data index)
 names_in_hand disk old behind most large index lt = elim (cases_lt index 10) [
   | inl first ↦ pointer_direct old.direct behind index first ∙ sym (direct_at disk old index first)
@@ -39,7 +39,7 @@ pub record Points (blocks size : ℕ) (new : Inode) : Type 0 where
   pub pointers : 10 < data_blocks size → IsForFiles blocks new.indirect
   pub no_pointers : data_blocks size ≤ 10 → new.indirect ≡ 0
 
-of_kind : (blocks size : ℕ) (old new : Inode) → IsInode blocks old → MayHaveSize old.kind size → data_blocks size ≤ 266 → (new.kind ≡ old.kind) × (new.nlink ≡ old.nlink) × (new.size ≡ size) → IsOfKind new
+of_kind : (blocks size : ℕ) (old new : Inode) → IsInode blocks old → MayHaveSize old.kind size → data_blocks size ≤ most_blocks → (new.kind ≡ old.kind) × (new.nlink ≡ old.nlink) × (new.size ≡ size) → IsOfKind new
 of_kind blocks size old new valid kind most fields =
     let was = valid.kind in
     let not_free : old.kind ≢ 0 = λ none. elim kind [ inl is ↦ omega (arith, is, none) | inr is ↦ omega (arith, is.0, none) ] in
@@ -56,7 +56,7 @@ of_kind blocks size old new valid kind most fields =
       name = λ is. absurd (not_name (sym fields.0 ∙ is));
     }
 
-fits : (blocks size : ℕ) (old new : Inode) → blocks ≤ 4096 → IsInode blocks old → data_blocks size ≤ 266 → (new.kind ≡ old.kind) × (new.nlink ≡ old.nlink) × (new.size ≡ size) → Points blocks size new → Fits new
+fits : (blocks size : ℕ) (old new : Inode) → blocks ≤ 4096 → IsInode blocks old → data_blocks size ≤ most_blocks → (new.kind ≡ old.kind) × (new.nlink ≡ old.nlink) × (new.size ≡ size) → Points blocks size new → Fits new
 fits blocks size old new few valid most fields points =
     let was = valid.fits in
     record {
@@ -77,7 +77,7 @@ fits blocks size old new few valid most fields points =
       ];
     }
 
-pub is_inode : (blocks size : ℕ) (old new : Inode) → blocks ≤ 4096 → IsInode blocks old → MayHaveSize old.kind size → data_blocks size ≤ 266 → (new.kind ≡ old.kind) × (new.nlink ≡ old.nlink) × (new.size ≡ size)
+pub is_inode : (blocks size : ℕ) (old new : Inode) → blocks ≤ 4096 → IsInode blocks old → MayHaveSize old.kind size → data_blocks size ≤ most_blocks → (new.kind ≡ old.kind) × (new.nlink ≡ old.nlink) × (new.size ≡ size)
     → Points blocks size new → IsInode blocks new
 is_inode blocks size old new few valid kind most fields points =
     record {

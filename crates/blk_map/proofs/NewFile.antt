@@ -5,13 +5,14 @@ use Rattle.std.proofs.lemmas.List.{get_or-replicate, get_or_past, length-replica
 use Rattle.kabi_types.specs.declared.inodes.Inode.{Inode}
 use Rattle.posix_defs.specs.DiskFormat.{block_size, IsInode, inode_bytes}
 use Rattle.posix_defs.specs.SoundDisk.{block_bytes, table_block, table_slot, slot_bytes, table_bytes, HasInode, Place, Data, Pointers, HasPlace, bit_of, Sound}
+use Rattle.posix_defs.specs.DiskContents.{blank_inode}
 use Rattle.posix_defs.specs.NodeChange.{Replaces}
 use Rattle.disk_laws.proofs.OneNode.{stays_sound, this_has, changes_node}
 use Rattle.blk_map.proofs.Blocks.{in_table}
 use Rattle.blk_map.proofs.Inodes.{pointer_is}
 
 abbrev pub empty_file : Inode
-empty_file = record { kind = 1; nlink = 1; size = 0; direct = replicate 10 0; indirect = 0 }
+empty_file = record blank_inode { kind = 1; nlink = 1 }
 
 zero_at : (k : ℕ) → ◌≡◌ {A = ℕ} (get_or (replicate 10 0) k 0) 0
 zero_at k = elim (cases_lt k 10) [
@@ -32,7 +33,7 @@ is_inode blocks =
 
 takes_none : (size : ℕ) → size ≡ 0 → (place : Place) → ¬ (HasPlace size place)
 takes_none size e (Data index) = λ lt. omega (arith, e, lt)
-takes_none size e Pointers = λ lt. omega (arith, e, lt)
+takes_none size e (Pointers block) = λ lt. omega (arith, e, lt)
 
 pub replaces : (number : ℕ) (before after : List (List ℕ)) (old : Inode) → Sound before → HasInode before number old → old.size ≡ 0 → length after ≡ length before → table_bytes after number ≡ inode_bytes empty_file
     → ((node : ℕ) → 0 < node → node ≢ number → table_bytes after node ≡ table_bytes before node) → ((block : ℕ) → block ≢ table_block number → block_bytes after block ≡ block_bytes before block)
@@ -46,7 +47,7 @@ replaces number before after old sound had empty count slot slots others =
       inode = is_inode (length before);
       slot = slot;
       slots = λ node pos within other. slots node pos other;
-      pointers = λ k large lt. absurd (omega (arith, large));
+      pointers = λ block at large lt. absurd (omega (arith, large));
       once = λ i j at_i at_j same. absurd (takes_none 0 refl i at_i);
       taken = λ place within. absurd (takes_none 0 refl place within);
       untouched = λ block above below marked none. others block (λ e. omega (arith, e, at.1, above));

@@ -2,10 +2,10 @@
 use Rattle.std.proofs.Common.{◌≡◌, ◌≢◌, ℕ, ◌+◌, ◌-◌, ◌*◌, ◌<◌, ◌≤◌, inl, inr, List, length, get_or, refl, sym, ap, subst, ◌∙◌, arith}
 use Rattle.std.proofs.lemmas.Bool.{cases_lt}
 use Rattle.kabi_types.specs.declared.inodes.Inode.{Inode}
-use Rattle.posix_defs.specs.DiskFormat.{block_size, table_end, data_blocks, IsForFiles, inode_bytes}
-use Rattle.posix_defs.specs.SoundDisk.{block_bytes, table_block, table_bytes, HasInode, pointer_at, Place, Data, Pointers, HasPlace, named_at, bit_of, IsMarked, Sound}
+use Rattle.posix_defs.specs.DiskFormat.{block_size, table_end, data_blocks, IsForFiles, inode_bytes, IsPointer, needs_pointer, pointer_blocks, most_blocks}
+use Rattle.posix_defs.specs.SoundDisk.{block_bytes, table_block, table_bytes, HasInode, pointer_at, Place, Data, Pointers, HasPlace, named_at, bit_of, IsMarked, Sound, pointer_block}
 use Rattle.posix_defs.specs.NodeChange.{Names, Replaces, Resizes}
-use Rattle.disk_laws.proofs.FreeBlocks.{named_is_for_files, direct_at, behind_at}
+use Rattle.disk_laws.proofs.FreeBlocks.{named_is_for_files, direct_at, behind_at, of_each}
 use Rattle.disk_laws.proofs.OneNode.{named_is_marked, this_has, changes_node, free_after}
 use Rattle.blk_map.specs.Growing.{GrowsBut}
 use Rattle.blk_map.specs.Named.{MayHaveSize}
@@ -30,16 +30,16 @@ pub record SameBlocks : Type 0 where
 abbrev pub resized : SameBlocks → Inode
 resized s = record { kind = s.old.kind; nlink = s.old.nlink; size = s.size; direct = s.old.direct; indirect = s.old.indirect }
 
-most : (s : SameBlocks) → data_blocks s.size ≤ 266
+most : (s : SameBlocks) → data_blocks s.size ≤ most_blocks
 most s = omega (arith, s.same, s.had.valid.kind.size)
 
 was : (s : SameBlocks) (place : Place) → HasPlace s.size place → HasPlace s.old.size place
 was s (Data index) lt = omega (arith, lt, s.same)
-was s Pointers lt = omega (arith, lt, s.same)
+was s (Pointers block) lt = omega (arith, lt, s.same)
 
 is : (s : SameBlocks) (place : Place) → HasPlace s.old.size place → HasPlace s.size place
 is s (Data index) lt = omega (arith, lt, s.same)
-is s Pointers lt = omega (arith, lt, s.same)
+is s (Pointers block) lt = omega (arith, lt, s.same)
 
 files : (s : SameBlocks) (place : Place) → HasPlace s.old.size place → IsForFiles (length s.before) (named_at s.before s.old place)
 files s place within = named_is_for_files s.before s.sound s.number s.old place s.had within
@@ -59,10 +59,10 @@ name : (s : SameBlocks) (place : Place) → HasPlace s.old.size place → named_
 name s (Data index) lt = elim (cases_lt index 10) [
   | inl first ↦ direct_at s.after (resized s) index first ∙ sym (direct_at s.before s.old index first)
   | inr behind ↦
-      let large : HasPlace s.old.size Pointers = omega (arith, lt, behind) in
-      behind_at s.after (resized s) index behind ∙ ap (λ (bytes : List ℕ). pointer_at bytes (index - 10)) (stays_there s s.old.indirect (files s Pointers large).0) ∙ sym (behind_at s.before s.old index behind)
+      let large : HasPlace s.old.size (Pointers 0) = omega (arith, lt, behind) in
+      behind_at s.after (resized s) index behind ∙ ap (λ (bytes : List ℕ). pointer_at bytes (index - 10)) (stays_there s s.old.indirect (files s (Pointers 0) large).0) ∙ sym (behind_at s.before s.old index behind)
 ]
-name s Pointers lt = refl
+name s (Pointers block) lt = refl
 
 points : (s : SameBlocks) → Points (length s.before) s.size (resized s)
 points s =
@@ -70,7 +70,7 @@ points s =
       ten = s.had.valid.fits.count;
       direct = λ k lt within. subst (IsForFiles (length s.before)) (direct_at s.before s.old k lt) (files s (Data k) (omega (arith, within, s.same)));
       none = λ k lt past. none_needed (length s.before) (get_or s.old.direct k 0) (k * block_size) s.old.size (omega (arith, past, s.same)) (s.had.valid.pointers.direct k lt);
-      pointers = λ large. files s Pointers (omega (arith, large, s.same));
+      pointers = λ large. files s (Pointers 0) (omega (arith, large, s.same));
       no_pointers = λ few. none_needed (length s.before) s.old.indirect (10 * block_size) s.old.size (omega (arith, few, s.same)) s.had.valid.pointers.indirect;
     }
 
@@ -85,9 +85,10 @@ replaces s =
       inode = is_inode (length s.before) s.size s.old (resized s) s.sound.size.1 s.had.valid s.kind (most s) (refl, refl, refl) (points s);
       slot = s.slot;
       slots = λ node pos within other. s.slots node pos other;
-      pointers = λ k large lt.
-          let old_large : 10 * block_size < s.old.size = omega (arith, large, s.same) in
-          let there = stays_there s s.old.indirect (files s Pointers (omega (arith, old_large))).0 in
+      pointers = λ block k large lt.
+          of_each (λ n. IsPointer (length s.before) (needs_pointer s.size n k) (pointer_at (block_bytes s.after (pointer_block (resized s) n)) k)) s.size block large (
+          let old_large : HasPlace s.old.size (Pointers 0) = omega (arith, large, s.same) in
+          let there = stays_there s s.old.indirect (files s (Pointers 0) old_large).0 in
           let back : 10 + k - 10 ≡ k = omega arith in
           pointer_is (length s.before) (pointer_at (block_bytes s.after s.old.indirect) k) ((10 + k) * block_size) s.size (
           λ needed.
@@ -98,8 +99,8 @@ replaces s =
           ) (
           λ past.
           ap (λ (bytes : List ℕ). pointer_at bytes k) there
-          ∙ none_needed (length s.before) (pointer_at (block_bytes s.before s.old.indirect) k) ((10 + k) * block_size) s.old.size (omega (arith, past, s.same)) (s.sound.pointers s.number s.old k s.had old_large lt)
-          );
+          ∙ none_needed (length s.before) (pointer_at (block_bytes s.before s.old.indirect) k) ((10 + k) * block_size) s.old.size (omega (arith, past, s.same)) (s.sound.pointers s.number s.old 0 k s.had old_large lt)
+          ));
       once = λ i j at_i at_j same.
           (s.sound.once s.number s.number s.old s.old i j s.had s.had (was s i at_i) (was s j at_j) (sym (name s i (was s i at_i)) ∙ same ∙ name s j (was s j at_j))).1;
       taken = λ place within. inl (record { place = place; within = was s place within; same = name s place (was s place within) });

@@ -3,7 +3,7 @@ use Rattle.std.proofs.Common.{◌≡◌, ◌≢◌, ℕ, ◌+◌, ◌-◌, ◌*�
 use Rattle.std.proofs.lemmas.Bool.{cases_lt}
 use Rattle.std.proofs.lemmas.List.{length-set, get_or-set_same, get_or-set_other, get_or_past, get_or_default}
 use Rattle.kabi_types.specs.declared.inodes.Inode.{Inode}
-use Rattle.posix_defs.specs.DiskFormat.{block_size, table_end, table_nodes, data_blocks, blocks_of, IsForFiles, inode_bytes}
+use Rattle.posix_defs.specs.DiskFormat.{block_size, table_end, table_nodes, data_blocks, blocks_of, IsForFiles, inode_bytes, most_blocks}
 use Rattle.posix_defs.specs.SoundDisk.{block_bytes, table_block, table_bytes, HasInode, pointer_at, Data, Pointers, named_at, bit_of, IsMarked, Sound, IsFreeBlock}
 use Rattle.posix_defs.specs.DiskContents.{zeros}
 use Rattle.disk_laws.proofs.FreeBlocks.{named_is_for_files, direct_at, behind_at}
@@ -22,7 +22,7 @@ pointers_files before number old size taken indirect sound had more many free is
     let last : ℕ = data_blocks size - data_blocks old.size in
     elim (cases_lt 10 (data_blocks old.size)) [
       | inl was ↦
-          subst (IsForFiles (length before)) (sym (is ∙ get_or_past taken last old.indirect (omega (arith, many, given_as_many old.size size (inl was) more)))) (named_is_for_files before sound number old Pointers had was)
+          subst (IsForFiles (length before)) (sym (is ∙ get_or_past taken last old.indirect (omega (arith, many, given_as_many old.size size (inl was) more)))) (named_is_for_files before sound number old (Pointers 0) had (omega (arith, was)))
       | inr few ↦
           let within : last < length taken = omega (arith, many, given_one_more old.size size few large) in
           let one = free last within in
@@ -54,7 +54,7 @@ pub record Taking : Type 0 where
   pub had : HasInode before number old
   pub kind : MayHaveSize old.kind size
   pub more : old.size ≤ size
-  pub most : data_blocks size ≤ 266
+  pub most : data_blocks size ≤ most_blocks
   pub many : length taken ≡ blocks_of size - blocks_of old.size
   pub free : (k : ℕ) → k < length taken → IsFreeBlock before (get_or taken k 0)
   pub apart : (j k : ℕ) → j < length taken → k < length taken → get_or taken j 0 ≡ get_or taken k 0 → j ≡ k
@@ -116,7 +116,7 @@ new_indirect t few large = t.indirect_is ∙ get_or_default t.taken (wants_block
 
 indirect_files : (t : Taking) → 10 < wants_blocks t → IsForFiles (length t.before) t.indirect
 indirect_files t large = elim (cases_lt 10 (had_blocks t)) [
-  | inl was ↦ subst (IsForFiles (length t.before)) (sym (old_indirect t (inl was))) (named_is_for_files t.before t.sound t.number t.old Pointers t.had was)
+  | inl was ↦ subst (IsForFiles (length t.before)) (sym (old_indirect t (inl was))) (named_is_for_files t.before t.sound t.number t.old (Pointers 0) t.had (omega (arith, was)))
   | inr few ↦ subst (IsForFiles (length t.before)) (sym (new_indirect t few large)) (taken_files t (wants_blocks t - had_blocks t) (new_indirect_within t few large))
 ]
 
@@ -152,7 +152,7 @@ stays_there t block above none other =
 
 old_pointers_there : (t : Taking) → 10 < had_blocks t → block_bytes t.marked t.old.indirect ≡ block_bytes t.before t.old.indirect
 old_pointers_there t was =
-    let files = named_is_for_files t.before t.sound t.number t.old Pointers t.had was in
+    let files = named_is_for_files t.before t.sound t.number t.old (Pointers 0) t.had (omega (arith, was)) in
     marked_others t t.old.indirect (λ e. omega (arith, e, files.0))
 
 -- ---- the names
@@ -176,7 +176,7 @@ behind_none : (t : Taking) (k : ℕ) → wants_blocks t ≤ 10 + k → k < 256 �
 behind_none t k past lt = elim (cases_lt 10 (had_blocks t)) [
   | inl was ↦
       t.behind_large was k lt ∙ ap (λ (bytes : List ℕ). pointer_at bytes k) (old_pointers_there t was)
-      ∙ none_needed (length t.before) (pointer_at (block_bytes t.before t.old.indirect) k) ((10 + k) * block_size) t.old.size (omega (arith, past, t.more)) (t.sound.pointers t.number t.old k t.had (omega (arith, was)) lt)
+      ∙ none_needed (length t.before) (pointer_at (block_bytes t.before t.old.indirect) k) ((10 + k) * block_size) t.old.size (omega (arith, past, t.more)) (t.sound.pointers t.number t.old 0 k t.had (omega (arith, was)) lt)
   | inr few ↦ t.behind_small few k lt
 ]
 
@@ -202,7 +202,7 @@ data_apart : (t : Taking) (k : ℕ) → k < wants_blocks t - had_blocks t → 10
 data_apart t k lt large = λ e.
     let within : k < length t.taken = omega (arith, lt, enough t) in
     elim (cases_lt 10 (had_blocks t)) [
-      | inl was ↦ (t.free k within).1 (subst (λ (n : ℕ). IsMarked t.before n) (sym (e ∙ old_indirect t (inl was))) (named_is_marked t.before t.sound t.number t.old Pointers t.had was))
+      | inl was ↦ (t.free k within).1 (subst (λ (n : ℕ). IsMarked t.before n) (sym (e ∙ old_indirect t (inl was))) (named_is_marked t.before t.sound t.number t.old (Pointers 0) t.had (omega (arith, was))))
       | inr few ↦ omega (arith, lt, t.apart k (wants_blocks t - had_blocks t) within (new_indirect_within t few large) (e ∙ new_indirect t few large))
     ]
 

@@ -3,8 +3,10 @@
 ghost use Rattle.std.specs.Prelude.{◌≡◌};
 ghost use Rattle.posix_defs.specs.DiskFormat.{data_blocks, blocks_of};
 
+use disk_layout::GREATEST_SIZE;
+
 /// The most blocks of bytes that a node can name.
-pub const MOST_BLOCKS: u32 = 266;
+pub const MOST_BLOCKS: u32 = GREATEST_SIZE / 1024;
 
 /// How many blocks an inode names itself.
 pub const DIRECT_POINTERS: u32 = 10;

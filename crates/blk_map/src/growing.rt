@@ -1,6 +1,6 @@
 ghost use Rattle.std.specs.Prelude.{◌≡◌, ℕ, ◌-◌, ◌<◌, ◌≤◌, ◌⊎◌, ◌↔◌, Err, IfErr, OnOk, length, min, slice_index, slice_index_or};
 ghost use Rattle.kabi_types.specs.declared.errnos.Errno.TheVariants.{EFBIG, ENOSPC};
-ghost use Rattle.posix_defs.specs.DiskFormat.{data_blocks, blocks_of};
+ghost use Rattle.posix_defs.specs.DiskFormat.{data_blocks, blocks_of, most_blocks};
 ghost use Rattle.posix_defs.specs.SoundDisk.{block_bytes, HasNode, IsFreeBlock, Sound, free_in_map};
 ghost use Rattle.posix_defs.specs.NodeChange.{Grows};
 ghost use Rattle.blk_map.specs.Growing.{GrowsBut};
@@ -25,8 +25,8 @@ pub fn grow<B: Blocks>(b: &mut B, number: u32, inode: &mut Inode, size: u32) -> 
     requires size { inode.old.size ≤ size }
     ensures ok { OnOk result (Grows number (B.blocks b.old) inode.old size (B.blocks b.new) inode.new) }
     ensures err { IfErr result (λ fault. ((fault ≡ EFBIG) ⊎ (fault ≡ ENOSPC)) × (B.blocks b.new ≡ B.blocks b.old) × (inode.new ≡ inode.old)) }
-    ensures big { (result ≡ Err EFBIG) ↔ (266 < data_blocks size) }
-    ensures full { data_blocks size ≤ 266 → (result ≡ Err ENOSPC) ↔ (free_in_map (B.blocks b.old) < blocks_of size - blocks_of inode.old.size) }
+    ensures big { (result ≡ Err EFBIG) ↔ (most_blocks < data_blocks size) }
+    ensures full { data_blocks size ≤ most_blocks → (result ≡ Err ENOSPC) ↔ (free_in_map (B.blocks b.old) < blocks_of size - blocks_of inode.old.size) }
     ensures follows { B.follows b.old b.new }
 {
     grow_but(b, number, inode, size, 0, 0)
@@ -48,8 +48,8 @@ pub fn grow_but<B: Blocks>(
     requires size { inode.old.size ≤ size }
     ensures ok { OnOk result (GrowsBut from to number (B.blocks b.old) inode.old size (B.blocks b.new) inode.new) }
     ensures err { IfErr result (λ fault. ((fault ≡ EFBIG) ⊎ (fault ≡ ENOSPC)) × (B.blocks b.new ≡ B.blocks b.old) × (inode.new ≡ inode.old)) }
-    ensures big { (result ≡ Err EFBIG) ↔ (266 < data_blocks size) }
-    ensures full { data_blocks size ≤ 266 → (result ≡ Err ENOSPC) ↔ (free_in_map (B.blocks b.old) < blocks_of size - blocks_of inode.old.size) }
+    ensures big { (result ≡ Err EFBIG) ↔ (most_blocks < data_blocks size) }
+    ensures full { data_blocks size ≤ most_blocks → (result ≡ Err ENOSPC) ↔ (free_in_map (B.blocks b.old) < blocks_of size - blocks_of inode.old.size) }
     ensures follows { B.follows b.old b.new }
 {
     if data_count(size) > MOST_BLOCKS {
@@ -105,7 +105,7 @@ fn take_blocks<B: Blocks>(
     requires node { HasNode (B.blocks b.old) number inode.old }
     requires kind { MayHaveSize inode.old.kind size }
     requires size { inode.old.size ≤ size }
-    requires most { data_blocks size ≤ 266 }
+    requires most { data_blocks size ≤ most_blocks }
     requires map { map.old ≡ block_bytes (B.blocks b.old) 0 }
     requires many { length blocks.now ≡ blocks_of size - blocks_of inode.old.size }
     requires free { (k : ℕ) → k < length blocks.now → IsFreeBlock (B.blocks b.old) (slice_index blocks.now k) }

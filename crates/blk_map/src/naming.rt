@@ -1,7 +1,7 @@
 //! The pointers of a node in hand: those of its inode, and those of its block of pointers.
 
 ghost use Rattle.std.specs.Prelude.{◌≡◌, ◌≢◌, ℕ, ◌+◌, ◌-◌, ◌<◌, ◌≤◌, ◌⊎◌, length, slice_index};
-ghost use Rattle.posix_defs.specs.DiskFormat.{direct_pointers, block_pointers, data_blocks};
+ghost use Rattle.posix_defs.specs.DiskFormat.{direct_pointers, block_pointers, data_blocks, most_blocks};
 ghost use Rattle.posix_defs.specs.SoundDisk.{block_bytes, pointer_at};
 ghost use Rattle.blk_map.specs.Named.{pointer_to};
 
@@ -28,7 +28,7 @@ pub fn behind_of<B: Blocks>(b: &mut B, inode: &Inode, behind: &mut [u32; 256])
 }
 
 fn pointer_of(direct: &[u32; 10], behind: &[u32; 256], index: usize) -> u32
-    requires { index < 266 }
+    requires { index < most_blocks }
     ensures { result ≡ pointer_to direct.now behind.now index }
 {
     if index < 10 {
@@ -40,7 +40,7 @@ fn pointer_of(direct: &[u32; 10], behind: &[u32; 256], index: usize) -> u32
 
 /// Names a block for the bytes from `index` blocks on.
 fn name(direct: &mut [u32; 10], behind: &mut [u32; 256], index: usize, block: u32)
-    requires { index < 266 }
+    requires { index < most_blocks }
     ensures this { pointer_to direct.new behind.new index ≡ block }
     ensures others { (other : ℕ) → other ≢ index → pointer_to direct.new behind.new other ≡ pointer_to direct.old behind.old other }
 {
@@ -59,7 +59,7 @@ pub fn name_all(
     blocks: &[u32],
     count: usize,
 )
-    requires { (count ≤ length blocks.now) × (from + count ≤ 266) }
+    requires { (count ≤ length blocks.now) × (from + count ≤ most_blocks) }
     ensures these { (k : ℕ) → k < count → pointer_to direct.new behind.new (from + k) ≡ slice_index blocks.now k }
     ensures others { (index : ℕ) → (index < from) ⊎ (from + count ≤ index) → pointer_to direct.new behind.new index ≡ pointer_to direct.old behind.old index }
 {
@@ -70,7 +70,7 @@ pub fn name_all(
 
 /// Takes the names from `from` up to `to` away, and tells which blocks they were.
 pub fn forget_all(direct: &mut [u32; 10], behind: &mut [u32; 256], from: usize, to: usize) -> Found
-    requires { (from ≤ to) × (to ≤ 266) }
+    requires { (from ≤ to) × (to ≤ most_blocks) }
     ensures many { result.count ≡ to - from }
     ensures each { (k : ℕ) → k < to - from → slice_index result.blocks k ≡ pointer_to direct.old behind.old (from + k) }
     ensures these { (index : ℕ) → from ≤ index → index < to → pointer_to direct.new behind.new index ≡ 0 }

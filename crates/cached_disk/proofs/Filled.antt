@@ -9,7 +9,7 @@ use Rattle.std.proofs.lemmas.Option.{slice_get_past}
 use Rattle.kabi_types.specs.Class.{size}
 use Rattle.kabi_types.specs.declared.classes.Class.TheVariants as class
 use Rattle.kheap_slabs.specs.Objects.{object, InUse, count, put}
-use Rattle.kheap_slabs.specs.Counts.{need_bytes}
+use Rattle.kabi_types.specs.Counts.{need_bytes}
 use Rattle.kheap_slabs.specs.Purse.{Purse, left_bytes}
 use Rattle.kheap_slabs.specs.declared.objects.Block.{Block}
 use Rattle.kheap_slabs.specs.Heap.{Heap, live_bytes}

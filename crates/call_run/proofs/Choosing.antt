@@ -24,7 +24,7 @@ use Rattle.posix_defs.specs.Files.State.{descriptors_of}
 use Rattle.desc_table.specs.Numbered.{descriptor_in}
 use Rattle.open_laws.specs.Open.{descriptor_by, descriptors_by}
 use Rattle.proc_table.specs.Accounting.{IsPlaced}
-use Rattle.proc_table.specs.Procs.{status_of}
+use Rattle.proc_table.specs.Procs.{numbers_in, status_of}
 use Rattle.proc_table.specs.Standing.{AreFrom, nobody, gone, there}
 use Rattle.proc_table.proofs.AccountLemmas.{all_both}
 use Rattle.proc_table.proofs.OwnLemmas.{AreRising, all_weaker, rising_procs}
@@ -64,13 +64,13 @@ same_open one other (place ∷ places) =
     by_place (Some held) = refl
 
 weighed_so : (h : Heap) (plain : Plain) (account : Account) (number : ℕ → ℕ) (proc : Proc) → IsWellFormed h → IsPlaced number h.nodes account.frames proc → length proc.nodes ≡ 4
-    → OwnsNodes h.nodes proc.nodes → (naming : ℕ → ℕ) → descriptors_of plain.files proc.pid ≡ descriptors_by naming proc.descriptors → IsWeighed h plain account proc
+    → OwnsNodes h.nodes proc.nodes → (naming : ℕ → ℕ) → descriptors_of plain.files proc.pid ≡ descriptors_by naming (numbers_in h proc) → IsWeighed h plain account proc
 unfolding weight
 weighed_so h plain account number proc whole placed four owns naming opened =
     same_weight proc.pid _ _ _ _ _ _
     (frames_are number h.nodes proc.nodes (places_of account.frames proc.pid) placed.whole placed.places owns whole.entries four)
     (nodes_by_places h proc.nodes number (places_of account.frames proc.pid) whole owns four placed.places placed.whole)
-    (ap open_count opened ∙ same_open (descriptor_by naming) descriptor_in proc.descriptors)
+    (ap open_count opened ∙ same_open (descriptor_by naming) descriptor_in (numbers_in h proc))
 
 -- a machine's weights but the first process's are those of the processes in the heap
 weighed : (told : Option ℕ) (pid : ℕ) (w : Weight) (others rest : List Weight) → w.pid ≡ pid → others ≡ filter (λ v. not (v.pid == 1)) rest
@@ -132,13 +132,13 @@ victim_is script other objects policy world chosen kept whole stands none victim
     let procs = procs_of objects in
     let rising = rising_procs objects.heap.procs objects.procs.listed 0 objects.procs.last kept.holds.stored kept.holds.rising in
     let naming = stands.files.numbers.descs in
-    let opened = by_procs naming procs objects.procs.last world.plain.files rising stands.files.opened.descriptors in
+    let opened = by_procs objects.heap naming procs objects.procs.last world.plain.files rising stands.files.opened.descriptors in
     let all = all_weaker
     (λ (p : Proc). IsPlaced has.number objects.heap.nodes world.account.frames p
-    × ((descriptors_of world.plain.files p.pid ≡ descriptors_by naming p.descriptors) × ((length p.nodes ≡ 4) × Owns objects.heap.nodes p))) (IsWeighed objects.heap world.plain world.account) procs
+    × ((descriptors_of world.plain.files p.pid ≡ descriptors_by naming (numbers_in objects.heap p)) × ((length p.nodes ≡ 4) × Owns objects.heap.nodes p))) (IsWeighed objects.heap world.plain world.account) procs
     (λ p known. weighed_so objects.heap world.plain world.account has.number p whole known.0 known.1.1.0 known.1.1.1 naming known.1.0)
     (all_both (IsPlaced has.number objects.heap.nodes world.account.frames)
-    (λ p. (descriptors_of world.plain.files p.pid ≡ descriptors_by naming p.descriptors) × ((length p.nodes ≡ 4) × Owns objects.heap.nodes p)) procs has.placed
-    (all_both (λ p. descriptors_of world.plain.files p.pid ≡ descriptors_by naming p.descriptors) (λ p. (length p.nodes ≡ 4) × Owns objects.heap.nodes p) procs opened.placed
+    (λ p. (descriptors_of world.plain.files p.pid ≡ descriptors_by naming (numbers_in objects.heap p)) × ((length p.nodes ≡ 4) × Owns objects.heap.nodes p)) procs has.placed
+    (all_both (λ p. descriptors_of world.plain.files p.pid ≡ descriptors_by naming (numbers_in objects.heap p)) (λ p. (length p.nodes ≡ 4) × Owns objects.heap.nodes p) procs opened.placed
     (all_both (λ p. length p.nodes ≡ 4) (Owns objects.heap.nodes) procs kept.groups (all_own objects.heap objects.procs kept.holds)))) in
     chosen_is objects.heap world.plain.table procs policy world.plain world.account chosen stands.processes.table.present rising all none victim

@@ -10,6 +10,7 @@ use Rattle.kheap_slabs.specs.Heap.{Heap}
 use Rattle.kheap_slabs.specs.Spaces.{keys_in}
 use Rattle.desc_table.specs.Numbered.{descriptors_in}
 use Rattle.posix_defs.specs.Files.Descriptors.{open_count}
+use Rattle.proc_table.specs.Procs.{numbers_in}
 
 -- the page has a frame
 abbrev pub has_frame : PageEntry → Bool
@@ -28,7 +29,7 @@ weight_in h proc = record {
   pid = proc.pid;
   frames = sum_by (λ key. frames_under (object h.nodes key)) (keys_in proc.nodes);
   nodes = length (keys_in proc.nodes);
-  descs = open_count (descriptors_in proc.descriptors);
+  descs = open_count (descriptors_in (numbers_in h proc));
 }
 
 -- the weights of the processes that run

@@ -1,6 +1,7 @@
 //! Turns of the calls with which descriptions go: those that close one, and those that end a process.
 
-ghost use Rattle.std.specs.Prelude.{◌≡◌, ◌+◌, ◌≤◌, true};
+ghost use Rattle.std.specs.Prelude.{◌≡◌, ◌+◌, ◌≤◌, None, true};
+ghost use Rattle.kabi_types.specs.Arguments.{argument_fault};
 ghost use Rattle.kabi_types.specs.Call.{kind_of};
 ghost use Rattle.kheap_slabs.specs.Heap.{live_bytes};
 ghost use Rattle.posix_defs.specs.Machine.{answer_to};
@@ -35,6 +36,7 @@ pub fn run_closing(script: &Script, objects: &mut Objects, caller: &Caller, call
     requires stands { (world : World) × StandsFor script.now objects.old world × IsSound world.plain }
     requires caller { IsCaller objects.old caller.now.pid caller.now }
     requires among { is_closing (kind_of call.now) ≡ true }
+    requires right { argument_fault call.now ≡ None }
     requires room { live_bytes objects.old.heap + reserve ≤ objects.old.heap.heap }
     ensures kept { AreKept script.now objects.new }
     ensures uses { UsesAtMost objects.old.heap objects.new.heap 0 (slack call.now) }

@@ -7,7 +7,7 @@ use Rattle.std.specs.Prelude.{nat_le}
 use Rattle.std.proofs.lemmas.List.{take_at, drop-drop, drop_at, drop_all, length-take, length-take-le, append-nil, take-append-drop, take-take, take-append-le, drop-append-le}
 use Rattle.std.proofs.lemmas.List.Elements.{Contains-append_left, Contains-append_right, Contains-append_cases, Contains-push}
 use Rattle.kabi_types.specs.declared.classes.Class.TheVariants as class
-use Rattle.kheap_slabs.specs.Counts.{with_count}
+use Rattle.kabi_types.specs.Counts.{with_count}
 use Rattle.kheap_slabs.specs.Objects.{object, InUse, put, without}
 use Rattle.kheap_slabs.specs.Purse.{Purse}
 use Rattle.kheap_slabs.specs.declared.objects.Chunk.{Chunk}

@@ -1,7 +1,7 @@
 //! `Queue` and its calls. A clause sees a queue as its parts.
 ghost use Rattle.std.specs.Prelude.{◌≡◌, ◌↔◌, IsTrue, ℕ, ◌+◌, ◌-◌, ◌/◌, ◌%◌, ◌<◌, ◌≤◌, ◌++◌, List, None, Some, [], length, take, drop, min};
 ghost use Rattle.kabi_types.specs.declared.classes.Class.TheVariants as class;
-ghost use Rattle.kheap_slabs.specs.Counts.{counted, with_count};
+ghost use Rattle.kabi_types.specs.Counts.{counted, with_count};
 ghost use Rattle.kheap_slabs.specs.Objects.{object, InUse, put};
 ghost use Rattle.kheap_slabs.specs.declared.objects.Chunk.{Chunk as ChunkOf};
 ghost use Rattle.kheap_slabs.specs.Paid.{CanPay, IsPaid, TakesNothing};

@@ -8,6 +8,7 @@ use Rattle.std.proofs.lemmas.List.{drop_all, get_or_past, map-set}
 use Rattle.kheap_slabs.specs.declared.objects.Descriptor.{Descriptor as Held}
 use Rattle.posix_defs.specs.Files.Descriptors.{Descriptor, Descriptors, descriptor_at, lowest_free_from, open_count}
 use Rattle.desc_table.specs.Numbered.{descriptor_in, descriptors_in, number_of}
+use Rattle.kabi_types.specs.Arguments.{most_descriptors}
 
 pub seen_at : (places : List (Option Held)) (fd : ℕ) → descriptor_at (descriptors_in places) fd ≡ option_map descriptor_in (get_or places fd None)
 seen_at [] zero = refl
@@ -40,7 +41,7 @@ length_seen : (places : List (Option Held)) → length (descriptors_in places) �
 length_seen [] = refl
 length_seen (first ∷ places) = ap suc (length_seen places)
 
-pub long_view : (places : List (Option Held)) (now : Descriptors) → descriptors_in places ≡ now → length places ≡ 32 → length now ≡ 32
+pub long_view : (places : List (Option Held)) (now : Descriptors) → descriptors_in places ≡ now → length places ≡ most_descriptors → length now ≡ most_descriptors
 long_view places now is long = ap length (sym is) ∙ (length_seen places ∙ long)
 
 pub set_seen : (places : List (Option Held)) (now : Descriptors) (fd : ℕ) (o : Option Held) → descriptors_in places ≡ now → descriptors_in (set places fd o) ≡ set now fd (option_map descriptor_in o)

@@ -119,7 +119,7 @@ impl Descs {
     /// How many numbers are open.
     pub fn open_count(&self) -> u32
         ensures count { result ≡ open_count self.now }
-        ensures few { result ≤ 32 }
+        ensures few { result ≤ most_descriptors }
     {
         open_among(&self.places)
     }
@@ -169,9 +169,9 @@ fn number_of(fd: i64) -> Option<u64>
 
 // How many of these places are open.
 fn open_among(places: &[Option<Descriptor>]) -> u32
-    requires { length places.now ≤ 32 }
+    requires { length places.now ≤ most_descriptors }
     ensures count { result ≡ count_by is_some places.now }
-    ensures few { result ≤ 32 }
+    ensures few { result ≤ most_descriptors }
 {
     let mut count = 0;
     for place in places {

@@ -9,7 +9,7 @@ use Rattle.std.proofs.lemmas.Nat.Bits.{bit_at_ones, bit_at_ones_above}
 use Rattle.kabi_types.specs.declared.inodes.Inode.{Inode}
 use Rattle.posix_defs.specs.DiskFormat.{block_size, table_end, table_nodes, IsPointer, IsInode, IsEntry, inode_bytes, entry_bytes}
 use Rattle.posix_defs.specs.SoundDisk.{block_bytes, table_bytes, HasInode, Place, Data, Pointers, HasPlace, named_at, IsNamed, map_bit, IsMarked, Sound}
-use Rattle.posix_defs.specs.DiskContents.{data_block, byte_at, node_bytes, IsDirectoryOf, entry_for, own_name, parent_name, zeros, first_marked, new_root, new_entries, IsFormatted}
+use Rattle.posix_defs.specs.DiskContents.{blank_inode, data_block, byte_at, node_bytes, IsDirectoryOf, entry_for, own_name, parent_name, zeros, first_marked, new_root, new_entries, IsFormatted}
 use Rattle.disk_laws.proofs.DiskSpelling.{same_inode, length-inode_bytes}
 
 -- ---- the map
@@ -37,7 +37,7 @@ is_unmarked disk formatted number lt past = λ (is : IsMarked disk number).
 
 -- an inode that is free
 pub no_inode : Inode
-no_inode = record { kind = 0; nlink = 0; size = 0; direct = replicate 10 0; indirect = 0 }
+no_inode = blank_inode
 
 free_bytes : inode_bytes no_inode ≡ replicate 64 0
 unfolding inode_bytes no_inode
@@ -154,11 +154,11 @@ which disk formatted enough most node inode has =
 -- a node of 64 bytes takes one block, and an empty one takes none
 only_first : (place : Place) → HasPlace 64 place → place ≡ Data 0
 only_first (Data index) lt = let first : index ≡ 0 = omega (arith, lt) in ap Data first
-only_first Pointers lt = absurd (omega (arith, lt))
+only_first (Pointers block) lt = absurd (omega (arith, lt))
 
 takes_none : (place : Place) → ¬ (HasPlace 0 place)
 takes_none (Data index) lt = omega (arith, lt)
-takes_none Pointers lt = omega (arith, lt)
+takes_none (Pointers block) lt = omega (arith, lt)
 
 -- who names a block is the root, and names one
 names_one : (disk : List (List ℕ)) → IsFormatted (length disk) disk → 16 ≤ length disk → length disk ≤ 4096 → (node : ℕ) (inode : Inode) (place : Place) → HasInode disk node inode → HasPlace inode.size place
@@ -202,7 +202,7 @@ formatted_is_sound disk formatted enough most =
             | inl root ↦ (new_root (length disk), root.1)
             | inr free ↦ (no_inode, free)
           ];
-      pointers = λ node inode k has large lt. absurd (omega (arith, large, small disk formatted enough most node inode has));
+      pointers = λ node inode block at has large lt. absurd (omega (arith, large, small disk formatted enough most node inode has));
       once = λ first second one other i j has also at_i at_j same.
           let a = names_one disk formatted enough most first one i has at_i in
           let b = names_one disk formatted enough most second other j also at_j in

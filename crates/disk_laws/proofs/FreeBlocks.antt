@@ -1,5 +1,5 @@
 -- The free blocks of a sound disk are those that no node names, and as many as the sizes of its nodes leave.
-use Rattle.std.proofs.Common.{◌≡◌, ◌≢◌, ℕ, zero, suc, ◌+◌, ◌-◌, ◌*◌, ◌<◌, ◌≤◌, Bool, true, false, not, ◌&&◌, cond, eqb, ltb, ◌⊎◌, inl, inr, List, [], ◌∷◌, ◌++◌, map, length, get_or, sum_by, count_by, refl, sym, ap, subst, ◌∙◌, arith}
+use Rattle.std.proofs.Common.{◌≡◌, ◌≢◌, ℕ, zero, suc, ◌+◌, ◌-◌, ◌*◌, ◌<◌, ◌≤◌, Bool, true, false, not, ◌&&◌, cond, eqb, ltb, ◌⊎◌, inl, inr, List, [], ◌∷◌, ◌++◌, map, length, get_or, sum_by, count_by, Option, None, Some, refl, sym, ap, subst, ◌∙◌, arith}
 use Rattle.std.specs.List.{range_with_len, flat_map}
 use Rattle.std.proofs.lemmas.Bool.{cases_lt, cases_eq, lt-ltb, le-ltb, cond-true, cond-false, eqb-true, eq-eqb, ne_eqb, false_from_ne_true, false≢true}
 use Rattle.std.proofs.lemmas.List.{length-append, get_or_append_left, get_or_at}
@@ -8,7 +8,7 @@ use Rattle.std.proofs.lemmas.List.FromFn.{length-map-range_with_len}
 use Rattle.std.proofs.lemmas.List.Sums.{sum_by-cons}
 use Rattle.kabi_types.specs.declared.inodes.Inode.{Inode}
 use Rattle.posix_defs.specs.DiskFormat.{block_size, table_end, table_nodes, data_blocks, pointer_blocks, blocks_of, IsForFiles, IsPointer}
-use Rattle.posix_defs.specs.SoundDisk.{block_bytes, HasInode, pointer_at, Place, Data, Pointers, HasPlace, named_at, IsNamed, map_bit, Sound, IsTable, free_in_map, free_blocks}
+use Rattle.posix_defs.specs.SoundDisk.{block_bytes, HasInode, pointer_at, Place, Data, Pointers, HasPlace, Way, led_to, named_at, way_to, IsNamed, map_bit, Sound, IsTable, free_in_map, free_blocks}
 use Rattle.disk_laws.proofs.FormattedDisk.{one_inode}
 
 -- ---- how many numbers of a range pass a test
@@ -162,11 +162,56 @@ distinct_values f from (suc n) apart = (
 is_needed : (blocks place size pointer : ℕ) → place < size → IsPointer blocks (ltb place size) pointer → IsForFiles blocks pointer
 is_needed blocks place size pointer lt is = subst (λ (b : Bool). IsPointer blocks b pointer) (lt-ltb place size lt) is
 
+-- the way to a block of bytes: none to the first ten, and through the block of pointers to every other
+pub way_within : (index : ℕ) → index < 10 → way_to index ≡ None
+way_within index lt = cond-true (ltb index 10) _ _ (lt-ltb index 10 lt)
+
+pub way_behind : (index : ℕ) → 10 ≤ index → way_to index ≡ Some (record { block = 0; at = index - 10 })
+way_behind index past = cond-false (ltb index 10) _ _ (le-ltb index 10 past)
+
+-- two blocks behind the first ten have one way only where they are one
+pub same_way : (one other : ℕ) → 10 ≤ one → 10 ≤ other → way_to one ≡ way_to other → one ≡ other
+same_way one other past also same =
+    let places : one - 10 ≡ other - 10 = some_at (record { block = 0; at = one - 10 }) (record { block = 0; at = other - 10 }) (sym (way_behind one past) ∙ same ∙ way_behind other also) in
+    omega (arith, places, past, also)
+  where
+    some_at : (a b : Way) → Some a ≡ Some b → a.at ≡ b.at
+    some_at a b e = cc
+
+-- where a node has a block of pointers it has more than ten blocks of bytes, and only one such block
+pub large_of : (size block : ℕ) → HasPlace size (Pointers block) → 10 < data_blocks size
+large_of size block lt = omega (arith, lt)
+
+pub first_of : (size block : ℕ) → HasPlace size (Pointers block) → block ≡ 0
+first_of size block lt = omega (arith, lt)
+
+pub has_pointers : (size : ℕ) → 10 < data_blocks size → HasPlace size (Pointers 0)
+has_pointers size large = omega (arith, large)
+
+-- what holds of the first block of pointers holds of each that a node of this size has
+pub of_each : (P : ℕ → Type 0) (size block : ℕ) → block < pointer_blocks size → P 0 → P block
+of_each P size block lt first = subst P (sym (first_of size block lt)) first
+
 pub direct_at : (disk : List (List ℕ)) (inode : Inode) (index : ℕ) → index < 10 → named_at disk inode (Data index) ≡ get_or inode.direct index 0
-direct_at disk inode index lt = cond-true (ltb index 10) _ _ (lt-ltb index 10 lt)
+direct_at disk inode index lt = ap (led_to disk inode index) (way_within index lt)
 
 pub behind_at : (disk : List (List ℕ)) (inode : Inode) (index : ℕ) → 10 ≤ index → named_at disk inode (Data index) ≡ pointer_at (block_bytes disk inode.indirect) (index - 10)
-behind_at disk inode index past = cond-false (ltb index 10) _ _ (le-ltb index 10 past)
+behind_at disk inode index past = ap (led_to disk inode index) (way_behind index past)
+
+-- a block of bytes is named as it was said before there was a way: by the inode, or in the one block of pointers
+pub named_is : (disk : List (List ℕ)) (inode : Inode) (index : ℕ)
+    → named_at disk inode (Data index) ≡ cond (ltb index 10) (get_or inode.direct index 0) (pointer_at (block_bytes disk inode.indirect) (index - 10))
+named_is disk inode index = elim (cases_lt index 10) [
+  | inl lt ↦ direct_at disk inode index lt ∙ sym (cond-true (ltb index 10) _ _ (lt-ltb index 10 lt))
+  | inr past ↦ behind_at disk inode index past ∙ sym (cond-false (ltb index 10) _ _ (le-ltb index 10 past))
+]
+
+-- and a node has one block of pointers just where it has more than ten of bytes
+pub pointer_blocks_are : (size : ℕ) → pointer_blocks size ≡ cond (ltb 10 (data_blocks size)) 1 0
+pointer_blocks_are size = elim (cases_lt 10 (data_blocks size)) [
+  | inl large ↦ (let one : pointer_blocks size ≡ 1 = omega (arith, large) in one ∙ sym (ap (λ (b : Bool). cond b 1 0) (lt-ltb 10 (data_blocks size) large)))
+  | inr few ↦ (let none : pointer_blocks size ≡ 0 = omega (arith, few) in none ∙ sym (ap (λ (b : Bool). cond b 1 0) (le-ltb 10 (data_blocks size) few)))
+]
 
 -- what a node names is a block for files
 pub named_is_for_files : (disk : List (List ℕ)) → Sound disk → (node : ℕ) (inode : Inode) (place : Place) → HasInode disk node inode → HasPlace inode.size place → IsForFiles (length disk) (named_at disk inode place)
@@ -178,60 +223,54 @@ named_is_for_files disk sound node inode (Data index) has lt =
           let large : 10 * block_size < inode.size = omega (arith, lt, behind) in
           let within : index - 10 < 256 = omega (arith, lt, has.valid.kind.size) in
           let needed : (10 + (index - 10)) * block_size < inode.size = omega (arith, lt, behind) in
-          let is = sound.pointers node inode (index - 10) has large within in
+          let is = sound.pointers node inode 0 (index - 10) has (omega (arith, large)) within in
           subst (IsForFiles (length disk)) (sym (behind_at disk inode index behind)) (is_needed (length disk) ((10 + (index - 10)) * block_size) inode.size (pointer_at (block_bytes disk inode.indirect) (index - 10)) needed is)
     ]
-named_is_for_files disk sound node inode Pointers has lt = is_needed (length disk) (10 * block_size) inode.size inode.indirect (omega (arith, lt)) has.valid.pointers.indirect
+named_is_for_files disk sound node inode (Pointers block) has lt = is_needed (length disk) (10 * block_size) inode.size inode.indirect (omega (arith, lt)) has.valid.pointers.indirect
 
 pub is_for_files : (disk : List (List ℕ)) (number : ℕ) → Sound disk → IsNamed disk number → IsForFiles (length disk) number
 is_for_files disk number sound named = subst (IsForFiles (length disk)) (sym named.same) (named_is_for_files disk sound named.node named.inode named.place named.has named.within)
 
 -- the places of a node of this size one after another, those of its bytes first
 abbrev nth_place : ℕ → ℕ → Place
-nth_place size k = cond (ltb k (data_blocks size)) (Data k) Pointers
+nth_place size k = cond (ltb k (data_blocks size)) (Data k) (Pointers (k - data_blocks size))
 
 front_place : (size k : ℕ) → k < data_blocks size → nth_place size k ≡ Data k
 front_place size k lt = cond-true (ltb k (data_blocks size)) _ _ (lt-ltb k (data_blocks size) lt)
 
-last_place : (size k : ℕ) → data_blocks size ≤ k → nth_place size k ≡ Pointers
+last_place : (size k : ℕ) → data_blocks size ≤ k → nth_place size k ≡ Pointers (k - data_blocks size)
 last_place size k le = cond-false (ltb k (data_blocks size)) _ _ (le-ltb k (data_blocks size) le)
 
 pub one_for_pointers : (size : ℕ) → 10 < data_blocks size → pointer_blocks size ≡ 1
-one_for_pointers size large = ap (λ (b : Bool). cond b 1 0) (lt-ltb 10 (data_blocks size) large)
+one_for_pointers size large = omega (arith, large)
 
 pub none_for_pointers : (size : ℕ) → data_blocks size ≤ 10 → pointer_blocks size ≡ 0
-none_for_pointers size few = ap (λ (b : Bool). cond b 1 0) (le-ltb 10 (data_blocks size) few)
-
--- of the places behind those of the bytes only one is there
-behind_bytes : (size k : ℕ) → k < blocks_of size → data_blocks size ≤ k → (10 < data_blocks size) × (k ≡ data_blocks size)
-behind_bytes size k lt behind = elim (cases_lt 10 (data_blocks size)) [
-  | inl large ↦ (large, omega (arith, lt, behind, one_for_pointers size large))
-  | inr few ↦ absurd (omega (arith, lt, behind, none_for_pointers size few))
-]
+none_for_pointers size few = omega (arith, few)
 
 has_nth : (size k : ℕ) → k < blocks_of size → HasPlace size (nth_place size k)
 has_nth size k lt = elim (cases_lt k (data_blocks size)) [
   | inl front ↦ subst (HasPlace size) (sym (front_place size k front)) front
-  | inr behind ↦ subst (HasPlace size) (sym (last_place size k behind)) (behind_bytes size k lt behind).0
+  | inr behind ↦ subst (HasPlace size) (sym (last_place size k behind)) (omega (arith, lt, behind))
 ]
 
 -- the number of a place among them
 abbrev place_number : ℕ → Place → ℕ
 place_number size (Data index) = index
-place_number size Pointers = data_blocks size
+place_number size (Pointers block) = data_blocks size + block
 
 number_within : (size : ℕ) (place : Place) → HasPlace size place → place_number size place < blocks_of size
 number_within size (Data index) lt = omega (arith, lt)
-number_within size Pointers large = omega (arith, one_for_pointers size large)
+number_within size (Pointers block) lt = omega (arith, lt)
 
 nth_number : (size : ℕ) (place : Place) → HasPlace size place → nth_place size (place_number size place) ≡ place
 nth_number size (Data index) lt = front_place size index lt
-nth_number size Pointers large = last_place size (data_blocks size) (omega arith)
+nth_number size (Pointers block) lt =
+    let back : data_blocks size + block - data_blocks size ≡ block = omega arith in last_place size (data_blocks size + block) (omega arith) ∙ ap Pointers back
 
 number_nth : (size k : ℕ) → k < blocks_of size → place_number size (nth_place size k) ≡ k
 number_nth size k lt = elim (cases_lt k (data_blocks size)) [
   | inl front ↦ ap (place_number size) (front_place size k front)
-  | inr behind ↦ ap (place_number size) (last_place size k behind) ∙ sym (behind_bytes size k lt behind).1
+  | inr behind ↦ (let there : data_blocks size + (k - data_blocks size) ≡ k = omega (arith, behind) in ap (place_number size) (last_place size k behind) ∙ there)
 ]
 
 abbrev nth_named : List (List ℕ) → Inode → ℕ → ℕ

@@ -5,8 +5,8 @@ use Rattle.std.proofs.lemmas.Bool.{cases_lt, cases_eq}
 use Rattle.std.proofs.lemmas.List.{length-set, get_or-set_same, get_or-set_other}
 use Rattle.std.proofs.lemmas.List.Sums.{sum_by-set}
 use Rattle.kabi_types.specs.declared.inodes.Inode.{Inode}
-use Rattle.posix_defs.specs.DiskFormat.{block_size, table_end, table_nodes, data_blocks, blocks_of, IsPointer, IsInode}
-use Rattle.posix_defs.specs.SoundDisk.{block_bytes, HasInode, pointer_at, Place, Data, Pointers, HasPlace, named_at, IsNamed, IsMarked, Sound, IsTable, free_in_map}
+use Rattle.posix_defs.specs.DiskFormat.{block_size, table_end, table_nodes, data_blocks, pointer_blocks, blocks_of, needs_pointer, IsPointer, IsInode}
+use Rattle.posix_defs.specs.SoundDisk.{block_bytes, HasInode, pointer_at, pointer_block, Place, Data, Pointers, HasPlace, named_at, IsNamed, IsMarked, Sound, IsTable, free_in_map}
 use Rattle.posix_defs.specs.DiskContents.{data_block, byte_at, node_bytes}
 use Rattle.posix_defs.specs.NodeChange.{Names, Replaces}
 use Rattle.posix_defs.specs.DiskTree.{ChangesNode}
@@ -40,11 +40,11 @@ same_named number before old after new sound change node inode (Data index) othe
     elim (cases_lt index 10) [
       | inl first ↦ direct_at after inode index first ∙ sym (direct_at before inode index first)
       | inr behind ↦
-          let large : HasPlace inode.size Pointers = omega (arith, behind, within) in
-          let block : block_bytes after inode.indirect ≡ block_bytes before inode.indirect = untouched_of number before old after new sound change node inode Pointers other has large in
+          let large : HasPlace inode.size (Pointers 0) = omega (arith, behind, within) in
+          let block : block_bytes after inode.indirect ≡ block_bytes before inode.indirect = untouched_of number before old after new sound change node inode (Pointers 0) other has large in
           behind_at after inode index behind ∙ ap (λ (bytes : List ℕ). pointer_at bytes (index - 10)) block ∙ sym (behind_at before inode index behind)
     ]
-same_named number before old after new sound change node inode Pointers other has within = refl
+same_named number before old after new sound change node inode (Pointers block) other has within = refl
 
 -- ---- the table
 
@@ -106,17 +106,16 @@ sound_table number before old after new sound change node pos within =
     ]
 
 sound_pointers : (number : ℕ) (before : List (List ℕ)) (old : Inode) (after : List (List ℕ)) (new : Inode) → Sound before → Replaces number before old after new
-    → (node : ℕ) (inode : Inode) (k : ℕ) → HasInode after node inode → 10 * block_size < inode.size → k < 256
-    → IsPointer (length after) (ltb ((10 + k) * block_size) inode.size) (pointer_at (block_bytes after inode.indirect) k)
-sound_pointers number before old after new sound change node inode k has large lt =
-    let Right : ℕ → Inode → Type 0 = λ n i. IsPointer n (ltb ((10 + k) * block_size) i.size) (pointer_at (block_bytes after i.indirect) k) in
+    → (node : ℕ) (inode : Inode) (block at : ℕ) → HasInode after node inode → block < pointer_blocks inode.size → at < 256
+    → IsPointer (length after) (needs_pointer inode.size block at) (pointer_at (block_bytes after (pointer_block inode block)) at)
+sound_pointers number before old after new sound change node inode block at has large lt =
+    let Right : ℕ → Inode → Type 0 = λ n i. IsPointer n (needs_pointer i.size block at) (pointer_at (block_bytes after (pointer_block i block)) at) in
     subst (λ (n : ℕ). Right n inode) (sym change.count) (
     elim (who number before old after new change node inode has) [
-      | inl this ↦ subst (λ (i : Inode). Right (length before) i) (sym this.1) (change.pointers k (subst (λ (i : Inode). 10 * block_size < i.size) this.1 large) lt)
+      | inl this ↦ subst (λ (i : Inode). Right (length before) i) (sym this.1) (change.pointers block at (subst (λ (i : Inode). block < pointer_blocks i.size) this.1 large) lt)
       | inr other ↦
-          let named : HasPlace inode.size Pointers = omega (arith, large) in
-          let block : block_bytes after inode.indirect ≡ block_bytes before inode.indirect = untouched_of number before old after new sound change node inode Pointers other.0 other.1 named in
-          subst (λ (bytes : List ℕ). IsPointer (length before) (ltb ((10 + k) * block_size) inode.size) (pointer_at bytes k)) (sym block) (sound.pointers node inode k other.1 large lt)
+          let bytes_stay : block_bytes after (pointer_block inode block) ≡ block_bytes before (pointer_block inode block) = untouched_of number before old after new sound change node inode (Pointers block) other.0 other.1 large in
+          subst (λ (bytes : List ℕ). IsPointer (length before) (needs_pointer inode.size block at) (pointer_at bytes at)) (sym bytes_stay) (sound.pointers node inode block at other.1 large lt)
     ]
     )
 

@@ -12,7 +12,7 @@ use crate::inodes::bytes_of;
 use crate::regions::{Region, zero_block};
 use crate::words::put;
 use kabi_types::{DirEntry, Inode, Memory, Name27};
-use posix_defs::Blocks;
+use posix_defs::{Blocks, blank_inode};
 use std::alloc::Global;
 use std::marker::Model;
 
@@ -174,7 +174,7 @@ fn root_of(blocks: u32) -> Inode
         nlink: 1,
         size: 64,
         direct,
-        indirect: 0,
+        ..blank_inode()
     }
 }
 

@@ -20,8 +20,8 @@ const DIRECT_POINTERS: u32 = 10;
 /// How many blocks a block of pointers names.
 const BLOCK_POINTERS: u32 = 256;
 
-/// The greatest size of a node.
-const GREATEST_SIZE: u32 = BLOCK_SIZE * (DIRECT_POINTERS + BLOCK_POINTERS);
+/// The greatest size of a node: as many blocks of bytes as it can name.
+pub const GREATEST_SIZE: u32 = BLOCK_SIZE * (DIRECT_POINTERS + BLOCK_POINTERS);
 
 /// The big-endian numbers of an inode's direct pointers.
 fn pointers_of(bytes: &[u8]) -> [u32; 10]

@@ -9,7 +9,7 @@ use Rattle.kabi_types.specs.declared.scripts.Script.{Script}
 use Rattle.kabi_types.specs.declared.classes.Need.{Need}
 use Rattle.kabi_types.specs.declared.errnos.Errno.{Errno}
 use Rattle.kabi_types.specs.declared.replies.Reply.TheVariants.{Fail, Val}
-use Rattle.kheap_slabs.specs.Counts.{need_bytes}
+use Rattle.kabi_types.specs.Counts.{need_bytes}
 use Rattle.kheap_slabs.specs.Objects.{count}
 use Rattle.kheap_slabs.specs.Purse.{Purse, left_bytes}
 use Rattle.kheap_slabs.specs.declared.objects.Proc.{Proc}

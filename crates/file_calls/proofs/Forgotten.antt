@@ -14,7 +14,7 @@ use Rattle.proc_table.specs.Changes.{cleared}
 use Rattle.proc_table.specs.Moves.{TableMoves}
 use Rattle.proc_descs.specs.Having.{HaveDescriptors}
 use Rattle.proc_table.specs.Opening.{HaveOpen as TableOpen}
-use Rattle.proc_table.specs.Procs.{no_nodes, proc_of}
+use Rattle.proc_table.specs.Procs.{no_nodes, numbers_in, proc_of}
 use Rattle.proc_table.proofs.OpenLemmas.{have_nodes}
 use Rattle.proc_table.specs.Standing.{IsTable, cleared_in}
 use Rattle.proc_table.specs.Table.{TableView, processes}
@@ -110,11 +110,11 @@ module _ (script : Script) (old new : Objects) (pid : ℕ) (same : new.procs ≡
     files : HaveFiles new world.plain.files (forgotten_in world pid).account
     files = files_moved old new world.plain.files world.plain.files world.account (forgotten_in world pid).account moves refl refl refl refl refl
         (λ number have.
-        subst (λ (view : TableView). HaveDescriptors number (processes new.heap view) view.last world.plain.files) (sym same)
-        (by_pids number (processes new.heap old.procs) old.procs.last world.plain.files
-        (subst (λ procs. TableOpen procs old.procs.last number world.plain.files) (sym are_still)
-        (have_nodes pid no_nodes (procs_of old) old.procs.last number world.plain.files
-        (by_procs number (procs_of old) old.procs.last world.plain.files (rising_in script old stands.kept) have)))))
+        subst (λ (view : TableView). HaveDescriptors (numbers_in new.heap) number (processes new.heap view) view.last world.plain.files) (sym same)
+        (by_pids new.heap number (processes new.heap old.procs) old.procs.last world.plain.files
+        (subst (λ procs. TableOpen (numbers_in new.heap) procs old.procs.last number world.plain.files) (sym are_still)
+        (have_nodes old.heap pid no_nodes (procs_of old) old.procs.last number world.plain.files
+        (by_procs old.heap number (procs_of old) old.procs.last world.plain.files (rising_in script old stands.kept) have)))))
         stands.files
 
     controls_kept : (q : ℕ) (it : Proc) → proc_of (procs_of new) q ≡ Some it → (was : Proc) × (proc_of (procs_of old) q ≡ Some was) × SameButNodes was it

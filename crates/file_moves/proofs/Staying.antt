@@ -17,7 +17,7 @@ use Rattle.proc_files.specs.Closing.{ChangesHolding}
 use Rattle.holding_laws.specs.Names.{AreBound, name_of}
 use Rattle.proc_queues.specs.Standing.{IsKept}
 use Rattle.proc_table.specs.Accounting.{HasAccount}
-use Rattle.proc_table.specs.Procs.{HasNoneOpenOnce, IsAlive, IsLight, proc_of}
+use Rattle.proc_table.specs.Procs.{HasNoneOpenOnce, IsAlive, IsLight, numbers_in, proc_of}
 use Rattle.proc_table.specs.Standing.{IsTable}
 use Rattle.proc_table.specs.Table.{Holds, TableView, processes, procs_at}
 use Rattle.proc_table.proofs.LawLemmas.{elsewhere_account, elsewhere_table}
@@ -33,9 +33,9 @@ use Rattle.open_moves.proofs.Numbers.{account_opened, table_opened}
 use Rattle.file_moves.specs.Moves.{FileMoves, MemoryStays}
 
 -- with its own descriptors a process is what it is
-opening_own : (o : Option Proc) → o ≡ option_map (opening (places_in o)) o
-opening_own None = refl
-opening_own (Some proc) = refl
+opening_own : (h : Heap) (o : Option Proc) → o ≡ option_map (opening (places_in (numbers_in h) o)) o
+opening_own h None = refl
+opening_own h (Some proc) = refl
 
 -- a table that has all processes of a heap holds, where each that has ended has nothing
 holds_all : (h : Heap) (kept : TableView) → AreListed h kept → OwnsItsObjects h → AllByRecursion IsLight (processes h kept) → Holds h kept
@@ -53,8 +53,8 @@ module _ (old new : Objects) (same : new.procs ≡ old.procs) (procs : new.heap.
   procs_elsewhere = record {
     same = same;
     each = λ pid. (
-      places_in (proc_of (procs_of old) pid),
-      ap (λ (view : TableView). proc_of (processes new.heap view) pid) same ∙ ap (λ all. proc_of all pid) processes_same ∙ opening_own (proc_of (procs_of old) pid),
+      places_in (numbers_in old.heap) (proc_of (procs_of old) pid),
+      ap (λ (view : TableView). proc_of (processes new.heap view) pid) same ∙ ap (λ all. proc_of all pid) processes_same ∙ opening_own old.heap (proc_of (procs_of old) pid),
     );
   }
 
@@ -142,7 +142,7 @@ module _ (old new : Heap) (kept : TableView) (pid : ℕ) (changes : ChangesHoldi
           subst (λ n. proc_of (processes new kept) n ≡ option_map (opening changes.places) (proc_of (processes old kept) n)) (sym same.1)
               (here ∙ sym (ap (option_map (opening changes.places)) before)),
         )
-        by_test (inr apart) = (places_in (proc_of (processes old kept) q), others q apart.1 ∙ opening_own (proc_of (processes old kept) q))
+        by_test (inr apart) = (places_in (numbers_in old) (proc_of (processes old kept) q), others q apart.1 ∙ opening_own old (proc_of (processes old kept) q))
 
     -- who runs may have anything open
     light : IsAlive (processes old kept) pid → AreListed new kept → AllByRecursion IsLight (processes new kept)

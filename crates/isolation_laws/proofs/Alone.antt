@@ -1,7 +1,7 @@
 -- Whatever another process's call is answered, a process that lives before it and after it keeps its own.
 use Rattle.std.proofs.Common.{◌≡◌, ◌≢◌, ℕ, ◌+◌, ◌≤◌, ◌==◌, ℤ, pos, negsuc, Bool, true, false, cond, [], ◌∷◌, length, Option, None, Some, unwrap_or, refl, ap, sym, ◌∙◌, subst, inl, inr, arith}
 use Rattle.std.proofs.lemmas.Bool.Decides.{eqb_tells}
-use Rattle.kabi_types.specs.Arguments.{argument_fault}
+use Rattle.kabi_types.specs.Arguments.{argument_fault, count_of}
 use Rattle.kabi_types.specs.declared.calls.Call.{Call}
 use Rattle.kabi_types.specs.declared.calls.Call.TheVariants as calls
 use Rattle.kabi_types.specs.declared.errnos.Errno.{Errno}
@@ -13,7 +13,7 @@ use Rattle.kabi_types.specs.declared.scripts.Script.{Script}
 use Rattle.posix_defs.specs.Answer as answer
 use Rattle.posix_defs.specs.Answer.{Answer, failed, replied}
 use Rattle.posix_defs.specs.Control as program
-use Rattle.posix_defs.specs.Ending.{closed_by, die, die_in, exit_status}
+use Rattle.posix_defs.specs.Ending.{closed_by, die, die_in}
 use Rattle.posix_defs.specs.Forking.{child_of, is_full, with_child}
 use Rattle.posix_defs.specs.Killing.{is_asking, kill, sent_to, struck}
 use Rattle.posix_defs.specs.Machine.{machine, unless_wrong}
@@ -27,7 +27,7 @@ use Rattle.answer_laws.proofs.Shapes.{machine_shape}
 use Rattle.kern_laws.proofs.Families.{alive_there}
 use Rattle.kern_laws.proofs.TablePlaces.{same_in_front, was_made}
 use Rattle.machine_laws.specs.Described.{AreDescribed}
-use Rattle.machine_laws.specs.FileSteps.{IsStep, LeadsTo, is_ending}
+use Rattle.machine_laws.specs.FileSteps.{IsStep, LeadsTo, Steps, may_end_other}
 use Rattle.machine_laws.specs.Placed.{IsPlaced}
 use Rattle.machine_laws.specs.Reached.{IsReached}
 use Rattle.machine_laws.proofs.Naming.{answers_described, die_described}
@@ -112,17 +112,17 @@ module _ (script : Script) (plain : Plain) (pid who : ℕ) (apart : who ≢ pid)
       | inl alike ↦ absurd (true_false still (ap (is_alive (die_in plain.table target status)) alike.1 ∙ ended_dead plain.table target status lived))
     ]
 
-    by_shape : (call : Call) → is_alive plain.table pid ≡ true → (given : Answer) → ((files : Files) → IsStep plain pid call files → Spares pid who plain.files files)
-        → LeadsTo (λ next. IsStep plain pid call next.files) given → HasShape script plain pid call given → Sparing given
+    by_shape : (call : Call) → is_alive plain.table pid ≡ true → (given : Answer) → ((files : Files) → IsStep plain pid call true files → Spares pid who plain.files files)
+        → Steps plain pid call given → HasShape script plain pid call given → Sparing given
     by_shape call lives given spared stepped (shape.blocks may is) = subst Sparing (sym is) tt
     by_shape call lives given spared stepped (shape.fails errno other is) = subst Sparing (sym is) (λ still. goes_on plain (Fail errno) nothing)
     by_shape call lives given spared stepped (shape.tells files said is_said is) = subst Sparing (sym is) (λ still.
-        goes_on (with_files plain files) said (with_new files (spared files (subst (LeadsTo (λ next. IsStep plain pid call next.files)) is stepped))))
+        goes_on (with_files plain files) said (with_new files (spared files (subst (Steps plain pid call) is stepped))))
     by_shape call lives given spared stepped (shape.puts files memory said is_said put is) = subst Sparing (sym is) (λ still.
         goes_on _ said (record {
           process = other_place who pid plain.table (remembering memory (process_at plain.table pid)) apart;
           control = refl;
-          files = spared files (subst (LeadsTo (λ next. IsStep plain pid call next.files)) is stepped);
+          files = spared files (subst (Steps plain pid call) is stepped);
         }))
     by_shape call lives given spared stepped (shape.moves path directory called led is) = subst Sparing (sym is) (λ still.
         goes_on _ (Val (pos 0)) (record {
@@ -133,7 +133,7 @@ module _ (script : Script) (plain : Plain) (pid who : ℕ) (apart : who ≢ pid)
     by_shape call lives given spared stepped (shape.parts files moved part is) = subst Sparing (sym is) (λ still. record {
       process = same_place who plain.table plain.table refl;
       control = other_control plain (with_files plain files) pid who _ apart refl;
-      files = spared files (subst (LeadsTo (λ next. IsStep plain pid call next.files)) is stepped);
+      files = spared files (subst (Steps plain pid call) is stepped);
     })
     by_shape call lives given spared stepped (shape.starts place is) = subst Sparing (sym is) (λ still. record {
       process = other_place who pid plain.table (remembering no_memory (process_at plain.table pid)) apart;
@@ -149,7 +149,7 @@ module _ (script : Script) (plain : Plain) (pid who : ℕ) (apart : who ≢ pid)
         }))
     by_shape call lives given spared stepped (shape.ends status is) = subst Sparing (sym is) (λ still. ended pid status lives still)
     by_shape call lives given spared stepped (shape.ends_another target signal called first own lived is) = subst Sparing (sym is) (λ still.
-        goes_on (die plain target 9) (Val (pos 0)) (ended target 9 lived still))
+        goes_on (die plain target (count_of signal)) (Val (pos 0)) (ended target (count_of signal) lived still))
 
     -- ---- calls that make or end a process
 
@@ -172,10 +172,10 @@ module _ (script : Script) (plain : Plain) (pid who : ℕ) (apart : who ≢ pid)
     kill_spares lives (negsuc n) signal = fails ESRCH
     kill_spares lives (pos target) signal = go (process_at plain.table target) refl
       where
-        strikes : is_alive plain.table target ≡ true → Sparing (struck script plain pid target)
-        strikes lived = either (target == pid) _ _ (λ still. ended pid 9 lives still) (λ still. goes_on (die plain target 9) (Val (pos 0)) (ended target 9 lived still))
+        strikes : is_alive plain.table target ≡ true → Sparing (struck script plain pid target (count_of signal))
+        strikes lived = either (target == pid) _ _ (λ still. ended pid (count_of signal) lives still) (λ still. goes_on (die plain target (count_of signal)) (Val (pos 0)) (ended target (count_of signal) lived still))
 
-        by_life : (b : Bool) → is_alive plain.table target ≡ b → Sparing (cond b (struck script plain pid target) (replied script plain pid (Val (pos 0))))
+        by_life : (b : Bool) → is_alive plain.table target ≡ b → Sparing (cond b (struck script plain pid target (count_of signal)) (replied script plain pid (Val (pos 0))))
         by_life true lived = strikes lived
         by_life false over = λ still. goes_on plain (Val (pos 0)) nothing
 
@@ -185,20 +185,18 @@ module _ (script : Script) (plain : Plain) (pid who : ℕ) (apart : who ≢ pid)
             (either (target == 1) _ _ (fails EPERM) (by_life (runs process.status) (ap is_alive_in is)))
 
     -- every other call
-    other_spares : (call : Call) → is_alive plain.table pid ≡ true → call ≢ calls.Fork → is_ending call ≡ false → Sparing (machine script plain pid call)
-    other_spares call lives no_fork no_end = by_shape call lives (machine script plain pid call) (λ files stepped. step_spares plain pid who call files apart no_fork no_end stepped)
+    other_spares : (call : Call) → is_alive plain.table pid ≡ true → call ≢ calls.Fork → may_end_other call ≡ false → Sparing (machine script plain pid call)
+    other_spares call lives no_fork no_other = by_shape call lives (machine script plain pid call) (λ files stepped. step_spares plain pid who call files apart no_fork no_other stepped)
         (step_of script plain pid call) (machine_shape script plain pid call)
 
-    -- whose call is `fork`, or may end a process
+    -- whose call is `fork`, or may end another
     pub data Kind (call : Call) : Type 0 where
       makes : call ≡ calls.Fork → Kind call
-      exits : (status : ℤ) → call ≡ calls.Exit status → Kind call
       kills : (target signal : ℤ) → call ≡ calls.Kill target signal → Kind call
-      else_ : call ≢ calls.Fork → is_ending call ≡ false → Kind call
+      else_ : call ≢ calls.Fork → may_end_other call ≡ false → Kind call
 
     kind_of : (call : Call) → Kind call
     kind_of calls.Fork = makes refl
-    kind_of (calls.Exit status) = exits status refl
     kind_of (calls.Kill target signal) = kills target signal refl
     kind_of _ = else_ (λ same. cc) refl
 
@@ -207,10 +205,9 @@ module _ (script : Script) (plain : Plain) (pid who : ℕ) (apart : who ≢ pid)
       where
         go : Kind call → Sparing (machine script plain pid call)
         go (makes is) = subst (λ c. Sparing (machine script plain pid c)) (sym is) fork_spares
-        go (exits status is) = subst (λ c. Sparing (machine script plain pid c)) (sym is) (λ still. ended pid (exit_status status) lives still)
         go (kills target signal is) = subst (λ c. Sparing (machine script plain pid c)) (sym is)
             (unless_fault (argument_fault (calls.Kill target signal)) (kill script plain pid target signal) (kill_spares lives target signal))
-        go (else_ no_fork no_end) = other_spares call lives no_fork no_end
+        go (else_ no_fork no_other) = other_spares call lives no_fork no_other
 
 pub answers_leave_alone : (script : Script) (plain : Plain) → IsReached script plain → (pid who : ℕ) (call : Call) → is_alive plain.table pid ≡ true
     → who ≢ pid → is_alive plain.table who ≡ true

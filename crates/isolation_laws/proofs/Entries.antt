@@ -2,6 +2,7 @@
 use Rattle.std.proofs.Common.{◌≡◌, ◌≢◌, ℕ, ◌≤◌, ◌==◌, Bool, true, false, List, [], ◌∷◌, ◌++◌, length, refl, ap, sym, ◌∙◌, subst, inl, inr, arith}
 use Rattle.std.specs.List.{AllByRecursion}
 use Rattle.std.proofs.lemmas.Bool.Decides.{eqb_tells}
+use Rattle.kabi_types.specs.Arguments.{count_of}
 use Rattle.kabi_types.specs.declared.errnos.Errno.TheVariants.{ENOMEM}
 use Rattle.kabi_types.specs.declared.replies.Reply.TheVariants.{Fail}
 use Rattle.kabi_types.specs.declared.entries.Entry.{Entry}
@@ -116,7 +117,7 @@ module _ (script : Script) (plain : Plain) (pid who : ℕ) (made : who ≤ lengt
   answers_dead call given (shape.forks is) = subst Dead (sym is) (ap is_alive_in (same_in_front plain.table (child_of pid (process_at plain.table pid)) who made) ∙ dead)
   answers_dead call given (shape.reaps child status over is) = subst Dead (sym is) (reaped_dead plain.table child who dead)
   answers_dead call given (shape.ends status is) = subst Dead (sym is) (die_dead plain.table pid status who dead)
-  answers_dead call given (shape.ends_another target signal called first own lived is) = subst Dead (sym is) (die_dead plain.table target 9 who dead)
+  answers_dead call given (shape.ends_another target signal called first own lived is) = subst Dead (sym is) (die_dead plain.table target (count_of signal) who dead)
 
 module _ (script : Script) (past next : Past) (who : ℕ) (made : who ≤ length past.plain.table) (dead : is_alive past.plain.table who ≡ false) where
   dead_at : (plain : Plain) → next.plain ≡ plain → is_alive plain.table who ≡ false → is_alive next.plain.table who ≡ false

@@ -217,10 +217,10 @@ module _ (script : Script) (plain : Plain) (frames : Frames) (holds : Holds plai
       none : Framed asked (replied script plain pid (reply.Val (pos 0)))
       none = goes_quiet plain frames holds _ refl
 
-      strikes : is_alive plain.table target ≡ true → Framed asked (struck script plain pid target)
-      strikes lived = either asked (target == pid) _ _ (goes_ended plain frames holds _ pid sigkill alive refl) (goes_ended plain frames holds _ target sigkill lived refl)
+      strikes : is_alive plain.table target ≡ true → Framed asked (struck script plain pid target (count_of signal))
+      strikes lived = either asked (target == pid) _ _ (goes_ended plain frames holds _ pid (count_of signal) alive refl) (goes_ended plain frames holds _ target (count_of signal) lived refl)
 
-      by_life : (b : Bool) → is_alive plain.table target ≡ b → Framed asked (cond b (struck script plain pid target) (replied script plain pid (reply.Val (pos 0))))
+      by_life : (b : Bool) → is_alive plain.table target ≡ b → Framed asked (cond b (struck script plain pid target (count_of signal)) (replied script plain pid (reply.Val (pos 0))))
       by_life true lived = strikes lived
       by_life false over = none
 

@@ -15,7 +15,7 @@ use Rattle.posix_defs.specs.Files.State.{Files, described_as, descriptors_of, op
 use Rattle.posix_defs.specs.Calls.Opened.{Opened, opened_at}
 use Rattle.machine_laws.specs.Described.{AreDescribed}
 use Rattle.machine_laws.specs.FileSteps as step
-use Rattle.machine_laws.specs.FileSteps.{IsStep, is_ending}
+use Rattle.machine_laws.specs.FileSteps.{IsStep, may_end_other}
 use Rattle.machine_laws.proofs.Fading.{Fades, close_fades, closed_by_fades, exec_fades}
 use Rattle.machine_laws.proofs.Naming.{by_named}
 use Rattle.machine_laws.proofs.Places.{IsNaming, naming, names_there, not_some, others_after, some_same, there_within}
@@ -150,7 +150,7 @@ describes pid who old files fd opened description numbers same named target acce
           (target ∙ ap (λ d. d.target) it) (access ∙ ap (λ d. d.access) it))
     ]
 
-module _ (plain : Plain) (pid who : ℕ) (call : Call) (next : Files) (apart : who ≢ pid) (no_fork : call ≢ calls.Fork) (no_end : is_ending call ≡ false) where
+module _ (plain : Plain) (pid who : ℕ) (call : Call) (next : Files) (apart : who ≢ pid) (no_fork : call ≢ calls.Fork) (no_other : may_end_other call ≡ false) where
   by : (after : Files) → next ≡ after → Leaves who plain.files after → Spares pid who plain.files next
   by after is leaves = subst (Spares pid who plain.files) (sym is) (leaves_spare pid who plain.files after leaves)
 
@@ -182,7 +182,7 @@ module _ (plain : Plain) (pid who : ℕ) (call : Call) (next : Files) (apart : w
     each = leaves.each;
   }
 
-  pub step_spares : IsStep plain pid call next → Spares pid who plain.files next
+  pub step_spares : IsStep plain pid call true next → Spares pid who plain.files next
   step_spares (step.stays is) = same _ is refl refl
   step_spares (step.shares fd given from to named free is) = opened _ is (opens_number who pid to plain.files _ apart)
   step_spares (step.shares_over fd to given named may other is) = by _ is (closed_then (count_of to) _)
@@ -212,7 +212,8 @@ module _ (plain : Plain) (pid who : ℕ) (call : Call) (next : Files) (apart : w
   step_spares (step.sends fd addr n done given place k which named on moves is) = same _ is refl refl
   step_spares (step.starts is) = by _ is (execs who pid plain.files apart)
   step_spares (step.forks which is) = absurd (no_fork which)
-  step_spares (step.ends other ending is) = absurd (true_false ending no_end)
+  step_spares (step.ends_caller over ending is) = absurd (true_false refl over)
+  step_spares (step.ends_other other ending is) = absurd (true_false ending no_other)
 
 -- ---- what a number names
 

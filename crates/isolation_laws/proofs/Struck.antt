@@ -1,6 +1,7 @@
 -- What of another one's calls ends a process.
 use Rattle.std.proofs.Common.{◌≡◌, ◌≢◌, ℕ, zero, suc, pos, true, false, None, refl, ap, sym, ◌∙◌, subst, inl, inr}
 use Rattle.std.proofs.lemmas.Bool.Decides.{eqb_tells}
+use Rattle.kabi_types.specs.Arguments.{count_of}
 use Rattle.kabi_types.specs.declared.calls.Call.{Call}
 use Rattle.kabi_types.specs.declared.calls.Call.TheVariants.{Kill}
 use Rattle.kabi_types.specs.declared.scripts.Script.{Script}
@@ -53,7 +54,7 @@ module _ (script : Script) (plain : Plain) (pid who : ℕ) (call : Call) (apart 
   ])
   by_shape given (shape.ends_another target signal called first other lived is) = subst Ends (sym is) (λ over. elim (eqb_tells target who) [
     | inl hit ↦ own.struck signal (called ∙ ap (λ t. Kill (pos t) signal) hit.1)
-    | inr missed ↦ absurd (true_false (survives target 9 (λ same. missed.1 (sym same)) first) over)
+    | inr missed ↦ absurd (true_false (survives target (count_of signal) (λ same. missed.1 (sym same)) first) over)
   ])
 
 pub answers_end : (script : Script) (plain : Plain) (pid who : ℕ) (call : Call) → who ≢ pid → is_alive plain.table who ≡ true

@@ -1,7 +1,12 @@
--- The sizes of kernel objects.
-use Rattle.std.specs.Prelude.{ℕ}
+-- The classes of kernel objects, and their sizes.
+use Rattle.std.specs.Prelude.{ℕ, List, [], ◌∷◌}
 use Rattle.kabi_types.specs.declared.classes.Class.{Class}
 use Rattle.kabi_types.specs.declared.classes.Class.TheVariants as class
+
+-- all classes, in the order in which the price list has them
+abbrev pub all_classes : List Class
+all_classes =
+    class.Proc ∷ class.Node ∷ class.Page ∷ class.Desc ∷ class.Vnode ∷ class.Name ∷ class.Block ∷ class.Pipe ∷ class.Chunk ∷ class.Sock ∷ []
 
 -- how many bytes of kernel heap an object of a class takes
 abbrev pub size : Class → ℕ

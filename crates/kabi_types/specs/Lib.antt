@@ -1,4 +1,5 @@
 pub mod Class
+pub mod Counts
 pub mod Errno
 pub mod OpenFlags
 pub mod Packed

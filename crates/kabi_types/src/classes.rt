@@ -1,5 +1,6 @@
 ghost use Rattle.std.specs.Prelude.{◌≡◌};
 ghost use Rattle.kabi_types.specs.Class.{size};
+ghost use Rattle.kabi_types.specs.Counts.{counted, with_count};
 
 /// A class of kernel objects.
 #[derive(Clone, Copy, Debug, PartialEq, Eq)]
@@ -26,6 +27,20 @@ pub enum Class {
 }
 
 impl Class {
+    /// All classes, in the order in which the price list has them.
+    pub const ALL: [Class; 10] = [
+        Class::Proc,
+        Class::Node,
+        Class::Page,
+        Class::Desc,
+        Class::Vnode,
+        Class::Name,
+        Class::Block,
+        Class::Pipe,
+        Class::Chunk,
+        Class::Sock,
+    ];
+
     /// How many bytes of kernel heap an object takes.
     pub fn bytes(self) -> u64
         ensures { result ≡ size self }
@@ -58,6 +73,45 @@ pub struct Need {
     pub pipe: u32,
     pub chunk: u32,
     pub sock: u32,
+}
+
+impl Need {
+    /// How many objects of the class are counted.
+    pub fn count(&self, class: Class) -> u32
+        ensures { result ≡ counted self.now class }
+    {
+        match class {
+            Class::Proc => self.proc,
+            Class::Node => self.node,
+            Class::Page => self.page,
+            Class::Desc => self.desc,
+            Class::Vnode => self.vnode,
+            Class::Name => self.name,
+            Class::Block => self.block,
+            Class::Pipe => self.pipe,
+            Class::Chunk => self.chunk,
+            Class::Sock => self.sock,
+        }
+    }
+
+    /// The same counts, with another one for the class.
+    pub fn with_count(mut self, class: Class, count: u32) -> Need
+        ensures { result ≡ with_count self class count }
+    {
+        match class {
+            Class::Proc => self.proc = count,
+            Class::Node => self.node = count,
+            Class::Page => self.page = count,
+            Class::Desc => self.desc = count,
+            Class::Vnode => self.vnode = count,
+            Class::Name => self.name = count,
+            Class::Block => self.block = count,
+            Class::Pipe => self.pipe = count,
+            Class::Chunk => self.chunk = count,
+            Class::Sock => self.sock = count,
+        }
+        self
+    }
 }
 
 /// What a process weighs where a victim is chosen.

@@ -2,6 +2,7 @@
 use Rattle.std.proofs.Common.{◌≡◌, ◌≢◌, ℕ, zero, suc, ◌+◌, ◌<◌, ◌≤◌, ◌==◌, pos, Bool, true, false, cond, List, [], ◌∷◌, ◌++◌, length, map, Option, None, Some, refl, ap, sym, ◌∙◌, subst, arith, ◌⊎◌, inl, inr, length-append}
 use Rattle.std.proofs.lemmas.Bool.Decides.{eqb_tells}
 use Rattle.std.proofs.lemmas.List.{length-set, length-map}
+use Rattle.kabi_types.specs.Arguments.{count_of}
 use Rattle.kabi_types.specs.declared.calls.Call.{Call}
 use Rattle.kabi_types.specs.declared.calls.CallKind.{CallKind}
 use Rattle.kabi_types.specs.declared.entries.Entry.{Entry}
@@ -423,7 +424,7 @@ by_shape script plain pid which given kept alive (shape.reaps child status ended
     subst (KeepsOn plain) (sym is) (replied_leads script plain (with_table plain (with_pid plain.table child None)) pid (Waited child status) (reaps_on plain child kept ended))
 by_shape script plain pid which given kept alive (shape.ends status is) = subst (KeepsOn plain) (sym is) (dies_on plain pid status kept alive)
 by_shape script plain pid which given kept alive (shape.ends_another target signal of first own lives is) =
-    subst (KeepsOn plain) (sym is) (replied_leads script plain (die plain target 9) pid (Val (pos 0)) (dies_on plain target 9 kept lives))
+    subst (KeepsOn plain) (sym is) (replied_leads script plain (die plain target (count_of signal)) pid (Val (pos 0)) (dies_on plain target (count_of signal) kept lives))
 
 -- whatever the machine answers keeps what is kept
 pub answers_on : (script : Script) (plain : Plain) (pid : ℕ) (which : Call) → IsKept plain → is_alive plain.table pid ≡ true

@@ -2,6 +2,7 @@
 use Rattle.std.proofs.Common.{◌≡◌, ◌≢◌, ℕ, zero, suc, ◌+◌, ◌<◌, ◌≤◌, ◌==◌, if◌then◌else◌, Bool, true, false, pos, List, [], ◌∷◌, ◌++◌, length, map, Option, None, Some, slice_get, slice_set, unwrap_or, refl, ap, sym, ◌∙◌, subst, arith, inl, inr, length-append}
 use Rattle.std.proofs.lemmas.Bool.Decides.{eqb_tells}
 use Rattle.std.proofs.lemmas.List.{length-set, length-map}
+use Rattle.kabi_types.specs.Arguments.{count_of}
 use Rattle.kabi_types.specs.declared.calls.Call.{Call}
 use Rattle.kabi_types.specs.declared.replies.Reply.{Reply}
 use Rattle.kabi_types.specs.declared.replies.Reply.TheVariants.{Val, Waited, Fail}
@@ -366,8 +367,8 @@ by_shape script plain pid which given made alive (shape.reaps child status ended
 by_shape script plain pid which given made alive (shape.ends status is) =
     subst (AnswerGoes plain pid) (sym is) (die_next plain pid pid status made, die_ends plain.table pid status)
 by_shape script plain pid which given made alive (shape.ends_another target signal of first own lives is) =
-    subst (AnswerGoes plain pid) (sym is) (replied_goes script plain (die plain target 9) pid (Val (pos 0)) (die_next plain pid target 9 made)
-    (die_keeps plain.table target pid 9 first (λ same. own (sym same)) alive))
+    subst (AnswerGoes plain pid) (sym is) (replied_goes script plain (die plain target (count_of signal)) pid (Val (pos 0)) (die_next plain pid target (count_of signal) made)
+    (die_keeps plain.table target pid (count_of signal) first (λ same. own (sym same)) alive))
 
 -- whatever is answered goes so
 pub posix_goes : (script : Script) (plain : Plain) (pid : ℕ) (which : Call) → length plain.table ≡ last_pid plain → is_alive plain.table pid ≡ true

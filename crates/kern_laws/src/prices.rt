@@ -10,7 +10,8 @@ ghost use Rattle.kabi_types.specs.declared.classes.Class.TheVariants.{Block, Chu
 ghost use Rattle.kabi_types.specs.declared.errnos.Errno.{Errno};
 ghost use Rattle.posix_defs.specs.PriceList.{price_of};
 ghost use Rattle.posix_defs.specs.Needs.{bound, cost, need_of, is_write, stored_bytes};
-ghost use Rattle.posix_defs.specs.Sizes.{bytes_of, no_need};
+ghost use Rattle.kabi_types.specs.Counts.{need_bytes};
+ghost use Rattle.posix_defs.specs.Sizes.{no_need};
 ghost use Rattle.posix_defs.specs.declared.prices.Price.TheVariants.{Always};
 
 /// A call with a wrong operand needs nothing.
@@ -28,7 +29,7 @@ pub fn a_bound_is_that_of_the_price_list()
 /// A bound is the sum of the need by class. A write needs its blocks or its chunks and never both, so its bound is the
 /// greater of the two.
 pub fn a_bound_is_the_sum_of_its_need()
-    ensures sum { (call : Call) → is_write (kind_of call) ≡ false → bound call ≡ bytes_of (need_of call) }
+    ensures sum { (call : Call) → is_write (kind_of call) ≡ false → bound call ≡ need_bytes (need_of call) }
     ensures write { (fd addr n : ℤ) (done : ℕ)
         → bound (Write fd addr n done) ≡ max ((need_of (Write fd addr n done)).block * size Block) ((need_of (Write fd addr n done)).chunk * size Chunk) }
     ensures pwrite { (fd addr n at : ℤ)

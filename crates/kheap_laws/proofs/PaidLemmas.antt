@@ -1,23 +1,39 @@
 -- Calls that pay from one purse, one after the other, and calls without a purse.
-use Rattle.std.proofs.Common.{◌≡◌, ℕ, ◌+◌, ◌-◌, ◌<◌, ◌≤◌, ◌⊎◌, max, refl, ap, le_trans, le_refl, inl, inr, ◌∙◌, arith}
-use Rattle.kabi_types.specs.Class.{size}
+use Rattle.std.proofs.Common.{◌≡◌, ℕ, ◌+◌, ◌-◌, ◌*◌, ◌<◌, ◌≤◌, ◌⊎◌, List, [], ◌∷◌, max, refl, ap, le_trans, le_refl, mul-le-mul_right, add-mul, inl, inr, ◌∙◌, arith}
+use Rattle.std.specs.List.{sum_by}
+use Rattle.std.proofs.lemmas.List.Sums.{sum_by-cons}
+use Rattle.kabi_types.specs.Class.{all_classes, size}
 use Rattle.kabi_types.specs.declared.classes.Class.{Class}
 use Rattle.kabi_types.specs.declared.classes.Class.TheVariants as class
 use Rattle.kabi_types.specs.declared.classes.Need.{Need}
-use Rattle.kheap_slabs.specs.Counts.{counted, with_count, need_bytes}
+use Rattle.kabi_types.specs.Counts.{class_bytes, counted, need_bytes, with_count}
 use Rattle.kheap_slabs.specs.Purse.{Purse, left_bytes}
 use Rattle.kheap_slabs.specs.Heap.{Heap, counts_of, live_bytes, Makes, Frees}
 use Rattle.kheap_slabs.specs.Paid.{CanPay, IsPaid, TakesNothing}
 use Rattle.kheap_slabs.proofs.PurseLemmas.{need_bytes-less, need_bytes-more}
 
+-- what two and two others come to class by class, they come to in any list of classes
+sums : (a b c d : Class → ℕ) → ((class : Class) → a class + b class ≤ c class + d class) → (classes : List Class) → sum_by a classes + sum_by b classes ≤ sum_by c classes + sum_by d classes
+sums a b c d each [] = omega arith
+sums a b c d each (class ∷ rest) =
+    omega (arith, each class, sums a b c d each rest, sum_by-cons a class rest, sum_by-cons b class rest, sum_by-cons c class rest, sum_by-cons d class rest)
+
+times : (a b c d bytes : ℕ) → a + b ≤ c + d → a * bytes + b * bytes ≤ c * bytes + d * bytes
+times a b c d bytes less = omega (arith, mul-le-mul_right bytes less, add-mul a b bytes, add-mul c d bytes)
+
 -- where two counts and two others are related class by class, so are their bytes
 need_bytes-sum : (a b c d : Need) → ((class : Class) → counted a class + counted b class ≤ counted c class + counted d class) → need_bytes a + need_bytes b ≤ need_bytes c + need_bytes d
 need_bytes-sum a b c d each =
-    omega (arith, each class.Proc, each class.Node, each class.Page, each class.Desc, each class.Vnode, each class.Name, each class.Block, each class.Pipe, each class.Chunk, each class.Sock)
+    sums (class_bytes a) (class_bytes b) (class_bytes c) (class_bytes d) (λ class. times (counted a class) (counted b class) (counted c class) (counted d class) (size class) (each class)) all_classes
 
 need_bytes-most : (a b : Need) → ((class : Class) → counted a class ≤ counted b class) → need_bytes a ≤ need_bytes b
-need_bytes-most a b each =
-    omega (arith, each class.Proc, each class.Node, each class.Page, each class.Desc, each class.Vnode, each class.Name, each class.Block, each class.Pipe, each class.Chunk, each class.Sock)
+need_bytes-most a b each = half (need_bytes a) (need_bytes b) (need_bytes-sum a a b b (λ class. twice (counted a class) (counted b class) (each class)))
+  where
+    twice : (n most : ℕ) → n ≤ most → n + n ≤ most + most
+    twice n most less = omega arith
+
+    half : (n most : ℕ) → n + n ≤ most + most → n ≤ most
+    half n most less = omega arith
 
 -- the bytes taken and those that the purse has left are together no more than they were
 pub IsPaid-bytes : (old new : Heap) (before after : Purse) → IsPaid old before new after → live_bytes new + left_bytes after ≤ live_bytes old + left_bytes before
@@ -59,40 +75,14 @@ IsPaid-trans a p b q c r first second = record {
   marks = second.marks ∙ first.marks;
 }
 
--- a count that was put is the one of its class, and the other classes keep theirs
+-- a count that was put is the one of its class, and the other classes keep theirs; each case is tried for every class
 with_count-same : (of : Class) (n : Need) (k : ℕ) → counted (with_count n of k) of ≡ k
 with_count-same class.Proc n k = refl
-with_count-same class.Node n k = refl
-with_count-same class.Page n k = refl
-with_count-same class.Desc n k = refl
-with_count-same class.Vnode n k = refl
-with_count-same class.Name n k = refl
-with_count-same class.Block n k = refl
-with_count-same class.Pipe n k = refl
-with_count-same class.Chunk n k = refl
-with_count-same class.Sock n k = refl
+with_count-same _ n k = refl
 
 same_or_other : (of other : Class) → (of ≡ other) ⊎ ((n : Need) (k : ℕ) → counted (with_count n of k) other ≡ counted n other)
 same_or_other class.Proc class.Proc = inl refl
-same_or_other class.Proc other = inr (λ n k. refl)
-same_or_other class.Node class.Node = inl refl
-same_or_other class.Node other = inr (λ n k. refl)
-same_or_other class.Page class.Page = inl refl
-same_or_other class.Page other = inr (λ n k. refl)
-same_or_other class.Desc class.Desc = inl refl
-same_or_other class.Desc other = inr (λ n k. refl)
-same_or_other class.Vnode class.Vnode = inl refl
-same_or_other class.Vnode other = inr (λ n k. refl)
-same_or_other class.Name class.Name = inl refl
-same_or_other class.Name other = inr (λ n k. refl)
-same_or_other class.Block class.Block = inl refl
-same_or_other class.Block other = inr (λ n k. refl)
-same_or_other class.Pipe class.Pipe = inl refl
-same_or_other class.Pipe other = inr (λ n k. refl)
-same_or_other class.Chunk class.Chunk = inl refl
-same_or_other class.Chunk other = inr (λ n k. refl)
-same_or_other class.Sock class.Sock = inl refl
-same_or_other class.Sock other = inr (λ n k. refl)
+same_or_other _ _ = search (inl, inr)
 
 -- of one class one more is there, and one less is left
 one_spent : (of other : Class) (n left : Need) → 0 < counted left of → counted (with_count n of (counted n of + 1)) other + counted (with_count left of (counted left of - 1)) other ≤ counted n other + counted left other

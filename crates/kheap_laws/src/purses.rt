@@ -1,6 +1,6 @@
 ghost use Rattle.std.specs.Prelude.{◌≡◌, ℕ, ◌+◌, ◌-◌, ◌<◌, ◌≤◌, ◌++◌, List, [], ◌∷◌, Option, None, length, remove, slice_index_or};
 ghost use Rattle.kabi_types.specs.declared.classes.Class.{Class};
-ghost use Rattle.kheap_slabs.specs.Counts.{counted, with_count};
+ghost use Rattle.kabi_types.specs.Counts.{counted, with_count};
 ghost use Rattle.kheap_slabs.specs.Objects.{object, put, without};
 ghost use Rattle.kheap_slabs.specs.Purse.{Purse, left_bytes};
 ghost use Rattle.kheap_slabs.specs.declared.objects.Block.{Block};

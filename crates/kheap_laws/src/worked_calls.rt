@@ -3,7 +3,7 @@
 ghost use Rattle.std.specs.Prelude.{◌≡◌, ℕ, ◌<◌, ◌+◌, List, [], ◌∷◌, Option, None, Some, IsSomeAnd, slice_index_or, slice_set};
 ghost use Rattle.std.specs.List.{Contains};
 ghost use Rattle.kabi_types.specs.declared.classes.Class.TheVariants as class;
-ghost use Rattle.kheap_slabs.specs.Counts.{counted};
+ghost use Rattle.kabi_types.specs.Counts.{counted};
 ghost use Rattle.kheap_slabs.specs.Objects.{object, InUse};
 ghost use Rattle.kheap_slabs.specs.declared.objects.Node.{Node as NodeOf};
 ghost use Rattle.kheap_slabs.specs.declared.objects.PageEntry.TheVariants as entry;

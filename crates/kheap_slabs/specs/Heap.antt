@@ -4,7 +4,7 @@ use Rattle.kabi_types.specs.Class.{size}
 use Rattle.kabi_types.specs.declared.classes.Class.{Class}
 use Rattle.kabi_types.specs.declared.classes.Class.TheVariants as class
 use Rattle.kabi_types.specs.declared.classes.Need.{Need}
-use Rattle.kheap_slabs.specs.Counts.{counted, with_count, need_bytes}
+use Rattle.kabi_types.specs.Counts.{counted, with_count, need_bytes}
 use Rattle.kheap_slabs.specs.Objects.{object, count}
 use Rattle.kheap_slabs.specs.declared.objects.Proc.{Proc}
 use Rattle.kheap_slabs.specs.declared.objects.Node.{Node}

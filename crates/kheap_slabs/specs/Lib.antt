@@ -1,4 +1,3 @@
-pub mod Counts
 pub mod Lending
 pub mod Objects
 pub mod Pages

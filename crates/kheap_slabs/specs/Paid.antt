@@ -2,7 +2,7 @@
 use Rattle.std.specs.Prelude.{◌≡◌, ℕ, ◌+◌, ◌≤◌, List, Option, length, max}
 use Rattle.std.specs.List.{Contains}
 use Rattle.kabi_types.specs.declared.classes.Class.{Class}
-use Rattle.kheap_slabs.specs.Counts.{counted}
+use Rattle.kabi_types.specs.Counts.{counted}
 use Rattle.kheap_slabs.specs.Objects.{InUse}
 use Rattle.kheap_slabs.specs.Purse.{Purse, left_bytes}
 use Rattle.kheap_slabs.specs.Heap.{Heap, counts_of, live_bytes}

@@ -3,7 +3,7 @@ use Rattle.std.specs.Prelude.{ℕ, List, []}
 use Rattle.kabi_types.specs.declared.classes.Class.{Class}
 use Rattle.kabi_types.specs.declared.classes.Class.TheVariants as class
 use Rattle.kabi_types.specs.declared.classes.Need.{Need}
-use Rattle.kheap_slabs.specs.Counts.{need_bytes}
+use Rattle.kabi_types.specs.Counts.{need_bytes}
 
 -- how many objects of each class a call may make in all, how many it still may, and the keys of each cached
 -- class that were filled, the first one first
@@ -20,39 +20,21 @@ left_bytes purse = need_bytes purse.left
 
 -- the classes whose objects are filled from the disk
 abbrev pub IsCached : Class → Type 0
-IsCached class.Proc = ⊥
-IsCached class.Node = ⊥
-IsCached class.Page = ⊥
-IsCached class.Desc = ⊥
 IsCached class.Vnode = Unit {0}
 IsCached class.Name = Unit {0}
 IsCached class.Block = Unit {0}
-IsCached class.Pipe = ⊥
-IsCached class.Chunk = ⊥
-IsCached class.Sock = ⊥
+IsCached _ = ⊥
 
 -- the keys of a class that were filled, the first one first
 abbrev pub fills_of : Purse → Class → List ℕ
-fills_of purse class.Proc = []
-fills_of purse class.Node = []
-fills_of purse class.Page = []
-fills_of purse class.Desc = []
 fills_of purse class.Vnode = purse.vnodes
 fills_of purse class.Name = purse.names
 fills_of purse class.Block = purse.blocks
-fills_of purse class.Pipe = []
-fills_of purse class.Chunk = []
-fills_of purse class.Sock = []
+fills_of purse _ = []
 
 -- the same purse, with other keys for a class that is filled
 abbrev pub with_fills : Purse → Class → List ℕ → Purse
-with_fills purse class.Proc keys = purse
-with_fills purse class.Node keys = purse
-with_fills purse class.Page keys = purse
-with_fills purse class.Desc keys = purse
 with_fills purse class.Vnode keys = record purse { vnodes = keys }
 with_fills purse class.Name keys = record purse { names = keys }
 with_fills purse class.Block keys = record purse { blocks = keys }
-with_fills purse class.Pipe keys = purse
-with_fills purse class.Chunk keys = purse
-with_fills purse class.Sock keys = purse
+with_fills purse _ keys = purse

@@ -1,6 +1,6 @@
 ghost use Rattle.std.specs.Prelude.{◌≡◌, ◌+◌, ◌-◌, ◌<◌, [], ◌∷◌, ◌++◌, length, slice_index_or, remove};
 ghost use Rattle.kabi_types.specs.Class.{size};
-ghost use Rattle.kheap_slabs.specs.Counts.{counted, with_count, need_bytes};
+ghost use Rattle.kabi_types.specs.Counts.{counted, with_count, need_bytes};
 ghost use Rattle.kheap_slabs.specs.Purse.{fills_of, with_fills, IsCached, left_bytes};
 
 use arrayvec::ArrayVec;
@@ -32,70 +32,6 @@ impl Model for Purse {
     } };
 }
 
-fn count_of(need: &Need, class: Class) -> u32
-    ensures { result ≡ counted need.now class }
-{
-    match class {
-        Class::Proc => need.proc,
-        Class::Node => need.node,
-        Class::Page => need.page,
-        Class::Desc => need.desc,
-        Class::Vnode => need.vnode,
-        Class::Name => need.name,
-        Class::Block => need.block,
-        Class::Pipe => need.pipe,
-        Class::Chunk => need.chunk,
-        Class::Sock => need.sock,
-    }
-}
-
-fn put_count(need: Need, class: Class, count: u32) -> Need
-    ensures { result ≡ with_count need class count }
-{
-    match class {
-        Class::Proc => Need {
-            proc: count,
-            ..need
-        },
-        Class::Node => Need {
-            node: count,
-            ..need
-        },
-        Class::Page => Need {
-            page: count,
-            ..need
-        },
-        Class::Desc => Need {
-            desc: count,
-            ..need
-        },
-        Class::Vnode => Need {
-            vnode: count,
-            ..need
-        },
-        Class::Name => Need {
-            name: count,
-            ..need
-        },
-        Class::Block => Need {
-            block: count,
-            ..need
-        },
-        Class::Pipe => Need {
-            pipe: count,
-            ..need
-        },
-        Class::Chunk => Need {
-            chunk: count,
-            ..need
-        },
-        Class::Sock => Need {
-            sock: count,
-            ..need
-        },
-    }
-}
-
 impl Purse {
     /// A purse that has left what the need counts, and has filled nothing.
     pub fn of(need: Need) -> Purse
@@ -116,7 +52,7 @@ impl Purse {
     pub fn left(&self, class: Class) -> u32
         ensures { result ≡ counted self.now.left class }
     {
-        count_of(&self.left, class)
+        self.left.count(class)
     }
 
     /// Counts one object of the class as made.
@@ -128,8 +64,8 @@ impl Purse {
             } }
         ensures bytes { left_bytes self.new + size class ≡ left_bytes self.old }
     {
-        let left = count_of(&self.left, class);
-        self.left = put_count(self.left, class, left - 1);
+        let left = self.left.count(class);
+        self.left = self.left.with_count(class, left - 1);
     }
 
     /// Takes one object of the class, that was spent, back.
@@ -141,10 +77,10 @@ impl Purse {
             } }
         ensures bytes { left_bytes self.new ≡ left_bytes self.old + size class }
     {
-        let left = count_of(&self.left, class);
-        let most = count_of(&self.need, class);
+        let left = self.left.count(class);
+        let most = self.need.count(class);
         prove!(left < most);
-        self.left = put_count(self.left, class, left + 1);
+        self.left = self.left.with_count(class, left + 1);
     }
 
     /// The keys of the class that were filled through the purse, the one that was filled first at

@@ -15,7 +15,7 @@ use Rattle.kabi_types.specs.declared.scripts.Script.{Script}
 use Rattle.posix_defs.specs.Answer.{Answer, Ended, failed, replied}
 use Rattle.posix_defs.specs.ByPid.{at_pid, with_pid}
 use Rattle.posix_defs.specs.Control as program
-use Rattle.posix_defs.specs.Ending.{closed_by, die, exit_status}
+use Rattle.posix_defs.specs.Ending.{closed_by, die}
 use Rattle.posix_defs.specs.Forking.{child_of, is_full, with_child}
 use Rattle.posix_defs.specs.Killing.{is_asking, kill, sent_to, struck}
 use Rattle.posix_defs.specs.Killing as killing
@@ -39,7 +39,7 @@ use Rattle.kern_laws.proofs.Remembering.{alive_still}
 use Rattle.kern_laws.proofs.TablePlaces.{below_or_not, get_front, get_set_same, is_gone, same_in_front, was_made, with_other}
 use Rattle.answer_laws.proofs.GoingOn.{call_part}
 use Rattle.machine_laws.specs.FileSteps as step
-use Rattle.machine_laws.specs.FileSteps.{IsStep, LeadsTo, is_ending}
+use Rattle.machine_laws.specs.FileSteps.{IsStep, LeadsTo, Steps, may_end_other}
 use Rattle.machine_laws.specs.Placed.{IsPlaced}
 use Rattle.machine_laws.specs.Reached.{IsReached}
 use Rattle.answer_laws.specs.Shapes as shape
@@ -176,7 +176,7 @@ keeps_named old new who stays = keeps_by old new who stays.same at
 
 -- ---- steps
 
-module _ (plain : Plain) (pid : ℕ) (call : Call) (next : Files) (who : ℕ) (apart : who ≢ pid) (no_fork : call ≢ calls.Fork) (no_end : is_ending call ≡ false) where
+module _ (plain : Plain) (pid : ℕ) (call : Call) (next : Files) (who : ℕ) (apart : who ≢ pid) (no_fork : call ≢ calls.Fork) (no_other : may_end_other call ≡ false) where
   by : (after : Files) → next ≡ after → KeepsOpen plain.files after who → KeepsOpen plain.files next who
   by after is keeps = subst (λ files. KeepsOpen plain.files files who) (sym is) keeps
 
@@ -204,7 +204,7 @@ module _ (plain : Plain) (pid : ℕ) (call : Call) (next : Files) (who : ℕ) (a
   described fd opened now after named target descriptors descriptions = let naming_it = naming plain.files pid fd opened named in
       described_keeps plain.files after who opened.place opened.is now naming_it.there target (same_of plain.files after descriptors who) descriptions
 
-  step_keeps : IsStep plain pid call next → KeepsOpen plain.files next who
+  step_keeps : IsStep plain pid call true next → KeepsOpen plain.files next who
   step_keeps (step.stays is) = same _ is refl refl
   step_keeps (step.shares fd opened from to named free is) = by _ is (other_keeps plain.files pid who apart to _)
   step_keeps (step.shares_over fd to opened named may differ is) = by _ is (keeps_on plain.files (after_close plain.files pid (count_of to)) _ who (closes (count_of to))
@@ -236,7 +236,8 @@ module _ (plain : Plain) (pid : ℕ) (call : Call) (next : Files) (who : ℕ) (a
   step_keeps (step.starts is) = by _ is (keeps_named plain.files _ who
       (exec_holds (λ other. who ≢ other) (StaysNamed plain.files who) (named_closed plain.files who) plain.files pid apart (stays_now plain.files who)))
   step_keeps (step.forks which is) = absurd (no_fork which)
-  step_keeps (step.ends dead ending is) = absurd (true_false (is_ending call) ending no_end)
+  step_keeps (step.ends_caller over ending is) = absurd (true_false true refl over)
+  step_keeps (step.ends_other dead ending is) = absurd (true_false (may_end_other call) ending no_other)
 
 -- ---- controls
 
@@ -304,23 +305,23 @@ die_half script plain pid status half who alive some = let was = survives plain.
 -- ---- kill
 
 kill_is : (script : Script) (plain : Plain) (pid : ℕ) (Holds : Answer → Type 0) → ((e : Errno) → Holds (failed script plain pid e)) → Holds (replied script plain pid (Val (pos 0)))
-    → Holds (Ended 9 (die plain pid 9)) → ((target : ℕ) → Holds (replied script (die plain target 9) pid (Val (pos 0)))) → (target signal : ℤ) → Holds (kill script plain pid target signal)
+    → ((status : ℕ) → Holds (Ended status (die plain pid status))) → ((target status : ℕ) → Holds (replied script (die plain target status) pid (Val (pos 0)))) → (target signal : ℤ) → Holds (kill script plain pid target signal)
 kill_is script plain pid Holds fails says ends others (negsuc n) signal = fails ESRCH
 kill_is script plain pid Holds fails says ends others (pos target) signal = go (process_at plain.table target)
   where
-    strikes : (own : Bool) → Holds (cond own (Ended 9 (die plain pid 9)) (replied script (die plain target 9) pid (Val (pos 0))))
-    strikes true = ends
-    strikes false = others target
+    strikes : (own : Bool) → Holds (cond own (Ended (count_of signal) (die plain pid (count_of signal))) (replied script (die plain target (count_of signal)) pid (Val (pos 0))))
+    strikes true = ends (count_of signal)
+    strikes false = others target (count_of signal)
 
-    lives : (b : Bool) → Holds (cond b (struck script plain pid target) (replied script plain pid (Val (pos 0))))
+    lives : (b : Bool) → Holds (cond b (struck script plain pid target (count_of signal)) (replied script plain pid (Val (pos 0))))
     lives true = strikes (target == pid)
     lives false = says
 
-    first : (process : Process) (b : Bool) → Holds (cond b (failed script plain pid EPERM) (killing.ends script plain pid target process))
+    first : (process : Process) (b : Bool) → Holds (cond b (failed script plain pid EPERM) (killing.ends script plain pid target (count_of signal) process))
     first process true = fails EPERM
     first process false = lives (runs process.status)
 
-    asks : (process : Process) (b : Bool) → Holds (cond b (replied script plain pid (Val (pos 0))) (cond (target == 1) (failed script plain pid EPERM) (killing.ends script plain pid target process)))
+    asks : (process : Process) (b : Bool) → Holds (cond b (replied script plain pid (Val (pos 0))) (cond (target == 1) (failed script plain pid EPERM) (killing.ends script plain pid target (count_of signal) process)))
     asks process true = says
     asks process false = first process (target == 1)
 
@@ -422,22 +423,22 @@ module _ (script : Script) (plain : Plain) (pid : ℕ) (half : Half script plain
       own_control : control_of (with_control (with_files plain files) pid (program.after_part (control_of plain pid) moved)) pid ≡ program.after_part (control_of plain pid) moved
       own_control = own pid made.0 (subst (λ n. pid ≤ n) placed.counted made.1) (program.after_part (control_of plain pid) moved)
 
-  by_shape : (call : Call) → call_of script plain pid ≡ call → call ≢ calls.Fork → is_ending call ≡ false → (given : Answer) → LeadsTo (λ next. IsStep plain pid call next.files) given
+  by_shape : (call : Call) → call_of script plain pid ≡ call → call ≢ calls.Fork → may_end_other call ≡ false → (given : Answer) → Steps plain pid call given
       → HasShape script plain pid call given → LeadsTo (Half script) given
-  by_shape call asked no_fork no_end given stepped (shape.blocks may is) = subst (LeadsTo (Half script)) (sym is) tt
-  by_shape call asked no_fork no_end given stepped (shape.fails errno other is) = subst (LeadsTo (Half script)) (sym is) (still (Fail errno))
-  by_shape call asked no_fork no_end given stepped (shape.tells files said is_said is) = subst (LeadsTo (Half script)) (sym is)
+  by_shape call asked no_fork no_other given stepped (shape.blocks may is) = subst (LeadsTo (Half script)) (sym is) tt
+  by_shape call asked no_fork no_other given stepped (shape.fails errno other is) = subst (LeadsTo (Half script)) (sym is) (still (Fail errno))
+  by_shape call asked no_fork no_other given stepped (shape.tells files said is_said is) = subst (LeadsTo (Half script)) (sym is)
       (answered_half script plain (with_files plain files) pid said half refl (λ who apart lives. lives)
-      (λ who apart lives. step_keeps plain pid call files who apart no_fork no_end (subst (LeadsTo (λ next. IsStep plain pid call next.files)) is stepped)))
-  by_shape call asked no_fork no_end given stepped (shape.puts files memory said is_said what is) = subst (LeadsTo (Half script)) (sym is)
+      (λ who apart lives. step_keeps plain pid call files who apart no_fork no_other (subst (Steps plain pid call) is stepped)))
+  by_shape call asked no_fork no_other given stepped (shape.puts files memory said is_said what is) = subst (LeadsTo (Half script)) (sym is)
       (answered_half script plain (remembered (with_files plain files) pid memory) pid said half refl (λ who apart lives. sym (alive_still plain.table pid who memory) ∙ lives)
-      (λ who apart lives. step_keeps plain pid call files who apart no_fork no_end (subst (LeadsTo (λ next. IsStep plain pid call next.files)) is stepped)))
-  by_shape call asked no_fork no_end given stepped (shape.moves path directory called led is) = subst (LeadsTo (Half script)) (sym is)
+      (λ who apart lives. step_keeps plain pid call files who apart no_fork no_other (subst (Steps plain pid call) is stepped)))
+  by_shape call asked no_fork no_other given stepped (shape.moves path directory called led is) = subst (LeadsTo (Half script)) (sym is)
       (answered_half script plain (with_table plain (with_directory plain.table pid directory)) pid (Val (pos 0)) half refl (λ who apart lives. sym (alive_moved plain.table pid directory who alive) ∙ lives)
       (λ who apart lives. keeps_same plain.files plain.files who refl refl))
-  by_shape call asked no_fork no_end given stepped (shape.parts files moved part is) = subst (LeadsTo (Half script)) (sym is)
-      (part_on call files moved asked part (λ who apart. step_keeps plain pid call files who apart no_fork no_end (subst (LeadsTo (λ next. IsStep plain pid call next.files)) is stepped)))
-  by_shape call asked no_fork no_end given stepped (shape.starts place is) = subst (LeadsTo (Half script)) (sym is)
+  by_shape call asked no_fork no_other given stepped (shape.parts files moved part is) = subst (LeadsTo (Half script)) (sym is)
+      (part_on call files moved asked part (λ who apart. step_keeps plain pid call files who apart no_fork no_other (subst (Steps plain pid call) is stepped)))
+  by_shape call asked no_fork no_other given stepped (shape.starts place is) = subst (LeadsTo (Half script)) (sym is)
       (half_on script plain (started script plain pid place) pid half (record {
         control = λ who apart lives. other_control (with_files (remembered plain pid no_memory) (after_exec_of plain.files pid)) pid who
             (program.restarted (program.settled script (control_of plain pid)) place) apart;
@@ -447,21 +448,20 @@ module _ (script : Script) (plain : Plain) (pid : ℕ) (half : Half script plain
       }) (λ own_lives some. absurd (
       let none : (control_of (started script plain pid place) pid).done ≡ 0 =
       none_done (with_files (remembered plain pid no_memory) (after_exec_of plain.files pid)) pid (program.restarted (program.settled script (control_of plain pid)) place) refl in omega arith)))
-  by_shape call asked no_fork no_end given stepped (shape.forks is) = subst (LeadsTo (Half script)) (sym is) (forks_on (Val (pos (last_pid plain + 1))))
-  by_shape call asked no_fork no_end given stepped (shape.reaps child status ended is) = subst (LeadsTo (Half script)) (sym is)
+  by_shape call asked no_fork no_other given stepped (shape.forks is) = subst (LeadsTo (Half script)) (sym is) (forks_on (Val (pos (last_pid plain + 1))))
+  by_shape call asked no_fork no_other given stepped (shape.reaps child status ended is) = subst (LeadsTo (Half script)) (sym is)
       (answered_half script plain (reaped plain child) pid (Waited child status) half refl (λ who apart lives. lives_reaped child who lives) (λ who apart lives. keeps_same plain.files plain.files who refl refl))
-  by_shape call asked no_fork no_end given stepped (shape.ends status is) = subst (LeadsTo (Half script)) (sym is) (die_half script plain pid status half)
-  by_shape call asked no_fork no_end given stepped (shape.ends_another target signal called first own lives is) = subst (LeadsTo (Half script)) (sym is) (dies_on target 9 (Val (pos 0)))
+  by_shape call asked no_fork no_other given stepped (shape.ends status is) = subst (LeadsTo (Half script)) (sym is) (die_half script plain pid status half)
+  by_shape call asked no_fork no_other given stepped (shape.ends_another target signal called first own lives is) = subst (LeadsTo (Half script)) (sym is) (dies_on target (count_of signal) (Val (pos 0)))
 
-  -- ---- calls that end a process, and `fork`
+  -- ---- the call that may end another, and `fork`
 
-  ends_on : (call : Call) → is_ending call ≡ true → LeadsTo (Half script) (machine script plain pid call)
-  ends_on (calls.Exit status) is = die_half script plain pid (exit_status status) half
+  ends_on : (call : Call) → may_end_other call ≡ true → LeadsTo (Half script) (machine script plain pid call)
   ends_on (calls.Kill target signal) is = go (argument_fault (calls.Kill target signal))
     where
       go : (fault : Option Errno) → LeadsTo (Half script) (unless_wrong script plain pid fault (kill script plain pid target signal))
       go (Some e) = still (Fail e)
-      go None = kill_is script plain pid (LeadsTo (Half script)) (λ e. still (Fail e)) (still (Val (pos 0))) (die_half script plain pid 9 half) (λ dead. dies_on dead 9 (Val (pos 0))) target signal
+      go None = kill_is script plain pid (LeadsTo (Half script)) (λ e. still (Fail e)) (still (Val (pos 0))) (λ status. die_half script plain pid status half) (λ dead status. dies_on dead status (Val (pos 0))) target signal
   ends_on _ is = absurd (true_false false is refl)
 
   fork_on : LeadsTo (Half script) (machine script plain pid calls.Fork)
@@ -472,9 +472,9 @@ module _ (script : Script) (plain : Plain) (pid : ℕ) (half : Half script plain
       go false = forks_on (Val (pos (last_pid plain + 1)))
 
   answers_half : LeadsTo (Half script) (machine script plain pid (call_of script plain pid))
-  answers_half = go (is_ending (call_of script plain pid)) refl (is_fork (call_of script plain pid)) refl
+  answers_half = go (may_end_other (call_of script plain pid)) refl (is_fork (call_of script plain pid)) refl
     where
-      go : (ends : Bool) → is_ending (call_of script plain pid) ≡ ends → (forks : Bool) → is_fork (call_of script plain pid) ≡ forks → LeadsTo (Half script) (machine script plain pid (call_of script plain pid))
+      go : (ends : Bool) → may_end_other (call_of script plain pid) ≡ ends → (forks : Bool) → is_fork (call_of script plain pid) ≡ forks → LeadsTo (Half script) (machine script plain pid (call_of script plain pid))
       go true ending forks is = ends_on (call_of script plain pid) ending
       go false ending true is = subst (λ which. LeadsTo (Half script) (machine script plain pid which)) (sym (fork_is (call_of script plain pid) is)) fork_on
       go false ending false is = by_shape (call_of script plain pid) refl (λ same. true_false (is_fork (call_of script plain pid)) (ap is_fork same) is) ending (machine script plain pid (call_of script plain pid))

@@ -12,7 +12,7 @@ use Rattle.posix_defs.specs.Files.State.{Files}
 use Rattle.machine_laws.specs.FileSteps.{IsStep, LeadsTo}
 use Rattle.machine_laws.specs.Reached.{IsReached}
 use Rattle.machine_laws.specs.Reached as reached
-use Rattle.machine_laws.proofs.Leading.{leads_on}
+use Rattle.machine_laws.proofs.Leading.{steps_lead}
 use Rattle.machine_laws.proofs.Stepping.{step_of}
 
 -- It holds at the beginning, and where it holds in a machine that is reached it is kept by the answers to the calls that live
@@ -36,6 +36,6 @@ by_induction script Holds inductive (reached.kills plain pid status before) = in
 
 -- what each step of files keeps each answer keeps
 pub answers_keep : (Holds : Files → Type 0) (script : Script) (plain : Plain) (pid : ℕ) (call : Call)
-    → ((next : Files) → IsStep plain pid call next → Holds next) → LeadsTo (λ next. Holds next.files) (machine script plain pid call)
-answers_keep Holds script plain pid call kept = leads_on (λ next. IsStep plain pid call next.files) (λ next. Holds next.files) (λ next stepped. kept next.files stepped)
+    → ((goes_on : Bool) (next : Files) → IsStep plain pid call goes_on next → Holds next) → LeadsTo (λ next. Holds next.files) (machine script plain pid call)
+answers_keep Holds script plain pid call kept = steps_lead plain pid call (λ next. Holds next.files) (λ goes_on next stepped. kept goes_on next.files stepped)
     (machine script plain pid call) (step_of script plain pid call)

@@ -29,7 +29,7 @@ use Rattle.socket_laws.proofs.SocketCalls.{accept_linked, close_linked, connect_
 use Rattle.socket_laws.proofs.SocketHeld.{accept_held, close_held, connect_held, listen_held, named_held, new_held, pair_held, read_held, shut_held, write_held}
 use Rattle.socket_laws.proofs.SocketTable.{with-length}
 use Rattle.machine_laws.specs.FileSteps as step
-use Rattle.machine_laws.specs.FileSteps.{IsStep, LeadsTo}
+use Rattle.machine_laws.specs.FileSteps.{IsStep}
 use Rattle.machine_laws.specs.Reached.{IsReached}
 use Rattle.machine_laws.proofs.Places.{not_some, naming}
 use Rattle.machine_keeps.specs.Joined.{AreJoined}
@@ -410,7 +410,7 @@ module _ (plain : Plain) (pid : ℕ) (call : Call) (next : Files) (joined : Hold
   sent place n done k addr nonblock moves = write_linked plain.files.sockets place (bytes_left plain pid addr n done) k nonblock joined.0
       (ap (sock_write plain.files.sockets place nonblock) (loaded_length (memory_of plain.table pid) (count_of addr + done) (n - done)) ∙ moves)
 
-  step_joined : IsStep plain pid call next → Holds next
+  step_joined : {goes_on : Bool} → IsStep plain pid call goes_on next → Holds next
   step_joined (step.stays is) = same _ is refl refl
   step_joined (step.shares fd opened from to named_it free is) = same _ is refl refl
   step_joined (step.shares_over fd to opened named_it may apart is) = by _ is (close_holds anybody Holds closes plain.files pid (count_of to) tt joined)
@@ -446,7 +446,8 @@ module _ (plain : Plain) (pid : ℕ) (call : Call) (next : Files) (joined : Hold
       (write_held plain.files.sockets (named_sockets plain.files.descriptions) place (bytes_left plain pid addr (count_of n) done) k joined.0 joined.1)
   step_joined (step.starts is) = by _ is (exec_holds anybody Holds closes plain.files pid tt joined)
   step_joined (step.forks which is) = same _ is refl refl
-  step_joined (step.ends who ending is) = by _ is (closed_by_holds anybody Holds closes plain.files who (λ other. tt) joined)
+  step_joined (step.ends_caller over ending is) = by _ is (closed_by_holds anybody Holds closes plain.files pid (λ other. tt) joined)
+  step_joined (step.ends_other who ending is) = by _ is (closed_by_holds anybody Holds closes plain.files who (λ other. tt) joined)
 
 -- ---- every machine
 
@@ -471,7 +472,7 @@ boot_joined = (
 pub joined_holds : (script : Script) (plain : Plain) → IsReached script plain → Holds plain.files
 joined_holds script plain reached = by_induction script (λ plain. Holds plain.files) (record {
   boot = boot_joined;
-  answer = λ before pid reached joined alive. answers_keep Holds script before pid (call_of script before pid) (λ next stepped. step_joined before pid (call_of script before pid) next joined stepped);
+  answer = λ before pid reached joined alive. answers_keep Holds script before pid (call_of script before pid) (λ goes_on next stepped. step_joined before pid (call_of script before pid) next joined stepped);
   refuse = λ before pid reached joined. joined;
   kill = λ before pid status reached joined. closed_by_holds anybody Holds closes before.files pid (λ other. tt) joined;
 }) reached

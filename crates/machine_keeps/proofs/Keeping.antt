@@ -28,11 +28,11 @@ use Rattle.posix_defs.specs.Reaching.{paths_of}
 use Rattle.posix_defs.specs.Files.Closing.{after_exec_of}
 use Rattle.posix_defs.proofs.TreeNodes.{none_in}
 use Rattle.tree_laws.proofs.NewTree.{new_is_tree}
-use Rattle.machine_laws.specs.FileSteps.{IsStep, LeadsTo}
+use Rattle.machine_laws.specs.FileSteps.{LeadsTo}
 use Rattle.machine_laws.specs.Reached.{IsReached}
 use Rattle.answer_laws.specs.Shapes as shape
 use Rattle.answer_laws.specs.Shapes.{AreRead, HasShape, IsPut}
-use Rattle.machine_laws.proofs.Leading.{leads_on}
+use Rattle.machine_laws.proofs.Leading.{steps_lead}
 use Rattle.machine_laws.proofs.Places.{not_some, some_same}
 use Rattle.answer_laws.proofs.Shapes.{machine_shape}
 use Rattle.machine_laws.proofs.Stepping.{step_of}
@@ -118,7 +118,7 @@ module _ (script : Script) (plain : Plain) (pid : ℕ) (holds : Holds plain) (jo
   by_shape call stores_bytes given stepped (shape.reaps child status ended is) = subst (LeadsTo Holds) (sym is)
       (answered_holds (reaped plain child) (Waited child status) (record { rooted = holds.rooted; pipes = holds.pipes; table = reaped_kept plain.files.tree plain.table child holds.table }))
   by_shape call stores_bytes given stepped (shape.ends status is) = subst (LeadsTo Holds) (sym is) (die_holds pid status)
-  by_shape call stores_bytes given stepped (shape.ends_another target signal called first own lives is) = subst (LeadsTo Holds) (sym is) (answered_holds (die plain target 9) (Val (pos 0)) (die_holds target 9))
+  by_shape call stores_bytes given stepped (shape.ends_another target signal called first own lives is) = subst (LeadsTo Holds) (sym is) (answered_holds (die plain target (count_of signal)) (Val (pos 0)) (die_holds target (count_of signal)))
 
   answers_hold : (call : Call) → is_alive plain.table pid ≡ true → ((path : List ℕ) → Contains (paths_of call) path → ArePathBytes path) → ((addr : ℤ) (bytes : List ℕ) → call ≡ calls.Store addr bytes → AreBytes bytes)
       → LeadsTo Holds (machine script plain pid call)
@@ -127,8 +127,8 @@ module _ (script : Script) (plain : Plain) (pid : ℕ) (holds : Holds plain) (jo
       go : (fault : Option Errno) → argument_fault call ≡ fault → LeadsTo Holds (machine script plain pid call)
       go (Some errno) is = subst (LeadsTo Holds) (sym (ap (λ f. unless_wrong script plain pid f (answer_to script plain pid call)) is)) (answered_holds plain (Fail errno) holds)
       go None is = by_shape call stores_bytes (machine script plain pid call)
-          (leads_on (λ next. IsStep plain pid call next.files) (λ next. After plain next.files)
-          (λ next stepped. step_after plain pid call next.files holds.rooted holds.pipes joined (held_memory plain.files.tree plain.table holds.table pid)
+          (steps_lead plain pid call (λ next. After plain next.files)
+          (λ goes_on next stepped. step_after plain pid call next.files holds.rooted holds.pipes joined (held_memory plain.files.tree plain.table holds.table pid)
           (held_directory plain.files.tree plain.table holds.table pid alive) is paths stepped) (machine script plain pid call) (step_of script plain pid call))
           (machine_shape script plain pid call)
 

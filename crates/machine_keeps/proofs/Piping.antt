@@ -495,7 +495,7 @@ module _ (plain : Plain) (pid : ℕ) (call : Call) (next : Files) (piped : Holds
       let e : length ((pipe_at plain.files place).bytes ++ take k bytes) ≡ length (pipe_at plain.files place).bytes + length (take k bytes) = length-append (pipe_at plain.files place).bytes (take k bytes) in omega arith)
       (λ none. absurd (fits.1 none))
 
-  step_piped : IsStep plain pid call next → Holds next
+  step_piped : {goes_on : Bool} → IsStep plain pid call goes_on next → Holds next
   step_piped (step.stays is) = same _ is refl refl
   step_piped (step.shares fd opened from to named free is) = same _ is refl refl
   step_piped (step.shares_over fd to opened named may apart is) = by _ is (close_holds anybody Holds closes plain.files pid (count_of to) tt piped)
@@ -525,12 +525,13 @@ module _ (plain : Plain) (pid : ℕ) (call : Call) (next : Files) (piped : Holds
   step_piped (step.sends fd addr n done opened place k which named on moves is) = same _ is refl refl
   step_piped (step.starts is) = by _ is (exec_holds anybody Holds closes plain.files pid tt piped)
   step_piped (step.forks which is) = same _ is refl refl
-  step_piped (step.ends who ending is) = by _ is (closed_by_holds anybody Holds closes plain.files who (λ pid. tt) piped)
+  step_piped (step.ends_caller over ending is) = by _ is (closed_by_holds anybody Holds closes plain.files pid (λ pid. tt) piped)
+  step_piped (step.ends_other who ending is) = by _ is (closed_by_holds anybody Holds closes plain.files who (λ pid. tt) piped)
 
 -- ---- answers
 
 pub answers_piped : (script : Script) (plain : Plain) (pid : ℕ) (call : Call) → Holds plain.files → LeadsTo (λ next. Holds next.files) (machine script plain pid call)
-answers_piped script plain pid call piped = answers_keep Holds script plain pid call (λ next stepped. step_piped plain pid call next piped stepped)
+answers_piped script plain pid call piped = answers_keep Holds script plain pid call (λ goes_on next stepped. step_piped plain pid call next piped stepped)
 
 pub die_piped : (plain : Plain) (pid status : ℕ) → Holds plain.files → Holds (die plain pid status).files
 die_piped plain pid status piped = closed_by_holds anybody Holds closes plain.files pid (λ pid. tt) piped

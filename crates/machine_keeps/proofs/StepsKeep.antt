@@ -36,7 +36,7 @@ use Rattle.socket_laws.proofs.SocketTable.{there_within as sock_within, with-len
 use Rattle.tree_laws.proofs.CallsKeep.{bind_path_keeps, link_path_keeps, mkdir_path_keeps, open_path_keeps, rename_path_keeps, rmdir_path_keeps, unlink_path_keeps}
 use Rattle.tree_laws.proofs.FileKeeps.{resize_keeps, wrote, write_keeps}
 use Rattle.machine_laws.specs.FileSteps as step
-use Rattle.machine_laws.specs.FileSteps.{IsStep, LeadsTo, WritesNode}
+use Rattle.machine_laws.specs.FileSteps.{IsStep, WritesNode}
 use Rattle.machine_laws.proofs.Places.{naming, not_some, some_same}
 use Rattle.machine_keeps.specs.Bytes.{AreBytes, HasMemoryBytes}
 use Rattle.machine_keeps.specs.Texts.{ArePathBytes}
@@ -345,7 +345,7 @@ module _ (plain : Plain) (pid : ℕ) (call : Call) (next : Files) (rooted : Root
 
   -- ---- each step
 
-  pub step_after : IsStep plain pid call next → After plain next
+  pub step_after : {goes_on : Bool} → IsStep plain pid call goes_on next → After plain next
   step_after (step.stays is) = same _ is refl refl refl refl
   step_after (step.shares fd opened from to named free is) = same _ is refl refl refl refl
   step_after (step.shares_over fd to opened named may apart is) = by _ is (let closed_it = close_after plain rooted pipes joined pid (count_of to) in
@@ -407,4 +407,5 @@ module _ (plain : Plain) (pid : ℕ) (call : Call) (next : Files) (rooted : Root
       (write_once plain.files.sockets place (bytes_left plain pid addr (count_of n) done) k joined.0 rooted.alone) refl refl refl refl
   step_after (step.starts is) = by _ is (exec_after plain rooted pipes joined pid)
   step_after (step.forks which is) = same _ is refl refl refl refl
-  step_after (step.ends who ending is) = by _ is (closed_after plain rooted pipes joined who)
+  step_after (step.ends_caller over ending is) = by _ is (closed_after plain rooted pipes joined pid)
+  step_after (step.ends_other who ending is) = by _ is (closed_after plain rooted pipes joined who)

@@ -242,7 +242,7 @@ module _ (plain : Plain) (pid : ℕ) (call : Call) (next : Files) (holds : Holds
       connect_fewer plain.files.sockets place listener (length plain.files.sockets) (there fd opened place is on)
       (there_le plain.files.sockets listener (listening_there plain.files.sockets listener listens.waiting listens.stage)) (omega arith)
 
-  step_names : IsStep plain pid call next → Names next
+  step_names : {goes_on : Bool} → IsStep plain pid call goes_on next → Names next
   step_names (step.stays is) = same _ is refl refl
   step_names (step.shares fd opened from to named_it free is) = same _ is refl refl
   step_names (step.shares_over fd to opened named_it may apart is) = by_both _ is (close_holds anybody Holds closes plain.files pid (count_of to) tt holds)
@@ -277,7 +277,8 @@ module _ (plain : Plain) (pid : ℕ) (call : Call) (next : Files) (holds : Holds
       (write_fewer plain.files.sockets place (bytes_left plain pid addr (count_of n) done) k holds.0.0)
   step_names (step.starts is) = by_both _ is (exec_holds anybody Holds closes plain.files pid tt holds)
   step_names (step.forks which is) = same _ is refl refl
-  step_names (step.ends who ending is) = by_both _ is (closed_by_holds anybody Holds closes plain.files who (λ other. tt) holds)
+  step_names (step.ends_caller over ending is) = by_both _ is (closed_by_holds anybody Holds closes plain.files pid (λ other. tt) holds)
+  step_names (step.ends_other who ending is) = by_both _ is (closed_by_holds anybody Holds closes plain.files who (λ other. tt) holds)
 
 -- ---- every machine
 
@@ -285,7 +286,7 @@ names_hold : (script : Script) (plain : Plain) → IsReached script plain → Na
 names_hold script plain reached = by_induction script (λ plain. NamedHave plain.files.descriptions plain.files.sockets) (record {
   boot = λ place number has. absurd (not_some refl has);
   answer = λ before pid reached names alive. answers_keep (λ files. NamedHave files.descriptions files.sockets) script before pid (call_of script before pid)
-      (λ next stepped. step_names before pid (call_of script before pid) next (joined_holds script before reached, names) stepped);
+      (λ goes_on next stepped. step_names before pid (call_of script before pid) next (joined_holds script before reached, names) stepped);
   refuse = λ before pid reached names. names;
   kill = λ before pid status reached names. (let it : Holds (closed_by before.files pid) = closed_by_holds anybody Holds closes before.files pid (λ other. tt) (joined_holds script before reached, names) in it.1);
 }) reached

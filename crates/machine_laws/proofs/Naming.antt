@@ -29,7 +29,7 @@ use Rattle.machine_laws.specs.FileSteps.{IsStep, LeadsTo}
 use Rattle.machine_laws.specs.Described.{AreDescribed}
 use Rattle.machine_laws.specs.Placed.{IsPlaced}
 use Rattle.machine_laws.proofs.Fading.{is_gone}
-use Rattle.machine_laws.proofs.Leading.{leads_on}
+use Rattle.machine_laws.proofs.Leading.{steps_lead}
 use Rattle.machine_laws.proofs.Places.{IsNaming, free_at, naming, not_some, opener_made, others_after, own_after, some_same, there_within}
 use Rattle.machine_laws.proofs.SharedOffsets.{heirs_open, stay_open}
 use Rattle.machine_laws.proofs.Shutting.{close_one, open_shuts, released_same, same_of, target_same}
@@ -498,7 +498,7 @@ module _ (plain : Plain) (pid : ℕ) (call : Call) (next : Files) (told : Told p
   marks_told (pos fd) opened cloexec named = subst (λ o. Told (with_open plain.files pid fd (cloexec_set cloexec o))) (sym named.held) (marked_told plain.files pid fd named.descriptor cloexec told named.held)
   marks_told (negsuc n) opened cloexec named = absurd (not_some refl named.held)
 
-  step_told : IsStep plain pid call next → Told next
+  step_told : {goes_on : Bool} → IsStep plain pid call goes_on next → Told next
   step_told (step.stays is) = same _ is refl refl
   step_told (step.shares fd opened from to named free is) = by _ is (let naming_it = naming plain.files pid fd opened named in let free_it = free_at (descriptors_of plain.files pid) from to free in
       shares_told plain.files pid to (record { description = opened.place; cloexec = false }) told free_it.1 (some_is naming_it.there))
@@ -530,7 +530,8 @@ module _ (plain : Plain) (pid : ℕ) (call : Call) (next : Files) (told : Told p
   step_told (step.sends fd addr n done opened place k which named on moves is) = same _ is refl refl
   step_told (step.starts is) = by _ is (exec_told plain.files pid told)
   step_told (step.forks which is) = by _ is (heir_told plain.files pid told)
-  step_told (step.ends who ending is) = by _ is (closed_told plain.files who told)
+  step_told (step.ends_caller over ending is) = by _ is (closed_told plain.files pid told)
+  step_told (step.ends_other who ending is) = by _ is (closed_told plain.files who told)
 
 -- ---- answers
 
@@ -545,8 +546,8 @@ alive_made plain pid placed alive = let there = alive_there plain.table pid aliv
 pub answers_described : (script : Script) (plain : Plain) (pid : ℕ) (call : Call) → IsPlaced plain → AreDescribed plain.files → is_alive plain.table pid ≡ true
     → LeadsTo (λ next. AreDescribed next.files) (machine script plain pid call)
 answers_described script plain pid call placed described alive = let made = alive_made plain pid placed alive in
-    leads_on (λ next. IsStep plain pid call next.files) (λ next. AreDescribed next.files)
-    (λ next stepped. described_by next.files (step_told plain pid call next.files (told_of plain.files described) made.0 made.1 stepped))
+    steps_lead plain pid call (λ next. AreDescribed next.files)
+    (λ goes_on next stepped. described_by next.files (step_told plain pid call next.files (told_of plain.files described) made.0 made.1 stepped))
     (machine script plain pid call) (step_of script plain pid call)
 
 pub die_described : (plain : Plain) (pid status : ℕ) → AreDescribed plain.files → AreDescribed (die plain pid status).files

@@ -23,7 +23,7 @@ use Rattle.machine_laws.specs.FileSteps as step
 use Rattle.machine_laws.specs.FileSteps.{IsStep, LeadsTo}
 use Rattle.machine_laws.specs.Queueing.{NoneGoes, PutsBehind, Queues, TakesFirst, with_bytes}
 use Rattle.machine_laws.proofs.Fading.{Fades, close_fades, closed_by_fades, exec_fades}
-use Rattle.machine_laws.proofs.Leading.{leads_on}
+use Rattle.machine_laws.proofs.Leading.{steps_lead}
 use Rattle.machine_laws.proofs.Stepping.{step_of}
 
 -- what holds of both holds of either
@@ -182,7 +182,7 @@ module _ (plain : Plain) (pid : ℕ) (call : Call) (place : ℕ) (pipe : Pipe) (
     | inr apart ↦ inl (ap (λ files. pipe_there files place) is ∙ get_or-set_other plain.files.pipes other place after None apart.1 ∙ there)
   ]
 
-  pub kept : IsStep plain pid call next → Kept
+  pub kept : {goes_on : Bool} → IsStep plain pid call goes_on next → Kept
   kept (step.stays is) = same _ is refl
   kept (step.shares fd opened from to named free is) = same _ is refl
   kept (step.shares_over fd to opened named may apart is) = faded _ is _ refl refl (close_fades plain.files pid (count_of to))
@@ -215,9 +215,10 @@ module _ (plain : Plain) (pid : ℕ) (call : Call) (place : ℕ) (pipe : Pipe) (
   kept (step.sends fd addr n done opened at k which named on moves is) = same _ is refl
   kept (step.starts is) = faded _ is _ refl refl (exec_fades plain.files pid)
   kept (step.forks which is) = same _ is refl
-  kept (step.ends who ending is) = faded _ is _ refl refl (closed_by_fades plain.files who)
+  kept (step.ends_caller over ending is) = faded _ is _ refl refl (closed_by_fades plain.files pid)
+  kept (step.ends_other who ending is) = faded _ is _ refl refl (closed_by_fades plain.files who)
 
 pub others : (script : Script) (plain : Plain) (pid : ℕ) (call : Call) (place : ℕ) (pipe : Pipe) → pipe_there plain.files place ≡ Some pipe
     → LeadsTo (λ next. NoneGoes plain.files next.files → (pipe_there next.files place ≡ Some pipe) ⊎ Queues plain pid call place) (machine script plain pid call)
-others script plain pid call place pipe there = leads_on (λ next. IsStep plain pid call next.files) _
-    (λ next stepped stay. kept plain pid call place pipe next.files there stay stepped) (machine script plain pid call) (step_of script plain pid call)
+others script plain pid call place pipe there = steps_lead plain pid call _
+    (λ goes_on next stepped stay. kept plain pid call place pipe next.files there stay stepped) (machine script plain pid call) (step_of script plain pid call)

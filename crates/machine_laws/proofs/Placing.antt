@@ -26,7 +26,7 @@ use Rattle.kern_laws.proofs.Families.{others_live, alive_there}
 use Rattle.kern_laws.proofs.Remembering.{alive_still}
 use Rattle.kern_laws.proofs.TablePlaces.{at_end, below_or_not, same_in_front, was_made, with_other, with_same}
 use Rattle.machine_laws.specs.FileSteps as step
-use Rattle.machine_laws.specs.FileSteps.{IsStep, LeadsTo}
+use Rattle.machine_laws.specs.FileSteps.{IsStep, LeadsTo, Steps}
 use Rattle.machine_laws.specs.Placed.{IsPlaced}
 use Rattle.answer_laws.specs.Shapes as shape
 use Rattle.answer_laws.specs.Shapes.{HasShape}
@@ -69,7 +69,7 @@ module _ (plain : Plain) (pid : ℕ) (call : Call) (next : Files) (no_fork : cal
       (shuts_on pid files (with_open files pid fd (Some (record { description = length files.descriptions; cloexec = cloexec }))) (opened_as files pid fd cloexec description)
       (open_shuts files pid fd (Some (record { description = length files.descriptions; cloexec = cloexec }))) (shuts_same pid _ _ refl))
 
-  pub step_shuts : IsStep plain pid call next → Shuts pid plain.files next
+  pub step_shuts : {goes_on : Bool} → IsStep plain pid call goes_on next → Shuts pid plain.files next
   step_shuts (step.stays is) = same _ is refl
   step_shuts (step.shares fd opened from to named free is) = by _ is (open_shuts plain.files pid to _)
   step_shuts (step.shares_over fd to opened named may apart is) = by _ is (shuts_on pid plain.files _ _ (close_shuts pid plain.files pid (count_of to)) (open_shuts _ pid (count_of to) _))
@@ -99,7 +99,8 @@ module _ (plain : Plain) (pid : ℕ) (call : Call) (next : Files) (no_fork : cal
   step_shuts (step.sends fd addr n done opened place k which named on moves is) = same _ is refl
   step_shuts (step.starts is) = by _ is (exec_shuts pid plain.files pid)
   step_shuts (step.forks which is) = absurd (no_fork which)
-  step_shuts (step.ends who ending is) = by _ is (closed_shuts pid plain.files who)
+  step_shuts (step.ends_caller over ending is) = by _ is (closed_shuts pid plain.files pid)
+  step_shuts (step.ends_other who ending is) = by _ is (closed_shuts pid plain.files who)
 
 -- ---- answers
 
@@ -253,21 +254,21 @@ answered_placed script plain pid said placed = record {
 
 module _ (script : Script) (plain : Plain) (pid : ℕ) (placed : IsPlaced plain) (alive : is_alive plain.table pid ≡ true) where
   -- of a call that isn't a fork, by its shape and its step
-  by_shape : (call : Call) → call ≢ calls.Fork → (given : Answer) → LeadsTo (λ next. IsStep plain pid call next.files) given → HasShape script plain pid call given → LeadsTo IsPlaced given
+  by_shape : (call : Call) → call ≢ calls.Fork → (given : Answer) → Steps plain pid call given → HasShape script plain pid call given → LeadsTo IsPlaced given
   by_shape call no_fork given stepped (shape.blocks may is) = subst (LeadsTo IsPlaced) (sym is) tt
   by_shape call no_fork given stepped (shape.fails errno other is) = subst (LeadsTo IsPlaced) (sym is)
       (placed_on plain _ pid placed alive refl (length_with plain.controls pid _) (λ who gone. gone) (shuts_same pid _ _ refl))
   by_shape call no_fork given stepped (shape.tells files said is_said is) = subst (LeadsTo IsPlaced) (sym is)
       (placed_on plain _ pid placed alive refl (length_with plain.controls pid _) (λ who gone. gone)
-      (step_shuts plain pid call files no_fork (subst (LeadsTo (λ next. IsStep plain pid call next.files)) is stepped)))
+      (step_shuts plain pid call files no_fork (subst (Steps plain pid call) is stepped)))
   by_shape call no_fork given stepped (shape.puts files memory said is_said what is) = subst (LeadsTo IsPlaced) (sym is)
       (placed_on plain _ pid placed alive (length_with plain.table pid _) (length_with plain.controls pid _) (λ who gone. sym (alive_still plain.table pid who memory) ∙ gone)
-      (step_shuts plain pid call files no_fork (subst (LeadsTo (λ next. IsStep plain pid call next.files)) is stepped)))
+      (step_shuts plain pid call files no_fork (subst (Steps plain pid call) is stepped)))
   by_shape call no_fork given stepped (shape.moves path directory called led is) = subst (LeadsTo IsPlaced) (sym is)
       (placed_on plain _ pid placed alive (length_with plain.table pid _) (length_with plain.controls pid _) (λ who gone. sym (alive_moved plain.table pid directory who alive) ∙ gone) (shuts_same pid _ _ refl))
   by_shape call no_fork given stepped (shape.parts files moved part is) = subst (LeadsTo IsPlaced) (sym is)
       (placed_on plain _ pid placed alive refl (length_with plain.controls pid _) (λ who gone. gone)
-      (step_shuts plain pid call files no_fork (subst (LeadsTo (λ next. IsStep plain pid call next.files)) is stepped)))
+      (step_shuts plain pid call files no_fork (subst (Steps plain pid call) is stepped)))
   by_shape call no_fork given stepped (shape.starts place is) = subst (LeadsTo IsPlaced) (sym is)
       (placed_on plain _ pid placed alive (length_with plain.table pid _) (length_with plain.controls pid _) (λ who gone. sym (alive_still plain.table pid who no_memory) ∙ gone) (exec_shuts pid plain.files pid))
   by_shape call no_fork given stepped (shape.forks is) = subst (LeadsTo IsPlaced) (sym is) (fork_placed script plain pid (Val (pos (last_pid plain + 1))) placed alive)
@@ -275,7 +276,7 @@ module _ (script : Script) (plain : Plain) (pid : ℕ) (placed : IsPlaced plain)
       (placed_on plain _ pid placed alive (length_with plain.table child None) (length_with plain.controls pid _) (λ who gone. alive_reaped plain.table child who ended gone) (shuts_same pid _ _ refl))
   by_shape call no_fork given stepped (shape.ends status is) = subst (LeadsTo IsPlaced) (sym is) (die_placed plain pid status placed)
   by_shape call no_fork given stepped (shape.ends_another target signal called first own lives is) = subst (LeadsTo IsPlaced) (sym is)
-      (answered_placed script (die plain target 9) pid (Val (pos 0)) (die_placed plain target 9 placed))
+      (answered_placed script (die plain target (count_of signal)) pid (Val (pos 0)) (die_placed plain target (count_of signal) placed))
 
   fork_on : LeadsTo IsPlaced (machine script plain pid calls.Fork)
   fork_on = go (is_full plain)

@@ -43,11 +43,11 @@ use Rattle.posix_defs.specs.Calls.OnSockets as on_sockets
 use Rattle.posix_defs.specs.Calls.Polling.{hits_of, poll, revents_of}
 use Rattle.machine_laws.proofs.Between.{listed_between, of_file, sought_between}
 use Rattle.machine_laws.specs.FileSteps as step
-use Rattle.machine_laws.specs.FileSteps.{IsStep, LeadsTo, WritesNode, is_ending}
+use Rattle.machine_laws.specs.FileSteps.{IsStep, Steps, WritesNode, may_end_caller, may_end_other}
 
 -- what is asked of an answer
 abbrev Stepped : Plain → ℕ → Call → Answer → Type 0
-Stepped plain pid which given = LeadsTo (λ next. IsStep plain pid which next.files) given
+Stepped plain pid which given = Steps plain pid which given
 
 -- a descriptor that is open on a node reaches one
 on_node : (files : Files) (o : Option Opened) (opened : Opened) (number : ℕ) → o ≡ Some opened → opened.is.target ≡ OnNode number
@@ -131,7 +131,7 @@ module _ (script : Script) (plain : Plain) (pid : ℕ) (which : Call) where
 
   -- ---- writes
 
-  queue_step : (nonblock : Bool) (n done : ℕ) (next : ℕ → Files) (moving : Moving) → ((k : ℕ) → moving ≡ pipes.Moves k → IsStep plain pid which (next k))
+  queue_step : (nonblock : Bool) (n done : ℕ) (next : ℕ → Files) (moving : Moving) → ((k : ℕ) → moving ≡ pipes.Moves k → IsStep plain pid which true (next k))
       → Stepped plain pid which (write_queue script plain pid nonblock n done next moving)
   queue_step nonblock n done next (pipes.Moves k) each =
       either (k == n - done) _ _ (λ all. each k refl) (λ part. either nonblock _ _ (λ yes. each k refl) (λ no. each k refl))
@@ -333,12 +333,12 @@ module _ (script : Script) (plain : Plain) (pid : ℕ) (which : Call) where
       go None = either (any_from pid wanted 1 plain.table) _ _ (λ some. either (is_nohang options) _ _ (λ yes. step.stays refl) (λ no. tt)) (λ none. step.stays refl)
       go (Some exited) = step.stays refl
 
-  kills : (target signal : ℤ) → is_ending which ≡ true → Stepped plain pid which (kill script plain pid target signal)
-  kills (negsuc n) signal ending = step.stays refl
-  kills (pos target) signal ending = go (process_at plain.table target)
+  kills : (target signal : ℤ) → may_end_caller which ≡ true → may_end_other which ≡ true → Stepped plain pid which (kill script plain pid target signal)
+  kills (negsuc n) signal itself another = step.stays refl
+  kills (pos target) signal itself another = go (process_at plain.table target)
     where
-      strikes : Stepped plain pid which (struck script plain pid target)
-      strikes = either (target == pid) _ _ (λ own. step.ends pid ending refl) (λ other. step.ends target ending refl)
+      strikes : Stepped plain pid which (struck script plain pid target (count_of signal))
+      strikes = either (target == pid) _ _ (λ own. step.ends_caller refl itself refl) (λ other. step.ends_other target another refl)
 
       go : (o : Option Process) → Stepped plain pid which (sent_to script plain pid target signal o)
       go None = step.stays refl
@@ -470,9 +470,9 @@ module _ (script : Script) (plain : Plain) (pid : ℕ) where
   right call.SchedYield = step.stays refl
   right call.Fork = forks_step script plain pid _ refl
   right (call.Exec path) = execs script plain pid _ path
-  right (call.Exit status) = step.ends pid refl refl
+  right (call.Exit status) = step.ends_caller refl refl refl
   right (call.Waitpid wanted options) = waits script plain pid _ wanted options
-  right (call.Kill target signal) = kills script plain pid _ target signal refl
+  right (call.Kill target signal) = kills script plain pid _ target signal refl refl
   right (call.Mmap size) = maps script plain pid _ size
   right (call.Munmap addr size) = step.stays refl
   right (call.Store addr bytes) = ranged script plain pid _ addr (length bytes) _ (step.stays refl)

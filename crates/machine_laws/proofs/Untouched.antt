@@ -11,7 +11,7 @@ use Rattle.posix_defs.specs.Files.State.{Files}
 use Rattle.machine_laws.specs.FileSteps as step
 use Rattle.machine_laws.specs.FileSteps.{IsStep, LeadsTo}
 use Rattle.machine_laws.proofs.Fading.{close_fades, closed_by_fades, exec_fades, tree_kept}
-use Rattle.machine_laws.proofs.Leading.{leads_on}
+use Rattle.machine_laws.proofs.Leading.{steps_lead}
 use Rattle.machine_laws.proofs.Stepping.{right}
 
 -- two that don't hold, together or one of them
@@ -40,7 +40,7 @@ module _ (plain : Plain) (pid : ℕ) (call : Call) (next : Files) (unnamed : nam
   tree_of : (after : Files) → next ≡ after → after.tree ≡ plain.files.tree → next.tree ≡ plain.files.tree
   tree_of after is same = ap (λ files. files.tree) is ∙ same
 
-  pub by_step : IsStep plain pid call next → next.tree ≡ plain.files.tree
+  pub by_step : {goes_on : Bool} → IsStep plain pid call goes_on next → next.tree ≡ plain.files.tree
   by_step (step.stays is) = tree_of _ is refl
   by_step (step.shares fd opened from to named_by free is) = tree_of _ is refl
   by_step (step.shares_over fd to opened named_by may apart is) = kept _ is (λ none. tree_kept plain.files _ (close_fades plain.files pid _) none)
@@ -70,7 +70,8 @@ module _ (plain : Plain) (pid : ℕ) (call : Call) (next : Files) (unnamed : nam
   by_step (step.sends fd addr n done opened place k which named_by on moves is) = tree_of _ is refl
   by_step (step.starts is) = kept _ is (λ none. tree_kept plain.files _ (exec_fades plain.files pid) none)
   by_step (step.forks which is) = tree_of _ is refl
-  by_step (step.ends who ending is) = kept _ is (λ none. tree_kept plain.files _ (closed_by_fades plain.files who) none)
+  by_step (step.ends_caller over ending is) = kept _ is (λ none. tree_kept plain.files _ (closed_by_fades plain.files pid) none)
+  by_step (step.ends_other who ending is) = kept _ is (λ none. tree_kept plain.files _ (closed_by_fades plain.files who) none)
 
 pub leaves_tree : (script : Script) (plain : Plain) (pid : ℕ) (call : Call)
     → LeadsTo (λ next. reaches_node plain pid call next ≡ false → next.files.tree ≡ plain.files.tree) (machine script plain pid call)
@@ -79,9 +80,9 @@ leaves_tree script plain pid call = go (argument_fault call) refl
     go : (fault : Option Errno) → argument_fault call ≡ fault
         → LeadsTo (λ next. reaches_node plain pid call next ≡ false → next.files.tree ≡ plain.files.tree) (unless_wrong script plain pid fault (answer_to script plain pid call))
     go (Some e) is = λ none. refl
-    go None is = leads_on (λ next. IsStep plain pid call next.files) _ follows (answer_to script plain pid call) (right script plain pid call)
+    go None is = steps_lead plain pid call _ follows (answer_to script plain pid call) (right script plain pid call)
       where
-        follows : (next : Plain) → IsStep plain pid call next.files → reaches_node plain pid call next ≡ false → next.files.tree ≡ plain.files.tree
-        follows next stepped none =
+        follows : (goes_on : Bool) (next : Plain) → IsStep plain pid call goes_on next.files → reaches_node plain pid call next ≡ false → next.files.tree ≡ plain.files.tree
+        follows goes_on next stepped none =
             let both = neither (is_none (argument_fault call) && names_node plain.files pid call) (ends_node plain.files next.files) none in
             by_step plain pid call next.files (sym (ap (λ fault. is_none fault && names_node plain.files pid call) is) ∙ both.0) both.1 stepped

@@ -1,5 +1,5 @@
 -- How files change in one call: by one step, whatever the machine answers.
-use Rattle.std.specs.Prelude.{ℕ, ◌≡◌, ◌-◌, ◌%◌, ◌==◌, ℤ, Bool, true, false, List, length, Option, None, Some, Ok}
+use Rattle.std.specs.Prelude.{ℕ, ◌≡◌, ◌-◌, ◌%◌, ◌==◌, ◌||◌, ℤ, Bool, true, false, List, length, Option, None, Some, Ok}
 use Rattle.kabi_types.specs.Arguments.{count_of, may_be_descriptor}
 use Rattle.kabi_types.specs.declared.calls.Call.{Call}
 use Rattle.kabi_types.specs.declared.calls.Call.TheVariants as calls
@@ -35,11 +35,20 @@ LeadsTo Holds (Done reply next) = Holds next
 LeadsTo Holds (Part moved next) = Holds next
 LeadsTo Holds (Ended status next) = Holds next
 
+-- the calls that may end their caller
+abbrev pub may_end_caller : Call → Bool
+may_end_caller (calls.Exit status) = true
+may_end_caller (calls.Kill target signal) = true
+may_end_caller _ = false
+
+-- the calls that may end another process
+abbrev pub may_end_other : Call → Bool
+may_end_other (calls.Kill target signal) = true
+may_end_other _ = false
+
 -- the calls that may end a process
 abbrev pub is_ending : Call → Bool
-is_ending (calls.Exit status) = true
-is_ending (calls.Kill target signal) = true
-is_ending _ = false
+is_ending call = may_end_caller call || may_end_other call
 
 -- a call's descriptor is open on a node, for writing
 pub record WritesNode (plain : Plain) (pid : ℕ) (call : Call) (fd : ℤ) (opened : Opened) (number : ℕ) : Type 0 where
@@ -53,114 +62,123 @@ abbrev pub StaysBetween : Tree → Description → ℕ → Type 0
 StaysBetween tree was offset =
     (number : ℕ) → was.target ≡ OnNode number → IsTree tree → is_directory tree number ≡ true → was.offset % 32 ≡ 0 → offset % 32 ≡ 0
 
--- Of files nothing else changes in a call than this.
-pub data IsStep (plain : Plain) (pid : ℕ) (call : Call) (next : Files) : Type 0 where
+-- Of files nothing else changes in a call than this, whose caller goes on behind it or has ended.
+pub data IsStep (plain : Plain) (pid : ℕ) (call : Call) (goes_on : Bool) (next : Files) : Type 0 where
   -- nothing
-  stays : next ≡ plain.files → IsStep plain pid call next
+  stays : next ≡ plain.files → IsStep plain pid call goes_on next
   -- ---- descriptors and descriptions
 
   -- the lowest descriptor from a number on that is free names what another names
   shares : (fd : ℤ) (opened : Opened) (from to : ℕ) → opened_at plain.files pid fd ≡ Some opened
-      → lowest_free_from (descriptors_of plain.files pid) from ≡ Some to → next ≡ shared_at plain.files pid opened to → IsStep plain pid call next
+      → lowest_free_from (descriptors_of plain.files pid) from ≡ Some to → next ≡ shared_at plain.files pid opened to → IsStep plain pid call goes_on next
   -- a given descriptor names what another names, and is closed before
   shares_over : (fd to : ℤ) (opened : Opened) → opened_at plain.files pid fd ≡ Some opened
       → may_be_descriptor to ≡ true → (count_of fd == count_of to) ≡ false
-      → next ≡ shared_at (after_close plain.files pid (count_of to)) pid opened (count_of to) → IsStep plain pid call next
+      → next ≡ shared_at (after_close plain.files pid (count_of to)) pid opened (count_of to) → IsStep plain pid call goes_on next
   -- a descriptor is closed by `exec` from now on, or isn't
   marks : (fd : ℤ) (opened : Opened) (cloexec : Bool) → opened_at plain.files pid fd ≡ Some opened
       → next ≡ with_open plain.files pid (count_of fd) (cloexec_set cloexec (descriptor_at (descriptors_of plain.files pid) (count_of fd)))
-      → IsStep plain pid call next
+      → IsStep plain pid call goes_on next
   -- a descriptor is closed
   closes : (fd : ℤ) (opened : Opened) → opened_at plain.files pid fd ≡ Some opened
-      → next ≡ after_close plain.files pid (count_of fd) → IsStep plain pid call next
+      → next ≡ after_close plain.files pid (count_of fd) → IsStep plain pid call goes_on next
   -- a description gets another offset or other flags, and stays open on what it was, for what it was; in a directory between
   -- two entries
   describes : (fd : ℤ) (opened : Opened) (description : Description) → opened_at plain.files pid fd ≡ Some opened
       → description.target ≡ opened.is.target → description.access ≡ opened.is.access → StaysBetween plain.files.tree opened.is description.offset
-      → next ≡ described_as plain.files opened.place description → IsStep plain pid call next
+      → next ≡ described_as plain.files opened.place description → IsStep plain pid call goes_on next
   -- ---- the tree
 
   -- what a path leads to is opened
   opens : (path : List ℕ) (flags : ℤ) (fd : ℕ) (there : ℕ × Tree) → call ≡ calls.OpenFile path flags → lowest_free (descriptors_of plain.files pid) ≡ Some fd
       → open_path plain.files.tree (directory_of plain.table pid) path (opening_of flags) ≡ Ok there
-      → next ≡ opened_as (with_tree plain.files there.1) pid fd (has_flag flags o_cloexec) (description_for there.0 flags) → IsStep plain pid call next
+      → next ≡ opened_as (with_tree plain.files there.1) pid fd (has_flag flags o_cloexec) (description_for there.0 flags) → IsStep plain pid call goes_on next
   -- a file is written, and the offset moves
   writes : (fd addr n : ℤ) (done : ℕ) (opened : Opened) (number at offset : ℕ) (written : ℕ × Tree) → WritesNode plain pid call fd opened number
       → write plain.files.tree number at (bytes_left plain pid addr (count_of n) done) ≡ Ok written
-      → next ≡ described_as (with_tree plain.files written.1) opened.place (at_offset opened.is offset) → IsStep plain pid call next
+      → next ≡ described_as (with_tree plain.files written.1) opened.place (at_offset opened.is offset) → IsStep plain pid call goes_on next
   -- a file is written at a place
   writes_at : (fd addr n : ℤ) (opened : Opened) (number at : ℕ) (written : ℕ × Tree) → WritesNode plain pid call fd opened number
-      → write plain.files.tree number at (bytes_left plain pid addr (count_of n) 0) ≡ Ok written → next ≡ with_tree plain.files written.1 → IsStep plain pid call next
+      → write plain.files.tree number at (bytes_left plain pid addr (count_of n) 0) ≡ Ok written → next ≡ with_tree plain.files written.1 → IsStep plain pid call goes_on next
   -- a file gets another size
   resizes : (fd : ℤ) (opened : Opened) (number size : ℕ) (tree : Tree) → WritesNode plain pid call fd opened number
-      → resize plain.files.tree number size ≡ Ok tree → next ≡ with_tree plain.files tree → IsStep plain pid call next
+      → resize plain.files.tree number size ≡ Ok tree → next ≡ with_tree plain.files tree → IsStep plain pid call goes_on next
   -- a directory is made, or goes
   makes : (path : List ℕ) (made : ℕ × Tree) → call ≡ calls.Mkdir path → mkdir_path plain.files.tree (directory_of plain.table pid) path ≡ Ok made
-      → next ≡ with_tree plain.files made.1 → IsStep plain pid call next
+      → next ≡ with_tree plain.files made.1 → IsStep plain pid call goes_on next
   removes : (path : List ℕ) (tree : Tree) → call ≡ calls.Rmdir path → rmdir_path plain.files.tree (directory_of plain.table pid) path (is_busy plain) ≡ Ok tree
-      → next ≡ with_tree plain.files tree → IsStep plain pid call next
+      → next ≡ with_tree plain.files tree → IsStep plain pid call goes_on next
   -- a name is put beside another, goes, or becomes another
   links : (old new : List ℕ) (tree : Tree) → call ≡ calls.Link old new → link_path plain.files.tree (directory_of plain.table pid) old new ≡ Ok tree
-      → next ≡ with_tree plain.files tree → IsStep plain pid call next
+      → next ≡ with_tree plain.files tree → IsStep plain pid call goes_on next
   unlinks : (path : List ℕ) (left : Option ℕ × Tree) → call ≡ calls.Unlink path
       → unlink_path plain.files.tree (directory_of plain.table pid) path (is_opened plain.files) ≡ Ok left
-      → next ≡ renamed plain.files left.0 left.1 → IsStep plain pid call next
+      → next ≡ renamed plain.files left.0 left.1 → IsStep plain pid call goes_on next
   renames : (old new : List ℕ) (left : Option ℕ × Tree) → call ≡ calls.Rename old new
       → rename_path plain.files.tree (directory_of plain.table pid) old new (is_opened plain.files) (is_busy plain) ≡ Ok left
-      → next ≡ renamed plain.files left.0 left.1 → IsStep plain pid call next
+      → next ≡ renamed plain.files left.0 left.1 → IsStep plain pid call goes_on next
   -- ---- pipes
 
   -- a pipe is made
-  pipes : (two : Two) → two_lowest_free (descriptors_of plain.files pid) ≡ Some two → next ≡ piped plain.files pid two → IsStep plain pid call next
+  pipes : (two : Two) → two_lowest_free (descriptors_of plain.files pid) ≡ Some two → next ≡ piped plain.files pid two → IsStep plain pid call goes_on next
   -- a pipe's first bytes are taken
   takes : (fd addr n : ℤ) (opened : Opened) (place k : ℕ) → call ≡ calls.Read fd addr n → opened_at plain.files pid fd ≡ Some opened → opened.is.target ≡ OnPipe place
       → may_read opened.is.access ≡ true → pipe_read (pipe_at plain.files place) opened.is.nonblock (count_of n) ≡ Moves k
-      → next ≡ with_pipe plain.files place (Some (after_read (pipe_at plain.files place) k)) → IsStep plain pid call next
+      → next ≡ with_pipe plain.files place (Some (after_read (pipe_at plain.files place) k)) → IsStep plain pid call goes_on next
   -- bytes are put behind those of a pipe
   puts : (fd addr n : ℤ) (done : ℕ) (opened : Opened) (place k : ℕ) → call ≡ calls.Write fd addr n done → opened_at plain.files pid fd ≡ Some opened
       → opened.is.target ≡ OnPipe place → may_write opened.is.access ≡ true
       → pipe_write (pipe_at plain.files place) opened.is.nonblock (count_of n) (count_of n - done) ≡ Moves k
-      → next ≡ put_in_pipe plain.files place (bytes_left plain pid addr (count_of n) done) k → IsStep plain pid call next
+      → next ≡ put_in_pipe plain.files place (bytes_left plain pid addr (count_of n) done) k → IsStep plain pid call goes_on next
   -- ---- sockets
 
   -- a socket is made, or two that are connected
-  sockets : (fd : ℕ) → lowest_free (descriptors_of plain.files pid) ≡ Some fd → next ≡ socketed plain.files pid fd → IsStep plain pid call next
-  pairs : (two : Two) → two_lowest_free (descriptors_of plain.files pid) ≡ Some two → next ≡ paired plain.files pid two → IsStep plain pid call next
+  sockets : (fd : ℕ) → lowest_free (descriptors_of plain.files pid) ≡ Some fd → next ≡ socketed plain.files pid fd → IsStep plain pid call goes_on next
+  pairs : (two : Two) → two_lowest_free (descriptors_of plain.files pid) ≡ Some two → next ≡ paired plain.files pid two → IsStep plain pid call goes_on next
   -- a socket gets a new name of the tree
   binds : (fd : ℤ) (path : List ℕ) (opened : Opened) (place : ℕ) (made : ℕ × Tree) → call ≡ calls.Bind fd path → opened_at plain.files pid fd ≡ Some opened
       → opened.is.target ≡ OnSocket place → bind_fault (socket_at plain.files.sockets place) ≡ None
       → bind_path plain.files.tree (directory_of plain.table pid) path ≡ Ok made
-      → next ≡ with_sockets (with_tree plain.files made.1) (with_name plain.files.sockets place (Some made.0)) → IsStep plain pid call next
+      → next ≡ with_sockets (with_tree plain.files made.1) (with_name plain.files.sockets place (Some made.0)) → IsStep plain pid call goes_on next
   -- a socket listens
   listens : (fd : ℤ) (opened : Opened) (place : ℕ) → opened_at plain.files pid fd ≡ Some opened → opened.is.target ≡ OnSocket place
       → listen_fault (socket_at plain.files.sockets place) ≡ None
-      → next ≡ with_sockets plain.files (after_listen plain.files.sockets place) → IsStep plain pid call next
+      → next ≡ with_sockets plain.files (after_listen plain.files.sockets place) → IsStep plain pid call goes_on next
   -- a connected socket reads or writes no more
   shuts : (fd how : ℤ) (opened : Opened) (place : ℕ) → opened_at plain.files pid fd ≡ Some opened → opened.is.target ≡ OnSocket place
       → shutdown_fault (stage_at plain.files.sockets place) ≡ None
-      → next ≡ with_sockets plain.files (after_shut plain.files.sockets place how) → IsStep plain pid call next
+      → next ≡ with_sockets plain.files (after_shut plain.files.sockets place how) → IsStep plain pid call goes_on next
   -- a peer of a socket is made, which waits
   connects : (fd : ℤ) (opened : Opened) (place number listener : ℕ) → opened_at plain.files pid fd ≡ Some opened → opened.is.target ≡ OnSocket place
       → connect_fault (stage_at plain.files.sockets place) ≡ None → listener_at plain.files.sockets number ≡ Some listener
       → is_refused plain.files.sockets (Some listener) ≡ false
-      → next ≡ with_sockets plain.files (after_connect plain.files.sockets place listener (length plain.files.sockets)) → IsStep plain pid call next
+      → next ≡ with_sockets plain.files (after_connect plain.files.sockets place listener (length plain.files.sockets)) → IsStep plain pid call goes_on next
   -- one that waits is accepted
   accepts : (fd : ℤ) (opened : Opened) (place to taken : ℕ) → opened_at plain.files pid fd ≡ Some opened → opened.is.target ≡ OnSocket place
       → lowest_free (descriptors_of plain.files pid) ≡ Some to → accept_in (stage_at plain.files.sockets place) true opened.is.nonblock ≡ Takes taken
-      → next ≡ accepted plain.files pid place to taken → IsStep plain pid call next
+      → next ≡ accepted plain.files pid place to taken → IsStep plain pid call goes_on next
   -- a socket's first bytes are taken
   receives : (fd addr n : ℤ) (opened : Opened) (place k : ℕ) → call ≡ calls.Read fd addr n → opened_at plain.files pid fd ≡ Some opened → opened.is.target ≡ OnSocket place
       → sock_read plain.files.sockets place opened.is.nonblock (count_of n) ≡ Moves k
-      → next ≡ with_sockets plain.files (socket_after_read plain.files.sockets place k) → IsStep plain pid call next
+      → next ≡ with_sockets plain.files (socket_after_read plain.files.sockets place k) → IsStep plain pid call goes_on next
   -- bytes are put behind those of a socket's peer
   sends : (fd addr n : ℤ) (done : ℕ) (opened : Opened) (place k : ℕ) → call ≡ calls.Write fd addr n done → opened_at plain.files pid fd ≡ Some opened
       → opened.is.target ≡ OnSocket place → sock_write plain.files.sockets place opened.is.nonblock (count_of n - done) ≡ Moves k
-      → next ≡ put_in_socket plain.files place (bytes_left plain pid addr (count_of n) done) k → IsStep plain pid call next
+      → next ≡ put_in_socket plain.files place (bytes_left plain pid addr (count_of n) done) k → IsStep plain pid call goes_on next
   -- ---- processes
 
   -- a program starts, and its descriptors with FD_CLOEXEC are closed
-  starts : next ≡ after_exec_of plain.files pid → IsStep plain pid call next
+  starts : next ≡ after_exec_of plain.files pid → IsStep plain pid call goes_on next
   -- a child has open what its parent has
-  forks : call ≡ calls.Fork → next ≡ with_heir plain.files pid → IsStep plain pid call next
-  -- a process ends, and what it has open is closed
-  ends : (who : ℕ) → is_ending call ≡ true → next ≡ closed_by plain.files who → IsStep plain pid call next
+  forks : call ≡ calls.Fork → next ≡ with_heir plain.files pid → IsStep plain pid call goes_on next
+  -- its caller ends, and what it has open is closed
+  ends_caller : goes_on ≡ false → may_end_caller call ≡ true → next ≡ closed_by plain.files pid → IsStep plain pid call goes_on next
+  -- another process ends, and what that one has open is closed
+  ends_other : (who : ℕ) → may_end_other call ≡ true → next ≡ closed_by plain.files who → IsStep plain pid call goes_on next
+
+-- what a call leads to is one step: of a caller that goes on where it is answered, and of one that has ended where it ends
+abbrev pub Steps : Plain → ℕ → Call → Answer → Type 0
+Steps plain pid call Blocked = Unit {0}
+Steps plain pid call (Done reply next) = IsStep plain pid call true next.files
+Steps plain pid call (Part moved next) = IsStep plain pid call true next.files
+Steps plain pid call (Ended status next) = IsStep plain pid call false next.files

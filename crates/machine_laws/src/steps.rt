@@ -5,10 +5,10 @@ ghost use Rattle.kabi_types.specs.declared.calls.Call.{Call};
 ghost use Rattle.kabi_types.specs.declared.scripts.Script.{Script};
 ghost use Rattle.posix_defs.specs.Plain.{Plain};
 ghost use Rattle.posix_defs.specs.Machine.{machine};
-ghost use Rattle.machine_laws.specs.FileSteps.{IsStep, LeadsTo};
+ghost use Rattle.machine_laws.specs.FileSteps.{Steps};
 
 /// Whatever a call is answered, of files nothing changes, or one step is taken: what each step needs to be taken is told
 /// with it.
 pub fn every_answer_takes_a_step()
-    ensures { (script : Script) (plain : Plain) (pid : ℕ) (call : Call) → LeadsTo (λ next. IsStep plain pid call next.files) (machine script plain pid call) }
+    ensures { (script : Script) (plain : Plain) (pid : ℕ) (call : Call) → Steps plain pid call (machine script plain pid call) }
 {}

@@ -103,7 +103,7 @@ blocks_at disk inode places = map (λ there. named_at disk inode there) places
 -- one block more
 asked_one : {Thing : Type 0} (asked : Thing → ℕ → Thing → Type 0) (disk : List (List ℕ)) (inode : Inode) (index number : ℕ) (far : Bool) (first second third : Thing) → number ≡ data_block disk inode index
     → AskedInTurn asked first (cond far (inode.indirect ∷ []) []) second → asked second number third
-    → AskedInTurn asked first (blocks_at disk inode (cond far (Pointers ∷ Data index ∷ []) (Data index ∷ []))) third
+    → AskedInTurn asked first (blocks_at disk inode (cond far (Pointers 0 ∷ Data index ∷ []) (Data index ∷ []))) third
 asked_one {Thing} asked disk inode index number true first second third is pointers block =
     (pointers.0, pointers.1, (third, subst (λ (thing : Thing). asked thing (data_block disk inode index) third) pointers.2 (subst (λ (n : ℕ). asked second n third) is block), refl))
 asked_one {Thing} asked disk inode index number false first second third is none block =

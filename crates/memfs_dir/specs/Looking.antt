@@ -11,7 +11,7 @@ use Rattle.memfs_dir.specs.declared.finding.FoundEntry.{FoundEntry}
 
 -- a block of its entries; the first one that the inode doesn't name itself is behind the block of pointers
 abbrev pub looked_at : ℕ → List Place
-looked_at index = if index == direct_pointers then Pointers ∷ Data index ∷ [] else Data index ∷ []
+looked_at index = if index == direct_pointers then Pointers 0 ∷ Data index ∷ [] else Data index ∷ []
 
 -- its first blocks of entries, one after another
 abbrev pub looked_through : ℕ → List Place

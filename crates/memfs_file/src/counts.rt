@@ -4,12 +4,10 @@ ghost use Rattle.std.specs.Prelude.{◌≡◌, ◌<◌, ◌^◌};
 ghost use Rattle.posix_defs.specs.FileBytes.{capacity};
 
 use blk_map::DIRECT_POINTERS;
+use disk_layout::GREATEST_SIZE;
 
 /// The bytes of a block.
 pub const BLOCK_SIZE: u32 = 1024;
-
-/// The greatest size of a file: 266 blocks of bytes.
-pub const GREATEST_SIZE: u32 = 272_384;
 
 /// The greatest size of a file that takes so many blocks.
 pub fn most_bytes(blocks: u32) -> u32

@@ -2,7 +2,7 @@
 
 ghost use Rattle.std.specs.Prelude.{◌≡◌, ◌≢◌, ℕ, ◌+◌, ◌-◌, ◌*◌, ◌/◌, ◌%◌, ◌^◌, ◌<◌, ◌≤◌, ◌⊎◌, MatchOption, length, slice_index};
 ghost use Rattle.posix_defs.specs.Asking.{AskedInTurn};
-ghost use Rattle.posix_defs.specs.DiskFormat.{block_size, direct_pointers, block_pointers};
+ghost use Rattle.posix_defs.specs.DiskFormat.{block_size, direct_pointers, block_pointers, most_blocks};
 ghost use Rattle.posix_defs.specs.SoundDisk.{block_bytes, pointer_at};
 ghost use Rattle.blk_map.specs.Named.{pointer_to};
 ghost use Rattle.memfs_file.specs.Ranges.{shared, pointers_for};
@@ -103,7 +103,7 @@ pub fn pointers_behind<B: Blocks>(b: &mut B, inode: &Inode, blocks: u32, behind:
 
 /// The block that these pointers name for the bytes from `index` blocks on.
 pub fn block_named(direct: &[u32; 10], behind: &[u32; 256], index: u32) -> u32
-    requires { index < 266 }
+    requires { index < most_blocks }
     ensures { result ≡ pointer_to direct.now behind.now index }
 {
     if index < DIRECT_POINTERS {

@@ -9,9 +9,9 @@ ghost use Rattle.posix_defs.specs.DiskContents.{node_bytes};
 ghost use Rattle.blk_map.specs.Named.{TakesLowest, file};
 ghost use Rattle.memfs_file.specs.FileChange.{blocks_for, Rewrites};
 
-use crate::counts::GREATEST_SIZE;
 use crate::putting::put_bytes;
 use crate::room::{make_room, zero_gap};
+use disk_layout::GREATEST_SIZE;
 use kabi_types::{Errno, Inode};
 use posix_defs::Blocks;
 

@@ -2,8 +2,8 @@
 use Rattle.std.proofs.Common.{◌≡◌, ◌≢◌, ℕ, ◌+◌, ◌-◌, ◌*◌, ◌<◌, ◌≤◌, inl, inr, List, length, ltb, refl, sym, ap, subst, ◌∙◌, arith}
 use Rattle.std.proofs.lemmas.Bool.{cases_lt}
 use Rattle.kabi_types.specs.declared.inodes.Inode.{Inode}
-use Rattle.posix_defs.specs.DiskFormat.{block_size, table_end, data_blocks, IsForFiles, IsOfKind, IsPointer, IsInode, inode_bytes}
-use Rattle.posix_defs.specs.SoundDisk.{block_bytes, table_block, table_bytes, HasInode, pointer_at, Place, Data, Pointers, HasPlace, named_at, bit_of, IsMarked, Sound}
+use Rattle.posix_defs.specs.DiskFormat.{block_size, table_end, data_blocks, IsForFiles, IsOfKind, IsPointer, IsInode, inode_bytes, needs_pointer}
+use Rattle.posix_defs.specs.SoundDisk.{block_bytes, table_block, table_bytes, HasInode, pointer_at, Place, Data, Pointers, HasPlace, named_at, bit_of, IsMarked, Sound, pointer_block}
 use Rattle.posix_defs.specs.NodeChange.{Names, Replaces}
 use Rattle.disk_laws.proofs.FreeBlocks.{named_is_for_files, direct_at, behind_at}
 use Rattle.disk_laws.proofs.OneNode.{named_is_marked, this_has, changes_node, free_after, same_bytes}
@@ -45,16 +45,16 @@ map_stays t =
 bit_stays : (t : Tagged) (block : ℕ) → bit_of (block_bytes t.after 0) block ≡ bit_of (block_bytes t.before 0) block
 bit_stays t block = ap (λ (map : List ℕ). bit_of map block) (map_stays t)
 
-pointers_stay : (t : Tagged) → HasPlace t.old.size Pointers → block_bytes t.after t.old.indirect ≡ block_bytes t.before t.old.indirect
-pointers_stay t large = stays_there t t.old.indirect (files t Pointers large).0
+pointers_stay : (t : Tagged) (block : ℕ) → HasPlace t.old.size (Pointers block) → block_bytes t.after (pointer_block t.old block) ≡ block_bytes t.before (pointer_block t.old block)
+pointers_stay t block large = stays_there t (pointer_block t.old block) (files t (Pointers block) large).0
 
 name : (t : Tagged) (place : Place) → HasPlace t.old.size place → named_at t.after (tagged t) place ≡ named_at t.before t.old place
 name t (Data index) lt = elim (cases_lt index 10) [
   | inl first ↦ direct_at t.after (tagged t) index first ∙ sym (direct_at t.before t.old index first)
   | inr behind ↦
-      behind_at t.after (tagged t) index behind ∙ ap (λ (bytes : List ℕ). pointer_at bytes (index - 10)) (pointers_stay t (omega (arith, lt, behind))) ∙ sym (behind_at t.before t.old index behind)
+      behind_at t.after (tagged t) index behind ∙ ap (λ (bytes : List ℕ). pointer_at bytes (index - 10)) (pointers_stay t 0 (omega (arith, lt, behind))) ∙ sym (behind_at t.before t.old index behind)
 ]
-name t Pointers lt = refl
+name t (Pointers block) lt = refl
 
 is_inode : (t : Tagged) → IsInode (length t.before) (tagged t)
 is_inode t =
@@ -83,9 +83,8 @@ replaces t =
       inode = is_inode t;
       slot = t.slot;
       slots = λ node pos within other. t.slots node pos other;
-      pointers = λ k large lt.
-          let named : HasPlace t.old.size Pointers = omega (arith, large) in
-          subst (λ (bytes : List ℕ). IsPointer (length t.before) (ltb ((10 + k) * block_size) t.old.size) (pointer_at bytes k)) (sym (pointers_stay t named)) (t.sound.pointers t.number t.old k t.had large lt);
+      pointers = λ block at large lt.
+          subst (λ (bytes : List ℕ). IsPointer (length t.before) (needs_pointer t.old.size block at) (pointer_at bytes at)) (sym (pointers_stay t block large)) (t.sound.pointers t.number t.old block at t.had large lt);
       once = λ i j at_i at_j same. (t.sound.once t.number t.number t.old t.old i j t.had t.had at_i at_j (sym (name t i at_i) ∙ same ∙ name t j at_j)).1;
       taken = λ place within. inl (record { place = place; within = within; same = name t place within });
       untouched = λ block above below marked none. stays_there t block above;

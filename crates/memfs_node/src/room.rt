@@ -6,12 +6,10 @@ ghost use Rattle.posix_defs.specs.SoundDisk.{Sound, free_in_map};
 ghost use Rattle.memfs_dir.specs.Listed.{IsFullBeside};
 
 use blk_map::block_count;
+use disk_layout::GREATEST_SIZE;
 use kabi_types::Inode;
 use memfs_file::free_count;
 use posix_defs::Blocks;
-
-/// The greatest size of a node: 266 blocks of bytes.
-const GREATEST_SIZE: u32 = 272_384;
 
 /// The bytes of an entry.
 const ENTRY_SIZE: u32 = 32;

@@ -1,7 +1,7 @@
 -- A purse of which nothing is spent.
 use Rattle.std.proofs.Common.{◌≡◌, ◌+◌, ◌<◌, ◌≤◌, [], sym, subst, arith}
 use Rattle.kabi_types.specs.declared.classes.Need.{Need}
-use Rattle.kheap_slabs.specs.Counts.{need_bytes}
+use Rattle.kabi_types.specs.Counts.{need_bytes}
 use Rattle.kheap_slabs.specs.Purse.{Purse}
 use Rattle.kheap_slabs.specs.Heap.{Heap, live_bytes}
 use Rattle.kheap_laws.proofs.FillLemmas.{AreFills-none}

@@ -13,6 +13,7 @@ use disk_layout::RamDisk;
 use kabi_types::{Class, Inode, Memory, Need};
 use kheap_slabs::{KHeap, Purse};
 use name_cache::NameCache;
+use posix_defs::blank_inode;
 use std::alloc::Global;
 use std::marker::Model;
 use vnode_cache::VnodeCache;
@@ -91,7 +92,7 @@ fn root_of(blocks: u32) -> Inode
         nlink: 1,
         size: 64,
         direct,
-        indirect: 0,
+        ..blank_inode()
     }
 }
 
@@ -105,16 +106,8 @@ fn hold_root(heap: &mut KHeap, vnodes: &mut VnodeCache, inode: Inode)
     ensures capacity { vnodes.new.order.capacity ≡ vnodes.old.order.capacity }
 {
     let mut purse = Purse::of(Need {
-        proc: 0,
-        node: 0,
-        page: 0,
-        desc: 0,
         vnode: 1,
-        name: 0,
-        block: 0,
-        pipe: 0,
-        chunk: 0,
-        sock: 0,
+        ..Need::default()
     });
     vnodes.fill(heap, &mut purse, 1, inode);
     vnodes.pin(heap, 1);

@@ -1,8 +1,8 @@
 ghost use Rattle.std.specs.Prelude.{◌≡◌, ◌*◌, ◌<◌, ◌≤◌, ◌^◌, max};
 ghost use Rattle.kabi_types.specs.Class.{size};
+ghost use Rattle.kabi_types.specs.Counts.{need_bytes};
 ghost use Rattle.kabi_types.specs.declared.classes.Class.TheVariants.{Block, Chunk};
 ghost use Rattle.posix_defs.specs.Needs.{bound, is_write};
-ghost use Rattle.posix_defs.specs.Sizes.{bytes_of};
 
 use crate::needs::need;
 use kabi_types::{Call, CallKind, Class, Need};
@@ -15,19 +15,16 @@ fn taken(class: Class, count: u32) -> u64
     u64::from(count) * class.bytes()
 }
 
+/// How many bytes the objects of all classes take.
 fn total(need: &Need) -> u64
-    ensures { result ≡ bytes_of need.now }
+    ensures { result ≡ need_bytes need.now }
 {
-    taken(Class::Proc, need.proc)
-        + taken(Class::Node, need.node)
-        + taken(Class::Page, need.page)
-        + taken(Class::Desc, need.desc)
-        + taken(Class::Vnode, need.vnode)
-        + taken(Class::Name, need.name)
-        + taken(Class::Block, need.block)
-        + taken(Class::Pipe, need.pipe)
-        + taken(Class::Chunk, need.chunk)
-        + taken(Class::Sock, need.sock)
+    let classes: &[Class] = &Class::ALL;
+    let mut bytes = 0;
+    for class in classes {
+        bytes += taken(*class, need.count(*class));
+    }
+    bytes
 }
 
 /// What the blocks of a need take, or its chunks, whichever is more.

@@ -11,19 +11,6 @@ use kabi_types::{CallKind, Class, Memory};
 use posix_defs::Price;
 use std::alloc::{AllocError, Global};
 
-const CLASSES: [Class; 10] = [
-    Class::Proc,
-    Class::Node,
-    Class::Page,
-    Class::Desc,
-    Class::Vnode,
-    Class::Name,
-    Class::Block,
-    Class::Pipe,
-    Class::Chunk,
-    Class::Sock,
-];
-
 fn class_name(class: Class) -> &'static str
     ensures { result.now ≡ class_name class }
 {
@@ -115,7 +102,7 @@ pub fn table(alloc: Global) -> Result<String, Memory>
     ensures { IfOk result (λ text. string_bytes text ≡ table_text) }
 {
     let mut text = String::new(alloc);
-    push_classes(&mut text, &CLASSES)?;
+    push_classes(&mut text, &Class::ALL)?;
     push_fixed(&mut text)?;
     push_lines(&mut text, &CallKind::ALL)?;
     Ok(text)

@@ -15,7 +15,7 @@ use Rattle.proc_descs.specs.Naming.{ChangesNumbers}
 use Rattle.proc_descs.proofs.Listing.{found_before, found_now, found_others}
 use Rattle.holding_laws.specs.Names.{name_of}
 use Rattle.proc_table.specs.Accounting.{HasAccount}
-use Rattle.proc_table.specs.Procs.{HasNoneOpenOnce, IsAlive, IsLight, proc_of, process_of}
+use Rattle.proc_table.specs.Procs.{HasNoneOpenOnce, IsAlive, IsLight, numbers_in, proc_of, process_of}
 use Rattle.proc_table.specs.Standing.{AreFrom, IsTable}
 use Rattle.proc_table.specs.Table.{Holds, TableView, processes, procs_at}
 use Rattle.proc_table.proofs.AccountLemmas.{becomes_account}
@@ -50,9 +50,9 @@ places_nodes pid places proc = by_test (proc.pid == pid)
     by_test false = refl
 
 -- with its own descriptors a process is what it is
-opening_own : (o : Option Proc) → o ≡ option_map (opening (places_in o)) o
-opening_own None = refl
-opening_own (Some proc) = refl
+opening_own : (h : Heap) (o : Option Proc) → o ≡ option_map (opening (places_in (numbers_in h) o)) o
+opening_own h None = refl
+opening_own h (Some proc) = refl
 
 module _ (old new : Heap) (kept : TableView) (pid : ℕ) (holds : Holds old kept) (changes : ChangesNumbers old new kept pid) where
   abbrev now : Proc
@@ -82,7 +82,7 @@ module _ (old new : Heap) (kept : TableView) (pid : ℕ) (holds : Holds old kept
         subst (λ n. proc_of (processes new kept) n ≡ option_map (opening changes.places) (proc_of (processes old kept) n)) (sym same.1)
             (here ∙ sym (ap (option_map (opening changes.places)) before)),
       )
-      by_pid_of (inr apart) = (places_in (proc_of (processes old kept) q), others q apart.1 ∙ opening_own (proc_of (processes old kept) q))
+      by_pid_of (inr apart) = (places_in (numbers_in old) (proc_of (processes old kept) q), others q apart.1 ∙ opening_own old (proc_of (processes old kept) q))
 
   -- ---- the processes together
 

@@ -6,7 +6,7 @@ use Rattle.kheap_slabs.specs.declared.objects.Proc.{Proc}
 use Rattle.kheap_slabs.specs.Keys.{AreKeysOf}
 use Rattle.open_laws.specs.Owned.{HasItsOwners}
 use Rattle.holding_laws.specs.Names.{name_of}
-use Rattle.proc_table.specs.Procs.{proc_of}
+use Rattle.proc_table.specs.Procs.{proc_of, with_numbers}
 use Rattle.proc_table.specs.Table.{Holds, keys_of}
 use Rattle.store_objects.specs.declared.objects.Objects.{Objects}
 use Rattle.store_objects.specs.Objects.{procs_of}
@@ -14,7 +14,7 @@ use Rattle.store_objects.specs.Trees.{TreeStays}
 
 -- the same process with other descriptors
 abbrev pub opening : List (Option Descriptor) → Proc → Proc
-opening places proc = record proc { descriptors = places }
+opening places proc = with_numbers proc places
 
 -- The processes are those that were there, each as it was but for its descriptors.
 pub record ProcsStay (old new : Objects) : Type 0 where

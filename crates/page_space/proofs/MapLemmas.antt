@@ -5,7 +5,7 @@ use Rattle.std.proofs.lemmas.Bool.{cases_lt, cases_eq, cond-false, ne_eqb, false
 use Rattle.kabi_types.specs.declared.classes.Class.TheVariants as class
 use Rattle.posix_defs.specs.Memory.{Memory, zero_page, with_pages, Zero, is_mapped as is_mapped_in, is_mapped_range, lowest_free_run, lowest_run}
 use Rattle.posix_defs.specs.Needs.{pages_touched, nodes_for}
-use Rattle.kheap_slabs.specs.Counts.{with_count}
+use Rattle.kabi_types.specs.Counts.{with_count}
 use Rattle.kheap_slabs.specs.Purse.{Purse}
 use Rattle.kheap_slabs.specs.declared.objects.Page.{Page}
 use Rattle.kheap_slabs.specs.declared.objects.PageEntry.{PageEntry}

@@ -5,7 +5,7 @@ use Rattle.std.proofs.lemmas.List.{get_or-set_same, get_or-set_other, length-app
 use Rattle.posix_defs.specs.Memory.{Memory, Frames, page_at, stored, after_put, written_at, written_from}
 use Rattle.posix_defs.specs.Needs.{pages_touched}
 use Rattle.kabi_types.specs.declared.classes.Class.TheVariants as class
-use Rattle.kheap_slabs.specs.Counts.{with_count}
+use Rattle.kabi_types.specs.Counts.{with_count}
 use Rattle.kheap_slabs.specs.Objects.{object, put}
 use Rattle.kheap_slabs.specs.Purse.{Purse}
 use Rattle.kheap_slabs.specs.Pages.{with_bytes}

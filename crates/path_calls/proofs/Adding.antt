@@ -1,10 +1,11 @@
 -- Nodes come into a set: the one that a process works in, and those that it has open.
 use Rattle.std.proofs.Common.{◌≡◌, ℕ, ◌≤◌, ◌==◌, ◌&&◌, ◌||◌, not, Bool, true, false, List, length, take, Option, None, Some, is_none, is_some, nat_lt, refl, ap, sym, ◌∙◌}
 use Rattle.std.proofs.lemmas.List.{take_all}
-use Rattle.kheap_slabs.specs.declared.objects.Desc.{Desc}
 use Rattle.kheap_slabs.specs.declared.objects.Proc.{Proc}
 use Rattle.path_calls.specs.Nodes.{Adds, has_node, holds_node, most_nodes, some_opens, works_at}
 use Rattle.path_calls.specs.declared.node_set.NodeSet.{NodeSet}
+use Rattle.kheap_slabs.specs.Heap.{Heap}
+use Rattle.proc_table.specs.Procs.{numbers_in}
 
 -- a test holds where another does, and the other way round
 pub alike : (a b : Bool) → (a ≡ true → b ≡ true) → (b ≡ true → a ≡ true) → a ≡ b
@@ -41,10 +42,10 @@ works_nowhere set proc ended = λ number.
     either false false = refl
 
 -- so all are in that a process holds
-pub held_added : (old mid new : NodeSet) (descs : List (Option Desc)) (proc : Proc) (index : ℕ) → length proc.descriptors ≤ index → Adds old mid (λ number. works_at number proc)
-    → Adds mid new (some_opens descs (take index proc.descriptors)) → Adds old new (λ number. holds_node descs number proc)
-held_added old mid new descs proc index all works opens = λ number.
+pub held_added : (old mid new : NodeSet) (h : Heap) (proc : Proc) (index : ℕ) → length (numbers_in h proc) ≤ index → Adds old mid (λ number. works_at number proc)
+    → Adds mid new (some_opens h.descs (take index (numbers_in h proc))) → Adds old new (λ number. holds_node h number proc)
+held_added old mid new h proc index all works opens = λ number.
     opens number
-    ∙ ap (λ places. has_node mid number || (nat_lt number most_nodes && some_opens descs places number)) (take_all index proc.descriptors all)
-    ∙ ap (λ b. b || (nat_lt number most_nodes && some_opens descs proc.descriptors number)) (works number)
-    ∙ both_more (has_node old number) (works_at number proc) (some_opens descs proc.descriptors number) (nat_lt number most_nodes)
+    ∙ ap (λ places. has_node mid number || (nat_lt number most_nodes && some_opens h.descs places number)) (take_all index (numbers_in h proc) all)
+    ∙ ap (λ b. b || (nat_lt number most_nodes && some_opens h.descs (numbers_in h proc) number)) (works number)
+    ∙ both_more (has_node old number) (works_at number proc) (some_opens h.descs (numbers_in h proc) number) (nat_lt number most_nodes)

@@ -15,7 +15,7 @@ use Rattle.posix_defs.specs.Plain.{root}
 use Rattle.posix_defs.specs.Process.{Table, runs}
 use Rattle.posix_defs.specs.Tree.{Tree}
 use Rattle.posix_defs.specs.World.{World}
-use Rattle.proc_table.specs.Procs.{process_of, status_of}
+use Rattle.proc_table.specs.Procs.{numbers_in, process_of, status_of}
 use Rattle.proc_table.specs.Standing.{AreFrom, gone, nobody, there}
 use Rattle.store_objects.specs.declared.objects.Objects.{Objects}
 use Rattle.store_objects.specs.Objects.{procs_of}
@@ -45,12 +45,12 @@ works_from (there h first proc table procs e rest) n =
 -- ---- who holds what
 
 -- some hold it where some work in it, or have it open
-either : (descs : List (Option Desc)) (procs : List Proc) (n : ℕ)
-    → some_holds descs procs n ≡ (list_any (λ proc. some_opens descs proc.descriptors n) procs || list_any (works_at n) procs)
-either descs [] n = refl
-either descs (proc ∷ procs) n =
-    ap (λ b. holds_node descs n proc || b) (either descs procs n)
-    ∙ swapped (works_at n proc) (some_opens descs proc.descriptors n) (list_any (λ p. some_opens descs p.descriptors n) procs) (list_any (works_at n) procs)
+either : (h : Heap) (procs : List Proc) (n : ℕ)
+    → some_holds h procs n ≡ (list_any (λ proc. some_opens h.descs (numbers_in h proc) n) procs || list_any (works_at n) procs)
+either h [] n = refl
+either h (proc ∷ procs) n =
+    ap (λ b. holds_node h n proc || b) (either h procs n)
+    ∙ swapped (works_at n proc) (some_opens h.descs (numbers_in h proc) n) (list_any (λ p. some_opens h.descs (numbers_in h p) n) procs) (list_any (works_at n) procs)
   where
     swapped : (works opens others others_work : Bool) → ((works || opens) || (others || others_work)) ≡ ((opens || others) || (works || others_work))
     swapped true true others others_work = refl
@@ -71,23 +71,23 @@ within h fs tree pins n stands some =
 
 module _ (script : Script) (objects : Objects) (world : World) (stands : StandsFor script objects world) where
   -- what processes hold is busy in the machine
-  holds_busy : (n : ℕ) → some_holds objects.heap.descs (procs_of objects) n ≡ is_busy world.plain n
+  holds_busy : (n : ℕ) → some_holds objects.heap (procs_of objects) n ≡ is_busy world.plain n
   holds_busy n =
-      either objects.heap.descs (procs_of objects) n
+      either objects.heap (procs_of objects) n
       ∙ ap (λ b. b || list_any (works_at n) (procs_of objects))
       (opens_same stands.files.numbers objects.heap objects.procs world.plain.files stands.files.opened (listed_in script objects stands.kept) stands.kept.owners n)
       ∙ ap (λ b. opens world.plain.files n || b) (sym (works_from stands.processes.table.present n))
 
   -- and of each node but the root it is told whether it is held
-  pub told_held : (n : ℕ) → n ≢ root → (nat_lt n most_nodes && some_holds objects.heap.descs (procs_of objects) n) ≡ is_held (pins_in world.plain) n
+  pub told_held : (n : ℕ) → n ≢ root → (nat_lt n most_nodes && some_holds objects.heap (procs_of objects) n) ≡ is_held (pins_in world.plain) n
   told_held n other = by_held (is_held (pins_in world.plain) n) refl
     where
-      same : some_holds objects.heap.descs (procs_of objects) n ≡ is_held (pins_in world.plain) n
+      same : some_holds objects.heap (procs_of objects) n ≡ is_held (pins_in world.plain) n
       same = holds_busy n ∙ held_busy world.plain n other
 
-      by_held : (b : Bool) → is_held (pins_in world.plain) n ≡ b → (nat_lt n most_nodes && some_holds objects.heap.descs (procs_of objects) n) ≡ is_held (pins_in world.plain) n
+      by_held : (b : Bool) → is_held (pins_in world.plain) n ≡ b → (nat_lt n most_nodes && some_holds objects.heap (procs_of objects) n) ≡ is_held (pins_in world.plain) n
       by_held true held =
-          ap (λ b. b && some_holds objects.heap.descs (procs_of objects) n)
+          ap (λ b. b && some_holds objects.heap (procs_of objects) n)
           (lt-ltb n most_nodes (within objects.heap objects.tree world.plain.files.tree (pins_in world.plain) n stands.tree.stands (ltb-true 0 (pins_in world.plain n) held)))
           ∙ same
       by_held false none = ap (λ b. nat_lt n most_nodes && b) (same ∙ none) ∙ neither (nat_lt n most_nodes) ∙ sym none

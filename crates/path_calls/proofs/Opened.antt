@@ -23,6 +23,7 @@ use Rattle.posix_defs.specs.Files.State.{Files, is_number, opens}
 use Rattle.proc_descs.specs.Having.{AreListed, HaveOpen}
 use Rattle.proc_descs.proofs.Sums.{one_if, part_of_sum, some_adds}
 use Rattle.proc_queues.proofs.Opening.{described_so}
+use Rattle.proc_table.specs.Procs.{numbers_in}
 use Rattle.proc_table.specs.Table.{AreStored, TableView, keys_of, processes, procs_at}
 use Rattle.proc_table.specs.declared.places.Listed.{Listed}
 use Rattle.proc_table.proofs.PlaceLemmas.{Contains-cases, IsAt, eqb_same, some_same, stored_is}
@@ -40,10 +41,10 @@ names_some places fd held is =
     let one = ap one_if (eqb_same held.desc held.desc refl) in
     omega (arith, part, one)
 
-pub desc_named : (h : Heap) (key : ℕ) (proc : Proc) (fd : ℕ) (held : Descriptor) → HasItsOwners h [] → object h.procs key ≡ Some proc → object proc.descriptors fd ≡ Some held
+pub desc_named : (h : Heap) (key : ℕ) (proc : Proc) (fd : ℕ) (held : Descriptor) → HasItsOwners h [] → object h.procs key ≡ Some proc → object (numbers_in h proc) fd ≡ Some held
     → InUse h.descs held.desc
 desc_named h key proc fd held owners there is =
-    let some = names_some proc.descriptors fd held is in
+    let some = names_some (numbers_in h proc) fd held is in
     let part = part_of_sum (namings_in held.desc) h.procs key proc there in
     let it = named_there h [] held.desc owners (omega (arith, some, part)) in
     let used : InUse h.descs held.desc = rw it.1 refl in used
@@ -75,13 +76,13 @@ module _ (numbers : Numbers) (h : Heap) (kept : TableView) (files : Files) (have
       go true is some rest = opened_place n place is
       go false is some rest = rest some
 
-  opened_procs : (n : ℕ) (procs : List Proc) → list_any (λ proc. some_opens h.descs proc.descriptors n) procs ≡ true → opens files n ≡ true
+  opened_procs : (n : ℕ) (procs : List Proc) → list_any (λ proc. some_opens h.descs (numbers_in h proc) n) procs ≡ true → opens files n ≡ true
   opened_procs n [] e = cc
-  opened_procs n (proc ∷ procs) e = go (some_opens h.descs proc.descriptors n) refl e (opened_procs n procs)
+  opened_procs n (proc ∷ procs) e = go (some_opens h.descs (numbers_in h proc) n) refl e (opened_procs n procs)
     where
-      go : (b : Bool) → some_opens h.descs proc.descriptors n ≡ b → (b || list_any (λ p. some_opens h.descs p.descriptors n) procs) ≡ true
-          → (list_any (λ p. some_opens h.descs p.descriptors n) procs ≡ true → opens files n ≡ true) → opens files n ≡ true
-      go true is some rest = opened_places n proc.descriptors is
+      go : (b : Bool) → some_opens h.descs (numbers_in h proc) n ≡ b → (b || list_any (λ p. some_opens h.descs (numbers_in h p) n) procs) ≡ true
+          → (list_any (λ p. some_opens h.descs (numbers_in h p) n) procs ≡ true → opens files n ≡ true) → opens files n ≡ true
+      go true is some rest = opened_places n (numbers_in h proc) is
       go false is some rest = rest some
 
 -- ---- from the machine to the heap
@@ -153,24 +154,24 @@ module _ (numbers : Numbers) (h : Heap) (kept : TableView) (files : Files) (have
       counted_at list place d e = counted_in_place (object list place) d (sym (description_in list place) ∙ e)
 
   -- some process of the table names it
-  named_so : (test : Proc → Bool) (key : ℕ) → InUse h.descs key → ((proc : Proc) (fd : ℕ) (held : Descriptor) → object proc.descriptors fd ≡ Some held → held.desc ≡ key → test proc ≡ true)
+  named_so : (test : Proc → Bool) (key : ℕ) → InUse h.descs key → ((proc : Proc) (fd : ℕ) (held : Descriptor) → object (numbers_in h proc) fd ≡ Some held → held.desc ≡ key → test proc ≡ true)
       → list_any test (processes h kept) ≡ true
   named_so test key used passes =
       let at = some_adds (namings_in key) h.procs refl (more (desc_count_at h.descs key) (namings_of h.procs key) (owners.named.counts key) (owners.named.named key used)) in
-      let by = some_adds (λ o. one_if (names_desc key o)) at.value.descriptors refl at.adds in
+      let by = some_adds (λ o. one_if (names_desc key o)) (numbers_in h at.value) refl at.adds in
       any_listed test h.procs kept.listed at.key at.value listed.stored (listed.all.listed at.key (let there : InUse h.procs at.key = rw at.is refl in there)) at.is
       (passes at.value by.key by.value by.is (names_key key by.value by.adds))
     where
       more : (count names : ℕ) → count ≡ names + 0 → 0 < count → 0 < names
       more count names same some = omega (arith, same, some)
 
-  opens_procs : (n : ℕ) → opens files n ≡ true → list_any (λ proc. some_opens h.descs proc.descriptors n) (processes h kept) ≡ true
+  opens_procs : (n : ℕ) → opens files n ≡ true → list_any (λ proc. some_opens h.descs (numbers_in h proc) n) (processes h kept) ≡ true
   opens_procs n some =
       let at = desc_of n (opens_by files n some) in
-      named_so (λ proc. some_opens h.descs proc.descriptors n) at.0 (let used : InUse h.descs at.0 = rw at.2 refl in used)
+      named_so (λ proc. some_opens h.descs (numbers_in h proc) n) at.0 (let used : InUse h.descs at.0 = rw at.2 refl in used)
       (λ proc fd held is names.
-      any_here (opens_at h.descs n) proc.descriptors fd held is (ap (λ key. is_number n (node_of (object h.descs key))) names ∙ ap (λ o. is_number n (node_of o)) at.2 ∙ at.3))
+      any_here (opens_at h.descs n) (numbers_in h proc) fd held is (ap (λ key. is_number n (node_of (object h.descs key))) names ∙ ap (λ o. is_number n (node_of o)) at.2 ∙ at.3))
 
   -- the same are open
-  pub opens_same : (n : ℕ) → list_any (λ proc. some_opens h.descs proc.descriptors n) (processes h kept) ≡ opens files n
-  opens_same n = alike (list_any (λ proc. some_opens h.descs proc.descriptors n) (processes h kept)) (opens files n) (opened_procs numbers h kept files have n (processes h kept)) (opens_procs n)
+  pub opens_same : (n : ℕ) → list_any (λ proc. some_opens h.descs (numbers_in h proc) n) (processes h kept) ≡ opens files n
+  opens_same n = alike (list_any (λ proc. some_opens h.descs (numbers_in h proc) n) (processes h kept)) (opens files n) (opened_procs numbers h kept files have n (processes h kept)) (opens_procs n)

@@ -9,6 +9,8 @@ use Rattle.open_laws.specs.Described.{node_in}
 use Rattle.posix_defs.specs.Files.State.{is_number}
 use Rattle.posix_defs.specs.SoundDisk.{bit_of}
 use Rattle.path_calls.specs.declared.node_set.NodeSet.{NodeSet}
+use Rattle.kheap_slabs.specs.Heap.{Heap}
+use Rattle.proc_table.specs.Procs.{numbers_in}
 
 -- no set has this node or one behind it
 abbrev pub most_nodes : ℕ
@@ -43,9 +45,9 @@ abbrev pub some_opens : List (Option Desc) → List (Option Descriptor) → ℕ 
 some_opens descs places number = list_any (opens_at descs number) places
 
 -- a process works in this node as long as it runs, or has it open
-abbrev pub holds_node : List (Option Desc) → ℕ → Proc → Bool
-holds_node descs number proc = works_at number proc || some_opens descs proc.descriptors number
+abbrev pub holds_node : Heap → ℕ → Proc → Bool
+holds_node h number proc = works_at number proc || some_opens h.descs (numbers_in h proc) number
 
 -- some process of these does
-abbrev pub some_holds : List (Option Desc) → List Proc → ℕ → Bool
-some_holds descs procs number = list_any (holds_node descs number) procs
+abbrev pub some_holds : Heap → List Proc → ℕ → Bool
+some_holds h procs number = list_any (holds_node h number) procs

@@ -20,7 +20,7 @@ pub(crate) fn held_nodes(heap: &KHeap, procs: &ProcTable) -> NodeSet
     requires stored { AreStored heap.now.procs procs.now.listed }
     requires owners { HasItsOwners heap.now [] }
     ensures { (number : ℕ) → has_node result number
-        ≡ (nat_lt number most_nodes && some_holds heap.now.descs (processes heap.now procs.now) number) }
+        ≡ (nat_lt number most_nodes && some_holds heap.now (processes heap.now procs.now) number) }
 {
     let mut nodes = NodeSet::new();
     for place in procs.listed() {
@@ -35,7 +35,7 @@ fn add_held(heap: &KHeap, key: u32, nodes: &mut NodeSet)
     requires there { InUse heap.now.procs key }
     requires owners { HasItsOwners heap.now [] }
     ensures { (proc : Proc) → object heap.now.procs key ≡ Some proc
-        → Adds nodes.old nodes.new (λ number. holds_node heap.now.descs number proc) }
+        → Adds nodes.old nodes.new (λ number. holds_node heap.now number proc) }
 {
     let proc = heap.get_proc(key);
     if proc.status.is_none() {

@@ -1,6 +1,6 @@
 ghost use Rattle.std.specs.Prelude.{◌≡◌, ◌-◌, ◌<◌, None};
 ghost use Rattle.kabi_types.specs.declared.classes.Class.TheVariants as class;
-ghost use Rattle.kheap_slabs.specs.Counts.{with_count};
+ghost use Rattle.kabi_types.specs.Counts.{with_count};
 ghost use Rattle.kheap_slabs.specs.Objects.{object};
 ghost use Rattle.kheap_slabs.specs.Owners.{OwnsItsObjects};
 ghost use Rattle.kheap_slabs.specs.Paid.{CanPay, IsPaid};

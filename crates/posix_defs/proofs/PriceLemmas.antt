@@ -5,6 +5,7 @@ use Rattle.std.proofs.lemmas.Bool.Decides.{nat_tests}
 use Rattle.kabi_types.specs.Arguments.{argument_fault, count_of, invalid_unless, moved_fault, range_fault, is_within, is_from}
 use Rattle.kabi_types.specs.Call.{kind_of}
 use Rattle.kabi_types.specs.Class.{size}
+use Rattle.kabi_types.specs.Counts.{need_bytes}
 use Rattle.kabi_types.specs.declared.calls.Call.{Call}
 use Rattle.kabi_types.specs.declared.calls.Call.TheVariants as call
 use Rattle.kabi_types.specs.declared.classes.Class.TheVariants as class
@@ -12,7 +13,7 @@ use Rattle.kabi_types.specs.declared.classes.Need.{Need}
 use Rattle.kabi_types.specs.declared.errnos.Errno.{Errno}
 use Rattle.posix_defs.specs.PriceList.{price_of}
 use Rattle.posix_defs.specs.Needs.{bound, chunks_for, cost, is_write, need_of, nodes_for, objects_of, pages_in, pages_touched, read_need, stored_bytes}
-use Rattle.posix_defs.specs.Sizes.{bytes_of, no_need}
+use Rattle.posix_defs.specs.Sizes.{no_need}
 use Rattle.posix_defs.specs.declared.prices.Price.TheVariants.{Always}
 
 -- a wrong operand
@@ -37,17 +38,17 @@ pub plain_costs : (call : Call) (bytes : ℕ) → argument_fault call ≡ None �
 plain_costs call bytes right plain = right_costs call right ∙ ap (λ price. cost price call) plain
 
 -- nodes alone, pages alone, and pages with two blocks
-nodes_sum : (nodes : ℕ) → 512 * nodes ≡ bytes_of (record no_need { node = nodes })
+nodes_sum : (nodes : ℕ) → 512 * nodes ≡ need_bytes (record no_need { node = nodes })
 nodes_sum nodes = omega arith
 
-pages_sum : (pages : ℕ) → 4096 * pages + 0 ≡ bytes_of (record no_need { page = pages })
+pages_sum : (pages : ℕ) → 4096 * pages + 0 ≡ need_bytes (record no_need { page = pages })
 pages_sum pages = omega arith
 
-read_sum : (pages : ℕ) → 4096 * pages + 2176 ≡ bytes_of (read_need pages)
+read_sum : (pages : ℕ) → 4096 * pages + 2176 ≡ need_bytes (read_need pages)
 read_sum pages = omega arith
 
 -- the price of each call but the writes is that of its objects
-objects_sum : (call : Call) → is_write (kind_of call) ≡ false → cost (price_of (kind_of call)) call ≡ bytes_of (objects_of call)
+objects_sum : (call : Call) → is_write (kind_of call) ≡ false → cost (price_of (kind_of call)) call ≡ need_bytes (objects_of call)
 objects_sum (call.Mmap length) other = nodes_sum (nodes_for (pages_in (count_of length)))
 objects_sum (call.Store addr bytes) other = pages_sum (pages_touched (count_of addr) (length bytes))
 objects_sum (call.Read _ addr n) other = read_sum (pages_touched (count_of addr) (count_of n))
@@ -57,11 +58,11 @@ objects_sum (call.Write _ _ _ _) other = cc
 objects_sum (call.Pwrite _ _ _ _) other = cc
 objects_sum _ other = refl
 
-sum_where : (wrong : Bool) (bytes : ℕ) (objects : Need) → bytes ≡ bytes_of objects → cond wrong 0 bytes ≡ bytes_of (cond wrong no_need objects)
+sum_where : (wrong : Bool) (bytes : ℕ) (objects : Need) → bytes ≡ need_bytes objects → cond wrong 0 bytes ≡ need_bytes (cond wrong no_need objects)
 sum_where true bytes objects sums = refl
 sum_where false bytes objects sums = sums
 
-pub sums : (call : Call) → is_write (kind_of call) ≡ false → bound call ≡ bytes_of (need_of call)
+pub sums : (call : Call) → is_write (kind_of call) ≡ false → bound call ≡ need_bytes (need_of call)
 unfolding bound need_of
 sums call other = sum_where (is_some (argument_fault call)) (cost (price_of (kind_of call)) call) (objects_of call) (objects_sum call other)
 

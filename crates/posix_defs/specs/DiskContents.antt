@@ -7,6 +7,10 @@ use Rattle.posix_defs.specs.DiskFormat.{block_size, inode_size, direct_pointers,
 use Rattle.posix_defs.specs.SoundDisk.{block_bytes, HasInode, Data, named_at}
 use Rattle.posix_defs.specs.Tree.{directory}
 
+-- a free inode, without links, bytes and pointers
+abbrev pub blank_inode : Inode
+blank_inode = record { kind = 0; nlink = 0; size = 0; direct = replicate direct_pointers 0; indirect = 0 }
+
 -- the block that holds the bytes of a node from `index` blocks on
 abbrev pub data_block : List (List ℕ) → Inode → ℕ → ℕ
 data_block disk inode index = named_at disk inode (Data index)
@@ -58,8 +62,7 @@ first_marked used place = 2 ^ min 8 (used - 8 * place) - 1
 
 -- the root of a new disk: a directory of its two entries, in the first block that is left for files
 abbrev pub new_root : ℕ → Inode
-new_root blocks =
-    record { kind = directory; nlink = 1; size = 64; direct = (table_end blocks + 1) ∷ replicate (direct_pointers - 1) 0; indirect = 0 }
+new_root blocks = record blank_inode { kind = directory; nlink = 1; size = 64; direct = (table_end blocks + 1) ∷ replicate (direct_pointers - 1) 0 }
 
 -- the bytes of its two entries, which name the root
 abbrev pub new_entries : List ℕ

@@ -1,5 +1,5 @@
 -- How a disk is divided, and how an inode and a directory entry are spelled there. Numbers are big-endian.
-use Rattle.std.specs.Prelude.{ℕ, ◌+◌, ◌-◌, ◌*◌, ◌/◌, ◌%◌, ◌^◌, ◌<◌, ◌≤◌, ◌≡◌, ◌≢◌, Bool, true, false, List, ◌∷◌, ◌++◌, length, replicate, slice_index, nat_lt, cond}
+use Rattle.std.specs.Prelude.{ℕ, ◌+◌, ◌-◌, ◌*◌, ◌/◌, ◌%◌, ◌^◌, ◌<◌, ◌≤◌, ◌≡◌, ◌≢◌, Bool, true, false, List, ◌∷◌, ◌++◌, length, min, replicate, slice_index, nat_lt}
 use Rattle.std.specs.Int.{w16, w32, to_be_bytes}
 use Rattle.std.specs.List.{flat_map}
 use Rattle.kabi_types.specs.declared.inodes.Inode.{Inode}
@@ -25,9 +25,13 @@ direct_pointers = 10
 abbrev pub block_pointers : ℕ
 block_pointers = 256
 
+-- how many blocks of bytes a node can name
+abbrev pub most_blocks : ℕ
+most_blocks = direct_pointers + block_pointers
+
 -- the greatest size of a node
 abbrev pub greatest_size : ℕ
-greatest_size = block_size * (direct_pointers + block_pointers)
+greatest_size = block_size * most_blocks
 
 -- the bytes at the end of an inode that are kept zero, behind 8 bytes of numbers and the pointers
 abbrev pub spare_bytes : ℕ
@@ -49,9 +53,13 @@ IsForFiles blocks number = (table_end blocks < number) × (number < blocks)
 abbrev pub data_blocks : ℕ → ℕ
 data_blocks size = (size + (block_size - 1)) / block_size
 
--- how many blocks of pointers it has
+-- how many blocks of pointers it has: one, where it has more blocks of bytes than the inode names itself
 abbrev pub pointer_blocks : ℕ → ℕ
-pointer_blocks size = cond (nat_lt direct_pointers (data_blocks size)) 1 0
+pointer_blocks size = min 1 (data_blocks size - direct_pointers)
+
+-- whether a node of this size needs the pointer at a place of one of its blocks of pointers, these counted from 0
+abbrev pub needs_pointer : ℕ → ℕ → ℕ → Bool
+needs_pointer size block at = nat_lt ((direct_pointers + block_pointers * block + at) * block_size) size
 
 -- how many blocks it takes
 abbrev pub blocks_of : ℕ → ℕ

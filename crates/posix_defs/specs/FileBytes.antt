@@ -12,7 +12,7 @@ overwritten at new bytes = resized at bytes ++ new ++ drop (at + length new) byt
 
 -- the greatest size of a file that so many blocks hold: beyond the direct ones, one of them is the block of pointers
 abbrev pub capacity : ℕ → ℕ
-capacity blocks = min greatest_size (block_size * (if nat_lt direct_pointers blocks then blocks - 1 else blocks))
+capacity blocks = min greatest_size (block_size * (blocks - min 1 (blocks - direct_pointers)))
 
 -- how many of n bytes at a place there is room for
 abbrev pub fitting : ℕ → ℕ → ℕ → ℕ

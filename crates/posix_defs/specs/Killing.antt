@@ -1,5 +1,6 @@
 -- `kill`: a process ends another, or itself.
 use Rattle.std.specs.Prelude.{ℕ, ◌==◌, ℤ, pos, negsuc, Bool, false, if◌then◌else◌, Option, None, Some}
+use Rattle.kabi_types.specs.Arguments.{count_of}
 use Rattle.kabi_types.specs.declared.errnos.Errno.TheVariants.{EPERM, ESRCH}
 use Rattle.kabi_types.specs.declared.replies.Reply.TheVariants.{Val}
 use Rattle.kabi_types.specs.declared.scripts.Script.{Script}
@@ -17,21 +18,21 @@ abbrev pub is_asking : ℤ → Bool
 is_asking (pos signal) = signal == 0
 is_asking (negsuc _) = false
 
--- a live process other than the first ends, the caller itself or another
-abbrev pub struck : Script → Plain → ℕ → ℕ → Answer
-struck script plain pid target =
-    if target == pid then Ended sigkill (die plain pid sigkill) else replied script (die plain target sigkill) pid (Val (pos 0))
+-- a live process other than the first ends with a signal, the caller itself or another
+abbrev pub struck : Script → Plain → ℕ → ℕ → ℕ → Answer
+struck script plain pid target signal =
+    if target == pid then Ended signal (die plain pid signal) else replied script (die plain target signal) pid (Val (pos 0))
 
 -- a process that has ended already stays as it is
-abbrev pub ends : Script → Plain → ℕ → ℕ → Process → Answer
-ends script plain pid target process =
-    if runs process.status then struck script plain pid target else replied script plain pid (Val (pos 0))
+abbrev pub ends : Script → Plain → ℕ → ℕ → ℕ → Process → Answer
+ends script plain pid target signal process =
+    if runs process.status then struck script plain pid target signal else replied script plain pid (Val (pos 0))
 
 -- a process that is there is sent a signal; none ends the first one
 abbrev pub signalled : Script → Plain → ℕ → ℕ → ℤ → Process → Answer
 signalled script plain pid target signal process =
     if is_asking signal then replied script plain pid (Val (pos 0))
-    else (if target == 1 then failed script plain pid EPERM else ends script plain pid target process)
+    else (if target == 1 then failed script plain pid EPERM else ends script plain pid target (count_of signal) process)
 
 -- ESRCH where no process of that pid is there, alive or ended and not waited for
 abbrev pub sent_to : Script → Plain → ℕ → ℕ → ℤ → Option Process → Answer
@@ -39,7 +40,7 @@ sent_to script plain pid target signal None = failed script plain pid ESRCH
 sent_to script plain pid target signal (Some process) = signalled script plain pid target signal process
 
 -- a signal to a process, the first that holds: ESRCH where none of that pid is there, alive or ended; 0 for signal 0; EPERM for
--- the first process; 0 where it has ended; else it ends by signal 9, be it the caller or another (POSIX kill)
+-- the first process; 0 where it has ended; else it ends by that signal, be it the caller or another (POSIX kill)
 abbrev pub kill : Script → Plain → ℕ → ℤ → ℤ → Answer
 kill script plain pid (negsuc _) signal = failed script plain pid ESRCH
 kill script plain pid (pos target) signal = sent_to script plain pid target signal (process_at plain.table target)

@@ -1,8 +1,8 @@
 -- What a call leaves of a disk that changes one node: its inode, the blocks that it names, and the map with them.
-use Rattle.std.specs.Prelude.{ℕ, ◌+◌, ◌*◌, ◌<◌, ◌≤◌, ◌≡◌, ◌≢◌, ◌⊎◌, List, length, nat_lt}
+use Rattle.std.specs.Prelude.{ℕ, ◌+◌, ◌*◌, ◌<◌, ◌≤◌, ◌≡◌, ◌≢◌, ◌⊎◌, List, length}
 use Rattle.kabi_types.specs.declared.inodes.Inode.{Inode}
-use Rattle.posix_defs.specs.DiskFormat.{block_size, direct_pointers, block_pointers, table_end, table_nodes, data_blocks, blocks_of, IsPointer, IsInode, inode_bytes}
-use Rattle.posix_defs.specs.SoundDisk.{block_bytes, table_bytes, HasInode, pointer_at, Place, HasPlace, named_at, IsMarked, IsFreeBlock, free_in_map}
+use Rattle.posix_defs.specs.DiskFormat.{block_size, block_pointers, table_end, table_nodes, data_blocks, pointer_blocks, blocks_of, needs_pointer, IsPointer, IsInode, inode_bytes}
+use Rattle.posix_defs.specs.SoundDisk.{block_bytes, table_bytes, HasInode, pointer_at, pointer_block, Place, HasPlace, named_at, IsMarked, IsFreeBlock, free_in_map}
 use Rattle.posix_defs.specs.DiskContents.{data_block, zeros}
 use Rattle.posix_defs.specs.DiskTree.{ChangesNode}
 
@@ -19,8 +19,8 @@ pub record Replaces (number : ℕ) (before : List (List ℕ)) (old : Inode) (aft
   pub inode : IsInode (length before) new
   pub slot : table_bytes after number ≡ inode_bytes new
   pub slots : (node : ℕ) → 0 < node → node ≤ table_nodes (length before) → node ≢ number → table_bytes after node ≡ table_bytes before node
-  pub pointers : (k : ℕ) → direct_pointers * block_size < new.size → k < block_pointers
-      → IsPointer (length before) (nat_lt ((direct_pointers + k) * block_size) new.size) (pointer_at (block_bytes after new.indirect) k)
+  pub pointers : (block at : ℕ) → block < pointer_blocks new.size → at < block_pointers
+      → IsPointer (length before) (needs_pointer new.size block at) (pointer_at (block_bytes after (pointer_block new block)) at)
   pub once : (i j : Place) → HasPlace new.size i → HasPlace new.size j → named_at after new i ≡ named_at after new j → i ≡ j
   pub taken : (place : Place) → HasPlace new.size place → Names before old (named_at after new place) ⊎ IsFreeBlock before (named_at after new place)
   pub untouched : (block : ℕ) → table_end (length before) < block → block < length before → IsMarked before block → ¬ (Names before old block)

@@ -2,7 +2,7 @@
 use Rattle.std.specs.Prelude.{ℕ, ◌==◌, if◌then◌else◌, List, [], ◌∷◌, ◌++◌, codes, decimal}
 use Rattle.std.specs.List.{flat_map}
 use Rattle.kabi_types.specs.Call.{all_kinds}
-use Rattle.kabi_types.specs.Class.{size}
+use Rattle.kabi_types.specs.Class.{all_classes, size}
 use Rattle.kabi_types.specs.Words.{word_of}
 use Rattle.kabi_types.specs.declared.calls.CallKind.{CallKind}
 use Rattle.kabi_types.specs.declared.classes.Class.{Class}
@@ -25,11 +25,6 @@ class_name class.Block = codes "Block"
 class_name class.Pipe = codes "Pipe"
 class_name class.Chunk = codes "Chunk"
 class_name class.Sock = codes "Sock"
-
--- all classes, in the order in which they are printed
-abbrev pub all_classes : List Class
-all_classes =
-    class.Proc ∷ class.Node ∷ class.Page ∷ class.Desc ∷ class.Vnode ∷ class.Name ∷ class.Block ∷ class.Pipe ∷ class.Chunk ∷ class.Sock ∷ []
 
 -- a class and the size of its objects
 abbrev pub class_line : Class → List ℕ

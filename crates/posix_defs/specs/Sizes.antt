@@ -16,12 +16,6 @@ fixed = size class.Proc + size class.Vnode + reserve
 abbrev pub room : ℕ → ℕ
 room heap = heap - fixed
 
--- how many bytes these objects take
-abbrev pub bytes_of : Need → ℕ
-bytes_of n = n.proc * size class.Proc + n.node * size class.Node + n.page * size class.Page + n.desc * size class.Desc
-    + n.vnode * size class.Vnode + n.name * size class.Name + n.block * size class.Block + n.pipe * size class.Pipe
-    + n.chunk * size class.Chunk + n.sock * size class.Sock
-
 -- no objects
 abbrev pub no_need : Need
 no_need = record { proc = 0; node = 0; page = 0; desc = 0; vnode = 0; name = 0; block = 0; pipe = 0; chunk = 0; sock = 0 }

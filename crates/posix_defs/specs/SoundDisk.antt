@@ -1,9 +1,9 @@
 -- What the blocks of a disk say: its map, its table of inodes, which blocks a node names, and when all of it goes together.
-use Rattle.std.specs.Prelude.{ℕ, ◌+◌, ◌-◌, ◌*◌, ◌/◌, ◌%◌, ◌<◌, ◌≤◌, ◌≡◌, ◌≢◌, ◌⊎◌, ◌↔◌, not, List, [], length, take, drop, slice_index, slice_index_or, nat_lt, nat_eq, cond}
+use Rattle.std.specs.Prelude.{ℕ, ◌+◌, ◌-◌, ◌*◌, ◌/◌, ◌%◌, ◌<◌, ◌≤◌, ◌≡◌, ◌≢◌, ◌⊎◌, ◌↔◌, not, if◌then◌else◌, List, [], length, take, drop, slice_index, slice_index_or, Option, None, Some, nat_lt, nat_eq}
 use Rattle.std.specs.Int.{w32, from_be_bytes, bit_at}
 use Rattle.std.specs.List.{range_with_len, sum_by, count_by}
 use Rattle.kabi_types.specs.declared.inodes.Inode.{Inode}
-use Rattle.posix_defs.specs.DiskFormat.{block_size, inode_size, inodes_in_block, direct_pointers, block_pointers, table_end, table_nodes, data_blocks, blocks_of, IsPointer, IsInode, inode_bytes}
+use Rattle.posix_defs.specs.DiskFormat.{block_size, inode_size, inodes_in_block, direct_pointers, block_pointers, table_end, table_nodes, data_blocks, pointer_blocks, blocks_of, needs_pointer, IsPointer, IsInode, inode_bytes}
 
 -- the bytes of a block
 abbrev pub block_bytes : List (List ℕ) → ℕ → List ℕ
@@ -39,21 +39,38 @@ HasNode disk node inode = HasInode disk node inode × (inode.kind ≢ 0)
 abbrev pub pointer_at : List ℕ → ℕ → ℕ
 pointer_at block place = from_be_bytes w32 (take 4 (drop (4 * place) block))
 
--- what a node takes a block for: its bytes, these blocks counted from 0, or the pointers that the inode has no room for
+-- what a node takes a block for: its bytes, or the pointers that the inode has no room for; the blocks of either are counted from 0
 pub data Place : Type 0 where
   Data : ℕ → Place
-  Pointers : Place
+  Pointers : ℕ → Place
 
 -- a node of this size takes a block for this
 abbrev pub HasPlace : ℕ → Place → Type 0
 HasPlace size (Data index) = index < data_blocks size
-HasPlace size Pointers = direct_pointers < data_blocks size
+HasPlace size (Pointers block) = block < pointer_blocks size
 
--- the block that a node names for this: the first blocks of bytes in its inode, those behind them in its block of pointers
+-- where a pointer stands: in which of a node's blocks of pointers, and at which place of it
+pub record Way : Type 0 where
+  pub block : ℕ
+  pub at : ℕ
+
+-- the way to a block of bytes; None where the inode names it itself
+abbrev pub way_to : ℕ → Option Way
+way_to index = if nat_lt index direct_pointers then None else Some (record { block = 0; at = index - direct_pointers })
+
+-- the block that a node has for pointers
+abbrev pub pointer_block : Inode → ℕ → ℕ
+pointer_block inode block = inode.indirect
+
+-- the block of bytes that a way leads to
+abbrev pub led_to : List (List ℕ) → Inode → ℕ → Option Way → ℕ
+led_to disk inode index None = slice_index inode.direct index
+led_to disk inode index (Some way) = pointer_at (block_bytes disk (pointer_block inode way.block)) way.at
+
+-- the block that a node names for this: the first blocks of bytes in its inode, those behind them in its blocks of pointers
 abbrev pub named_at : List (List ℕ) → Inode → Place → ℕ
-named_at disk inode (Data index) =
-    cond (nat_lt index direct_pointers) (slice_index inode.direct index) (pointer_at (block_bytes disk inode.indirect) (index - direct_pointers))
-named_at disk inode Pointers = inode.indirect
+named_at disk inode (Data index) = led_to disk inode index (way_to index)
+named_at disk inode (Pointers block) = pointer_block inode block
 
 -- a node names this block
 pub record IsNamed (disk : List (List ℕ)) (number : ℕ) : Type 0 where
@@ -81,8 +98,8 @@ IsMarked disk number = map_bit disk number ≡ 1
 pub record Sound (disk : List (List ℕ)) : Type 0 where
   pub size : (16 ≤ length disk) × (length disk ≤ 4096)
   pub table : (node : ℕ) → 0 < node → node ≤ table_nodes (length disk) → (inode : Inode) × HasInode disk node inode
-  pub pointers : (node : ℕ) (inode : Inode) (k : ℕ) → HasInode disk node inode → direct_pointers * block_size < inode.size → k < block_pointers
-      → IsPointer (length disk) (nat_lt ((direct_pointers + k) * block_size) inode.size) (pointer_at (block_bytes disk inode.indirect) k)
+  pub pointers : (node : ℕ) (inode : Inode) (block at : ℕ) → HasInode disk node inode → block < pointer_blocks inode.size → at < block_pointers
+      → IsPointer (length disk) (needs_pointer inode.size block at) (pointer_at (block_bytes disk (pointer_block inode block)) at)
   pub once : (first second : ℕ) (one other : Inode) (i j : Place) → HasInode disk first one → HasInode disk second other → HasPlace one.size i → HasPlace other.size j
       → named_at disk one i ≡ named_at disk other j → (first ≡ second) × (i ≡ j)
   pub map : (number : ℕ) → number < length disk → IsMarked disk number ↔ ((number ≤ table_end (length disk)) ⊎ IsNamed disk number)

@@ -17,7 +17,7 @@ mod walked;
 pub use blocks::{BlockList, Blocks};
 pub use dirs::Dirs;
 pub use generator::{choice_of, next_state};
-pub use nodes::{Listed, ListedNode, NodeList};
+pub use nodes::{Listed, ListedNode, NodeList, blank_inode};
 pub use phases::{Asked, Phase, Task};
 pub use prices::Price;
 pub use said::{AtTop, InProgram, Setting, Shape, Spoken, Stated, Word};

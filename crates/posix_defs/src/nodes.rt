@@ -1,5 +1,6 @@
 ghost use Rattle.std.specs.Prelude.{◌≡◌, ◌≤◌, Some, true, refl};
 ghost use Rattle.std.proofs.Common.{◌∙◌};
+ghost use Rattle.posix_defs.specs.DiskContents.{blank_inode};
 ghost use Rattle.posix_defs.specs.DiskFormat.{greatest_size};
 ghost use Rattle.posix_defs.specs.Tree.{IsInodeOf, found_among, is_directory, is_in_use, node_at, entries_at, parent_at, size_of, kind_of};
 ghost use Rattle.posix_defs.specs.IsTree.{IsTree};
@@ -7,6 +8,19 @@ ghost use Rattle.posix_defs.specs.NodeLists.{content_listed, node_listed, tree_l
 
 use crate::Dirs;
 use kabi_types::{DirEntry, Inode};
+
+/// A free inode, without links, bytes and pointers.
+pub fn blank_inode() -> Inode
+    ensures { result ≡ blank_inode }
+{
+    Inode {
+        kind: 0,
+        nlink: 0,
+        size: 0,
+        direct: [0; 10],
+        indirect: 0,
+    }
+}
 
 /// What a node in memory holds.
 #[derive(Drop)]
@@ -113,8 +127,7 @@ impl Dirs for NodeList {
             kind: kind(&node.content),
             nlink: node.links,
             size: size(&node.content),
-            direct: [0; 10],
-            indirect: 0,
+            ..blank_inode()
         }
     }
 

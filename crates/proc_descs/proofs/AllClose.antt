@@ -11,7 +11,8 @@ use Rattle.kheap_slabs.specs.Heap.{Heap}
 use Rattle.place_laws.specs.Placed.{Numbers}
 use Rattle.posix_defs.specs.Files.Closing.{after_close, after_closes, after_end_of, all_numbers}
 use Rattle.posix_defs.specs.Files.State.{Files}
-use Rattle.proc_table.specs.Procs.{no_descriptors}
+use Rattle.kabi_types.specs.Arguments.{most_descriptors}
+use Rattle.proc_table.specs.Procs.{no_descriptors, numbers_in, with_numbers}
 use Rattle.proc_table.specs.Table.{TableView, key_of}
 use Rattle.proc_table.proofs.PlaceLemmas.{key_of-proc, some_same}
 use Rattle.proc_descs.specs.Having.{AreListed, ClosesAll, ClosesNumber, HaveOpen}
@@ -55,10 +56,10 @@ none_in zero i = refl
 none_in (suc n) zero = refl
 none_in (suc n) (suc i) = none_in n i
 
-all_closed : (places : List (Option HeldDescriptor)) → length places ≡ 32 → closed_below places 32 ≡ no_descriptors
+all_closed : (places : List (Option HeldDescriptor)) → length places ≡ most_descriptors → closed_below places most_descriptors ≡ no_descriptors
 all_closed places long =
-    ext_get_or None (closed_below places 32) no_descriptors (length-closed places 32 ∙ long)
-    (λ i within. closed_at places 32 i (let same = length-closed places 32 in omega (arith, within, same, long)) (omega (arith, long)) ∙ sym (none_in 32 i))
+    ext_get_or None (closed_below places most_descriptors) no_descriptors (length-closed places most_descriptors ∙ long)
+    (λ i within. closed_at places most_descriptors i (let same = length-closed places most_descriptors in omega (arith, within, same, long)) (omega (arith, long)) ∙ sym (none_in most_descriptors i))
 
 -- ---- in the heap
 
@@ -73,7 +74,7 @@ pub record ClosesBelow (old new : Heap) (kept : TableView) (pid fd : ℕ) : Type
   pub proc : Proc
   pub named : key_of kept.listed pid ≡ Some key
   pub there : object old.procs key ≡ Some proc
-  pub procs : new.procs ≡ put old.procs key (record proc { descriptors = closed_below proc.descriptors fd })
+  pub procs : new.procs ≡ put old.procs key (with_numbers proc (closed_below (numbers_in old proc) fd))
   pub beside : new ≡ record old { procs = new.procs; descs = new.descs; pipes = new.pipes; chunks = new.chunks; socks = new.socks }
 
 pub below_begins : (h : Heap) (kept : TableView) (pid : ℕ) → AreListed h kept → IsSome (key_of kept.listed pid) → ClosesBelow h h kept pid 0
@@ -94,7 +95,7 @@ below_begins h kept pid listed there = by_key (key_of kept.listed pid) refl ther
 
 pub below_more : (old mid new : Heap) (kept : TableView) (pid fd : ℕ) → ClosesBelow old mid kept pid fd → ClosesNumber mid new kept pid fd → ClosesBelow old new kept pid (suc fd)
 below_more old mid new kept pid fd below one =
-    let was : Proc = record below.proc { descriptors = closed_below below.proc.descriptors fd } in
+    let was : Proc = with_numbers below.proc (closed_below (numbers_in old below.proc) fd) in
     let same_key : one.key ≡ below.key = some_same (key_of kept.listed pid) one.key below.key one.named below.named in
     let at : object mid.procs below.key ≡ Some was = ap (λ objects. object objects below.key) below.procs ∙ put_same old.procs below.key below.proc was below.there refl in
     let same_proc : one.proc ≡ was = some_same (object mid.procs below.key) one.proc was (ap (object mid.procs) (sym same_key) ∙ one.there) at in
@@ -105,21 +106,21 @@ below_more old mid new kept pid fd below one =
       there = below.there;
       procs =
           one.procs
-          ∙ ap (λ key. put mid.procs key (record one.proc { descriptors = slice_set one.proc.descriptors fd None })) same_key
-          ∙ ap (λ (p : Proc). put mid.procs below.key (record p { descriptors = slice_set p.descriptors fd None })) same_proc
-          ∙ ap (λ objects. put objects below.key (record was { descriptors = slice_set was.descriptors fd None })) below.procs
-          ∙ set_twice old.procs below.key (Some was) (Some (record was { descriptors = slice_set was.descriptors fd None }));
+          ∙ ap (λ key. put mid.procs key (with_numbers one.proc (slice_set (numbers_in mid one.proc) fd None))) same_key
+          ∙ ap (λ (p : Proc). put mid.procs below.key (with_numbers p (slice_set (numbers_in mid p) fd None))) same_proc
+          ∙ ap (λ objects. put objects below.key (with_numbers was (slice_set (numbers_in old was) fd None))) below.procs
+          ∙ set_twice old.procs below.key (Some was) (Some (with_numbers was (slice_set (numbers_in old was) fd None)));
       beside = one.beside ∙ ap (λ (h : Heap). record h { procs = new.procs; descs = new.descs; pipes = new.pipes; chunks = new.chunks; socks = new.socks }) below.beside;
     }
 
-pub below_all : (old new : Heap) (kept : TableView) (pid : ℕ) → ((key : ℕ) (proc : Proc) → object old.procs key ≡ Some proc → length proc.descriptors ≡ 32)
-    → ClosesBelow old new kept pid 32 → ClosesAll old new kept pid
+pub below_all : (old new : Heap) (kept : TableView) (pid : ℕ) → ((key : ℕ) (proc : Proc) → object old.procs key ≡ Some proc → length (numbers_in old proc) ≡ most_descriptors)
+    → ClosesBelow old new kept pid most_descriptors → ClosesAll old new kept pid
 below_all old new kept pid rows below = record {
   key = below.key;
   proc = below.proc;
   named = below.named;
   there = below.there;
-  procs = below.procs ∙ ap (λ places. put old.procs below.key (record below.proc { descriptors = places })) (all_closed below.proc.descriptors (rows below.key below.proc below.there));
+  procs = below.procs ∙ ap (λ places. put old.procs below.key (with_numbers below.proc places)) (all_closed (numbers_in old below.proc) (rows below.key below.proc below.there));
   beside = below.beside;
 }
 
@@ -137,22 +138,22 @@ closes_none files pid same [] = refl
 closes_none files pid same (fd ∷ fds) = ap (λ f. after_closes f pid fds) (same fd) ∙ closes_none files pid same fds
 
 pub end_of_none : (numbers : Numbers) (old : Heap) (kept : TableView) (files : Files) (pid key : ℕ) (proc : Proc) → AreListed old kept → key_of kept.listed pid ≡ Some key
-    → object old.procs key ≡ Some proc → list_all is_none proc.descriptors ≡ true → HaveOpen numbers old kept files → after_end_of files pid ≡ files
+    → object old.procs key ≡ Some proc → list_all is_none (numbers_in old proc) ≡ true → HaveOpen numbers old kept files → after_end_of files pid ≡ files
 unfolding after_end_of
 end_of_none numbers old kept files pid key proc listed named there all have =
-    closes_none files pid (λ fd. unopened numbers old kept files pid fd key proc listed named there (all_none proc.descriptors all fd) have) all_numbers
+    closes_none files pid (λ fd. unopened numbers old kept files pid fd key proc listed named there (all_none (numbers_in old proc) all fd) have) all_numbers
 
-pub none_to_close : (h : Heap) (kept : TableView) (pid key : ℕ) (proc : Proc) → key_of kept.listed pid ≡ Some key → object h.procs key ≡ Some proc → length proc.descriptors ≡ 32
-    → list_all is_none proc.descriptors ≡ true → ClosesAll h h kept pid
+pub none_to_close : (h : Heap) (kept : TableView) (pid key : ℕ) (proc : Proc) → key_of kept.listed pid ≡ Some key → object h.procs key ≡ Some proc → length (numbers_in h proc) ≡ most_descriptors
+    → list_all is_none (numbers_in h proc) ≡ true → ClosesAll h h kept pid
 none_to_close h kept pid key proc named there long all =
-    let same : proc.descriptors ≡ no_descriptors = ext_get_or None proc.descriptors no_descriptors long (λ i within. all_none proc.descriptors all i ∙ sym (none_in 32 i)) in
+    let same : numbers_in h proc ≡ no_descriptors = ext_get_or None (numbers_in h proc) no_descriptors long (λ i within. all_none (numbers_in h proc) all i ∙ sym (none_in most_descriptors i)) in
     record {
       key = key;
       proc = proc;
       named = named;
       there = there;
       procs =
-          sym (ap (λ (places : List (Option HeldDescriptor)). put h.procs key (record proc { descriptors = places })) (sym same)
+          sym (ap (λ (places : List (Option HeldDescriptor)). put h.procs key (with_numbers proc places)) (sym same)
           ∙ ap (slice_set h.procs key) (sym there) ∙ set-get_or h.procs key None);
       beside = refl;
     }

@@ -11,7 +11,7 @@ use Rattle.open_laws.specs.Open.{descriptors_by}
 use Rattle.open_laws.specs.Owned.{names_desc, namings_in, namings_of}
 use Rattle.posix_defs.specs.Files.Descriptors.{Descriptors, is_named, names_place, none_open}
 use Rattle.posix_defs.specs.Files.State.{Files}
-use Rattle.proc_table.specs.Procs.{no_descriptors, proc_of}
+use Rattle.proc_table.specs.Procs.{no_descriptors, numbers_in, proc_of}
 use Rattle.proc_table.specs.Table.{TableView, processes}
 use Rattle.proc_table.proofs.PlaceLemmas.{eqb_same, key_of-proc, some_same}
 use Rattle.proc_descs.specs.Having.{AreListed, HaveDescriptors, places_in}
@@ -62,10 +62,10 @@ shows number key (Some held ∷ places) some = elim (eqb_tells held.desc key) [
 none_there : (number : ℕ → ℕ) (place : ℕ) → list_any (names_place place) (descriptors_by number no_descriptors) ≡ false
 none_there number place = refl
 
-module _ (number : ℕ → ℕ) (h : Heap) (kept : TableView) (files : Files) (key : ℕ) (have : HaveDescriptors number (processes h kept) kept.last files) (listed : AreListed h kept) where
+module _ (number : ℕ → ℕ) (h : Heap) (kept : TableView) (files : Files) (key : ℕ) (have : HaveDescriptors (numbers_in h) number (processes h kept) kept.last files) (listed : AreListed h kept) where
   -- what the machine has for a pid
   each_is : (i : ℕ) (descriptors : Descriptors) → slice_get files.descriptors i ≡ Some descriptors
-      → descriptors ≡ descriptors_by number (places_in (proc_of (processes h kept) (suc i)))
+      → descriptors ≡ descriptors_by number (places_in (numbers_in h) (proc_of (processes h kept) (suc i)))
   each_is i descriptors is = sym (ap (λ o. unwrap_or o none_open) is) ∙ have.each (suc i)
 
   pub named_by_none : ((other : ℕ) → 0 < namings_of h.procs other → number other ≡ number key → other ≡ key) → namings_of h.procs key ≡ 0
@@ -75,11 +75,11 @@ module _ (number : ℕ → ℕ) (h : Heap) (kept : TableView) (files : Files) (k
       none_any (list_any (names_place (number key))) files.descriptors
       (λ i descriptors is. ap (list_any (names_place (number key))) (each_is i descriptors is) ∙ by_proc i (proc_of (processes h kept) (suc i)) refl)
     where
-      by_proc : (i : ℕ) (o : Option Proc) → proc_of (processes h kept) (suc i) ≡ o → list_any (names_place (number key)) (descriptors_by number (places_in o)) ≡ false
+      by_proc : (i : ℕ) (o : Option Proc) → proc_of (processes h kept) (suc i) ≡ o → list_any (names_place (number key)) (descriptors_by number (places_in (numbers_in h) o)) ≡ false
       by_proc i None is = none_there number (number key)
       by_proc i (Some proc) is =
           let found = found_by_pid h.procs kept.listed (suc i) proc listed.stored is in
-          hides number key proc.descriptors
+          hides number key (numbers_in h proc)
           (λ other some same. apart other (let part = part_of_sum (namings_in other) h.procs found.key proc found.there in omega (arith, part, some)) same)
           (let part = part_of_sum (namings_in key) h.procs found.key proc found.there in omega (arith, part, none))
 
@@ -94,10 +94,10 @@ module _ (number : ℕ → ℕ) (h : Heap) (kept : TableView) (files : Files) (k
       used : (at : ℕ) (proc : Proc) → object h.procs at ≡ Some proc → InUse h.procs at
       used at proc is = ap is_some is
 
-      by_pid : (pid : ℕ) (proc : Proc) → 0 < pid → pid ≤ kept.last → proc_of (processes h kept) pid ≡ Some proc → 0 < count_by (names_desc key) proc.descriptors
+      by_pid : (pid : ℕ) (proc : Proc) → 0 < pid → pid ≤ kept.last → proc_of (processes h kept) pid ≡ Some proc → 0 < count_by (names_desc key) (numbers_in h proc)
           → is_named files.descriptors (number key) ≡ true
       by_pid zero proc above below is names = absurd (omega (arith, above))
       by_pid (suc i) proc above below is names =
           let there = get_within files.descriptors i (let made = have.made in omega (arith, made, below)) in
           one_any (list_any (names_place (number key))) files.descriptors i there.0 there.1
-          (ap (list_any (names_place (number key))) (each_is i there.0 there.1 ∙ ap (λ o. descriptors_by number (places_in o)) is) ∙ shows number key proc.descriptors names)
+          (ap (list_any (names_place (number key))) (each_is i there.0 there.1 ∙ ap (λ o. descriptors_by number (places_in (numbers_in h) o)) is) ∙ shows number key (numbers_in h proc) names)

@@ -32,7 +32,7 @@ use Rattle.posix_defs.specs.Files.Descriptions.{Target as PlainTarget, OnNode, O
 use Rattle.posix_defs.specs.Files.Descriptors.{Descriptors, descriptor_at, none_open, with_descriptor}
 use Rattle.posix_defs.specs.Files.State.{Files, descriptors_of, opens, with_descriptions, with_open, with_tree}
 use Rattle.posix_defs.specs.TreeChanges.{closed}
-use Rattle.proc_table.specs.Procs.{proc_of}
+use Rattle.proc_table.specs.Procs.{numbers_in, proc_of, with_numbers}
 use Rattle.proc_table.specs.Table.{AreStored, TableView, key_of, keys_of, processes, procs_at}
 use Rattle.proc_table.proofs.PlaceLemmas.{eqb_same, some_same}
 use Rattle.usock_core.proofs.StandingLemmas.{held_on}
@@ -103,9 +103,9 @@ names_less places fd held is other =
     omega (arith, moved, here)
 
 module _ (old : Heap) (kept : TableView) (pid fd key : ℕ) (proc : Proc) (held : HeldDescriptor) (listed : AreListed old kept)
-    (named : key_of kept.listed pid ≡ Some key) (there : object old.procs key ≡ Some proc) (is : slice_index_or proc.descriptors fd None ≡ Some held) where
+    (named : key_of kept.listed pid ≡ Some key) (there : object old.procs key ≡ Some proc) (is : slice_index_or (numbers_in old proc) fd None ≡ Some held) where
   abbrev now : Proc
-  now = record proc { descriptors = without proc.descriptors fd }
+  now = with_numbers proc (without (numbers_in old proc) fd)
 
   abbrev mid : Heap
   mid = with_procs old (put old.procs key now)
@@ -121,8 +121,8 @@ module _ (old : Heap) (kept : TableView) (pid fd key : ℕ) (proc : Proc) (held 
   namings_less other =
       let within = InUse-within old.procs key (ap is_some there) in
       let moved = sum_by-set (namings_in other) old.procs key (Some now) None within in
-      let here : namings_in other (object old.procs key) ≡ count_by (names_desc other) proc.descriptors = ap (namings_in other) there in
-      let less = names_less proc.descriptors fd held is other in
+      let here : namings_in other (object old.procs key) ≡ count_by (names_desc other) (numbers_in old proc) = ap (namings_in other) there in
+      let less = names_less (numbers_in old proc) fd held is other in
       omega (arith, moved, here, less)
 
   -- the Desc is in hand
@@ -168,12 +168,12 @@ module _ (old : Heap) (kept : TableView) (pid fd key : ℕ) (proc : Proc) (held 
     abbrev without_it : Files
     without_it = with_open files pid fd None
 
-    here : descriptors_of files pid ≡ descriptors_by numbers.descs proc.descriptors
-    here = have.descriptors.each pid ∙ ap (λ o. descriptors_by numbers.descs (places_in o)) (found_before old.procs key proc now there refl kept.listed pid listed.stored named)
+    here : descriptors_of files pid ≡ descriptors_by numbers.descs (numbers_in old proc)
+    here = have.descriptors.each pid ∙ ap (λ o. descriptors_by numbers.descs (places_in (numbers_in old) o)) (found_before old.procs key proc now there refl kept.listed pid listed.stored named)
 
     at_number : descriptor_at (descriptors_of files pid) fd ≡ Some (descriptor_by numbers.descs held)
     at_number =
-        ap (λ descriptors. descriptor_at descriptors fd) here ∙ get_or-map (option_map (descriptor_by numbers.descs)) proc.descriptors fd None ∙ ap (option_map (descriptor_by numbers.descs)) is
+        ap (λ descriptors. descriptor_at descriptors fd) here ∙ get_or-map (option_map (descriptor_by numbers.descs)) (numbers_in old proc) fd None ∙ ap (option_map (descriptor_by numbers.descs)) is
 
     closes_so : after_close files pid fd ≡ released without_it place
     closes_so = ap (close_in files pid fd) at_number
@@ -195,24 +195,24 @@ module _ (old : Heap) (kept : TableView) (pid fd key : ℕ) (proc : Proc) (held 
     at_another (suc i) zero descriptors apart = refl
     at_another (suc i) (suc j) descriptors apart = ap (λ found. unwrap_or found none_open) (get_set_other files.descriptors i j descriptors (λ same. apart (ap (λ k. suc k) same)))
 
-    descriptors_mid : HaveDescriptors numbers.descs (processes mid kept) kept.last without_it
+    descriptors_mid : HaveDescriptors (numbers_in old) numbers.descs (processes mid kept) kept.last without_it
     descriptors_mid = record { each = λ q. by_pid q (eqb_tells q pid); made = made_mid }
       where
         within : (0 < pid) × (pid ≤ kept.last)
         within = pid_between kept.listed 0 kept.last pid key listed.rising named
 
         by_pid : (q : ℕ) → (((q == pid) ≡ true) × (q ≡ pid)) ⊎ (((q == pid) ≡ false) × (q ≢ pid))
-            → descriptors_of without_it q ≡ descriptors_by numbers.descs (places_in (proc_of (processes mid kept) q))
+            → descriptors_of without_it q ≡ descriptors_by numbers.descs (places_in (numbers_in old) (proc_of (processes mid kept) q))
         by_pid q (inl same) =
             ap (descriptors_of without_it) same.1
             ∙ at_itself pid (with_descriptor (descriptors_of files pid) fd None) within.0 (let below = within.1 in let made = have.descriptors.made in omega (arith, below, made))
             ∙ ap (λ descriptors. with_descriptor descriptors fd None) here
-            ∙ sym (map-set (option_map (descriptor_by numbers.descs)) proc.descriptors fd None)
-            ∙ sym (ap (λ o. descriptors_by numbers.descs (places_in o)) (ap (proc_of (processes mid kept)) same.1 ∙ found_now old.procs key proc now there refl kept.listed pid listed.stored named))
+            ∙ sym (map-set (option_map (descriptor_by numbers.descs)) (numbers_in old proc) fd None)
+            ∙ sym (ap (λ o. descriptors_by numbers.descs (places_in (numbers_in old) o)) (ap (proc_of (processes mid kept)) same.1 ∙ found_now old.procs key proc now there refl kept.listed pid listed.stored named))
         by_pid q (inr apart) =
             at_another pid q (with_descriptor (descriptors_of files pid) fd None) apart.1
             ∙ have.descriptors.each q
-            ∙ ap (λ o. descriptors_by numbers.descs (places_in o)) (sym (found_others old.procs key proc now there refl kept.listed pid listed.stored named q apart.1))
+            ∙ ap (λ o. descriptors_by numbers.descs (places_in (numbers_in old) o)) (sym (found_others old.procs key proc now there refl kept.listed pid listed.stored named q apart.1))
 
     -- what is open is there still
     pub opened_mid : AreOpen numbers mid have.list without_it
@@ -296,7 +296,7 @@ module _ (old : Heap) (kept : TableView) (pid fd key : ℕ) (proc : Proc) (held 
             each = λ q.
                 ap (λ descriptors. unwrap_or (at_of descriptors q) none_open) dropped_leaves
                 ∙ descriptors_mid.each q
-                ∙ ap (λ (objects : List (Option Proc)). descriptors_by numbers.descs (places_in (proc_of (procs_at objects kept.listed) q))) (sym procs);
+                ∙ ap (λ (objects : List (Option Proc)). descriptors_by numbers.descs (places_in (numbers_in old) (proc_of (procs_at objects kept.listed) q))) (sym procs);
             made = ap length dropped_leaves ∙ descriptors_mid.made;
           };
         })
@@ -337,16 +337,16 @@ no_some None none = refl
 no_some (Some x) none = absurd (none x refl)
 
 pub unopened : (numbers : Numbers) (old : Heap) (kept : TableView) (files : Files) (pid fd key : ℕ) (proc : Proc) → AreListed old kept → key_of kept.listed pid ≡ Some key
-    → object old.procs key ≡ Some proc → slice_index_or proc.descriptors fd None ≡ None → HaveOpen numbers old kept files → after_close files pid fd ≡ files
+    → object old.procs key ≡ Some proc → slice_index_or (numbers_in old proc) fd None ≡ None → HaveOpen numbers old kept files → after_close files pid fd ≡ files
 unopened numbers old kept files pid fd key proc listed named there none have =
     ap (close_in files pid fd)
     (ap (λ descriptors. descriptor_at descriptors fd)
-    (have.descriptors.each pid ∙ ap (λ o. descriptors_by numbers.descs (places_in o)) (found_before old.procs key proc proc there refl kept.listed pid listed.stored named))
-    ∙ get_or-map (option_map (descriptor_by numbers.descs)) proc.descriptors fd None ∙ ap (option_map (descriptor_by numbers.descs)) none)
+    (have.descriptors.each pid ∙ ap (λ o. descriptors_by numbers.descs (places_in (numbers_in old) o)) (found_before old.procs key proc proc there refl kept.listed pid listed.stored named))
+    ∙ get_or-map (option_map (descriptor_by numbers.descs)) (numbers_in old proc) fd None ∙ ap (option_map (descriptor_by numbers.descs)) none)
 
 -- the Proc keeps what it has
 pub same_without : (objects : List (Option Proc)) (key fd : ℕ) (proc : Proc) → object objects key ≡ Some proc → slice_index_or proc.descriptors fd None ≡ None
-    → objects ≡ put objects key (record proc { descriptors = without proc.descriptors fd })
+    → objects ≡ put objects key (with_numbers proc (without proc.descriptors fd))
 same_without objects key fd proc there none =
-    sym (ap (λ (places : List (Option HeldDescriptor)). put objects key (record proc { descriptors = places })) (ap (slice_set proc.descriptors fd) (sym none) ∙ set-get_or proc.descriptors fd None)
+    sym (ap (λ (places : List (Option HeldDescriptor)). put objects key (with_numbers proc places)) (ap (slice_set proc.descriptors fd) (sym none) ∙ set-get_or proc.descriptors fd None)
     ∙ ap (slice_set objects key) (sym there) ∙ set-get_or objects key None)

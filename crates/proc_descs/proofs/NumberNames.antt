@@ -24,7 +24,7 @@ use Rattle.posix_defs.specs.Calls.Opened.{opened_at, opened_by}
 use Rattle.posix_defs.specs.Files.Descriptions.{Description, description_at}
 use Rattle.posix_defs.specs.Files.Descriptors.{Descriptor, descriptor_at, descriptor_of, lowest_free_from}
 use Rattle.posix_defs.specs.Files.State.{Files, descriptors_of}
-use Rattle.proc_table.specs.Procs.{proc_of}
+use Rattle.proc_table.specs.Procs.{numbers_in, proc_of}
 use Rattle.proc_table.specs.Table.{TableView, processes}
 use Rattle.proc_table.proofs.PlaceLemmas.{eqb_same, some_same}
 use Rattle.proc_descs.specs.Having.{AreListed, HaveOpen, places_in}
@@ -41,11 +41,11 @@ named_within h kept pid (negsuc _) within = cc
 below_most : (n : ℕ) (b : Bool) → nat_lt n most_descriptors ≡ b → (b ≡ true → n < most_descriptors) × (b ≡ false → most_descriptors ≤ n)
 below_most n b is = (grind arith, grind arith)
 
-pub within_most : (fd : ℤ) → may_be_descriptor fd ≡ true → count_of fd < 32
+pub within_most : (fd : ℤ) → may_be_descriptor fd ≡ true → count_of fd < most_descriptors
 within_most (pos n) within = (below_most n true within).0 refl
 within_most (negsuc _) within = cc
 
-pub named_beyond : (h : Heap) (kept : TableView) (pid : ℕ) (fd : ℤ) → length (places_of h kept pid) ≡ 32 → may_be_descriptor fd ≡ false → named_by h kept pid fd ≡ None
+pub named_beyond : (h : Heap) (kept : TableView) (pid : ℕ) (fd : ℤ) → length (places_of h kept pid) ≡ most_descriptors → may_be_descriptor fd ≡ false → named_by h kept pid fd ≡ None
 named_beyond h kept pid (pos n) long beyond = get_or_past (places_of h kept pid) n None (let past = (below_most n false beyond).1 refl in omega (arith, past, long))
 named_beyond h kept pid (negsuc _) long beyond = refl
 
@@ -169,11 +169,11 @@ module _ (h : Heap) (kept : TableView) (hand : List ℕ) (listed : AreListed h k
 
       by_proc : (o : Option Proc) → proc_of (processes h kept) pid ≡ o → (desc : Desc) × (object h.descs held.desc ≡ Some desc)
       by_proc None none = absurd (
-          let nothing : None ≡ Some held = sym (nothing_open 32 fd) ∙ (sym (ap (λ o. slice_index_or (places_in o) fd None) none) ∙ is) in cc)
+          let nothing : None ≡ Some held = sym (nothing_open most_descriptors fd) ∙ (sym (ap (λ o. slice_index_or (places_in (numbers_in h) o) fd None) none) ∙ is) in cc)
       by_proc (Some proc) found =
           let at = found_by_pid h.procs kept.listed pid proc listed.stored found in
-          let slot : slice_index_or proc.descriptors fd None ≡ Some held = sym (ap (λ o. slice_index_or (places_in o) fd None) found) ∙ is in
-          let one = part_of_sum (λ o. one_if (names_desc held.desc o)) proc.descriptors fd held slot in
+          let slot : slice_index_or (numbers_in h proc) fd None ≡ Some held = sym (ap (λ o. slice_index_or (places_in (numbers_in h) o) fd None) found) ∙ is in
+          let one = part_of_sum (λ o. one_if (names_desc held.desc o)) (numbers_in h proc) fd held slot in
           let it = ap one_if (eqb_same held.desc held.desc refl) in
           let all = part_of_sum (namings_in held.desc) h.procs at.key proc at.there in
           let counts = owners.named.counts held.desc in

@@ -18,7 +18,7 @@ use Rattle.place_laws.specs.Placed.{Numbers}
 use Rattle.posix_defs.specs.ByPid.{with_pid}
 use Rattle.posix_defs.specs.Files.Descriptors.{Descriptors, none_open, with_descriptor}
 use Rattle.posix_defs.specs.Files.State.{Files, descriptors_of, with_open}
-use Rattle.proc_table.specs.Procs.{proc_of}
+use Rattle.proc_table.specs.Procs.{numbers_in, proc_of, with_numbers}
 use Rattle.proc_table.specs.Table.{TableView, key_of, processes}
 use Rattle.proc_descs.specs.Having.{AreListed, HaveDescriptors, HaveOpen, places_in}
 use Rattle.proc_descs.specs.Naming.{ChangesNumbers, NamesNumber, named_at}
@@ -29,7 +29,7 @@ use Rattle.proc_descs.proofs.Sums.{one_if, count_cons}
 module _ (old : Heap) (kept : TableView) (pid fd key : ℕ) (proc : Proc) (held : HeldDescriptor) (listed : AreListed old kept)
     (named : key_of kept.listed pid ≡ Some key) (there : object old.procs key ≡ Some proc) where
   abbrev now : Proc
-  now = record proc { descriptors = slice_set proc.descriptors fd (Some held) }
+  now = with_numbers proc (slice_set (numbers_in old proc) fd (Some held))
 
   abbrev mid : Heap
   mid = with_procs old (put old.procs key now)
@@ -41,22 +41,22 @@ module _ (old : Heap) (kept : TableView) (pid fd key : ℕ) (proc : Proc) (held 
     all = used_still old.procs key proc now there refl _ listed.all;
   }
 
-  namings_then : (other : ℕ) → fd < length proc.descriptors
-      → namings_of mid.procs other + one_if (names_desc other (slice_index_or proc.descriptors fd None)) ≡ namings_of old.procs other + one_if (held.desc == other)
+  namings_then : (other : ℕ) → fd < length (numbers_in old proc)
+      → namings_of mid.procs other + one_if (names_desc other (slice_index_or (numbers_in old proc) fd None)) ≡ namings_of old.procs other + one_if (held.desc == other)
   namings_then other within =
       let moved = sum_by-set (namings_in other) old.procs key (Some now) None (InUse-within old.procs key (ap is_some there)) in
-      let here : namings_in other (object old.procs key) ≡ count_by (names_desc other) proc.descriptors = ap (namings_in other) there in
-      let one = sum_by-set (λ o. one_if (names_desc other o)) proc.descriptors fd (Some held) None within in
+      let here : namings_in other (object old.procs key) ≡ count_by (names_desc other) (numbers_in old proc) = ap (namings_in other) there in
+      let one = sum_by-set (λ o. one_if (names_desc other o)) (numbers_in old proc) fd (Some held) None within in
       omega (arith, moved, here, one)
 
   -- a Desc that was in hand is a descriptor's
-  owners_opened : (hand : List ℕ) → fd < length proc.descriptors → slice_index_or proc.descriptors fd None ≡ None → HasItsOwners old (held.desc ∷ hand) → HasItsOwners mid hand
+  owners_opened : (hand : List ℕ) → fd < length (numbers_in old proc) → slice_index_or (numbers_in old proc) fd None ≡ None → HasItsOwners old (held.desc ∷ hand) → HasItsOwners mid hand
   owners_opened hand within free owners = record {
     objects = OwnsItsObjects-proc_set old mid key proc now there refl refl owners.objects;
     named = record {
       counts = λ other.
           let before = owners.named.counts other in let moved = namings_then other within in
-          let none : one_if (names_desc other (slice_index_or proc.descriptors fd None)) ≡ 0 = ap (λ o. one_if (names_desc other o)) free in
+          let none : one_if (names_desc other (slice_index_or (numbers_in old proc) fd None)) ≡ 0 = ap (λ o. one_if (names_desc other o)) free in
           let more = count_cons (λ k. k == other) held.desc hand in omega (arith, before, moved, none, more);
       named = owners.named.named;
     };
@@ -64,14 +64,14 @@ module _ (old : Heap) (kept : TableView) (pid fd key : ℕ) (proc : Proc) (held 
   }
 
   -- the descriptor names the Desc that it named
-  owners_marked : (hand : List ℕ) (was : HeldDescriptor) → fd < length proc.descriptors → slice_index_or proc.descriptors fd None ≡ Some was → was.desc ≡ held.desc
+  owners_marked : (hand : List ℕ) (was : HeldDescriptor) → fd < length (numbers_in old proc) → slice_index_or (numbers_in old proc) fd None ≡ Some was → was.desc ≡ held.desc
       → HasItsOwners old hand → HasItsOwners mid hand
   owners_marked hand was within is same owners = record {
     objects = OwnsItsObjects-proc_set old mid key proc now there refl refl owners.objects;
     named = record {
       counts = λ other.
           let before = owners.named.counts other in let moved = namings_then other within in
-          let it : one_if (names_desc other (slice_index_or proc.descriptors fd None)) ≡ one_if (held.desc == other) =
+          let it : one_if (names_desc other (slice_index_or (numbers_in old proc) fd None)) ≡ one_if (held.desc == other) =
           ap (λ o. one_if (names_desc other o)) is ∙ ap (λ k. one_if (k == other)) same in omega (arith, before, moved, it);
       named = owners.named.named;
     };
@@ -83,8 +83,8 @@ module _ (old : Heap) (kept : TableView) (pid fd key : ℕ) (proc : Proc) (held 
     abbrev with_it : Files
     with_it = with_open files pid fd (Some (descriptor_by numbers.descs held))
 
-    here : descriptors_of files pid ≡ descriptors_by numbers.descs proc.descriptors
-    here = have.descriptors.each pid ∙ ap (λ o. descriptors_by numbers.descs (places_in o)) (found_before old.procs key proc now there refl kept.listed pid listed.stored named)
+    here : descriptors_of files pid ≡ descriptors_by numbers.descs (numbers_in old proc)
+    here = have.descriptors.each pid ∙ ap (λ o. descriptors_by numbers.descs (places_in (numbers_in old) o)) (found_before old.procs key proc now there refl kept.listed pid listed.stored named)
 
     made_then : length with_it.descriptors ≡ kept.last
     made_then = by_pid pid ∙ have.descriptors.made
@@ -102,25 +102,25 @@ module _ (old : Heap) (kept : TableView) (pid fd key : ℕ) (proc : Proc) (held 
     at_another (suc i) zero descriptors apart = refl
     at_another (suc i) (suc j) descriptors apart = ap (λ found. unwrap_or found none_open) (get_set_other files.descriptors i j descriptors (λ same. apart (ap (λ k. suc k) same)))
 
-    descriptors_then : HaveDescriptors numbers.descs (processes mid kept) kept.last with_it
+    descriptors_then : HaveDescriptors (numbers_in old) numbers.descs (processes mid kept) kept.last with_it
     descriptors_then = record { each = λ q. by_pid q (eqb_tells q pid); made = made_then }
       where
         within : (0 < pid) × (pid ≤ kept.last)
         within = pid_between kept.listed 0 kept.last pid key listed.rising named
 
         by_pid : (q : ℕ) → (((q == pid) ≡ true) × (q ≡ pid)) ⊎ (((q == pid) ≡ false) × (q ≢ pid))
-            → descriptors_of with_it q ≡ descriptors_by numbers.descs (places_in (proc_of (processes mid kept) q))
+            → descriptors_of with_it q ≡ descriptors_by numbers.descs (places_in (numbers_in old) (proc_of (processes mid kept) q))
         by_pid q (inl same) =
             ap (descriptors_of with_it) same.1
             ∙ at_itself pid (with_descriptor (descriptors_of files pid) fd (Some (descriptor_by numbers.descs held))) within.0
             (let below = within.1 in let made = have.descriptors.made in omega (arith, below, made))
             ∙ ap (λ descriptors. with_descriptor descriptors fd (Some (descriptor_by numbers.descs held))) here
-            ∙ sym (map-set (option_map (descriptor_by numbers.descs)) proc.descriptors fd (Some held))
-            ∙ sym (ap (λ o. descriptors_by numbers.descs (places_in o)) (ap (proc_of (processes mid kept)) same.1 ∙ found_now old.procs key proc now there refl kept.listed pid listed.stored named))
+            ∙ sym (map-set (option_map (descriptor_by numbers.descs)) (numbers_in old proc) fd (Some held))
+            ∙ sym (ap (λ o. descriptors_by numbers.descs (places_in (numbers_in old) o)) (ap (proc_of (processes mid kept)) same.1 ∙ found_now old.procs key proc now there refl kept.listed pid listed.stored named))
         by_pid q (inr apart) =
             at_another pid q (with_descriptor (descriptors_of files pid) fd (Some (descriptor_by numbers.descs held))) apart.1
             ∙ have.descriptors.each q
-            ∙ ap (λ o. descriptors_by numbers.descs (places_in o)) (sym (found_others old.procs key proc now there refl kept.listed pid listed.stored named q apart.1))
+            ∙ ap (λ o. descriptors_by numbers.descs (places_in (numbers_in old) o)) (sym (found_others old.procs key proc now there refl kept.listed pid listed.stored named q apart.1))
 
     opened_then : HaveOpen numbers mid kept with_it
     opened_then = record {
@@ -141,8 +141,8 @@ module _ (old new : Heap) (kept : TableView) (pid fd : ℕ) (held : HeldDescript
       (opened_then old kept pid fd names.key names.proc held listed names.named names.there numbers files have)
 
   -- what the number named
-  was_at : named_at old kept pid fd ≡ slice_index_or names.proc.descriptors fd None
-  was_at = ap (λ o. slice_index_or (places_in o) fd None) (found_before old.procs names.key names.proc names.proc names.there refl kept.listed pid listed.stored names.named)
+  was_at : named_at old kept pid fd ≡ slice_index_or (numbers_in old names.proc) fd None
+  was_at = ap (λ o. slice_index_or (places_in (numbers_in old) o) fd None) (found_before old.procs names.key names.proc names.proc names.there refl kept.listed pid listed.stored names.named)
 
   pub owners_named : (hand : List ℕ) → named_at old kept pid fd ≡ None → HasItsOwners old (held.desc ∷ hand) → HasItsOwners new hand
   owners_named hand free owners =
@@ -161,7 +161,7 @@ module _ (old new : Heap) (kept : TableView) (pid fd : ℕ) (held : HeldDescript
   changes_named = record {
     key = names.key;
     proc = names.proc;
-    places = slice_set names.proc.descriptors fd (Some held);
+    places = slice_set (numbers_in old names.proc) fd (Some held);
     named = names.named;
     there = names.there;
     procs = ap (λ (h : Heap). h.procs) names.after;

@@ -10,7 +10,7 @@ use Rattle.open_laws.specs.Described.{CountedList, node_in, node_left}
 use Rattle.open_laws.specs.Open.{AreOpen, descriptors_by}
 use Rattle.place_laws.specs.Placed.{Numbers}
 use Rattle.posix_defs.specs.Files.State.{Files, descriptors_of}
-use Rattle.proc_table.specs.Procs.{no_descriptors, proc_of}
+use Rattle.proc_table.specs.Procs.{no_descriptors, numbers_in, proc_of, with_numbers}
 use Rattle.proc_table.specs.Table.{AreBetween, AreStored, TableView, key_of, keys_of, processes}
 
 -- Each process of the heap is in the table, at its place, by rising pid.
@@ -19,21 +19,21 @@ pub record AreListed (h : Heap) (kept : TableView) : Type 0 where
   pub rising : AreBetween 0 kept.listed kept.last
   pub all : AreKeysOf h.procs (keys_of kept.listed)
 
--- the descriptors of a process, if it is there; who isn't has none open
-abbrev pub places_in : Option Proc → List (Option HeldDescriptor)
-places_in None = no_descriptors
-places_in (Some proc) = proc.descriptors
+-- what a process has open by number, if it is there; who isn't has nothing open
+abbrev pub places_in : (Proc → List (Option HeldDescriptor)) → Option Proc → List (Option HeldDescriptor)
+places_in numbers None = no_descriptors
+places_in numbers (Some proc) = numbers proc
 
 -- The machine's descriptors of each pid are those that its process keeps, by the places of their descriptions.
-pub record HaveDescriptors (number : ℕ → ℕ) (procs : List Proc) (last : ℕ) (files : Files) : Type 0 where
-  pub each : (pid : ℕ) → descriptors_of files pid ≡ descriptors_by number (places_in (proc_of procs pid))
+pub record HaveDescriptors (numbers : Proc → List (Option HeldDescriptor)) (number : ℕ → ℕ) (procs : List Proc) (last : ℕ) (files : Files) : Type 0 where
+  pub each : (pid : ℕ) → descriptors_of files pid ≡ descriptors_by number (places_in numbers (proc_of procs pid))
   pub made : length files.descriptors ≡ last
 
 -- The processes of a table have open what the machine says: its descriptors, and behind them its descriptions, pipes and sockets.
 pub record HaveOpen (numbers : Numbers) (h : Heap) (kept : TableView) (files : Files) : Type 0 where
   pub list : CountedList
   pub opened : AreOpen numbers h list files
-  pub descriptors : HaveDescriptors numbers.descs (processes h kept) kept.last files
+  pub descriptors : HaveDescriptors (numbers_in h) numbers.descs (processes h kept) kept.last files
 
 -- no description is open on a node
 abbrev pub OpensNoNode : List (Option Desc) → Type 0
@@ -56,7 +56,7 @@ pub record ClosesNumber (old new : Heap) (kept : TableView) (pid fd : ℕ) : Typ
   pub proc : Proc
   pub named : key_of kept.listed pid ≡ Some key
   pub there : object old.procs key ≡ Some proc
-  pub procs : new.procs ≡ put old.procs key (record proc { descriptors = slice_set proc.descriptors fd None })
+  pub procs : new.procs ≡ put old.procs key (with_numbers proc (slice_set (numbers_in old proc) fd None))
   pub beside : new ≡ record old { procs = new.procs; descs = new.descs; pipes = new.pipes; chunks = new.chunks; socks = new.socks }
 
 -- Nothing is open any more of a process, in its Proc; of the other objects only Descs, Pipes, Chunks and Socks are others.
@@ -65,5 +65,5 @@ pub record ClosesAll (old new : Heap) (kept : TableView) (pid : ℕ) : Type 0 wh
   pub proc : Proc
   pub named : key_of kept.listed pid ≡ Some key
   pub there : object old.procs key ≡ Some proc
-  pub procs : new.procs ≡ put old.procs key (record proc { descriptors = no_descriptors })
+  pub procs : new.procs ≡ put old.procs key (with_numbers proc no_descriptors)
   pub beside : new ≡ record old { procs = new.procs; descs = new.descs; pipes = new.pipes; chunks = new.chunks; socks = new.socks }

@@ -4,13 +4,13 @@ use Rattle.kheap_slabs.specs.Objects.{object, put}
 use Rattle.kheap_slabs.specs.declared.objects.Descriptor.{Descriptor as HeldDescriptor}
 use Rattle.kheap_slabs.specs.declared.objects.Proc.{Proc}
 use Rattle.kheap_slabs.specs.Heap.{Heap}
-use Rattle.proc_table.specs.Procs.{proc_of}
+use Rattle.proc_table.specs.Procs.{numbers_in, proc_of, with_numbers}
 use Rattle.proc_table.specs.Table.{TableView, key_of, processes}
 use Rattle.proc_descs.specs.Having.{places_in}
 
 -- the descriptors of a process of the table, by number
 abbrev pub places_of : Heap → TableView → ℕ → List (Option HeldDescriptor)
-places_of h kept pid = places_in (proc_of (processes h kept) pid)
+places_of h kept pid = places_in (numbers_in h) (proc_of (processes h kept) pid)
 
 -- what a number of a process names
 abbrev pub named_at : Heap → TableView → ℕ → ℕ → Option HeldDescriptor
@@ -31,8 +31,8 @@ pub record NamesNumber (old new : Heap) (kept : TableView) (pid fd : ℕ) (held 
   pub proc : Proc
   pub named : key_of kept.listed pid ≡ Some key
   pub there : object old.procs key ≡ Some proc
-  pub within : fd < length proc.descriptors
-  pub after : new ≡ record old { procs = put old.procs key (record proc { descriptors = slice_set proc.descriptors fd (Some held) }) }
+  pub within : fd < length (numbers_in old proc)
+  pub after : new ≡ record old { procs = put old.procs key (with_numbers proc (slice_set (numbers_in old proc) fd (Some held))) }
 
 -- Of one process other numbers are open, in its Proc; of the other objects only Descs, Pipes, Chunks and Socks are others.
 pub record ChangesNumbers (old new : Heap) (kept : TableView) (pid : ℕ) : Type 0 where
@@ -41,6 +41,6 @@ pub record ChangesNumbers (old new : Heap) (kept : TableView) (pid : ℕ) : Type
   pub places : List (Option HeldDescriptor)
   pub named : key_of kept.listed pid ≡ Some key
   pub there : object old.procs key ≡ Some proc
-  pub procs : new.procs ≡ put old.procs key (record proc { descriptors = places })
+  pub procs : new.procs ≡ put old.procs key (with_numbers proc places)
   pub beside : new
       ≡ record old { procs = new.procs; descs = new.descs; pipes = new.pipes; chunks = new.chunks; socks = new.socks; high = new.high }

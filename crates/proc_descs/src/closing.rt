@@ -9,7 +9,8 @@ ghost use Rattle.open_laws.specs.Owned.{HasItsOwners};
 ghost use Rattle.place_laws.specs.Placed.{Numbers};
 ghost use Rattle.posix_defs.specs.Files.Closing.{after_close, after_end_of};
 ghost use Rattle.posix_defs.specs.Files.State.{Files};
-ghost use Rattle.proc_table.specs.Procs.{proc_of};
+ghost use Rattle.kabi_types.specs.Arguments.{most_descriptors};
+ghost use Rattle.proc_table.specs.Procs.{numbers_in, proc_of};
 ghost use Rattle.proc_table.specs.Table.{key_of, processes};
 ghost use Rattle.proc_descs.specs.Queues.{QueuesStand};
 ghost use Rattle.proc_descs.specs.Having.{AreListed, ClosesAll, ClosesNumber, HaveOpen, OpensNoNode, node_closed};
@@ -27,7 +28,7 @@ pub fn close_one(heap: &mut KHeap, procs: &ProcTable, pid: u32, fd: u32) -> Opti
     requires listed { AreListed heap.old procs.now }
     requires owners { HasItsOwners heap.old [] }
     requires there { IsSome (key_of procs.now.listed pid) }
-    requires number { fd < 32 }
+    requires number { fd < most_descriptors }
     ensures closed { (numbers : Numbers) (files : Files) → HaveOpen numbers heap.old procs.now files
         → HaveOpen numbers heap.new procs.now (after_close files pid fd) }
     ensures nodes { OpensNoNode heap.old.descs → OpensNoNode heap.new.descs }
@@ -35,7 +36,7 @@ pub fn close_one(heap: &mut KHeap, procs: &ProcTable, pid: u32, fd: u32) -> Opti
     ensures owners { HasItsOwners heap.new [] }
     ensures closes { ClosesNumber heap.old heap.new procs.now pid fd }
     ensures node { (proc : HeldProc) → proc_of (processes heap.old procs.now) pid ≡ Some proc
-        → result ≡ node_closed heap.old.descs (slice_index_or proc.descriptors fd None) }
+        → result ≡ node_closed heap.old.descs (slice_index_or (numbers_in heap.old proc) fd None) }
     ensures queues { QueuesStand heap.old heap.new }
     ensures takes { TakesNothing heap.old heap.new }
 {

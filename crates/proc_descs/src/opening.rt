@@ -1,7 +1,7 @@
 //! What the numbers of a process name, and how a process has one name something.
 
 ghost use Rattle.std.specs.Prelude.{◌≡◌, ◌<◌, ℕ, List, ◌∷◌, IsSome, None, Some, length};
-ghost use Rattle.kabi_types.specs.Arguments.{count_of, may_be_descriptor};
+ghost use Rattle.kabi_types.specs.Arguments.{count_of, may_be_descriptor, most_descriptors};
 ghost use Rattle.kheap_slabs.specs.Paid.{TakesNothing};
 ghost use Rattle.open_laws.specs.Open.{descriptor_by};
 ghost use Rattle.open_laws.specs.Owned.{HasItsOwners};
@@ -23,7 +23,7 @@ pub fn places_of(heap: &KHeap, procs: &ProcTable, pid: u32) -> [Option<Descripto
     requires listed { AreListed heap.now procs.now }
     requires there { IsSome (key_of procs.now.listed pid) }
     ensures places { result ≡ places_of heap.now procs.now pid }
-    ensures all { length (places_of heap.now procs.now pid) ≡ 32 }
+    ensures all { length (places_of heap.now procs.now pid) ≡ most_descriptors }
 {
     *places_in(heap, procs, pid)
 }
@@ -33,7 +33,7 @@ fn places_in<'a>(heap: &'a KHeap, procs: &ProcTable, pid: u32) -> &'a [Option<De
     requires listed { AreListed heap.now procs.now }
     requires there { IsSome (key_of procs.now.listed pid) }
     ensures places { result.now ≡ places_of heap.now procs.now pid }
-    ensures all { length (places_of heap.now procs.now pid) ≡ 32 }
+    ensures all { length (places_of heap.now procs.now pid) ≡ most_descriptors }
 {
     is_well_formed(heap);
     let Some(key) = procs.key_of(pid) else {
@@ -47,7 +47,7 @@ pub fn descriptor_of(heap: &KHeap, procs: &ProcTable, pid: u32, fd: i64) -> Opti
     requires listed { AreListed heap.now procs.now }
     requires there { IsSome (key_of procs.now.listed pid) }
     ensures held { result ≡ named_by heap.now procs.now pid fd }
-    ensures within { IsSome result → count_of fd < 32 }
+    ensures within { IsSome result → count_of fd < most_descriptors }
 {
     let places = places_in(heap, procs, pid);
     if may_be_descriptor(fd) {
@@ -76,7 +76,7 @@ pub fn count_of(number: i64) -> u64
 pub fn open_one(heap: &mut KHeap, procs: &ProcTable, pid: u32, fd: u32, descriptor: Descriptor)
     requires listed { AreListed heap.old procs.now }
     requires there { IsSome (key_of procs.now.listed pid) }
-    requires number { fd < 32 }
+    requires number { fd < most_descriptors }
     requires free { named_at heap.old procs.now pid fd ≡ None }
     ensures opened { (numbers : Numbers) (files : Files) → HaveOpen numbers heap.old procs.now files
         → HaveOpen numbers heap.new procs.now (with_open files pid fd (Some (descriptor_by numbers.descs descriptor))) }
@@ -92,7 +92,7 @@ pub fn open_one(heap: &mut KHeap, procs: &ProcTable, pid: u32, fd: u32, descript
 pub fn mark_one(heap: &mut KHeap, procs: &ProcTable, pid: u32, fd: u32, cloexec: bool)
     requires listed { AreListed heap.old procs.now }
     requires there { IsSome (key_of procs.now.listed pid) }
-    requires number { fd < 32 }
+    requires number { fd < most_descriptors }
     requires is_open { IsSome (named_at heap.old procs.now pid fd) }
     ensures marked { (numbers : Numbers) (files : Files) → HaveOpen numbers heap.old procs.now files
         → HaveOpen numbers heap.new procs.now
@@ -118,7 +118,7 @@ pub fn mark_one(heap: &mut KHeap, procs: &ProcTable, pid: u32, fd: u32, cloexec:
 fn put_number(heap: &mut KHeap, procs: &ProcTable, pid: u32, fd: u32, descriptor: Descriptor)
     requires listed { AreListed heap.old procs.now }
     requires there { IsSome (key_of procs.now.listed pid) }
-    requires number { fd < 32 }
+    requires number { fd < most_descriptors }
     ensures names { NamesNumber heap.old heap.new procs.now pid fd descriptor }
     ensures takes { TakesNothing heap.old heap.new }
 {

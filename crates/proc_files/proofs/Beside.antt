@@ -19,7 +19,7 @@ use Rattle.posix_defs.specs.Process.{Table}
 use Rattle.proc_descs.specs.Having.{AreListed, HaveOpen, places_in}
 use Rattle.proc_descs.proofs.NumberCloses.{listed_on}
 use Rattle.proc_table.specs.Accounting.{HasAccount}
-use Rattle.proc_table.specs.Procs.{proc_of}
+use Rattle.proc_table.specs.Procs.{numbers_in, proc_of}
 use Rattle.proc_table.specs.Standing.{IsTable}
 use Rattle.proc_table.specs.Table.{TableView, procs_at, processes, with_procs}
 use Rattle.proc_table.proofs.LawLemmas.{elsewhere_account, elsewhere_holds, elsewhere_table}
@@ -77,7 +77,7 @@ module _ (old new : Heap) (e : CachesChange old new) where
     list = have.list;
     opened = open_on numbers old new have.list files now same_descs same_pipes same_socks same_chunks descriptions pipes sockets have.opened;
     descriptors = rw descriptors (record {
-      each = λ q. have.descriptors.each q ∙ ap (λ (objects : List (Option Proc)). descriptors_by numbers.descs (places_in (proc_of (procs_at objects kept.listed) q))) (sym same_procs);
+      each = λ q. have.descriptors.each q ∙ ap (λ (objects : List (Option Proc)). descriptors_by numbers.descs (places_in (numbers_in old) (proc_of (procs_at objects kept.listed) q))) (sym same_procs);
       made = have.descriptors.made;
     });
   }

@@ -3,6 +3,7 @@ use Rattle.std.proofs.Common.{◌≡◌, ℕ, zero, suc, List, [], ◌∷◌, se
 use Rattle.kheap_slabs.specs.Objects.{object, put}
 use Rattle.kheap_slabs.specs.declared.objects.Proc.{Proc}
 use Rattle.kheap_slabs.specs.Heap.{Heap}
+use Rattle.proc_table.specs.Procs.{with_numbers}
 use Rattle.proc_table.specs.Table.{TableView, key_of}
 use Rattle.proc_table.proofs.PlaceLemmas.{some_same}
 use Rattle.proc_descs.specs.Naming.{ChangesNumbers}
@@ -46,7 +47,7 @@ caches_before old mid new kept pid e it =
       places = it.places;
       named = it.named;
       there = ap (λ (p : List (Option Proc)). object p it.key) (sym same) ∙ it.there;
-      procs = it.procs ∙ ap (λ (p : List (Option Proc)). put p it.key (record it.proc { descriptors = it.places })) same;
+      procs = it.procs ∙ ap (λ (p : List (Option Proc)). put p it.key (with_numbers it.proc it.places)) same;
       beside = it.beside ∙ ap (λ (h : Heap). holding h new) e;
     }
 
@@ -70,7 +71,7 @@ set_again (x ∷ xs) (suc i) a b = ap (λ rest. x ∷ rest) (set_again xs i a b)
 -- one change after another
 abbrev pub holding_then : (old mid new : Heap) (kept : TableView) (pid : ℕ) → ChangesHolding old mid kept pid → ChangesHolding mid new kept pid → ChangesHolding old new kept pid
 holding_then old mid new kept pid first second =
-    let was : Proc = record first.proc { descriptors = first.places } in
+    let was : Proc = with_numbers first.proc first.places in
     let same_key : second.key ≡ first.key = some_same (key_of kept.listed pid) second.key first.key second.named first.named in
     let at : object mid.procs first.key ≡ Some was = ap (λ objects. object objects first.key) first.procs ∙ put_same old.procs first.key first.proc was first.there refl in
     let same_proc : second.proc ≡ was = some_same (object mid.procs first.key) second.proc was (ap (object mid.procs) (sym same_key) ∙ second.there) at in
@@ -82,10 +83,10 @@ holding_then old mid new kept pid first second =
       there = first.there;
       procs =
           second.procs
-          ∙ ap (λ key. put mid.procs key (record second.proc { descriptors = second.places })) same_key
-          ∙ ap (λ (p : Proc). put mid.procs first.key (record p { descriptors = second.places })) same_proc
-          ∙ ap (λ objects. put objects first.key (record was { descriptors = second.places })) first.procs
-          ∙ set_again old.procs first.key (Some was) (Some (record was { descriptors = second.places }));
+          ∙ ap (λ key. put mid.procs key (with_numbers second.proc second.places)) same_key
+          ∙ ap (λ (p : Proc). put mid.procs first.key (with_numbers p second.places)) same_proc
+          ∙ ap (λ objects. put objects first.key (with_numbers was second.places)) first.procs
+          ∙ set_again old.procs first.key (Some was) (Some (with_numbers was second.places));
       beside = second.beside ∙ ap (λ (h : Heap). holding h new) first.beside;
     }
 

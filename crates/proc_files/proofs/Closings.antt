@@ -25,7 +25,7 @@ use Rattle.posix_defs.specs.Files.Descriptors.{Descriptors, is_named}
 use Rattle.posix_defs.specs.Files.State.{Files, beside, is_number, node_of, nodes_among, opened_node, opens, with_descriptions, with_open, with_tree}
 use Rattle.posix_defs.specs.Tree.{Tree}
 use Rattle.posix_defs.specs.TreeChanges.{closed}
-use Rattle.proc_table.specs.Procs.{proc_of}
+use Rattle.proc_table.specs.Procs.{numbers_in, proc_of, with_numbers}
 use Rattle.proc_table.specs.Table.{TableView, processes}
 use Rattle.proc_table.proofs.PlaceLemmas.{eqb_same}
 use Rattle.proc_descs.specs.Having.{AreListed, ClosesNumber, HaveOpen, node_closed, node_dropped, places_in}
@@ -187,8 +187,8 @@ module _ (old mid : Heap) (kept : TableView) (pid fd : ℕ) (listed : AreListed 
   proc_is : proc_of (processes old kept) pid ≡ Some its
   proc_is = found_before old.procs closes.key its its closes.there refl kept.listed pid listed.stored closes.named
 
-  named_is : named_at old kept pid fd ≡ slice_index_or its.descriptors fd None
-  named_is = ap (λ o. slice_index_or (places_in o) fd None) proc_is
+  named_is : named_at old kept pid fd ≡ slice_index_or (numbers_in old its) fd None
+  named_is = ap (λ o. slice_index_or (places_in (numbers_in old) o) fd None) proc_is
 
   -- a number that isn't open
   pub closes_nothing : named_at old kept pid fd ≡ None → after_close files pid fd ≡ files
@@ -207,18 +207,18 @@ module _ (old mid : Heap) (kept : TableView) (pid fd : ℕ) (listed : AreListed 
     described : description_at files.descriptions place ≡ Some (counted_in numbers desc).is
     described = described_so numbers old have.list files held.desc desc have.opened found
 
-    names_less : (other : ℕ) → count_by (names_desc other) (slice_set its.descriptors fd None) + one_if (held.desc == other) ≡ count_by (names_desc other) its.descriptors
+    names_less : (other : ℕ) → count_by (names_desc other) (slice_set (numbers_in old its) fd None) + one_if (held.desc == other) ≡ count_by (names_desc other) (numbers_in old its)
     names_less other =
-        let at : slice_index_or its.descriptors fd None ≡ Some held = sym named_is ∙ is in
-        let moved = sum_by-set (λ o. one_if (names_desc other o)) its.descriptors fd None None (InUse-within its.descriptors fd (ap is_some at)) in
-        let here : one_if (names_desc other (slice_index_or its.descriptors fd None)) ≡ one_if (held.desc == other) = ap (λ o. one_if (names_desc other o)) at in
+        let at : slice_index_or (numbers_in old its) fd None ≡ Some held = sym named_is ∙ is in
+        let moved = sum_by-set (λ o. one_if (names_desc other o)) (numbers_in old its) fd None None (InUse-within (numbers_in old its) fd (ap is_some at)) in
+        let here : one_if (names_desc other (slice_index_or (numbers_in old its) fd None)) ≡ one_if (held.desc == other) = ap (λ o. one_if (names_desc other o)) at in
         omega (arith, moved, here)
 
     namings_less : (other : ℕ) → namings_of mid.procs other + one_if (held.desc == other) ≡ namings_of old.procs other
     namings_less other =
-        let now : Proc = record its { descriptors = slice_set its.descriptors fd None } in
+        let now : Proc = with_numbers its (slice_set (numbers_in old its) fd None) in
         let moved = sum_by-set (namings_in other) old.procs closes.key (Some now) None (InUse-within old.procs closes.key (ap is_some closes.there)) in
-        let here : namings_in other (object old.procs closes.key) ≡ count_by (names_desc other) its.descriptors = ap (namings_in other) closes.there in
+        let here : namings_in other (object old.procs closes.key) ≡ count_by (names_desc other) (numbers_in old its) = ap (namings_in other) closes.there in
         let so : namings_of mid.procs other ≡ namings_of (put old.procs closes.key now) other = ap (λ (p : List (Option Proc)). namings_of p other) closes.procs in
         let less = names_less other in omega (arith, moved, here, so, less)
 

@@ -10,6 +10,7 @@ use Rattle.kheap_slabs.specs.Heap.{Heap}
 use Rattle.open_laws.specs.Described.{node_in, target_in}
 use Rattle.place_laws.specs.Placed.{Numbers}
 use Rattle.posix_defs.specs.Files.State.{Files, node_of}
+use Rattle.proc_table.specs.Procs.{numbers_in}
 use Rattle.proc_table.specs.Table.{TableView, key_of}
 use Rattle.proc_descs.specs.Having.{AreListed, places_in}
 use Rattle.proc_descs.specs.Naming.{named_by, places_of}
@@ -52,7 +53,7 @@ pub record IsAt (h : Heap) (kept : TableView) (pid : ℕ) : Type 0 where
   pub proc : Proc
   pub named : key_of kept.listed pid ≡ Some key
   pub there : object h.procs key ≡ Some proc
-  pub places : places_of h kept pid ≡ proc.descriptors
+  pub places : places_of h kept pid ≡ (numbers_in h proc)
 
 pub is_at : (h : Heap) (kept : TableView) (pid : ℕ) → AreListed h kept → IsSome (key_of kept.listed pid) → IsAt h kept pid
 is_at h kept pid listed there = by_key (key_of kept.listed pid) refl there
@@ -66,5 +67,5 @@ is_at h kept pid listed there = by_key (key_of kept.listed pid) refl there
           proc = it.0;
           named = named;
           there = it.1;
-          places = ap places_in (found_before h.procs key it.0 it.0 it.1 refl kept.listed pid listed.stored named);
+          places = ap (places_in (numbers_in h)) (found_before h.procs key it.0 it.0 it.1 refl kept.listed pid listed.stored named);
         }

@@ -7,6 +7,7 @@ use Rattle.kheap_slabs.specs.declared.objects.Proc.{Proc}
 use Rattle.kheap_slabs.specs.Heap.{Heap}
 use Rattle.memfs_ops.specs.Closing.{MayFree}
 use Rattle.proc_descs.specs.Having.{ClosesNumber}
+use Rattle.proc_table.specs.Procs.{with_numbers}
 use Rattle.proc_table.specs.Table.{TableView, key_of}
 
 -- A purse that has filled nothing may pay for what closing a node takes: it asks for blocks, and gives back all that it fills.
@@ -32,7 +33,7 @@ pub record ChangesHolding (old new : Heap) (kept : TableView) (pid : ℕ) : Type
   pub places : List (Option HeldDescriptor)
   pub named : key_of kept.listed pid ≡ Some key
   pub there : object old.procs key ≡ Some proc
-  pub procs : new.procs ≡ put old.procs key (record proc { descriptors = places })
+  pub procs : new.procs ≡ put old.procs key (with_numbers proc places)
   pub beside : new ≡ record old {
     procs = new.procs;
     descs = new.descs;

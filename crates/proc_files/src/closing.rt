@@ -7,6 +7,7 @@ ghost use Rattle.open_laws.specs.Owned.{HasItsOwners};
 ghost use Rattle.place_laws.specs.Placed.{Numbers};
 ghost use Rattle.posix_defs.specs.Files.Closing.{after_close};
 ghost use Rattle.posix_defs.specs.Files.State.{Files};
+ghost use Rattle.kabi_types.specs.Arguments.{most_descriptors};
 ghost use Rattle.proc_table.specs.Table.{key_of};
 ghost use Rattle.proc_descs.specs.Having.{AreListed, node_closed};
 ghost use Rattle.proc_descs.specs.Naming.{named_at};
@@ -37,7 +38,7 @@ pub fn close_open(
     requires listed { AreListed heap.old procs.now }
     requires owners { HasItsOwners heap.old [] }
     requires there { IsSome (key_of procs.now.listed pid) }
-    requires number { fd < 32 }
+    requires number { fd < most_descriptors }
     requires hold { HoldSome heap.old procs.now tree.old }
     requires may { MayClose heap.old purse.old }
     ensures closed { (numbers : Numbers) (others : ℕ → ℕ) (files : Files)

@@ -2,12 +2,12 @@
 
 ghost use Rattle.std.specs.Prelude.{◌≡◌, ◌-◌, ◌<◌, ◌≤◌, ◌^◌, ℕ, ℤ, List, [], ◌∷◌, IfSome, IsSome, None, OnErr, OnOk, Some, false, true};
 ghost use Rattle.std.specs.List.{All};
-ghost use Rattle.kabi_types.specs.Arguments.{argument_fault};
+ghost use Rattle.kabi_types.specs.Arguments.{argument_fault, most_descriptors};
 ghost use Rattle.kabi_types.specs.declared.calls.Call.{Call};
 ghost use Rattle.kabi_types.specs.declared.scripts.Script.{Script};
 ghost use Rattle.kabi_types.specs.OpenFlags.{are_open_flags};
 ghost use Rattle.kabi_types.specs.declared.classes.Class.TheVariants as class;
-ghost use Rattle.kheap_slabs.specs.Counts.{with_count};
+ghost use Rattle.kabi_types.specs.Counts.{with_count};
 ghost use Rattle.kheap_slabs.specs.declared.objects.Proc.{Proc};
 ghost use Rattle.kheap_slabs.specs.Paid.{CanPay, HasFills, IsPaid};
 ghost use Rattle.memfs_ops.specs.FileTree.{KeepsLast, KnowsWay, MayWalk, Stands, in_call};
@@ -135,7 +135,7 @@ fn open_new(
     requires listed { AreListed heap.old procs.now }
     requires owners { HasItsOwners heap.old [] }
     requires there { IsSome (key_of procs.now.listed pid) }
-    requires number { fd < 32 }
+    requires number { fd < most_descriptors }
     requires free { named_at heap.old procs.now pid fd ≡ None }
     requires pays { CanPay heap.old purse.old }
     requires fills { HasFills heap.old purse.old }
@@ -165,7 +165,7 @@ fn lowest_free(heap: &KHeap, procs: &ProcTable, pid: u32) -> Option<u32>
     requires there { IsSome (key_of procs.now.listed pid) }
     ensures lowest { (numbers : Numbers) (files : Files) → HaveOpen numbers heap.now procs.now files
         → lowest_free_from (descriptors_of files pid) 0 ≡ result }
-    ensures free { IfSome result (λ fd. (fd < 32) × (0 ≤ fd) × (named_at heap.now procs.now pid fd ≡ None)) }
+    ensures free { IfSome result (λ fd. (fd < most_descriptors) × (0 ≤ fd) × (named_at heap.now procs.now pid fd ≡ None)) }
 {
     let descs = Descs::of(places_of(heap, procs, pid));
     descs.lowest(0)

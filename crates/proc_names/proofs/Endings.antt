@@ -14,7 +14,9 @@ use Rattle.place_laws.specs.Placed.{Numbers}
 use Rattle.posix_defs.specs.Files.Closing.{after_close, after_closes, after_end_of, after_exec_of}
 use Rattle.posix_defs.specs.Files.Descriptors.{has_cloexec, is_cloexec}
 use Rattle.posix_defs.specs.Files.State.{Files, descriptors_of}
-use Rattle.proc_table.specs.Procs.{no_descriptors}
+use Rattle.kabi_types.specs.Arguments.{most_descriptors}
+use Rattle.proc_table.proofs.NumberLemmas.{numbers_all}
+use Rattle.proc_table.specs.Procs.{no_descriptors, numbers_in, with_numbers}
 use Rattle.proc_table.specs.Table.{TableView, key_of}
 use Rattle.proc_table.proofs.PlaceLemmas.{some_same}
 use Rattle.proc_descs.specs.Having.{AreListed, HaveOpen}
@@ -67,23 +69,23 @@ all_picked [] = refl
 all_picked (x ∷ xs) = ap (λ rest. x ∷ rest) (all_picked xs)
 
 -- all numbers
-pub end_is : (test : ℕ → Bool) (files : Files) (pid : ℕ) → ((fd : ℕ) → fd < 32 → test fd ≡ true) → closed_where test files pid 32 ≡ after_end_of files pid
+pub end_is : (test : ℕ → Bool) (files : Files) (pid : ℕ) → ((fd : ℕ) → fd < most_descriptors → test fd ≡ true) → closed_where test files pid most_descriptors ≡ after_end_of files pid
 unfolding after_end_of
 end_is test files pid all =
-    where_same test (λ fd. true) files pid 32 all ∙ sym (where_is (λ fd. true) files pid 32) ∙ ap (after_closes files pid) (all_picked (range_with_len 0 32))
+    where_same test (λ fd. true) files pid most_descriptors all ∙ sym (where_is (λ fd. true) files pid most_descriptors) ∙ ap (after_closes files pid) (all_picked (range_with_len 0 most_descriptors))
 
 -- those that `exec` closes
 mark_is : (number : ℕ → ℕ) (o : Option HeldDescriptor) → has_mark o ≡ has_cloexec (option_map (descriptor_by number) o)
 mark_is number None = refl
 mark_is number (Some held) = refl
 
-pub exec_is : (test : ℕ → Bool) (numbers : Numbers) (h : Heap) (kept : TableView) (files : Files) (pid : ℕ) → ((fd : ℕ) → fd < 32 → test fd ≡ goes_at_exec (places_of h kept pid) fd)
-    → HaveOpen numbers h kept files → closed_where test files pid 32 ≡ after_exec_of files pid
+pub exec_is : (test : ℕ → Bool) (numbers : Numbers) (h : Heap) (kept : TableView) (files : Files) (pid : ℕ) → ((fd : ℕ) → fd < most_descriptors → test fd ≡ goes_at_exec (places_of h kept pid) fd)
+    → HaveOpen numbers h kept files → closed_where test files pid most_descriptors ≡ after_exec_of files pid
 unfolding after_exec_of
 exec_is test numbers h kept files pid picks have =
-    where_same test (is_cloexec (descriptors_of files pid)) files pid 32
+    where_same test (is_cloexec (descriptors_of files pid)) files pid most_descriptors
     (λ fd below. picks fd below ∙ mark_is numbers.descs (named_at h kept pid fd) ∙ sym (ap has_cloexec (descriptor_at_is numbers h kept files pid have fd)))
-    ∙ sym (where_is (is_cloexec (descriptors_of files pid)) files pid 32)
+    ∙ sym (where_is (is_cloexec (descriptors_of files pid)) files pid most_descriptors)
 
 -- ---- in the heap
 
@@ -92,7 +94,7 @@ unchanged : (h : Heap) (kept : TableView) (pid : ℕ) → IsAt h kept pid → Ch
 unchanged h kept pid it = record {
   key = it.key;
   proc = it.proc;
-  places = it.proc.descriptors;
+  places = numbers_in h it.proc;
   named = it.named;
   there = it.there;
   procs = sym (ap (slice_set h.procs it.key) (sym it.there) ∙ set-get_or h.procs it.key None);
@@ -110,7 +112,7 @@ marked_closes old new kept pid fd closes =
       changes = record {
         key = one.key;
         proc = one.proc;
-        places = slice_set one.proc.descriptors fd None;
+        places = slice_set (numbers_in old one.proc) fd None;
         named = one.named;
         there = one.there;
         procs = ap (λ (h : Heap). h.procs) closes.caches ∙ one.procs;
@@ -129,13 +131,13 @@ emptied (x ∷ xs) (suc i) = emptied xs i
 
 pub marked_more : (old mid new : Heap) (kept : TableView) (pid fd : ℕ) (test : ℕ → Bool) → ClosesMarked old mid kept pid test fd → ClosesIf mid new kept pid fd (test fd) → ClosesMarked old new kept pid test (suc fd)
 marked_more old mid new kept pid fd test first second =
-    let was : Proc = record first.changes.proc { descriptors = first.changes.places } in
+    let was : Proc = with_numbers first.changes.proc first.changes.places in
     let same_key : second.changes.key ≡ first.changes.key = some_same (key_of kept.listed pid) second.changes.key first.changes.key second.changes.named first.changes.named in
     let at : object mid.procs first.changes.key ≡ Some was =
     ap (λ objects. object objects first.changes.key) first.changes.procs ∙ put_same old.procs first.changes.key first.changes.proc was first.changes.there refl in
     let same_proc : second.changes.proc ≡ was = some_same (object mid.procs first.changes.key) second.changes.proc was (ap (object mid.procs) (sym same_key) ∙ second.changes.there) at in
     let becomes : second.changes.places ≡ cond (test fd) (slice_set first.changes.places fd None) first.changes.places =
-    second.becomes ∙ ap (λ (p : Proc). cond (test fd) (slice_set p.descriptors fd None) p.descriptors) same_proc in
+    second.becomes ∙ ap (λ (p : Proc). cond (test fd) (slice_set (numbers_in mid p) fd None) (numbers_in mid p)) same_proc in
     record {
       changes = holding_then old mid new kept pid first.changes second.changes;
       closed = λ n below picked. ap (λ places. slice_index_or places n None) becomes ∙ elim (cases_eq n fd) [
@@ -155,23 +157,23 @@ none_in zero i = refl
 none_in (suc n) zero = refl
 none_in (suc n) (suc i) = none_in n i
 
-pub each_closed : (old new : Heap) (kept : TableView) (pid : ℕ) (test : ℕ → Bool) → ((fd : ℕ) → fd < 32 → test fd ≡ true) → IsWellFormed new → ClosesMarked old new kept pid test 32 → ClosesEach old new kept pid
+pub each_closed : (old new : Heap) (kept : TableView) (pid : ℕ) (test : ℕ → Bool) → ((fd : ℕ) → fd < most_descriptors → test fd ≡ true) → IsWellFormed new → ClosesMarked old new kept pid test most_descriptors → ClosesEach old new kept pid
 each_closed old new kept pid test all whole it =
-    let now : Proc = record it.changes.proc { descriptors = it.changes.places } in
+    let now : Proc = with_numbers it.changes.proc it.changes.places in
     let at : object new.procs it.changes.key ≡ Some now =
     ap (λ objects. object objects it.changes.key) it.changes.procs ∙ put_same old.procs it.changes.key it.changes.proc now it.changes.there refl in
-    let long : length it.changes.places ≡ 32 = whole.descriptors it.changes.key now at in
+    let long : length it.changes.places ≡ most_descriptors = numbers_all new it.changes.key now whole at in
     record {
       changes = it.changes;
       none = ext_get_or None it.changes.places no_descriptors long
-          (λ i within. it.closed i (omega (arith, within, long)) (all i (omega (arith, within, long))) ∙ sym (none_in 32 i));
+          (λ i within. it.closed i (omega (arith, within, long)) (all i (omega (arith, within, long))) ∙ sym (none_in most_descriptors i));
     }
 
 -- ---- where nothing is open
 
 pub each_none : (h : Heap) (kept : TableView) (pid : ℕ) → IsAt h kept pid → places_of h kept pid ≡ no_descriptors → ClosesEach h h kept pid
 each_none h kept pid it none =
-    let same : it.proc.descriptors ≡ no_descriptors = sym it.places ∙ none in
+    let same : (numbers_in h it.proc) ≡ no_descriptors = sym it.places ∙ none in
     record {
       changes = record {
         key = it.key;
@@ -180,7 +182,7 @@ each_none h kept pid it none =
         named = it.named;
         there = it.there;
         procs =
-            sym (ap (λ (places : List (Option HeldDescriptor)). put h.procs it.key (record it.proc { descriptors = places })) (sym same)
+            sym (ap (λ (places : List (Option HeldDescriptor)). put h.procs it.key (with_numbers it.proc places)) (sym same)
             ∙ ap (slice_set h.procs it.key) (sym it.there) ∙ set-get_or h.procs it.key None);
         beside = refl;
       };
@@ -194,8 +196,8 @@ all_none (Some place ∷ places) all zero = absurd (false≢true all)
 all_none (None ∷ places) all (suc fd) = all_none places all fd
 all_none (Some place ∷ places) all (suc fd) = absurd (false≢true all)
 
-pub none_named : (places : List (Option HeldDescriptor)) → length places ≡ 32 → list_all is_none places ≡ true → places ≡ no_descriptors
-none_named places long all = ext_get_or None places no_descriptors long (λ i within. all_none places all i ∙ sym (none_in 32 i))
+pub none_named : (places : List (Option HeldDescriptor)) → length places ≡ most_descriptors → list_all is_none places ≡ true → places ≡ no_descriptors
+none_named places long all = ext_get_or None places no_descriptors long (λ i within. all_none places all i ∙ sym (none_in most_descriptors i))
 
 pub ends_same : (numbers : Numbers) (h : Heap) (kept : TableView) (files : Files) (pid : ℕ) → AreListed h kept → (it : IsAt h kept pid) → list_all is_none (places_of h kept pid) ≡ true → HaveOpen numbers h kept files
     → after_end_of files pid ≡ files

@@ -4,6 +4,7 @@ use Rattle.std.specs.Prelude.{slice_set}
 use Rattle.kheap_slabs.specs.Objects.{object, put}
 use Rattle.kheap_slabs.specs.declared.objects.Proc.{Proc}
 use Rattle.kheap_slabs.specs.Heap.{Heap}
+use Rattle.proc_table.specs.Procs.{numbers_in, with_numbers}
 use Rattle.proc_table.specs.Table.{TableView}
 use Rattle.proc_files.specs.Closing.{ClosesHolding}
 
@@ -21,7 +22,7 @@ closes_before old mid new kept pid fd beside high closes =
         proc = it.proc;
         named = it.named;
         there = ap (λ (p : List (Option Proc)). object p it.key) (sym same) ∙ it.there;
-        procs = it.procs ∙ ap (λ (p : List (Option Proc)). put p it.key (record it.proc { descriptors = slice_set it.proc.descriptors fd None })) same;
+        procs = it.procs ∙ ap (λ (p : List (Option Proc)). put p it.key (with_numbers it.proc (slice_set (numbers_in mid it.proc) fd None))) same;
         beside = it.beside ∙ ap (λ (h : Heap). record h { procs = last.procs; descs = last.descs; pipes = last.pipes; chunks = last.chunks; socks = last.socks }) whole;
       };
       caches = closes.caches;

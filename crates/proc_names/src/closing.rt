@@ -12,6 +12,7 @@ ghost use Rattle.posix_defs.specs.Calls.OnDescriptors.{close};
 ghost use Rattle.posix_defs.specs.Files.Closing.{after_close};
 ghost use Rattle.posix_defs.specs.Files.State.{Files};
 ghost use Rattle.posix_defs.specs.Plain.{Plain};
+ghost use Rattle.kabi_types.specs.Arguments.{most_descriptors};
 ghost use Rattle.proc_table.specs.Table.{key_of};
 ghost use Rattle.proc_descs.specs.Having.{AreListed, node_closed};
 ghost use Rattle.proc_descs.specs.Naming.{named_at, named_by};
@@ -90,7 +91,7 @@ pub fn close_open(
     requires listed { AreListed heap.old procs.now }
     requires owners { HasItsOwners heap.old [] }
     requires there { IsSome (key_of procs.now.listed pid) }
-    requires number { fd < 32 }
+    requires number { fd < most_descriptors }
     requires hold { HoldSomeNames heap.old procs.now tree.old names.old }
     requires may { MayClose heap.old purse.old }
     ensures closed { (numbers : Numbers) (others : ℕ → ℕ) (files : Files)
@@ -118,7 +119,7 @@ fn unname_going(heap: &mut KHeap, procs: &ProcTable, names: &mut BoundTable, pid
     requires listed { AreListed heap.old procs.now }
     requires owners { HasItsOwners heap.old [] }
     requires there { IsSome (key_of procs.now.listed pid) }
-    requires number { fd < 32 }
+    requires number { fd < most_descriptors }
     requires bound { AreBound (name_of heap.old.socks) names.old }
     ensures hold { (numbers : Numbers) (others : ℕ → ℕ) (fs : TreeView) (files : Files)
         → HoldNames numbers others heap.old procs.now fs names.old files
@@ -145,7 +146,7 @@ fn socket_going(heap: &KHeap, procs: &ProcTable, pid: u32, fd: u32) -> Option<u3
     requires listed { AreListed heap.now procs.now }
     requires owners { HasItsOwners heap.now [] }
     requires there { IsSome (key_of procs.now.listed pid) }
-    requires number { fd < 32 }
+    requires number { fd < most_descriptors }
     ensures going { result ≡ socket_going heap.now.descs (named_at heap.now procs.now pid fd) }
     ensures there { IfSome result (Contains (socks_named heap.now.descs)) }
 {

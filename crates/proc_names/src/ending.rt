@@ -9,6 +9,7 @@ ghost use Rattle.place_laws.specs.Placed.{Numbers};
 ghost use Rattle.posix_defs.specs.Files.Closing.{after_close, after_end_of, after_exec_of};
 ghost use Rattle.posix_defs.specs.Files.State.{Files};
 ghost use Rattle.posix_defs.specs.Reaching.{ends_node};
+ghost use Rattle.kabi_types.specs.Arguments.{most_descriptors};
 ghost use Rattle.proc_table.specs.Procs.{no_descriptors};
 ghost use Rattle.proc_table.specs.Table.{key_of};
 ghost use Rattle.proc_descs.specs.Having.{AreListed};
@@ -134,7 +135,7 @@ fn are_none(places: &[Option<Descriptor>; 32]) -> bool
 
 // Which of these numbers `exec` closes.
 fn marks_of(places: &[Option<Descriptor>; 32]) -> [bool; 32]
-    ensures { (fd : ℕ) → fd < 32 → is_marked result fd ≡ goes_at_exec places.now fd }
+    ensures { (fd : ℕ) → fd < most_descriptors → is_marked result fd ≡ goes_at_exec places.now fd }
 {
     let mut marks = [false; 32];
     for fd in 0..32 {
@@ -145,14 +146,14 @@ fn marks_of(places: &[Option<Descriptor>; 32]) -> [bool; 32]
 
 // All numbers are marked.
 fn all_marks() -> [bool; 32]
-    ensures { (fd : ℕ) → fd < 32 → is_marked result fd ≡ true }
+    ensures { (fd : ℕ) → fd < most_descriptors → is_marked result fd ≡ true }
 {
     [true; 32]
 }
 
 // Whether a number is marked.
 fn mark_at(marks: &[bool; 32], fd: u32) -> bool
-    requires { fd < 32 }
+    requires { fd < most_descriptors }
     ensures { result ≡ is_marked marks.now fd }
 {
     marks[fd as usize]
@@ -185,11 +186,11 @@ fn close_marked(
     requires may { MayClose heap.old purse.old }
     ensures closed { (numbers : Numbers) (others : ℕ → ℕ) (files : Files)
         → HoldNames numbers others heap.old procs.now tree.old names.old files
-        → HoldNames numbers others heap.new procs.now tree.new names.new (closed_where (is_marked marks.now) files pid 32) }
+        → HoldNames numbers others heap.new procs.now tree.new names.new (closed_where (is_marked marks.now) files pid most_descriptors) }
     ensures listed { AreListed heap.new procs.now }
     ensures owners { HasItsOwners heap.new [] }
     ensures hold { HoldSomeNames heap.new procs.now tree.new names.new }
-    ensures closes { ClosesMarked heap.old heap.new procs.now pid (is_marked marks.now) 32 }
+    ensures closes { ClosesMarked heap.old heap.new procs.now pid (is_marked marks.now) most_descriptors }
     ensures places { length names.new ≡ length names.old }
     ensures queues { QueuesStand heap.old heap.new }
     ensures same { purse.new ≡ purse.old }
@@ -198,10 +199,10 @@ fn close_marked(
     ensures reads { tree.old.disk.reads ≤ tree.new.disk.reads }
     ensures goes { (numbers : Numbers) (others : ℕ → ℕ) (files : Files)
         → HoldNames numbers others heap.old procs.now tree.old names.old files
-        → OnlyGoes files (closed_where (is_marked marks.now) files pid 32) }
+        → OnlyGoes files (closed_where (is_marked marks.now) files pid most_descriptors) }
     ensures stays { (numbers : Numbers) (others : ℕ → ℕ) (files : Files)
         → HoldNames numbers others heap.old procs.now tree.old names.old files
-        → ((number : ℕ) → openings (closed_where (is_marked marks.now) files pid 32) number ≡ openings files number)
+        → ((number : ℕ) → openings (closed_where (is_marked marks.now) files pid most_descriptors) number ≡ openings files number)
         → tree.new ≡ tree.old }
     ensures cached { KeepsCached tree.old tree.new }
 {
@@ -225,7 +226,7 @@ fn close_if(
     requires listed { AreListed heap.old procs.now }
     requires owners { HasItsOwners heap.old [] }
     requires there { IsSome (key_of procs.now.listed pid) }
-    requires number { fd < 32 }
+    requires number { fd < most_descriptors }
     requires hold { HoldSomeNames heap.old procs.now tree.old names.old }
     requires may { MayClose heap.old purse.old }
     ensures closed { (numbers : Numbers) (others : ℕ → ℕ) (files : Files)

@@ -11,7 +11,7 @@ use Rattle.kheap_slabs.specs.declared.objects.Proc.{Proc}
 use Rattle.kheap_slabs.proofs.ObjectLemmas.{InUse-within}
 use Rattle.kheap_slabs.specs.Heap.{Heap}
 use Rattle.open_laws.specs.Described.{node_in}
-use Rattle.proc_table.specs.Procs.{proc_of}
+use Rattle.proc_table.specs.Procs.{numbers_in, proc_of, with_numbers}
 use Rattle.proc_table.specs.Table.{TableView, key_of, processes, procs_at}
 use Rattle.proc_table.proofs.PlaceLemmas.{key_of-proc, some_same}
 use Rattle.proc_descs.specs.Having.{AreListed, ClosesNumber, OpensNoNode, node_closed, places_in}
@@ -49,7 +49,7 @@ pub changes_closed : (old new : Heap) (kept : TableView) (pid fd : ℕ) → Clos
 changes_closed old new kept pid fd closes = record {
   key = closes.key;
   proc = closes.proc;
-  places = slice_set closes.proc.descriptors fd None;
+  places = slice_set (numbers_in old closes.proc) fd None;
   named = closes.named;
   there = closes.there;
   procs = closes.procs;
@@ -66,13 +66,13 @@ changes_after old mid new kept pid same e it = record {
   places = it.places;
   named = it.named;
   there = ap (λ (p : List (Option Proc)). object p it.key) (sym same) ∙ it.there;
-  procs = it.procs ∙ ap (λ (p : List (Option Proc)). put p it.key (record it.proc { descriptors = it.places })) same;
+  procs = it.procs ∙ ap (λ (p : List (Option Proc)). put p it.key (with_numbers it.proc it.places)) same;
   beside = it.beside ∙ ap (λ (h : Heap). opening h new) e;
 }
 
 pub changes_then : (old mid new : Heap) (kept : TableView) (pid : ℕ) → ChangesNumbers old mid kept pid → ChangesNumbers mid new kept pid → ChangesNumbers old new kept pid
 changes_then old mid new kept pid first second =
-    let was : Proc = record first.proc { descriptors = first.places } in
+    let was : Proc = with_numbers first.proc first.places in
     let same_key : second.key ≡ first.key = some_same (key_of kept.listed pid) second.key first.key second.named first.named in
     let at : object mid.procs first.key ≡ Some was = ap (λ objects. object objects first.key) first.procs ∙ put_same old.procs first.key first.proc was first.there refl in
     let same_proc : second.proc ≡ was = some_same (object mid.procs first.key) second.proc was (ap (object mid.procs) (sym same_key) ∙ second.there) at in
@@ -84,10 +84,10 @@ changes_then old mid new kept pid first second =
       there = first.there;
       procs =
           second.procs
-          ∙ ap (λ key. put mid.procs key (record second.proc { descriptors = second.places })) same_key
-          ∙ ap (λ (p : Proc). put mid.procs first.key (record p { descriptors = second.places })) same_proc
-          ∙ ap (λ objects. put objects first.key (record was { descriptors = second.places })) first.procs
-          ∙ set_again old.procs first.key (Some was) (Some (record was { descriptors = second.places }));
+          ∙ ap (λ key. put mid.procs key (with_numbers second.proc second.places)) same_key
+          ∙ ap (λ (p : Proc). put mid.procs first.key (with_numbers p second.places)) same_proc
+          ∙ ap (λ objects. put objects first.key (with_numbers was second.places)) first.procs
+          ∙ set_again old.procs first.key (Some was) (Some (with_numbers was second.places));
       beside = second.beside ∙ ap (λ (h : Heap). opening h new) first.beside;
     }
 
@@ -95,30 +95,30 @@ changes_then old mid new kept pid first second =
 pub others_stay : (old new : Heap) (kept : TableView) (pid fd other : ℕ) → AreListed old kept → ClosesNumber old new kept pid fd → other ≢ fd
     → named_at new kept pid other ≡ named_at old kept pid other
 others_stay old new kept pid fd other listed closes apart =
-    let now : Proc = record closes.proc { descriptors = slice_set closes.proc.descriptors fd None } in
-    ap (λ (p : List (Option Proc)). slice_index_or (places_in (proc_of (procs_at p kept.listed) pid)) other None) closes.procs
-    ∙ ap (λ o. slice_index_or (places_in o) other None) (found_now old.procs closes.key closes.proc now closes.there refl kept.listed pid listed.stored closes.named)
-    ∙ get_or-set_other closes.proc.descriptors fd other None None apart
-    ∙ sym (ap (λ o. slice_index_or (places_in o) other None) (found_before old.procs closes.key closes.proc now closes.there refl kept.listed pid listed.stored closes.named))
+    let now : Proc = with_numbers closes.proc (slice_set (numbers_in old closes.proc) fd None) in
+    ap (λ (p : List (Option Proc)). slice_index_or (places_in (numbers_in old) (proc_of (procs_at p kept.listed) pid)) other None) closes.procs
+    ∙ ap (λ o. slice_index_or (places_in (numbers_in old) o) other None) (found_now old.procs closes.key closes.proc now closes.there refl kept.listed pid listed.stored closes.named)
+    ∙ get_or-set_other (numbers_in old closes.proc) fd other None None apart
+    ∙ sym (ap (λ o. slice_index_or (places_in (numbers_in old) o) other None) (found_before old.procs closes.key closes.proc now closes.there refl kept.listed pid listed.stored closes.named))
 
 -- and the one that is closed names nothing
-pub closed_names_nothing : (old new : Heap) (kept : TableView) (pid fd : ℕ) → AreListed old kept → (closes : ClosesNumber old new kept pid fd) → fd < length closes.proc.descriptors
+pub closed_names_nothing : (old new : Heap) (kept : TableView) (pid fd : ℕ) → AreListed old kept → (closes : ClosesNumber old new kept pid fd) → fd < length (numbers_in old closes.proc)
     → named_at new kept pid fd ≡ None
 closed_names_nothing old new kept pid fd listed closes within =
-    let now : Proc = record closes.proc { descriptors = slice_set closes.proc.descriptors fd None } in
-    ap (λ (p : List (Option Proc)). slice_index_or (places_in (proc_of (procs_at p kept.listed) pid)) fd None) closes.procs
-    ∙ ap (λ o. slice_index_or (places_in o) fd None) (found_now old.procs closes.key closes.proc now closes.there refl kept.listed pid listed.stored closes.named)
-    ∙ get_or-set_same closes.proc.descriptors fd None None within
+    let now : Proc = with_numbers closes.proc (slice_set (numbers_in old closes.proc) fd None) in
+    ap (λ (p : List (Option Proc)). slice_index_or (places_in (numbers_in old) (proc_of (procs_at p kept.listed) pid)) fd None) closes.procs
+    ∙ ap (λ o. slice_index_or (places_in (numbers_in old) o) fd None) (found_now old.procs closes.key closes.proc now closes.there refl kept.listed pid listed.stored closes.named)
+    ∙ get_or-set_same (numbers_in old closes.proc) fd None None within
 
 -- another number than the one that is opened names what it named
 pub others_named : (old new : Heap) (kept : TableView) (pid fd other : ℕ) (held : HeldDescriptor) → AreListed old kept → NamesNumber old new kept pid fd held → other ≢ fd
     → named_at new kept pid other ≡ named_at old kept pid other
 others_named old new kept pid fd other held listed names apart =
-    let now : Proc = record names.proc { descriptors = slice_set names.proc.descriptors fd (Some held) } in
+    let now : Proc = with_numbers names.proc (slice_set (numbers_in old names.proc) fd (Some held)) in
     ap (λ (h : Heap). named_at h kept pid other) names.after
-    ∙ ap (λ o. slice_index_or (places_in o) other None) (found_now old.procs names.key names.proc now names.there refl kept.listed pid listed.stored names.named)
-    ∙ get_or-set_other names.proc.descriptors fd other (Some held) None apart
-    ∙ sym (ap (λ o. slice_index_or (places_in o) other None) (found_before old.procs names.key names.proc now names.there refl kept.listed pid listed.stored names.named))
+    ∙ ap (λ o. slice_index_or (places_in (numbers_in old) o) other None) (found_now old.procs names.key names.proc now names.there refl kept.listed pid listed.stored names.named)
+    ∙ get_or-set_other (numbers_in old names.proc) fd other (Some held) None apart
+    ∙ sym (ap (λ o. slice_index_or (places_in (numbers_in old) o) other None) (found_before old.procs names.key names.proc now names.there refl kept.listed pid listed.stored names.named))
 
 -- what a number that is open names is what it names as a count
 pub named_count : (h : Heap) (kept : TableView) (pid : ℕ) (fd : ℤ) (held : HeldDescriptor) → named_by h kept pid fd ≡ Some held → named_by h kept pid fd ≡ named_at h kept pid (count_of fd)
@@ -136,11 +136,11 @@ beside_shared old mid new descs e b =
 
 -- the node of a close, by what the number named
 pub node_of_number : (h new : Heap) (kept : TableView) (pid fd : ℕ) (told : Option ℕ) → AreListed h kept → ClosesNumber h new kept pid fd
-    → ((proc : Proc) → proc_of (processes h kept) pid ≡ Some proc → told ≡ node_closed h.descs (slice_index_or proc.descriptors fd None))
+    → ((proc : Proc) → proc_of (processes h kept) pid ≡ Some proc → told ≡ node_closed h.descs (slice_index_or (numbers_in h proc) fd None))
     → told ≡ node_closed h.descs (named_at h kept pid fd)
 node_of_number h new kept pid fd told listed closes each =
     let found = found_before h.procs closes.key closes.proc closes.proc closes.there refl kept.listed pid listed.stored closes.named in
-    each closes.proc found ∙ sym (ap (λ o. node_closed h.descs (slice_index_or (places_in o) fd None)) found)
+    each closes.proc found ∙ sym (ap (λ o. node_closed h.descs (slice_index_or (places_in (numbers_in h) o) fd None)) found)
 
 -- no description opens a node where a Desc becomes another that is open on the same
 pub put_opens : (descs : List (Option Desc)) (key : ℕ) (was now : Desc) → object descs key ≡ Some was → now.target ≡ was.target → OpensNoNode descs → OpensNoNode (put descs key now)

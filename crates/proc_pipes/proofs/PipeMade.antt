@@ -34,7 +34,7 @@ use Rattle.posix_defs.specs.Pipe.{new_pipe}
 use Rattle.usock_core.specs.Standing.{queue_in}
 use Rattle.usock_core.proofs.HeldLemmas.{held_moved}
 use Rattle.usock_core.proofs.StandingLemmas.{held_on}
-use Rattle.proc_table.specs.Procs.{proc_of}
+use Rattle.proc_table.specs.Procs.{numbers_in, proc_of}
 use Rattle.proc_table.specs.Table.{TableView, procs_at}
 use Rattle.proc_table.proofs.PlaceLemmas.{some_same}
 use Rattle.proc_descs.specs.Having.{AreListed, HaveOpen, OpensNoNode, places_in}
@@ -372,7 +372,7 @@ module _ (old new : Heap) (pipe reading writing : ℕ) (opens : PipeOpens old ne
               have.descriptors.each pid
               ∙ same_by (places_of old kept pid)
               (λ fd held is. let desc = desc_named old kept hand listed owners pid fd held is in (keeps numbers have.list files have.opened).descs held.desc (ap is_some desc.1))
-              ∙ ap (λ (p : List (Option Proc)). descriptors_by then.descs (places_in (proc_of (procs_at p kept.listed) pid))) (sym same_procs);
+              ∙ ap (λ (p : List (Option Proc)). descriptors_by then.descs (places_in (numbers_in old) (proc_of (procs_at p kept.listed) pid))) (sym same_procs);
           made = have.descriptors.made;
         };
       }

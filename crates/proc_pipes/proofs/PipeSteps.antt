@@ -4,7 +4,7 @@ use Rattle.kabi_types.specs.declared.classes.Class.TheVariants as class
 use Rattle.std.proofs.lemmas.List.{length-set}
 use Rattle.kheap_laws.proofs.OnceLemmas.{Contains-single}
 use Rattle.kheap_laws.proofs.TableLemmas.{OwnsItsObjects-along}
-use Rattle.kheap_slabs.specs.Counts.{with_count}
+use Rattle.kabi_types.specs.Counts.{with_count}
 use Rattle.kheap_slabs.specs.Objects.{object, put}
 use Rattle.kheap_slabs.specs.Purse.{Purse}
 use Rattle.kheap_slabs.specs.declared.objects.Access.TheVariants as mode

@@ -13,6 +13,7 @@ ghost use Rattle.posix_defs.specs.Files.Descriptions.{Description};
 ghost use Rattle.posix_defs.specs.Files.Descriptors.{Descriptors, lowest_free_from};
 ghost use Rattle.posix_defs.specs.Files.State.{Files, descriptors_of, with_open};
 ghost use Rattle.posix_defs.specs.Plain.{Plain};
+ghost use Rattle.kabi_types.specs.Arguments.{most_descriptors};
 ghost use Rattle.proc_table.specs.Table.{key_of};
 ghost use Rattle.proc_descs.specs.Having.{AreListed, HaveOpen, OpensNoNode, node_closed};
 ghost use Rattle.proc_descs.specs.Naming.{ChangesNumbers, named_at};
@@ -107,7 +108,7 @@ fn replace(
     requires owners { HasItsOwners heap.old [] }
     requires there { IsSome (key_of procs.now.listed pid) }
     requires names { named_at heap.old procs.now pid from ≡ Some held }
-    requires number { to < 32 }
+    requires number { to < most_descriptors }
     requires apart { from ≢ to }
     ensures opened { (numbers : Numbers) (files : Files) → HaveOpen numbers heap.old procs.now files
         → HaveOpen numbers heap.new procs.now
@@ -165,7 +166,7 @@ pub(crate) fn lowest_from(heap: &KHeap, procs: &ProcTable, pid: u32, from: u64) 
     requires there { IsSome (key_of procs.now.listed pid) }
     ensures lowest { (numbers : Numbers) (files : Files) → HaveOpen numbers heap.now procs.now files
         → lowest_free_from (descriptors_of files pid) from ≡ result }
-    ensures free { IfSome result (λ fd. (fd < 32) × (from ≤ fd) × (named_at heap.now procs.now pid fd ≡ None)) }
+    ensures free { IfSome result (λ fd. (fd < most_descriptors) × (from ≤ fd) × (named_at heap.now procs.now pid fd ≡ None)) }
 {
     let descs = Descs::of(places_of(heap, procs, pid));
     descs.lowest(first_from(from))
@@ -173,7 +174,7 @@ pub(crate) fn lowest_from(heap: &KHeap, procs: &ProcTable, pid: u32, from: u64) 
 
 // The number at which a search begins: one above all that a descriptor may have where it would begin there.
 fn first_from(from: u64) -> u32
-    ensures { (descriptors : Descriptors) → length descriptors ≡ 32
+    ensures { (descriptors : Descriptors) → length descriptors ≡ most_descriptors
         → lowest_free_from descriptors result ≡ lowest_free_from descriptors from }
 {
     if from < u64::from(MOST_DESCRIPTORS) {
@@ -189,7 +190,7 @@ pub fn share_at(heap: &mut KHeap, procs: &ProcTable, pid: u32, fd: u32, desc: u3
     requires owners { HasItsOwners heap.old [] }
     requires there { IsSome (key_of procs.now.listed pid) }
     requires used { InUse heap.old.descs desc }
-    requires number { fd < 32 }
+    requires number { fd < most_descriptors }
     requires free { named_at heap.old procs.now pid fd ≡ None }
     ensures opened { (numbers : Numbers) (files : Files) → HaveOpen numbers heap.old procs.now files
         → HaveOpen numbers heap.new procs.now

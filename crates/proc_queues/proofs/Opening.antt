@@ -24,7 +24,7 @@ use Rattle.proc_descs.specs.Having.{AreListed, HaveOpen, places_in}
 use Rattle.proc_descs.specs.Naming.{named_by}
 use Rattle.proc_descs.proofs.Listing.{found_before}
 use Rattle.proc_descs.proofs.Sums.{one_if, part_of_sum}
-use Rattle.proc_table.specs.Procs.{proc_of}
+use Rattle.proc_table.specs.Procs.{numbers_in, proc_of}
 use Rattle.proc_table.specs.Table.{TableView, key_of, processes}
 use Rattle.proc_table.proofs.PlaceLemmas.{eqb_same}
 use Rattle.proc_queues.specs.Found.{held_at, opened_in}
@@ -35,8 +35,8 @@ held_by number places (pos fd) = get_or-map (option_map (descriptor_by number)) 
 held_by number places (negsuc n) = refl
 
 -- what a number names of a process that is there
-pub named_held : (h : Heap) (kept : TableView) (pid : ℕ) (proc : Proc) (fd : ℤ) → proc_of (processes h kept) pid ≡ Some proc → named_by h kept pid fd ≡ held_at proc.descriptors fd
-named_held h kept pid proc (pos fd) is = ap (λ o. slice_index_or (places_in o) fd None) is
+pub named_held : (h : Heap) (kept : TableView) (pid : ℕ) (proc : Proc) (fd : ℤ) → proc_of (processes h kept) pid ≡ Some proc → named_by h kept pid fd ≡ held_at (numbers_in h proc) fd
+named_held h kept pid proc (pos fd) is = ap (λ o. slice_index_or (places_in (numbers_in h) o) fd None) is
 named_held h kept pid proc (negsuc n) is = refl
 
 names_some : (places : List (Option HeldDescriptor)) (fd : ℤ) (held : HeldDescriptor) → held_at places fd ≡ Some held → 0 < count_by (names_desc held.desc) places
@@ -56,26 +56,26 @@ described_so numbers h list files key desc are is =
 
 module _ (h : Heap) (kept : TableView) (pid key : ℕ) (proc : Proc) (listed : AreListed h kept) (named : key_of kept.listed pid ≡ Some key) (there : object h.procs key ≡ Some proc) where
   -- the Desc that a number names is there, and what it is open on
-  pub desc_there : HasItsOwners h [] → (fd : ℤ) (held : HeldDescriptor) → held_at proc.descriptors fd ≡ Some held
+  pub desc_there : HasItsOwners h [] → (fd : ℤ) (held : HeldDescriptor) → held_at (numbers_in h proc) fd ≡ Some held
       → (desc : Desc) × (object h.descs held.desc ≡ Some desc) × IsTargetIn h desc.target
   desc_there owners fd held is =
       named_there h [] held.desc owners
-      (let some = names_some proc.descriptors fd held is in let part = part_of_sum (namings_in held.desc) h.procs key proc there in omega (arith, some, part))
+      (let some = names_some (numbers_in h proc) fd held is in let part = part_of_sum (namings_in held.desc) h.procs key proc there in omega (arith, some, part))
 
-  pub descriptors_are : (numbers : Numbers) (files : Files) → HaveOpen numbers h kept files → descriptors_of files pid ≡ descriptors_by numbers.descs proc.descriptors
+  pub descriptors_are : (numbers : Numbers) (files : Files) → HaveOpen numbers h kept files → descriptors_of files pid ≡ descriptors_by numbers.descs (numbers_in h proc)
   descriptors_are numbers files have =
       have.descriptors.each pid
-      ∙ ap (λ o. descriptors_by numbers.descs (places_in o)) (found_before h.procs key proc proc there refl kept.listed pid listed.stored named)
+      ∙ ap (λ o. descriptors_by numbers.descs (places_in (numbers_in h) o)) (found_before h.procs key proc proc there refl kept.listed pid listed.stored named)
 
   descriptor_is : (numbers : Numbers) (files : Files) → HaveOpen numbers h kept files → (fd : ℤ)
-      → descriptor_of (descriptors_of files pid) fd ≡ option_map (descriptor_by numbers.descs) (held_at proc.descriptors fd)
-  descriptor_is numbers files have fd = ap (λ (d : Descriptors). descriptor_of d fd) (descriptors_are numbers files have) ∙ held_by numbers.descs proc.descriptors fd
+      → descriptor_of (descriptors_of files pid) fd ≡ option_map (descriptor_by numbers.descs) (held_at (numbers_in h proc) fd)
+  descriptor_is numbers files have fd = ap (λ (d : Descriptors). descriptor_of d fd) (descriptors_are numbers files have) ∙ held_by numbers.descs (numbers_in h proc) fd
 
-  pub none_opened : (numbers : Numbers) (files : Files) → HaveOpen numbers h kept files → (fd : ℤ) → held_at proc.descriptors fd ≡ None → opened_at files pid fd ≡ None
+  pub none_opened : (numbers : Numbers) (files : Files) → HaveOpen numbers h kept files → (fd : ℤ) → held_at (numbers_in h proc) fd ≡ None → opened_at files pid fd ≡ None
   none_opened numbers files have fd none =
       ap (opened_by files) (descriptor_is numbers files have fd ∙ ap (option_map (descriptor_by numbers.descs)) none)
 
-  pub some_opened : (numbers : Numbers) (files : Files) → HaveOpen numbers h kept files → (fd : ℤ) (held : HeldDescriptor) (desc : Desc) → held_at proc.descriptors fd ≡ Some held
+  pub some_opened : (numbers : Numbers) (files : Files) → HaveOpen numbers h kept files → (fd : ℤ) (held : HeldDescriptor) (desc : Desc) → held_at (numbers_in h proc) fd ≡ Some held
       → object h.descs held.desc ≡ Some desc → opened_at files pid fd ≡ Some (opened_in numbers (record { key = held.desc; desc = desc }))
   some_opened numbers files have fd held desc is found =
       ap (opened_by files) (descriptor_is numbers files have fd ∙ ap (option_map (descriptor_by numbers.descs)) is)

@@ -22,6 +22,7 @@ use Rattle.posix_defs.specs.Machine.{blocks}
 use Rattle.posix_defs.specs.Plain.{Plain}
 use Rattle.posix_defs.specs.declared.turner.Turned.TheVariants as turned
 use Rattle.proc_descs.specs.Having.{AreListed}
+use Rattle.proc_table.specs.Procs.{numbers_in}
 use Rattle.proc_table.specs.Table.{TableView, key_of}
 use Rattle.proc_queues.specs.Found.{held_at}
 use Rattle.proc_queues.specs.Standing.{IsKept, Leads, StandsFor}
@@ -30,11 +31,11 @@ use Rattle.proc_queues.proofs.Opening.{desc_there, held_by}
 
 -- what each number of a process names is there, if it names anything
 pub number_opens : (h : Heap) (kept : TableView) (pid key : ℕ) (proc : Proc) → AreListed h kept → key_of kept.listed pid ≡ Some key → object h.procs key ≡ Some proc → HasItsOwners h []
-    → (fd : ℤ) → IsOpenIn h (descriptor_of (descriptors_by (λ k. k) proc.descriptors) fd)
+    → (fd : ℤ) → IsOpenIn h (descriptor_of (descriptors_by (λ k. k) (numbers_in h proc)) fd)
 number_opens h kept pid key proc listed named there owners fd =
-    subst (IsOpenIn h) (sym (held_by (λ k. k) proc.descriptors fd)) (by_held (held_at proc.descriptors fd) refl)
+    subst (IsOpenIn h) (sym (held_by (λ k. k) (numbers_in h proc) fd)) (by_held (held_at (numbers_in h proc) fd) refl)
   where
-    by_held : (o : Option HeldDescriptor) → held_at proc.descriptors fd ≡ o → IsOpenIn h (option_map (λ (held : HeldDescriptor). record { description = held.desc; cloexec = held.close_on_exec }) o)
+    by_held : (o : Option HeldDescriptor) → held_at (numbers_in h proc) fd ≡ o → IsOpenIn h (option_map (λ (held : HeldDescriptor). record { description = held.desc; cloexec = held.close_on_exec }) o)
     by_held None is = tt
     by_held (Some held) is = desc_there h kept pid key proc listed named there owners fd held is
 

@@ -27,7 +27,7 @@ use Rattle.proc_descs.specs.Having.{HaveOpen, places_in}
 use Rattle.proc_descs.proofs.NumberCloses.{listed_on}
 use Rattle.proc_table.specs.Accounting.{HasAccount}
 use Rattle.proc_table.specs.Moves.{SpaceTurns}
-use Rattle.proc_table.specs.Procs.{memory_at, proc_of, process_of}
+use Rattle.proc_table.specs.Procs.{memory_at, numbers_in, proc_of, process_of}
 use Rattle.proc_table.specs.Standing.{IsTable}
 use Rattle.proc_table.specs.Table.{TableView, processes, procs_at}
 use Rattle.proc_table.proofs.AccountLemmas.{accounted_of}
@@ -137,7 +137,7 @@ module _ (mid : Heap) (before : Purse) (new : Heap) (after : Purse) (kept : Tabl
     list = have.list;
     opened = open_on numbers mid new have.list files files put_descs put_pipes put_socks put_chunks refl refl refl have.opened;
     descriptors = record {
-      each = λ q. have.descriptors.each q ∙ ap (λ (objects : List (Option Proc)). descriptors_by numbers.descs (places_in (proc_of (procs_at objects kept.listed) q))) (sym put_procs);
+      each = λ q. have.descriptors.each q ∙ ap (λ (objects : List (Option Proc)). descriptors_by numbers.descs (places_in (numbers_in mid) (proc_of (procs_at objects kept.listed) q))) (sym put_procs);
       made = have.descriptors.made;
     };
   }

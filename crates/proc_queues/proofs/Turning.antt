@@ -33,7 +33,7 @@ use Rattle.posix_defs.specs.Files.State.{Files, with_pipe}
 use Rattle.posix_defs.specs.Pipe.{Pipe}
 use Rattle.proc_descs.specs.Having.{HaveOpen, places_in}
 use Rattle.proc_descs.proofs.NumberCloses.{listed_on}
-use Rattle.proc_table.specs.Procs.{proc_of}
+use Rattle.proc_table.specs.Procs.{numbers_in, proc_of}
 use Rattle.proc_table.specs.Table.{TableView, processes, procs_at, with_procs}
 use Rattle.proc_table.proofs.LawLemmas.{elsewhere_holds}
 use Rattle.usock_core.specs.Standing.{IsHeldIn}
@@ -102,7 +102,7 @@ module _ (old new : Heap) (key : ℕ) (others : LeavesOthers old new key) where
         socketed = socketed_on numbers old new files.sockets same_socks others.socks have.opened.socketed;
       };
       descriptors = record {
-        each = λ pid. have.descriptors.each pid ∙ ap (λ (objects : List (Option Proc)). descriptors_by numbers.descs (places_in (proc_of (procs_at objects kept.listed) pid))) (sym same_procs);
+        each = λ pid. have.descriptors.each pid ∙ ap (λ (objects : List (Option Proc)). descriptors_by numbers.descs (places_in (numbers_in old) (proc_of (procs_at objects kept.listed) pid))) (sym same_procs);
         made = have.descriptors.made;
       };
     }

@@ -22,7 +22,8 @@ use Rattle.posix_defs.specs.Files.Descriptions.{Descriptions, OnSocket}
 use Rattle.posix_defs.specs.Files.Descriptors.{Descriptors}
 use Rattle.posix_defs.specs.Files.State.{Files, opened_as, with_open, with_sockets}
 use Rattle.posix_defs.specs.Sockets.{Sockets}
-use Rattle.proc_table.specs.Procs.{proc_of}
+use Rattle.kabi_types.specs.Arguments.{most_descriptors}
+use Rattle.proc_table.specs.Procs.{numbers_in, proc_of}
 use Rattle.proc_table.specs.Table.{TableView, processes}
 use Rattle.proc_table.proofs.PlaceLemmas.{eqb_same}
 use Rattle.proc_descs.specs.Having.{AreListed, HaveOpen, places_in}
@@ -82,11 +83,11 @@ named_used h kept hand listed named pid fd held is = by_proc (proc_of (processes
 
     by_proc : (o : Option Proc) → proc_of (processes h kept) pid ≡ o → InUse h.descs held.desc
     by_proc None none = absurd (
-        let nothing : None ≡ Some held = sym (nothing_open 32 fd) ∙ (sym (ap (λ o. slice_index_or (places_in o) fd None) none) ∙ is) in cc)
+        let nothing : None ≡ Some held = sym (nothing_open most_descriptors fd) ∙ (sym (ap (λ o. slice_index_or (places_in (numbers_in h) o) fd None) none) ∙ is) in cc)
     by_proc (Some proc) found =
         let at = found_by_pid h.procs kept.listed pid proc listed.stored found in
-        let slot : slice_index_or proc.descriptors fd None ≡ Some held = sym (ap (λ o. slice_index_or (places_in o) fd None) found) ∙ is in
-        let one = part_of_sum (λ o. one_if (names_desc held.desc o)) proc.descriptors fd held slot in
+        let slot : slice_index_or (numbers_in h proc) fd None ≡ Some held = sym (ap (λ o. slice_index_or (places_in (numbers_in h) o) fd None) found) ∙ is in
+        let one = part_of_sum (λ o. one_if (names_desc held.desc o)) (numbers_in h proc) fd held slot in
         let it = ap one_if (eqb_same held.desc held.desc refl) in
         let all = part_of_sum (namings_in held.desc) h.procs at.key proc at.there in
         let counts = named.counts held.desc in

@@ -1,7 +1,7 @@
 -- Two sockets are made, and then a Desc for each of them.
 use Rattle.std.proofs.Common.{◌≡◌, ◌≢◌, ℕ, ◌+◌, ◌-◌, ◌==◌, List, [], ◌∷◌, count_by, Option, None, Some, length, refl, sym, ap, subst, ◌∙◌, arith, length-append}
 use Rattle.kabi_types.specs.declared.classes.Class.TheVariants as class
-use Rattle.kheap_slabs.specs.Counts.{with_count}
+use Rattle.kabi_types.specs.Counts.{with_count}
 use Rattle.kheap_slabs.specs.Objects.{InUse, object, put}
 use Rattle.kheap_slabs.specs.Purse.{Purse}
 use Rattle.kheap_slabs.specs.declared.objects.Chunk.{Chunk}

@@ -4,7 +4,7 @@ ghost use Rattle.std.specs.Prelude.{◌≡◌, ◌-◌, ◌<◌, ℕ, ℤ, [], I
 ghost use Rattle.std.specs.List.{Contains};
 ghost use Rattle.kabi_types.specs.declared.scripts.Script.{Script};
 ghost use Rattle.kabi_types.specs.declared.classes.Class.TheVariants as class;
-ghost use Rattle.kheap_slabs.specs.Counts.{with_count};
+ghost use Rattle.kabi_types.specs.Counts.{with_count};
 ghost use Rattle.kheap_slabs.specs.Paid.{CanPay, IsPaid};
 ghost use Rattle.open_laws.specs.Owned.{HasItsOwners, socks_named};
 ghost use Rattle.place_laws.specs.Placed.{Numbers};

@@ -2,13 +2,14 @@
 
 ghost use Rattle.std.specs.Prelude.{◌≡◌, ◌-◌, ◌<◌, ℕ, List, [], ◌∷◌, IsSome, None, false};
 ghost use Rattle.kabi_types.specs.declared.classes.Class.TheVariants as class;
-ghost use Rattle.kheap_slabs.specs.Counts.{with_count};
+ghost use Rattle.kabi_types.specs.Counts.{with_count};
 ghost use Rattle.kheap_slabs.specs.Objects.{object, put};
 ghost use Rattle.kheap_slabs.specs.Paid.{CanPay, IsPaid};
 ghost use Rattle.open_laws.specs.Owned.{CountsItsNames, HasItsOwners};
 ghost use Rattle.place_laws.specs.Placed.{Numbers};
 ghost use Rattle.posix_defs.specs.Calls.OnSockets.{description_of};
 ghost use Rattle.posix_defs.specs.Files.State.{Files, opened_as};
+ghost use Rattle.kabi_types.specs.Arguments.{most_descriptors};
 ghost use Rattle.proc_table.specs.Table.{TableView, key_of};
 ghost use Rattle.proc_descs.specs.Having.{AreListed, HaveOpen, OpensNoNode};
 ghost use Rattle.proc_descs.specs.Naming.{ChangesNumbers, named_at};
@@ -33,7 +34,7 @@ pub(crate) fn open_on(
     requires listed { AreListed heap.old procs.now }
     requires there { IsSome (key_of procs.now.listed pid) }
     requires named { CountsItsNames heap.old [] }
-    requires number { fd < 32 }
+    requires number { fd < most_descriptors }
     requires free { named_at heap.old procs.now pid fd ≡ None }
     requires pays { CanPay heap.old purse.old }
     requires left { 0 < purse.old.left.desc }

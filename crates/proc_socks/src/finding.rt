@@ -11,6 +11,7 @@ ghost use Rattle.posix_defs.specs.Calls.Opened.{Opened};
 ghost use Rattle.posix_defs.specs.Files.Descriptors.{lowest_free_from};
 ghost use Rattle.posix_defs.specs.Files.State.{Files, descriptors_of};
 ghost use Rattle.posix_defs.specs.Plain.{Plain};
+ghost use Rattle.kabi_types.specs.Arguments.{most_descriptors};
 ghost use Rattle.proc_table.specs.Table.{key_of};
 ghost use Rattle.proc_descs.specs.Having.{AreListed, HaveOpen};
 ghost use Rattle.proc_descs.specs.Naming.{named_at};
@@ -87,7 +88,7 @@ pub(crate) fn lowest_from(heap: &KHeap, procs: &ProcTable, pid: u32, from: u32) 
     requires there { IsSome (key_of procs.now.listed pid) }
     ensures lowest { (numbers : Numbers) (files : Files) → HaveOpen numbers heap.now procs.now files
         → lowest_free_from (descriptors_of files pid) from ≡ result }
-    ensures free { IfSome result (λ fd. (fd < 32) × (from ≤ fd) × (named_at heap.now procs.now pid fd ≡ None)) }
+    ensures free { IfSome result (λ fd. (fd < most_descriptors) × (from ≤ fd) × (named_at heap.now procs.now pid fd ≡ None)) }
 {
     let descs = Descs::of(places_of(heap, procs, pid));
     descs.lowest(from)

@@ -3,7 +3,7 @@
 ghost use Rattle.std.specs.Prelude.{◌≡◌, ◌-◌, ◌<◌, ◌≤◌, [], ◌∷◌, IsSome, OnErr, OnOk};
 ghost use Rattle.kabi_types.specs.declared.scripts.Script.{Script};
 ghost use Rattle.kabi_types.specs.declared.classes.Class.TheVariants as class;
-ghost use Rattle.kheap_slabs.specs.Counts.{with_count};
+ghost use Rattle.kabi_types.specs.Counts.{with_count};
 ghost use Rattle.kheap_slabs.specs.Paid.{CanPay, IsPaid};
 ghost use Rattle.open_laws.specs.Owned.{HasItsOwners};
 ghost use Rattle.place_laws.specs.Placed.{Numbers};

@@ -19,4 +19,5 @@ pub mod AccountLemmas
 pub mod ChangedAccounts
 pub mod LawLemmas
 pub mod EndAll
+pub mod NumberLemmas
 pub mod OpenLemmas

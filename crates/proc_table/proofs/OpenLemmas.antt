@@ -19,7 +19,7 @@ use Rattle.open_laws.specs.Sharing.{CanShare, share_all}
 use Rattle.proc_table.specs.Changes.{after_wait, child_proc, cleared, ended, is_alone, is_other, left_behind, left_by, left_child, reaped_of, replaced, with_nodes}
 use Rattle.proc_table.specs.Moves.{IsForked, ProcTurns, SpaceTurns, TableMoves, sharing}
 use Rattle.proc_table.specs.Opening.{HaveOpen, HoldsBare}
-use Rattle.proc_table.specs.Procs.{HasClosed, HasNoneOpenOnce, IsLight, NoneOpen, first_proc, no_descriptors, no_nodes, proc_of}
+use Rattle.proc_table.specs.Procs.{HasClosed, HasNoneOpenOnce, IsLight, NoneOpen, OpensNone, first_proc, no_descriptors, no_nodes, numbers_in, proc_of}
 use Rattle.proc_table.specs.Table.{Holds, TableView, processes}
 use Rattle.proc_table.specs.declared.reaped.Reaped.{Reaped}
 use Rattle.proc_table.specs.declared.reaped.Reaped.TheVariants.{NoChild, Nobody, Took}
@@ -36,40 +36,40 @@ none_by : (number : ℕ → ℕ) → descriptors_by number no_descriptors ≡ no
 unfolding none_open
 none_by number = refl
 
-abbrev Placed : (ℕ → ℕ) → Files → Proc → Type 0
-Placed number files proc = descriptors_of files proc.pid ≡ descriptors_by number proc.descriptors
+abbrev Placed : Heap → (ℕ → ℕ) → Files → Proc → Type 0
+Placed h number files proc = descriptors_of files proc.pid ≡ descriptors_by number (numbers_in h proc)
 
 -- ---- each process goes, or keeps its pid and its descriptors
 
-pub have_through : (P : Proc → Type 0) (becomes : Proc → Option Proc) (procs : List Proc) (last : ℕ) (number : ℕ → ℕ) (files : Files)
-    → ((proc now : Proc) → becomes proc ≡ Some now → now.pid ≡ proc.pid) → ((proc now : Proc) → P proc → becomes proc ≡ Some now → now.descriptors ≡ proc.descriptors)
-    → ((proc : Proc) → P proc → becomes proc ≡ None → proc.descriptors ≡ no_descriptors) → AllByRecursion P procs
-    → HaveOpen procs last number files → HaveOpen (filter_map becomes procs) last number files
-have_through P becomes procs last number files pids keeps nothing all have = record {
-  placed = all_filter_map (λ proc. P proc × Placed number files proc) (Placed number files) becomes procs still (all_both P (Placed number files) procs all have.placed);
+pub have_through : (h : Heap) (P : Proc → Type 0) (becomes : Proc → Option Proc) (procs : List Proc) (last : ℕ) (number : ℕ → ℕ) (files : Files)
+    → ((proc now : Proc) → becomes proc ≡ Some now → now.pid ≡ proc.pid) → ((proc now : Proc) → P proc → becomes proc ≡ Some now → numbers_in h now ≡ numbers_in h proc)
+    → ((proc : Proc) → P proc → becomes proc ≡ None → OpensNone proc) → AllByRecursion P procs
+    → HaveOpen (numbers_in h) procs last number files → HaveOpen (numbers_in h) (filter_map becomes procs) last number files
+have_through h P becomes procs last number files pids keeps nothing all have = record {
+  placed = all_filter_map (λ proc. P proc × Placed h number files proc) (Placed h number files) becomes procs still (all_both P (Placed h number files) procs all have.placed);
   gone = λ q none. gone q (none_kept becomes procs q pids none);
   made = have.made;
 }
   where
-    still : (proc now : Proc) → P proc × Placed number files proc → becomes proc ≡ Some now → Placed number files now
+    still : (proc now : Proc) → P proc × Placed h number files proc → becomes proc ≡ Some now → Placed h number files now
     still proc now both is = ap (descriptors_of files) (pids proc now is) ∙ (both.1 ∙ ap (descriptors_by number) (sym (keeps proc now both.0 is)))
 
     gone : (q : ℕ) → (proc_of procs q ≡ None) ⊎ ((proc : Proc) × (proc_of procs q ≡ Some proc) × (becomes proc ≡ None)) → descriptors_of files q ≡ none_open
     gone q (inl none) = have.gone q none
     gone q (inr (proc, there, goes)) =
-        let placed : Placed number files proc = has_it (Placed number files) procs q proc have.placed there in
+        let placed : Placed h number files proc = has_it (Placed h number files) procs q proc have.placed there in
         ap (descriptors_of files) (sym (proc_has_pid procs q proc there))
         ∙ (placed ∙ (ap (descriptors_by number) (nothing proc (has_it P procs q proc all there) goes) ∙ none_by number))
 
 -- all of them stay
-pub have_changed : (P : Proc → Type 0) (change : Proc → Proc) (procs : List Proc) (last : ℕ) (number : ℕ → ℕ) (files : Files)
-    → ((proc : Proc) → (change proc).pid ≡ proc.pid) → ((proc : Proc) → P proc → (change proc).descriptors ≡ proc.descriptors) → AllByRecursion P procs
-    → HaveOpen procs last number files → HaveOpen (map change procs) last number files
-have_changed P change procs last number files pids keeps all have =
-    subst (λ (list : List Proc). HaveOpen list last number files) (all_changed change procs)
-    (have_through P (λ proc. Some (change proc)) procs last number files
+pub have_changed : (h : Heap) (P : Proc → Type 0) (change : Proc → Proc) (procs : List Proc) (last : ℕ) (number : ℕ → ℕ) (files : Files)
+    → ((proc : Proc) → (change proc).pid ≡ proc.pid) → ((proc : Proc) → P proc → numbers_in h (change proc) ≡ numbers_in h proc) → AllByRecursion P procs
+    → HaveOpen (numbers_in h) procs last number files → HaveOpen (numbers_in h) (map change procs) last number files
+have_changed h P change procs last number files pids keeps all have =
+    subst (λ (list : List Proc). HaveOpen (numbers_in h) list last number files) (all_changed change procs)
+    (have_through h P (λ proc. Some (change proc)) procs last number files
     (λ proc now is. ap (λ (p : Proc). p.pid) (sym (some_same (Some now) (change proc) now (sym is) refl)) ∙ pids proc)
-    (λ proc now its is. ap (λ (p : Proc). p.descriptors) (sym (some_same (Some now) (change proc) now (sym is) refl)) ∙ keeps proc its)
+    (λ proc now its is. ap (numbers_in h) (sym (some_same (Some now) (change proc) now (sym is) refl)) ∙ keeps proc its)
     (λ proc its is. absurd (cc)) all have)
 
 -- ---- other nodes
@@ -92,10 +92,10 @@ any : (procs : List Proc) → AllByRecursion (λ (p : Proc). Unit {0}) procs
 any [] = tt
 any (proc ∷ procs) = (tt, any procs)
 
-pub have_nodes : (pid : ℕ) (nodes : List (Option ℕ)) (procs : List Proc) (last : ℕ) (number : ℕ → ℕ) (files : Files)
-    → HaveOpen procs last number files → HaveOpen (map (with_nodes pid nodes) procs) last number files
-have_nodes pid nodes procs last number files =
-    have_changed (λ p. Unit {0}) (with_nodes pid nodes) procs last number files (with_nodes_pid pid nodes) (λ proc its. nodes_descriptors pid nodes proc) (any procs)
+pub have_nodes : (h : Heap) (pid : ℕ) (nodes : List (Option ℕ)) (procs : List Proc) (last : ℕ) (number : ℕ → ℕ) (files : Files)
+    → HaveOpen (numbers_in h) procs last number files → HaveOpen (numbers_in h) (map (with_nodes pid nodes) procs) last number files
+have_nodes h pid nodes procs last number files =
+    have_changed h (λ p. Unit {0}) (with_nodes pid nodes) procs last number files (with_nodes_pid pid nodes) (λ proc its. nodes_descriptors pid nodes proc) (any procs)
 
 -- ---- one ends
 
@@ -118,18 +118,18 @@ left_descriptors pid status proc now is = by_pid (proc.pid == pid) is
 abbrev Over : Proc → Type 0
 Over proc = HasNoneOpenOnce proc.status proc.descriptors
 
-left_nothing : (pid status : ℕ) (proc : Proc) → Over proc → left_behind pid status proc ≡ None → proc.descriptors ≡ no_descriptors
+left_nothing : (pid status : ℕ) (proc : Proc) → Over proc → left_behind pid status proc ≡ None → OpensNone proc
 left_nothing pid status proc over is = by_pid (proc.pid == pid) is
   where
-    child : (told : Option ℕ) → HasNoneOpenOnce told proc.descriptors → left_child told proc ≡ None → proc.descriptors ≡ no_descriptors
+    child : (told : Option ℕ) → HasNoneOpenOnce told proc.descriptors → left_child told proc ≡ None → OpensNone proc
     child None its e = absurd (cc)
     child (Some status) its e = its
 
-    by_parent : (b : Bool) → cond b (left_child proc.status proc) (Some proc) ≡ None → proc.descriptors ≡ no_descriptors
+    by_parent : (b : Bool) → cond b (left_child proc.status proc) (Some proc) ≡ None → OpensNone proc
     by_parent true e = child proc.status over e
     by_parent false e = absurd (cc)
 
-    by_pid : (b : Bool) → cond b (Some (record proc { status = Some status })) (cond (proc.parent == pid) (left_child proc.status proc) (Some proc)) ≡ None → proc.descriptors ≡ no_descriptors
+    by_pid : (b : Bool) → cond b (Some (record proc { status = Some status })) (cond (proc.parent == pid) (left_child proc.status proc) (Some proc)) ≡ None → OpensNone proc
     by_pid true e = absurd (cc)
     by_pid false e = by_parent (proc.parent == pid) e
 
@@ -143,14 +143,14 @@ over_cleared pid (proc ∷ procs) light = (
   over_cleared pid procs light.1,
 )
 
-have_left : (pid status : ℕ) (procs : List Proc) (last : ℕ) (number : ℕ → ℕ) (files : Files) → AllByRecursion IsLight procs
-    → HaveOpen procs last number files → HaveOpen (left_by pid status procs) last number files
-have_left pid status procs last number files light have =
-    have_through Over (left_behind pid status) (map (cleared pid) procs) last number files (left_pid pid status) (λ proc now over is. left_descriptors pid status proc now is)
-    (left_nothing pid status) (over_cleared pid procs light) (have_nodes pid no_nodes procs last number files have)
+have_left : (h : Heap) (pid status : ℕ) (procs : List Proc) (last : ℕ) (number : ℕ → ℕ) (files : Files) → AllByRecursion IsLight procs
+    → HaveOpen (numbers_in h) procs last number files → HaveOpen (numbers_in h) (left_by pid status procs) last number files
+have_left h pid status procs last number files light have =
+    have_through h Over (left_behind pid status) (map (cleared pid) procs) last number files (left_pid pid status) (λ proc now over is. left_descriptors pid status proc now is)
+    (left_nothing pid status) (over_cleared pid procs light) (have_nodes h pid no_nodes procs last number files have)
 
 abbrev Closed : ℕ → Proc → Type 0
-Closed pid proc = proc.pid ≡ pid → proc.descriptors ≡ no_descriptors
+Closed pid proc = proc.pid ≡ pid → OpensNone proc
 
 closed_cleared : (pid : ℕ) (procs : List Proc) → HasClosed procs pid → HasClosed (map (cleared pid) procs) pid
 closed_cleared pid [] closed = tt
@@ -163,11 +163,11 @@ closed_left pid status procs closed =
     (λ proc now its is own. left_descriptors pid status proc now is ∙ its (sym (left_pid pid status proc now is) ∙ own)) (closed_cleared pid procs closed)
 
 -- the process of a pid goes
-have_gone : (pid : ℕ) (procs : List Proc) (last : ℕ) (number : ℕ → ℕ) (files : Files) → HasClosed procs pid
-    → HaveOpen procs last number files → HaveOpen (filter (is_other pid) procs) last number files
-have_gone pid procs last number files closed have =
-    subst (λ (list : List Proc). HaveOpen list last number files) (filter_is (is_other pid) procs)
-    (have_through (Closed pid) (reaped pid) procs last number files (λ proc now is. ap (λ (p : Proc). p.pid) (reaped_pid pid proc now is))
+have_gone : (h : Heap) (pid : ℕ) (procs : List Proc) (last : ℕ) (number : ℕ → ℕ) (files : Files) → HasClosed procs pid
+    → HaveOpen (numbers_in h) procs last number files → HaveOpen (numbers_in h) (filter (is_other pid) procs) last number files
+have_gone h pid procs last number files closed have =
+    subst (λ (list : List Proc). HaveOpen (numbers_in h) list last number files) (filter_is (is_other pid) procs)
+    (have_through h (Closed pid) (reaped pid) procs last number files (λ proc now is. ap (λ (p : Proc). p.pid) (reaped_pid pid proc now is))
     (λ proc now its is. ap (λ (p : Proc). p.descriptors) (reaped_pid pid proc now is))
     (λ proc its is. its (own proc (proc.pid == pid) refl is)) closed have)
   where
@@ -176,23 +176,23 @@ have_gone pid procs last number files closed have =
     own proc false same is = absurd (cc)
 
 pub have_ended : (h : Heap) (kept : TableView) (pid status : ℕ) (number : ℕ → ℕ) (files : Files) → Holds h kept → HasClosed (processes h kept) pid
-    → HaveOpen (processes h kept) kept.last number files → HaveOpen (ended pid status (processes h kept)) kept.last number files
+    → HaveOpen (numbers_in h) (processes h kept) kept.last number files → HaveOpen (numbers_in h) (ended pid status (processes h kept)) kept.last number files
 have_ended h kept pid status number files holds closed have = by_case (is_alone pid (processes h kept))
   where
-    left : HaveOpen (left_by pid status (processes h kept)) kept.last number files
-    left = have_left pid status (processes h kept) kept.last number files holds.light have
+    left : HaveOpen (numbers_in h) (left_by pid status (processes h kept)) kept.last number files
+    left = have_left h pid status (processes h kept) kept.last number files holds.light have
 
-    by_case : (b : Bool) → HaveOpen (cond b (filter (is_other pid) (left_by pid status (processes h kept))) (left_by pid status (processes h kept))) kept.last number files
-    by_case true = have_gone pid (left_by pid status (processes h kept)) kept.last number files (closed_left pid status (processes h kept) closed) left
+    by_case : (b : Bool) → HaveOpen (numbers_in h) (cond b (filter (is_other pid) (left_by pid status (processes h kept))) (left_by pid status (processes h kept))) kept.last number files
+    by_case true = have_gone h pid (left_by pid status (processes h kept)) kept.last number files (closed_left pid status (processes h kept) closed) left
     by_case false = left
 
 -- ---- one is waited for
 
 pub have_waited : (h : Heap) (kept : TableView) (parent : ℕ) (which : _) (answer : Reaped) (number : ℕ → ℕ) (files : Files) → Holds h kept
-    → answer ≡ reaped_of parent which (processes h kept) → HaveOpen (processes h kept) kept.last number files → HaveOpen (after_wait answer (processes h kept)) kept.last number files
+    → answer ≡ reaped_of parent which (processes h kept) → HaveOpen (numbers_in h) (processes h kept) kept.last number files → HaveOpen (numbers_in h) (after_wait answer (processes h kept)) kept.last number files
 have_waited h kept parent which (Took pid status) number files holds is have =
     let over = took_ended h kept parent which pid status holds is in
-    have_gone pid (processes h kept) kept.last number files
+    have_gone h pid (processes h kept) kept.last number files
     (all_weaker (GoesLight pid) (Closed pid) (processes h kept) (λ proc goes. goes.closed)
     (goes_light (processes h kept) 0 pid over.proc over.status (rising_procs h.procs kept.listed 0 kept.last holds.stored holds.rising) over.there over.over holds.light)) have
 have_waited h kept parent which Nobody number files holds is have = have
@@ -207,14 +207,14 @@ replaced_pid pid now proc same = by_case (proc.pid == pid) refl
     by_case true own = same ∙ sym (eqb_is proc.pid pid own)
     by_case false own = refl
 
-pub have_replaced : (pid : ℕ) (was now : Proc) (procs : List Proc) (last : ℕ) (number : ℕ → ℕ) (files : Files) → now.pid ≡ pid → now.descriptors ≡ was.descriptors
-    → AllByRecursion (λ p. p.pid ≡ pid → p ≡ was) procs → HaveOpen procs last number files → HaveOpen (map (replaced pid now) procs) last number files
-have_replaced pid was now procs last number files own same only =
-    have_changed (λ p. p.pid ≡ pid → p ≡ was) (replaced pid now) procs last number files (λ proc. replaced_pid pid now proc own)
+pub have_replaced : (h : Heap) (pid : ℕ) (was now : Proc) (procs : List Proc) (last : ℕ) (number : ℕ → ℕ) (files : Files) → now.pid ≡ pid → numbers_in h now ≡ numbers_in h was
+    → AllByRecursion (λ p. p.pid ≡ pid → p ≡ was) procs → HaveOpen (numbers_in h) procs last number files → HaveOpen (numbers_in h) (map (replaced pid now) procs) last number files
+have_replaced h pid was now procs last number files own same only =
+    have_changed h (λ p. p.pid ≡ pid → p ≡ was) (replaced pid now) procs last number files (λ proc. replaced_pid pid now proc own)
     (λ proc its. by_case proc its (proc.pid == pid) refl) only
   where
-    by_case : (proc : Proc) → (proc.pid ≡ pid → proc ≡ was) → (b : Bool) → (proc.pid == pid) ≡ b → (cond b now proc).descriptors ≡ proc.descriptors
-    by_case proc its true is = same ∙ ap (λ (p : Proc). p.descriptors) (sym (its (eqb_is proc.pid pid is)))
+    by_case : (proc : Proc) → (proc.pid ≡ pid → proc ≡ was) → (b : Bool) → (proc.pid == pid) ≡ b → numbers_in h (cond b now proc) ≡ numbers_in h proc
+    by_case proc its true is = same ∙ ap (numbers_in h) (sym (its (eqb_is proc.pid pid is)))
     by_case proc its false is = refl
 
 -- ---- a child
@@ -236,13 +236,13 @@ heir_new : (files : Files) (pid : ℕ) → descriptors_of (with_heir files pid) 
 heir_new files pid = open_at (with_heir files pid) (length files.descriptors) ∙ get_or_at files.descriptors (descriptors_of files pid) [] none_open (length files.descriptors) refl
 
 pub have_forked : (old new : Heap) (was now : TableView) (pid child : ℕ) (number : ℕ → ℕ) (files : Files) → Holds old was → child ≡ was.last + 1 → IsForked old was new now pid child
-    → HaveOpen (processes old was) was.last number files → HaveOpen (processes new now) now.last number (with_heir files pid)
+    → HaveOpen (numbers_in old) (processes old was) was.last number files → HaveOpen (numbers_in new) (processes new now) now.last number (with_heir files pid)
 have_forked old new was now pid child number files holds next forked have = record {
-  placed = subst (AllByRecursion (Placed number (with_heir files pid))) (sym forked.processes_are)
-      (all_append (Placed number (with_heir files pid)) (processes old was) (its ∷ [])
-      (all_weaker (λ p. Placed number files p × ((0 < p.pid) × (p.pid ≤ was.last))) (Placed number (with_heir files pid)) (processes old was)
+  placed = subst (AllByRecursion (Placed old number (with_heir files pid))) (sym forked.processes_are)
+      (all_append (Placed old number (with_heir files pid)) (processes old was) (its ∷ [])
+      (all_weaker (λ p. Placed old number files p × ((0 < p.pid) × (p.pid ≤ was.last))) (Placed old number (with_heir files pid)) (processes old was)
       (λ p both. heir_other files pid p.pid (λ same. let low = both.1.1 in omega (arith, same, low, made)) ∙ both.0)
-      (all_both (Placed number files) (λ p. (0 < p.pid) × (p.pid ≤ was.last)) (processes old was) have.placed (pids_within old.procs was.listed 0 was.last holds.stored holds.rising)))
+      (all_both (Placed old number files) (λ p. (0 < p.pid) × (p.pid ≤ was.last)) (processes old was) have.placed (pids_within old.procs was.listed 0 was.last holds.stored holds.rising)))
       (child_placed, tt));
   gone = λ q none.
       let before = none_more (processes old was) its q (ap (λ (procs : List Proc). proc_of procs q) (sym forked.processes_are) ∙ none) in
@@ -256,20 +256,20 @@ have_forked old new was now pid child number files holds next forked have = reco
     made : length files.descriptors ≡ was.last
     made = have.made
 
-    parent_placed : descriptors_of files pid ≡ descriptors_by number forked.parent.descriptors
+    parent_placed : descriptors_of files pid ≡ descriptors_by number (numbers_in old forked.parent)
     parent_placed =
         ap (descriptors_of files) (sym (proc_has_pid (processes old was) pid forked.parent forked.parent_is))
-        ∙ has_it (Placed number files) (processes old was) pid forked.parent have.placed forked.parent_is
+        ∙ has_it (Placed old number files) (processes old was) pid forked.parent have.placed forked.parent_is
 
-    child_placed : descriptors_of (with_heir files pid) child ≡ descriptors_by number forked.parent.descriptors
+    child_placed : descriptors_of (with_heir files pid) child ≡ descriptors_by number (numbers_in old forked.parent)
     child_placed =
         let is : child ≡ suc (length files.descriptors) = omega (arith, next, made) in
         ap (descriptors_of (with_heir files pid)) is ∙ (heir_new files pid ∙ parent_placed)
 
 -- ---- at boot
 
-pub have_booted : (number : ℕ → ℕ) (blocks : ℕ) → HaveOpen (first_proc ∷ []) 1 number (boot_files blocks)
-have_booted number blocks = record { placed = (sym (none_by number), tt); gone = nothing; made = refl }
+pub have_booted : (h : Heap) (number : ℕ → ℕ) (blocks : ℕ) → HaveOpen (numbers_in h) (first_proc ∷ []) 1 number (boot_files blocks)
+have_booted h number blocks = record { placed = (sym (none_by number), tt); gone = nothing; made = refl }
   where
     nothing : (q : ℕ) → proc_of (first_proc ∷ []) q ≡ None → descriptors_of (boot_files blocks) q ≡ none_open
     nothing zero gone = refl
@@ -278,9 +278,6 @@ have_booted number blocks = record { placed = (sym (none_by number), tt); gone =
 
 -- ---- nothing is open
 
-abbrev Bare : Proc → Type 0
-Bare proc = proc.descriptors ≡ no_descriptors
-
 pub bare_nodes : (pid : ℕ) (nodes : List (Option ℕ)) (procs : List Proc) → NoneOpen procs → NoneOpen (map (with_nodes pid nodes) procs)
 bare_nodes pid nodes [] bare = tt
 bare_nodes pid nodes (proc ∷ procs) bare = (nodes_descriptors pid nodes proc ∙ bare.0, bare_nodes pid nodes procs bare.1)
@@ -288,13 +285,13 @@ bare_nodes pid nodes (proc ∷ procs) bare = (nodes_descriptors pid nodes proc �
 bare_gone : (pid : ℕ) (procs : List Proc) → NoneOpen procs → NoneOpen (filter (is_other pid) procs)
 bare_gone pid procs bare =
     subst NoneOpen (filter_is (is_other pid) procs)
-    (all_filter_map Bare Bare (reaped pid) procs (λ proc now its is. ap (λ (p : Proc). p.descriptors) (reaped_pid pid proc now is) ∙ its) bare)
+    (all_filter_map OpensNone OpensNone (reaped pid) procs (λ proc now its is. ap (λ (p : Proc). p.descriptors) (reaped_pid pid proc now is) ∙ its) bare)
 
 pub bare_ended : (pid status : ℕ) (procs : List Proc) → NoneOpen procs → NoneOpen (ended pid status procs)
 bare_ended pid status procs bare = by_case (is_alone pid procs)
   where
     left : NoneOpen (left_by pid status procs)
-    left = all_filter_map Bare Bare (left_behind pid status) (map (cleared pid) procs) (λ proc now its is. left_descriptors pid status proc now is ∙ its) (bare_nodes pid no_nodes procs bare)
+    left = all_filter_map OpensNone OpensNone (left_behind pid status) (map (cleared pid) procs) (λ proc now its is. left_descriptors pid status proc now is ∙ its) (bare_nodes pid no_nodes procs bare)
 
     by_case : (b : Bool) → NoneOpen (cond b (filter (is_other pid) (left_by pid status procs)) (left_by pid status procs))
     by_case true = bare_gone pid (left_by pid status procs) left
@@ -305,42 +302,42 @@ bare_waited (Took pid status) procs bare = bare_gone pid procs bare
 bare_waited Nobody procs bare = bare
 bare_waited NoChild procs bare = bare
 
-pub bare_replaced : (pid : ℕ) (now : Proc) (procs : List Proc) → now.descriptors ≡ no_descriptors → NoneOpen procs → NoneOpen (map (replaced pid now) procs)
+pub bare_replaced : (pid : ℕ) (now : Proc) (procs : List Proc) → OpensNone now → NoneOpen procs → NoneOpen (map (replaced pid now) procs)
 bare_replaced pid now [] its bare = tt
 bare_replaced pid now (proc ∷ procs) its bare = (by_case (proc.pid == pid), bare_replaced pid now procs its bare.1)
   where
-    by_case : (b : Bool) → (cond b now proc).descriptors ≡ no_descriptors
+    by_case : (b : Bool) → OpensNone (cond b now proc)
     by_case true = its
     by_case false = bare.0
 
 pub bare_forked : (pid child : ℕ) (nodes : List (Option ℕ)) (parent : Proc) (procs : List Proc) → proc_of procs pid ≡ Some parent → NoneOpen procs → NoneOpen (procs ++ child_proc parent child nodes ∷ [])
-bare_forked pid child nodes parent procs there bare = all_append Bare procs (child_proc parent child nodes ∷ []) bare (has_it Bare procs pid parent bare there, tt)
+bare_forked pid child nodes parent procs there bare = all_append OpensNone procs (child_proc parent child nodes ∷ []) bare (has_it OpensNone procs pid parent bare there, tt)
 
 pub bare_closed : (pid : ℕ) (procs : List Proc) → NoneOpen procs → HasClosed procs pid
-bare_closed pid procs bare = all_weaker Bare (Closed pid) procs (λ proc its own. its) bare
+bare_closed pid procs bare = all_weaker OpensNone (Closed pid) procs (λ proc its own. its) bare
 
 -- who has nothing open shares nothing
-pub bare_shares : (pid : ℕ) (parent : Proc) (procs : List Proc) (descs : List (Option Desc)) → proc_of procs pid ≡ Some parent → NoneOpen procs
-    → CanShare descs parent.descriptors × (share_all descs parent.descriptors ≡ descs)
-bare_shares pid parent procs descs there bare =
-    subst (λ (places : List (Option Descriptor)). CanShare descs places × (share_all descs places ≡ descs)) (sym (has_it Bare procs pid parent bare there))
+pub bare_shares : (h : Heap) (pid : ℕ) (parent : Proc) (procs : List Proc) (descs : List (Option Desc)) → proc_of procs pid ≡ Some parent → NoneOpen procs
+    → CanShare descs (numbers_in h parent) × (share_all descs (numbers_in h parent) ≡ descs)
+bare_shares h pid parent procs descs there bare =
+    subst (λ (places : List (Option Descriptor)). CanShare descs places × (share_all descs places ≡ descs)) (sym (has_it OpensNone procs pid parent bare there))
     (record { there = λ key some. absurd (omega (arith, some)); small = λ key some. absurd (omega (arith, some)) }, refl)
 
 pub bare_moves : (old new : Heap) (was now : TableView) (pid : ℕ) (parent : Proc) → proc_of (processes old was) pid ≡ Some parent → NoneOpen (processes old was)
-    → new.descs ≡ share_all old.descs parent.descriptors → TableMoves (sharing old new) was new now → TableMoves old was new now
+    → new.descs ≡ share_all old.descs (numbers_in old parent) → TableMoves (sharing old new) was new now → TableMoves old was new now
 bare_moves old new was now pid parent there bare shared moves =
-    subst (λ (d : List (Option Desc)). TableMoves (record old { descs = d }) was new now) (shared ∙ (bare_shares pid parent (processes old was) old.descs there bare).1) moves
+    subst (λ (d : List (Option Desc)). TableMoves (record old { descs = d }) was new now) (shared ∙ (bare_shares old pid parent (processes old was) old.descs there bare).1) moves
 
 -- ---- a process goes on
 
 pub have_turned : (old new : Heap) (kept : TableView) (pid key : ℕ) (proc now : Proc) (number : ℕ → ℕ) (files : Files) → Holds old kept → ProcTurns old new kept pid key proc now
-    → HaveOpen (processes old kept) kept.last number files → HaveOpen (processes new kept) kept.last number files
+    → HaveOpen (numbers_in old) (processes old kept) kept.last number files → HaveOpen (numbers_in new) (processes new kept) kept.last number files
 have_turned old new kept pid key proc now number files holds turns have =
     let named = key_of-proc old.procs kept.listed pid key holds.stored turns.found in
     let same : named.0 ≡ proc = some_same (object old.procs key) named.0 proc named.1 turns.there in
     let own : proc.pid ≡ pid = ap (λ (p : Proc). p.pid) (sym same) ∙ named.2 in
-    subst (λ (procs : List Proc). HaveOpen procs kept.last number files) (sym (on-procs old new kept pid key proc now holds turns))
-    (have_replaced pid proc now (processes old kept) kept.last number files (ap (λ (p : Proc). p.pid) turns.same ∙ own) (ap (λ (p : Proc). p.descriptors) turns.same)
+    subst (λ (procs : List Proc). HaveOpen (numbers_in old) procs kept.last number files) (sym (on-procs old new kept pid key proc now holds turns))
+    (have_replaced old pid proc now (processes old kept) kept.last number files (ap (λ (p : Proc). p.pid) turns.same ∙ own) (ap (numbers_in old) turns.same)
     (only_one (processes old kept) 0 pid proc (rising_procs old.procs kept.listed 0 kept.last holds.stored holds.rising) (named.3 ∙ ap Some same)) have)
 
 -- ---- a table without anything open

@@ -1,6 +1,7 @@
 -- The process that a call names, and whether a signal ends it.
 use Rattle.std.proofs.Common.{◌≡◌, ℕ, ◌==◌, ℤ, pos, negsuc, Bool, true, false, not, List, Option, None, Some, is_some, Result, Ok, refl, sym, ap, ◌∙◌}
 use Rattle.std.specs.Option.{option_map}
+use Rattle.kabi_types.specs.Arguments.{count_of}
 use Rattle.kabi_types.specs.declared.scripts.Script.{Script}
 use Rattle.kabi_types.specs.declared.errnos.Errno.{Errno}
 use Rattle.kheap_slabs.specs.Objects.{object}
@@ -29,7 +30,7 @@ key_of_target-none objects places (negsuc n) stored is = refl
 
 -- what the caller is answered is what the verdict on its target says
 pub kill_is : (script : Script) (plain : Plain) (h : Heap) (procs : List Proc) (pid : ℕ) (target signal : ℤ) → AreFrom h 1 plain.table procs
-    → kill script plain pid target signal ≡ answered_by script plain pid target (verdict signal (target_of procs target))
+    → kill script plain pid target signal ≡ answered_by script plain pid target signal (verdict signal (target_of procs target))
 kill_is script plain h procs pid (negsuc n) signal are = refl
 kill_is script plain h procs pid (pos number) signal are =
     ap (sent_to script plain pid number signal) (process_is h plain.table procs number are) ∙ by_case (proc_of procs number) refl
@@ -39,18 +40,18 @@ kill_is script plain h procs pid (pos number) signal are =
     runs_is proc (Some over) = refl
 
     ended : (proc : Proc) (status : Option ℕ) → proc.status ≡ status
-        → ends script plain pid number (process_of h proc) ≡ answered_by script plain pid (pos number) (Ok (not (is_some proc.status)))
+        → ends script plain pid number (count_of signal) (process_of h proc) ≡ answered_by script plain pid (pos number) signal (Ok (not (is_some proc.status)))
     ended proc None is = rw is refl
     ended proc (Some over) is = rw is refl
 
     asked : (proc : Proc) (asks first : Bool) → (number == 1) ≡ first → (proc.pid == 1) ≡ first → is_asking signal ≡ asks
-        → signalled script plain pid number signal (process_of h proc) ≡ answered_by script plain pid (pos number) (verdict signal (Some proc))
+        → signalled script plain pid number signal (process_of h proc) ≡ answered_by script plain pid (pos number) signal (verdict signal (Some proc))
     asked proc true first one same asks = rw asks refl
     asked proc false true one same asks = rw (asks, one, same) refl
     asked proc false false one same asks = rw (asks, one, same) (ended proc proc.status refl)
 
     by_case : (o : Option Proc) → proc_of procs number ≡ o
-        → sent_to script plain pid number signal (option_map (process_of h) o) ≡ answered_by script plain pid (pos number) (verdict signal o)
+        → sent_to script plain pid number signal (option_map (process_of h) o) ≡ answered_by script plain pid (pos number) signal (verdict signal o)
     by_case None is = refl
     by_case (Some proc) is =
         asked proc (is_asking signal) (number == 1) refl (ap (λ n. n == 1) (proc_has_pid procs number proc is)) refl
@@ -58,6 +59,6 @@ kill_is script plain h procs pid (pos number) signal are =
 -- and whatever it says
 pub kill_by_verdict : (script : Script) (plain : Plain) (h : Heap) (kept : TableView) (pid : ℕ) (target signal : ℤ) (said : Result Bool Errno)
     → said ≡ verdict signal (target_of (processes h kept) target) → IsTable h kept plain.table
-    → kill script plain pid target signal ≡ answered_by script plain pid target said
+    → kill script plain pid target signal ≡ answered_by script plain pid target signal said
 kill_by_verdict script plain h kept pid target signal said is table =
-    kill_is script plain h (processes h kept) pid target signal table.present ∙ ap (answered_by script plain pid target) (sym is)
+    kill_is script plain h (processes h kept) pid target signal table.present ∙ ap (answered_by script plain pid target signal) (sym is)

@@ -16,7 +16,7 @@ use Rattle.kheap_laws.proofs.OwnerLemmas.{IsOwned-same, IsOwned-space_from_front
 use Rattle.page_space.specs.Contents.{content_at, IsOwnedWith}
 use Rattle.proc_table.specs.Changes.{is_other, with_nodes}
 use Rattle.proc_table.specs.Moves.{MemoryStays, TableMoves}
-use Rattle.proc_table.specs.Procs.{IsLight, HasNoMemoryOnce, HasNoneOpenOnce, no_descriptors, proc_of}
+use Rattle.proc_table.specs.Procs.{IsLight, HasNoMemoryOnce, HasNoneOpenOnce, OpensNone, no_descriptors, proc_of}
 use Rattle.proc_table.specs.Table.{AreStored, Holds, TableView, key_of, keys_of, places_kept, processes, procs_at, with_procs}
 use Rattle.proc_table.specs.declared.places.Listed.{Listed}
 use Rattle.proc_table.proofs.PlaceLemmas.{Follows, IsAt, Misses, eqb_other, eqb_same, follows_keys, follows_one, follows_procs, follows_stored, key_of-misses, key_of-proc, object_missed, some_same, stored_is}
@@ -78,7 +78,7 @@ light_with (first ∷ procs) before pid proc nodes rising is runs light =
 pub record GoesLight (pid : ℕ) (proc : Proc) : Type 0 where
   pub light : IsLight proc
   pub empty : proc.pid ≡ pid → keys_in proc.nodes ≡ []
-  pub closed : proc.pid ≡ pid → proc.descriptors ≡ no_descriptors
+  pub closed : proc.pid ≡ pid → OpensNone proc
 
 empty_once : (status : Option ℕ) (nodes : List (Option ℕ)) (over : ℕ) → status ≡ Some over → HasNoMemoryOnce status nodes → keys_in nodes ≡ []
 empty_once None nodes over is memory = cc

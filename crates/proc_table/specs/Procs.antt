@@ -1,6 +1,7 @@
 -- Processes as they stand in the heap, by rising pid.
 use Rattle.std.specs.Prelude.{ℕ, ◌≡◌, ◌==◌, ℤ, pos, negsuc, if◌then◌else◌, List, [], ◌∷◌, map, replicate, Option, None, Some}
 use Rattle.std.specs.List.{AllByRecursion, range_with_len}
+use Rattle.kabi_types.specs.Arguments.{most_descriptors}
 use Rattle.kheap_slabs.specs.declared.objects.Descriptor.{Descriptor}
 use Rattle.kheap_slabs.specs.declared.objects.Proc.{Proc}
 use Rattle.kheap_slabs.specs.Heap.{Heap}
@@ -14,6 +15,14 @@ use Rattle.kheap_slabs.specs.Spaces.{keys_in}
 abbrev pub status_of : Option ℕ → Status
 status_of None = Alive
 status_of (Some status) = Ended status
+
+-- what a process has open, by number
+abbrev pub numbers_in : Heap → Proc → List (Option Descriptor)
+numbers_in h proc = proc.descriptors
+
+-- the process, where other numbers are open in it
+abbrev pub with_numbers : Proc → List (Option Descriptor) → Proc
+with_numbers proc numbers = record proc { descriptors = numbers }
 
 -- the bytes of each page of a space, by its number
 unfoldable pub memory_at : Heap → List (Option ℕ) → Memory
@@ -52,7 +61,7 @@ no_nodes = None ∷ None ∷ None ∷ None ∷ []
 
 -- no descriptor is open
 abbrev pub no_descriptors : List (Option Descriptor)
-no_descriptors = replicate 32 None
+no_descriptors = replicate most_descriptors None
 
 -- the process that was not forked, as it is at boot: at the beginning of a program, without memory
 abbrev pub first_proc : Proc
@@ -65,6 +74,10 @@ first_proc = record {
   descriptors = no_descriptors;
   nodes = no_nodes;
 }
+
+-- no number is open in the process
+abbrev pub OpensNone : Proc → Type 0
+OpensNone proc = proc.descriptors ≡ no_descriptors
 
 -- the space is empty where the process has ended
 abbrev pub HasNoMemoryOnce : Option ℕ → List (Option ℕ) → Type 0
@@ -83,8 +96,8 @@ pub record IsLight (proc : Proc) : Type 0 where
 
 -- the process of that pid has no descriptor open
 abbrev pub HasClosed : List Proc → ℕ → Type 0
-HasClosed procs pid = AllByRecursion (λ proc. proc.pid ≡ pid → proc.descriptors ≡ no_descriptors) procs
+HasClosed procs pid = AllByRecursion (λ proc. proc.pid ≡ pid → OpensNone proc) procs
 
 -- and no process has
 abbrev pub NoneOpen : List Proc → Type 0
-NoneOpen procs = AllByRecursion (λ proc. proc.descriptors ≡ no_descriptors) procs
+NoneOpen procs = AllByRecursion OpensNone procs

@@ -1,5 +1,6 @@
 -- Which table of the plain machine the processes are, and what its calls answer.
 use Rattle.std.specs.Prelude.{ℕ, zero, suc, ◌+◌, ◌≡◌, ◌==◌, ◌||◌, not, ℤ, pos, negsuc, Bool, true, false, if◌then◌else◌, List, [], ◌∷◌, ◌++◌, length, None, Some, Result, Ok, Err}
+use Rattle.kabi_types.specs.Arguments.{count_of}
 use Rattle.kabi_types.specs.declared.errnos.Errno.{Errno}
 use Rattle.kabi_types.specs.declared.errnos.Errno.TheVariants.{ECHILD}
 use Rattle.kabi_types.specs.declared.replies.Reply.TheVariants.{Val, Waited}
@@ -71,10 +72,10 @@ pid_of (pos pid) = pid
 pid_of (negsuc _) = 0
 
 -- what the caller of `kill` is answered by a verdict on its target
-abbrev pub answered_by : Script → Plain → ℕ → ℤ → Result Bool Errno → Answer
-answered_by script plain pid target (Err errno) = failed script plain pid errno
-answered_by script plain pid target (Ok false) = replied script plain pid (Val (pos 0))
-answered_by script plain pid target (Ok true) = struck script plain pid (pid_of target)
+abbrev pub answered_by : Script → Plain → ℕ → ℤ → ℤ → Result Bool Errno → Answer
+answered_by script plain pid target signal (Err errno) = failed script plain pid errno
+answered_by script plain pid target signal (Ok false) = replied script plain pid (Val (pos 0))
+answered_by script plain pid target signal (Ok true) = struck script plain pid (pid_of target) (count_of signal)
 
 -- what the caller of `fork` is answered
 abbrev pub answered_fork : Script → Plain → ℕ → Result ℕ Errno → Answer

@@ -23,7 +23,7 @@ ghost use Rattle.open_laws.specs.Sharing.{CanShare, share_all};
 ghost use Rattle.proc_table.specs.Changes.{after_wait, child_proc, ended, forked_as, is_other, reaped_of, replaced, with_nodes};
 ghost use Rattle.proc_table.specs.Moves.{IsForked, MemoryStays, ProcTurns, SpaceTurns, TableMoves, sharing};
 ghost use Rattle.proc_table.specs.Opening.{HaveOpen};
-ghost use Rattle.proc_table.specs.Procs.{HasClosed, NoneOpen, first_proc, memory_at, no_descriptors, proc_of, process_of};
+ghost use Rattle.proc_table.specs.Procs.{HasClosed, NoneOpen, OpensNone, first_proc, memory_at, numbers_in, proc_of, process_of};
 ghost use Rattle.proc_table.specs.Standing.{IsTable, answered_fork, answered_wait, ends_from, ends_in, found_in};
 ghost use Rattle.proc_table.specs.Table.{Holds, TableView, key_of, processes, with_procs};
 ghost use Rattle.proc_table.specs.declared.reaped.Reaped.{Reaped};
@@ -112,35 +112,35 @@ pub fn the_table_answers_as_the_machine()
 /// nothing open ends, where one is waited for, where memory is another, and where a process goes on. Only a fork makes the
 /// machine's descriptors others: the child has those of its parent.
 pub fn descriptors_go_on()
-    ensures booted { (number : ℕ → ℕ) (blocks : ℕ) → HaveOpen (first_proc ∷ []) 1 number (boot_files blocks) }
+    ensures booted { (h : Heap) (number : ℕ → ℕ) (blocks : ℕ) → HaveOpen (numbers_in h) (first_proc ∷ []) 1 number (boot_files blocks) }
     ensures forked { (old : Heap) (new : Heap) (was : TableView) (now : TableView) (pid : ℕ) (child : ℕ) (number : ℕ → ℕ) (files : Files)
         → Holds old was → child ≡ was.last + 1 → IsForked old was new now pid child
-        → HaveOpen (processes old was) was.last number files
-        → HaveOpen (processes new now) now.last number (with_heir files pid) }
+        → HaveOpen (numbers_in old) (processes old was) was.last number files
+        → HaveOpen (numbers_in new) (processes new now) now.last number (with_heir files pid) }
     ensures ended { (h : Heap) (kept : TableView) (pid : ℕ) (status : ℕ) (number : ℕ → ℕ) (files : Files)
-        → Holds h kept → HasClosed (processes h kept) pid → HaveOpen (processes h kept) kept.last number files
-        → HaveOpen (ended pid status (processes h kept)) kept.last number files }
+        → Holds h kept → HasClosed (processes h kept) pid → HaveOpen (numbers_in h) (processes h kept) kept.last number files
+        → HaveOpen (numbers_in h) (ended pid status (processes h kept)) kept.last number files }
     ensures waited { (h : Heap) (kept : TableView) (parent : ℕ) (which : ℤ) (answer : Reaped) (number : ℕ → ℕ) (files : Files)
         → Holds h kept → answer ≡ reaped_of parent which (processes h kept)
-        → HaveOpen (processes h kept) kept.last number files
-        → HaveOpen (after_wait answer (processes h kept)) kept.last number files }
-    ensures remembers { (pid : ℕ) (nodes : List (Option ℕ)) (procs : List Proc) (last : ℕ) (number : ℕ → ℕ) (files : Files)
-        → HaveOpen procs last number files → HaveOpen (map (with_nodes pid nodes) procs) last number files }
+        → HaveOpen (numbers_in h) (processes h kept) kept.last number files
+        → HaveOpen (numbers_in h) (after_wait answer (processes h kept)) kept.last number files }
+    ensures remembers { (h : Heap) (pid : ℕ) (nodes : List (Option ℕ)) (procs : List Proc) (last : ℕ) (number : ℕ → ℕ) (files : Files)
+        → HaveOpen (numbers_in h) procs last number files → HaveOpen (numbers_in h) (map (with_nodes pid nodes) procs) last number files }
     ensures turned { (old : Heap) (new : Heap) (kept : TableView) (pid : ℕ) (key : ℕ) (proc : Proc) (now : Proc) (number : ℕ → ℕ) (files : Files)
         → Holds old kept → ProcTurns old new kept pid key proc now
-        → HaveOpen (processes old kept) kept.last number files
-        → HaveOpen (processes new kept) kept.last number files }
+        → HaveOpen (numbers_in old) (processes old kept) kept.last number files
+        → HaveOpen (numbers_in new) (processes new kept) kept.last number files }
 {}
 
 /// Where no process has a descriptor open none has one after any call, any may end, and a fork shares nothing.
 pub fn nothing_open_stays_nothing_open()
     ensures closed { (pid : ℕ) (procs : List Proc) → NoneOpen procs → HasClosed procs pid }
-    ensures shares { (pid : ℕ) (parent : Proc) (procs : List Proc) (descs : List (Option Desc))
+    ensures shares { (h : Heap) (pid : ℕ) (parent : Proc) (procs : List Proc) (descs : List (Option Desc))
         → proc_of procs pid ≡ Some parent → NoneOpen procs
-        → CanShare descs parent.descriptors × (share_all descs parent.descriptors ≡ descs) }
+        → CanShare descs (numbers_in h parent) × (share_all descs (numbers_in h parent) ≡ descs) }
     ensures moves { (old : Heap) (new : Heap) (was : TableView) (now : TableView) (pid : ℕ) (parent : Proc)
         → proc_of (processes old was) pid ≡ Some parent → NoneOpen (processes old was)
-        → new.descs ≡ share_all old.descs parent.descriptors
+        → new.descs ≡ share_all old.descs (numbers_in old parent)
         → TableMoves (sharing old new) was new now → TableMoves old was new now }
     ensures forked { (pid : ℕ) (child : ℕ) (nodes : List (Option ℕ)) (parent : Proc) (procs : List Proc)
         → proc_of procs pid ≡ Some parent → NoneOpen procs → NoneOpen (procs ++ child_proc parent child nodes ∷ []) }
@@ -149,5 +149,5 @@ pub fn nothing_open_stays_nothing_open()
     ensures remembers { (pid : ℕ) (nodes : List (Option ℕ)) (procs : List Proc)
         → NoneOpen procs → NoneOpen (map (with_nodes pid nodes) procs) }
     ensures replaced { (pid : ℕ) (now : Proc) (procs : List Proc)
-        → now.descriptors ≡ no_descriptors → NoneOpen procs → NoneOpen (map (replaced pid now) procs) }
+        → OpensNone now → NoneOpen procs → NoneOpen (map (replaced pid now) procs) }
 {}

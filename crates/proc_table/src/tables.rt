@@ -4,7 +4,7 @@ ghost use Rattle.std.specs.Option.{option_copied, option_map};
 ghost use Rattle.kabi_types.specs.Class.{size};
 ghost use Rattle.kabi_types.specs.declared.classes.Class.TheVariants as class;
 ghost use Rattle.kabi_types.specs.declared.scripts.Script.{Script};
-ghost use Rattle.kheap_slabs.specs.Counts.{with_count};
+ghost use Rattle.kabi_types.specs.Counts.{with_count};
 ghost use Rattle.kheap_slabs.specs.Objects.{object, InUse};
 ghost use Rattle.kheap_slabs.specs.declared.objects.Proc.{Proc as HeldProc};
 ghost use Rattle.kheap_slabs.specs.Heap.{Heap, live_bytes, Makes};
@@ -18,7 +18,7 @@ ghost use Rattle.proc_table.specs.Accounting.{HasAccount, forked_account};
 ghost use Rattle.proc_table.specs.Changes.{after_wait, cleared, ended, forked_as, child_proc, is_alone, is_full_at, is_other, is_wanted, left_behind, reaped_of, told_of, verdict};
 ghost use Rattle.open_laws.specs.Sharing.{CanShare, share_all};
 ghost use Rattle.proc_table.specs.Moves.{IsAdded, IsForked, MemoryStays, TableMoves, sharing};
-ghost use Rattle.proc_table.specs.Procs.{HasClosed, HasEnded, IsAlive, first_proc, proc_of, target_of};
+ghost use Rattle.proc_table.specs.Procs.{HasClosed, HasEnded, IsAlive, first_proc, numbers_in, proc_of, target_of};
 ghost use Rattle.proc_table.specs.Standing.{IsTable, answered_by, cleared_in, ends_in, forked_in, found_in, waited_in};
 ghost use Rattle.proc_table.specs.Table.{AreBetween, AreStored, Holds, key_of, key_of_target, no_table, objects_after, places_kept, processes};
 
@@ -181,7 +181,7 @@ impl ProcTable {
         requires left_proc { 0 < purse.old.left.proc }
         requires left_nodes { 4 ≤ purse.old.left.node }
         requires shares { (parent : HeldProc) → proc_of (processes heap.old self.old) pid ≡ Some parent
-            → CanShare heap.old.descs parent.descriptors }
+            → CanShare heap.old.descs (numbers_in heap.old parent) }
         ensures answer { result ≡ forked_as (length self.old.listed) self.old.last }
         ensures child { IfOk result (λ child. IsForked heap.old self.old heap.new self.new pid child) }
         ensures unchanged { OnErr result ((heap.new ≡ heap.old) × (self.new ≡ self.old) × (purse.new ≡ purse.old)) }
@@ -189,7 +189,7 @@ impl ProcTable {
         ensures account { (frames : Frames) → HasAccount heap.old self.old frames → HasAccount heap.new self.new (forked_account frames pid result) }
         ensures moves { TableMoves (sharing heap.old heap.new) self.old heap.new self.new }
         ensures shared { OnOk result ((parent : HeldProc) → proc_of (processes heap.old self.old) pid ≡ Some parent
-            → heap.new.descs ≡ share_all heap.old.descs parent.descriptors) }
+            → heap.new.descs ≡ share_all heap.old.descs (numbers_in heap.old parent)) }
         ensures paid { IsPaid heap.old purse.old heap.new purse.new }
         ensures exact { PaysExactly class.Node heap.old purse.old heap.new purse.new }
         ensures spent { OnOk result (purse.new ≡ record purse.old {
@@ -361,7 +361,7 @@ impl ProcTable {
         requires { Holds heap.now self.now }
         ensures verdict { result ≡ verdict signal (target_of (processes heap.now self.now) target) }
         ensures kill { (script : Script) (plain : Plain) → IsTable heap.now self.now plain.table
-            → kill script plain _pid target signal ≡ answered_by script plain _pid target result }
+            → kill script plain _pid target signal ≡ answered_by script plain _pid target signal result }
     {
         judge(self.target(heap, target), signal)
     }

@@ -16,7 +16,7 @@ use Rattle.proc_descs.specs.Having.{AreListed}
 use Rattle.proc_names.specs.Ending.{ClosesEach}
 use Rattle.holding_laws.specs.Names.{AreBound, name_of}
 use Rattle.proc_table.specs.Accounting.{HasAccount}
-use Rattle.proc_table.specs.Procs.{IsAlive, IsLight, no_descriptors, proc_of, process_of}
+use Rattle.proc_table.specs.Procs.{IsAlive, IsLight, no_descriptors, proc_of, process_of, with_numbers}
 use Rattle.proc_table.specs.Standing.{AreFrom, IsTable}
 use Rattle.proc_table.specs.Table.{Holds, TableView, processes, procs_at}
 use Rattle.proc_table.proofs.AccountLemmas.{becomes_account}
@@ -50,14 +50,14 @@ module _ (old new : Heap) (kept : TableView) (pid : ℕ) (holds : Holds old kept
       let named = key_of-proc old.procs kept.listed pid at holds.stored closes.changes.named in
       ap (λ (p : Proc). p.pid) (some_same (object old.procs at) was named.0 closes.changes.there named.1) ∙ named.2
 
-  empties : new.procs ≡ put old.procs at (record was { descriptors = no_descriptors })
-  empties = closes.changes.procs ∙ ap (λ (places : List (Option HeldDescriptor)). put old.procs at (record was { descriptors = places })) closes.none
+  empties : new.procs ≡ put old.procs at (with_numbers was no_descriptors)
+  empties = closes.changes.procs ∙ ap (λ (places : List (Option HeldDescriptor)). put old.procs at (with_numbers was places)) closes.none
 
   follows : Follows becomes old.procs new.procs kept.listed
   follows = subst (λ procs. Follows becomes old.procs procs kept.listed) (sym empties)
-      (follows_one becomes old.procs at pid was (Some (record was { descriptors = no_descriptors })) kept.listed 0 kept.last
+      (follows_one becomes old.procs at pid was (Some (with_numbers was no_descriptors)) kept.listed 0 kept.last
       (λ proc apart. ap Some (shut_other pid proc apart)) closes.changes.there
-      (ap (λ b. Some (cond b (record was { descriptors = no_descriptors }) was)) (eqb_same was.pid pid has_pid)) holds.stored holds.rising closes.changes.named)
+      (ap (λ b. Some (cond b (with_numbers was no_descriptors) was)) (eqb_same was.pid pid has_pid)) holds.stored holds.rising closes.changes.named)
 
   pub shut_procs : processes new kept ≡ map (shut pid) (processes old kept)
   shut_procs =
@@ -84,7 +84,7 @@ module _ (old new : Heap) (kept : TableView) (pid : ℕ) (holds : Holds old kept
       in_heap : (proc : Proc) → process_of new proc ≡ process_of old proc
       in_heap proc = process_of-same old new proc (λ page. content_kept old new proc.nodes page same_nodes same_pages)
 
-      by_pid : (proc : Proc) (b : Bool) → process_of new (cond b (record proc { descriptors = no_descriptors }) proc) ≡ process_of old proc
+      by_pid : (proc : Proc) (b : Bool) → process_of new (cond b (with_numbers proc no_descriptors) proc) ≡ process_of old proc
       by_pid proc true = in_heap proc
       by_pid proc false = in_heap proc
 
@@ -123,7 +123,7 @@ alive_shut procs now pid is alive = record {
   runs = by_pid (alive.proc.pid == pid) ∙ alive.runs;
 }
   where
-    by_pid : (b : Bool) → (cond b (record alive.proc { descriptors = no_descriptors }) alive.proc).status ≡ alive.proc.status
+    by_pid : (b : Bool) → (cond b (with_numbers alive.proc no_descriptors) alive.proc).status ≡ alive.proc.status
     by_pid true = refl
     by_pid false = refl
 

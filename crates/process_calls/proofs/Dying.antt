@@ -6,7 +6,7 @@ use Rattle.std.proofs.lemmas.Bool.Decides.{eqb_tells}
 use Rattle.kabi_types.specs.declared.scripts.Script.{Script}
 use Rattle.kabi_types.specs.declared.classes.Class.{Class}
 use Rattle.kabi_types.specs.declared.classes.Class.TheVariants as class
-use Rattle.kheap_slabs.specs.Counts.{counted}
+use Rattle.kabi_types.specs.Counts.{counted}
 use Rattle.kheap_slabs.specs.Purse.{Purse}
 use Rattle.kheap_slabs.specs.declared.objects.Proc.{Proc}
 use Rattle.kheap_slabs.specs.Heap.{IsWellFormed, counts_of}

@@ -15,7 +15,7 @@ use Rattle.holding_laws.specs.Holders.{holders}
 use Rattle.proc_table.specs.Changes.{ended, is_other}
 use Rattle.proc_table.specs.Moves.{TableMoves}
 use Rattle.proc_table.specs.Opening.{HaveOpen as TableOpen}
-use Rattle.proc_table.specs.Procs.{HasClosed, no_descriptors, proc_of}
+use Rattle.proc_table.specs.Procs.{HasClosed, no_descriptors, numbers_in, proc_of, with_numbers}
 use Rattle.proc_table.proofs.OpenLemmas.{have_ended}
 use Rattle.proc_table.proofs.PlaceLemmas.{eqb_other}
 use Rattle.store_objects.specs.declared.objects.Objects.{Objects}
@@ -38,11 +38,11 @@ opens_ended script mid new pid status numbers files kept closed moves is last ha
   list = have.list;
   opened = open_on numbers mid.heap new.heap have.list files files (ap (λ (h : Heap). h.descs) moves.kept) (ap (λ (h : Heap). h.pipes) moves.kept)
       (ap (λ (h : Heap). h.socks) moves.kept) (ap (λ (h : Heap). h.chunks) moves.kept) refl refl refl have.opened;
-  descriptors = by_pids numbers.descs (procs_of new) new.procs.last files
-      (subst (λ procs. TableOpen procs new.procs.last numbers.descs files) (sym is)
-      (subst (λ n. TableOpen (ended pid status (procs_of mid)) n numbers.descs files) (sym last)
+  descriptors = by_pids new.heap numbers.descs (procs_of new) new.procs.last files
+      (subst (λ procs. TableOpen (numbers_in new.heap) procs new.procs.last numbers.descs files) (sym is)
+      (subst (λ n. TableOpen (numbers_in mid.heap) (ended pid status (procs_of mid)) n numbers.descs files) (sym last)
       (have_ended mid.heap mid.procs pid status numbers.descs files kept.holds closed
-      (by_procs numbers.descs (procs_of mid) mid.procs.last files (rising_in script mid kept) have.descriptors))));
+      (by_procs mid.heap numbers.descs (procs_of mid) mid.procs.last files (rising_in script mid kept) have.descriptors))));
 }
 
 -- ---- where it worked
@@ -59,9 +59,9 @@ shut_work pid (proc ∷ procs) = by_pid (proc.pid == pid) refl (shut_work pid pr
     others = filter (is_other pid) procs
 
     by_pid : (b : Bool) → (proc.pid == pid) ≡ b → directories_in rest ≡ directories_in others
-        → directories_in (cond (is_other pid (cond b (record proc { descriptors = no_descriptors }) proc)) (cond b (record proc { descriptors = no_descriptors }) proc ∷ rest) rest)
+        → directories_in (cond (is_other pid (cond b (with_numbers proc no_descriptors) proc)) (cond b (with_numbers proc no_descriptors) proc ∷ rest) rest)
         ≡ directories_in (cond (not b) (proc ∷ others) others)
-    by_pid true e same = ap (λ b. directories_in (cond (not b) (record proc { descriptors = no_descriptors } ∷ rest) rest)) e ∙ same
+    by_pid true e same = ap (λ b. directories_in (cond (not b) (with_numbers proc no_descriptors ∷ rest) rest)) e ∙ same
     by_pid false e same = ap (λ b. directories_in (cond (not b) (proc ∷ rest) rest)) e ∙ ap (behind proc) same
 
 -- so all others hold what they held, and it holds its directory no more

@@ -13,7 +13,7 @@ use Rattle.posix_defs.specs.Memory.{Frames, after_clear}
 use Rattle.posix_defs.specs.Process.{Table, is_alive, is_alive_in, runs}
 use Rattle.posix_defs.specs.Reaching.{ends_node}
 use Rattle.proc_descs.specs.Having.{HaveOpen, places_in}
-use Rattle.proc_table.specs.Procs.{IsAlive, IsLight, no_descriptors, proc_of, process_of, status_of}
+use Rattle.proc_table.specs.Procs.{IsAlive, IsLight, no_descriptors, numbers_in, proc_of, process_of, status_of}
 use Rattle.proc_table.specs.Standing.{IsTable, ends_from, ends_in}
 use Rattle.proc_table.specs.Table.{Holds}
 use Rattle.proc_table.proofs.AccountLemmas.{pids_within}
@@ -147,12 +147,12 @@ unopened numbers objects files holds have pid not_running =
     over (Some at) e = (at, refl)
 
     by_proc : (o : Option Proc) → proc_of (procs_of objects) pid ≡ o
-        → descriptors_by numbers.descs (places_in (proc_of (procs_of objects) pid)) ≡ descriptors_by numbers.descs no_descriptors
-    by_proc None none = ap (λ o. descriptors_by numbers.descs (places_in o)) none
+        → descriptors_by numbers.descs (places_in (numbers_in objects.heap) (proc_of (procs_of objects) pid)) ≡ descriptors_by numbers.descs no_descriptors
+    by_proc None none = ap (λ o. descriptors_by numbers.descs (places_in (numbers_in objects.heap) o)) none
     by_proc (Some proc) is =
         let light : IsLight proc = has_it IsLight (procs_of objects) pid proc holds.light is in
         let ended = over proc.status (sym (running_as (procs_of objects) pid proc (is_some proc.status) is refl) ∙ not_running) in
-        ap (λ o. descriptors_by numbers.descs (places_in o)) is ∙ ap (descriptors_by numbers.descs) (closed_once proc.status proc.descriptors ended.0 ended.1 light.descriptors)
+        ap (λ o. descriptors_by numbers.descs (places_in (numbers_in objects.heap) o)) is ∙ ap (descriptors_by numbers.descs) (closed_once proc.status proc.descriptors ended.0 ended.1 light.descriptors)
 
 -- those that have nothing open are passed over
 closes_past : (k more pid : ℕ) (files : Files) → ((q : ℕ) → pid ≤ q → q < pid + k → descriptors_of files q ≡ none_open)

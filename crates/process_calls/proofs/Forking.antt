@@ -40,7 +40,7 @@ use Rattle.open_laws.specs.Sharing.{after_shares, hand_with}
 use Rattle.open_laws.proofs.GoingLemmas.{open_on}
 use Rattle.open_laws.proofs.ShareLemmas.{opened_all}
 use Rattle.proc_table.specs.Moves.{IsForked, TableMoves, sharing}
-use Rattle.proc_table.specs.Procs.{proc_of}
+use Rattle.proc_table.specs.Procs.{numbers_in, proc_of}
 use Rattle.proc_table.proofs.OpenLemmas.{have_forked}
 use Rattle.proc_table.specs.Standing.{IsTable, answered_fork, forked_in}
 use Rattle.proc_table.specs.Table.{TableView}
@@ -149,7 +149,7 @@ module _ (script : Script) (old mid : Objects) (pid child : ℕ) (control : Cont
 
   pub kept_forked : AreKept script mid
   kept_forked =
-      kept_with script (sharing old.heap mid.heap) old.procs old.tree old.names mid (hand_with runs.proc.descriptors []) (keeps_shared script old mid runs.proc kept shared) tree names moves
+      kept_with script (sharing old.heap mid.heap) old.procs old.tree old.names mid (hand_with (numbers_in old.heap runs.proc) []) (keeps_shared script old mid runs.proc kept shared) tree names moves
       (subst (AllByRecursion (λ proc. length proc.nodes ≡ 4)) (sym forked.processes_are)
       (all_append (λ proc. length proc.nodes ≡ 4) (procs_of old) (child_proc forked.parent child forked.nodes ∷ []) kept.groups (forked.groups, tt)))
       (subst (AreAtCalls script) (sym forked.processes_are)
@@ -159,7 +159,7 @@ module _ (script : Script) (old mid : Objects) (pid child : ℕ) (control : Cont
       let now = ap (names_in key) forked.processes_are in
       let more = names_forked key forked.parent child forked.nodes (procs_of old) in
       let parent = ap (names_by key) same_parent in
-      let hand = names_in_hand key runs.proc.descriptors [] in
+      let hand = names_in_hand key (numbers_in old.heap runs.proc) [] in
       let nothing : count_by (λ (other : ℕ). other == key) [] ≡ 0 = refl in
       omega (arith, now, more, parent, hand, nothing))
 
@@ -245,14 +245,14 @@ module _ (script : Script) (old mid moved : Objects) (pid child : ℕ) (control 
       record {
         numbers = have.numbers;
         opened = record {
-          list = after_shares have.numbers.descs opened.list runs.proc.descriptors;
-          opened = open_on have.numbers (sharing old.heap mid.heap) mid.heap (after_shares have.numbers.descs opened.list runs.proc.descriptors) files (with_heir files pid)
+          list = after_shares have.numbers.descs opened.list (numbers_in old.heap runs.proc);
+          opened = open_on have.numbers (sharing old.heap mid.heap) mid.heap (after_shares have.numbers.descs opened.list (numbers_in old.heap runs.proc)) files (with_heir files pid)
               (ap (λ (h : Heap). h.descs) moves.kept) (ap (λ (h : Heap). h.pipes) moves.kept) (ap (λ (h : Heap). h.socks) moves.kept) (ap (λ (h : Heap). h.chunks) moves.kept) refl refl refl
-              (subst (λ (descs : List (Option Desc)). AreOpen have.numbers (record old.heap { descs = descs }) (after_shares have.numbers.descs opened.list runs.proc.descriptors) files) (sym shared.descs)
-              (opened_all have.numbers old.heap opened.list files runs.proc.descriptors shared.can opened.opened));
-          descriptors = by_pids have.numbers.descs (procs_of mid) mid.procs.last (with_heir files pid)
+              (subst (λ (descs : List (Option Desc)). AreOpen have.numbers (record old.heap { descs = descs }) (after_shares have.numbers.descs opened.list (numbers_in old.heap runs.proc)) files) (sym shared.descs)
+              (opened_all have.numbers old.heap opened.list files (numbers_in old.heap runs.proc) shared.can opened.opened));
+          descriptors = by_pids mid.heap have.numbers.descs (procs_of mid) mid.procs.last (with_heir files pid)
               (have_forked old.heap mid.heap old.procs mid.procs pid child have.numbers.descs files kept.holds number forked
-              (by_procs have.numbers.descs (procs_of old) old.procs.last files (rising_in script old kept) opened.descriptors));
+              (by_procs old.heap have.numbers.descs (procs_of old) old.procs.last files (rising_in script old kept) opened.descriptors));
         };
         fronts = record {
           pipes = λ key pipe is. ap (λ fronts. slice_index fronts (have.numbers.pipes key)) pipes

@@ -19,7 +19,7 @@ use Rattle.proc_table.specs.Changes.{with_nodes}
 use Rattle.proc_table.specs.Moves.{SpaceTurns, TableMoves}
 use Rattle.proc_descs.specs.Having.{HaveDescriptors}
 use Rattle.proc_table.specs.Opening.{HaveOpen as TableOpen}
-use Rattle.proc_table.specs.Procs.{memory_at, proc_of, process_of}
+use Rattle.proc_table.specs.Procs.{memory_at, numbers_in, proc_of, process_of}
 use Rattle.proc_table.proofs.OpenLemmas.{have_nodes}
 use Rattle.proc_table.specs.Standing.{IsTable}
 use Rattle.proc_table.specs.Table.{Holds, TableView, processes}
@@ -158,9 +158,9 @@ stand_back script old new mid pid key proc now world after memory stands turns s
     files : HaveFiles new world.plain.files (remembered_in world pid memory after).account
     files = files_moved old new world.plain.files world.plain.files world.account (remembered_in world pid memory after).account moves refl refl refl refl refl
         (λ number have.
-        subst (λ (procs : TableView). HaveDescriptors number (processes new.heap procs) procs.last world.plain.files) (sym same)
-        (by_pids number (processes new.heap old.procs) old.procs.last world.plain.files
-        (subst (λ procs. TableOpen procs old.procs.last number world.plain.files) (sym (back-procs old.heap mid new.heap old.procs pid key proc now stands.kept.holds turns))
-        (have_nodes pid now (procs_of old) old.procs.last number world.plain.files
-        (by_procs number (procs_of old) old.procs.last world.plain.files (rising_in script old stands.kept) have)))))
+        subst (λ (procs : TableView). HaveDescriptors (numbers_in new.heap) number (processes new.heap procs) procs.last world.plain.files) (sym same)
+        (by_pids new.heap number (processes new.heap old.procs) old.procs.last world.plain.files
+        (subst (λ procs. TableOpen (numbers_in new.heap) procs old.procs.last number world.plain.files) (sym (back-procs old.heap mid new.heap old.procs pid key proc now stands.kept.holds turns))
+        (have_nodes old.heap pid now (procs_of old) old.procs.last number world.plain.files
+        (by_procs old.heap number (procs_of old) old.procs.last world.plain.files (rising_in script old stands.kept) have)))))
         stands.files

@@ -2,7 +2,7 @@
 use Rattle.std.proofs.Common.{◌≡◌, ◌≢◌, ℕ, ◌+◌, ◌≤◌, ℤ, pos, negsuc, ◌==◌, ◌&&◌, ◌||◌, not, Bool, true, false, cond, List, length, Option, None, Some, is_none, is_some, Result, Ok, Err, refl, ap, sym, ◌∙◌, subst, arith, w64}
 use Rattle.std.specs.Int.{cast_unsigned}
 use Rattle.std.specs.Option.{option_and_then, option_map_or}
-use Rattle.kabi_types.specs.Arguments.{argument_fault}
+use Rattle.kabi_types.specs.Arguments.{argument_fault, count_of, invalid_unless, is_from, is_number}
 use Rattle.kabi_types.specs.PathParts.{components}
 use Rattle.kabi_types.specs.declared.calls.Call.{Call}
 use Rattle.kabi_types.specs.declared.calls.Call.TheVariants as call
@@ -89,28 +89,28 @@ serves_ended script old new pid status which told leaves walks dies tells = λ w
       keeps = keeps_ended script new world gone.next pid pid status which told leaves walks gone refl refl refl;
     }
 
-pub does_itself : (script : Script) (old new : Objects) (pid target : ℕ) (number signal : ℤ) (told : Turned) → target ≡ pid → Dies script old target 9 new
-    → told ≡ turned.Ended 9 → Serves script old pid (call.Kill number signal) (λ plain. struck script plain pid target) told new
-does_itself script old new pid target number signal told same dies tells = λ world stands sound alive.
-    subst (λ answer. WorldReached script new world pid (call.Kill number signal) answer told)
-    (sym (ap (λ b. cond b (Ended 9 (die world.plain pid 9)) (replied script (die world.plain target 9) pid (Val (pos 0)))) (eqb_same target pid same)))
-    (serves_ended script old new pid 9 (call.Kill number signal) told refl refl (subst (λ n. Dies script old n 9 new) same dies) tells world stands sound alive)
+pub does_itself : (script : Script) (old new : Objects) (pid target number : ℕ) (named signal : ℤ) (told : Turned) → target ≡ pid → Dies script old target number new
+    → told ≡ turned.Ended number → Serves script old pid (call.Kill named signal) (λ plain. struck script plain pid target number) told new
+does_itself script old new pid target number named signal told same dies tells = λ world stands sound alive.
+    subst (λ answer. WorldReached script new world pid (call.Kill named signal) answer told)
+    (sym (ap (λ b. cond b (Ended number (die world.plain pid number)) (replied script (die world.plain target number) pid (Val (pos 0)))) (eqb_same target pid same)))
+    (serves_ended script old new pid number (call.Kill named signal) told refl refl (subst (λ n. Dies script old n number new) same dies) tells world stands sound alive)
 
-pub does_another : (script : Script) (old mid new : Objects) (pid target : ℕ) (number signal : ℤ) (told : Turned) → target ≢ pid
-    → Dies script old target 9 mid → told ≡ turned.Done (Val (pos 0)) → GoesOn script mid pid (Val (pos 0)) new
-    → Serves script old pid (call.Kill number signal) (λ plain. struck script plain pid target) told new
-does_another script old mid new pid target number signal told apart dies tells goes = λ world stands sound alive.
+pub does_another : (script : Script) (old mid new : Objects) (pid target number : ℕ) (named signal : ℤ) (told : Turned) → target ≢ pid
+    → Dies script old target number mid → told ≡ turned.Done (Val (pos 0)) → GoesOn script mid pid (Val (pos 0)) new
+    → Serves script old pid (call.Kill named signal) (λ plain. struck script plain pid target number) told new
+does_another script old mid new pid target number named signal told apart dies tells goes = λ world stands sound alive.
     let gone = dies world stands sound in
     let base = gone.next in
-    subst (λ answer. WorldReached script new world pid (call.Kill number signal) answer told)
+    subst (λ answer. WorldReached script new world pid (call.Kill named signal) answer told)
     (ap (λ (plain : Plain). replied script plain pid (Val (pos 0))) gone.plain
-    ∙ sym (ap (λ b. cond b (Ended 9 (die world.plain pid 9)) (replied script (die world.plain target 9) pid (Val (pos 0)))) (eqb_other target pid apart)))
+    ∙ sym (ap (λ b. cond b (Ended number (die world.plain pid number)) (replied script (die world.plain target number) pid (Val (pos 0)))) (eqb_other target pid apart)))
     (record {
       next = answered_in script base pid (Val (pos 0));
       stands = goes base gone.stands;
       tells = (tells, refl);
       account = gone.account;
-      keeps = keeps_ended script mid world (answered_in script base pid (Val (pos 0))) pid target 9 (call.Kill number signal) told refl refl gone refl refl refl;
+      keeps = keeps_ended script mid world (answered_in script base pid (Val (pos 0))) pid target number (call.Kill named signal) told refl refl gone refl refl refl;
     })
 
 -- a call that walks no path serves as it performs
@@ -152,8 +152,8 @@ does_tell script old new pid target signal said told answers tells frames goes =
 
 -- one that ends its target
 pub does_strike : (script : Script) (old new : Objects) (pid : ℕ) (target signal : ℤ) (told : Turned)
-    → ((plain : Plain) → IsTable old.heap old.procs plain.table → kill script plain pid target signal ≡ struck script plain pid (pid_of target))
-    → Serves script old pid (call.Kill target signal) (λ plain. struck script plain pid (pid_of target)) told new
+    → ((plain : Plain) → IsTable old.heap old.procs plain.table → kill script plain pid target signal ≡ struck script plain pid (pid_of target) (count_of signal))
+    → Serves script old pid (call.Kill target signal) (λ plain. struck script plain pid (pid_of target) (count_of signal)) told new
     → Serves script old pid (call.Kill target signal) (λ plain. kill script plain pid target signal) told new
 does_strike script old new pid target signal told answers does = λ world stands sound alive.
     subst (λ answer. WorldReached script new world pid (call.Kill target signal) answer told) (sym (answers world.plain stands.processes.table)) (does world stands sound alive)
@@ -210,7 +210,24 @@ number_of (pos pid) number is same = is
 number_of (negsuc n) number is same = cc
 
 pub answered_as : (script : Script) (plain : Plain) (pid : ℕ) (target signal as_target as_signal : ℤ) (said : Result Bool Errno) → as_target ≡ target → as_signal ≡ signal
-    → kill script plain pid as_target as_signal ≡ answered_by script plain pid as_target said → kill script plain pid target signal ≡ answered_by script plain pid target said
+    → kill script plain pid as_target as_signal ≡ answered_by script plain pid as_target as_signal said → kill script plain pid target signal ≡ answered_by script plain pid target signal said
 answered_as script plain pid target signal as_target as_signal said same_target same_signal is =
-    subst (λ z. kill script plain pid target z ≡ answered_by script plain pid target said) same_signal
-    (subst (λ z. kill script plain pid z as_signal ≡ answered_by script plain pid z said) same_target is)
+    subst (λ z. kill script plain pid target z ≡ answered_by script plain pid target z said) same_signal
+    (subst (λ z. kill script plain pid z as_signal ≡ answered_by script plain pid z as_signal said) same_target is)
+
+-- what is right of a kill's operands is right of its signal
+valid : (b : Bool) → invalid_unless b ≡ None → b ≡ true
+valid true e = refl
+valid false e = cc
+
+second : (a b : Bool) → (a && b) ≡ true → b ≡ true
+second true b e = e
+second false b e = cc
+
+-- a signal that a kill may send is a wait status
+pub few_signals : (target signal : ℤ) → argument_fault (call.Kill target signal) ≡ None → count_of signal < 65536
+few_signals target (negsuc n) right = omega arith
+few_signals target (pos n) right = below n (second (is_from 1 target) (is_number 0 (pos n) || is_number 9 (pos n)) (valid (is_from 1 target && (is_number 0 (pos n) || is_number 9 (pos n))) right))
+  where
+    below : (n : ℕ) → (is_number 0 (pos n) || is_number 9 (pos n)) ≡ true → n < 65536
+    below n e = grind (arith, nat_tests)

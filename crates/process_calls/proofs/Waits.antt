@@ -27,7 +27,7 @@ use Rattle.proc_table.specs.Accounting.{HasAccount}
 use Rattle.proc_table.specs.Changes.{after_wait, is_other, reaped_of}
 use Rattle.proc_table.specs.Moves.{TableMoves}
 use Rattle.proc_table.specs.Opening.{HaveOpen as TableOpen}
-use Rattle.proc_table.specs.Procs.{HasEnded, proc_of}
+use Rattle.proc_table.specs.Procs.{HasEnded, numbers_in, proc_of}
 use Rattle.proc_table.proofs.OpenLemmas.{have_waited}
 use Rattle.proc_table.specs.Standing.{IsTable, answered_wait, waited_in}
 use Rattle.proc_table.specs.declared.reaped.Reaped.{Reaped}
@@ -148,11 +148,11 @@ module _ (script : Script) (old mid : Objects) (pid : ℕ) (which options : ℤ)
       files : HaveFiles mid world.plain.files world.account
       files = files_moved old mid world.plain.files world.plain.files world.account world.account moves refl refl refl refl refl
           (λ number have.
-          by_pids number (procs_of mid) mid.procs.last world.plain.files
-          (subst (λ ps. TableOpen ps mid.procs.last number world.plain.files) (sym procs)
-          (subst (λ n. TableOpen (after_wait told (procs_of old)) n number world.plain.files) (sym last)
+          by_pids mid.heap number (procs_of mid) mid.procs.last world.plain.files
+          (subst (λ ps. TableOpen (numbers_in mid.heap) ps mid.procs.last number world.plain.files) (sym procs)
+          (subst (λ n. TableOpen (numbers_in old.heap) (after_wait told (procs_of old)) n number world.plain.files) (sym last)
           (have_waited old.heap old.procs pid which told number world.plain.files stands.kept.holds is
-          (by_procs number (procs_of old) old.procs.last world.plain.files (rising_in script old stands.kept) have)))))
+          (by_procs old.heap number (procs_of old) old.procs.last world.plain.files (rising_in script old stands.kept) have)))))
           stands.files
 
       -- who is told has ended, and so works nowhere

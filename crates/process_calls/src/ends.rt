@@ -1,6 +1,7 @@
 //! The calls that end a process: `kill` and `exit`.
 
-ghost use Rattle.std.specs.Prelude.{◌≡◌, ◌≢◌, ◌+◌, ◌≤◌, ℤ};
+ghost use Rattle.std.specs.Prelude.{◌≡◌, ◌≢◌, ◌+◌, ◌<◌, ◌≤◌, ℤ, None};
+ghost use Rattle.kabi_types.specs.Arguments.{argument_fault, count_of};
 ghost use Rattle.kabi_types.specs.declared.calls.Call.{Call};
 ghost use Rattle.kabi_types.specs.declared.scripts.Script.{Script};
 ghost use Rattle.kheap_slabs.specs.Heap.{live_bytes};
@@ -15,13 +16,20 @@ ghost use Rattle.store_objects.specs.Standing.{IsSound, StandsFor};
 ghost use Rattle.store_objects.specs.Uses.{UsesAtMost};
 ghost use Rattle.store_objects.specs.Walking.{Serves};
 
-use crate::{SIGKILL, end};
+use crate::end;
 use kabi_types::{Control, Reply, Script};
 use posix_defs::Turned;
 use store_objects::{Objects, go_on};
 
-/// Ends a process that isn't the first.
-fn strike(script: &Script, objects: &mut Objects, pid: u32, control: Control, target: u32) -> Turned
+/// Ends a process that isn't the first, with a signal.
+fn strike(
+    script: &Script,
+    objects: &mut Objects,
+    pid: u32,
+    control: Control,
+    target: u32,
+    signal: u16,
+) -> Turned
     requires stands { (world : World) × StandsFor script.now objects.old world × IsSound world.plain }
     requires runs { Runs objects.old pid control }
     requires other { target ≢ 1 }
@@ -29,13 +37,21 @@ fn strike(script: &Script, objects: &mut Objects, pid: u32, control: Control, ta
     requires room { live_bytes objects.old.heap + reserve ≤ objects.old.heap.heap }
     ensures kept { AreKept script.now objects.new }
     ensures uses { UsesAtMost objects.old.heap objects.new.heap 0 reserve }
-    ensures does { (number signal : ℤ) → Serves script.now objects.old pid (Call.Kill number signal) (λ plain. struck script.now plain pid target) result objects.new }
+    ensures does { (named sent : ℤ) → Serves script.now objects.old pid (Call.Kill named sent) (λ plain. struck script.now plain pid target signal) result objects.new }
 {
-    end(objects, target, SIGKILL);
+    end(objects, target, signal);
     if target == pid {
-        return Turned::Ended(SIGKILL);
+        return Turned::Ended(signal);
     }
     go_on(script, objects, pid, control, Reply::Val(0))
+}
+
+/// The wait status of a process that a signal ends.
+fn signalled(signal: i64) -> u16
+    requires { count_of signal < 65536 }
+    ensures { result ≡ count_of signal }
+{
+    u16::try_from(signal).unwrap_or(0)
 }
 
 /// Ends a process, or asks by the signal 0 whether it is there: ESRCH where none of that pid is, EPERM where the first process is to
@@ -52,6 +68,7 @@ pub fn signal_process(
 ) -> Turned
     requires stands { (world : World) × StandsFor script.now objects.old world × IsSound world.plain }
     requires runs { Runs objects.old pid control }
+    requires right { argument_fault (Call.Kill target signal) ≡ None }
     requires room { live_bytes objects.old.heap + reserve ≤ objects.old.heap.heap }
     ensures kept { AreKept script.now objects.new }
     ensures uses { UsesAtMost objects.old.heap objects.new.heap 0 reserve }
@@ -62,7 +79,8 @@ pub fn signal_process(
         Ok(false) => go_on(script, objects, pid, control, Reply::Val(0)),
         Ok(true) => {
             objects.pids_have_32_bits();
-            strike(script, objects, pid, control, target.cast_unsigned() as u32)
+            let (number, status) = (target.cast_unsigned() as u32, signalled(signal));
+            strike(script, objects, pid, control, number, status)
         }
     }
 }

@@ -27,7 +27,7 @@ use Rattle.proc_files.proofs.Beside.{have_beside, listed_beside, owners_beside, 
 use Rattle.proc_files.proofs.Holding.{same_pins}
 use Rattle.proc_pipes.proofs.Booted.{boot_listed, boot_owned, boot_there}
 use Rattle.proc_table.specs.Moves.{TableMoves}
-use Rattle.proc_table.specs.Procs.{first_proc, proc_of}
+use Rattle.proc_table.specs.Procs.{first_proc, numbers_in, proc_of}
 use Rattle.proc_table.specs.Table.{TableView, no_table, processes, procs_at}
 use Rattle.proc_table.proofs.PlaceLemmas.{some_same}
 use Rattle.process_trials.specs.Desks.{HasDesk}
@@ -36,12 +36,12 @@ use Rattle.process_trials.specs.Desks.{HasDesk}
 abbrev no_numbers : Numbers
 no_numbers = record { descs = λ key. 0; pipes = λ key. 0; socks = λ key. 0; frames = λ key. 0 }
 
-none_of : (number : ℕ → ℕ) (blocks pid : ℕ) → descriptors_of (boot_files blocks) pid ≡ descriptors_by number (places_in (proc_of (first_proc ∷ []) pid))
+none_of : (h : Heap) (number : ℕ → ℕ) (blocks pid : ℕ) → descriptors_of (boot_files blocks) pid ≡ descriptors_by number (places_in (numbers_in h) (proc_of (first_proc ∷ []) pid))
 unfolding none_open
-none_of number blocks zero = refl
-none_of number blocks (suc zero) = refl
-none_of number blocks (suc (suc pid)) =
-    sym (ap (λ b. descriptors_by number (places_in (cond b (Some first_proc) None))) (ne_eqb 1 (suc (suc pid)) (λ e. omega (arith, e))))
+none_of _ number blocks zero = refl
+none_of _ number blocks (suc zero) = refl
+none_of h number blocks (suc (suc pid)) =
+    sym (ap (λ b. descriptors_by number (places_in (numbers_in h) (cond b (Some first_proc) None))) (ne_eqb 1 (suc (suc pid)) (λ e. omega (arith, e))))
 
 -- who holds the root
 alone_directories : (tree : Tree) → is_directory tree root ≡ true → HoldDirectories root_alone tree
@@ -93,7 +93,7 @@ module _ (bytes blocks : ℕ) (inode : Inode) (old mid new : Heap) (kept : Table
         (ap (λ (h : Heap). h.chunks) table.kept ∙ ap (λ (h : Heap). h.chunks) empty) refl refl refl
         (boot_open no_numbers bytes (boot_files blocks) (boot_bare blocks));
     descriptors = record {
-      each = λ pid. none_of no_numbers.descs blocks pid ∙ ap (λ (procs : List Proc). descriptors_by no_numbers.descs (places_in (proc_of procs pid))) (sym first);
+      each = λ pid. none_of mid no_numbers.descs blocks pid ∙ ap (λ (procs : List Proc). descriptors_by no_numbers.descs (places_in (numbers_in mid) (proc_of procs pid))) (sym first);
       made = sym last;
     };
   }

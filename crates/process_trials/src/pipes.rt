@@ -30,16 +30,9 @@ fn purse(rt: &impl Abort, heap: &KHeap) -> Purse
 {
     assert!(rt; heap.heap() >= 9920 && heap.live() <= heap.heap() - 9920);
     Purse::of(Need {
-        proc: 0,
-        node: 0,
-        page: 0,
-        desc: 0,
-        vnode: 0,
-        name: 0,
-        block: 0,
         pipe: 1,
         chunk: 17,
-        sock: 0,
+        ..Need::default()
     })
 }
 

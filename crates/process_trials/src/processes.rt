@@ -33,14 +33,7 @@ fn purse(rt: &impl Abort, heap: &KHeap) -> Purse
     Purse::of(Need {
         proc: 1,
         node: 4,
-        page: 0,
-        desc: 0,
-        vnode: 0,
-        name: 0,
-        block: 0,
-        pipe: 0,
-        chunk: 0,
-        sock: 0,
+        ..Need::default()
     })
 }
 

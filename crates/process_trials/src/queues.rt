@@ -32,16 +32,8 @@ fn purse(rt: &impl Abort, heap: &KHeap) -> Purse
 {
     assert!(rt; heap.heap() >= 9792 && heap.live() <= heap.heap() - 9792);
     Purse::of(Need {
-        proc: 0,
-        node: 0,
-        page: 0,
-        desc: 0,
-        vnode: 0,
-        name: 0,
-        block: 0,
-        pipe: 0,
         chunk: 17,
-        sock: 0,
+        ..Need::default()
     })
 }
 

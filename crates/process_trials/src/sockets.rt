@@ -74,16 +74,9 @@ fn purse(rt: &impl Abort, heap: &KHeap) -> Purse
 {
     assert!(rt; heap.heap() >= 4864 && heap.live() <= heap.heap() - 4864);
     Purse::of(Need {
-        proc: 0,
-        node: 0,
-        page: 0,
-        desc: 0,
-        vnode: 0,
-        name: 0,
-        block: 0,
-        pipe: 0,
         chunk: 8,
         sock: 2,
+        ..Need::default()
     })
 }
 

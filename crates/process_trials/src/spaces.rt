@@ -28,16 +28,8 @@ fn purse(rt: &impl Abort, heap: &KHeap) -> Purse
 {
     assert!(rt; heap.heap() >= 2048 && heap.live() <= heap.heap() - 2048);
     Purse::of(Need {
-        proc: 0,
         node: 4,
-        page: 0,
-        desc: 0,
-        vnode: 0,
-        name: 0,
-        block: 0,
-        pipe: 0,
-        chunk: 0,
-        sock: 0,
+        ..Need::default()
     })
 }
 

@@ -82,16 +82,10 @@ fn purse_of(heap: &KHeap) -> Option<Purse>
         return None;
     }
     Some(Purse::of(Need {
-        proc: 0,
-        node: 0,
-        page: 0,
-        desc: 0,
         vnode: 2,
         name: 2,
         block: 2,
-        pipe: 0,
-        chunk: 0,
-        sock: 0,
+        ..Need::default()
     }))
 }
 

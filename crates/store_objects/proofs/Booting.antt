@@ -7,6 +7,7 @@ use Rattle.std.proofs.lemmas.Bool.Decides.{eqb_tells}
 use Rattle.std.proofs.lemmas.List.{length-replicate}
 use Rattle.std.proofs.lemmas.Slice.Eq.{bytes_eq-Decides}
 use Rattle.kabi_types.specs.Class.{size}
+use Rattle.kabi_types.specs.Counts.{need_bytes, with_count}
 use Rattle.kabi_types.specs.declared.classes.Class.TheVariants as class
 use Rattle.kabi_types.specs.declared.scripts.Control.{Control}
 use Rattle.kabi_types.specs.declared.scripts.Program.{Program}
@@ -19,11 +20,12 @@ use Rattle.kheap_slabs.specs.declared.objects.Proc.{Proc}
 use Rattle.kheap_slabs.specs.declared.objects.QueueParts.{QueueParts}
 use Rattle.kheap_slabs.specs.declared.objects.Sock.{Sock}
 use Rattle.kheap_slabs.specs.declared.objects.Vnode.{Vnode}
-use Rattle.kheap_slabs.specs.Heap.{Heap, empty_heap, live_bytes}
+use Rattle.kheap_slabs.specs.Heap.{Heap, counts_of, empty_heap, live_bytes}
 use Rattle.kheap_slabs.specs.Keys.{AreKeysOf}
 use Rattle.kheap_slabs.specs.Owners.{IsOwned, Owners, each_of, pipe_queues, sock_queues, spaces_of}
 use Rattle.kheap_slabs.specs.Queues.{OwnedQueue}
 use Rattle.kheap_slabs.proofs.ObjectLemmas.{count-none, count-put_new, object-none, object_of}
+use Rattle.kheap_slabs.proofs.PurseLemmas.{need_bytes-more}
 use Rattle.kheap_laws.proofs.OwnerLemmas.{IsOwned-same, empty_heap-owned}
 use Rattle.kheap_laws.proofs.TableLemmas.{OwnsItsObjects-along}
 use Rattle.posix_defs.specs.Control.{settled}
@@ -53,7 +55,7 @@ use Rattle.proc_table.specs.Changes.{replaced}
 use Rattle.proc_table.specs.Moves.{TableMoves}
 use Rattle.proc_descs.specs.Having.{AreListed, places_in}
 use Rattle.holding_laws.specs.Names.{AreBound, name_in, name_of}
-use Rattle.proc_table.specs.Procs.{first_proc, proc_of}
+use Rattle.proc_table.specs.Procs.{first_proc, numbers_in, proc_of}
 use Rattle.proc_table.specs.Standing.{IsTable}
 use Rattle.proc_table.specs.Table.{no_table, processes}
 use Rattle.proc_table.proofs.LawLemmas.{on-account, on-moves, on-procs, on-table}
@@ -145,14 +147,8 @@ module _ (heap : ℕ) (inode : Inode) (empty rooted : Heap) (is_empty : empty �
   pub rooted_live : live_bytes rooted ≡ live_bytes empty + 128
   rooted_live =
       ap live_bytes root.heap
-      ∙ one_more (count empty.procs) (count empty.nodes) (count empty.pages) (count empty.descs) (count empty.vnodes) (count empty.names) (count empty.blocks)
-      (count empty.pipes) (count empty.chunks) (count empty.socks) (count (put empty.vnodes root.slot made_root))
-      (count-put_new empty.vnodes root.slot made_root root.within root.vacant)
-    where
-      one_more : (p n g d v m b i k s v' : ℕ) → v' ≡ v + 1
-          → 512 * p + 512 * n + 4096 * g + 64 * d + 128 * v' + 64 * m + 1088 * b + 128 * i + 576 * k + 128 * s
-          ≡ 512 * p + 512 * n + 4096 * g + 64 * d + 128 * v + 64 * m + 1088 * b + 128 * i + 576 * k + 128 * s + 128
-      one_more p n g d v m b i k s v' e = omega arith
+      ∙ ap (λ n. need_bytes (with_count (counts_of empty) class.Vnode n)) (count-put_new empty.vnodes root.slot made_root root.within root.vacant)
+      ∙ need_bytes-more (counts_of empty) class.Vnode
 
   one : count rooted.vnodes ≡ 1
   one =
@@ -394,7 +390,7 @@ boot_opens script objects control booted = record {
     list = [];
     opened = opened;
     descriptors = record {
-      each = λ pid. each pid ∙ sym (ap (λ procs. descriptors_by boot_numbers.descs (places_in (proc_of procs pid))) booted.first);
+      each = λ pid. each pid ∙ sym (ap (λ procs. descriptors_by boot_numbers.descs (places_in (numbers_in objects.heap) (proc_of procs pid))) booted.first);
       made = sym booted.last;
     };
   };
@@ -408,13 +404,13 @@ boot_opens script objects control booted = record {
     opened : AreOpen boot_numbers objects.heap [] (boot_files script.disk)
     opened = booted.opened boot_numbers (boot_files script.disk) (boot_bare script.disk)
 
-    each : (pid : ℕ) → descriptors_of (boot_files script.disk) pid ≡ descriptors_by boot_numbers.descs (places_in (proc_of (record first_proc { control = control } ∷ []) pid))
+    each : (pid : ℕ) → descriptors_of (boot_files script.disk) pid ≡ descriptors_by boot_numbers.descs (places_in (numbers_in objects.heap) (proc_of (record first_proc { control = control } ∷ []) pid))
     each pid = bare.descriptors pid ∙ sym (by_hit (1 == pid))
       where
         bare : IsBare (boot_files script.disk)
         bare = boot_bare script.disk
 
-        by_hit : (hit : Bool) → descriptors_by boot_numbers.descs (places_in (cond hit (Some (record first_proc { control = control })) None)) ≡ none_open
+        by_hit : (hit : Bool) → descriptors_by boot_numbers.descs (places_in (numbers_in objects.heap) (cond hit (Some (record first_proc { control = control })) None)) ≡ none_open
         by_hit true = none_by boot_numbers.descs
         by_hit false = none_by boot_numbers.descs
 

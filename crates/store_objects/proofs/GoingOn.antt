@@ -19,7 +19,7 @@ use Rattle.prog_ctl.specs.Runnable.{Rests, Stands}
 use Rattle.proc_table.specs.Changes.{replaced}
 use Rattle.proc_table.specs.Moves.{TableMoves}
 use Rattle.proc_descs.specs.Having.{HaveDescriptors}
-use Rattle.proc_table.specs.Procs.{proc_of}
+use Rattle.proc_table.specs.Procs.{numbers_in, proc_of}
 use Rattle.proc_table.proofs.OpenLemmas.{have_turned}
 use Rattle.proc_table.specs.Accounting.{HasAccount}
 use Rattle.proc_table.specs.Standing.{IsTable}
@@ -133,12 +133,12 @@ module _ (script : Script) (old new : Objects) (pid : ℕ) (change : Proc → Pr
       (only_one (procs_of old) 0 pid changes.proc (rising_in script old kept) changes.found))
 
   -- its descriptors are what they were
-  pub descriptors_changed : (files : Files) (number : ℕ → ℕ) → HaveDescriptors number (procs_of old) old.procs.last files → HaveDescriptors number (procs_of new) new.procs.last files
+  pub descriptors_changed : (files : Files) (number : ℕ → ℕ) → HaveDescriptors (numbers_in old.heap) number (procs_of old) old.procs.last files → HaveDescriptors (numbers_in new.heap) number (procs_of new) new.procs.last files
   descriptors_changed files number have =
-      subst (λ (procs : TableView). HaveDescriptors number (processes new.heap procs) procs.last files) (sym changes.same)
-      (by_pids number (processes new.heap old.procs) old.procs.last files
+      subst (λ (procs : TableView). HaveDescriptors (numbers_in new.heap) number (processes new.heap procs) procs.last files) (sym changes.same)
+      (by_pids new.heap number (processes new.heap old.procs) old.procs.last files
       (have_turned old.heap new.heap old.procs pid changes.key changes.proc became number files kept.holds changes.turns
-      (by_procs number (procs_of old) old.procs.last files (rising_in script old kept) have)))
+      (by_procs old.heap number (procs_of old) old.procs.last files (rising_in script old kept) have)))
 
   pub account_changed : (frames : Frames) → HasAccount old.heap old.procs frames → HasAccount new.heap new.procs frames
   account_changed frames has =
@@ -167,7 +167,7 @@ kept_moved script old new pid control kept moves stands rests =
     kept_changed script old new pid (at_control control) kept moves (λ up. record { stands = stands; rests = rests })
 
 pub descriptors_moved : (script : Script) (old new : Objects) (pid : ℕ) (control : Control) (files : Files) → (kept : AreKept script old) → (moves : MovesOn old pid control new)
-    → Stands script control → Rests script control → (number : ℕ → ℕ) → HaveDescriptors number (procs_of old) old.procs.last files → HaveDescriptors number (procs_of new) new.procs.last files
+    → Stands script control → Rests script control → (number : ℕ → ℕ) → HaveDescriptors (numbers_in old.heap) number (procs_of old) old.procs.last files → HaveDescriptors (numbers_in new.heap) number (procs_of new) new.procs.last files
 descriptors_moved script old new pid control files kept moves at rests number have = descriptors_changed script old new pid (at_control control) kept moves files number have
 
 -- The objects stand for the world in which its control is another, which leads to the new one; those of all others are what they

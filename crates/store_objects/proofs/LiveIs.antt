@@ -6,6 +6,8 @@ use Rattle.std.specs.Option.{option_map}
 use Rattle.std.proofs.lemmas.Bool.Decides.{eqb_tells}
 use Rattle.std.proofs.lemmas.List.{length-append, length-map}
 use Rattle.std.proofs.lemmas.List.Sums.{sum_by-append, sum_by-cons}
+use Rattle.kabi_types.specs.Counts.{need_bytes}
+use Rattle.kabi_types.specs.declared.classes.Need.{Need}
 use Rattle.kabi_types.specs.declared.scripts.Script.{Script}
 use Rattle.kheap_slabs.specs.Objects.{count, object}
 use Rattle.kheap_slabs.specs.declared.objects.Chunk.{Chunk}
@@ -14,7 +16,7 @@ use Rattle.kheap_slabs.specs.declared.objects.Pipe.{Pipe as HeldPipe}
 use Rattle.kheap_slabs.specs.declared.objects.Proc.{Proc}
 use Rattle.kheap_slabs.specs.declared.objects.QueueParts.{QueueParts}
 use Rattle.kheap_slabs.specs.declared.objects.Sock.{Sock}
-use Rattle.kheap_slabs.specs.Heap.{Heap, IsWellFormed, live_bytes}
+use Rattle.kheap_slabs.specs.Heap.{Heap, IsWellFormed, counts_of, live_bytes}
 use Rattle.kheap_slabs.specs.Owners.{AreOwnersOf, IsOwned, OwnsItsObjects, chunk_keys, each_of, pipe_queues, sock_queues}
 use Rattle.kheap_slabs.specs.Queues.{OwnedQueue, OwnsChunks}
 use Rattle.kheap_slabs.specs.Spaces.{OwnsNodes, keys_in}
@@ -244,13 +246,12 @@ live_is script objects world stands whole =
     let pipes : count objects.heap.pipes ≡ count_by is_some files.pipes = pipes_are stands.files.numbers objects.heap files opened.piped in
     let chunks = chunks_are stands.files.numbers objects.heap stands.files.opened.list files world.account kept.owners.objects opened stands.files.fronts in
     let socks : count objects.heap.socks ≡ count_by is_some files.sockets = socks_are stands.files.numbers objects.heap files opened.socketed in
-    sum_is (count objects.heap.procs) (count objects.heap.nodes) (count objects.heap.pages) (count objects.heap.descs) (count objects.heap.vnodes)
-    (count objects.heap.names) (count objects.heap.blocks) (count objects.heap.pipes) (count objects.heap.chunks) (count objects.heap.socks)
+    sum_is (counts_of objects.heap)
     (how_many world.plain.table) (nodes_named world.account.frames) (frames_named world.account.frames) (count_by is_some files.descriptions) (count_by is_some files.pipes) (count_by is_some files.sockets)
     (chunks_taken (pipe_lengths files) world.account.pipes) (chunks_taken (socket_lengths files) world.account.sockets) (length world.kept.vnodes) (length world.kept.names) (length world.kept.blocks)
     procs nodes pages descs vnodes names blocks pipes chunks socks
   where
-    sum_is : (p n g d v m b i k s p' n' g' d' i' s' x y v' m' b' : ℕ) → p ≡ p' → n ≡ n' → g ≡ g' → d ≡ d' → v ≡ v' → m ≡ m' → b ≡ b' → i ≡ i' → k ≡ x + y → s ≡ s'
-        → 512 * p + 512 * n + 4096 * g + 64 * d + 128 * v + 64 * m + 1088 * b + 128 * i + 576 * k + 128 * s
-        ≡ p' * 512 + n' * 512 + g' * 4096 + (d' * 64 + i' * 128 + s' * 128 + (x + y) * 576) + (m' * 64 + b' * 1088 + v' * 128)
-    sum_is p n g d v m b i k s p' n' g' d' i' s' x y v' m' b' e1 e2 e3 e4 e5 e6 e7 e8 e9 e10 = omega arith
+    sum_is : (n : Need) (procs nodes pages descs pipes socks in_pipes in_socks vnodes names blocks : ℕ) → n.proc ≡ procs → n.node ≡ nodes → n.page ≡ pages → n.desc ≡ descs → n.vnode ≡ vnodes → n.name ≡ names
+        → n.block ≡ blocks → n.pipe ≡ pipes → n.chunk ≡ in_pipes + in_socks → n.sock ≡ socks
+        → need_bytes n ≡ procs * 512 + nodes * 512 + pages * 4096 + (descs * 64 + pipes * 128 + socks * 128 + (in_pipes + in_socks) * 576) + (names * 64 + blocks * 1088 + vnodes * 128)
+    sum_is n procs nodes pages descs pipes socks in_pipes in_socks vnodes names blocks e1 e2 e3 e4 e5 e6 e7 e8 e9 e10 = omega arith

@@ -14,7 +14,7 @@ use Rattle.posix_defs.specs.Sockets.{Sockets}
 use Rattle.proc_descs.specs.Having.{HaveDescriptors, places_in}
 use Rattle.proc_table.specs.Moves.{TableMoves}
 use Rattle.proc_table.specs.Opening.{HaveOpen as TableOpen}
-use Rattle.proc_table.specs.Procs.{no_descriptors, proc_of}
+use Rattle.proc_table.specs.Procs.{no_descriptors, numbers_in, proc_of}
 use Rattle.proc_table.proofs.FamilyLemmas.{proc_has_pid}
 use Rattle.proc_table.proofs.OwnLemmas.{AreRising, has_it}
 use Rattle.store_objects.specs.declared.objects.Objects.{Objects}
@@ -30,23 +30,23 @@ unfolding none_open
 none_by number = refl
 
 -- what the machine has of each pid it has of each process that is there, and nothing of who isn't
-pub by_procs : (number : ℕ → ℕ) (procs : List Proc) (last : ℕ) (files : Files) → AreRising 0 procs → HaveDescriptors number procs last files → TableOpen procs last number files
-by_procs number procs last files rising have = record {
-  placed = all_found (λ proc. descriptors_of files proc.pid ≡ descriptors_by number proc.descriptors) procs 0 rising
-      (λ pid proc above is. ap (descriptors_of files) (proc_has_pid procs pid proc is) ∙ have.each pid ∙ ap (λ o. descriptors_by number (places_in o)) is);
-  gone = λ pid none. have.each pid ∙ ap (λ o. descriptors_by number (places_in o)) none ∙ none_by number;
+pub by_procs : (h : Heap) (number : ℕ → ℕ) (procs : List Proc) (last : ℕ) (files : Files) → AreRising 0 procs → HaveDescriptors (numbers_in h) number procs last files → TableOpen (numbers_in h) procs last number files
+by_procs h number procs last files rising have = record {
+  placed = all_found (λ proc. descriptors_of files proc.pid ≡ descriptors_by number (numbers_in h proc)) procs 0 rising
+      (λ pid proc above is. ap (descriptors_of files) (proc_has_pid procs pid proc is) ∙ have.each pid ∙ ap (λ o. descriptors_by number (places_in (numbers_in h) o)) is);
+  gone = λ pid none. have.each pid ∙ ap (λ o. descriptors_by number (places_in (numbers_in h) o)) none ∙ none_by number;
   made = have.made;
 }
 
-pub by_pids : (number : ℕ → ℕ) (procs : List Proc) (last : ℕ) (files : Files) → TableOpen procs last number files → HaveDescriptors number procs last files
-by_pids number procs last files have = record { each = λ pid. by_proc pid (proc_of procs pid) refl; made = have.made }
+pub by_pids : (h : Heap) (number : ℕ → ℕ) (procs : List Proc) (last : ℕ) (files : Files) → TableOpen (numbers_in h) procs last number files → HaveDescriptors (numbers_in h) number procs last files
+by_pids h number procs last files have = record { each = λ pid. by_proc pid (proc_of procs pid) refl; made = have.made }
   where
-    by_proc : (pid : ℕ) (o : Option Proc) → proc_of procs pid ≡ o → descriptors_of files pid ≡ descriptors_by number (places_in (proc_of procs pid))
-    by_proc pid None none = have.gone pid none ∙ sym (none_by number) ∙ sym (ap (λ o. descriptors_by number (places_in o)) none)
+    by_proc : (pid : ℕ) (o : Option Proc) → proc_of procs pid ≡ o → descriptors_of files pid ≡ descriptors_by number (places_in (numbers_in h) (proc_of procs pid))
+    by_proc pid None none = have.gone pid none ∙ sym (none_by number) ∙ sym (ap (λ o. descriptors_by number (places_in (numbers_in h) o)) none)
     by_proc pid (Some proc) is =
         ap (descriptors_of files) (sym (proc_has_pid procs pid proc is))
-        ∙ has_it (λ p. descriptors_of files p.pid ≡ descriptors_by number p.descriptors) procs pid proc have.placed is
-        ∙ sym (ap (λ o. descriptors_by number (places_in o)) is)
+        ∙ has_it (λ p. descriptors_of files p.pid ≡ descriptors_by number (numbers_in h p)) procs pid proc have.placed is
+        ∙ sym (ap (λ o. descriptors_by number (places_in (numbers_in h) o)) is)
 
 -- ---- all that is open
 
@@ -69,7 +69,7 @@ pub files_on : (old new : Objects) (files now : Files) (account next : Account)
     → new.heap.descs ≡ old.heap.descs → new.heap.pipes ≡ old.heap.pipes → new.heap.socks ≡ old.heap.socks → new.heap.chunks ≡ old.heap.chunks
     → now.descriptions ≡ files.descriptions → now.pipes ≡ files.pipes → now.sockets ≡ files.sockets
     → next.pipes ≡ account.pipes → next.sockets ≡ account.sockets
-    → ((number : ℕ → ℕ) → HaveDescriptors number (procs_of old) old.procs.last files → HaveDescriptors number (procs_of new) new.procs.last now)
+    → ((number : ℕ → ℕ) → HaveDescriptors (numbers_in old.heap) number (procs_of old) old.procs.last files → HaveDescriptors (numbers_in new.heap) number (procs_of new) new.procs.last now)
     → HaveFiles old files account → HaveFiles new now next
 files_on old new files now account next descs pipes socks chunks descriptions plain_pipes sockets fronts_of_pipes fronts_of_sockets descriptors have =
     let opened = have.opened in record {
@@ -92,7 +92,7 @@ files_on old new files now account next descs pipes socks chunks descriptions pl
 pub files_moved : (old new : Objects) (files now : Files) (account next : Account) → TableMoves old.heap old.procs new.heap new.procs
     → now.descriptions ≡ files.descriptions → now.pipes ≡ files.pipes → now.sockets ≡ files.sockets
     → next.pipes ≡ account.pipes → next.sockets ≡ account.sockets
-    → ((number : ℕ → ℕ) → HaveDescriptors number (procs_of old) old.procs.last files → HaveDescriptors number (procs_of new) new.procs.last now)
+    → ((number : ℕ → ℕ) → HaveDescriptors (numbers_in old.heap) number (procs_of old) old.procs.last files → HaveDescriptors (numbers_in new.heap) number (procs_of new) new.procs.last now)
     → HaveFiles old files account → HaveFiles new now next
 files_moved old new files now account next moves descriptions pipes sockets fronts_of_pipes fronts_of_sockets descriptors =
     files_on old new files now account next (ap (λ (h : Heap). h.descs) moves.kept) (ap (λ (h : Heap). h.pipes) moves.kept) (ap (λ (h : Heap). h.socks) moves.kept) (ap (λ (h : Heap). h.chunks) moves.kept)

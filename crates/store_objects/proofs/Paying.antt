@@ -7,13 +7,13 @@ use Rattle.kabi_types.specs.declared.calls.Call.TheVariants as call
 use Rattle.kabi_types.specs.Class.{size}
 use Rattle.kabi_types.specs.declared.classes.Class.TheVariants as class
 use Rattle.kabi_types.specs.declared.classes.Need.{Need}
-use Rattle.kheap_slabs.specs.Counts.{need_bytes}
+use Rattle.kabi_types.specs.Counts.{need_bytes}
 use Rattle.kheap_slabs.specs.Purse.{Purse, left_bytes}
 use Rattle.kheap_slabs.specs.Heap.{Heap, live_bytes}
 use Rattle.kheap_slabs.specs.Paid.{CanPay, IsPaid, TakesNothing}
 use Rattle.kheap_laws.proofs.PaidLemmas.{IsPaid-bytes, TakesNothing-bytes}
 use Rattle.posix_defs.specs.Needs.{bound, chunks_for, is_write, need_of, objects_of, write_need}
-use Rattle.posix_defs.specs.Sizes.{bytes_of, no_need}
+use Rattle.posix_defs.specs.Sizes.{no_need}
 use Rattle.posix_defs.proofs.PriceLemmas.{greater, right_needs, sums}
 use Rattle.store_objects.specs.Purses.{need_for, unspent}
 use Rattle.store_objects.specs.Uses.{UsesAtMost}
@@ -85,13 +85,13 @@ uses_more old new bytes meanwhile uses = record {
     higher a b live n more less = omega arith
 
 -- what a need counts for one target
-less_chunks : (n : Need) → need_bytes (record n { chunk = 0 }) ≤ bytes_of n
+less_chunks : (n : Need) → need_bytes (record n { chunk = 0 }) ≤ need_bytes n
 less_chunks n = omega arith
 
-less_blocks : (n : Need) → need_bytes (record n { block = 0 }) ≤ bytes_of n
+less_blocks : (n : Need) → need_bytes (record n { block = 0 }) ≤ need_bytes n
 less_blocks n = omega arith
 
-less_for : (target : Target) (n : Need) → need_bytes (need_for target n) ≤ bytes_of n
+less_for : (target : Target) (n : Need) → need_bytes (need_for target n) ≤ need_bytes n
 less_for File n = less_chunks n
 less_for Queue n = less_blocks n
 

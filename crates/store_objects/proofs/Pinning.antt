@@ -15,6 +15,7 @@ use Rattle.posix_defs.specs.Tree.{Tree}
 use Rattle.proc_descs.specs.Having.{HaveDescriptors, HaveOpen}
 use Rattle.proc_descs.specs.Queues.{QueuesStand}
 use Rattle.proc_descs.proofs.Fronts.{queues_same}
+use Rattle.proc_table.specs.Procs.{numbers_in}
 use Rattle.proc_table.specs.Accounting.{HasAccount}
 use Rattle.proc_table.specs.Standing.{IsTable}
 use Rattle.proc_table.specs.Table.{TableView, processes}
@@ -64,8 +65,8 @@ module _ (old new : Objects) (only : OnlyPins old new) where
     list = have.list;
     opened = open_on numbers old.heap new.heap have.list files files (ap (λ (h : Heap). h.descs) only.heap) (ap (λ (h : Heap). h.pipes) only.heap)
         (ap (λ (h : Heap). h.socks) only.heap) (ap (λ (h : Heap). h.chunks) only.heap) refl refl refl have.opened;
-    descriptors = subst (λ (view : TableView). HaveDescriptors numbers.descs (processes new.heap view) view.last files) (sym only.procs)
-        (subst (λ procs. HaveDescriptors numbers.descs procs old.procs.last files) (sym (ap (λ (h : Heap). processes h old.procs) only.heap)) have.descriptors);
+    descriptors = subst (λ (view : TableView). HaveDescriptors (numbers_in new.heap) numbers.descs (processes new.heap view) view.last files) (sym only.procs)
+        (subst (λ procs. HaveDescriptors (numbers_in new.heap) numbers.descs procs old.procs.last files) (sym (ap (λ (h : Heap). processes h old.procs) only.heap)) have.descriptors);
   }
 
   pub pinned_files : (files : Files) (account : Account) → HaveFiles old files account → HaveFiles new files account
@@ -73,8 +74,8 @@ module _ (old new : Objects) (only : OnlyPins old new) where
       files_on old new files files account account (ap (λ (h : Heap). h.descs) only.heap) (ap (λ (h : Heap). h.pipes) only.heap) (ap (λ (h : Heap). h.socks) only.heap)
       (ap (λ (h : Heap). h.chunks) only.heap) refl refl refl refl refl
       (λ number have.
-      subst (λ (view : TableView). HaveDescriptors number (processes new.heap view) view.last files) (sym only.procs)
-      (subst (λ procs. HaveDescriptors number procs old.procs.last files) (sym (ap (λ (h : Heap). processes h old.procs) only.heap)) have))
+      subst (λ (view : TableView). HaveDescriptors (numbers_in new.heap) number (processes new.heap view) view.last files) (sym only.procs)
+      (subst (λ procs. HaveDescriptors (numbers_in new.heap) number procs old.procs.last files) (sym (ap (λ (h : Heap). processes h old.procs) only.heap)) have))
 
   pub pinned_queues : QueuesStand old.heap new.heap
   pinned_queues = queues_same old.heap new.heap (ap (λ (h : Heap). h.pipes) only.heap) (ap (λ (h : Heap). h.socks) only.heap)

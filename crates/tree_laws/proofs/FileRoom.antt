@@ -1,5 +1,5 @@
 -- How long a file is after a write or a change of its size, and how many bytes so many blocks hold.
-use Rattle.std.proofs.Common.{◌≡◌, ℕ, ◌+◌, ◌-◌, ◌*◌, ◌/◌, ◌^◌, ◌<◌, ◌≤◌, Bool, cond, inl, inr, List, ◌++◌, length, take, drop, replicate, ltb, ap, ◌∙◌, arith, length-append, length-drop, length-take}
+use Rattle.std.proofs.Common.{◌≡◌, ℕ, ◌+◌, ◌-◌, ◌*◌, ◌/◌, ◌^◌, ◌<◌, ◌≤◌, Bool, cond, inl, inr, List, ◌++◌, length, min, take, drop, replicate, ltb, ap, arith, length-append, length-drop, length-take}
 use Rattle.std.specs.List.{All}
 use Rattle.std.proofs.lemmas.Bool.{cases_lt, lt-ltb, le-ltb}
 use Rattle.std.proofs.lemmas.List.{length-replicate}
@@ -25,46 +25,21 @@ bytes_overwritten at new old are_new are =
     let P : ℕ → Type 0 = λ byte. byte < 2 ^ 8 in
     All-append P (resized at old ++ new) (drop (at + length new) old) (All-append P (resized at old) new (bytes_resized at old are) are_new) (All-drop P (at + length new) old are)
 
--- what blocks of bytes hold, beside the block of pointers that goes with more than ten
-abbrev room_in : ℕ → ℕ
-room_in blocks = 1024 * cond (ltb 10 blocks) (blocks - 1) blocks
+-- ---- how much so many blocks hold
 
-large_blocks : (size : ℕ) → 10 < (size + 1023) / 1024 → blocks_of size ≡ (size + 1023) / 1024 + 1
-large_blocks size lt = ap (λ (b : Bool). (size + 1023) / 1024 + cond b 1 0) (lt-ltb 10 ((size + 1023) / 1024) lt)
-
-small_blocks : (size : ℕ) → (size + 1023) / 1024 ≤ 10 → blocks_of size ≡ (size + 1023) / 1024
-small_blocks size le = ap (λ (b : Bool). (size + 1023) / 1024 + cond b 1 0) (le-ltb 10 ((size + 1023) / 1024) le) ∙ (let same : (size + 1023) / 1024 + 0 ≡ (size + 1023) / 1024 = omega arith in same)
+-- as it was said before: beside the block of pointers that goes with more than ten
+pub capacity_is : (blocks : ℕ) → capacity blocks ≡ min greatest_size (1024 * cond (ltb 10 blocks) (blocks - 1) blocks)
+capacity_is blocks = elim (cases_lt 10 blocks) [
+  | inl many ↦
+      let room : 1024 * cond (ltb 10 blocks) (blocks - 1) blocks ≡ 1024 * (blocks - 1) = ap (λ (b : Bool). 1024 * cond b (blocks - 1) blocks) (lt-ltb 10 blocks many) in omega (arith, room, many)
+  | inr few ↦
+      let room : 1024 * cond (ltb 10 blocks) (blocks - 1) blocks ≡ 1024 * blocks = ap (λ (b : Bool). 1024 * cond b (blocks - 1) blocks) (le-ltb 10 blocks few) in omega (arith, room, few)
+]
 
 -- what fits takes no more blocks
 pub capacity_fits : (blocks size : ℕ) → size ≤ capacity blocks → blocks_of size ≤ blocks
-capacity_fits blocks size le =
-    elim (cases_lt 10 blocks) [
-      | inl many ↦
-          let room : room_in blocks ≡ 1024 * (blocks - 1) = ap (λ (b : Bool). 1024 * cond b (blocks - 1) blocks) (lt-ltb 10 blocks many) in
-          elim (cases_lt 10 ((size + 1023) / 1024)) [
-            | inl large ↦ omega (arith, le, room, large_blocks size large, many)
-            | inr small ↦ omega (arith, small_blocks size small, small, many)
-          ]
-      | inr few ↦
-          let room : room_in blocks ≡ 1024 * blocks = ap (λ (b : Bool). 1024 * cond b (blocks - 1) blocks) (le-ltb 10 blocks few) in
-          let held : (size + 1023) / 1024 ≤ blocks = omega (arith, le, room) in
-          omega (arith, small_blocks size (omega (arith, held, few)), held)
-    ]
+capacity_fits blocks size le = omega (arith, le)
 
 -- and what takes no more blocks fits
 pub fits_capacity : (blocks size : ℕ) → size ≤ greatest_size → blocks_of size ≤ blocks → size ≤ capacity blocks
-fits_capacity blocks size most le =
-    elim (cases_lt 10 blocks) [
-      | inl many ↦
-          let room : room_in blocks ≡ 1024 * (blocks - 1) = ap (λ (b : Bool). 1024 * cond b (blocks - 1) blocks) (lt-ltb 10 blocks many) in
-          elim (cases_lt 10 ((size + 1023) / 1024)) [
-            | inl large ↦ omega (arith, most, room, large_blocks size large, le, many)
-            | inr small ↦ omega (arith, most, room, small, many)
-          ]
-      | inr few ↦
-          let room : room_in blocks ≡ 1024 * blocks = ap (λ (b : Bool). 1024 * cond b (blocks - 1) blocks) (le-ltb 10 blocks few) in
-          elim (cases_lt 10 ((size + 1023) / 1024)) [
-            | inl large ↦ absurd (omega (arith, large_blocks size large, le, few, large))
-            | inr small ↦ omega (arith, most, room, small_blocks size small, le)
-          ]
-    ]
+fits_capacity blocks size most le = omega (arith, most, le)

@@ -42,18 +42,7 @@ none_among entry entries none among = let len : length entries ≡ 0 = ap length
 
 -- more bytes take no fewer blocks
 pub blocks_of-le : (size more : ℕ) → size ≤ more → blocks_of size ≤ blocks_of more
-blocks_of-le size more le =
-    elim (cases_Bool (ltb 10 ((size + 1023) / 1024))) [
-      | inl large ↦
-          let larger : ltb 10 ((more + 1023) / 1024) ≡ true = lt-ltb 10 ((more + 1023) / 1024) (omega (arith, ltb-true 10 ((size + 1023) / 1024) large, le)) in
-          let is : blocks_of size ≡ (size + 1023) / 1024 + 1 = ap (λ (b : Bool). (size + 1023) / 1024 + cond b 1 0) large in
-          let then_is : blocks_of more ≡ (more + 1023) / 1024 + 1 = ap (λ (b : Bool). (more + 1023) / 1024 + cond b 1 0) larger in
-          omega (arith, is, then_is, le)
-      | inr small ↦
-          let is : blocks_of size ≡ (size + 1023) / 1024 + 0 = ap (λ (b : Bool). (size + 1023) / 1024 + cond b 1 0) small in
-          let most : (more + 1023) / 1024 ≤ blocks_of more = omega arith in
-          omega (arith, is, most, le)
-    ]
+blocks_of-le size more le = omega (arith, le)
 
 -- ---- a name goes
 

@@ -23,16 +23,8 @@ fn two_blocks() -> Purse
     ensures bytes { left_bytes result ≡ 2176 }
 {
     Purse::of(Need {
-        proc: 0,
-        node: 0,
-        page: 0,
-        desc: 0,
-        vnode: 0,
-        name: 0,
         block: 2,
-        pipe: 0,
-        chunk: 0,
-        sock: 0,
+        ..Need::default()
     })
 }
 

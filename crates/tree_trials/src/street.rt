@@ -130,16 +130,10 @@ fn purse_of(many: u32) -> Purse
     ensures bytes { left_bytes result ≡ 1280 * many }
 {
     Purse::of(Need {
-        proc: 0,
-        node: 0,
-        page: 0,
-        desc: 0,
         vnode: many,
         name: many,
         block: many,
-        pipe: 0,
-        chunk: 0,
-        sock: 0,
+        ..Need::default()
     })
 }
 

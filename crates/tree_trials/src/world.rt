@@ -50,7 +50,7 @@ pub fn purse(rt: &impl Abort, heap: &KHeap) -> Purse
         vnode: 2,
         name: 2,
         block: 2,
-        ..NOTHING
+        ..Need::default()
     })
 }
 
@@ -64,7 +64,7 @@ pub fn double_purse(rt: &impl Abort, heap: &KHeap) -> Purse
         vnode: 4,
         name: 4,
         block: 2,
-        ..NOTHING
+        ..Need::default()
     })
 }
 
@@ -77,22 +77,9 @@ pub fn closing_purse(rt: &impl Abort, heap: &KHeap) -> Purse
     assert!(rt; heap.live() <= heap.heap() - 2176);
     Purse::of(Need {
         block: 2,
-        ..NOTHING
+        ..Need::default()
     })
 }
-
-const NOTHING: Need = Need {
-    proc: 0,
-    node: 0,
-    page: 0,
-    desc: 0,
-    vnode: 0,
-    name: 0,
-    block: 0,
-    pipe: 0,
-    chunk: 0,
-    sock: 0,
-};
 
 /// One more may hold a node: fewer than a million nodes are held.
 pub fn expect_few(rt: &impl Abort, held: &[u32])

@@ -3,7 +3,7 @@ use Rattle.std.specs.Prelude.{◌≡◌, ◌⊎◌, ℕ, ◌+◌, ◌-◌, ◌<�
 use Rattle.std.specs.Map.{remove_entry}
 use Rattle.kabi_types.specs.declared.classes.Class.TheVariants as class
 use Rattle.kabi_types.specs.declared.inodes.Inode.{Inode}
-use Rattle.kheap_slabs.specs.Counts.{with_count}
+use Rattle.kabi_types.specs.Counts.{with_count}
 use Rattle.kheap_slabs.specs.Objects.{object, put, without}
 use Rattle.kheap_slabs.specs.Purse.{Purse}
 use Rattle.kheap_slabs.specs.declared.objects.Vnode.{Vnode}

@@ -50,7 +50,7 @@ pub fn walking(rt: &impl Abort, heap: &KHeap) -> Purse
         vnode: 2,
         name: 2,
         block: 2,
-        ..NOTHING
+        ..Need::default()
     })
 }
 
@@ -63,19 +63,6 @@ pub fn blocks(rt: &impl Abort, heap: &KHeap) -> Purse
     assert!(rt; heap.live() <= heap.heap() - 2176);
     Purse::of(Need {
         block: 2,
-        ..NOTHING
+        ..Need::default()
     })
 }
-
-const NOTHING: Need = Need {
-    proc: 0,
-    node: 0,
-    page: 0,
-    desc: 0,
-    vnode: 0,
-    name: 0,
-    block: 0,
-    pipe: 0,
-    chunk: 0,
-    sock: 0,
-};

@@ -44,16 +44,13 @@ pub(crate) fn purse(rt: &impl Abort, heap: &KHeap) -> Purse
 {
     assert!(rt; heap.heap() >= 42496 && heap.live() <= heap.heap() - 42496);
     Purse::of(Need {
-        proc: 0,
         node: 1,
         page: 9,
         desc: 2,
-        vnode: 0,
-        name: 0,
-        block: 0,
         pipe: 1,
         chunk: 8,
         sock: 2,
+        ..Need::default()
     })
 }
 

@@ -21,16 +21,8 @@ fn purse_of_pages(rt: &impl Abort, heap: &KHeap) -> Purse
 {
     assert!(rt; heap.heap() >= 12288 && heap.live() <= heap.heap() - 12288);
     Purse::of(Need {
-        proc: 0,
-        node: 0,
         page: 3,
-        desc: 0,
-        vnode: 0,
-        name: 0,
-        block: 0,
-        pipe: 0,
-        chunk: 0,
-        sock: 0,
+        ..Need::default()
     })
 }
 

@@ -29,16 +29,8 @@ fn purse(rt: &impl Abort, heap: &KHeap, block: u32) -> Purse
 {
     assert!(rt; heap.heap() >= 4352 && heap.live() <= heap.heap() - 4352);
     Purse::of(Need {
-        proc: 0,
-        node: 0,
-        page: 0,
-        desc: 0,
-        vnode: 0,
-        name: 0,
         block,
-        pipe: 0,
-        chunk: 0,
-        sock: 0,
+        ..Need::default()
     })
 }
 

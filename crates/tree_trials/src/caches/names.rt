@@ -30,16 +30,8 @@ fn purse(rt: &impl Abort, heap: &KHeap, name: u32) -> Purse
 {
     assert!(rt; heap.heap() >= 256 && heap.live() <= heap.heap() - 256);
     Purse::of(Need {
-        proc: 0,
-        node: 0,
-        page: 0,
-        desc: 0,
-        vnode: 0,
         name,
-        block: 0,
-        pipe: 0,
-        chunk: 0,
-        sock: 0,
+        ..Need::default()
     })
 }
 

@@ -32,16 +32,8 @@ fn purse(rt: &impl Abort, heap: &KHeap, vnode: u32) -> Purse
 {
     assert!(rt; heap.heap() >= 512 && heap.live() <= heap.heap() - 512);
     Purse::of(Need {
-        proc: 0,
-        node: 0,
-        page: 0,
-        desc: 0,
         vnode,
-        name: 0,
-        block: 0,
-        pipe: 0,
-        chunk: 0,
-        sock: 0,
+        ..Need::default()
     })
 }
 

@@ -85,7 +85,7 @@ returns-clause-takes_none g c = λ block is.
     let left : c.data_count-left.result ≡ data_blocks c.args.size = c.data_count-left.ensures in
     let apart : 10 < data_blocks c.args.size → 0 ≢ c.forget_pointers.new.indirect = λ large e.
     let stays = c.forget_pointers.ensures.stays (inl (omega (arith, large, left))) in
-    let files = named_is_for_files before c.requires.sound c.args.number old Pointers c.requires.node.0 (omega (arith, large, c.requires.size)) in
+    let files = named_is_for_files before c.requires.sound c.args.number old (Pointers 0) c.requires.node.0 (omega (arith, large, c.requires.size)) in
     omega (arith, e, stays.1, files.0)
     in
     let kept : g.B.Blocks.blocks c.get-map.new.self ≡ before = c.get-map.ensures.kept ∙ c.behind_of.ensures.kept in

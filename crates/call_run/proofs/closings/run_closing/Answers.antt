@@ -1,6 +1,7 @@
-use Rattle.std.proofs.Common.{rules, subst, sym, w64}
+use Rattle.std.proofs.Common.{◌≡◌, None, rules, subst, sym, w64}
 use Rattle.std.proofs.lemmas.Int.{to_z-of_z}
 use mir.Val.{of_z, to_z}
+use Rattle.kabi_types.specs.Arguments.{argument_fault}
 use Rattle.kabi_types.specs.declared.calls.Call.TheVariants as call
 use Rattle.posix_defs.specs.Needs.{slack}
 use Rattle.store_objects.specs.Uses.{UsesAtMost}
@@ -27,6 +28,11 @@ returns-in-Exit-clause-does c =
 
 pub signal_process-requires-clause-runs : goal.signal_process-requires-clause-runs
 signal_process-requires-clause-runs c = caller_runs c.args.objects.now c.args.caller.now.pid c.args.caller.now c.requires.caller
+
+pub signal_process-requires-clause-right : goal.signal_process-requires-clause-right
+signal_process-requires-clause-right c =
+    subst (λ which. argument_fault which ≡ None)
+    (spelt_two c.args.call.now call.Kill c.in-Kill.target c.in-Kill.signal c.in-Kill.is (search (rules, to_z-of_z)) (search (rules, to_z-of_z))) c.requires.right
 
 pub returns-in-Kill-clause-uses : goal.returns-in-Kill-clause-uses
 returns-in-Kill-clause-uses c = subst (λ which. UsesAtMost c.args.objects.now.heap c.signal_process.new.objects.heap 0 (slack which)) (sym c.in-Kill.is) c.signal_process.ensures.uses

@@ -1,10 +1,10 @@
 use Rattle.std.proofs.Common.{◌≡◌, ◌*◌, ◌≤◌, ℕ, max, true, false, sym, ap, ◌∙◌, subst}
 use Rattle.kabi_types.specs.Call.{kind_of}
 use Rattle.kabi_types.specs.Class.{size}
+use Rattle.kabi_types.specs.Counts.{need_bytes}
 use Rattle.kabi_types.specs.declared.classes.Class.TheVariants.{Block, Chunk}
 use Rattle.kabi_types.specs.declared.classes.Need.{Need}
 use Rattle.posix_defs.specs.Needs.{bound, is_write}
-use Rattle.posix_defs.specs.Sizes.{bytes_of}
 use Rattle.posix_defs.proofs.PriceLemmas.{greater, most_of_right, sums}
 use Rattle.need_table.proofs.bounds.bound.Goals as goal
 
@@ -25,7 +25,7 @@ returns-then-is_write-clause-most c =
 pub returns-else-is_write-clause-value : goal.returns-else-is_write-clause-value
 returns-else-is_write-clause-value c =
     let reads : is_write (kind_of c.args.call.now) ≡ false = sym (c.is_write.ensures ∙ ap is_write c.kind.ensures) ∙ c.if-is_write.false in
-    c.total.ensures ∙ ap bytes_of c.need-need.ensures.objects ∙ sym (sums c.args.call.now reads)
+    c.total.ensures ∙ ap need_bytes c.need-need.ensures.objects ∙ sym (sums c.args.call.now reads)
 
 pub returns-else-is_write-clause-most : goal.returns-else-is_write-clause-most
 returns-else-is_write-clause-most c =

@@ -3,6 +3,8 @@ use Rattle.std.specs.List.{range_with_len}
 use Rattle.kheap_laws.proofs.PaidLemmas.{TakesNothing-refl, TakesNothing-trans}
 use Rattle.posix_defs.specs.Files.Closing.{after_closes, after_end_of}
 use Rattle.proc_descs.specs.Having.{HaveOpen}
+use Rattle.kabi_types.specs.Arguments.{most_descriptors}
+use Rattle.proc_table.proofs.NumberLemmas.{numbers_all}
 use Rattle.proc_table.proofs.PlaceLemmas.{key_of-proc}
 use Rattle.proc_descs.proofs.AllClose.{ClosesBelow, below_all, below_begins, below_more, closes_next, end_of_none, none_to_close}
 use Rattle.proc_descs.proofs.Fronts.{queues_same, queues_then}
@@ -44,13 +46,13 @@ loop-fd-preserved c =
 pub returns-clause-closed : goal.returns-clause-closed
 unfolding after_end_of
 returns-clause-closed c = λ numbers files have.
-    subst (λ n. HaveOpen numbers c.loop-fd.heap c.args.procs.now (after_closes files c.args.pid (range_with_len 0 n))) (let e : c.loop-fd.fd ≡ 32 = omega arith in e)
+    subst (λ n. HaveOpen numbers c.loop-fd.heap c.args.procs.now (after_closes files c.args.pid (range_with_len 0 n))) (let e : c.loop-fd.fd ≡ most_descriptors = omega arith in e)
     (c.loop-fd.invariant.closed numbers files have)
 
 pub returns-clause-closes : goal.returns-clause-closes
 returns-clause-closes c =
-    below_all c.args.heap.now c.loop-fd.heap c.args.procs.now c.args.pid c.is_well_formed.ensures.descriptors
-    (subst (ClosesBelow c.args.heap.now c.loop-fd.heap c.args.procs.now c.args.pid) (let e : c.loop-fd.fd ≡ 32 = omega arith in e) c.loop-fd.invariant.closes)
+    below_all c.args.heap.now c.loop-fd.heap c.args.procs.now c.args.pid (λ key proc. numbers_all c.args.heap.now key proc c.is_well_formed.ensures)
+    (subst (ClosesBelow c.args.heap.now c.loop-fd.heap c.args.procs.now c.args.pid) (let e : c.loop-fd.fd ≡ most_descriptors = omega arith in e) c.loop-fd.invariant.closes)
 
 -- ---- nothing is open
 
@@ -69,4 +71,4 @@ returns-then-has_none_open-clause-closed c = λ numbers files have.
 pub returns-then-has_none_open-clause-closes : goal.returns-then-has_none_open-clause-closes
 returns-then-has_none_open-clause-closes c =
     none_to_close c.args.heap.now c.args.procs.now c.args.pid c.in-Some.key c.get_proc.result.now (sym c.key_of.ensures ∙ c.in-Some.is) c.get_proc.ensures
-    (c.is_well_formed.ensures.descriptors c.in-Some.key c.get_proc.result.now c.get_proc.ensures) (sym c.has_none_open.ensures ∙ c.if-has_none_open.true)
+    (numbers_all c.args.heap.now c.in-Some.key c.get_proc.result.now c.is_well_formed.ensures c.get_proc.ensures) (sym c.has_none_open.ensures ∙ c.if-has_none_open.true)

@@ -6,7 +6,7 @@ use Rattle.kheap_slabs.specs.Heap.{Heap}
 use Rattle.kheap_laws.proofs.PaidLemmas.{TakesNothing-trans}
 use Rattle.open_laws.specs.Open.{AreOpen}
 use Rattle.posix_defs.specs.Files.State.{with_open}
-use Rattle.proc_table.specs.Procs.{proc_of}
+use Rattle.proc_table.specs.Procs.{numbers_in, proc_of}
 use Rattle.proc_table.specs.Table.{processes}
 use Rattle.proc_table.proofs.PlaceLemmas.{key_of-proc, some_same}
 use Rattle.proc_descs.specs.Having.{HaveOpen, OpensNoNode, node_closed, node_dropped}
@@ -25,14 +25,14 @@ get_proc-proc-requires c =
 
 pub returns-in_default-descriptors-clause-closed : goal.returns-in_default-descriptors-clause-closed
 returns-in_default-descriptors-clause-closed c = λ numbers files have.
-    let none = no_some (slice_index_or c.get_proc-proc.result.now.descriptors c.args.fd None) c.in_default-descriptors.not-Some in
+    let none = no_some (slice_index_or (numbers_in c.args.heap.now c.get_proc-proc.result.now) c.args.fd None) c.in_default-descriptors.not-Some in
     subst (HaveOpen numbers c.args.heap.now c.args.procs.now)
     (sym (unopened numbers c.args.heap.now c.args.procs.now files c.args.pid c.args.fd c.in-Some.key c.get_proc-proc.result.now c.requires.listed (sym c.key_of.ensures ∙ c.in-Some.is) c.get_proc-proc.ensures none have))
     have
 
 pub returns-in_default-descriptors-clause-closes : goal.returns-in_default-descriptors-clause-closes
 returns-in_default-descriptors-clause-closes c =
-    let none = no_some (slice_index_or c.get_proc-proc.result.now.descriptors c.args.fd None) c.in_default-descriptors.not-Some in
+    let none = no_some (slice_index_or (numbers_in c.args.heap.now c.get_proc-proc.result.now) c.args.fd None) c.in_default-descriptors.not-Some in
     record {
       key = c.in-Some.key;
       proc = c.get_proc-proc.result.now;
@@ -45,10 +45,10 @@ returns-in_default-descriptors-clause-closes c =
 pub returns-in_default-descriptors-clause-node : goal.returns-in_default-descriptors-clause-node
 returns-in_default-descriptors-clause-node c = λ proc found.
     let here = c.get_proc-proc.result.now in
-    let none = no_some (slice_index_or here.descriptors c.args.fd None) c.in_default-descriptors.not-Some in
+    let none = no_some (slice_index_or (numbers_in c.args.heap.now here) c.args.fd None) c.in_default-descriptors.not-Some in
     let same : proc ≡ here = some_same (proc_of (processes c.args.heap.now c.args.procs.now) c.args.pid) proc here found
     (found_before c.args.heap.now.procs c.in-Some.key here here c.get_proc-proc.ensures refl c.args.procs.now.listed c.args.pid c.requires.listed.stored (sym c.key_of.ensures ∙ c.in-Some.is)) in
-    sym (ap (node_closed c.args.heap.now.descs) (ap (λ (p : Proc). slice_index_or p.descriptors c.args.fd None) same ∙ none))
+    sym (ap (node_closed c.args.heap.now.descs) (ap (λ (p : Proc). slice_index_or (numbers_in c.args.heap.now p) c.args.fd None) same ∙ none))
 
 -- ---- it is
 
@@ -96,7 +96,7 @@ returns-clause-node c = λ proc found.
     let desc = desc_between c.args.heap.now c.args.procs.now c.args.pid c.args.fd c.in-Some.key here c.in-Some-descriptors.descriptor c.requires.listed
     named c.get_proc-proc.ensures c.in-Some-descriptors.is c.set_proc.new.self c.set_proc.ensures.kept c.requires.owners in
     c.drop_desc.ensures.node desc.0 desc.1
-    ∙ sym (ap (node_closed c.args.heap.now.descs) (ap (λ (p : Proc). slice_index_or p.descriptors c.args.fd None) same ∙ c.in-Some-descriptors.is)
+    ∙ sym (ap (node_closed c.args.heap.now.descs) (ap (λ (p : Proc). slice_index_or (numbers_in c.args.heap.now p) c.args.fd None) same ∙ c.in-Some-descriptors.is)
     ∙ ap node_dropped (sym (ap (λ (h : Heap). object h.descs c.in-Some-descriptors.descriptor.desc) c.set_proc.ensures.kept) ∙ desc.1))
 
 pub returns-clause-takes : goal.returns-clause-takes

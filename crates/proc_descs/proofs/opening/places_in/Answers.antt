@@ -1,4 +1,6 @@
 use Rattle.std.proofs.Common.{◌∙◌, is_some, length, ap, refl, sym}
+use Rattle.proc_table.proofs.NumberLemmas.{numbers_all}
+use Rattle.proc_table.specs.Procs.{numbers_in}
 use Rattle.proc_table.proofs.PlaceLemmas.{key_of-proc}
 use Rattle.proc_descs.specs.Having.{places_in}
 use Rattle.proc_descs.proofs.Listing.{found_before}
@@ -12,12 +14,12 @@ get_proc-requires c =
 pub returns-clause-places : goal.returns-clause-places
 returns-clause-places c =
     let here = c.get_proc.result.now in
-    sym (ap places_in (found_before c.args.heap.now.procs c.in-Some.key here here c.get_proc.ensures refl c.args.procs.now.listed c.args.pid c.requires.listed.stored
+    sym (ap (places_in (numbers_in c.args.heap.now)) (found_before c.args.heap.now.procs c.in-Some.key here here c.get_proc.ensures refl c.args.procs.now.listed c.args.pid c.requires.listed.stored
     (sym c.key_of.ensures ∙ c.in-Some.is)))
 
 pub returns-clause-all : goal.returns-clause-all
 returns-clause-all c =
     let here = c.get_proc.result.now in
-    ap length (ap places_in (found_before c.args.heap.now.procs c.in-Some.key here here c.get_proc.ensures refl c.args.procs.now.listed c.args.pid c.requires.listed.stored
+    ap length (ap (places_in (numbers_in c.args.heap.now)) (found_before c.args.heap.now.procs c.in-Some.key here here c.get_proc.ensures refl c.args.procs.now.listed c.args.pid c.requires.listed.stored
     (sym c.key_of.ensures ∙ c.in-Some.is)))
-    ∙ c.is_well_formed.ensures.descriptors c.in-Some.key here c.get_proc.ensures
+    ∙ numbers_all c.args.heap.now c.in-Some.key here c.is_well_formed.ensures c.get_proc.ensures

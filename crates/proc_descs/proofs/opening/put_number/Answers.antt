@@ -1,4 +1,5 @@
 use Rattle.std.proofs.Common.{◌∙◌, is_some, ap, sym, arith}
+use Rattle.proc_table.proofs.NumberLemmas.{numbers_all}
 use Rattle.proc_table.proofs.PlaceLemmas.{key_of-proc}
 use Rattle.proc_descs.proofs.opening.put_number.Goals as goal
 
@@ -10,7 +11,7 @@ get_proc-proc-requires c =
 pub returns-clause-names : goal.returns-clause-names
 returns-clause-names c =
     let here = c.get_proc-proc.result.now in
-    let long = c.is_well_formed.ensures.descriptors c.in-Some.key here c.get_proc-proc.ensures in
+    let long = numbers_all c.args.heap.now c.in-Some.key here c.is_well_formed.ensures c.get_proc-proc.ensures in
     record {
       key = c.in-Some.key;
       proc = here;

@@ -1,6 +1,6 @@
 use Rattle.std.proofs.Common.{◌≡◌, ◌<◌, ◌∙◌, ap, arith, is_some, subst, sym, w64}
 use Rattle.std.proofs.lemmas.Int.{to_z-of_z}
-use Rattle.kabi_types.specs.Arguments.{count_of}
+use Rattle.kabi_types.specs.Arguments.{count_of, most_descriptors}
 use Rattle.posix_defs.specs.Calls.OnDescriptors.{close}
 use Rattle.posix_defs.specs.Files.Closing.{after_close}
 use Rattle.proc_descs.specs.Having.{node_closed}
@@ -29,14 +29,14 @@ pub overflow_cast-number : goal.overflow_cast-number
 overflow_cast-number c =
     let fd = to_z-of_z w64 c.args.fd c.ranges.fd in
     let count : c.count_of-number.result ≡ count_of c.args.fd = subst (λ z. c.count_of-number.result ≡ count_of z) fd c.count_of-number.ensures in
-    let few : count_of c.args.fd < 32 = subst (λ z. count_of z < 32) fd (c.descriptor_of.ensures.within (ap is_some c.in-Some.is)) in
+    let few : count_of c.args.fd < most_descriptors = subst (λ z. count_of z < most_descriptors) fd (c.descriptor_of.ensures.within (ap is_some c.in-Some.is)) in
     omega (arith, count, few)
 
 pub close_open-requires-clause-number : goal.close_open-requires-clause-number
 close_open-requires-clause-number c =
     let fd = to_z-of_z w64 c.args.fd c.ranges.fd in
     let count : c.count_of-number.result ≡ count_of c.args.fd = subst (λ z. c.count_of-number.result ≡ count_of z) fd c.count_of-number.ensures in
-    let few : count_of c.args.fd < 32 = subst (λ z. count_of z < 32) fd (c.descriptor_of.ensures.within (ap is_some c.in-Some.is)) in
+    let few : count_of c.args.fd < most_descriptors = subst (λ z. count_of z < most_descriptors) fd (c.descriptor_of.ensures.within (ap is_some c.in-Some.is)) in
     omega (arith, count, few)
 
 pub returns-clause-answers : goal.returns-clause-answers

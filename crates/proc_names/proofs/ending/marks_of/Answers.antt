@@ -4,6 +4,7 @@ use Rattle.std.proofs.lemmas.Bool.{cases_eq}
 use Rattle.std.proofs.lemmas.List.{get_or-set_other, get_or-set_same, length-set}
 use Rattle.proc_names.specs.Ending.{goes_at_exec, is_marked}
 use Rattle.proc_names.proofs.ending.marks_of.Goals as goal
+use Rattle.kabi_types.specs.Arguments.{most_descriptors}
 
 pub loop-fd-init : goal.loop-fd-init
 loop-fd-init c = (λ k below. absurd (omega (arith, below)), refl)
@@ -13,7 +14,7 @@ loop-fd-preserved c =
     let marks = c.loop-fd.marks in
     let fd = c.loop-fd.fd in
     let long = c.loop-fd.invariant.1 in
-    let within : fd < 32 = c.loop-fd-test.true in (
+    let within : fd < most_descriptors = c.loop-fd-test.true in (
       λ k below. elim (cases_eq k fd) [
         | inl same ↦
             ap (λ n. is_marked (slice_set marks fd c.closes_at_exec.result) n) same ∙ get_or-set_same marks fd c.closes_at_exec.result false (omega (arith, long, within)) ∙ c.closes_at_exec.ensures

@@ -1,6 +1,6 @@
 use Rattle.std.proofs.Common.{◌≡◌, ◌∙◌, ◌<◌, [], None, Some, true, false, cond, ne_eqb, ap, is_some, refl, pos, subst, sym, w64, arith}
 use Rattle.std.proofs.lemmas.Int.{to_z-of_z}
-use Rattle.kabi_types.specs.Arguments.{count_of, may_be_descriptor}
+use Rattle.kabi_types.specs.Arguments.{count_of, may_be_descriptor, most_descriptors}
 use Rattle.kabi_types.specs.declared.replies.Reply.TheVariants.{Val}
 use Rattle.kheap_laws.proofs.PaidLemmas.{IsPaid-nothing, IsPaid-trans}
 use Rattle.kheap_slabs.specs.Heap.{Heap}
@@ -19,6 +19,7 @@ use Rattle.proc_pipes.proofs.Changes.{changes_nothing, closed_names_nothing, nam
 use Rattle.proc_files.proofs.Changing.{holding_closed, holding_of, holding_then}
 use Rattle.proc_names.proofs.Shares.{hold_named}
 use Rattle.proc_names.proofs.sharing.dup_number.Goals as goal
+use Rattle.proc_table.proofs.NumberLemmas.{numbers_all}
 
 -- ---- it isn't open
 
@@ -71,7 +72,7 @@ pub overflow_cast-from : goal.overflow_cast-from
 overflow_cast-from c =
     let fd = to_z-of_z w64 c.args.fd c.ranges.fd in
     let from_is : c.count_of-from.result ≡ count_of c.args.fd = subst (λ z. c.count_of-from.result ≡ count_of z) fd c.count_of-from.ensures in
-    let few : count_of c.args.fd < 32 = subst (λ z. count_of z < 32) fd (c.descriptor_of.ensures.within (ap is_some c.in-Some.is)) in
+    let few : count_of c.args.fd < most_descriptors = subst (λ z. count_of z < most_descriptors) fd (c.descriptor_of.ensures.within (ap is_some c.in-Some.is)) in
     omega (arith, from_is, few)
 
 pub overflow_cast-number : goal.overflow_cast-number
@@ -131,7 +132,7 @@ share_at-requires-clause-used c =
 pub share_at-requires-clause-free : goal.share_at-requires-clause-free
 share_at-requires-clause-free c =
     let closes = c.close_open.ensures.closes in
-    let long = c.is_well_formed.ensures.descriptors closes.closes.key closes.closes.proc closes.closes.there in
+    let long = numbers_all c.args.heap.now closes.closes.key closes.closes.proc c.is_well_formed.ensures closes.closes.there in
     let to = to_z-of_z w64 c.args.to c.ranges.to in
     let within : may_be_descriptor c.args.to ≡ true =
     sym (subst (λ z. c.may_be_descriptor.result ≡ may_be_descriptor z) to c.may_be_descriptor.ensures) ∙ c.if-not-may_be_descriptor.false in

@@ -9,7 +9,7 @@ use Rattle.posix_defs.specs.Answer.{replied}
 use Rattle.posix_defs.specs.Calls.OnPipes.{pipe}
 use Rattle.posix_defs.specs.Files.State.{descriptors_of}
 use Rattle.posix_defs.specs.Plain.{with_files}
-use Rattle.proc_table.specs.Procs.{proc_of}
+use Rattle.proc_table.specs.Procs.{numbers_in, proc_of}
 use Rattle.proc_table.specs.Table.{procs_at}
 use Rattle.proc_descs.specs.Having.{OpensNoNode, places_in}
 use Rattle.proc_descs.proofs.Fronts.{queues_same, queues_then}
@@ -62,7 +62,7 @@ open_one-requires-clause-number c = (subst (λ o. IfSome o (IsLowest c.args.heap
 
 pub open_one-requires-clause-free : goal.open_one-requires-clause-free
 open_one-requires-clause-free c =
-    (ap (λ (p : List (Option Proc)). slice_index_or (places_in (proc_of (procs_at p c.args.procs.now.listed) c.args.pid)) c.in-Some.first None) (same_procs c.args.heap.now c.open_ends-ends.new.heap c.open_ends-ends.result.pipe c.open_ends-ends.result.reading c.open_ends-ends.result.writing c.open_ends-ends.ensures.opens))
+    (ap (λ (p : List (Option Proc)). slice_index_or (places_in (numbers_in c.args.heap.now) (proc_of (procs_at p c.args.procs.now.listed) c.args.pid)) c.in-Some.first None) (same_procs c.args.heap.now c.open_ends-ends.new.heap c.open_ends-ends.result.pipe c.open_ends-ends.result.reading c.open_ends-ends.result.writing c.open_ends-ends.ensures.opens))
     ∙ (subst (λ o. IfSome o (IsLowest c.args.heap.now c.args.procs.now c.args.pid 0)) c.in-Some.is c.lowest_from-lowest.ensures.free).2
 
 pub open_one-requires-2-clause-free : goal.open_one-requires-2-clause-free
@@ -70,7 +70,7 @@ open_one-requires-2-clause-free c =
     let above = (subst (λ o. IfSome o (IsLowest c.args.heap.now c.args.procs.now c.args.pid (c.in-Some.first + 1))) c.in-Some-next.is c.lowest_from-next.ensures.free).1 in
     others_named c.open_ends-ends.new.heap c.open_one.new.heap c.args.procs.now c.args.pid c.in-Some.first c.in-Some-next.second (record { desc = c.open_ends-ends.result.reading; close_on_exec = false })
     (listed_on c.args.heap.now c.open_ends-ends.new.heap c.args.procs.now (same_procs c.args.heap.now c.open_ends-ends.new.heap c.open_ends-ends.result.pipe c.open_ends-ends.result.reading c.open_ends-ends.result.writing c.open_ends-ends.ensures.opens) c.requires.listed) c.open_one.ensures.names (λ same. omega (arith, same, above))
-    ∙ (ap (λ (p : List (Option Proc)). slice_index_or (places_in (proc_of (procs_at p c.args.procs.now.listed) c.args.pid)) c.in-Some-next.second None) (same_procs c.args.heap.now c.open_ends-ends.new.heap c.open_ends-ends.result.pipe c.open_ends-ends.result.reading c.open_ends-ends.result.writing c.open_ends-ends.ensures.opens))
+    ∙ (ap (λ (p : List (Option Proc)). slice_index_or (places_in (numbers_in c.args.heap.now) (proc_of (procs_at p c.args.procs.now.listed) c.args.pid)) c.in-Some-next.second None) (same_procs c.args.heap.now c.open_ends-ends.new.heap c.open_ends-ends.result.pipe c.open_ends-ends.result.reading c.open_ends-ends.result.writing c.open_ends-ends.ensures.opens))
     ∙ (subst (λ o. IfSome o (IsLowest c.args.heap.now c.args.procs.now c.args.pid (c.in-Some.first + 1))) c.in-Some-next.is c.lowest_from-next.ensures.free).2
 
 pub returns-clause-answers : goal.returns-clause-answers

@@ -6,6 +6,7 @@ use Rattle.proc_descs.proofs.Fronts.{queues_same, queues_then}
 use Rattle.proc_descs.proofs.NumberNames.{desc_named}
 use Rattle.proc_pipes.proofs.Changes.{changes_closed, changes_then, closed_names_nothing, node_of_number, others_stay}
 use Rattle.proc_pipes.proofs.sharing.replace.Goals as goal
+use Rattle.proc_table.proofs.NumberLemmas.{numbers_all}
 
 pub share_at-requires-clause-used : goal.share_at-requires-clause-used
 share_at-requires-clause-used c =
@@ -15,7 +16,7 @@ share_at-requires-clause-used c =
 pub share_at-requires-clause-free : goal.share_at-requires-clause-free
 share_at-requires-clause-free c =
     let closes = c.close_one-node.ensures.closes in
-    let long = c.is_well_formed.ensures.descriptors closes.key closes.proc closes.there in
+    let long = numbers_all c.args.heap.now closes.key closes.proc c.is_well_formed.ensures closes.there in
     closed_names_nothing c.args.heap.now c.close_one-node.new.heap c.args.procs.now c.args.pid c.args.to c.requires.listed closes
     (let few = c.requires.number in omega (arith, few, long))
 

@@ -3,6 +3,7 @@ use Rattle.kheap_slabs.proofs.ObjectLemmas.{object_of}
 use Rattle.kheap_slabs.specs.Heap.{Heap}
 use Rattle.kheap_laws.proofs.PaidLemmas.{TakesNothing-trans}
 use Rattle.open_laws.specs.Described.{after_share, counting}
+use Rattle.proc_table.specs.Procs.{numbers_in}
 use Rattle.proc_table.specs.Table.{processes}
 use Rattle.proc_descs.specs.Having.{HaveDescriptors, OpensNoNode}
 use Rattle.proc_descs.specs.Naming.{named_at}
@@ -32,7 +33,7 @@ returns-clause-opened c = λ numbers files have.
     c.open_one.ensures.opened numbers files (record {
       list = after_share have.list (numbers.descs c.args.desc);
       opened = c.share_desc.ensures.opened numbers have.list files have.opened;
-      descriptors = subst (λ (h : Heap). HaveDescriptors numbers.descs (processes h c.args.procs.now) c.args.procs.now.last files)
+      descriptors = subst (λ (h : Heap). HaveDescriptors (numbers_in h) numbers.descs (processes h c.args.procs.now) c.args.procs.now.last files)
           (sym (c.share_desc.ensures.kept found.0 found.1)) have.descriptors;
     })
 

@@ -2,7 +2,7 @@ use Rattle.std.proofs.Common.{◌∙◌, ◌≡◌, Some, ap, is_some, refl, sym
 use Rattle.std.proofs.lemmas.Int.{to_z-of_z}
 use Rattle.proc_table.proofs.PlaceLemmas.{key_of-proc}
 use Rattle.proc_queues.specs.Found.{held_at}
-use Rattle.proc_table.specs.Procs.{proc_of}
+use Rattle.proc_table.specs.Procs.{numbers_in, proc_of}
 use Rattle.proc_table.specs.Table.{processes}
 use Rattle.proc_queues.proofs.Opening.{named_held, none_opened, some_opened}
 use Rattle.proc_queues.proofs.lookups.opened.Goals as goal
@@ -16,13 +16,13 @@ pub returns-in-Some-held_at-clause-found : goal.returns-in-Some-held_at-clause-f
 returns-in-Some-held_at-clause-found c = λ numbers files have.
     some_opened c.args.heap.now c.args.procs.now c.args.pid c.in-Some.key c.get_proc.result.now c.requires.listed (sym c.key_of.ensures ∙ c.in-Some.is) c.get_proc.ensures numbers files have
     c.args.fd c.in-Some-held_at.descriptor c.get_desc.result.now
-    (sym (c.held_at.ensures ∙ ap (held_at c.get_proc.result.now.descriptors) (to_z-of_z w64 c.args.fd c.ranges.fd)) ∙ c.in-Some-held_at.is) c.get_desc.ensures
+    (sym (c.held_at.ensures ∙ ap (held_at (numbers_in c.args.heap.now c.get_proc.result.now)) (to_z-of_z w64 c.args.fd c.ranges.fd)) ∙ c.in-Some-held_at.is) c.get_desc.ensures
 
 pub returns-in-None-clause-found : goal.returns-in-None-clause-found
 returns-in-None-clause-found c = λ numbers files have.
     none_opened c.args.heap.now c.args.procs.now c.args.pid c.in-Some.key c.get_proc.result.now c.requires.listed (sym c.key_of.ensures ∙ c.in-Some.is) c.get_proc.ensures numbers files have
     c.args.fd
-    (sym (c.held_at.ensures ∙ ap (held_at c.get_proc.result.now.descriptors) (to_z-of_z w64 c.args.fd c.ranges.fd)) ∙ c.in-None.is)
+    (sym (c.held_at.ensures ∙ ap (held_at (numbers_in c.args.heap.now c.get_proc.result.now)) (to_z-of_z w64 c.args.fd c.ranges.fd)) ∙ c.in-None.is)
 
 pub returns-in-Some-held_at-clause-named : goal.returns-in-Some-held_at-clause-named
 returns-in-Some-held_at-clause-named c =
@@ -31,6 +31,6 @@ returns-in-Some-held_at-clause-named c =
     record {
       held = c.in-Some-held_at.descriptor;
       is = named_held c.args.heap.now c.args.procs.now c.args.pid c.get_proc.result.now c.args.fd found
-          ∙ (sym (c.held_at.ensures ∙ ap (held_at c.get_proc.result.now.descriptors) (to_z-of_z w64 c.args.fd c.ranges.fd)) ∙ c.in-Some-held_at.is);
+          ∙ (sym (c.held_at.ensures ∙ ap (held_at (numbers_in c.args.heap.now c.get_proc.result.now)) (to_z-of_z w64 c.args.fd c.ranges.fd)) ∙ c.in-Some-held_at.is);
       same = refl;
     }

@@ -3,6 +3,7 @@ use Rattle.open_laws.specs.Open.{renumbered}
 use Rattle.open_laws.specs.Polled.{IsOpenIn}
 use Rattle.open_laws.proofs.PolledLemmas.{kept_by}
 use Rattle.posix_defs.specs.Files.Descriptors.{Descriptors, descriptor_of}
+use Rattle.proc_table.specs.Procs.{numbers_in}
 use Rattle.proc_table.proofs.PlaceLemmas.{key_of-proc}
 use Rattle.proc_queues.proofs.Opening.{descriptors_are}
 use Rattle.proc_queues.proofs.Polls.{number_opens}
@@ -22,5 +23,5 @@ returns-clause-open c = λ fd.
 pub returns-clause-are : goal.returns-clause-are
 returns-clause-are c = λ numbers files have.
     descriptors_are c.args.heap.now c.args.procs.now c.args.pid c.in-Some.key c.get_proc.result.now c.requires.kept.listed (sym c.key_of.ensures ∙ c.in-Some.is) c.get_proc.ensures numbers files have
-    ∙ kept_by numbers.descs c.get_proc.result.now.descriptors
+    ∙ kept_by numbers.descs (numbers_in c.args.heap.now c.get_proc.result.now)
     ∙ ap (renumbered numbers.descs) (sym c.of.ensures)

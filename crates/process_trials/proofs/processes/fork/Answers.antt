@@ -4,7 +4,7 @@ use Rattle.process_trials.proofs.processes.fork.Goals as goal
 
 pub fork-requires-clause-shares : goal.fork-requires-clause-shares
 fork-requires-clause-shares c = λ parent there.
-    let can = bare_shares c.args.pid parent (processes c.args.heap.now c.args.table.now) c.args.heap.now.descs there c.requires.bare.none in can.0
+    let can = bare_shares c.args.heap.now c.args.pid parent (processes c.args.heap.now c.args.table.now) c.args.heap.now.descs there c.requires.bare.none in can.0
 
 pub returns : goal.returns
 returns c = record {

@@ -1,5 +1,5 @@
 use Rattle.std.proofs.Common.{◌≤◌, ◌∙◌, ap, subst, sym}
-use Rattle.kheap_slabs.specs.Counts.{need_bytes}
+use Rattle.kabi_types.specs.Counts.{need_bytes}
 use Rattle.posix_defs.specs.Needs.{bound}
 use Rattle.store_objects.specs.Purses.{need_for}
 use Rattle.store_objects.specs.declared.purses.Target.TheVariants.{File, Queue}

@@ -4,7 +4,7 @@ use Rattle.std.specs.Cmp.{nat_eq_equiv}
 use Rattle.kheap_slabs.specs.declared.objects.Block.{Block}
 use Rattle.std.specs.Option.{option_map}
 use Rattle.kabi_types.specs.declared.classes.Class.TheVariants as class
-use Rattle.kheap_slabs.specs.Counts.{counted, with_count}
+use Rattle.kabi_types.specs.Counts.{counted, with_count}
 use Rattle.kheap_slabs.specs.Objects.{object, without}
 use Rattle.kheap_slabs.specs.Purse.{Purse}
 use Rattle.kheap_slabs.specs.Paid.{AreFills}

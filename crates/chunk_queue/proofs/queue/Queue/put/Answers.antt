@@ -2,7 +2,7 @@ use Rattle.std.proofs.Common.{◌≡◌, ◌+◌, ◌-◌, ◌%◌, ◌++◌, �
 use Rattle.std.proofs.lemmas.List.{take_all, length-take-le, length-drop}
 use Rattle.std.proofs.Math.Seq.{take-add}
 use Rattle.kabi_types.specs.declared.classes.Class.TheVariants as class
-use Rattle.kheap_slabs.specs.Counts.{counted}
+use Rattle.kabi_types.specs.Counts.{counted}
 use Rattle.kheap_laws.proofs.PaidLemmas.{IsPaid-trans, IsPaid-nothing, CanPay-kept}
 use Rattle.posix_defs.specs.QueuePlace.{QueuePlace, chunks_of, after_put}
 use Rattle.chunk_queue.specs.Chained.{place_of}

@@ -1,6 +1,6 @@
 use Rattle.std.proofs.Common.{◌≡◌, ◌+◌, ◌-◌, ◌%◌, ◌<◌, ◌≤◌, ◌++◌, length, take}
 use Rattle.kabi_types.specs.declared.classes.Class.TheVariants as class
-use Rattle.kheap_slabs.specs.Counts.{counted}
+use Rattle.kabi_types.specs.Counts.{counted}
 use Rattle.kheap_slabs.specs.Paid.{CanPay, IsPaid}
 use Rattle.posix_defs.specs.QueuePlace.{chunks_of, after_put}
 use Rattle.chunk_queue.specs.Chained.{place_of, IsQueueIn, Turns, OnlyChunks, PaysChunks}

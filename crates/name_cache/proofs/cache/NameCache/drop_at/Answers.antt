@@ -2,7 +2,7 @@ use Rattle.std.proofs.Common.{◌≡◌, ◌+◌, cond, None, Some, IsSome, leng
 use Rattle.std.specs.Prelude.{remove}
 use Rattle.std.specs.Option.{option_map}
 use Rattle.kabi_types.specs.declared.classes.Class.TheVariants as class
-use Rattle.kheap_slabs.specs.Counts.{counted, with_count}
+use Rattle.kabi_types.specs.Counts.{counted, with_count}
 use Rattle.kheap_slabs.specs.Objects.{without}
 use Rattle.kheap_slabs.specs.Purse.{Purse}
 use Rattle.kheap_slabs.specs.Paid.{AreFills}

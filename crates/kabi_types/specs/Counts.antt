@@ -1,6 +1,7 @@
--- How many objects of each class.
-use Rattle.std.specs.Prelude.{ℕ, ◌+◌, ◌*◌}
-use Rattle.kabi_types.specs.Class.{size}
+-- How many objects of each class, and the bytes that they take.
+use Rattle.std.specs.Prelude.{ℕ, ◌*◌}
+use Rattle.std.specs.List.{sum_by}
+use Rattle.kabi_types.specs.Class.{all_classes, size}
 use Rattle.kabi_types.specs.declared.classes.Class.{Class}
 use Rattle.kabi_types.specs.declared.classes.Class.TheVariants as class
 use Rattle.kabi_types.specs.declared.classes.Need.{Need}
@@ -31,10 +32,10 @@ with_count need class.Pipe count = record need { pipe = count }
 with_count need class.Chunk count = record need { chunk = count }
 with_count need class.Sock count = record need { sock = count }
 
+-- the bytes that so many objects of a class take
+abbrev pub class_bytes : Need → Class → ℕ
+class_bytes need class = counted need class * size class
+
 -- the bytes of all objects that are counted
 abbrev pub need_bytes : Need → ℕ
-need_bytes need =
-    size class.Proc * need.proc + size class.Node * need.node + size class.Page * need.page
-    + size class.Desc * need.desc + size class.Vnode * need.vnode + size class.Name * need.name
-    + size class.Block * need.block + size class.Pipe * need.pipe + size class.Chunk * need.chunk
-    + size class.Sock * need.sock
+need_bytes need = sum_by (class_bytes need) all_classes
