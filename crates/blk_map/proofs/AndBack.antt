@@ -28,6 +28,7 @@ changes_follow number first second third one two =
       blocks = two.blocks ∙ one.blocks;
       inodes = λ other inode apart has. two.inodes other inode apart (one.inodes other inode apart has);
       bytes = λ other inode apart has. two.bytes other inode apart (one.inodes other inode apart has) ∙ one.bytes other inode apart has;
+      names = λ other inode place apart has within. two.names other inode place apart (one.inodes other inode apart has) within ∙ one.names other inode place apart has within;
     }
 
 pub free_is_back : (number size : ℕ) (first second third : List (List ℕ)) (old grown new : Inode) → Grows number first old size second grown → Resizes number second grown old.size third new

@@ -9,3 +9,4 @@ pub mod Inodes
 pub mod NewFile
 pub mod SameBlocks
 pub mod Taking
+pub mod Taken

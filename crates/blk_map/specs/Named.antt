@@ -21,6 +21,18 @@ pointer_to direct behind index = cond (nat_lt index direct_pointers) (slice_inde
 abbrev pub asked_for : Inode → ℕ → List ℕ
 asked_for inode index = cond (nat_lt index direct_pointers) [] (inode.indirect ∷ [])
 
--- the blocks that were taken are the lowest of those that were free
+-- no block was taken: what is marked was marked
+abbrev pub TakesNone : List (List ℕ) → List (List ℕ) → Type 0
+TakesNone before after = (block : ℕ) → IsMarked after block → IsMarked before block
+
+-- no block was freed: what was marked is marked
+abbrev pub FreesNone : List (List ℕ) → List (List ℕ) → Type 0
+FreesNone before after = (block : ℕ) → IsMarked before block → IsMarked after block
+
+-- of the blocks that were free those that were taken are lower than those that are left
+abbrev pub PrefersLowest : List (List ℕ) → List (List ℕ) → Type 0
+PrefersLowest before after = (block other : ℕ) → IsFreeBlock before block → IsMarked after block → IsFreeBlock before other → IsFreeBlock after other → block < other
+
+-- the blocks that were taken are the lowest of those that were free, and of those that are given back
 abbrev pub TakesLowest : List (List ℕ) → List (List ℕ) → Type 0
 TakesLowest before after = (block other : ℕ) → IsFreeBlock before block → IsMarked after block → IsFreeBlock after other → block < other

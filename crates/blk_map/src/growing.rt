@@ -4,7 +4,7 @@ ghost use Rattle.posix_defs.specs.DiskFormat.{data_blocks, blocks_of, most_block
 ghost use Rattle.posix_defs.specs.SoundDisk.{block_bytes, HasNode, IsFreeBlock, Sound, free_in_map};
 ghost use Rattle.posix_defs.specs.NodeChange.{Grows};
 ghost use Rattle.blk_map.specs.Growing.{GrowsBut};
-ghost use Rattle.blk_map.specs.Named.{MayHaveSize};
+ghost use Rattle.blk_map.specs.Named.{FreesNone, MayHaveSize};
 
 use crate::counts::{MOST_BLOCKS, block_count, data_count};
 use crate::found::{lowest_free, mark_all};
@@ -14,7 +14,7 @@ use kabi_types::{Errno, Inode};
 use posix_defs::Blocks;
 
 /// Gives a node another size, not below the one that it has; its new blocks are zeros, and the lowest of those that are
-/// free.
+/// free. No block is freed.
 ///
 /// EFBIG exactly where the size takes more than 266 blocks of bytes, else ENOSPC exactly where fewer blocks are free than
 /// it takes more; nothing is written then.
@@ -24,6 +24,7 @@ pub fn grow<B: Blocks>(b: &mut B, number: u32, inode: &mut Inode, size: u32) -> 
     requires kind { MayHaveSize inode.old.kind size }
     requires size { inode.old.size ≤ size }
     ensures ok { OnOk result (Grows number (B.blocks b.old) inode.old size (B.blocks b.new) inode.new) }
+    ensures frees_none { FreesNone (B.blocks b.old) (B.blocks b.new) }
     ensures err { IfErr result (λ fault. ((fault ≡ EFBIG) ⊎ (fault ≡ ENOSPC)) × (B.blocks b.new ≡ B.blocks b.old) × (inode.new ≡ inode.old)) }
     ensures big { (result ≡ Err EFBIG) ↔ (most_blocks < data_blocks size) }
     ensures full { data_blocks size ≤ most_blocks → (result ≡ Err ENOSPC) ↔ (free_in_map (B.blocks b.old) < blocks_of size - blocks_of inode.old.size) }
@@ -47,6 +48,7 @@ pub fn grow_but<B: Blocks>(
     requires kind { MayHaveSize inode.old.kind size }
     requires size { inode.old.size ≤ size }
     ensures ok { OnOk result (GrowsBut from to number (B.blocks b.old) inode.old size (B.blocks b.new) inode.new) }
+    ensures frees_none { FreesNone (B.blocks b.old) (B.blocks b.new) }
     ensures err { IfErr result (λ fault. ((fault ≡ EFBIG) ⊎ (fault ≡ ENOSPC)) × (B.blocks b.new ≡ B.blocks b.old) × (inode.new ≡ inode.old)) }
     ensures big { (result ≡ Err EFBIG) ↔ (most_blocks < data_blocks size) }
     ensures full { data_blocks size ≤ most_blocks → (result ≡ Err ENOSPC) ↔ (free_in_map (B.blocks b.old) < blocks_of size - blocks_of inode.old.size) }
@@ -113,6 +115,7 @@ fn take_blocks<B: Blocks>(
     requires lowest { (block : ℕ) → IsFreeBlock (B.blocks b.old) block
         → ((k : ℕ) × (k < length blocks.now) × (slice_index blocks.now k ≡ block)) ⊎ ((k : ℕ) → k < length blocks.now → slice_index blocks.now k < block) }
     ensures grows { GrowsBut from to number (B.blocks b.old) inode.old size (B.blocks b.new) inode.new }
+    ensures frees_none { FreesNone (B.blocks b.old) (B.blocks b.new) }
     ensures follows { B.follows b.old b.new }
 {
     let had = data_count(inode.size) as usize;

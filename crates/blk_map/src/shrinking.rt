@@ -1,7 +1,7 @@
-ghost use Rattle.std.specs.Prelude.{ℕ, ◌≤◌};
-ghost use Rattle.posix_defs.specs.SoundDisk.{HasNode, IsMarked, Sound};
+ghost use Rattle.std.specs.Prelude.{◌≤◌};
+ghost use Rattle.posix_defs.specs.SoundDisk.{HasNode, Sound};
 ghost use Rattle.posix_defs.specs.NodeChange.{Resizes};
-ghost use Rattle.blk_map.specs.Named.{MayHaveSize};
+ghost use Rattle.blk_map.specs.Named.{MayHaveSize, TakesNone};
 
 use crate::counts::{block_count, data_count};
 use crate::found::unmark_all;
@@ -18,7 +18,7 @@ pub fn shrink<B: Blocks>(b: &mut B, number: u32, inode: &mut Inode, size: u32)
     requires kind { MayHaveSize inode.old.kind size }
     requires size { size ≤ inode.old.size }
     ensures resizes { Resizes number (B.blocks b.old) inode.old size (B.blocks b.new) inode.new }
-    ensures takes_none { (block : ℕ) → IsMarked (B.blocks b.new) block → IsMarked (B.blocks b.old) block }
+    ensures takes_none { TakesNone (B.blocks b.old) (B.blocks b.new) }
     ensures follows { B.follows b.old b.new }
 {
     if block_count(size) == block_count(inode.size) {
@@ -36,7 +36,7 @@ fn give_blocks<B: Blocks>(b: &mut B, number: u32, inode: &mut Inode, size: u32)
     requires kind { MayHaveSize inode.old.kind size }
     requires size { size ≤ inode.old.size }
     ensures resizes { Resizes number (B.blocks b.old) inode.old size (B.blocks b.new) inode.new }
-    ensures takes_none { (block : ℕ) → IsMarked (B.blocks b.new) block → IsMarked (B.blocks b.old) block }
+    ensures takes_none { TakesNone (B.blocks b.old) (B.blocks b.new) }
     ensures follows { B.follows b.old b.new }
 {
     let had = data_count(inode.size);

@@ -8,7 +8,7 @@ ghost use Rattle.posix_defs.specs.DiskContents.{node_bytes};
 ghost use Rattle.posix_defs.specs.DiskTree.{StandsFor};
 ghost use Rattle.posix_defs.specs.Tree.{Tree, is_directory};
 ghost use Rattle.posix_defs.specs.TreeChanges.{make};
-ghost use Rattle.blk_map.specs.Named.{file};
+ghost use Rattle.blk_map.specs.Named.{TakesLowest, TakesNone, file};
 ghost use Rattle.memfs_file.specs.FileChange.{blocks_for, Rewrites};
 ghost use Rattle.memfs_dir.specs.Listed.{IsDirectory};
 ghost use Rattle.memfs_node.specs.NodeOnDisk.{AnswersAs, Frees, HasParent, KeepsOthers, content_of};
@@ -25,7 +25,7 @@ use memfs_node::{NewNode, free_node, make_named};
 /// Makes a node under a name that a directory has not, as the free node of the lowest number, and answers that number.
 ///
 /// ENOSPC exactly where no node is free, the directory has the greatest size, or fewer blocks are free than the node and
-/// the growth of the directory take; nothing is written then.
+/// the growth of the directory take; nothing is written then. The blocks that it takes are the lowest of those that are free.
 pub fn make_through(
     heap: &mut KHeap,
     purse: &mut Purse,
@@ -46,6 +46,7 @@ pub fn make_through(
         → AnswersAs disk.old.blocks disk.new.blocks (make tree parent name (content_of new)) result }
     ensures node { HasNode disk.new.blocks parent dir.new }
     ensures others { KeepsOthers parent disk.old.blocks disk.new.blocks }
+    ensures lowest { TakesLowest disk.old.blocks disk.new.blocks }
     ensures lent { AreLent heap.new purse.new cache.new disk.new }
     ensures goes_on { GoesOn (parts heap.old purse.old cache.old disk.old)
         (parts heap.new purse.new cache.new disk.new) }
@@ -59,7 +60,8 @@ pub fn make_through(
     make_named(&mut blocks, parent, dir, name, new)
 }
 
-/// Writes bytes into a file from `at` on, as many as there is room for, and answers how many; a gap before `at` is zeros.
+/// Writes bytes into a file from `at` on, as many as there is room for, and answers how many; a gap before `at` is zeros. The
+/// blocks that it takes are the lowest of those that are free.
 ///
 /// EFBIG exactly where the place is at or behind the greatest size, else ENOSPC exactly where there is no room for the gap
 /// and one byte; nothing is written then.
@@ -81,6 +83,7 @@ pub fn write_through(
     ensures count { IfOk result (λ count. count ≡ fitting (blocks_for disk.old.blocks inode.old) at (length bytes.now)) }
     ensures ok { IfOk result (λ count. Rewrites number disk.old.blocks inode.old
         (overwritten at (take count bytes.now) (node_bytes disk.old.blocks inode.old)) disk.new.blocks inode.new) }
+    ensures lowest { IfOk result (λ _. TakesLowest disk.old.blocks disk.new.blocks) }
     ensures err { IfErr result (λ fault. ((fault ≡ EFBIG) ⊎ (fault ≡ ENOSPC))
         × (disk.new.blocks ≡ disk.old.blocks) × (inode.new ≡ inode.old)) }
     ensures big { (result ≡ Err EFBIG) ↔ (greatest_size ≤ at) }
@@ -99,7 +102,7 @@ pub fn write_through(
     write_at(&mut blocks, number, inode, at, bytes)
 }
 
-/// Gives a file another size: what it grows by is zeros.
+/// Gives a file another size: what it grows by is zeros, in the lowest of the blocks that are free.
 ///
 /// EFBIG exactly where the size is above the greatest one, else ENOSPC exactly where there is no room; nothing is written
 /// then.
@@ -118,6 +121,7 @@ pub fn size_through(
     requires kind { inode.old.kind ≡ file }
     ensures ok { OnOk result (Rewrites number disk.old.blocks inode.old
         (resized size (node_bytes disk.old.blocks inode.old)) disk.new.blocks inode.new) }
+    ensures lowest { OnOk result (TakesLowest disk.old.blocks disk.new.blocks) }
     ensures err { IfErr result (λ fault. ((fault ≡ EFBIG) ⊎ (fault ≡ ENOSPC))
         × (disk.new.blocks ≡ disk.old.blocks) × (inode.new ≡ inode.old)) }
     ensures big { (result ≡ Err EFBIG) ↔ (greatest_size < size) }
@@ -136,7 +140,7 @@ pub fn size_through(
     set_size(&mut blocks, number, inode, size)
 }
 
-/// Frees a node: its blocks, where it has some, and its slot of the table.
+/// Frees a node: its blocks, where it has some, and its slot of the table. It takes none.
 pub fn free_through(
     heap: &mut KHeap,
     purse: &mut Purse,
@@ -149,6 +153,7 @@ pub fn free_through(
     requires sound { Sound disk.old.blocks }
     requires node { HasNode disk.old.blocks number inode.now }
     ensures frees { Frees number disk.old.blocks inode.now disk.new.blocks }
+    ensures takes_none { TakesNone disk.old.blocks disk.new.blocks }
     ensures lent { AreLent heap.new purse.new cache.new disk.new }
     ensures goes_on { GoesOn (parts heap.old purse.old cache.old disk.old)
         (parts heap.new purse.new cache.new disk.new) }

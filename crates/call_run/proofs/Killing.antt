@@ -33,8 +33,3 @@ kills_in script old new world pid was whole led whole_after less =
   where
     fewer : (a b c d : ℕ) → a ≡ c → b ≡ d → b ≤ a → d ≤ c
     fewer a b c d e f less = omega (arith, e, f, less)
-
--- a mark begins at what the world takes
-pub high_marked : (script : Script) (objects : Objects) (world : World) (high : ℕ) → StandsFor script objects world → IsWellFormed objects.heap → high ≤ live_bytes objects.heap → high ≤ live_of world
-high_marked script objects world high stands whole most =
-    let live : live_bytes objects.heap ≡ live_of world = live_is script objects world stands whole in omega arith

@@ -18,3 +18,5 @@ pub mod Needing
 pub mod Waking
 pub mod Forgetting
 pub mod Telling
+pub mod Resting
+pub mod BytesCached

@@ -26,6 +26,7 @@ unnamed_leaves (call.Stat path) unnamed = cc
 unnamed_leaves (call.OpenFile path flags) unnamed = cc
 unnamed_leaves (call.Chdir path) unnamed = cc
 unnamed_leaves (call.Exec path) unnamed = cc
+unnamed_leaves (call.Connect fd path) unnamed = cc
 unnamed_leaves _ unnamed = refl
 
 keeps_same : (world next : World) (pid : ℕ) (which : Call) (told : Turned) → next.kept ≡ world.kept → next.reads ≡ world.reads

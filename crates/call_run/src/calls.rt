@@ -2,6 +2,7 @@
 
 ghost use Rattle.std.specs.Prelude.{◌≡◌, ◌+◌, ◌≤◌, None, false, true};
 ghost use Rattle.std.specs.Result.{result_err};
+ghost use Rattle.file_calls.specs.Bytes.{ReadsCached};
 ghost use Rattle.kabi_types.specs.Arguments.{argument_fault};
 ghost use Rattle.kabi_types.specs.Call.{kind_of};
 ghost use Rattle.kabi_types.specs.declared.calls.Call.{Call};
@@ -71,6 +72,7 @@ fn run_right(
     ensures kept { AreKept script.now objects.new }
     ensures uses { UsesAtMost objects.old.heap objects.new.heap (bound call.now) (slack call.now) }
     ensures does { Serves script.now objects.old caller.now.pid call.now (λ plain. answer_to script.now plain caller.now.pid call.now) result objects.new }
+    ensures cached { ReadsCached objects.old caller.now.pid call.now result objects.new }
 {
     if is_named(call) {
         run_named(script, objects, caller, call, need)
@@ -338,6 +340,7 @@ pub fn run(
     ensures kept { AreKept script.now objects.new }
     ensures uses { UsesAtMost objects.old.heap objects.new.heap (bound call.now) (slack call.now) }
     ensures does { Serves script.now objects.old caller.now.pid call.now (λ plain. machine script.now plain caller.now.pid call.now) result objects.new }
+    ensures cached { ReadsCached objects.old caller.now.pid call.now result objects.new }
 {
     match checked(call, &need) {
         Ok(()) => run_right(script, objects, buffers, caller, call, need),

@@ -1,6 +1,7 @@
 //! Turns of the calls on files and directories that are open.
 
 ghost use Rattle.std.specs.Prelude.{◌≡◌, ◌+◌, ◌≤◌, None, false, true};
+ghost use Rattle.file_calls.specs.Bytes.{ReadsCached};
 ghost use Rattle.kabi_types.specs.Arguments.{argument_fault};
 ghost use Rattle.kabi_types.specs.Call.{kind_of};
 ghost use Rattle.kabi_types.specs.declared.scripts.Script.{Script};
@@ -74,6 +75,7 @@ pub fn run_filed(
     ensures kept { AreKept script.now objects.new }
     ensures uses { UsesAtMost objects.old.heap objects.new.heap (bound call.now) (slack call.now) }
     ensures does { Serves script.now objects.old caller.now.pid call.now (λ plain. answer_to script.now plain caller.now.pid call.now) result objects.new }
+    ensures cached { ReadsCached objects.old caller.now.pid call.now result objects.new }
 {
     let pid = caller.pid;
     let control = caller.control;

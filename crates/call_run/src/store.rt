@@ -1,6 +1,7 @@
 //! The store that the core runs: the script, the heap with the processes of the script in it, and the tree of files beside it.
 
 ghost use Rattle.std.specs.Prelude.{◌≡◌, ◌≤◌, IfOk, length};
+ghost use Rattle.file_calls.specs.Bytes.{ReadsCached};
 ghost use Rattle.kabi_types.specs.declared.scripts.Script.{Script};
 ghost use Rattle.posix_defs.specs.Plain as plain;
 ghost use Rattle.posix_defs.specs.ValidScript.{IsValid};
@@ -59,7 +60,8 @@ impl<F: Scorer, G: Scorer> Store<F, G> {
             done: 0,
         };
         prog_ctl::go_to_call(&script, &mut control);
-        let objects = booted(alloc, script.heap, script.disk, control)?;
+        let mut objects = booted(alloc, script.heap, script.disk, control)?;
+        objects.heap.mark();
         Ok(Store {
             script,
             objects,
@@ -95,7 +97,11 @@ impl<F: Scorer, G: Scorer> Turner for Store<F, G> {
 
     ghost marks = { λ store. store.objects.heap.marks };
 
-    ghost high = { λ store. store.objects.heap.high };
+    ghost high = { λ store. store.objects.heap.last_high };
+
+    ghost risen = { λ store. store.objects.heap.high };
+
+    ghost beside = { λ old pid call told new. ReadsCached old.objects pid call told new.objects };
 
     // A call has room for two paths: each function that hands one on pays for that room once more.
     #[inline(never)]

@@ -1,6 +1,7 @@
 //! Turns over a script and its objects, as the core asks for them.
 
 ghost use Rattle.std.specs.Prelude.{◌≡◌, ◌≢◌, ◌+◌, ◌%◌, ◌^◌, ◌≤◌, true, false};
+ghost use Rattle.file_calls.specs.Bytes.{ReadsCached};
 ghost use Rattle.kabi_types.specs.declared.scripts.Script.{Script};
 ghost use Rattle.posix_defs.specs.Needs.{bound, need_of, slack};
 ghost use Rattle.posix_defs.specs.Plain.{call_of};
@@ -12,7 +13,8 @@ ghost use Rattle.posix_defs.specs.World.{World, can_evict, live_of};
 ghost use Rattle.prog_ctl.specs.Waits.{asked_for, wait_of};
 ghost use Rattle.store_objects.specs.Objects.{AreKept};
 ghost use Rattle.store_objects.specs.Standing.{StandsFor};
-ghost use Rattle.call_run.specs.Stores.{IsStoreOf};
+ghost use Rattle.store_objects.specs.Uses.{UsesAtMost};
+ghost use Rattle.call_run.specs.Stores.{IsAtRest, IsStoreOf};
 
 use crate::calls::{self, Buffers};
 use kabi_types::{Cached, Call, Errno, Need, Reply, Script};
@@ -57,8 +59,38 @@ pub fn waits_for(script: &Script, objects: &Objects, pid: u32) -> Option<Awaited
     prog_ctl::wait_here(script, &proc.control)
 }
 
-/// A turn of a process's own next call, where it is alive; `Gone` where it has ended.
+/// A turn of a process's own next call, where it is alive; `Gone` where it has ended. The heap is marked behind it, so what
+/// it keeps of before the mark is the most of the whole call.
 pub fn turn(
+    script: &Script,
+    objects: &mut Objects,
+    buffers: &mut Buffers,
+    pid: u32,
+    call: &Call,
+    need: Need,
+) -> Turned
+    requires needed { need ≡ need_of call.now }
+    requires may { (world : World) × IsStoreOf script.now objects.old world
+        × (is_alive world.plain.table pid ≡ true → call.now ≡ call_of script.now world.plain pid)
+        × (live_of world + bound call.now + reserve ≤ script.now.heap) }
+    requires rests { IsAtRest objects.old }
+    ensures kept { AreKept script.now objects.new }
+    ensures turned { (world : World) → IsStoreOf script.now objects.old world
+        → (after : World) × IsStoreOf script.now objects.new after × TurnsTo script.now world pid call.now result after }
+    ensures cached { ReadsCached objects.old pid call.now result objects.new }
+    ensures marked { objects.new.heap.marks ≡ (objects.old.heap.marks + 1) % 2 ^ 64 }
+    ensures since { (world : World) → IsStoreOf script.now objects.old world → live_of world ≤ objects.new.heap.last_high }
+    ensures high { (world : World) → IsStoreOf script.now objects.old world → objects.new.heap.last_high ≤ live_of world + bound call.now + slack call.now }
+    ensures rests { IsAtRest objects.new }
+{
+    objects.heap_is_well_formed();
+    let turned = run_own(script, objects, buffers, pid, call, need);
+    objects.heap.mark();
+    turned
+}
+
+/// The same without a mark.
+fn run_own(
     script: &Script,
     objects: &mut Objects,
     buffers: &mut Buffers,
@@ -73,12 +105,10 @@ pub fn turn(
     ensures kept { AreKept script.now objects.new }
     ensures turned { (world : World) → IsStoreOf script.now objects.old world
         → (after : World) × IsStoreOf script.now objects.new after × TurnsTo script.now world pid call.now result after }
-    ensures marked { objects.new.heap.marks ≡ (objects.old.heap.marks + 1) % 2 ^ 64 }
-    ensures since { (world : World) → IsStoreOf script.now objects.old world → live_of world ≤ objects.new.heap.high }
-    ensures high { (world : World) → IsStoreOf script.now objects.old world → objects.new.heap.high ≤ live_of world + bound call.now + slack call.now }
+    ensures cached { ReadsCached objects.old pid call.now result objects.new }
+    ensures uses { UsesAtMost objects.old.heap objects.new.heap (bound call.now) (slack call.now) }
 {
     objects.heap_is_well_formed();
-    objects.heap.mark();
     let Some(caller) = objects.caller(pid) else {
         return Turned::Gone;
     };
@@ -89,26 +119,29 @@ pub fn turn(
 
 /// Answers a live process's next call ENOMEM.
 pub fn refuse(script: &Script, objects: &mut Objects, pid: u32)
-    requires { (world : World) × IsStoreOf script.now objects.old world × (is_alive world.plain.table pid ≡ true) }
+    requires alive { (world : World) × IsStoreOf script.now objects.old world × (is_alive world.plain.table pid ≡ true) }
+    requires rests { IsAtRest objects.old }
     ensures kept { AreKept script.now objects.new }
     ensures refused { (world : World) → IsStoreOf script.now objects.old world → is_alive world.plain.table pid ≡ true
         → IsStoreOf script.now objects.new (refused_in script.now world pid) }
     ensures marked { objects.new.heap.marks ≡ (objects.old.heap.marks + 1) % 2 ^ 64 }
-    ensures since { (world : World) → IsStoreOf script.now objects.old world → live_of world ≤ objects.new.heap.high }
-    ensures high { (world : World) → IsStoreOf script.now objects.old world → objects.new.heap.high ≤ live_of world }
+    ensures since { (world : World) → IsStoreOf script.now objects.old world → live_of world ≤ objects.new.heap.last_high }
+    ensures high { (world : World) → IsStoreOf script.now objects.old world → objects.new.heap.last_high ≤ live_of world }
+    ensures rests { IsAtRest objects.new }
 {
     objects.heap_is_well_formed();
-    objects.heap.mark();
     let Some(caller) = objects.caller(pid) else {
         unreachable!();
     };
     let reply = Reply::Fail(Errno::ENOMEM);
     let _ = go_on(script, objects, pid, caller.control, reply);
+    objects.heap.mark();
 }
 
 /// Ends a live process other than the first; where that isn't one, nothing changes.
 pub fn kill(objects: &mut Objects, pid: u32)
-    requires { (script : Script) × (world : World) × IsStoreOf script objects.old world }
+    requires stands { (script : Script) × (world : World) × IsStoreOf script objects.old world }
+    requires rests { IsAtRest objects.old }
     ensures kept { (script : Script) (world : World) → IsStoreOf script objects.old world → AreKept script objects.new }
     ensures killed { (script : Script) (world : World) → IsStoreOf script objects.old world → is_alive world.plain.table pid ≡ true → pid ≢ 1
         → (after : World) × IsStoreOf script objects.new after × Kills world pid after }
@@ -116,11 +149,27 @@ pub fn kill(objects: &mut Objects, pid: u32)
         → IsStoreOf script objects.new world }
     ensures first { (script : Script) (world : World) → IsStoreOf script objects.old world → pid ≡ 1 → IsStoreOf script objects.new world }
     ensures marked { objects.new.heap.marks ≡ (objects.old.heap.marks + 1) % 2 ^ 64 }
-    ensures since { (script : Script) (world : World) → IsStoreOf script objects.old world → live_of world ≤ objects.new.heap.high }
-    ensures high { (script : Script) (world : World) → IsStoreOf script objects.old world → objects.new.heap.high ≤ live_of world + reserve }
+    ensures since { (script : Script) (world : World) → IsStoreOf script objects.old world → live_of world ≤ objects.new.heap.last_high }
+    ensures high { (script : Script) (world : World) → IsStoreOf script objects.old world → objects.new.heap.last_high ≤ live_of world + reserve }
+    ensures rests { IsAtRest objects.new }
 {
     objects.heap_is_well_formed();
+    end_other(objects, pid);
     objects.heap.mark();
+}
+
+/// The same without a mark.
+fn end_other(objects: &mut Objects, pid: u32)
+    requires { (script : Script) × (world : World) × IsStoreOf script objects.old world }
+    ensures kept { (script : Script) (world : World) → IsStoreOf script objects.old world → AreKept script objects.new }
+    ensures killed { (script : Script) (world : World) → IsStoreOf script objects.old world → is_alive world.plain.table pid ≡ true → pid ≢ 1
+        → (after : World) × IsStoreOf script objects.new after × Kills world pid after }
+    ensures gone { (script : Script) (world : World) → IsStoreOf script objects.old world → is_alive world.plain.table pid ≡ false
+        → IsStoreOf script objects.new world }
+    ensures first { (script : Script) (world : World) → IsStoreOf script objects.old world → pid ≡ 1 → IsStoreOf script objects.new world }
+    ensures uses { UsesAtMost objects.old.heap objects.new.heap 0 reserve }
+{
+    objects.heap_is_well_formed();
     if pid == INIT || !objects.runs(pid) {
         return;
     }
@@ -130,18 +179,20 @@ pub fn kill(objects: &mut Objects, pid: u32)
 
 /// Of what a cache keeps and isn't pinned the object that was used longest ago goes; where there is none nothing changes.
 pub fn evict(objects: &mut Objects, what: Cached)
-    requires { (script : Script) × (world : World) × IsStoreOf script objects.old world }
+    requires stands { (script : Script) × (world : World) × IsStoreOf script objects.old world }
+    requires rests { IsAtRest objects.old }
     ensures kept { (script : Script) → AreKept script objects.old → AreKept script objects.new }
     ensures evicted { (script : Script) (world : World) → IsStoreOf script objects.old world → can_evict world.plain world.kept what ≡ true
         → (after : World) × IsStoreOf script objects.new after × Evicts world what after }
     ensures same { (script : Script) (world : World) → IsStoreOf script objects.old world → can_evict world.plain world.kept what ≡ false
         → IsStoreOf script objects.new world }
     ensures marked { objects.new.heap.marks ≡ (objects.old.heap.marks + 1) % 2 ^ 64 }
-    ensures since { (script : Script) (world : World) → IsStoreOf script objects.old world → live_of world ≤ objects.new.heap.high }
-    ensures high { (script : Script) (world : World) → IsStoreOf script objects.old world → objects.new.heap.high ≤ live_of world }
+    ensures since { (script : Script) (world : World) → IsStoreOf script objects.old world → live_of world ≤ objects.new.heap.last_high }
+    ensures high { (script : Script) (world : World) → IsStoreOf script objects.old world → objects.new.heap.last_high ≤ live_of world }
+    ensures rests { IsAtRest objects.new }
 {
     objects.heap_is_well_formed();
-    objects.heap.mark();
     store_objects::evict(objects, what);
     objects.heap_is_well_formed();
+    objects.heap.mark();
 }

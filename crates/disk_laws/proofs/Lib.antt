@@ -9,3 +9,4 @@ pub mod DiskStands
 pub mod DiskNames
 pub mod DiskFreeNodes
 pub mod DiskNodes
+pub mod OthersStay

@@ -243,6 +243,7 @@ changes_node number before old after new sound change =
           same_bytes before after inode inode refl (
           λ index lt. (same_named number before old after new sound change node inode (Data index) other has lt, untouched_of number before old after new sound change node inode (Data index) other has lt)
           );
+      names = λ node inode place other has within. same_named number before old after new sound change node inode place other has within;
     }
 
 -- ---- how many blocks are free

@@ -1,8 +1,9 @@
 -- A call on names of sockets has changed the objects of a store, and its caller goes on.
-use Rattle.std.proofs.Common.{◌≡◌, ℕ, ◌<◌, ◌≤◌, ◌&&◌, ◌||◌, ℤ, true, false, List, [], length, Option, None, cond, is_none, is_some, refl, ap, sym, ◌∙◌, arith}
+use Rattle.std.proofs.Common.{◌≡◌, ℕ, ◌<◌, ◌≤◌, ◌&&◌, ◌||◌, ℤ, true, false, List, [], length, Option, None, Result, Ok, Err, OnOk, cond, is_none, is_some, refl, ap, sym, ◌∙◌, subst, arith}
 use Rattle.std.specs.Option.{option_map}
-use Rattle.std.specs.Prelude.{IsSome}
+use Rattle.std.specs.Prelude.{IsOk, IsSome}
 use Rattle.kabi_types.specs.Arguments.{argument_fault}
+use Rattle.kabi_types.specs.PathParts.{components}
 use Rattle.kabi_types.specs.declared.calls.Call.{Call}
 use Rattle.kabi_types.specs.declared.calls.Call.TheVariants as call
 use Rattle.kabi_types.specs.declared.scripts.Control.{Control}
@@ -13,18 +14,28 @@ use Rattle.kabi_types.specs.declared.replies.Reply.{Reply}
 use Rattle.kheap_slabs.specs.Purse.{Purse}
 use Rattle.kheap_slabs.specs.Heap.{Heap, IsWellFormed}
 use Rattle.kheap_slabs.specs.Paid.{IsPaid}
-use Rattle.memfs_ops.specs.FileTree.{TreeView}
+use Rattle.disk_layout.specs.Disk.{Disk}
+use Rattle.disk_laws.proofs.DiskNodes.{one_tree}
+use Rattle.memfs_ops.specs.FileTree.{KeepsLed, KnowsWay, Stands, TreeView, in_call}
 use Rattle.open_laws.specs.Owned.{HasItsOwners}
 use Rattle.place_laws.specs.Placed.{Numbers}
+use Rattle.path_calls.proofs.NamesKept.{walk_left}
+use Rattle.path_calls.proofs.Stated.{knows_it}
+use Rattle.path_calls.proofs.Walked.{holds_directory, works_there}
 use Rattle.posix_defs.specs.Answer.{Answer}
+use Rattle.posix_defs.specs.DiskTree.{StandsFor as DiskStands}
+use Rattle.posix_defs.specs.Files.State.{Files}
 use Rattle.posix_defs.specs.Memory.{Frames}
 use Rattle.posix_defs.specs.MemoryCalls.{frames_after}
 use Rattle.posix_defs.specs.Needs.{need_of, objects_of}
+use Rattle.posix_defs.specs.PathCalls.{node_led}
+use Rattle.posix_defs.specs.Paths.{begins_at, resolve}
 use Rattle.posix_defs.specs.Plain.{Plain, with_files}
 use Rattle.posix_defs.specs.Process.{directory_in, directory_of}
-use Rattle.posix_defs.specs.Reaching.{ends_node}
+use Rattle.posix_defs.specs.Reaching.{IsLeft, ends_node, is_reply, knows, last_of}
 use Rattle.posix_defs.specs.Sizes.{no_need}
-use Rattle.posix_defs.specs.World.{World}
+use Rattle.posix_defs.specs.Tree.{Tree, is_directory}
+use Rattle.posix_defs.specs.World.{Kept, World}
 use Rattle.posix_defs.specs.declared.turner.Turned.{Turned}
 use Rattle.posix_defs.specs.declared.turner.Turned.TheVariants as turned
 use Rattle.proc_descs.specs.Having.{AreListed}
@@ -32,6 +43,7 @@ use Rattle.proc_descs.specs.Queues.{QueuesStand}
 use Rattle.holding_laws.specs.Holders.{holders}
 use Rattle.proc_names.specs.Answering.{AnswersConnecting, AnswersNaming, NamesChange}
 use Rattle.proc_names.specs.Holding.{HoldNames, WorksAt}
+use Rattle.proc_pipes.specs.Answering.{zero_of}
 use Rattle.proc_socks.proofs.Told.{keeps_same}
 use Rattle.proc_table.specs.Procs.{IsAlive, process_of}
 use Rattle.proc_table.specs.Table.{key_of}
@@ -39,10 +51,12 @@ use Rattle.proc_table.proofs.FamilyLemmas.{process_is}
 use Rattle.store_objects.specs.declared.objects.Objects.{Objects}
 use Rattle.store_objects.specs.Objects.{AreKept, Runs, procs_of}
 use Rattle.store_objects.specs.Standing.{IsSound, StandsFor}
-use Rattle.store_objects.specs.Trees.{others_in}
+use Rattle.store_objects.specs.Trees.{kept_by, others_in, pins_in}
 use Rattle.store_objects.specs.Walking.{Serves}
 use Rattle.file_moves.proofs.StoreFiles.{holds_names}
+use Rattle.store_objects.proofs.HoldsFiles.{works_in_directory}
 use Rattle.store_objects.proofs.Replies.{GoesOn}
+use Rattle.tree_laws.proofs.PathLeads.{path_led}
 use Rattle.store_objects.proofs.RunningProcs.{has_key}
 use Rattle.file_moves.specs.Moves.{FileMoves}
 use Rattle.file_moves.specs.Worlds.{LeavesCached}
@@ -86,13 +100,44 @@ bind_cached old mid world pid fd path said next right = record {
   known = λ known. never (sym known);
 }
 
-pub connect_cached : (old mid : Objects) (world : World) (pid : ℕ) (fd : ℤ) (path : List ℕ) (said : Reply) (next : Plain) → argument_fault (call.Connect fd path) ≡ None
-    → LeavesCached old mid world pid (call.Connect fd path) said next
-connect_cached old mid world pid fd path said next right = record {
-  untouched = λ none. never (sym (ap (λ (fault : Option Errno). (is_none fault && true) || ends_node world.plain.files next.files) right) ∙ none);
-  left = λ ok. tt;
-  known = λ known. never (sym known);
-}
+-- a connect that is told has led to a node
+told_done : (P : Type 0) (done : Result (Unit {0}) Errno) → is_reply (zero_of done) ≡ true → OnOk done P → P
+told_done P (Ok it) ok fact = fact
+told_done P (Err errno) ok fact = cc
+
+-- What a path led to is cached where the call is told, and nothing is read where all that it asks for was: the tree is the one that
+-- it was.
+module _ (script : Script) (old mid : Objects) (pid : ℕ) (control : Control) (runs : Runs old pid control) (fd : ℤ) (path : List ℕ) (before : Purse) (done : Result (Unit {0}) Errno)
+    (right : argument_fault (call.Connect fd path) ≡ None) (bytes : mid.tree.disk.blocks ≡ old.tree.disk.blocks)
+    (saved : (tree : Tree) (pins : ℕ → ℕ) (directory : ℕ) → Stands old.heap old.tree tree pins → WorksAt old.heap old.procs pid directory → KnowsWay (in_call old.heap before old.tree) tree directory path
+    → mid.tree.disk ≡ old.tree.disk)
+    (kept : (tree : Tree) (pins : ℕ → ℕ) (directory : ℕ) → Stands old.heap old.tree tree pins → WorksAt old.heap old.procs pid directory → OnOk done (KeepsLed mid.tree (resolve tree directory path)))
+    (found : (tree : Tree) (pins : ℕ → ℕ) (directory : ℕ) → Stands old.heap old.tree tree pins → WorksAt old.heap old.procs pid directory → OnOk done (IsOk (node_led (resolve tree directory path)))) where
+  pub connect_cached : (world : World) (stands : StandsFor script old world) (files : Files) → Stands mid.heap mid.tree files.tree (holders (others_in world.plain) files)
+      → LeavesCached old mid world pid (call.Connect fd path) (zero_of done) (with_files world.plain files)
+  connect_cached world stands files then =
+      let tree : Tree = world.plain.files.tree in
+      let pins = pins_in world.plain in
+      let directory : ℕ = directory_of world.plain.table pid in
+      let works = works_at script old world pid stands in
+      let is = works_there script old world pid runs.proc stands runs.found in
+      let behind : DiskStands old.tree.disk.blocks files.tree = subst (λ disk. DiskStands disk files.tree) bytes then.behind in
+      let same : tree ≡ files.tree = one_tree old.tree.disk.blocks tree files.tree stands.tree.stands.behind behind in
+      let is_dir : is_directory tree directory ≡ true = ap (is_directory tree) is ∙ works_in_directory script old world pid runs.proc stands runs.found runs.up in
+      let led = path_led tree directory path stands.tree.stands.is_tree is_dir in
+      record {
+        untouched = λ none. never (sym (ap (λ (fault : Option Errno). (is_none fault && true) || ends_node world.plain.files files) right) ∙ none);
+        left = λ ok.
+            subst (λ t. IsLeft t (kept_by mid.tree) (last_of (resolve tree directory path))) same
+            (walk_left tree mid.tree (resolve tree directory path) led
+            (told_done (KeepsLed mid.tree (resolve tree directory path)) done ok (kept tree pins directory stands.tree.stands works))
+            (told_done (IsOk (node_led (resolve tree directory path))) done ok (found tree pins directory stands.tree.stands works)));
+        known = λ known.
+            let held : 0 < pins directory = subst (λ n. 0 < pins n) (sym is) (holds_directory script old world pid runs.proc stands runs.found runs.up) in
+            let way = knows_it old.heap before old.tree world.plain directory path stands.tree.stands held
+            (subst (λ (cached : Kept). knows tree cached (begins_at directory path) (components path) ≡ true) stands.tree.kept known) in
+            ap (λ (disk : Disk). disk.reads) (saved tree pins directory stands.tree.stands works way);
+      }
 
 -- ---- what they leave of the store
 
@@ -154,7 +199,8 @@ module _ (script : Script) (old : Objects) (heap : Heap) (fs : TreeView) (names 
   -- behind it its caller goes on
   pub serves_named : (which : Call) (before after : Purse) (is : Turned) (new : Objects) → IsPaid old.heap before heap after → before.left ≡ need_of which → old.tree.disk.reads ≤ fs.disk.reads
       → is ≡ turned.Done said → GoesOn script mid pid said new → ((frames : Frames) → frames_after frames pid which said ≡ frames)
-      → ((world : World) (next : Plain) → LeavesCached old mid world pid which said next) → Serves script old pid which answer is new
+      → ((world : World) (stands : StandsFor script old world) (files : Files) → Stands heap fs files.tree (holders (others_in world.plain) files)
+      → LeavesCached old mid world pid which said (with_files world.plain files)) → Serves script old pid which answer is new
   serves_named which before after is new paid needed reads tells goes none cached =
       serves script old mid new pid which said is
       (within_paid old mid before after which paid (ap (λ (need : Need). need.name) needed) (ap (λ (need : Need). need.block) needed) (ap (λ (need : Need). need.vnode) needed) reads) tells answer moves goes
@@ -163,4 +209,4 @@ module _ (script : Script) (old : Objects) (heap : Heap) (fs : TreeView) (names 
       answered_holding script old mid world stands pid which said (answer world.plain) it.now
       (memory_elsewhere old mid refl same_procs (ap (λ (h : Heap). h.nodes) named.changes) (ap (λ (h : Heap). h.pages) named.changes)) named.queues it.keeps.pipes it.keeps.socks (none world.account.frames)
       (record { files = it.answers.files; replies = it.answers.replies; holds = it.answers.holds.held })
-      (cached world (with_files world.plain it.answers.files)))
+      (cached world stands it.answers.files it.answers.holds.held.tree))

@@ -14,3 +14,4 @@ pub mod Sought
 pub mod Needed
 pub mod Calling
 pub mod CallingNames
+pub mod BytesCached

@@ -1,9 +1,11 @@
 //! The calls that read bytes of files and entries of directories: `read`, `pread` and `readdir`.
 
 ghost use Rattle.std.specs.Prelude.{◌≡◌, None};
-ghost use Rattle.kabi_types.specs.Arguments.{argument_fault};
+ghost use Rattle.file_calls.specs.Bytes.{AreBytesCached, told_count};
+ghost use Rattle.kabi_types.specs.Arguments.{argument_fault, count_of};
 ghost use Rattle.kabi_types.specs.declared.calls.Call.{Call};
 ghost use Rattle.kheap_slabs.specs.Paid.{IsPaid};
+ghost use Rattle.kheap_slabs.specs.declared.objects.Desc.{Desc as HeldDesc};
 ghost use Rattle.memfs_ops.specs.Fetching.{MayFetch};
 ghost use Rattle.posix_defs.specs.Calls.Reading.{pread, read, readdir};
 ghost use Rattle.posix_defs.specs.Needs.{need_of};
@@ -25,7 +27,8 @@ use store_objects::{Objects, go_on};
 /// Reads at most n bytes of the file that a number is open on into memory, from the description's offset on, as many as are there;
 /// the offset moves behind them. Tells how many; none are the end of the file.
 ///
-/// EBADF where the number isn't open for reading, EISDIR of a directory, EFAULT where a page that n bytes would touch isn't mapped.
+/// Where the blocks are cached by which these bytes are reached nothing is read of the disk, and the block of the last of them is
+/// cached afterwards. EBADF where the number isn't open for reading, EISDIR of a directory, EFAULT where a page that n bytes would touch isn't mapped.
 ///
 /// <https://pubs.opengroup.org/onlinepubs/9699919799/functions/read.html>
 pub fn read(
@@ -48,6 +51,7 @@ pub fn read(
     ensures kept { AreKept script.now objects.new }
     ensures paid { IsPaid objects.old.heap purse.old objects.new.heap purse.new }
     ensures does { Serves script.now objects.old pid (Call.Read fd addr n) (λ plain. read script.now plain pid fd addr n) result objects.new }
+    ensures cached { AreBytesCached objects.old pid fd (λ (desc : HeldDesc). desc.offset) (told_count result) objects.new }
 {
     objects.heap_is_well_formed();
     let moved = read_file(
@@ -67,7 +71,7 @@ pub fn read(
 /// Reads at most n bytes of the file that a number is open on into memory, from a place of the file on, as many as are there; the
 /// offset stays. Tells how many; none are the end of the file.
 ///
-/// EBADF where the number isn't open for reading, ESPIPE of a pipe and a socket, EISDIR of a directory, EFAULT where a page that n
+/// Of what is read and cached the same holds as of `read`. EBADF where the number isn't open for reading, ESPIPE of a pipe and a socket, EISDIR of a directory, EFAULT where a page that n
 /// bytes would touch isn't mapped.
 ///
 /// <https://pubs.opengroup.org/onlinepubs/9699919799/functions/pread.html>
@@ -91,6 +95,7 @@ pub fn pread(
     ensures kept { AreKept script.now objects.new }
     ensures paid { IsPaid objects.old.heap purse.old objects.new.heap purse.new }
     ensures does { Serves script.now objects.old pid (Call.Pread fd addr n at) (λ plain. pread script.now plain pid fd addr n at) result objects.new }
+    ensures cached { AreBytesCached objects.old pid fd (λ (desc : HeldDesc). count_of at) (told_count result) objects.new }
 {
     objects.heap_is_well_formed();
     let moved = pread_file(
@@ -111,7 +116,8 @@ pub fn pread(
 /// Reads entries of the directory that a number is open on into memory, of 32 bytes each, from the description's offset on, as many
 /// whole ones as n bytes and the end allow; the offset moves behind them. Tells how many bytes; none are the end.
 ///
-/// EBADF where the number isn't open, ENOTDIR of all but a directory, EFAULT where a page that n bytes would touch isn't mapped.
+/// Of what is read and cached the same holds as of `read`. EBADF where the number isn't open, ENOTDIR of all but a directory,
+/// EFAULT where a page that n bytes would touch isn't mapped.
 ///
 /// <https://pubs.opengroup.org/onlinepubs/9699919799/functions/readdir.html>
 pub fn readdir(
@@ -133,6 +139,7 @@ pub fn readdir(
     ensures kept { AreKept script.now objects.new }
     ensures paid { IsPaid objects.old.heap purse.old objects.new.heap purse.new }
     ensures does { Serves script.now objects.old pid (Call.Readdir fd addr n) (λ plain. readdir script.now plain pid fd addr n) result objects.new }
+    ensures cached { AreBytesCached objects.old pid fd (λ (desc : HeldDesc). desc.offset) (told_count result) objects.new }
 {
     objects.heap_is_well_formed();
     let moved = read_entries(

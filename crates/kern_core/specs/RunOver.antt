@@ -10,7 +10,8 @@ use Rattle.posix_defs.specs.CoreRun.{AsChosen}
 use Rattle.posix_defs.specs.Ends.{end_of}
 use Rattle.kern_tasks.specs.View.{CoreView, IsAt}
 
--- The store was marked once, and at no moment since did the heap in use, with so much that is reserved, pass the heap.
+-- The store was marked once, and at no moment since the mark before did the heap in use, with so much that is reserved, pass
+-- the heap.
 pub record StaysWithin {T : Type 0} (marks high : T → ℕ) (heap reserved : ℕ) (old new : T) : Type 0 where
   pub marked : marks new ≡ (marks old + 1) % 2 ^ 64
   pub within : high new + reserved ≤ heap

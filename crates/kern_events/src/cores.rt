@@ -1,6 +1,6 @@
 //! A run of a script: its events, what each does, and when it ends.
 
-ghost use Rattle.std.specs.Prelude.{◌≡◌, ◌==◌, if◌then◌else◌, ℕ, ◌+◌, ◌-◌, ◌≤◌, ◌<◌, [], length, filter, Some, None, IfOk, IfSome, IsSome, IsNone, slice_get, true, not};
+ghost use Rattle.std.specs.Prelude.{◌≡◌, ◌==◌, ◌||◌, if◌then◌else◌, ℕ, ◌+◌, ◌-◌, ◌≤◌, ◌<◌, [], length, filter, Some, None, IfOk, IfSome, IsSome, IsNone, slice_get, true, not};
 ghost use Rattle.std.specs.Option.{option_or, option_to_list};
 ghost use Rattle.kabi_types.specs.declared.entries.End.TheVariants.{Spent};
 ghost use Rattle.std.specs.List.{list_any, list_all};
@@ -389,7 +389,9 @@ impl<T: Turner + Drop> Core<T> {
 
     /// Whether no cache keeps anything that could go, and no call waits in vain: then there is no event that is of no process.
     fn is_quiet(&self) -> bool
-        ensures { (s : CoreState) → IsAt T.stands self.now s → result ≡ true → others_in (T.script self.now.store) s ≡ [] }
+        ensures exact { (s : CoreState) → IsAt T.stands self.now s
+            → result ≡ not (can_evict_any s.world || some_wait_in_vain (T.script self.now.store) s) }
+        ensures none { (s : CoreState) → IsAt T.stands self.now s → result ≡ true → others_in (T.script self.now.store) s ≡ [] }
     {
         !self.can_evict_any() && !self.some_wait_in_vain()
     }

@@ -79,8 +79,8 @@ pub record Took {T : Type 0} (stands_for : T → World → Type 0) (script : Scr
 abbrev pub Takes : {T : Type 0} → (T → World → Type 0) → Script → CoreView T → Event → CoreView T → Type 0
 Takes stands_for script old event new = (noted : Noted) × Took stands_for script old event noted new
 
--- The store was marked once, and at no moment since did the heap in use and what is reserved for all other calls together
--- pass the heap.
+-- The store was marked once, and at no moment since the mark before did the heap in use and what is reserved for all other calls
+-- together pass the heap. Behind a mark what is in use rises no more, so these are all moments of the event.
 pub record IsInside {T : Type 0} (marks high : T → ℕ) (heap : ℕ) (old new : CoreView T) : Type 0 where
   pub marked : marks new.store ≡ (marks old.store + 1) % 2 ^ 64
   pub within : high new.store + new.reserved ≤ heap

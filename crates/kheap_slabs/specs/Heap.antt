@@ -17,8 +17,8 @@ use Rattle.kheap_slabs.specs.declared.objects.Pipe.{Pipe}
 use Rattle.kheap_slabs.specs.declared.objects.Chunk.{Chunk}
 use Rattle.kheap_slabs.specs.declared.objects.Sock.{Sock}
 
--- the object of each key of each class, how many bytes there are, the most that were taken since the last mark, and
--- how many marks there were, modulo 2 ^ 64
+-- the object of each key of each class, how many bytes there are, the most that were taken since the last mark, how many
+-- marks there were, modulo 2 ^ 64, and what the most since the mark before was when the last one was made
 pub record Heap : Type 0 where
   pub procs : List (Option Proc)
   pub nodes : List (Option Node)
@@ -33,6 +33,7 @@ pub record Heap : Type 0 where
   pub heap : ℕ
   pub high : ℕ
   pub marks : ℕ
+  pub last_high : ℕ
 
 -- how many objects of each class there are
 abbrev pub counts_of : Heap → Need
@@ -83,6 +84,7 @@ empty_heap heap = record {
   heap = heap;
   high = 0;
   marks = 0;
+  last_high = 0;
 }
 
 -- what every heap keeps: no more bytes are taken than it has, which are at most 8388608, and what its objects have in

@@ -22,6 +22,7 @@ heap_of k = record {
   heap = k.meter.heap;
   high = k.meter.high;
   marks = k.meter.marks;
+  last_high = k.meter.last_high;
 }
 
 -- how many keys each class has

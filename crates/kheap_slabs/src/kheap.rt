@@ -143,6 +143,7 @@ impl KHeap {
                 live: 0,
                 high: 0,
                 marks: 0,
+                last_high: 0,
             },
         })
     }
@@ -174,15 +175,17 @@ impl KHeap {
         self.meter.high
     }
 
-    /// Lets `high` begin again, at the bytes that are taken now. Marks are counted, so a call that
-    /// makes none can say so.
+    /// Lets `high` begin again, at the bytes that are taken now, and keeps what it was. Marks are
+    /// counted, so a call that makes none can say so.
     pub fn mark(&mut self)
         ensures { self.new
             ≡ record self.old {
               high = live_bytes self.old;
               marks = (self.old.marks + 1) % 2 ^ 64;
+              last_high = self.old.high;
             } }
     {
+        self.meter.last_high = self.meter.high;
         self.meter.high = self.meter.live;
         self.meter.marks = self.meter.marks.wrapping_add(1);
     }

@@ -1,7 +1,7 @@
 ghost use Rattle.std.specs.Prelude.{◌≡◌, ◌+◌, ◌≤◌, max};
 
 /// How many bytes the heap has, how many are taken, the most that were taken since the last mark,
-/// and how many marks there were, modulo 2^64.
+/// how many marks there were, modulo 2^64, and the most between the last two of them.
 #[derive(Drop)]
 pub struct Meter {
     /// How many bytes the heap has.
@@ -12,6 +12,8 @@ pub struct Meter {
     pub high: u64,
     /// How many marks there were, modulo 2^64.
     pub marks: u64,
+    /// What the most was when the last mark was made.
+    pub last_high: u64,
 }
 
 impl Meter {
@@ -22,6 +24,7 @@ impl Meter {
         ensures live { self.new.live ≡ self.old.live + bytes }
         ensures high { self.new.high ≡ max self.old.high self.new.live }
         ensures marks { self.new.marks ≡ self.old.marks }
+        ensures last_high { self.new.last_high ≡ self.old.last_high }
     {
         self.live += bytes;
         self.high = self.high.max(self.live);
@@ -34,6 +37,7 @@ impl Meter {
         ensures live { self.new.live + bytes ≡ self.old.live }
         ensures high { self.new.high ≡ self.old.high }
         ensures marks { self.new.marks ≡ self.old.marks }
+        ensures last_high { self.new.last_high ≡ self.old.last_high }
     {
         self.live -= bytes;
     }

@@ -13,7 +13,7 @@ use Rattle.work_crew.specs.Whole.{IsWhole}
 use Rattle.kres_tool.specs.declared.statuses.Status.{Status}
 use Rattle.kres_tool.specs.Status.{status_of}
 
--- what a store stands for, how often its heap was marked, and the most that was in use since
+-- what a store stands for, how often its heap was marked, and the most that was in use between the last two marks
 abbrev pub stands : StoreView → World → Type 0
 stands = Stands
 
@@ -21,7 +21,7 @@ abbrev pub marks : StoreView → ℕ
 marks store = store.objects.heap.marks
 
 abbrev pub high : StoreView → ℕ
-high store = store.objects.heap.high
+high store = store.objects.heap.last_high
 
 -- The text is the report of a run of the script, the status is that of its end, and the store that is handed out is the one
 -- that was left: its processes, its account, what it keeps and its reads are those of the world in which the run ended.

@@ -14,7 +14,8 @@ use Rattle.posix_defs.specs.NodeChange.{Resizes, Grows}
 use Rattle.posix_defs.specs.TreeChanges.{no_entry}
 use Rattle.disk_laws.proofs.DirectoryEntries.{size_of_entries}
 use Rattle.blk_map.proofs.AndBack.{changes_follow}
-use Rattle.blk_map.specs.Named.{TakesLowest}
+use Rattle.blk_map.specs.Named.{FreesNone, TakesLowest, TakesNone}
+use Rattle.blk_map.proofs.Taken.{none_then_none, same_frees_none, same_takes_none}
 use Rattle.memfs_dir.specs.Listed.{PutsEntry, Relists}
 use Rattle.memfs_dir.proofs.DirectoryBytes.{begins, lists, place_within}
 use Rattle.memfs_dir.proofs.Written.{replaced}
@@ -69,7 +70,14 @@ takes_lowest number before between after old new place entry grown put block oth
     let bit : (n : ℕ) → bit_of (block_bytes after 0) n ≡ bit_of (block_bytes between 0) n = λ n. ap (λ (map : List ℕ). bit_of map n) put.map in
     grown.lowest block other free (sym (bit block) ∙ marked) (omega (arith, left.0, put.changes.blocks), λ is. left.1 (bit other ∙ is))
 
+pub frees_none : (number : ℕ) (before between after : List (List ℕ)) (new : Inode) (place : ℕ) (entry : DirEntry) → FreesNone before between → PutsEntry number between new place entry after → FreesNone before after
+frees_none number before between after new place entry grown put block is = same_frees_none between after put.map block (grown block is)
+
 -- ---- an entry less
+
+-- what fills the place takes nothing, and so does what is cut off
+pub takes_none : (number : ℕ) (before between after : List (List ℕ)) (old : Inode) (place : ℕ) (last : DirEntry) → PutsEntry number before old place last between → TakesNone between after → TakesNone before after
+takes_none number before between after old place last put cut = none_then_none before between after (same_takes_none before between put.map) cut
 
 cut : (number : ℕ) (before : List (List ℕ)) (old : Inode) (after : List (List ℕ)) (new : Inode) → Resizes number before old (old.size - 32) after new → (entries : List DirEntry) → HasEntries before old entries
     → 0 < length entries → HasEntries after new (take (length entries - 1) entries)

@@ -3,7 +3,7 @@ ghost use Rattle.kabi_types.specs.declared.errnos.Errno.TheVariants.{ENOSPC};
 ghost use Rattle.posix_defs.specs.DiskFormat.{IsEntry};
 ghost use Rattle.posix_defs.specs.SoundDisk.{HasNode, Sound};
 ghost use Rattle.memfs_dir.specs.Slots.{entry_size};
-ghost use Rattle.blk_map.specs.Named.{TakesLowest};
+ghost use Rattle.blk_map.specs.Named.{FreesNone, TakesLowest};
 ghost use Rattle.memfs_dir.specs.Listed.{IsDirectory, IsFull, IsInUse, PutsEntry, Relists};
 
 use crate::slots::{ENTRIES_IN_BLOCK, ENTRY_SIZE, put_entry};
@@ -11,7 +11,8 @@ use blk_map::{block_at, grow};
 use kabi_types::{DirEntry, Errno, Inode};
 use posix_defs::Blocks;
 
-/// Puts an entry behind all others of a directory. The blocks that it takes are the lowest of those that are free.
+/// Puts an entry behind all others of a directory. The blocks that it takes are the lowest of those that are free, and it
+/// frees none.
 ///
 /// ENOSPC exactly where the directory has the greatest size, or fewer blocks are free than it grows by, its block of
 /// pointers among them; nothing is written then.
@@ -27,6 +28,7 @@ pub fn dir_add<B: Blocks>(
     requires entry { IsEntry entry.now }
     ensures ok { OnOk result (Relists number (B.blocks b.old) dir.old (λ entries. entries ++ entry.now ∷ []) (B.blocks b.new) dir.new) }
     ensures lowest { OnOk result (TakesLowest (B.blocks b.old) (B.blocks b.new)) }
+    ensures frees_none { FreesNone (B.blocks b.old) (B.blocks b.new) }
     ensures full { (result ≡ Err ENOSPC) ↔ IsFull (B.blocks b.old) dir.old }
     ensures only { IfErr result (λ fault. fault ≡ ENOSPC) }
     ensures err { OnErr result ((B.blocks b.new ≡ B.blocks b.old) × (dir.new ≡ dir.old)) }

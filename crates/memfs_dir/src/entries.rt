@@ -6,7 +6,7 @@ ghost use Rattle.posix_defs.specs.Asking.{AskedInTurn};
 ghost use Rattle.posix_defs.specs.DiskFormat.{IsEntry};
 ghost use Rattle.posix_defs.specs.SoundDisk.{HasNode, Sound};
 ghost use Rattle.posix_defs.specs.DiskContents.{HasEntries, data_block};
-ghost use Rattle.blk_map.specs.Named.{asked_for};
+ghost use Rattle.blk_map.specs.Named.{FreesNone, TakesNone, asked_for};
 ghost use Rattle.memfs_dir.specs.Slots.{entry_size, entries_in_block};
 ghost use Rattle.memfs_dir.specs.Listed.{IsDirectory, IsInUse, PutsEntry, Relists, at_place};
 
@@ -69,7 +69,7 @@ pub fn replace_entry<B: Blocks>(b: &mut B, dir: &Inode, place: u32, entry: &DirE
     node
 }
 
-/// Puts an entry in the place of another.
+/// Puts an entry in the place of another. No block is taken, and none is freed.
 pub fn dir_rename<B: Blocks>(b: &mut B, dir: &Inode, place: u32, entry: &DirEntry)
     requires sound { Sound (B.blocks b.old) }
     requires node { IsInUse (B.blocks b.old) dir.now }
@@ -78,6 +78,8 @@ pub fn dir_rename<B: Blocks>(b: &mut B, dir: &Inode, place: u32, entry: &DirEntr
     requires entry { IsEntry entry.now }
     ensures puts { (number : ℕ) → HasNode (B.blocks b.old) number dir.now
         → Relists number (B.blocks b.old) dir.now (λ entries. slice_set entries place entry.now) (B.blocks b.new) dir.now }
+    ensures takes_none { TakesNone (B.blocks b.old) (B.blocks b.new) }
+    ensures frees_none { FreesNone (B.blocks b.old) (B.blocks b.new) }
     ensures follows { B.follows b.old b.new }
 {
     replace_entry(b, dir, place, entry);

@@ -5,6 +5,7 @@ ghost use Rattle.posix_defs.specs.DiskFormat.{IsEntry};
 ghost use Rattle.posix_defs.specs.SoundDisk.{HasNode, Sound};
 ghost use Rattle.posix_defs.specs.DiskContents.{HasEntries};
 ghost use Rattle.posix_defs.specs.TreeChanges.{no_entry};
+ghost use Rattle.blk_map.specs.Named.{TakesNone};
 ghost use Rattle.memfs_dir.specs.Slots.{entry_size};
 ghost use Rattle.memfs_dir.specs.Listed.{IsDirectory, IsInUse, PutsEntry, Relists, at_place};
 
@@ -15,7 +16,7 @@ use kabi_types::{DirEntry, Inode};
 use posix_defs::Blocks;
 
 /// Takes the entry at a place out of a directory, and answers its node. The last entry moves to that place, and a block
-/// that no entry needs any more is free, as is the block of pointers.
+/// that no entry needs any more is free, as is the block of pointers; none is taken.
 pub fn dir_remove<B: Blocks>(b: &mut B, number: u32, dir: &mut Inode, place: u32) -> u32
     requires sound { Sound (B.blocks b.old) }
     requires node { HasNode (B.blocks b.old) number dir.old }
@@ -23,6 +24,7 @@ pub fn dir_remove<B: Blocks>(b: &mut B, number: u32, dir: &mut Inode, place: u32
     requires within { entry_size * place < dir.old.size }
     ensures removes { Relists number (B.blocks b.old) dir.old (λ entries. swap_remove entries place no_entry) (B.blocks b.new) dir.new }
     ensures answer { (entries : List DirEntry) → HasEntries (B.blocks b.old) dir.old entries → result ≡ (slice_index_or entries place no_entry).node }
+    ensures takes_none { TakesNone (B.blocks b.old) (B.blocks b.new) }
     ensures follows { B.follows b.old b.new }
 {
     let at = dir.size / ENTRY_SIZE - 1;

@@ -14,7 +14,7 @@ use Rattle.blk_map.proofs.AndBack.{changes_follow}
 use Rattle.memfs_file.specs.FileChange.{Puts}
 
 pub nothing_changes : (disk : List (List ℕ)) (number : ℕ) → Sound disk → ChangesNode disk disk number
-nothing_changes disk number sound = record { sound = sound; blocks = refl; inodes = λ other inode apart has. has; bytes = λ other inode apart has. refl }
+nothing_changes disk number sound = record { sound = sound; blocks = refl; inodes = λ other inode apart has. has; bytes = λ other inode apart has. refl; names = λ other inode place apart has within. refl }
 
 -- of a range of bytes those are written that lie before a block
 pub record PutBefore (number : ℕ) (before : List (List ℕ)) (inode : Inode) (at : ℕ) (bytes : List ℕ) (index : ℕ) (now : List (List ℕ)) : Type 0 where

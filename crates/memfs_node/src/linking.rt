@@ -3,6 +3,7 @@
 ghost use Rattle.std.specs.Prelude.{◌≡◌, ◌+◌, ◌-◌, ◌<◌, ◌≤◌, ◌&&◌, ◌==◌, not};
 ghost use Rattle.posix_defs.specs.SoundDisk.{HasNode, Sound};
 ghost use Rattle.posix_defs.specs.TreeChanges.{most_links};
+ghost use Rattle.blk_map.specs.Named.{TakesNone};
 ghost use Rattle.memfs_node.specs.NodeOnDisk.{DropsLink, Retags};
 
 use crate::freeing::free_node;
@@ -35,13 +36,14 @@ pub fn add_link<B: Blocks>(b: &mut B, number: u32, inode: &mut Inode)
 }
 
 /// Counts one link less of a node that has some. With its last link it is freed, unless it is `opened`; the answer is
-/// whether it was freed.
+/// whether it was freed. No block is taken.
 pub fn drop_link<B: Blocks>(b: &mut B, number: u32, inode: &mut Inode, opened: bool) -> bool
     requires sound { Sound (B.blocks b.old) }
     requires node { HasNode (B.blocks b.old) number inode.old }
     requires some { 0 < inode.old.nlink }
     ensures freed { result ≡ (inode.old.nlink == 1 && not opened) }
     ensures drops { DropsLink result number (B.blocks b.old) inode.old (B.blocks b.new) inode.new }
+    ensures takes_none { TakesNone (B.blocks b.old) (B.blocks b.new) }
     ensures follows { B.follows b.old b.new }
 {
     if inode.nlink == 1 && !opened {

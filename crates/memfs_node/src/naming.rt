@@ -6,6 +6,7 @@ ghost use Rattle.posix_defs.specs.SoundDisk.{HasNode, Sound};
 ghost use Rattle.posix_defs.specs.DiskTree.{StandsFor};
 ghost use Rattle.posix_defs.specs.Tree.{Tree, is_directory};
 ghost use Rattle.posix_defs.specs.TreeChanges.{make};
+ghost use Rattle.blk_map.specs.Named.{TakesLowest};
 ghost use Rattle.memfs_dir.specs.Listed.{IsDirectory};
 ghost use Rattle.memfs_node.specs.NodeOnDisk.{AnswersAs, HasParent, KeepsOthers, content_of};
 
@@ -19,7 +20,7 @@ use posix_defs::Blocks;
 /// Makes a node under a name that a directory has not, as the free node of the lowest number, and answers that number.
 ///
 /// ENOSPC exactly where no node is free, the directory has the greatest size, or fewer blocks are free than the node and
-/// the growth of the directory take; nothing is written then.
+/// the growth of the directory take; nothing is written then. The blocks that it takes are the lowest of those that are free.
 pub fn make_named<B: Blocks>(
     b: &mut B,
     parent: u32,
@@ -36,6 +37,7 @@ pub fn make_named<B: Blocks>(
         → AnswersAs (B.blocks b.old) (B.blocks b.new) (make tree parent name (content_of new)) result }
     ensures node { HasNode (B.blocks b.new) parent dir.new }
     ensures others { KeepsOthers parent (B.blocks b.old) (B.blocks b.new) }
+    ensures lowest { TakesLowest (B.blocks b.old) (B.blocks b.new) }
     ensures follows { B.follows b.old b.new }
 {
     if !has_room_for_entry(b, dir, new.blocks()) {

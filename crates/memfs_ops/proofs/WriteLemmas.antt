@@ -18,6 +18,8 @@ use Rattle.posix_defs.specs.Tree.{Tree, IsInodeIn}
 use Rattle.posix_defs.specs.TreeChanges.{resize, write}
 use Rattle.tree_laws.proofs.FileKeeps.{write_keeps, resize_keeps}
 use Rattle.tree_laws.proofs.OtherNodes.{write_names, resize_names}
+use Rattle.blk_map.specs.Named.{TakesLowest}
+use Rattle.blk_map.proofs.Taken.{unchanged_is_lowest}
 use Rattle.memfs_file.specs.FileChange.{blocks_for, Rewrites}
 use Rattle.memfs_file.proofs.OnTree.{OnTree, writes, writes_none, writes_big, sizes, sizes_none, sizes_big}
 use Rattle.memfs_node.proofs.Looking.{shown}
@@ -31,6 +33,18 @@ use Rattle.memfs_ops.proofs.ChangeLemmas.{changed_lags, lags_of, stands_all}
 -- a file's inode is of a file's kind
 pub file_kind : (disk : List (List ℕ)) (tree : Tree) (number : ℕ) (inode : Inode) → StandsFor disk tree → IsFile tree number → HasNode disk number inode → inode.kind ≡ 1
 file_kind disk tree number inode stands file has = (subst (λ there. IsInodeIn there inode) file.there (shown disk tree number inode stands has)).kind
+
+-- ---- what is taken, and nothing where there is no room
+
+pub written_lowest : (before after : List (List ℕ)) (old new : Inode) (answer : Result ℕ Errno) → IfOk answer (λ count. TakesLowest before after)
+    → IfErr answer (λ fault. ((fault ≡ EFBIG) ⊎ (fault ≡ ENOSPC)) × (after ≡ before) × (new ≡ old)) → TakesLowest before after
+written_lowest before after old new (Ok count) ok err = ok
+written_lowest before after old new (Err fault) ok err = unchanged_is_lowest before after err.1
+
+pub sized_lowest : (before after : List (List ℕ)) (old new : Inode) (answer : Result (Unit {0}) Errno) → OnOk answer (TakesLowest before after)
+    → IfErr answer (λ fault. ((fault ≡ EFBIG) ⊎ (fault ≡ ENOSPC)) × (after ≡ before) × (new ≡ old)) → TakesLowest before after
+sized_lowest before after old new (Ok done) ok err = ok
+sized_lowest before after old new (Err fault) ok err = unchanged_is_lowest before after err.1
 
 -- ---- places behind the greatest size
 

@@ -5,6 +5,7 @@ use Rattle.posix_defs.specs.DiskContents.{own_name, parent_name}
 use Rattle.posix_defs.specs.DiskFormat.{IsName}
 use Rattle.posix_defs.specs.Tree.{Tree, found}
 use Rattle.posix_defs.specs.TreeChanges.{with_entries, entry_put, entry_taken, entry_renamed, hung}
+use Rattle.blk_map.specs.Named.{FreesNone, TakesLowest, TakesNone}
 use Rattle.memfs_dir.specs.Listed.{IsFull}
 use Rattle.memfs_ops.specs.declared.entries.EntryEdit.{EntryEdit}
 use Rattle.memfs_ops.specs.declared.entries.EntryEdit.TheVariants as edits
@@ -31,3 +32,11 @@ MayEdit (edits.Put name node) disk tree dir inode = IsName name × (0 < node) ×
 MayEdit (edits.Take name) disk tree dir inode = HasEntry tree dir name
 MayEdit (edits.Set from to node) disk tree dir inode = HasEntry tree dir from × IsName to × (0 < node)
 MayEdit (edits.Hang parent) disk tree dir inode = 0 < parent
+
+-- What is put finds its place in the lowest free blocks, where it takes any; what is taken out takes none; and what changes in
+-- its place leaves the map.
+abbrev pub TakesFor : EntryEdit → List (List ℕ) → List (List ℕ) → Type 0
+TakesFor (edits.Put name node) before after = TakesLowest before after
+TakesFor (edits.Take name) before after = TakesNone before after
+TakesFor (edits.Set from to node) before after = TakesNone before after × FreesNone before after
+TakesFor (edits.Hang parent) before after = TakesNone before after × FreesNone before after

@@ -7,7 +7,8 @@ ghost use Rattle.posix_defs.specs.SoundDisk.{HasNode};
 ghost use Rattle.posix_defs.specs.Tree.{Tree, is_directory as directory_in};
 ghost use Rattle.posix_defs.specs.TreeChanges.{with_entries, entry_put, entry_taken, entry_renamed, hung};
 ghost use Rattle.memfs_dir.specs.Listed.{IsFull};
-ghost use Rattle.memfs_ops.specs.Entries.{edited, HasEntry, MayEdit};
+ghost use Rattle.blk_map.specs.Named.{FreesNone, TakesLowest, TakesNone};
+ghost use Rattle.memfs_ops.specs.Entries.{edited, HasEntry, MayEdit, TakesFor};
 
 use kabi_types::{DirEntry, Inode, Name27};
 use memfs_dir::{dir_add, dir_find, dir_remove, dir_rename};
@@ -35,6 +36,7 @@ pub(crate) fn edit_entry<B: Blocks>(b: &mut B, dir: u32, inode: &mut Inode, edit
         → StandsFor (B.blocks b.new) (edited edit.now tree dir) }
     ensures node { HasNode (B.blocks b.new) dir inode.new }
     ensures changes { ChangesNode (B.blocks b.old) (B.blocks b.new) dir }
+    ensures takes { TakesFor edit.now (B.blocks b.old) (B.blocks b.new) }
     ensures follows { B.follows b.old b.new }
 {
     match edit {
@@ -56,6 +58,7 @@ fn put_last<B: Blocks>(b: &mut B, dir: u32, inode: &mut Inode, name: &Name27, no
         → StandsFor (B.blocks b.new) (with_entries tree dir (entry_put name.now node)) }
     ensures node { HasNode (B.blocks b.new) dir inode.new }
     ensures changes { ChangesNode (B.blocks b.old) (B.blocks b.new) dir }
+    ensures lowest { TakesLowest (B.blocks b.old) (B.blocks b.new) }
     ensures follows { B.follows b.old b.new }
 {
     let entry = DirEntry {
@@ -74,6 +77,7 @@ fn take_out<B: Blocks>(b: &mut B, dir: u32, inode: &mut Inode, name: &Name27)
         → StandsFor (B.blocks b.new) (with_entries tree dir (entry_taken name.now)) }
     ensures node { HasNode (B.blocks b.new) dir inode.new }
     ensures changes { ChangesNode (B.blocks b.old) (B.blocks b.new) dir }
+    ensures takes_none { TakesNone (B.blocks b.old) (B.blocks b.new) }
     ensures follows { B.follows b.old b.new }
 {
     let Some(place) = dir_find(b, inode, name.items()) else {
@@ -93,6 +97,8 @@ fn set_named<B: Blocks>(b: &mut B, dir: u32, inode: &Inode, from: &Name27, to: &
         → StandsFor (B.blocks b.new) (with_entries tree dir (entry_renamed from.now to.now node)) }
     ensures node { HasNode (B.blocks b.new) dir inode.now }
     ensures changes { ChangesNode (B.blocks b.old) (B.blocks b.new) dir }
+    ensures takes_none { TakesNone (B.blocks b.old) (B.blocks b.new) }
+    ensures frees_none { FreesNone (B.blocks b.old) (B.blocks b.new) }
     ensures follows { B.follows b.old b.new }
 {
     let Some(place) = dir_find(b, inode, from.items()) else {
@@ -114,6 +120,8 @@ fn hang_below<B: Blocks>(b: &mut B, dir: u32, inode: &Inode, parent: u32)
         → StandsFor (B.blocks b.new) (hung tree dir parent) }
     ensures node { HasNode (B.blocks b.new) dir inode.now }
     ensures changes { ChangesNode (B.blocks b.old) (B.blocks b.new) dir }
+    ensures takes_none { TakesNone (B.blocks b.old) (B.blocks b.new) }
+    ensures frees_none { FreesNone (B.blocks b.old) (B.blocks b.new) }
     ensures follows { B.follows b.old b.new }
 {
     dir_rename(b, inode, 1, &parent_entry(parent));

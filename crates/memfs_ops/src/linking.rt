@@ -8,6 +8,7 @@ ghost use Rattle.posix_defs.specs.PathCalls as calls;
 ghost use Rattle.posix_defs.specs.Paths.{resolve};
 ghost use Rattle.posix_defs.specs.Tree.{Tree, found, is_directory as directory_in, is_in_use};
 ghost use Rattle.posix_defs.specs.TreeChanges.{link};
+ghost use Rattle.blk_map.specs.Named.{TakesLowest};
 ghost use Rattle.memfs_ops.specs.FileTree.{Stands, MayWalk, Pays};
 ghost use Rattle.memfs_ops.specs.Changing.{ChangedTo};
 
@@ -24,7 +25,7 @@ const MOST_LINKS: u16 = 127;
 impl FileTree {
     /// Gives the node of one path a further name. EPERM where it is a directory, EEXIST where something is under the new name,
     /// ENOENT where a slash stands behind it, EMLINK where the node has 127 names, ENOSPC where there is no room, else the
-    /// faults of both walks.
+    /// faults of both walks. The blocks that it takes are the lowest of those that are free.
     ///
     /// See [link](https://pubs.opengroup.org/onlinepubs/9699919799/functions/link.html).
     pub fn link_name(
@@ -44,6 +45,7 @@ impl FileTree {
         ensures answer { (tree : Tree) (pins : ℕ → ℕ) → Stands heap.old self.old tree pins
             → ChangedTo heap.new self.new tree (calls.link_path tree cwd old.now new.now) pins result }
         ensures pays { Pays heap.old heap.new purse.old purse.new self.old self.new }
+        ensures lowest { TakesLowest self.old.disk.blocks self.new.disk.blocks }
     {
         match node_led(self.walk(heap, purse, cwd, old)) {
             Ok(number) => self.link_found(heap, purse, cwd, number, new),
@@ -68,6 +70,7 @@ impl FileTree {
         ensures answer { (tree : Tree) (pins : ℕ → ℕ) → Stands heap.old self.old tree pins
             → ChangedTo heap.new self.new tree (calls.link_from tree (Ok number) (resolve tree cwd new.now)) pins result }
         ensures pays { Pays heap.old heap.new purse.old purse.new self.old self.new }
+        ensures lowest { TakesLowest self.old.disk.blocks self.new.disk.blocks }
     {
         let inode = self.inode(heap, purse, number);
         if is_directory(&inode) {
@@ -93,6 +96,7 @@ impl FileTree {
         ensures answer { (tree : Tree) (pins : ℕ → ℕ) → Stands heap.old self.old tree pins
             → ChangedTo heap.new self.new tree (calls.link_to tree number (resolve tree cwd new.now)) pins result }
         ensures pays { Pays heap.old heap.new purse.old purse.new self.old self.new }
+        ensures lowest { TakesLowest self.old.disk.blocks self.new.disk.blocks }
     {
         match self.walk(heap, purse, cwd, new) {
             Walked::Free {
@@ -124,6 +128,7 @@ impl FileTree {
         ensures answer { (tree : Tree) (pins : ℕ → ℕ) → Stands heap.old self.old tree pins
             → ChangedTo heap.new self.new tree (calls.unless slash ENOENT (link tree parent name.now number)) pins result }
         ensures pays { Pays heap.old heap.new purse.old purse.new self.old self.new }
+        ensures lowest { TakesLowest self.old.disk.blocks self.new.disk.blocks }
     {
         if slash {
             return Err(Errno::ENOENT);
@@ -148,6 +153,7 @@ impl FileTree {
         ensures answer { (tree : Tree) (pins : ℕ → ℕ) → Stands heap.old self.old tree pins
             → ChangedTo heap.new self.new tree (link tree parent name.now number) pins result }
         ensures pays { Pays heap.old heap.new purse.old purse.new self.old self.new }
+        ensures lowest { TakesLowest self.old.disk.blocks self.new.disk.blocks }
     {
         let mut inode = self.inode(heap, purse, number);
         let mut dir = self.inode(heap, purse, parent);

@@ -9,6 +9,7 @@ ghost use Rattle.posix_defs.specs.Tree.{Tree, found, is_directory as directory_i
 ghost use Rattle.posix_defs.specs.TreeChanges.{make};
 ghost use Rattle.posix_defs.specs.declared.walked.Walked.TheVariants as walked;
 ghost use Rattle.memfs_node.specs.NodeOnDisk.{content_of};
+ghost use Rattle.blk_map.specs.Named.{TakesLowest};
 ghost use Rattle.cached_disk.specs.Lent.{parts, GoesOn};
 ghost use Rattle.memfs_ops.specs.FileTree.{Stands, MayWalk, Pays};
 ghost use Rattle.memfs_ops.specs.Fetching.{MayFetch};
@@ -23,7 +24,7 @@ use path_walk::Walked;
 
 impl FileTree {
     /// Makes a directory without entries: EEXIST where something is under its name, ENOSPC where there is no room, else the
-    /// faults of the walk.
+    /// faults of the walk. The blocks that it takes are the lowest of those that are free.
     ///
     /// See [mkdir](https://pubs.opengroup.org/onlinepubs/9699919799/functions/mkdir.html).
     pub fn make_dir(
@@ -41,6 +42,7 @@ impl FileTree {
         ensures answer { (tree : Tree) (pins : ℕ → ℕ) → Stands heap.old self.old tree pins
             → DoneAs heap.new self.new tree (calls.mkdir_path tree cwd path.now) pins result }
         ensures pays { Pays heap.old heap.new purse.old purse.new self.old self.new }
+        ensures lowest { TakesLowest self.old.disk.blocks self.new.disk.blocks }
     {
         match self.walk(heap, purse, cwd, path) {
             Walked::Free { parent, name, .. } => {
@@ -54,7 +56,8 @@ impl FileTree {
     }
 
     /// Makes the name of a socket, and answers its node: EADDRINUSE where something is under that name, ENOSPC where there is
-    /// no room, ENOENT where a slash stands behind the name, else the faults of the walk.
+    /// no room, ENOENT where a slash stands behind the name, else the faults of the walk. The blocks that it takes are the lowest
+    /// of those that are free.
     ///
     /// See [bind](https://pubs.opengroup.org/onlinepubs/9699919799/functions/bind.html).
     pub fn bind_name(
@@ -72,6 +75,7 @@ impl FileTree {
         ensures answer { (tree : Tree) (pins : ℕ → ℕ) → Stands heap.old self.old tree pins
             → LedTo heap.new self.new tree (calls.bind_path tree cwd path.now) pins result }
         ensures pays { Pays heap.old heap.new purse.old purse.new self.old self.new }
+        ensures lowest { TakesLowest self.old.disk.blocks self.new.disk.blocks }
     {
         match self.walk(heap, purse, cwd, path) {
             Walked::Free {
@@ -101,6 +105,7 @@ impl FileTree {
         ensures answer { (tree : Tree) (pins : ℕ → ℕ) → Stands heap.old self.old tree pins
             → LedTo heap.new self.new tree (calls.bind_led tree (walked.Free parent name slash)) pins result }
         ensures pays { Pays heap.old heap.new purse.old purse.new self.old self.new }
+        ensures lowest { TakesLowest self.old.disk.blocks self.new.disk.blocks }
     {
         if slash {
             return Err(Errno::ENOENT);
@@ -125,6 +130,7 @@ impl FileTree {
         ensures answer { (tree : Tree) (pins : ℕ → ℕ) → Stands heap.old self.old tree pins
             → LedTo heap.new self.new tree (make tree parent name (content_of new)) pins result }
         ensures pays { Pays heap.old heap.new purse.old purse.new self.old self.new }
+        ensures lowest { TakesLowest self.old.disk.blocks self.new.disk.blocks }
         ensures may { MayWalk heap.new purse.new }
     {
         let mut dir = self.inode(heap, purse, parent);
@@ -151,6 +157,7 @@ impl FileTree {
         requires may { MayFetch heap.old purse.old }
         ensures answer { (tree : Tree) (pins : ℕ → ℕ) → Stands heap.old self.old tree pins
             → LagsAs parent heap.new self.new tree (make tree parent name (content_of new)) pins result }
+        ensures lowest { TakesLowest self.old.disk.blocks self.new.disk.blocks }
         ensures node { HasNode self.new.disk.blocks parent dir.new }
         ensures goes_on { GoesOn (parts heap.old purse.old self.old.blocks self.old.disk)
             (parts heap.new purse.new self.new.blocks self.new.disk) }

@@ -16,6 +16,7 @@ ghost use Rattle.posix_defs.specs.Tree.{Tree, IsInodeAt, found, is_directory as 
 ghost use Rattle.posix_defs.specs.declared.walked.Walked.TheVariants as walked;
 ghost use Rattle.name_cache.specs.Names.{name_slot};
 ghost use Rattle.vnode_cache.specs.Nodes.{node_slot};
+ghost use Rattle.blk_map.specs.Named.{TakesLowest};
 ghost use Rattle.memfs_ops.specs.FileTree.{Stands, MayWalk, Pays, KnowsWay, in_call, one_more};
 ghost use Rattle.memfs_ops.specs.Fetching.{MayFetch};
 ghost use Rattle.memfs_ops.specs.Opening.{asks_of, cut_tree, unless_fault, OpenedAs, KeepsOpened};
@@ -78,7 +79,7 @@ impl FileTree {
     /// faults of the walk.
     ///
     /// Where all that it asks for on the way is cached, and no bytes are to go, nothing is read. The last name of the path and
-    /// the node that was opened are cached afterwards. See [open](https://pubs.opengroup.org/onlinepubs/9699919799/functions/open.html).
+    /// the node that was opened are cached afterwards. The blocks that it takes are the lowest of those that are free. See [open](https://pubs.opengroup.org/onlinepubs/9699919799/functions/open.html).
     pub fn open_node(
         &mut self,
         heap: &mut KHeap,
@@ -95,6 +96,7 @@ impl FileTree {
         ensures answer { (tree : Tree) (pins : ℕ → ℕ) → Stands heap.old self.old tree pins
             → OpenedAs heap.new self.new tree (calls.open_path tree cwd path.now (asks_of how)) pins result }
         ensures pays { Pays heap.old heap.new purse.old purse.new self.old self.new }
+        ensures lowest { TakesLowest self.old.disk.blocks self.new.disk.blocks }
         ensures saved { (tree : Tree) (pins : ℕ → ℕ) → Stands heap.old self.old tree pins
             → KnowsWay (in_call heap.old purse.old self.old) tree cwd path.now → how.truncates ≡ false
             → self.new.disk ≡ self.old.disk }
@@ -127,6 +129,7 @@ impl FileTree {
         ensures answer { (tree : Tree) (pins : ℕ → ℕ) → Stands heap.old self.old tree pins
             → OpenedAs heap.new self.new tree (calls.open_there tree (asks_of how) node) pins result }
         ensures pays { Pays heap.old heap.new purse.old purse.new self.old self.new }
+        ensures lowest { TakesLowest self.old.disk.blocks self.new.disk.blocks }
         ensures saved { IsSome (node_slot self.old.vnodes node) → how.truncates ≡ false → self.new.disk ≡ self.old.disk }
         ensures kept { (number : ℕ) → result ≡ Ok number → IsSome (node_slot self.new.vnodes number) }
         ensures names { self.new.names ≡ self.old.names }
@@ -159,6 +162,7 @@ impl FileTree {
         ensures stands { (tree : Tree) (pins : ℕ → ℕ) → Stands heap.old self.old tree pins
             → Stands heap.new self.new (cut_tree tree node asked) (one_more pins node) }
         ensures pays { Pays heap.old heap.new purse.old purse.new self.old self.new }
+        ensures lowest { TakesLowest self.old.disk.blocks self.new.disk.blocks }
         ensures saved { asked ≡ false → self.new.disk ≡ self.old.disk }
         ensures kept { IsSome (node_slot self.new.vnodes node) }
         ensures names { self.new.names ≡ self.old.names }
@@ -176,6 +180,7 @@ impl FileTree {
         ensures stands { (tree : Tree) (pins : ℕ → ℕ) → Stands heap.old self.old tree pins
             → Stands heap.new self.new (cut_tree tree node asked) pins }
         ensures pays { Pays heap.old heap.new purse.old purse.new self.old self.new }
+        ensures lowest { TakesLowest self.old.disk.blocks self.new.disk.blocks }
         ensures nodes { self.new.vnodes ≡ self.old.vnodes }
         ensures saved { asked ≡ false → self.new.disk ≡ self.old.disk }
         ensures names { self.new.names ≡ self.old.names }
@@ -209,6 +214,7 @@ impl FileTree {
         ensures answer { (tree : Tree) (pins : ℕ → ℕ) → Stands heap.old self.old tree pins
             → OpenedAs heap.new self.new tree (calls.open_led tree (asks_of how) (walked.Free parent name slash)) pins result }
         ensures pays { Pays heap.old heap.new purse.old purse.new self.old self.new }
+        ensures lowest { TakesLowest self.old.disk.blocks self.new.disk.blocks }
         ensures kept { KeepsOpened self.new (walked.Free parent name slash) result }
     {
         if !how.creates {
@@ -243,6 +249,7 @@ impl FileTree {
         ensures stands { (tree : Tree) (pins : ℕ → ℕ) → Stands heap.old self.old tree pins
             → Stands heap.new self.new tree (one_more pins node) }
         ensures pays { Pays heap.old heap.new purse.old purse.new self.old self.new }
+        ensures bytes { self.new.disk.blocks ≡ self.old.disk.blocks }
         ensures named { IsSome (name_slot self.new.names (name_key parent name.now)) }
         ensures kept { IsSome (node_slot self.new.vnodes node) }
     {

@@ -10,6 +10,7 @@ ghost use Rattle.posix_defs.specs.Paths.{resolve};
 ghost use Rattle.posix_defs.specs.SoundDisk.{HasNode};
 ghost use Rattle.posix_defs.specs.Tree.{Tree, root, found, is_directory as directory_in, is_in_use, parent_at};
 ghost use Rattle.posix_defs.specs.TreeChanges.{rename_over, rename_to, takes_entry, is_at_or_above, hung_if_directory};
+ghost use Rattle.blk_map.specs.Named.{FreesNone, PrefersLowest, TakesNone};
 ghost use Rattle.lru_index.specs.NameKeys.{name_key};
 ghost use Rattle.name_cache.specs.Names.{name_slot};
 ghost use Rattle.memfs_ops.specs.FileTree.{Stands, MayWalk, Looks, Pays};
@@ -40,7 +41,7 @@ impl FileTree {
     /// or a slash stands behind a free name, ENOTEMPTY where a directory that goes has entries, ENOSPC where there is no room,
     /// else the faults of both walks.
     ///
-    /// `busy` says of each node but the root whether it is held. See
+    /// Of the blocks that were free it takes the lowest. `busy` says of each node but the root whether it is held. See
     /// [rename](https://pubs.opengroup.org/onlinepubs/9699919799/functions/rename.html).
     pub fn rename_name<U: Fn(u32) -> bool>(
         &mut self,
@@ -64,6 +65,7 @@ impl FileTree {
             → ToldTo heap.new self.new tree
             (calls.rename_path tree cwd old.now new.now opened held) pins result }
         ensures pays { Pays heap.old heap.new purse.old purse.new self.old self.new }
+        ensures lowest { PrefersLowest self.old.disk.blocks self.new.disk.blocks }
     {
         match self.walk(heap, purse, cwd, old) {
             Walked::Named {
@@ -93,6 +95,7 @@ impl FileTree {
         ensures answer { (tree : Tree) (pins : ℕ → ℕ) → Stands heap.old self.old tree pins
             → ToldTo heap.new self.new tree (calls.rename_root (resolve tree cwd new.now)) pins result }
         ensures pays { Pays heap.old heap.new purse.old purse.new self.old self.new }
+        ensures lowest { PrefersLowest self.old.disk.blocks self.new.disk.blocks }
     {
         match self.walk(heap, purse, cwd, new) {
             Walked::Node(_) => Err(Errno::EBUSY),
@@ -125,6 +128,7 @@ impl FileTree {
             → ToldTo heap.new self.new tree (calls.rename_named tree (is_held pins) (is_held pins) dir name.now number
             (resolve tree cwd new.now)) pins result }
         ensures pays { Pays heap.old heap.new purse.old purse.new self.old self.new }
+        ensures lowest { PrefersLowest self.old.disk.blocks self.new.disk.blocks }
     {
         match self.walk(heap, purse, cwd, new) {
             Walked::Named {
@@ -165,6 +169,7 @@ impl FileTree {
             → ToldTo heap.new self.new tree (calls.unless (calls.goes_below tree number to) EINVAL
             (calls.rename_onto tree (is_held pins) (is_held pins) dir name.now number to new.now replaced)) pins result }
         ensures pays { Pays heap.old heap.new purse.old purse.new self.old self.new }
+        ensures lowest { PrefersLowest self.old.disk.blocks self.new.disk.blocks }
     {
         if self.goes_below(heap, purse, number, to) {
             return Err(Errno::EINVAL);
@@ -199,6 +204,7 @@ impl FileTree {
             → ToldTo heap.new self.new tree
             (calls.rename_onto tree (is_held pins) (is_held pins) dir name.now number to new.now replaced) pins result }
         ensures pays { Pays heap.old heap.new purse.old purse.new self.old self.new }
+        ensures lowest { PrefersLowest self.old.disk.blocks self.new.disk.blocks }
     {
         let moved = self.inode(heap, purse, number);
         let gone = self.inode(heap, purse, replaced);
@@ -235,6 +241,7 @@ impl FileTree {
             → ToldTo heap.new self.new tree (calls.unless (calls.goes_below tree number to) EINVAL
             (calls.rename_away tree dir name.now number to new.now slash)) pins result }
         ensures pays { Pays heap.old heap.new purse.old purse.new self.old self.new }
+        ensures lowest { PrefersLowest self.old.disk.blocks self.new.disk.blocks }
     {
         if self.goes_below(heap, purse, number, to) {
             return Err(Errno::EINVAL);
@@ -335,6 +342,7 @@ impl FileTree {
         ensures stands { (tree : Tree) (pins : ℕ → ℕ) → Stands heap.old self.old tree pins
             → Stands heap.new self.new (rename_over tree dir name.now number to new.now replaced opened) pins }
         ensures pays { Pays heap.old heap.new purse.old purse.new self.old self.new }
+        ensures lowest { PrefersLowest self.old.disk.blocks self.new.disk.blocks }
     {
         self.forget_names(heap, purse, dir, name, to, new);
         let from = self.inode(heap, purse, dir);
@@ -373,6 +381,7 @@ impl FileTree {
             → ChangedTo heap.new self.new tree (calls.unless (not (takes_entry tree to 0)) ENOSPC
             (Ok (rename_to tree dir name.now number to new.now))) pins result }
         ensures pays { Pays heap.old heap.new purse.old purse.new self.old self.new }
+        ensures lowest { PrefersLowest self.old.disk.blocks self.new.disk.blocks }
     {
         self.forget_name(heap, purse, dir, name);
         let mut from = self.inode(heap, purse, dir);
@@ -408,6 +417,7 @@ impl FileTree {
         ensures stands { (tree : Tree) (pins : ℕ → ℕ) → Stands heap.old self.old tree pins
             → Stands heap.new self.new (rename_to tree dir name.now number dir new.now) pins }
         ensures pays { Pays heap.old heap.new purse.old purse.new self.old self.new }
+        ensures lowest { PrefersLowest self.old.disk.blocks self.new.disk.blocks }
     {
         self.forget_name(heap, purse, dir, name);
         let mut inode = self.inode(heap, purse, dir);
@@ -436,6 +446,9 @@ impl FileTree {
             → MidWay heap.new self.new told (hung_if_directory tree number to) pins }
         ensures names { self.new.names ≡ self.old.names }
         ensures pays { Pays heap.old heap.new purse.old purse.new self.old self.new }
+        ensures takes_none { TakesNone self.old.disk.blocks self.new.disk.blocks }
+        ensures frees_none { FreesNone self.old.disk.blocks self.new.disk.blocks }
+        ensures blocks { length self.new.disk.blocks ≡ length self.old.disk.blocks }
     {
         if is_directory(inode) {
             let edit = EntryEdit::Hang { parent: to };

@@ -1,9 +1,11 @@
 //! The steps of a call that changes more than one node, each from one tree to the next: in between a tree need not be one
 //! that a call leaves, and the names that are cached are those of the tree before.
 ghost use Rattle.std.specs.Prelude.{◌≡◌, ◌<◌, ◌≤◌, ◌↔◌, ℕ, true, false, IsTrue};
+ghost use Rattle.posix_defs.specs.DiskTree.{ChangesNode};
 ghost use Rattle.posix_defs.specs.SoundDisk.{HasNode, free_in_map};
 ghost use Rattle.posix_defs.specs.Tree.{Tree, is_directory as directory_in};
 ghost use Rattle.posix_defs.specs.TreeChanges.{link_added, link_dropped, most_links};
+ghost use Rattle.blk_map.specs.Named.{TakesNone};
 ghost use Rattle.memfs_dir.specs.Listed.{IsFull};
 ghost use Rattle.memfs_node.specs.NodeOnDisk.{KeepsOthers};
 ghost use Rattle.cached_disk.specs.Lent.{parts, GoesOn};
@@ -11,7 +13,7 @@ ghost use Rattle.memfs_ops.specs.FileTree.{Stands, Pays};
 ghost use Rattle.memfs_ops.specs.Fetching.{MayFetch};
 ghost use Rattle.memfs_ops.specs.Changing.{Between, MidWay};
 ghost use Rattle.memfs_ops.specs.Closing.{MayFree};
-ghost use Rattle.memfs_ops.specs.Entries.{edited, MayEdit};
+ghost use Rattle.memfs_ops.specs.Entries.{edited, MayEdit, TakesFor};
 
 use crate::FileTree;
 use crate::entries::EntryEdit;
@@ -37,6 +39,8 @@ impl FileTree {
             → MidWay heap.new self.new told (edited edit.now tree dir) pins }
         ensures node { HasNode self.new.disk.blocks dir inode.new }
         ensures others { KeepsOthers dir self.old.disk.blocks self.new.disk.blocks }
+        ensures changes { ChangesNode self.old.disk.blocks self.new.disk.blocks dir }
+        ensures takes { TakesFor edit.now self.old.disk.blocks self.new.disk.blocks }
         ensures names { self.new.names ≡ self.old.names }
         ensures pays { Pays heap.old heap.new purse.old purse.new self.old self.new }
         ensures may { MayFree heap.new purse.new }
@@ -62,6 +66,8 @@ impl FileTree {
             → Between dir heap.new self.new told (edited edit.now tree dir) pins }
         ensures node { HasNode self.new.disk.blocks dir inode.new }
         ensures others { KeepsOthers dir self.old.disk.blocks self.new.disk.blocks }
+        ensures changes { ChangesNode self.old.disk.blocks self.new.disk.blocks dir }
+        ensures takes { TakesFor edit.now self.old.disk.blocks self.new.disk.blocks }
         ensures names { self.new.names ≡ self.old.names }
         ensures goes_on { GoesOn (parts heap.old purse.old self.old.blocks self.old.disk)
             (parts heap.new purse.new self.new.blocks self.new.disk) }
@@ -95,6 +101,7 @@ impl FileTree {
         ensures mid { (told tree : Tree) (pins : ℕ → ℕ) → MidWay heap.old self.old told tree pins
             → MidWay heap.new self.new told (link_dropped tree number opened) pins }
         ensures others { KeepsOthers number self.old.disk.blocks self.new.disk.blocks }
+        ensures takes_none { TakesNone self.old.disk.blocks self.new.disk.blocks }
         ensures names { self.new.names ≡ self.old.names }
         ensures pays { Pays heap.old heap.new purse.old purse.new self.old self.new }
         ensures may { MayFree heap.new purse.new }
@@ -124,6 +131,7 @@ impl FileTree {
         ensures freed { result ≡ true → opened ≡ false }
         ensures node { result ≡ false → HasNode self.new.disk.blocks number inode.new }
         ensures others { KeepsOthers number self.old.disk.blocks self.new.disk.blocks }
+        ensures takes_none { TakesNone self.old.disk.blocks self.new.disk.blocks }
         ensures names { self.new.names ≡ self.old.names }
         ensures goes_on { GoesOn (parts heap.old purse.old self.old.blocks self.old.disk)
             (parts heap.new purse.new self.new.blocks self.new.disk) }
@@ -156,6 +164,7 @@ impl FileTree {
             → MidWay heap.new self.new told (link_added tree number) pins }
         ensures others { KeepsOthers number self.old.disk.blocks self.new.disk.blocks }
         ensures free { free_in_map self.new.disk.blocks ≡ free_in_map self.old.disk.blocks }
+        ensures takes_none { TakesNone self.old.disk.blocks self.new.disk.blocks }
         ensures names { self.new.names ≡ self.old.names }
         ensures pays { Pays heap.old heap.new purse.old purse.new self.old self.new }
         ensures may { MayFree heap.new purse.new }
@@ -175,6 +184,7 @@ impl FileTree {
         ensures node { HasNode self.new.disk.blocks number inode.new }
         ensures others { KeepsOthers number self.old.disk.blocks self.new.disk.blocks }
         ensures free { free_in_map self.new.disk.blocks ≡ free_in_map self.old.disk.blocks }
+        ensures takes_none { TakesNone self.old.disk.blocks self.new.disk.blocks }
         ensures names { self.new.names ≡ self.old.names }
         ensures goes_on { GoesOn (parts heap.old purse.old self.old.blocks self.old.disk)
             (parts heap.new purse.new self.new.blocks self.new.disk) }

@@ -6,10 +6,11 @@ ghost use Rattle.posix_defs.specs.DiskTree.{StandsFor, ChangesNode};
 ghost use Rattle.posix_defs.specs.SoundDisk.{HasNode, Sound};
 ghost use Rattle.posix_defs.specs.Tree.{Tree, is_directory as directory_in};
 ghost use Rattle.posix_defs.specs.TreeChanges.{most_links};
+ghost use Rattle.blk_map.specs.Named.{TakesNone};
 ghost use Rattle.memfs_dir.specs.Listed.{IsFullBeside};
 ghost use Rattle.memfs_node.specs.NodeOnDisk.{DropsLink, Retags};
 ghost use Rattle.cached_disk.specs.Lent.{parts, AreLent, GoesOn};
-ghost use Rattle.memfs_ops.specs.Entries.{edited, MayEdit};
+ghost use Rattle.memfs_ops.specs.Entries.{edited, MayEdit, TakesFor};
 
 use crate::entries::{EntryEdit, edit_entry};
 use block_cache::BlockCache;
@@ -37,6 +38,7 @@ pub(crate) fn edit_through(
         → StandsFor disk.new.blocks (edited edit.now tree dir) }
     ensures node { HasNode disk.new.blocks dir inode.new }
     ensures changes { ChangesNode disk.old.blocks disk.new.blocks dir }
+    ensures takes { TakesFor edit.now disk.old.blocks disk.new.blocks }
     ensures lent { AreLent heap.new purse.new cache.new disk.new }
     ensures goes_on { GoesOn (parts heap.old purse.old cache.old disk.old)
         (parts heap.new purse.new cache.new disk.new) }
@@ -67,6 +69,7 @@ pub(crate) fn drop_through(
     requires some { 0 < inode.old.nlink }
     ensures freed { result ≡ (inode.old.nlink == 1 && not opened) }
     ensures drops { DropsLink result number disk.old.blocks inode.old disk.new.blocks inode.new }
+    ensures takes_none { TakesNone disk.old.blocks disk.new.blocks }
     ensures lent { AreLent heap.new purse.new cache.new disk.new }
     ensures goes_on { GoesOn (parts heap.old purse.old cache.old disk.old)
         (parts heap.new purse.new cache.new disk.new) }

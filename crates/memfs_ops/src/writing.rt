@@ -4,6 +4,7 @@ ghost use Rattle.std.specs.List.{All};
 ghost use Rattle.posix_defs.specs.SoundDisk.{HasNode};
 ghost use Rattle.posix_defs.specs.Tree.{Tree};
 ghost use Rattle.posix_defs.specs.TreeChanges.{resize, write};
+ghost use Rattle.blk_map.specs.Named.{TakesLowest};
 ghost use Rattle.cached_disk.specs.Lent.{parts, GoesOn};
 ghost use Rattle.memfs_ops.specs.FileTree.{Stands, Pays};
 ghost use Rattle.memfs_ops.specs.Fetching.{MayFetch, IsFile};
@@ -18,7 +19,7 @@ use kheap_slabs::{KHeap, Purse};
 impl FileTree {
     /// Writes bytes into a file that is held, from `at` on, as many as there is room for, and answers how many; a gap before
     /// `at` is zeros. EFBIG where the place is at or behind the greatest size, else ENOSPC where there is no room for the gap
-    /// and one byte; nothing is written then.
+    /// and one byte; nothing is written then. The blocks that it takes are the lowest of those that are free.
     ///
     /// See [write](https://pubs.opengroup.org/onlinepubs/9699919799/functions/write.html).
     pub fn write_node(
@@ -37,6 +38,7 @@ impl FileTree {
         ensures answer { (tree : Tree) (pins : ℕ → ℕ) → Stands heap.old self.old tree pins
             → LedTo heap.new self.new tree (write tree node at bytes.now) pins result }
         ensures pays { Pays heap.old heap.new purse.old purse.new self.old self.new }
+        ensures lowest { TakesLowest self.old.disk.blocks self.new.disk.blocks }
     {
         let mut inode = self.held_inode(heap, node);
         let answer = self.write_in(heap, purse, node, &mut inode, place_of(at), bytes);
@@ -45,7 +47,7 @@ impl FileTree {
     }
 
     /// Gives a file that is held another size; what it grows by is zeros. EFBIG where the size is above the greatest one, else
-    /// ENOSPC where there is no room; nothing is changed then.
+    /// ENOSPC where there is no room; nothing is changed then. The blocks that it takes are the lowest of those that are free.
     ///
     /// See [ftruncate](https://pubs.opengroup.org/onlinepubs/9699919799/functions/ftruncate.html).
     pub fn size_node(
@@ -61,6 +63,7 @@ impl FileTree {
         ensures answer { (tree : Tree) (pins : ℕ → ℕ) → Stands heap.old self.old tree pins
             → ChangedTo heap.new self.new tree (resize tree node size) pins result }
         ensures pays { Pays heap.old heap.new purse.old purse.new self.old self.new }
+        ensures lowest { TakesLowest self.old.disk.blocks self.new.disk.blocks }
     {
         let mut inode = self.held_inode(heap, node);
         let answer = self.size_in(heap, purse, node, &mut inode, place_of(size));
@@ -85,6 +88,7 @@ impl FileTree {
         requires may { MayFetch heap.old purse.old }
         ensures answer { (tree : Tree) (pins : ℕ → ℕ) → Stands heap.old self.old tree pins
             → LagsAs node heap.new self.new tree (write tree node at bytes.now) pins result }
+        ensures lowest { TakesLowest self.old.disk.blocks self.new.disk.blocks }
         ensures node { HasNode self.new.disk.blocks node inode.new }
         ensures goes_on { GoesOn (parts heap.old purse.old self.old.blocks self.old.disk)
             (parts heap.new purse.new self.new.blocks self.new.disk) }
@@ -116,6 +120,7 @@ impl FileTree {
         requires may { MayFetch heap.old purse.old }
         ensures answer { (tree : Tree) (pins : ℕ → ℕ) → Stands heap.old self.old tree pins
             → LagsTo node heap.new self.new tree (resize tree node size) pins result }
+        ensures lowest { TakesLowest self.old.disk.blocks self.new.disk.blocks }
         ensures node { HasNode self.new.disk.blocks node inode.new }
         ensures goes_on { GoesOn (parts heap.old purse.old self.old.blocks self.old.disk)
             (parts heap.new purse.new self.new.blocks self.new.disk) }

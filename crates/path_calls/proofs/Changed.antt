@@ -128,7 +128,7 @@ module _ (script : Script) (old : Objects) (heap : Heap) (fs : TreeView) (before
       let has : HasTree mid (changed world tree) =
       record { stands = stands_still heap fs world.plain tree stands; kept = refl; reads = refl } in
       subst (λ (h : Heap). StandsFor script (record { heap = h; procs = old.procs; tree = fs; names = old.names }) (changed world tree)) (sym pays.only)
-      (stands_beside script old heap.vnodes heap.names heap.blocks heap.high old.heap.marks fs world tree (kept_by fs) fs.disk.reads was works
+      (stands_beside script old heap.vnodes heap.names heap.blocks heap.high old.heap.marks old.heap.last_high fs world tree (kept_by fs) fs.disk.reads was works
       (subst (λ (h : Heap). HasTree (record { heap = h; procs = old.procs; tree = fs; names = old.names }) (changed world tree)) pays.only has))
 
   -- it is paid for, and the step behind the call takes nothing more

@@ -84,7 +84,7 @@ module _ (script : Script) (old : Objects) (heap : Heap) (fs : TreeView) (beside
   pub kept_mid : KeepsTree heap fs → AreKept script old → AreKept script mid
   kept_mid keeps kept =
       subst (λ (h : Heap). AreKept script (record { heap = h; procs = old.procs; tree = fs; names = old.names })) (sym beside)
-      (kept_beside script old heap.vnodes heap.names heap.blocks heap.high old.heap.marks fs kept (subst (λ (h : Heap). KeepsTree h fs) beside keeps))
+      (kept_beside script old heap.vnodes heap.names heap.blocks heap.high old.heap.marks old.heap.last_high fs kept (subst (λ (h : Heap). KeepsTree h fs) beside keeps))
 
   pub runs_mid : (pid : ℕ) (control : Control) → Runs old pid control → Runs mid pid control
   runs_mid pid control runs =
@@ -99,7 +99,7 @@ module _ (script : Script) (old : Objects) (heap : Heap) (fs : TreeView) (beside
   stands_mid world stands now =
       let has : HasTree mid (looked world) = record { stands = now; kept = refl; reads = refl } in
       subst (λ (h : Heap). StandsFor script (record { heap = h; procs = old.procs; tree = fs; names = old.names }) (looked world)) (sym beside)
-      (stands_beside script old heap.vnodes heap.names heap.blocks heap.high old.heap.marks fs world world.plain.files.tree (kept_by fs) fs.disk.reads stands stands.works
+      (stands_beside script old heap.vnodes heap.names heap.blocks heap.high old.heap.marks old.heap.last_high fs world world.plain.files.tree (kept_by fs) fs.disk.reads stands stands.works
       (subst (λ (h : Heap). HasTree (record { heap = h; procs = old.procs; tree = fs; names = old.names }) (looked world)) beside has))
 
   -- where it has entered a directory
@@ -107,7 +107,7 @@ module _ (script : Script) (old : Objects) (heap : Heap) (fs : TreeView) (beside
       → is_directory world.plain.files.tree directory ≡ true → HasEntered script mid (looked world) directory
   entered_mid world directory stands now is =
       subst (λ (h : Heap). HasEntered script (record { heap = h; procs = old.procs; tree = fs; names = old.names }) (looked world) directory) (sym beside)
-      (entered_beside script old heap.vnodes heap.names heap.blocks heap.high old.heap.marks fs world directory stands
+      (entered_beside script old heap.vnodes heap.names heap.blocks heap.high old.heap.marks old.heap.last_high fs world directory stands
       (subst (λ (h : Heap). TreeStands h fs world.plain.files.tree (one_more (pins_in world.plain) directory)) beside now) is)
 
 -- what stands for whatever it stood for stands for the tree of a world

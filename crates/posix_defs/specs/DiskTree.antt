@@ -2,7 +2,7 @@
 use Rattle.std.specs.Prelude.{ℕ, ◌<◌, ◌≤◌, ◌≡◌, ◌≢◌, List, ◌∷◌, length, Option, None, Some}
 use Rattle.kabi_types.specs.declared.inodes.Inode.{Inode}
 use Rattle.posix_defs.specs.DiskFormat.{table_nodes}
-use Rattle.posix_defs.specs.SoundDisk.{HasInode, Sound, IsFreeNode}
+use Rattle.posix_defs.specs.SoundDisk.{HasInode, Place, HasPlace, named_at, Sound, IsFreeNode}
 use Rattle.posix_defs.specs.DiskContents.{node_bytes, HasEntries, entry_for, own_name, parent_name}
 use Rattle.posix_defs.specs.Tree.{Content, File, Directory, SocketName, Node, Tree, node_at, IsInodeOf}
 
@@ -31,9 +31,10 @@ pub record StandsFor (disk : List (List ℕ)) (tree : Tree) : Type 0 where
   pub count : length tree.nodes ≡ table_nodes tree.blocks
   pub each : (number : ℕ) → 0 < number → number ≤ table_nodes tree.blocks → HasThere disk number (node_at tree number)
 
--- a disk changed at one node alone: it is sound, and every other node has its inode and its bytes
+-- a disk changed at one node alone: it is sound, and every other node has its inode, names its blocks, and has its bytes
 pub record ChangesNode (old new : List (List ℕ)) (number : ℕ) : Type 0 where
   pub sound : Sound new
   pub blocks : length new ≡ length old
   pub inodes : (other : ℕ) (inode : Inode) → other ≢ number → HasInode old other inode → HasInode new other inode
   pub bytes : (other : ℕ) (inode : Inode) → other ≢ number → HasInode old other inode → node_bytes new inode ≡ node_bytes old inode
+  pub names : (other : ℕ) (inode : Inode) (place : Place) → other ≢ number → HasInode old other inode → HasPlace inode.size place → named_at new inode place ≡ named_at old inode place

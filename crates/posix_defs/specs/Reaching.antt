@@ -95,6 +95,7 @@ path_to_leave (call.Stat path) = Some path
 path_to_leave (call.OpenFile path flags) = Some path
 path_to_leave (call.Chdir path) = Some path
 path_to_leave (call.Exec path) = Some path
+path_to_leave (call.Connect fd path) = Some path
 path_to_leave _ = None
 
 -- the last name that a walk leads to, with its directory
@@ -131,10 +132,12 @@ IsLeft tree kept (Some there) =
 
 -- ---- which walks read nothing
 
--- the path of a call that does no more than walk it: of a stat, of a chdir, and of an open that neither makes nor empties a file
+-- the path of a call that does no more than walk it: of a stat, of a chdir, of a connect, and of an open that neither makes nor
+-- empties a file
 abbrev pub path_to_walk : Call → Option (List ℕ)
 path_to_walk (call.Stat path) = Some path
 path_to_walk (call.Chdir path) = Some path
+path_to_walk (call.Connect fd path) = Some path
 path_to_walk (call.OpenFile path flags) = if has_flag flags o_creat || has_flag flags o_trunc then None else Some path
 path_to_walk _ = None
 

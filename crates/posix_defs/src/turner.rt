@@ -1,5 +1,7 @@
 ghost use Rattle.std.specs.Prelude.{◌≡◌, ◌≢◌, ℕ, ◌+◌, ◌%◌, ◌^◌, ◌≤◌, true, false, not};
+ghost use Rattle.kabi_types.specs.declared.calls.Call.{Call as CallOf};
 ghost use Rattle.kabi_types.specs.declared.scripts.Script.{Script};
+ghost use Rattle.posix_defs.specs.declared.turner.Turned.{Turned as Told};
 ghost use Rattle.posix_defs.specs.Needs.{bound, need_of, slack};
 ghost use Rattle.posix_defs.specs.Sizes.{reserve};
 ghost use Rattle.posix_defs.specs.Process.{is_alive};
@@ -40,11 +42,19 @@ pub trait Turner {
     /// The store stands for this world.
     ghost stands: { Self → World → Type 0 };
 
-    /// How often the kernel heap was marked, modulo 2^64. Each call that may change the store marks it once, at its begin.
+    /// How often the kernel heap was marked, modulo 2^64. Each call that may change the store marks it once.
     ghost marks: { Self → ℕ };
 
-    /// The most bytes of kernel heap that were in use at a moment since the last mark, that at the mark among them.
+    /// The most bytes of kernel heap that were in use at a moment between the last two marks, those at both among them.
     ghost high: { Self → ℕ };
+
+    /// The most bytes of kernel heap that were in use at a moment since the last mark, that at the mark among them. Between
+    /// two calls it is what is in use, so wherever in a call the mark stands, the most of the whole call is `high` or that.
+    ghost risen: { Self → ℕ };
+
+    /// What a turn says beside worlds: from the store before it, by a process's call of which this was told, to the store after it. A
+    /// store that has nothing to say has it always.
+    ghost beside: { Self → ℕ → CallOf → Told → Self → Type 0 };
 
     /// The call that a live process makes next.
     fn next(&self, pid: u32) -> Call
@@ -69,6 +79,7 @@ pub trait Turner {
         ensures script { script self.new ≡ script self.old }
         ensures turned { (world : World) → stands self.old world
             → (after : World) × stands self.new after × TurnsTo (script self.old) world pid call.now result after }
+        ensures beside { beside self.old pid call.now result self.new }
         ensures marked { marks self.new ≡ (marks self.old + 1) % 2 ^ 64 }
         ensures since { (world : World) → stands self.old world → live_of world ≤ high self.new }
         ensures high { (world : World) → stands self.old world → high self.new ≤ live_of world + bound call.now + slack call.now };
@@ -134,7 +145,7 @@ pub trait Turner {
     /// How many bytes of kernel heap are in use.
     fn live(&self) -> u64
         ensures bytes { (world : World) → stands self.now world → result ≡ live_of world }
-        ensures below { result ≤ high self.now };
+        ensures rests { (world : World) → stands self.now world → live_of world ≡ risen self.now };
 
     /// How many blocks were read from the disk since boot; it stands still at its type's end.
     fn reads(&self) -> u64

@@ -1,6 +1,6 @@
 //! `connect`.
 
-ghost use Rattle.std.specs.Prelude.{◌≡◌, ◌<◌, ◌≤◌, ℕ, [], List, Option, None, IsSome, OnErr, OnOk};
+ghost use Rattle.std.specs.Prelude.{◌≡◌, ◌<◌, ◌≤◌, ℕ, [], List, Option, None, IsOk, IsSome, OnErr, OnOk};
 ghost use Rattle.std.specs.Option.{ForSome};
 ghost use Rattle.kabi_types.specs.Arguments.{path_fault};
 ghost use Rattle.kabi_types.specs.declared.scripts.Script.{Script};
@@ -10,6 +10,7 @@ ghost use Rattle.open_laws.specs.Owned.{HasItsOwners};
 ghost use Rattle.place_laws.specs.Placed.{Numbers};
 ghost use Rattle.posix_defs.specs.Calls.OnSockets.{connect as plain_connect, listener_under as plain_listener_under};
 ghost use Rattle.posix_defs.specs.Files.SocketNames.{listener_at as plain_listener_at};
+ghost use Rattle.posix_defs.specs.PathCalls.{node_led};
 ghost use Rattle.posix_defs.specs.Paths.{resolve};
 ghost use Rattle.posix_defs.specs.Plain.{Plain};
 ghost use Rattle.posix_defs.specs.Process.{directory_of as plain_directory};
@@ -73,6 +74,7 @@ pub fn connect_number(
     ensures paid { IsPaid heap.old purse.old heap.new purse.new }
     ensures fills { HasFills heap.new purse.new }
     ensures reads { tree.old.disk.reads ≤ tree.new.disk.reads }
+    ensures bytes { tree.new.disk.blocks ≡ tree.old.disk.blocks }
     ensures saved { (plain : Tree) (pins : ℕ → ℕ) (directory : ℕ) → Stands heap.old tree.old plain pins
         → WorksAt heap.old procs.now pid directory
         → KnowsWay (in_call heap.old purse.old tree.old) plain directory path.now
@@ -80,6 +82,9 @@ pub fn connect_number(
     ensures kept { (plain : Tree) (pins : ℕ → ℕ) (directory : ℕ) → Stands heap.old tree.old plain pins
         → WorksAt heap.old procs.now pid directory
         → OnOk result (KeepsLed tree.new (resolve plain directory path.now)) }
+    ensures found { (plain : Tree) (pins : ℕ → ℕ) (directory : ℕ) → Stands heap.old tree.old plain pins
+        → WorksAt heap.old procs.now pid directory
+        → OnOk result (IsOk (node_led (resolve plain directory path.now))) }
 {
     let found = socket_of(heap, procs, pid, fd)?;
     can_connect(heap, found.key)?;

@@ -35,8 +35,8 @@ pub record IsLastResort (script : Script) (s : CoreState) (pid : ℕ) : Type 0 w
   pub alive : is_alive s.world.plain.table pid ≡ true
 
 -- An event of a run, from the state and the store that the events before it led to, to those that it led to. What is told as
--- charged is what is charged behind it, at most the heap. It left the store as it was, or marked it once, and from then on what was
--- in use and what is reserved for all other calls stayed within the heap. A process that it kills was the last resort.
+-- charged is what is charged behind it, at most the heap. It left the store as it was, or marked it once, and since the mark before
+-- what was in use and what is reserved for all other calls stayed within the heap. A process that it kills was the last resort.
 pub record EventKeeps {T : Type 0} (stands_for : T → World → Type 0) (marks high : T → ℕ) (script : Script) (before : List Noted) (noted : Noted) : Type 0 where
   pub old : CoreState
   pub store : T
@@ -70,10 +70,10 @@ pub record EntryKeeps (script : Script) (before : List Entry) (added : Entry) : 
   pub room : KeepsToRoom script past added
 
 -- The text tells a run to its end. The store went through that run event by event, and stands for the world in which it ended.
--- No charge that is told is above the heap, the peak among them; nor was, from the mark of an event to its end, what was in use
--- with what is reserved for all other calls. The entries that are told are a legal history of the machine, which has unlimited
--- memory, and lead it to where the run ended. A call is refused exactly where its bound is above the room, and no other is
--- answered ENOMEM. Each kill was the last resort.
+-- No charge that is told is above the heap, the peak among them; nor was, while an event ran, what was in use with what is
+-- reserved for all other calls. The entries that are told are a legal history of the machine, which has unlimited memory, and
+-- lead it to where the run ended. A call is refused exactly where its bound is above the room, and no other is answered ENOMEM.
+-- Each kill was the last resort.
 pub record KeepsHeadline {T : Type 0} (stands_for : T → World → Type 0) (marks high : T → ℕ) (script : Script) (store : T) (end : End) (text : List ℕ) : Type 0 where
   pub run : List Noted
   pub state : CoreState

@@ -16,7 +16,7 @@ pub struct OnePid {
     pub lives: bool,
     /// How often the heap was marked.
     pub marks: u64,
-    /// The most of the heap that was taken since.
+    /// The most of the heap that was taken in the last call.
     pub high: u64,
     ghost few: { place ≤ 2 },
     ghost above: { live_at lives ≤ high },
@@ -30,7 +30,7 @@ fn taken(lives: bool) -> u64
 }
 
 impl OnePid {
-    /// A call begins.
+    /// A call begins: from here on it takes no more.
     fn mark(&mut self)
         ensures place { self.new.place ≡ self.old.place }
         ensures lives { self.new.lives ≡ self.old.lives }
@@ -61,6 +61,10 @@ impl Turner for OnePid {
     ghost marks = { λ store. store.marks };
 
     ghost high = { λ store. store.high };
+
+    ghost risen = { λ store. live_at store.lives };
+
+    ghost beside = { λ _ _ _ _ _. Unit {0} };
 
     fn next(&self, _pid: u32) -> Call {
         if self.place == 0 {

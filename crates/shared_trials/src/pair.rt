@@ -11,7 +11,7 @@ use posix_defs::{Asked, Turned, Turner};
 
 /// A process that forks; then it and its child bind a name to what isn't open, and end. To bind the name a block is cached. The store
 /// has the heap of its script, how far the processes have come, whether a block is cached, and of the heap how often that was
-/// marked, and the most that was taken since.
+/// marked, and the most that was taken in the last call.
 #[derive(Drop)]
 pub struct Pair {
     heap: u64,
@@ -248,6 +248,10 @@ impl Turner for Pair {
     ghost marks = { λ store. store.marks };
 
     ghost high = { λ store. store.high };
+
+    ghost risen = { λ store. live_at store.scene store.cached };
+
+    ghost beside = { λ _ _ _ _ _. Unit {0} };
 
     fn next(&self, pid: u32) -> Call {
         match act_of(who(pid), self.scene) {

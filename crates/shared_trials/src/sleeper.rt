@@ -11,7 +11,7 @@ use posix_defs::{Asked, Turned, Turner};
 
 /// A process that maps two pages and makes a pipe, each until it may, reads from the empty pipe, and then writes a byte more than
 /// the pipe holds. The store has the heap of its script, how far the process has come, and of the heap how often that was marked,
-/// and the most that was taken since.
+/// and the most that was taken in the last call.
 #[derive(Drop)]
 pub struct Sleeper {
     heap: u64,
@@ -150,6 +150,10 @@ impl Turner for Sleeper {
     ghost marks = { λ store. store.marks };
 
     ghost high = { λ store. store.high };
+
+    ghost risen = { λ store. live_in store.stage };
+
+    ghost beside = { λ _ _ _ _ _. Unit {0} };
 
     fn next(&self, _pid: u32) -> Call {
         call_at(self.stage)

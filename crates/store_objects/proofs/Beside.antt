@@ -26,21 +26,21 @@ use Rattle.store_objects.proofs.Opening.{files_on}
 use Rattle.store_objects.proofs.Families.{SameMemory, memory_on, processes_on}
 
 -- a heap with other objects of the three caches, and another mark
-abbrev pub beside_in : Heap → List (Option Vnode) → List (Option Name) → List (Option Block) → ℕ → ℕ → Heap
-beside_in h vnodes names blocks high marks = record h { vnodes = vnodes; names = names; blocks = blocks; high = high; marks = marks }
+abbrev pub beside_in : Heap → List (Option Vnode) → List (Option Name) → List (Option Block) → ℕ → ℕ → ℕ → Heap
+beside_in h vnodes names blocks high marks last_high = record h { vnodes = vnodes; names = names; blocks = blocks; high = high; marks = marks; last_high = last_high }
 
 -- the objects with that heap, and another tree of files
-abbrev pub beside_as : Objects → List (Option Vnode) → List (Option Name) → List (Option Block) → ℕ → ℕ → TreeView → Objects
-beside_as objects vnodes names blocks high marks fs =
-    record { heap = beside_in objects.heap vnodes names blocks high marks; procs = objects.procs; tree = fs; names = objects.names }
+abbrev pub beside_as : Objects → List (Option Vnode) → List (Option Name) → List (Option Block) → ℕ → ℕ → ℕ → TreeView → Objects
+beside_as objects vnodes names blocks high marks last_high fs =
+    record { heap = beside_in objects.heap vnodes names blocks high marks last_high; procs = objects.procs; tree = fs; names = objects.names }
 
 -- a world with another tree, in which other things are kept and more was read
 abbrev pub treed_in : World → Tree → Kept → ℕ → World
 treed_in world tree kept reads = record world { plain = with_files world.plain (with_tree world.plain.files tree); kept = kept; reads = reads }
 
-module _ (script : Script) (objects : Objects) (vnodes : List (Option Vnode)) (names : List (Option Name)) (blocks : List (Option Block)) (high marks : ℕ) (fs : TreeView) where
+module _ (script : Script) (objects : Objects) (vnodes : List (Option Vnode)) (names : List (Option Name)) (blocks : List (Option Block)) (high marks last_high : ℕ) (fs : TreeView) where
   abbrev new : Objects
-  new = beside_as objects vnodes names blocks high marks fs
+  new = beside_as objects vnodes names blocks high marks last_high fs
 
   owned_beside : (owners : Owners) → IsOwned objects.heap owners → IsOwned new.heap owners
   owned_beside owners owned = record { nodes = owned.nodes; mapped = owned.mapped; pages = owned.pages; chunks = owned.chunks; queues = owned.queues }

@@ -1,5 +1,5 @@
 -- A mark of the heap changes nothing that a store stands for.
-use Rattle.std.proofs.Common.{◌≡◌, ℕ, ◌≤◌, refl, arith}
+use Rattle.std.proofs.Common.{◌≡◌, ℕ, refl}
 use Rattle.kabi_types.specs.declared.scripts.Script.{Script}
 use Rattle.posix_defs.specs.World.{World}
 use Rattle.store_objects.specs.declared.objects.Objects.{Objects}
@@ -10,23 +10,19 @@ use Rattle.store_objects.proofs.Beside.{kept_beside, stands_beside}
 use Rattle.store_objects.proofs.TreesOn.{caches_on, tree_on}
 
 -- the objects with another mark of their heap
-abbrev pub marked_as : Objects → ℕ → ℕ → Objects
-marked_as objects high marks = record { heap = record objects.heap { high = high; marks = marks }; procs = objects.procs; tree = objects.tree; names = objects.names }
+abbrev pub marked_as : Objects → ℕ → ℕ → ℕ → Objects
+marked_as objects high marks last_high = record { heap = record objects.heap { high = high; marks = marks; last_high = last_high }; procs = objects.procs; tree = objects.tree; names = objects.names }
 
 -- a mark leaves what caches have in the heap
-marked_caches : (objects : Objects) (high marks : ℕ) → CachesStay objects.heap (marked_as objects high marks).heap
-marked_caches objects high marks = record { vnodes = refl; names = refl; blocks = refl; size = refl }
+marked_caches : (objects : Objects) (high marks last_high : ℕ) → CachesStay objects.heap (marked_as objects high marks last_high).heap
+marked_caches objects high marks last_high = record { vnodes = refl; names = refl; blocks = refl; size = refl }
 
-pub kept_marked : (script : Script) (objects : Objects) (high marks : ℕ) → AreKept script objects → AreKept script (marked_as objects high marks)
-kept_marked script objects high marks kept =
-    kept_beside script objects objects.heap.vnodes objects.heap.names objects.heap.blocks high marks objects.tree kept
-    (caches_on objects.heap (marked_as objects high marks).heap objects.tree objects.tree refl (marked_caches objects high marks) kept.caches)
+pub kept_marked : (script : Script) (objects : Objects) (high marks last_high : ℕ) → AreKept script objects → AreKept script (marked_as objects high marks last_high)
+kept_marked script objects high marks last_high kept =
+    kept_beside script objects objects.heap.vnodes objects.heap.names objects.heap.blocks high marks last_high objects.tree kept
+    (caches_on objects.heap (marked_as objects high marks last_high).heap objects.tree objects.tree refl (marked_caches objects high marks last_high) kept.caches)
 
-pub stands_marked : (script : Script) (objects : Objects) (high marks : ℕ) (world : World) → StandsFor script objects world → StandsFor script (marked_as objects high marks) world
-stands_marked script objects high marks world stands =
-    stands_beside script objects objects.heap.vnodes objects.heap.names objects.heap.blocks high marks objects.tree world world.plain.files.tree world.kept world.reads stands stands.works
-    (tree_on objects (marked_as objects high marks) world world (record { tree = refl; names = refl; caches = marked_caches objects high marks }) refl refl refl refl stands.tree)
-
--- from a mark on high is no less than what was taken at it
-pub since_mark : (old marked high of : ℕ) → marked ≡ old → old ≡ of → marked ≤ high → of ≤ high
-since_mark old marked high of same is rises = omega arith
+pub stands_marked : (script : Script) (objects : Objects) (high marks last_high : ℕ) (world : World) → StandsFor script objects world → StandsFor script (marked_as objects high marks last_high) world
+stands_marked script objects high marks last_high world stands =
+    stands_beside script objects objects.heap.vnodes objects.heap.names objects.heap.blocks high marks last_high objects.tree world world.plain.files.tree world.kept world.reads stands stands.works
+    (tree_on objects (marked_as objects high marks last_high) world world (record { tree = refl; names = refl; caches = marked_caches objects high marks last_high }) refl refl refl refl stands.tree)

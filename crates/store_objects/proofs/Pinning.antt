@@ -87,7 +87,7 @@ module _ (old new : Objects) (only : OnlyPins old new) where
       (sym (ap (λ (h : Heap). objects_of h new.procs new.tree new.names) only.heap
       ∙ ap (λ (view : TableView). objects_of (record old.heap { vnodes = new.heap.vnodes }) view new.tree new.names) only.procs
       ∙ ap (objects_of (record old.heap { vnodes = new.heap.vnodes }) old.procs new.tree) only.names))
-      (kept_beside script old new.heap.vnodes old.heap.names old.heap.blocks old.heap.high old.heap.marks new.tree kept (subst (λ (h : Heap). KeepsTree h new.tree) only.heap keeps))
+      (kept_beside script old new.heap.vnodes old.heap.names old.heap.blocks old.heap.high old.heap.marks old.heap.last_high new.tree kept (subst (λ (h : Heap). KeepsTree h new.tree) only.heap keeps))
 
   pub pinned_stays : KeptStays old.tree new.tree
   pinned_stays = record {

@@ -244,7 +244,7 @@ module _ (script : Script) (objects : Objects) (what : Cached) (heap : Heap) (fs
   kept_evicted kept =
       let keeps : KeepsTree heap fs = (kept.caches.0, kept.caches.1, on kept.caches.0 kept.caches.1 kept.caches.2) in
       subst (λ (h : Heap). AreKept script (record { heap = h; procs = objects.procs; tree = fs; names = objects.names })) (sym beside)
-      (kept_beside script objects heap.vnodes heap.names heap.blocks objects.heap.high objects.heap.marks fs kept (subst (λ (h : Heap). KeepsTree h fs) beside keeps))
+      (kept_beside script objects heap.vnodes heap.names heap.blocks objects.heap.high objects.heap.marks objects.heap.last_high fs kept (subst (λ (h : Heap). KeepsTree h fs) beside keeps))
 
   -- they stand for the world without what has gone
   pub stands_evicted : (world : World) → StandsFor script objects world → (next : World) × StandsFor script after next × Evicts world what next
@@ -257,7 +257,7 @@ module _ (script : Script) (objects : Objects) (what : Cached) (heap : Heap) (fs
       } in (
         next,
         subst (λ (h : Heap). StandsFor script (record { heap = h; procs = objects.procs; tree = fs; names = objects.names }) next) (sym beside)
-            (stands_beside script objects heap.vnodes heap.names heap.blocks objects.heap.high objects.heap.marks fs world world.plain.files.tree (kept_by fs) world.reads stands stands.works
+            (stands_beside script objects heap.vnodes heap.names heap.blocks objects.heap.high objects.heap.marks objects.heap.last_high fs world world.plain.files.tree (kept_by fs) world.reads stands stands.works
             (subst (λ (h : Heap). HasTree (record { heap = h; procs = objects.procs; tree = fs; names = objects.names }) next) beside has)),
         record {
           plain = refl;

@@ -41,6 +41,7 @@ pub fn go_on(
     ensures kept { AreKept script.now objects.new }
     ensures told { result ≡ turned.Done reply }
     ensures takes { TakesNothing objects.old.heap objects.new.heap }
+    ensures tree { objects.new.tree ≡ objects.old.tree }
     ensures goes { (world : World) → StandsFor script.now objects.old world → StandsFor script.now objects.new (answered_in script.now world pid reply) }
 {
     objects.move_on(pid, behind(script, control, &reply));

@@ -3,7 +3,7 @@ use Rattle.std.proofs.lemmas.List.{get_or-take, length-take-le}
 use Rattle.posix_defs.specs.DiskFormat.{blocks_of}
 use Rattle.posix_defs.specs.SoundDisk.{bit_of, block_bytes, free_in_map}
 use Rattle.blk_map.specs.Found.{free_below}
-use Rattle.blk_map.proofs.Blocks.{got}
+use Rattle.blk_map.proofs.Blocks.{got, in_table}
 use Rattle.blk_map.proofs.Counted.{given_none, one_more_at_most}
 use Rattle.blk_map.proofs.SameBlocks.{same_grows}
 use Rattle.blk_map.proofs.growing.grow_but.Goals as goal
@@ -28,6 +28,11 @@ returns-then-need-eq0-clause-ok g c =
       others = c.put_in_table.ensures.others;
     }
     )
+
+pub returns-then-need-eq0-clause-frees_none : goal.returns-then-need-eq0-clause-frees_none
+returns-then-need-eq0-clause-frees_none g c = λ block is.
+    let table = in_table (length (g.B.Blocks.blocks c.args.b.now)) c.args.number c.requires.node.0.number.0 c.requires.node.0.number.1 in
+    ap (λ (map : List ℕ). bit_of map block) (c.put_in_table.ensures.others 0 (λ e. omega (arith, e, table.0))) ∙ is
 
 pub take_blocks-requires-clause-lowest : goal.take_blocks-requires-clause-lowest
 take_blocks-requires-clause-lowest g c = λ block free.

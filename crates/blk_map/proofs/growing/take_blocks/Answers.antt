@@ -1,9 +1,10 @@
-use Rattle.std.proofs.Common.{◌≡◌, ℕ, ◌+◌, ◌-◌, ◌<◌, ◌≤◌, ◌⊎◌, inl, inr, List, length, get_or, sym, ap, subst, ◌∙◌, arith}
+use Rattle.std.proofs.Common.{◌≡◌, ◌≢◌, ℕ, ◌+◌, ◌-◌, ◌<◌, ◌≤◌, ◌⊎◌, inl, inr, List, length, get_or, sym, ap, subst, ◌∙◌, arith}
 use Rattle.posix_defs.specs.DiskFormat.{data_blocks, IsForFiles}
-use Rattle.posix_defs.specs.SoundDisk.{pointer_at, bit_of, block_bytes}
+use Rattle.posix_defs.specs.SoundDisk.{pointer_at, bit_of, block_bytes, IsMarked}
 use Rattle.blk_map.specs.Named.{pointer_to}
 use Rattle.std.proofs.lemmas.Bool.{cases_lt}
-use Rattle.std.proofs.lemmas.List.{get_or-replicate, length-set}
+use Rattle.std.proofs.lemmas.List.{get_or-replicate, get_or-set_same, length-set}
+use Rattle.blk_map.proofs.Blocks.{in_table}
 use Rattle.blk_map.proofs.Counted.{given_least}
 use Rattle.blk_map.proofs.Taking.{taken_grows, pointers_files}
 use Rattle.blk_map.proofs.growing.take_blocks.Goals as goal
@@ -97,3 +98,30 @@ returns-clause-grows g c =
       after_others = c.settle.ensures.others;
     }
     )
+
+-- the map is written with further bits, and nothing else is written in its place
+pub returns-clause-frees_none : goal.returns-clause-frees_none
+returns-clause-frees_none g c = λ block is.
+    let before : List (List ℕ) = g.B.Blocks.blocks c.args.b.now in
+    let after : List (List ℕ) = g.B.Blocks.blocks c.settle.new.b in
+    let taken : List ℕ = c.args.blocks.now in
+    let more : ℕ = data_blocks c.args.size - data_blocks c.args.inode.now.size in
+    let had_is : c.data_count-had.result ≡ data_blocks c.args.inode.now.size = c.data_count-had.ensures in
+    let more_is : c.data_count.result - c.data_count-had.result ≡ more = omega (arith, c.data_count.ensures, had_is) in
+    let least = given_least c.args.inode.now.size c.args.size c.requires.size in
+    let table = in_table (length before) c.args.number c.requires.node.0.number.0 c.requires.node.0.number.1 in
+    let within : 0 < length before = omega (arith, c.requires.sound.size.0) in
+    let low : IsMarked before 0 = (c.requires.sound.map 0 within).1 (inl (omega arith)) in
+    let none : (k : ℕ) → k < length taken → get_or taken k 0 ≢ 0 = λ k lt e. (c.requires.free k lt).1 (subst (λ (n : ℕ). IsMarked before n) (sym e) low) in
+    let there = c.place_or-inode.ensures ∙ ap (λ (n : ℕ). get_or taken n c.args.inode.now.indirect) more_is in
+    let apart : 10 < data_blocks c.args.size → 0 ≢ c.place_or-inode.result = λ large e.
+    let files = pointers_files before c.args.number c.args.inode.now c.args.size taken c.place_or-inode.result c.requires.sound c.requires.node.0 c.requires.size c.requires.many c.requires.free there large in
+    omega (arith, e, files.0)
+    in
+    let now : block_bytes after 0 ≡ c.mark_all.new.map =
+    c.settle.ensures.others 0 (λ e. omega (arith, e, table.0)) apart
+    ∙ c.zero_range-2.ensures.others 0 (λ k le lt. none k (omega (arith, lt, more_is, c.requires.many, least)))
+    ∙ c.zero_range.ensures.others 0 (λ k le lt. none k (omega (arith, lt, more_is, c.place_among-first.ensures, c.requires.many, least)))
+    ∙ ap (λ (disk : List (List ℕ)). block_bytes disk 0) (c.behind_of.ensures.kept ∙ c.set.ensures.after)
+    ∙ get_or-set_same {A = List ℕ} before 0 c.mark_all.new.map _ within in
+    ap (λ (map : List ℕ). bit_of map block) now ∙ c.mark_all.ensures.stays block (ap (λ (map : List ℕ). bit_of map block) c.requires.map ∙ is)

@@ -7,6 +7,8 @@ use Rattle.store_objects.proofs.Paying.{uses_nothing}
 use Rattle.store_objects.proofs.Replies.{does_fail}
 use Rattle.call_run.proofs.Dispatch.{serves_right, wrong_told}
 use Rattle.call_run.proofs.Reaching.{failed_served}
+use Rattle.file_calls.specs.Bytes.{told_count}
+use Rattle.file_calls.proofs.BytesCached.{nothing_read}
 use Rattle.call_run.proofs.calls.run.Goals as goal
 
 pub run_right-requires-clause-right : goal.run_right-requires-clause-right
@@ -33,3 +35,7 @@ returns-in-Err-clause-does c =
     (does_fail c.args.script.now c.args.objects.now c.go_on.new.objects c.args.caller.now.pid c.args.call.now c.in-Err.errno c.go_on.result _
     c.go_on.ensures.told c.go_on.ensures.goes
     (λ world stands. wrong_told c.args.script.now world.plain c.args.caller.now.pid _ c.in-Err.errno (answer_to c.args.script.now world.plain c.args.caller.now.pid c.args.call.now) (sym c.checked.ensures ∙ ap result_err c.in-Err.is)))
+
+pub returns-in-Err-clause-cached : goal.returns-in-Err-clause-cached
+returns-in-Err-clause-cached c =
+    nothing_read c.args.objects.now c.go_on.new.objects c.args.caller.now.pid c.args.call.now c.go_on.result c.go_on.ensures.tree (ap told_count c.go_on.ensures.told)

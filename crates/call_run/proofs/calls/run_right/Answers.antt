@@ -4,6 +4,7 @@ use Rattle.store_objects.proofs.Callers.{caller_lives}
 use Rattle.store_objects.proofs.Paying.{uses_more}
 use Rattle.call_run.proofs.Naming.{room_kept, room_less}
 use Rattle.call_run.proofs.Reaching.{unnamed_served}
+use Rattle.call_run.proofs.BytesCached.{beside_cached, closing_cached, named_cached}
 use Rattle.call_run.proofs.calls.run_right.Goals as goal
 
 pub run_named-requires-clause-stands : goal.run_named-requires-clause-stands
@@ -67,3 +68,16 @@ pub returns-else-is_on_file-clause-does : goal.returns-else-is_on_file-clause-do
 returns-else-is_on_file-clause-does c =
     unnamed_served c.args.script.now c.args.objects.now c.run_beside.new.objects c.args.caller.now.pid c.args.call.now c.run_beside.result
     (λ plain. answer_to c.args.script.now plain c.args.caller.now.pid c.args.call.now) (sym c.is_named.ensures ∙ c.if-is_named.false) c.run_beside.ensures.does
+
+pub returns-then-is_named-clause-cached : goal.returns-then-is_named-clause-cached
+returns-then-is_named-clause-cached c =
+    named_cached c.args.objects.now c.run_named.new.objects c.args.caller.now.pid c.args.call.now c.run_named.result (sym c.is_named.ensures ∙ c.if-is_named.true)
+
+pub returns-then-is_closing-clause-cached : goal.returns-then-is_closing-clause-cached
+returns-then-is_closing-clause-cached c =
+    closing_cached c.args.objects.now c.run_closing.new.objects c.args.caller.now.pid c.args.call.now c.run_closing.result (sym c.is_closing.ensures ∙ c.if-is_closing.true)
+
+pub returns-else-is_on_file-clause-cached : goal.returns-else-is_on_file-clause-cached
+returns-else-is_on_file-clause-cached c =
+    let off = c.is_on_file.ensures.off c.if-is_on_file.false in
+    beside_cached c.args.objects.now c.run_beside.new.objects c.args.caller.now.pid c.args.call.now c.run_beside.result off.0 off.1

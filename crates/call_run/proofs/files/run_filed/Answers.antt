@@ -1,4 +1,4 @@
-use Rattle.std.proofs.Common.{refl, rules, subst, w64}
+use Rattle.std.proofs.Common.{refl, rules, subst, sym, w64}
 use Rattle.std.proofs.lemmas.Int.{to_z-of_z}
 use mir.Val.{of_z, to_z}
 use Rattle.kabi_types.specs.declared.calls.Call.TheVariants as call
@@ -8,6 +8,8 @@ use Rattle.store_objects.proofs.Paying.{uses_nothing, uses_paid}
 use Rattle.call_run.specs.Families.{IsOnFile}
 use Rattle.call_run.proofs.Dispatch.{changing_left, serves_that, spelt_four, spelt_one, spelt_three}
 use Rattle.call_run.proofs.Naming.{has_file_need, may_fetch, right_that}
+use Rattle.file_calls.specs.Bytes.{ReadsCached}
+use Rattle.call_run.proofs.BytesCached.{changing_cached}
 use Rattle.call_run.proofs.files.run_filed.Goals as goal
 
 pub read-requires-clause-runs : goal.read-requires-clause-runs
@@ -119,3 +121,33 @@ returns-in-Fstat-clause-does c =
 pub run_changing-requires-clause-among : goal.run_changing-requires-clause-among
 run_changing-requires-clause-among c =
     changing_left c.args.call.now c.requires.among c.in_default.not-Read c.in_default.not-Pread c.in_default.not-Readdir c.in_default.not-Lseek c.in_default.not-Fstat
+
+pub returns-in-Read-clause-cached : goal.returns-in-Read-clause-cached
+returns-in-Read-clause-cached c =
+    subst (λ which. ReadsCached c.args.objects.now c.args.caller.now.pid which c.read.result c.read.new.objects)
+    (sym (spelt_three c.args.call.now call.Read c.in-Read.fd c.in-Read.addr c.in-Read.n c.in-Read.is (search (rules, to_z-of_z)) (search (rules, to_z-of_z)) (search (rules, to_z-of_z)))) c.read.ensures.cached
+
+pub returns-in-Pread-clause-cached : goal.returns-in-Pread-clause-cached
+returns-in-Pread-clause-cached c =
+    subst (λ which. ReadsCached c.args.objects.now c.args.caller.now.pid which c.pread.result c.pread.new.objects)
+    (sym (spelt_four c.args.call.now call.Pread c.in-Pread.fd c.in-Pread.addr c.in-Pread.n c.in-Pread.at c.in-Pread.is (search (rules, to_z-of_z)) (search (rules, to_z-of_z)) (search (rules, to_z-of_z)) (search (rules, to_z-of_z)))) c.pread.ensures.cached
+
+pub returns-in-Readdir-clause-cached : goal.returns-in-Readdir-clause-cached
+returns-in-Readdir-clause-cached c =
+    subst (λ which. ReadsCached c.args.objects.now c.args.caller.now.pid which c.readdir.result c.readdir.new.objects)
+    (sym (spelt_three c.args.call.now call.Readdir c.in-Readdir.fd c.in-Readdir.addr c.in-Readdir.n c.in-Readdir.is (search (rules, to_z-of_z)) (search (rules, to_z-of_z)) (search (rules, to_z-of_z)))) c.readdir.ensures.cached
+
+pub returns-in-Lseek-clause-cached : goal.returns-in-Lseek-clause-cached
+returns-in-Lseek-clause-cached c =
+    subst (λ which. ReadsCached c.args.objects.now c.args.caller.now.pid which c.lseek.result c.lseek.new.objects)
+    (sym (spelt_three c.args.call.now call.Lseek c.in-Lseek.fd c.in-Lseek.offset c.in-Lseek.whence c.in-Lseek.is (search (rules, to_z-of_z)) (search (rules, to_z-of_z)) (search (rules, to_z-of_z)))) tt
+
+pub returns-in-Fstat-clause-cached : goal.returns-in-Fstat-clause-cached
+returns-in-Fstat-clause-cached c =
+    subst (λ which. ReadsCached c.args.objects.now c.args.caller.now.pid which c.fstat.result c.fstat.new.objects)
+    (sym (spelt_one c.args.call.now call.Fstat c.in-Fstat.fd c.in-Fstat.is (search (rules, to_z-of_z)))) tt
+
+pub returns-in_default-clause-cached : goal.returns-in_default-clause-cached
+returns-in_default-clause-cached c =
+    changing_cached c.args.objects.now c.run_changing.new.objects c.args.caller.now.pid c.args.call.now c.run_changing.result
+    (changing_left c.args.call.now c.requires.among c.in_default.not-Read c.in_default.not-Pread c.in_default.not-Readdir c.in_default.not-Lseek c.in_default.not-Fstat)

@@ -9,6 +9,7 @@ use Rattle.kheap_slabs.specs.Heap.{Heap, IsWellFormed}
 use Rattle.memfs_ops.specs.FileTree.{TreeView}
 use Rattle.open_laws.specs.Owned.{HasItsOwners}
 use Rattle.posix_defs.specs.Calls.OnSockets.{bind}
+use Rattle.posix_defs.specs.Plain.{with_files}
 use Rattle.posix_defs.specs.World.{World}
 use Rattle.proc_descs.specs.Having.{AreListed}
 use Rattle.proc_descs.specs.Queues.{QueuesStand}
@@ -87,4 +88,4 @@ returns-clause-does c =
     (λ n o plain hold works. anew c.args.objects.now.heap n o c.args.objects.now c.bind_number-done.new.heap c.bind_number-done.new.tree c.bind_number-done.new.names c.args.script.now plain c.args.pid _ _ (c.bind_number-done.ensures.answers n o c.args.script.now plain hold works)))
     (call.Bind c.args.fd c.args.path.now) c.args.purse.now c.bind_number-done.new.purse c.go_on.result c.go_on.new.objects c.bind_number-done.ensures.paid c.requires.needed c.bind_number-done.ensures.reads c.go_on.ensures.told c.go_on.ensures.goes
     (no_frames (call.Bind c.args.fd c.args.path.now) (λ frames pid value. refl) c.args.pid c.zero.result)
-    (λ world next. bind_cached c.args.objects.now _ world c.args.pid c.args.fd c.args.path.now c.zero.result next c.requires.right)
+    (λ world stands files then. bind_cached c.args.objects.now _ world c.args.pid c.args.fd c.args.path.now c.zero.result (with_files world.plain files) c.requires.right)

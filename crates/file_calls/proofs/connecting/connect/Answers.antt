@@ -6,9 +6,11 @@ use Rattle.kabi_types.specs.declared.errnos.Errno.{Errno}
 use Rattle.kabi_types.specs.declared.replies.Reply.{Reply}
 use Rattle.kheap_laws.proofs.PaidLemmas.{IsPaid-nothing, IsPaid-trans}
 use Rattle.kheap_slabs.specs.Heap.{Heap, IsWellFormed}
+use Rattle.file_moves.specs.Worlds.{LeavesCached}
 use Rattle.memfs_ops.specs.FileTree.{TreeView}
 use Rattle.open_laws.specs.Owned.{HasItsOwners}
 use Rattle.posix_defs.specs.Calls.OnSockets.{connect}
+use Rattle.posix_defs.specs.Plain.{with_files}
 use Rattle.posix_defs.specs.World.{World}
 use Rattle.proc_descs.specs.Having.{AreListed}
 use Rattle.proc_descs.specs.Queues.{QueuesStand}
@@ -19,7 +21,7 @@ use Rattle.store_objects.specs.Standing.{IsSound, StandsFor}
 use Rattle.file_moves.proofs.StoreFiles.{works_in_some}
 use Rattle.store_objects.proofs.Keeping.{listed_in}
 use Rattle.open_moves.proofs.Replying.{no_frames}
-use Rattle.file_calls.proofs.CallingNames.{AnswersSo, HasNamed, alive_who_runs, connect_cached, kept_named, key_who_runs, left_sock, runs_named, serves_named}
+use Rattle.file_calls.proofs.CallingNames.{AnswersSo, HasNamed, alive_who_runs, connect_cached, kept_named, key_who_runs, left_sock, mid_of, runs_named, serves_named}
 use Rattle.file_calls.proofs.connecting.connect.Goals as goal
 
 named : (script : Script) (old : Objects) (heap : Heap) (fs : TreeView) (names : List (Option ℕ)) (pid : ℕ) (fd as_fd : ℤ) (path : List ℕ) (is : Result (Unit {0}) Errno) (said : Reply) → as_fd ≡ fd → said ≡ zero_of is
@@ -91,4 +93,8 @@ returns-clause-does c =
     (λ n o plain hold works. c.connect_number-done.ensures.answers n o c.args.script.now plain hold works))
     (call.Connect c.args.fd c.args.path.now) c.args.purse.now c.connect_number-done.new.purse c.go_on.result c.go_on.new.objects c.connect_number-done.ensures.paid c.requires.needed c.connect_number-done.ensures.reads c.go_on.ensures.told c.go_on.ensures.goes
     (no_frames (call.Connect c.args.fd c.args.path.now) (λ frames pid value. refl) c.args.pid c.zero.result)
-    (λ world next. connect_cached c.args.objects.now _ world c.args.pid c.args.fd c.args.path.now c.zero.result next c.requires.right)
+    (λ world stands files then.
+    let m = c.connect_number-done in
+    subst (λ said. LeavesCached c.args.objects.now (mid_of c.args.objects.now m.new.heap m.new.tree c.args.objects.now.names) world c.args.pid (call.Connect c.args.fd c.args.path.now) said (with_files world.plain files)) (sym c.zero.ensures)
+    (connect_cached c.args.script.now c.args.objects.now (mid_of c.args.objects.now m.new.heap m.new.tree c.args.objects.now.names) c.args.pid c.args.control c.requires.runs c.args.fd c.args.path.now c.args.purse.now m.result
+    c.requires.right m.ensures.bytes m.ensures.saved m.ensures.kept m.ensures.found world stands files then))

@@ -7,6 +7,7 @@ use Rattle.kabi_types.specs.declared.errnos.Errno.{Errno}
 use Rattle.kabi_types.specs.declared.replies.Reply.{Reply}
 use Rattle.kheap_laws.proofs.PaidLemmas.{IsPaid-nothing, IsPaid-trans}
 use Rattle.kheap_slabs.specs.Heap.{Heap, IsWellFormed}
+use Rattle.kheap_slabs.specs.declared.objects.Desc.{Desc}
 use Rattle.memfs_ops.specs.FileTree.{TreeView}
 use Rattle.posix_defs.specs.Calls.Reading.{read}
 use Rattle.posix_defs.specs.World.{World}
@@ -19,6 +20,7 @@ use Rattle.file_moves.proofs.Within.{within_paid}
 use Rattle.file_calls.proofs.Calling.{HasMoved, Leads, alive_who_runs, holds_some, is_kept, kept_moved, leaves_others, mid_of, runs_moved, serves_moved}
 use Rattle.file_calls.proofs.Kin.{read_kin}
 use Rattle.file_calls.proofs.Needed.{of_three, pages_for}
+use Rattle.file_calls.proofs.BytesCached.{bytes_cached}
 use Rattle.file_calls.proofs.reading.read.Goals as goal
 
 moved : (script : Script) (old : Objects) (heap : Heap) (fs : TreeView) (pid : ℕ) (fd addr n as_fd as_addr as_n : ℤ) (count : Result ℕ Errno) (said : Reply) → as_fd ≡ fd → as_addr ≡ addr → as_n ≡ n
@@ -81,3 +83,9 @@ returns-clause-does c =
     (within_paid c.args.objects.now (mid_of c.args.objects.now c.read_file-moved.new.heap c.read_file-moved.new.tree) c.args.purse.now c.read_file-moved.new.purse (call.Read c.args.fd c.args.addr c.args.n) c.read_file-moved.ensures.paid
     (ap (λ need. need.name) c.requires.needed) (ap (λ need. need.block) c.requires.needed) (ap (λ need. need.vnode) c.requires.needed) c.read_file-moved.ensures.reads)
     c.go_on.ensures.told c.go_on.ensures.goes (λ plain. read_kin c.args.script.now plain c.args.pid c.args.fd c.args.addr c.args.n)
+
+pub returns-clause-cached : goal.returns-clause-cached
+returns-clause-cached c =
+    let m = c.read_file-moved in
+    bytes_cached c.args.objects.now c.go_on.new.objects m.new.tree c.args.pid _ c.args.fd _ (λ (desc : Desc). desc.offset) m.result c.value.result c.go_on.result
+    (to_z-of_z w64 c.args.fd c.ranges.fd) (refl) c.value.ensures c.go_on.ensures.told c.go_on.ensures.tree m.ensures.saved m.ensures.last

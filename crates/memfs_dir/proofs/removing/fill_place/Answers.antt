@@ -15,7 +15,7 @@ returns-then-place-at-clause-puts g c = λ number node.
     let there : slice_get entries c.args.place ≡ Some c.args.last.now = ap (λ (n : ℕ). slice_get entries n) c.if-place-at.true ∙ c.requires.last entries has in
     let is : get_or entries c.args.place no_entry ≡ c.args.last.now = same_Some (get_or entries c.args.place no_entry) c.args.last.now (sym (slice_get-get_or entries c.args.place no_entry lt) ∙ there) in
     record {
-      changes = record { sound = c.requires.sound; blocks = refl; inodes = λ other inode apart has_it. has_it; bytes = λ other inode apart has_it. refl };
+      changes = record { sound = c.requires.sound; blocks = refl; inodes = λ other inode apart has_it. has_it; bytes = λ other inode apart has_it. refl; names = λ other inode place apart has_it within. refl };
       has = node;
       map = refl;
       free = refl;

@@ -6,6 +6,8 @@ use Rattle.posix_defs.specs.SoundDisk.{HasNode, IsFreeNode, IsLowestFreeNode}
 use Rattle.posix_defs.specs.DiskContents.{entry_for}
 use Rattle.posix_defs.specs.Tree.{size_of}
 use Rattle.posix_defs.specs.TreeChanges.{make}
+use Rattle.blk_map.specs.Named.{TakesLowest}
+use Rattle.blk_map.proofs.Taken.{lowest_then_lowest, unchanged_is_lowest}
 use Rattle.memfs_dir.specs.Listed.{IsFullBeside, Relists}
 use Rattle.memfs_dir.proofs.Kept.{entries_stay}
 use Rattle.memfs_node.specs.NodeOnDisk.{AnswersAs, Makes, content_of}
@@ -119,3 +121,27 @@ returns-clause-others g c =
     let Put : Result (Unit {0}) Errno → Type 0 = λ r. OnOk r (Relists c.args.parent between c.args.dir.now (λ entries. entries ++ entry_for number c.args.name ∷ []) after c.dir_add.new.dir) in
     let relists = subst Put c.unwrap.ensures c.dir_add.ensures.ok in
     made_others disk between after number c.args.parent lowest.free makes.changes relists.changes
+
+pub returns-then-not-has_room_for_entry-clause-lowest : goal.returns-then-not-has_room_for_entry-clause-lowest
+returns-then-not-has_room_for_entry-clause-lowest g c =
+    unchanged_is_lowest (g.B.Blocks.blocks c.args.b.now) (g.B.Blocks.blocks c.has_room_for_entry.new.b) c.has_room_for_entry.ensures.kept
+
+pub returns-in_default-clause-lowest : goal.returns-in_default-clause-lowest
+returns-in_default-clause-lowest g c =
+    unchanged_is_lowest (g.B.Blocks.blocks c.args.b.now) (g.B.Blocks.blocks c.lowest_node.new.b) (c.lowest_node.ensures.kept ∙ c.has_room_for_entry.ensures.kept)
+
+pub returns-clause-lowest : goal.returns-clause-lowest
+returns-clause-lowest g c =
+    let disk : List (List ℕ) = g.B.Blocks.blocks c.args.b.now in
+    let between : List (List ℕ) = g.B.Blocks.blocks c.make_node.new.b in
+    let after : List (List ℕ) = g.B.Blocks.blocks c.dir_add.new.b in
+    let number : ℕ = c.in-Some.number in
+    let content = content_of c.args.new in
+    let same = c.lowest_node.ensures.kept ∙ c.has_room_for_entry.ensures.kept in
+    let makes : Makes number disk content between c.make_node.result = subst (λ (d : List (List ℕ)). Makes number d content between c.make_node.result) same c.make_node.ensures.makes in
+    let first : TakesLowest disk between = subst (λ (d : List (List ℕ)). TakesLowest d between) same c.make_node.ensures.lowest in
+    let Put : Result (Unit {0}) Errno → Type 0 = λ r. OnOk r (Relists c.args.parent between c.args.dir.now (λ entries. entries ++ entry_for number c.args.name ∷ []) after c.dir_add.new.dir) in
+    let relists = subst Put c.unwrap.ensures c.dir_add.ensures.ok in
+    let Taken : Result (Unit {0}) Errno → Type 0 = λ r. OnOk r (TakesLowest between after) in
+    let second = subst Taken c.unwrap.ensures c.dir_add.ensures.lowest in
+    lowest_then_lowest disk between after makes.changes.blocks relists.changes.blocks first c.dir_add.ensures.frees_none second

@@ -8,6 +8,7 @@ use Rattle.memfs_dir.specs.Listed.{Relists}
 use Rattle.memfs_dir.proofs.InTree.{listed, put_in_tree}
 use Rattle.memfs_node.proofs.Looking.{known_of, same_directory}
 use Rattle.memfs_node.proofs.Named.{is_done}
+use Rattle.blk_map.specs.Named.{TakesLowest}
 use Rattle.memfs_ops.proofs.entries.put_last.Goals as goal
 
 pub dir_add-requires-clause-entries : goal.dir_add-requires-clause-entries
@@ -48,3 +49,10 @@ returns-clause-changes g c =
     let Put : Result (Unit {0}) Errno → Type 0 = λ r. OnOk r (Relists c.args.dir disk c.args.inode.now (λ entries. entries ++ entry_for c.args.node c.copy.result ∷ []) after c.dir_add.new.dir) in
     let relists = subst Put c.unwrap.ensures c.dir_add.ensures.ok in
     relists.changes
+
+pub returns-clause-lowest : goal.returns-clause-lowest
+returns-clause-lowest g c =
+    let disk : List (List ℕ) = g.B.Blocks.blocks c.args.b.now in
+    let after : List (List ℕ) = g.B.Blocks.blocks c.dir_add.new.b in
+    let Taken : Result (Unit {0}) Errno → Type 0 = λ r. OnOk r (TakesLowest disk after) in
+    subst Taken c.unwrap.ensures c.dir_add.ensures.lowest

@@ -6,6 +6,7 @@ use Rattle.posix_defs.specs.DiskTree.{StandsFor, ChangesNode}
 use Rattle.posix_defs.specs.SoundDisk.{HasNode}
 use Rattle.posix_defs.specs.Tree.{Tree, entries_at}
 use Rattle.posix_defs.specs.TreeChanges.{with_entries, entry_renamed, place_of}
+use Rattle.blk_map.specs.Named.{FreesNone, TakesNone}
 use Rattle.memfs_dir.specs.Listed.{Relists, place_called}
 use Rattle.memfs_dir.proofs.InTree.{listed, renamed_in_tree}
 use Rattle.memfs_node.proofs.Looking.{known_of, same_directory}
@@ -73,3 +74,13 @@ returns-clause-changes g c =
     let after : List (List ℕ) = g.B.Blocks.blocks c.dir_rename.new.b in
     let has = subst (λ (d : List (List ℕ)). HasNode d c.args.dir c.args.inode.now) (sym c.dir_find.ensures.kept) c.requires.node in
     subst (λ (d : List (List ℕ)). ChangesNode d after c.args.dir) c.dir_find.ensures.kept (c.dir_rename.ensures.puts c.args.dir has).changes
+
+pub returns-clause-takes_none : goal.returns-clause-takes_none
+returns-clause-takes_none g c =
+    let after : List (List ℕ) = g.B.Blocks.blocks c.dir_rename.new.b in
+    subst (λ (d : List (List ℕ)). TakesNone d after) c.dir_find.ensures.kept c.dir_rename.ensures.takes_none
+
+pub returns-clause-frees_none : goal.returns-clause-frees_none
+returns-clause-frees_none g c =
+    let after : List (List ℕ) = g.B.Blocks.blocks c.dir_rename.new.b in
+    subst (λ (d : List (List ℕ)). FreesNone d after) c.dir_find.ensures.kept c.dir_rename.ensures.frees_none

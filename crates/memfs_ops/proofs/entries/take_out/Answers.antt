@@ -5,6 +5,7 @@ use Rattle.posix_defs.specs.DiskTree.{ChangesNode}
 use Rattle.posix_defs.specs.SoundDisk.{HasNode}
 use Rattle.posix_defs.specs.Tree.{Tree, entries_at}
 use Rattle.posix_defs.specs.TreeChanges.{place_of, no_entry}
+use Rattle.blk_map.specs.Named.{TakesNone}
 use Rattle.memfs_dir.specs.Listed.{Relists, place_called}
 use Rattle.memfs_dir.proofs.InTree.{listed, taken_from_tree}
 use Rattle.memfs_node.proofs.Looking.{known_of, same_directory}
@@ -64,3 +65,8 @@ pub returns-clause-changes : goal.returns-clause-changes
 returns-clause-changes g c =
     let after : List (List ℕ) = g.B.Blocks.blocks c.dir_remove-node.new.b in
     subst (λ (d : List (List ℕ)). ChangesNode d after c.args.dir) c.dir_find.ensures.kept c.dir_remove-node.ensures.removes.changes
+
+pub returns-clause-takes_none : goal.returns-clause-takes_none
+returns-clause-takes_none g c =
+    let after : List (List ℕ) = g.B.Blocks.blocks c.dir_remove-node.new.b in
+    subst (λ (d : List (List ℕ)). TakesNone d after) c.dir_find.ensures.kept c.dir_remove-node.ensures.takes_none

@@ -1,6 +1,6 @@
-use Rattle.std.proofs.Common.{◌∙◌, ◌-◌, [], List, Option, Result, ap, subst, sym, w64}
+use Rattle.std.proofs.Common.{◌≡◌, ℕ, ◌∙◌, ◌-◌, [], List, Ok, Err, Option, Result, ap, subst, sym, w64}
 use Rattle.std.proofs.lemmas.Int.{to_z-of_z}
-use Rattle.std.specs.Prelude.{MatchOption}
+use Rattle.std.specs.Prelude.{IsOk, MatchOption}
 use Rattle.kabi_types.specs.declared.errnos.Errno.{Errno}
 use Rattle.kheap_laws.proofs.PaidLemmas.{IsPaid-trans}
 use Rattle.kheap_slabs.specs.Objects.{InUse}
@@ -8,11 +8,12 @@ use Rattle.kheap_slabs.specs.declared.objects.Sock.{Sock}
 use Rattle.kheap_slabs.specs.Heap.{Heap}
 use Rattle.memfs_ops.specs.FileTree.{KeepsLed, KnowsWay, in_call}
 use Rattle.posix_defs.specs.Calls.OnSockets.{connect}
+use Rattle.posix_defs.specs.PathCalls.{node_led, socket_found}
 use Rattle.posix_defs.specs.Paths.{resolve}
 use Rattle.posix_defs.specs.Process.{directory_of}
 use Rattle.posix_defs.specs.Socket.{connect_fault}
 use Rattle.posix_defs.specs.Sockets.{stage_at}
-use Rattle.posix_defs.specs.Tree.{is_directory}
+use Rattle.posix_defs.specs.Tree.{Tree, is_directory}
 use Rattle.usock_core.specs.Answers.{Answers as IsFault, IsConnectedBy}
 use Rattle.usock_core.proofs.StandingLemmas.{stands_same}
 use Rattle.proc_descs.proofs.Fronts.{queues_same, queues_then}
@@ -189,3 +190,21 @@ pub returns-clause-kept : goal.returns-clause-kept
 returns-clause-kept c = λ plain pins directory stands works.
     on_done (KeepsLed c.find_name.new.self (resolve plain directory c.args.path.now)) c.connect.result
     (subst (λ d. KeepsLed c.find_name.new.self (resolve plain d c.args.path.now)) (c.directory_of-cwd.ensures directory works) (c.find_name.ensures.kept plain pins stands))
+
+pub returns-in_err-node-clause-bytes : goal.returns-in_err-node-clause-bytes
+returns-in_err-node-clause-bytes c = c.find_name.ensures.looks.on.bytes
+
+pub returns-clause-bytes : goal.returns-clause-bytes
+returns-clause-bytes c = c.find_name.ensures.looks.on.bytes
+
+-- a socket's name is looked for under a path that leads to a node
+led_there : (tree : Tree) (led : Result ℕ Errno) (node : Option ℕ) → Ok node ≡ socket_found tree led → IsOk led
+led_there tree (Ok number) node is = tt
+led_there tree (Err errno) node is = cc
+
+pub returns-clause-found : goal.returns-clause-found
+returns-clause-found c = λ plain pins directory stands works.
+    let led : IsOk (node_led (resolve plain c.directory_of-cwd.result c.args.path.now)) =
+    led_there plain (node_led (resolve plain c.directory_of-cwd.result c.args.path.now)) c.in_ok-node.node (sym c.in_ok-node.was ∙ c.find_name.ensures.value plain pins stands) in
+    on_done (IsOk (node_led (resolve plain directory c.args.path.now))) c.connect.result
+    (subst (λ d. IsOk (node_led (resolve plain d c.args.path.now))) (c.directory_of-cwd.ensures directory works) led)

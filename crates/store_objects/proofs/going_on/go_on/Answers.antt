@@ -28,3 +28,6 @@ returns-clause-goes c = λ world stands.
     goes_on c.args.script.now c.args.objects.now c.move_on.new.self world c.args.pid c.args.reply c.behind.result stands c.move_on.ensures
     c.behind.ensures.stands c.behind.ensures.rests
     (c.behind.ensures.leads (control_of world.plain c.args.pid) (led_to c.args.script.now c.args.objects.now world.plain c.args.pid c.args.control c.requires.runs stands.processes))
+
+pub returns-clause-tree : goal.returns-clause-tree
+returns-clause-tree c = c.move_on.ensures.tree

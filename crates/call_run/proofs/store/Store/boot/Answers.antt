@@ -9,7 +9,9 @@ use Rattle.posix_defs.specs.ValidScript.{IsValid}
 use Rattle.posix_defs.specs.World.{boot_world, live_of}
 use Rattle.store_objects.specs.Objects.{AreKept}
 use Rattle.store_objects.proofs.Booting.{boot_stands, boot_stands_for}
+use Rattle.store_objects.specs.Standing.{StandsFor}
 use Rattle.call_run.specs.Stores.{Stands}
+use Rattle.call_run.proofs.Resting.{mark_rests, mark_stands, with_heap}
 use Rattle.call_run.proofs.store.Store.boot.Goals as goal
 
 pub go_to_call-requires : goal.go_to_call-requires
@@ -33,21 +35,26 @@ never e = cc
 
 pub returns-clause-booted : goal.returns-clause-booted
 returns-clause-booted g c =
-    subst (λ script. Stands (record { script = script; objects = c.in_ok-objects.objects; known = c.new-2.result.items; stale = true }) (boot_world c.args.script.now)) (sym c.in_ok-script.ensures)
+    let objects = c.in_ok-objects.objects in
+    let stands = boot_stands_for c.args.script.now c.in_ok-script.script objects c.place_of.result c.go_to_call.new.control c.requires.valid c.in_ok-script.ensures
+    (c.place_of.ensures ∙ ap (place_of (codes "init")) c.items.ensures) c.go_to_call.ensures.settled
+    c.go_to_call.ensures.stands c.go_to_call.ensures.rests c.in_ok-objects.ensures in
+    subst (λ script. Stands (record { script = script; objects = with_heap objects c.mark.new.self; known = c.new-2.result.items; stale = true }) (boot_world c.args.script.now)) (sym c.in_ok-script.ensures)
     (record {
       objects = record {
-        stands = boot_stands_for c.args.script.now c.in_ok-script.script c.in_ok-objects.objects c.place_of.result c.go_to_call.new.control c.requires.valid c.in_ok-script.ensures
-            (c.place_of.ensures ∙ ap (place_of (codes "init")) c.items.ensures) c.go_to_call.ensures.settled
-            c.go_to_call.ensures.stands c.go_to_call.ensures.rests c.in_ok-objects.ensures;
+        stands = mark_stands objects c.mark.new.self c.mark.ensures c.args.script.now (boot_world c.args.script.now) stands;
         reached = boots;
         spare = begins c.args.script.now c.requires.valid;
       };
+      rests = mark_rests objects c.mark.new.self c.mark.ensures;
       told = λ fresh. never fresh;
     })
 
 pub invariant_of-result : goal.invariant_of-result
 invariant_of-result g c =
-    let stands = boot_stands_for c.args.script.now c.in_ok-script.script c.in_ok-objects.objects c.place_of.result c.go_to_call.new.control c.requires.valid c.in_ok-script.ensures
+    let objects = c.in_ok-objects.objects in
+    let stands = boot_stands_for c.args.script.now c.in_ok-script.script objects c.place_of.result c.go_to_call.new.control c.requires.valid c.in_ok-script.ensures
     (c.place_of.ensures ∙ ap (place_of (codes "init")) c.items.ensures) c.go_to_call.ensures.settled
     c.go_to_call.ensures.stands c.go_to_call.ensures.rests c.in_ok-objects.ensures in
-    subst (λ script. AreKept script c.in_ok-objects.objects) (sym c.in_ok-script.ensures) stands.kept
+    let kept = mark_stands objects c.mark.new.self c.mark.ensures c.args.script.now (boot_world c.args.script.now) stands in
+    subst (λ script. AreKept script (with_heap objects c.mark.new.self)) (sym c.in_ok-script.ensures) kept.kept

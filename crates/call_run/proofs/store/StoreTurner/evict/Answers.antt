@@ -1,13 +1,16 @@
 use Rattle.std.proofs.Common.{sym, subst}
 use Rattle.call_run.specs.Sleepers.{AreTold}
-use Rattle.call_run.specs.Stores.{IsStoreOf, Stands}
+use Rattle.call_run.specs.Stores.{IsAtRest, IsStoreOf, Stands}
 use Rattle.call_run.proofs.store.StoreTurner.evict.Goals as goal
 
 pub invariant_of-self : goal.invariant_of-self
 invariant_of-self g c = c.evict.ensures.kept c.self.inside.script c.self.invariant
 
-pub evict-requires : goal.evict-requires
-evict-requires g c =
+pub evict-requires-clause-rests : goal.evict-requires-clause-rests
+evict-requires-clause-rests g c = let some = c.requires in subst (λ store. IsAtRest store.objects) (sym c.self.view_is) some.1.rests
+
+pub evict-requires-clause-stands : goal.evict-requires-clause-stands
+evict-requires-clause-stands g c =
     let some = c.requires in (c.self.inside.script, some.0, subst (λ store. IsStoreOf store.script store.objects some.0) (sym c.self.view_is) some.1.objects)
 
 pub returns-clause-evicted : goal.returns-clause-evicted
@@ -15,14 +18,14 @@ returns-clause-evicted g c = λ world stands can.
     let before = subst (λ store. Stands store world) (sym c.self.view_is) stands in
     let evicted = c.evict.ensures.evicted c.self.inside.script world before.objects can in (
       evicted.0,
-      record { objects = evicted.1; told = λ fresh. subst (λ plain. AreTold c.self.inside.script plain c.self.inside.known.items) (sym evicted.2.plain) (before.told fresh) },
+      record { objects = evicted.1; rests = c.evict.ensures.rests; told = λ fresh. subst (λ plain. AreTold c.self.inside.script plain c.self.inside.known.items) (sym evicted.2.plain) (before.told fresh) },
       evicted.2,
     )
 
 pub returns-clause-kept : goal.returns-clause-kept
 returns-clause-kept g c = λ world stands none.
     let before = subst (λ store. Stands store world) (sym c.self.view_is) stands in
-    record { objects = c.evict.ensures.same c.self.inside.script world before.objects none; told = before.told }
+    record { objects = c.evict.ensures.same c.self.inside.script world before.objects none; rests = c.evict.ensures.rests; told = before.told }
 
 pub returns-clause-high : goal.returns-clause-high
 returns-clause-high g c = λ world stands. c.evict.ensures.high c.self.inside.script world (subst (λ store. IsStoreOf store.script store.objects world) (sym c.self.view_is) stands.objects)

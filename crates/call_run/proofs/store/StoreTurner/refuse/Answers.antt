@@ -4,7 +4,7 @@ use Rattle.posix_defs.specs.Plain.{control_of}
 use Rattle.posix_defs.specs.Relief.{refused_in}
 use Rattle.kabi_types.specs.declared.errnos.Errno.TheVariants.{ENOMEM}
 use Rattle.kabi_types.specs.declared.replies.Reply.TheVariants.{Fail}
-use Rattle.call_run.specs.Stores.{IsStoreOf, Stands}
+use Rattle.call_run.specs.Stores.{IsAtRest, IsStoreOf, Stands}
 use Rattle.call_run.proofs.Telling.{told_further}
 use Rattle.call_run.proofs.store.StoreTurner.refuse.Goals as goal
 
@@ -17,8 +17,16 @@ returns-clause-refused g c = λ world stands alive.
     let refused : Stands (record { script = c.self.inside.script; objects = c.refuse.new.objects; known = c.forget.new.known.items; stale = c.self.inside.stale }) (refused_in c.self.inside.script world c.args.pid) =
     record {
       objects = c.refuse.ensures.refused world before.objects alive;
+      rests = c.refuse.ensures.rests;
       told = λ fresh.
           told_further c.self.inside.script world.plain c.args.pid (program.after c.self.inside.script (control_of world.plain c.args.pid) (Fail ENOMEM)) c.self.inside.known.items
           c.forget.new.known.items (c.forget.ensures.gone, c.forget.ensures.others) (before.told fresh);
     } in
     subst (λ store. Stands (record { script = c.self.inside.script; objects = c.refuse.new.objects; known = c.forget.new.known.items; stale = c.self.inside.stale }) (refused_in store.script world c.args.pid)) c.self.view_is refused
+
+pub refuse-requires-clause-alive : goal.refuse-requires-clause-alive
+refuse-requires-clause-alive g c =
+    let some = c.requires in (some.0, subst (λ store. IsStoreOf store.script store.objects some.0) (sym c.self.view_is) some.1.objects, some.2)
+
+pub refuse-requires-clause-rests : goal.refuse-requires-clause-rests
+refuse-requires-clause-rests g c = let some = c.requires in subst (λ store. IsAtRest store.objects) (sym c.self.view_is) some.1.rests

@@ -5,7 +5,8 @@ use Rattle.posix_defs.specs.Process.{is_alive}
 use Rattle.posix_defs.specs.Sizes.{reserve}
 use Rattle.posix_defs.specs.World.{live_of}
 use Rattle.posix_defs.specs.Turn.{TurnsTo}
-use Rattle.call_run.specs.Stores.{IsStoreOf, Stands}
+use Rattle.file_calls.specs.Bytes.{ReadsCached}
+use Rattle.call_run.specs.Stores.{IsAtRest, IsStoreOf, Stands}
 use Rattle.call_run.proofs.store.StoreTurner.turn.Goals as goal
 
 pub turn-turned-requires-clause-may : goal.turn-turned-requires-clause-may
@@ -28,7 +29,7 @@ returns-clause-turned g c = λ world stands.
     let before = subst (λ store. Stands store world) (sym c.self.view_is) stands in
     let turned = c.turn-turned.ensures.turned world before.objects in (
       turned.0,
-      record { objects = turned.1; told = c.keep_in_mind.ensures world turned.0 before.told turned.1.stands turned.2 },
+      record { objects = turned.1; rests = c.turn-turned.ensures.rests; told = c.keep_in_mind.ensures world turned.0 before.told turned.1.stands turned.2 },
       subst (λ store. TurnsTo store.script world c.args.pid c.args.call.now c.turn-turned.result turned.0) c.self.view_is turned.2,
     )
 
@@ -37,3 +38,10 @@ returns-clause-since g c = λ world stands. c.turn-turned.ensures.since world (s
 
 pub returns-clause-high : goal.returns-clause-high
 returns-clause-high g c = λ world stands. c.turn-turned.ensures.high world (subst (λ store. IsStoreOf store.script store.objects world) (sym c.self.view_is) stands.objects)
+
+pub turn-turned-requires-clause-rests : goal.turn-turned-requires-clause-rests
+turn-turned-requires-clause-rests g c = let may = c.requires.may in subst (λ store. IsAtRest store.objects) (sym c.self.view_is) may.1.rests
+
+pub returns-clause-beside : goal.returns-clause-beside
+returns-clause-beside g c =
+    subst (λ store. ReadsCached store.objects c.args.pid c.args.call.now c.turn-turned.result c.turn-turned.new.objects) c.self.view_is c.turn-turned.ensures.cached

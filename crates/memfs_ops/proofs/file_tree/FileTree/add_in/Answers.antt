@@ -11,6 +11,8 @@ use Rattle.memfs_node.proofs.Named.{changed_others}
 use Rattle.memfs_node.proofs.OnTree.{added_in_tree}
 use Rattle.memfs_ops.proofs.FetchLemmas.{still_may_fetch}
 use Rattle.memfs_ops.proofs.StepLemmas.{lent_between, moved_between, retagged_node}
+use Rattle.blk_map.specs.Named.{TakesNone}
+use Rattle.blk_map.proofs.Taken.{same_takes_none}
 use Rattle.memfs_ops.proofs.file_tree.FileTree.add_in.Goals as goal
 
 abbrev view : Inside → TreeView
@@ -65,3 +67,8 @@ returns-clause-others c =
 
 pub returns-clause-free : goal.returns-clause-free
 returns-clause-free c = c.add_through.ensures.links.free ∙ ap (λ (v : TreeView). free_in_map v.disk.blocks) c.self.view_is
+
+pub returns-clause-takes_none : goal.returns-clause-takes_none
+returns-clause-takes_none c =
+    let t = c.add_through in
+    subst (λ (v : TreeView). TakesNone v.disk.blocks t.new.disk.blocks) c.self.view_is (same_takes_none c.self.inside.disk.blocks t.new.disk.blocks t.ensures.links.map)

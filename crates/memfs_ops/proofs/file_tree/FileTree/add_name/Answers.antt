@@ -8,6 +8,7 @@ use Rattle.posix_defs.specs.TreeChanges.{link_added, with_entries, entry_put}
 use Rattle.posix_defs.proofs.TreeNodes.{directory_in_use}
 use Rattle.disk_laws.proofs.DiskNodes.{one_tree}
 use Rattle.tree_laws.proofs.OtherNodes.{added_directories}
+use Rattle.blk_map.proofs.Taken.{lowest_then, none_then_lowest, unchanged_is_lowest}
 use Rattle.memfs_dir.specs.Listed.{IsFull}
 use Rattle.memfs_ops.specs.Changing.{MidWay, ChangedTo}
 use Rattle.memfs_ops.proofs.LookLemmas.{looks_trans, pays_of, pays_trans}
@@ -143,3 +144,21 @@ returns-clause-pays c =
     (looks_trans c.args.heap.now i.new.heap d.new.heap c.args.purse.now i.new.purse d.new.purse c.args.self.now i.new.self d.new.self i.ensures.looks d.ensures.looks)
     (pays_on d.new.heap h.new.heap e.new.heap d.new.purse h.new.purse e.new.purse d.new.self h.new.self e.new.self h.ensures.pays
     (pays_on h.new.heap l.new.heap e.new.heap h.new.purse l.new.purse e.new.purse h.new.self l.new.self e.new.self l.ensures.pays e.ensures.pays))
+
+pub returns-then-inode-eq-MOST_LINKS-clause-lowest : goal.returns-then-inode-eq-MOST_LINKS-clause-lowest
+returns-then-inode-eq-MOST_LINKS-clause-lowest c =
+    let d = c.inode-dir in
+    unchanged_is_lowest c.args.self.now.disk.blocks d.new.self.disk.blocks (d.ensures.looks.on.bytes ∙ c.inode-inode.ensures.looks.on.bytes)
+
+pub returns-then-not-has_room-clause-lowest : goal.returns-then-not-has_room-clause-lowest
+returns-then-not-has_room-clause-lowest c =
+    let h = c.has_room in
+    unchanged_is_lowest c.args.self.now.disk.blocks h.new.self.disk.blocks (h.ensures.bytes ∙ c.inode-dir.ensures.looks.on.bytes ∙ c.inode-inode.ensures.looks.on.bytes)
+
+pub returns-clause-lowest : goal.returns-clause-lowest
+returns-clause-lowest c =
+    let h = c.has_room in
+    let l = c.link_node in
+    let e = c.edit_dir in
+    lowest_then c.args.self.now.disk.blocks h.new.self.disk.blocks e.new.self.disk.blocks (h.ensures.bytes ∙ c.inode-dir.ensures.looks.on.bytes ∙ c.inode-inode.ensures.looks.on.bytes)
+    (none_then_lowest h.new.self.disk.blocks l.new.self.disk.blocks e.new.self.disk.blocks l.ensures.others.blocks l.ensures.takes_none e.ensures.takes)

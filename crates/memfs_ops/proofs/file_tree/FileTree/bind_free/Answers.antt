@@ -5,6 +5,7 @@ use Rattle.posix_defs.specs.Tree.{SocketName}
 use Rattle.posix_defs.specs.TreeChanges.{make}
 use Rattle.memfs_ops.specs.Changing.{LedTo}
 use Rattle.memfs_ops.proofs.PaysLemmas.{pays_nothing}
+use Rattle.blk_map.proofs.Taken.{unchanged_is_lowest}
 use Rattle.memfs_ops.proofs.file_tree.FileTree.bind_free.Goals as goal
 
 pub returns-then-slash-clause-answer : goal.returns-then-slash-clause-answer
@@ -17,3 +18,6 @@ returns-then-slash-clause-pays c = pays_nothing c.args.heap.now c.args.purse.now
 pub returns-clause-answer : goal.returns-clause-answer
 returns-clause-answer c = λ tree pins stands.
     subst (λ (b : Bool). LedTo c.make_new.new.heap c.make_new.new.self tree (calls.unless b ENOENT (make tree c.args.parent c.args.name SocketName)) pins c.make_new.result) (sym c.if-slash.false) (c.make_new.ensures.answer tree pins stands)
+
+pub returns-then-slash-clause-lowest : goal.returns-then-slash-clause-lowest
+returns-then-slash-clause-lowest c = unchanged_is_lowest c.args.self.now.disk.blocks c.args.self.now.disk.blocks refl

@@ -7,6 +7,7 @@ use Rattle.posix_defs.specs.declared.walked.Walked.TheVariants as walked
 use Rattle.tree_laws.proofs.PathLeads.{path_led, last_is_entry_name}
 use Rattle.memfs_ops.specs.Changing.{LedTo}
 use Rattle.memfs_ops.proofs.LookLemmas.{pays_of, pays_trans}
+use Rattle.blk_map.proofs.Taken.{lowest_then, unchanged_is_lowest}
 use Rattle.memfs_ops.proofs.file_tree.FileTree.bind_name.Goals as goal
 
 pub bind_free-requires-clause-stands : goal.bind_free-requires-clause-stands
@@ -53,3 +54,15 @@ returns-in-Named-clause-pays c = pays_of c.args.heap.now c.walk.new.heap c.args.
 
 pub returns-in-Fail-clause-pays : goal.returns-in-Fail-clause-pays
 returns-in-Fail-clause-pays c = pays_of c.args.heap.now c.walk.new.heap c.args.purse.now c.walk.new.purse c.args.self.now c.walk.new.self c.walk.ensures.looks
+
+pub returns-in-Free-clause-lowest : goal.returns-in-Free-clause-lowest
+returns-in-Free-clause-lowest c = lowest_then c.args.self.now.disk.blocks c.walk.new.self.disk.blocks c.bind_free.new.self.disk.blocks c.walk.ensures.looks.on.bytes c.bind_free.ensures.lowest
+
+pub returns-in-Node-clause-lowest : goal.returns-in-Node-clause-lowest
+returns-in-Node-clause-lowest c = unchanged_is_lowest c.args.self.now.disk.blocks c.walk.new.self.disk.blocks c.walk.ensures.looks.on.bytes
+
+pub returns-in-Named-clause-lowest : goal.returns-in-Named-clause-lowest
+returns-in-Named-clause-lowest c = unchanged_is_lowest c.args.self.now.disk.blocks c.walk.new.self.disk.blocks c.walk.ensures.looks.on.bytes
+
+pub returns-in-Fail-clause-lowest : goal.returns-in-Fail-clause-lowest
+returns-in-Fail-clause-lowest c = unchanged_is_lowest c.args.self.now.disk.blocks c.walk.new.self.disk.blocks c.walk.ensures.looks.on.bytes

@@ -1,4 +1,4 @@
-use Rattle.std.proofs.Common.{◌≡◌, Bool, true, false, sym, ap, ◌∙◌, subst}
+use Rattle.std.proofs.Common.{◌≡◌, Bool, true, false, sym, ap, ◌∙◌, subst, refl}
 use Rattle.posix_defs.specs.Tree.{Tree}
 use Rattle.posix_defs.specs.TreeChanges.{resize}
 use Rattle.memfs_node.proofs.Looking.{shown}
@@ -8,6 +8,7 @@ use Rattle.memfs_ops.proofs.ChangeLemmas.{pays_changed}
 use Rattle.memfs_ops.proofs.OpenLemmas.{is_file, directory_stays, cut_stands}
 use Rattle.memfs_ops.proofs.PaysLemmas.{pays_nothing}
 use Rattle.memfs_ops.proofs.WriteLemmas.{lags_to, some_to}
+use Rattle.blk_map.proofs.Taken.{lowest_until, unchanged_is_lowest}
 use Rattle.memfs_ops.proofs.file_tree.FileTree.cut.Goals as goal
 
 pub returns-then-not-asked-clause-stands : goal.returns-then-not-asked-clause-stands
@@ -57,3 +58,12 @@ returns-clause-saved c = λ none. let both : true ≡ false = sym c.if-not-asked
 
 pub returns-clause-names : goal.returns-clause-names
 returns-clause-names c = ap (λ (v : TreeView). v.names) c.renew.ensures.same ∙ c.size_in-done.ensures.names
+
+pub returns-then-not-asked-clause-lowest : goal.returns-then-not-asked-clause-lowest
+returns-then-not-asked-clause-lowest c = unchanged_is_lowest c.args.self.now.disk.blocks c.args.self.now.disk.blocks refl
+
+pub returns-then-is_directory-clause-lowest : goal.returns-then-is_directory-clause-lowest
+returns-then-is_directory-clause-lowest c = unchanged_is_lowest c.args.self.now.disk.blocks c.args.self.now.disk.blocks refl
+
+pub returns-clause-lowest : goal.returns-clause-lowest
+returns-clause-lowest c = lowest_until c.args.self.now.disk.blocks c.size_in-done.new.self.disk.blocks c.renew.new.self.disk.blocks (ap (λ (v : TreeView). v.disk.blocks) c.renew.ensures.same) c.size_in-done.ensures.lowest

@@ -1,5 +1,6 @@
 use Rattle.std.proofs.Common.{sym, ap, subst}
 use Rattle.posix_defs.specs.SoundDisk.{HasNode}
+use Rattle.blk_map.specs.Named.{TakesNone}
 use Rattle.memfs_node.specs.NodeOnDisk.{KeepsOthers}
 use Rattle.cached_disk.specs.Lent.{parts, GoesOn}
 use Rattle.memfs_ops.specs.FileTree.{TreeView}
@@ -63,3 +64,6 @@ pub returns-clause-others : goal.returns-clause-others
 returns-clause-others c =
     let t = c.drop_through in
     subst (λ (v : TreeView). KeepsOthers c.args.number v.disk.blocks t.new.disk.blocks) c.self.view_is (dropped_others t.result c.args.number c.self.inside.disk.blocks t.new.disk.blocks c.args.inode.now t.new.inode t.ensures.drops)
+
+pub returns-clause-takes_none : goal.returns-clause-takes_none
+returns-clause-takes_none c = subst (λ (v : TreeView). TakesNone v.disk.blocks c.drop_through.new.disk.blocks) c.self.view_is c.drop_through.ensures.takes_none

@@ -1,11 +1,12 @@
 use Rattle.std.proofs.Common.{refl, sym, ap, ◌∙◌, subst}
+use Rattle.posix_defs.specs.DiskTree.{ChangesNode}
 use Rattle.posix_defs.specs.SoundDisk.{HasNode}
 use Rattle.kheap_laws.proofs.PaidLemmas.{IsPaid-nothing}
 use Rattle.memfs_node.specs.NodeOnDisk.{KeepsOthers}
 use Rattle.memfs_ops.specs.FileTree.{TreeView}
 use Rattle.memfs_ops.proofs.ChangeLemmas.{pays_changed}
 use Rattle.memfs_ops.proofs.StepLemmas.{free_kept, free_on}
-use Rattle.memfs_ops.specs.Entries.{edited}
+use Rattle.memfs_ops.specs.Entries.{edited, TakesFor}
 use Rattle.memfs_ops.proofs.file_tree.FileTree.edit_dir.Goals as goal
 
 pub edit_in-requires-clause-may : goal.edit_in-requires-clause-may
@@ -40,3 +41,9 @@ returns-clause-mid c = λ told tree pins mid. c.renew.ensures.stands told (edite
 
 pub returns-clause-node : goal.returns-clause-node
 returns-clause-node c = subst (λ (v : TreeView). HasNode v.disk.blocks c.args.dir c.edit_in.new.inode) (sym c.renew.ensures.same) c.edit_in.ensures.node
+
+pub returns-clause-takes : goal.returns-clause-takes
+returns-clause-takes c = subst (λ (v : TreeView). TakesFor c.args.edit.now c.args.self.now.disk.blocks v.disk.blocks) (sym c.renew.ensures.same) c.edit_in.ensures.takes
+
+pub returns-clause-changes : goal.returns-clause-changes
+returns-clause-changes c = subst (λ (v : TreeView). ChangesNode c.args.self.now.disk.blocks v.disk.blocks c.args.dir) (sym c.renew.ensures.same) c.edit_in.ensures.changes

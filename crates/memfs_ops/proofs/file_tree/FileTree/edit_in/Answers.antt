@@ -1,4 +1,5 @@
 use Rattle.std.proofs.Common.{sym, ap, subst}
+use Rattle.posix_defs.specs.DiskTree.{ChangesNode}
 use Rattle.posix_defs.specs.SoundDisk.{HasNode}
 use Rattle.memfs_node.specs.NodeOnDisk.{KeepsOthers}
 use Rattle.cached_disk.specs.Lent.{parts, GoesOn}
@@ -6,7 +7,7 @@ use Rattle.memfs_ops.specs.FileTree.{TreeView}
 use Rattle.memfs_ops.specs.Changing.{MidWay}
 use Rattle.memfs_ops.specs.declared.file_tree.FileTree.TheInside.{Inside}
 use Rattle.memfs_node.proofs.Named.{changed_others}
-use Rattle.memfs_ops.specs.Entries.{edited, MayEdit}
+use Rattle.memfs_ops.specs.Entries.{edited, MayEdit, TakesFor}
 use Rattle.memfs_ops.proofs.FetchLemmas.{still_may_fetch}
 use Rattle.memfs_ops.proofs.StepLemmas.{lent_between, moved_between}
 use Rattle.memfs_ops.proofs.file_tree.FileTree.edit_in.Goals as goal
@@ -53,3 +54,9 @@ pub returns-clause-others : goal.returns-clause-others
 returns-clause-others c =
     let t = c.edit_through in
     subst (λ (v : TreeView). KeepsOthers c.args.dir v.disk.blocks t.new.disk.blocks) c.self.view_is (changed_others c.args.dir c.self.inside.disk.blocks t.new.disk.blocks t.ensures.changes)
+
+pub returns-clause-takes : goal.returns-clause-takes
+returns-clause-takes c = subst (λ (v : TreeView). TakesFor c.args.edit.now v.disk.blocks c.edit_through.new.disk.blocks) c.self.view_is c.edit_through.ensures.takes
+
+pub returns-clause-changes : goal.returns-clause-changes
+returns-clause-changes c = subst (λ (v : TreeView). ChangesNode v.disk.blocks c.edit_through.new.disk.blocks c.args.dir) c.self.view_is c.edit_through.ensures.changes

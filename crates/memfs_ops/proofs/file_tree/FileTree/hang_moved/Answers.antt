@@ -26,3 +26,12 @@ returns-else-is_directory-clause-mid c = λ told tree pins mid.
 
 pub returns-else-is_directory-clause-pays : goal.returns-else-is_directory-clause-pays
 returns-else-is_directory-clause-pays c = pays_nothing c.args.heap.now c.args.purse.now c.args.self.now c.requires.may.fetch.fills
+
+pub returns-then-is_directory-clause-takes_none : goal.returns-then-is_directory-clause-takes_none
+returns-then-is_directory-clause-takes_none c = c.edit_dir.ensures.takes.0
+
+pub returns-then-is_directory-clause-frees_none : goal.returns-then-is_directory-clause-frees_none
+returns-then-is_directory-clause-frees_none c = c.edit_dir.ensures.takes.1
+
+pub returns-then-is_directory-clause-blocks : goal.returns-then-is_directory-clause-blocks
+returns-then-is_directory-clause-blocks c = c.edit_dir.ensures.changes.blocks

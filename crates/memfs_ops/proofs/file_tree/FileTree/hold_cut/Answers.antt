@@ -5,6 +5,7 @@ use Rattle.vnode_cache.specs.Nodes.{Nodes, node_slot}
 use Rattle.memfs_ops.specs.FileTree.{TreeView}
 use Rattle.memfs_ops.specs.Opening.{cut_tree}
 use Rattle.memfs_ops.proofs.PaysLemmas.{pays_held}
+use Rattle.blk_map.proofs.Taken.{lowest_until}
 use Rattle.memfs_ops.proofs.file_tree.FileTree.hold_cut.Goals as goal
 
 pub cut-requires-clause-stands : goal.cut-requires-clause-stands
@@ -38,3 +39,6 @@ returns-clause-kept c =
 
 pub returns-clause-names : goal.returns-clause-names
 returns-clause-names c = ap (λ (v : TreeView). v.names) c.hold.ensures.rest ∙ c.cut.ensures.names
+
+pub returns-clause-lowest : goal.returns-clause-lowest
+returns-clause-lowest c = lowest_until c.args.self.now.disk.blocks c.cut.new.self.disk.blocks c.hold.new.self.disk.blocks (ap (λ (v : TreeView). v.disk.blocks) c.hold.ensures.rest) c.cut.ensures.lowest

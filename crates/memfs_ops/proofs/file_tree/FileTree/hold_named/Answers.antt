@@ -47,3 +47,6 @@ returns-clause-named c =
 
 pub returns-clause-kept : goal.returns-clause-kept
 returns-clause-kept c = subst (λ (o : Order ℕ). IsSome (slot_of nat_eq o c.args.node)) (sym c.hold.ensures.same) c.inode-inode.ensures.kept
+
+pub returns-clause-bytes : goal.returns-clause-bytes
+returns-clause-bytes c = ap (λ (v : TreeView). v.disk.blocks) c.hold.ensures.rest ∙ c.inode-inode.ensures.looks.on.bytes ∙ c.look-found.ensures.looks.on.bytes

@@ -7,6 +7,7 @@ use Rattle.posix_defs.specs.declared.walked.Walked.TheVariants as walked
 use Rattle.tree_laws.proofs.PathLeads.{path_led, last_is_entry_name}
 use Rattle.memfs_ops.specs.Changing.{ChangedTo}
 use Rattle.memfs_ops.proofs.LookLemmas.{pays_of, pays_trans}
+use Rattle.blk_map.proofs.Taken.{lowest_then, unchanged_is_lowest}
 use Rattle.memfs_ops.proofs.file_tree.FileTree.link_at.Goals as goal
 
 pub link_free-requires-clause-stands : goal.link_free-requires-clause-stands
@@ -56,3 +57,15 @@ returns-in-Fail-clause-answer c = λ tree pins stands.
 
 pub returns-in-Fail-clause-pays : goal.returns-in-Fail-clause-pays
 returns-in-Fail-clause-pays c = pays_of c.args.heap.now c.walk.new.heap c.args.purse.now c.walk.new.purse c.args.self.now c.walk.new.self c.walk.ensures.looks
+
+pub returns-in-Free-clause-lowest : goal.returns-in-Free-clause-lowest
+returns-in-Free-clause-lowest c = lowest_then c.args.self.now.disk.blocks c.walk.new.self.disk.blocks c.link_free.new.self.disk.blocks c.walk.ensures.looks.on.bytes c.link_free.ensures.lowest
+
+pub returns-in-Node-clause-lowest : goal.returns-in-Node-clause-lowest
+returns-in-Node-clause-lowest c = unchanged_is_lowest c.args.self.now.disk.blocks c.walk.new.self.disk.blocks c.walk.ensures.looks.on.bytes
+
+pub returns-in-Named-clause-lowest : goal.returns-in-Named-clause-lowest
+returns-in-Named-clause-lowest c = unchanged_is_lowest c.args.self.now.disk.blocks c.walk.new.self.disk.blocks c.walk.ensures.looks.on.bytes
+
+pub returns-in-Fail-clause-lowest : goal.returns-in-Fail-clause-lowest
+returns-in-Fail-clause-lowest c = unchanged_is_lowest c.args.self.now.disk.blocks c.walk.new.self.disk.blocks c.walk.ensures.looks.on.bytes

@@ -4,6 +4,7 @@ use Rattle.posix_defs.specs.PathCalls as calls
 use Rattle.posix_defs.specs.Paths.{resolve}
 use Rattle.memfs_ops.specs.Changing.{ChangedTo}
 use Rattle.memfs_ops.proofs.LookLemmas.{pays_of, pays_trans}
+use Rattle.blk_map.proofs.Taken.{lowest_then, unchanged_is_lowest}
 use Rattle.memfs_ops.proofs.file_tree.FileTree.link_found.Goals as goal
 
 pub inode-inode-requires-clause-stands : goal.inode-inode-requires-clause-stands
@@ -42,3 +43,9 @@ returns-clause-pays c =
     let i = c.inode-inode in
     let m = c.link_at in
     pays_trans c.args.heap.now i.new.heap m.new.heap c.args.purse.now i.new.purse m.new.purse c.args.self.now i.new.self m.new.self i.ensures.looks m.ensures.pays
+
+pub returns-then-is_directory-clause-lowest : goal.returns-then-is_directory-clause-lowest
+returns-then-is_directory-clause-lowest c = unchanged_is_lowest c.args.self.now.disk.blocks c.inode-inode.new.self.disk.blocks c.inode-inode.ensures.looks.on.bytes
+
+pub returns-clause-lowest : goal.returns-clause-lowest
+returns-clause-lowest c = lowest_then c.args.self.now.disk.blocks c.inode-inode.new.self.disk.blocks c.link_at.new.self.disk.blocks c.inode-inode.ensures.looks.on.bytes c.link_at.ensures.lowest

@@ -4,6 +4,7 @@ use Rattle.posix_defs.specs.PathCalls as calls
 use Rattle.posix_defs.specs.TreeChanges.{link}
 use Rattle.memfs_ops.specs.Changing.{ChangedTo}
 use Rattle.memfs_ops.proofs.PaysLemmas.{pays_nothing}
+use Rattle.blk_map.proofs.Taken.{unchanged_is_lowest}
 use Rattle.memfs_ops.proofs.file_tree.FileTree.link_free.Goals as goal
 
 pub returns-then-slash-clause-answer : goal.returns-then-slash-clause-answer
@@ -19,3 +20,6 @@ add_name-requires-clause-stands c = c.requires.stands
 pub returns-clause-answer : goal.returns-clause-answer
 returns-clause-answer c = λ tree pins stands.
     subst (λ (b : Bool). ChangedTo c.add_name.new.heap c.add_name.new.self tree (calls.unless b ENOENT (link tree c.args.parent c.args.name.now c.args.number)) pins c.add_name.result) (sym c.if-slash.false) (c.add_name.ensures.answer tree pins stands)
+
+pub returns-then-slash-clause-lowest : goal.returns-then-slash-clause-lowest
+returns-then-slash-clause-lowest c = unchanged_is_lowest c.args.self.now.disk.blocks c.args.self.now.disk.blocks refl

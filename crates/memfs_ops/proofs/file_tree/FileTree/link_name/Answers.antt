@@ -7,6 +7,7 @@ use Rattle.tree_laws.proofs.PathLeads.{path_led}
 use Rattle.memfs_node.proofs.Looking.{led_in_use}
 use Rattle.memfs_ops.specs.Changing.{ChangedTo}
 use Rattle.memfs_ops.proofs.LookLemmas.{pays_of, pays_trans}
+use Rattle.blk_map.proofs.Taken.{lowest_then, unchanged_is_lowest}
 use Rattle.memfs_ops.proofs.file_tree.FileTree.link_name.Goals as goal
 
 pub link_found-requires-clause-stands : goal.link_found-requires-clause-stands
@@ -37,3 +38,9 @@ returns-in-Err-clause-answer c = λ tree pins stands.
 
 pub returns-in-Err-clause-pays : goal.returns-in-Err-clause-pays
 returns-in-Err-clause-pays c = pays_of c.args.heap.now c.walk.new.heap c.args.purse.now c.walk.new.purse c.args.self.now c.walk.new.self c.walk.ensures.looks
+
+pub returns-in-Ok-clause-lowest : goal.returns-in-Ok-clause-lowest
+returns-in-Ok-clause-lowest c = lowest_then c.args.self.now.disk.blocks c.walk.new.self.disk.blocks c.link_found.new.self.disk.blocks c.walk.ensures.looks.on.bytes c.link_found.ensures.lowest
+
+pub returns-in-Err-clause-lowest : goal.returns-in-Err-clause-lowest
+returns-in-Err-clause-lowest c = unchanged_is_lowest c.args.self.now.disk.blocks c.walk.new.self.disk.blocks c.walk.ensures.looks.on.bytes

@@ -6,6 +6,7 @@ use Rattle.memfs_ops.specs.FileTree.{TreeView}
 use Rattle.memfs_ops.proofs.ChangeLemmas.{pays_changed}
 use Rattle.memfs_ops.proofs.StepLemmas.{free_kept, free_on}
 use Rattle.posix_defs.specs.TreeChanges.{link_added}
+use Rattle.blk_map.specs.Named.{TakesNone}
 use Rattle.memfs_ops.proofs.file_tree.FileTree.link_node.Goals as goal
 
 pub add_in-requires-clause-may : goal.add_in-requires-clause-may
@@ -40,3 +41,6 @@ returns-clause-mid c = λ told tree pins mid. c.renew.ensures.stands told (link_
 
 pub returns-clause-free : goal.returns-clause-free
 returns-clause-free c = ap (λ (v : TreeView). free_in_map v.disk.blocks) c.renew.ensures.same ∙ c.add_in.ensures.free
+
+pub returns-clause-takes_none : goal.returns-clause-takes_none
+returns-clause-takes_none c = subst (λ (v : TreeView). TakesNone c.args.self.now.disk.blocks v.disk.blocks) (sym c.renew.ensures.same) c.add_in.ensures.takes_none

@@ -10,6 +10,7 @@ use Rattle.tree_laws.proofs.PathLeads.{path_led, last_is_entry_name}
 use Rattle.memfs_ops.specs.Changing.{DoneAs}
 use Rattle.memfs_ops.proofs.LookLemmas.{pays_of, pays_trans}
 use Rattle.memfs_ops.proofs.ChangeLemmas.{done_of, told_done, told_fault}
+use Rattle.blk_map.proofs.Taken.{lowest_then, unchanged_is_lowest}
 use Rattle.memfs_ops.proofs.file_tree.FileTree.make_dir.Goals as goal
 
 pub make_new-requires-clause-stands : goal.make_new-requires-clause-stands
@@ -58,3 +59,15 @@ returns-in-Named-clause-pays c = pays_of c.args.heap.now c.walk.new.heap c.args.
 
 pub returns-in-Fail-clause-pays : goal.returns-in-Fail-clause-pays
 returns-in-Fail-clause-pays c = pays_of c.args.heap.now c.walk.new.heap c.args.purse.now c.walk.new.purse c.args.self.now c.walk.new.self c.walk.ensures.looks
+
+pub returns-in-Free-clause-lowest : goal.returns-in-Free-clause-lowest
+returns-in-Free-clause-lowest c = lowest_then c.args.self.now.disk.blocks c.walk.new.self.disk.blocks c.make_new.new.self.disk.blocks c.walk.ensures.looks.on.bytes c.make_new.ensures.lowest
+
+pub returns-in-Node-clause-lowest : goal.returns-in-Node-clause-lowest
+returns-in-Node-clause-lowest c = unchanged_is_lowest c.args.self.now.disk.blocks c.walk.new.self.disk.blocks c.walk.ensures.looks.on.bytes
+
+pub returns-in-Named-clause-lowest : goal.returns-in-Named-clause-lowest
+returns-in-Named-clause-lowest c = unchanged_is_lowest c.args.self.now.disk.blocks c.walk.new.self.disk.blocks c.walk.ensures.looks.on.bytes
+
+pub returns-in-Fail-clause-lowest : goal.returns-in-Fail-clause-lowest
+returns-in-Fail-clause-lowest c = unchanged_is_lowest c.args.self.now.disk.blocks c.walk.new.self.disk.blocks c.walk.ensures.looks.on.bytes

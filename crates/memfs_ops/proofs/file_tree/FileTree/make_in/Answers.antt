@@ -11,6 +11,7 @@ use Rattle.memfs_ops.specs.FileTree.{TreeView, Stands}
 use Rattle.memfs_ops.specs.declared.file_tree.FileTree.TheInside.{Inside}
 use Rattle.memfs_ops.proofs.FetchLemmas.{block_lent, still_may_fetch}
 use Rattle.memfs_ops.proofs.ChangeLemmas.{made_lags, has_parent}
+use Rattle.blk_map.specs.Named.{TakesLowest}
 use Rattle.memfs_ops.proofs.file_tree.FileTree.make_in.Goals as goal
 
 abbrev view : Inside → TreeView
@@ -62,3 +63,6 @@ pub returns-clause-may : goal.returns-clause-may
 returns-clause-may c =
     let t = c.make_through in
     still_may_fetch c.args.heap.now t.new.heap c.args.purse.now t.new.purse (view c.self.inside) t.new.cache t.new.disk t.ensures.goes_on t.ensures.lent c.requires.may
+
+pub returns-clause-lowest : goal.returns-clause-lowest
+returns-clause-lowest c = subst (λ (v : TreeView). TakesLowest v.disk.blocks c.make_through.new.disk.blocks) c.self.view_is c.make_through.ensures.lowest

@@ -1,10 +1,12 @@
-use Rattle.std.proofs.Common.{sym, subst}
+use Rattle.std.proofs.Common.{sym, subst, ap}
 use Rattle.posix_defs.specs.SoundDisk.{HasNode}
 use Rattle.posix_defs.specs.TreeChanges.{make}
 use Rattle.posix_defs.proofs.TreeNodes.{directory_in_use}
 use Rattle.memfs_node.specs.NodeOnDisk.{content_of}
 use Rattle.memfs_ops.proofs.LookLemmas.{pays_trans}
 use Rattle.memfs_ops.proofs.ChangeLemmas.{fetch_of, lags_led, some_lags, pays_changed, walk_still}
+use Rattle.blk_map.proofs.Taken.{lowest_then, lowest_until}
+use Rattle.memfs_ops.specs.FileTree.{TreeView}
 use Rattle.memfs_ops.proofs.file_tree.FileTree.make_new.Goals as goal
 
 pub inode-dir-requires-clause-stands : goal.inode-dir-requires-clause-stands
@@ -49,3 +51,10 @@ returns-clause-may c =
     let i = c.inode-dir in
     let m = c.make_in-made in
     walk_still i.new.heap m.new.heap c.renew.new.heap i.new.purse m.new.purse i.new.self m.new.self i.ensures.looks.may m.ensures.goes_on m.ensures.may c.renew.ensures.only c.renew.ensures.used c.renew.ensures.loose c.renew.ensures.takes
+
+pub returns-clause-lowest : goal.returns-clause-lowest
+returns-clause-lowest c =
+    let i = c.inode-dir in
+    let m = c.make_in-made in
+    lowest_then c.args.self.now.disk.blocks i.new.self.disk.blocks c.renew.new.self.disk.blocks i.ensures.looks.on.bytes
+    (lowest_until i.new.self.disk.blocks m.new.self.disk.blocks c.renew.new.self.disk.blocks (ap (λ (v : TreeView). v.disk.blocks) c.renew.ensures.same) m.ensures.lowest)

@@ -9,6 +9,7 @@ use Rattle.posix_defs.specs.TreeChanges.{with_entries, entry_taken, entry_aimed,
 use Rattle.posix_defs.proofs.TreeNodes.{directory_in_use, found_in_directory}
 use Rattle.tree_laws.proofs.TreeFacts.{found_in_use}
 use Rattle.tree_laws.proofs.RenameSteps.{over_steps}
+use Rattle.blk_map.proofs.Taken.{none_preferred, none_then_none, preferred_then}
 use Rattle.memfs_ops.specs.Changing.{MidWay}
 use Rattle.memfs_ops.specs.Entries.{HasEntry}
 use Rattle.memfs_ops.proofs.LookLemmas.{looks_trans, pays_trans}
@@ -182,3 +183,16 @@ returns-clause-pays c =
     (pays_on g.new.heap u.new.heap l.new.heap g.new.purse u.new.purse l.new.purse g.new.self u.new.self l.new.self
     (pays_on g.new.heap d.new.heap u.new.heap g.new.purse d.new.purse u.new.purse g.new.self d.new.self u.new.self d.ensures.pays u.ensures.pays)
     (pays_on u.new.heap e.new.heap l.new.heap u.new.purse e.new.purse l.new.purse u.new.self e.new.self l.new.self e.ensures.pays l.ensures.pays))
+
+pub returns-clause-lowest : goal.returns-clause-lowest
+returns-clause-lowest c =
+    let g = c.inode-gone in
+    let d = c.edit_dir in
+    let u = c.unlink_node in
+    let e = c.edit_dir-2 in
+    let l = c.hang_moved in
+    let none = none_then_none g.new.self.disk.blocks e.new.self.disk.blocks l.new.self.disk.blocks
+    (none_then_none g.new.self.disk.blocks u.new.self.disk.blocks e.new.self.disk.blocks (none_then_none g.new.self.disk.blocks d.new.self.disk.blocks u.new.self.disk.blocks d.ensures.takes.0 u.ensures.takes_none) e.ensures.takes) l.ensures.takes_none in
+    preferred_then c.args.self.now.disk.blocks g.new.self.disk.blocks l.new.self.disk.blocks
+    (g.ensures.looks.on.bytes ∙ c.inode-moved.ensures.looks.on.bytes ∙ c.inode-into.ensures.looks.on.bytes ∙ c.inode-from.ensures.looks.on.bytes ∙ c.forget_names.ensures.looks.on.bytes)
+    (none_preferred g.new.self.disk.blocks l.new.self.disk.blocks none)

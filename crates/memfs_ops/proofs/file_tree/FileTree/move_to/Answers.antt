@@ -13,6 +13,7 @@ use Rattle.disk_laws.proofs.DiskNodes.{one_tree}
 use Rattle.tree_laws.proofs.TreeFacts.{found_in_use}
 use Rattle.tree_laws.proofs.RenameSteps.{to_steps}
 use Rattle.memfs_dir.specs.Listed.{IsFull}
+use Rattle.blk_map.proofs.Taken.{preferred_then, taken_and_given, unchanged_preferred}
 use Rattle.memfs_ops.specs.Changing.{MidWay, ChangedTo}
 use Rattle.memfs_ops.specs.Entries.{HasEntry}
 use Rattle.memfs_ops.specs.Renaming.{MayMove}
@@ -192,3 +193,22 @@ returns-clause-pays c =
     (pays_on m.new.heap d.new.heap l.new.heap m.new.purse d.new.purse l.new.purse m.new.self d.new.self l.new.self
     (pays_on m.new.heap h.new.heap d.new.heap m.new.purse h.new.purse d.new.purse m.new.self h.new.self d.new.self h.ensures.pays d.ensures.pays)
     (pays_on d.new.heap e.new.heap l.new.heap d.new.purse e.new.purse l.new.purse d.new.self e.new.self l.new.self e.ensures.pays l.ensures.pays))
+
+pub returns-then-not-has_room-clause-lowest : goal.returns-then-not-has_room-clause-lowest
+returns-then-not-has_room-clause-lowest c =
+    let h = c.has_room in
+    unchanged_preferred c.args.self.now.disk.blocks h.new.self.disk.blocks
+    (h.ensures.bytes ∙ c.inode-moved.ensures.looks.on.bytes ∙ c.inode-into.ensures.looks.on.bytes ∙ c.inode-from.ensures.looks.on.bytes ∙ c.forget_name.ensures.looks.on.bytes)
+
+pub returns-clause-lowest : goal.returns-clause-lowest
+returns-clause-lowest c =
+    let r = c.requires.stands in
+    let h = c.has_room in
+    let d = c.edit_dir in
+    let e = c.edit_dir-2 in
+    let l = c.hang_moved in
+    let s = h.ensures.stands r.0 r.1 (c.inode-moved.ensures.looks.stands r.0 r.1 (c.inode-into.ensures.looks.stands r.0 r.1 (c.inode-from.ensures.looks.stands r.0 r.1 (c.forget_name.ensures.looks.stands r.0 r.1 r.2)))) in
+    preferred_then c.args.self.now.disk.blocks h.new.self.disk.blocks l.new.self.disk.blocks
+    (h.ensures.bytes ∙ c.inode-moved.ensures.looks.on.bytes ∙ c.inode-into.ensures.looks.on.bytes ∙ c.inode-from.ensures.looks.on.bytes ∙ c.forget_name.ensures.looks.on.bytes)
+    (taken_and_given h.new.self.disk.blocks d.new.self.disk.blocks e.new.self.disk.blocks l.new.self.disk.blocks c.args.to c.args.dir (λ same. c.requires.apart (sym same)) s.behind.sound
+    d.ensures.changes e.ensures.changes l.ensures.blocks d.ensures.takes e.ensures.takes l.ensures.takes_none l.ensures.frees_none)

@@ -8,6 +8,7 @@ use Rattle.posix_defs.specs.TreeChanges.{with_entries, entry_renamed}
 use Rattle.posix_defs.proofs.TreeNodes.{directory_in_use}
 use Rattle.disk_laws.proofs.DiskNodes.{one_tree}
 use Rattle.tree_laws.proofs.TreeFacts.{found_in_use}
+use Rattle.blk_map.proofs.Taken.{none_preferred, preferred_then}
 use Rattle.memfs_ops.specs.Changing.{MidWay}
 use Rattle.memfs_ops.specs.Entries.{HasEntry}
 use Rattle.memfs_ops.specs.Renaming.{MayMove}
@@ -72,3 +73,10 @@ returns-clause-pays c =
     let e = c.edit_dir in
     pays_trans c.args.heap.now i.new.heap e.new.heap c.args.purse.now i.new.purse e.new.purse c.args.self.now i.new.self e.new.self
     (looks_trans c.args.heap.now f.new.heap i.new.heap c.args.purse.now f.new.purse i.new.purse c.args.self.now f.new.self i.new.self f.ensures.looks i.ensures.looks) e.ensures.pays
+
+pub returns-clause-lowest : goal.returns-clause-lowest
+returns-clause-lowest c =
+    let i = c.inode-inode in
+    let e = c.edit_dir in
+    preferred_then c.args.self.now.disk.blocks i.new.self.disk.blocks e.new.self.disk.blocks (i.ensures.looks.on.bytes ∙ c.forget_name.ensures.looks.on.bytes)
+    (none_preferred i.new.self.disk.blocks e.new.self.disk.blocks e.ensures.takes.0)

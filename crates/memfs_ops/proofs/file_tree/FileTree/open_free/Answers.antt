@@ -12,6 +12,7 @@ use Rattle.name_cache.specs.Names.{name_slot}
 use Rattle.memfs_ops.specs.Opening.{OpenedAs}
 use Rattle.memfs_ops.proofs.OpenLemmas.{is_made, not_made}
 use Rattle.memfs_ops.proofs.PaysLemmas.{pays_nothing, pays_on}
+use Rattle.blk_map.proofs.Taken.{lowest_until, unchanged_is_lowest}
 use Rattle.memfs_ops.proofs.file_tree.FileTree.open_free.Goals as goal
 
 -- what is asked where the name is free
@@ -75,3 +76,12 @@ pub returns-in-Ok-clause-kept : goal.returns-in-Ok-clause-kept
 returns-in-Ok-clause-kept c =
     let h = c.hold_named in
     (subst (λ (n : List ℕ). IsSome (name_slot h.new.self.names (name_key c.args.parent n))) c.copy-called.ensures h.ensures.named, h.ensures.kept)
+
+pub returns-then-not-how-clause-lowest : goal.returns-then-not-how-clause-lowest
+returns-then-not-how-clause-lowest c = unchanged_is_lowest c.args.self.now.disk.blocks c.args.self.now.disk.blocks refl
+
+pub returns-then-slash-clause-lowest : goal.returns-then-slash-clause-lowest
+returns-then-slash-clause-lowest c = unchanged_is_lowest c.args.self.now.disk.blocks c.args.self.now.disk.blocks refl
+
+pub returns-in-Ok-clause-lowest : goal.returns-in-Ok-clause-lowest
+returns-in-Ok-clause-lowest c = lowest_until c.args.self.now.disk.blocks c.make_new.new.self.disk.blocks c.hold_named.new.self.disk.blocks c.hold_named.ensures.bytes c.make_new.ensures.lowest

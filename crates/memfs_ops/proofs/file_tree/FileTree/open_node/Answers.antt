@@ -13,6 +13,7 @@ use Rattle.memfs_ops.specs.Opening.{asks_of, OpenedAs, KeepsOpened}
 use Rattle.memfs_ops.proofs.KnownLemmas.{known_not_free}
 use Rattle.memfs_ops.proofs.LookLemmas.{lent_of, stands_of, keeps_last, pays_of, pays_trans}
 use Rattle.memfs_ops.proofs.OpenLemmas.{keeps_opened}
+use Rattle.blk_map.proofs.Taken.{lowest_then, unchanged_is_lowest}
 use Rattle.memfs_ops.proofs.file_tree.FileTree.open_node.Goals as goal
 
 pub open_there-requires-clause-stands : goal.open_there-requires-clause-stands
@@ -127,3 +128,15 @@ returns-in-Free-clause-kept c = λ tree pins stands.
 
 pub returns-in-Fail-clause-saved : goal.returns-in-Fail-clause-saved
 returns-in-Fail-clause-saved c = λ tree pins stands known none. (c.walk.ensures.saved tree pins stands known.0).disk
+
+pub returns-in-Node-clause-lowest : goal.returns-in-Node-clause-lowest
+returns-in-Node-clause-lowest c = lowest_then c.args.self.now.disk.blocks c.walk.new.self.disk.blocks c.open_there.new.self.disk.blocks c.walk.ensures.looks.on.bytes c.open_there.ensures.lowest
+
+pub returns-in-Named-clause-lowest : goal.returns-in-Named-clause-lowest
+returns-in-Named-clause-lowest c = lowest_then c.args.self.now.disk.blocks c.walk.new.self.disk.blocks c.open_there-in-Named.new.self.disk.blocks c.walk.ensures.looks.on.bytes c.open_there-in-Named.ensures.lowest
+
+pub returns-in-Free-clause-lowest : goal.returns-in-Free-clause-lowest
+returns-in-Free-clause-lowest c = lowest_then c.args.self.now.disk.blocks c.walk.new.self.disk.blocks c.open_free.new.self.disk.blocks c.walk.ensures.looks.on.bytes c.open_free.ensures.lowest
+
+pub returns-in-Fail-clause-lowest : goal.returns-in-Fail-clause-lowest
+returns-in-Fail-clause-lowest c = unchanged_is_lowest c.args.self.now.disk.blocks c.walk.new.self.disk.blocks c.walk.ensures.looks.on.bytes

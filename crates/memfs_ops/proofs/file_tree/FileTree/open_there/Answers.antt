@@ -7,6 +7,7 @@ use Rattle.vnode_cache.specs.Nodes.{node_slot}
 use Rattle.memfs_ops.specs.Opening.{OpenedAs}
 use Rattle.memfs_ops.proofs.ChangeLemmas.{fetch_of}
 use Rattle.memfs_ops.proofs.LookLemmas.{pays_of, pays_trans}
+use Rattle.blk_map.proofs.Taken.{lowest_then, unchanged_is_lowest}
 use Rattle.memfs_ops.proofs.file_tree.FileTree.open_there.Goals as goal
 
 pub inode-inode-requires-clause-stands : goal.inode-inode-requires-clause-stands
@@ -70,3 +71,9 @@ returns-in-Some-clause-saved c = λ some none. (c.inode-inode.ensures.saved some
 
 pub returns-in-Some-clause-kept : goal.returns-in-Some-clause-kept
 returns-in-Some-clause-kept c = λ number is. let both : ◌≡◌ {A = Result ℕ Errno} (Err c.in-Some.errno) (Ok number) = is in absurd (cc)
+
+pub returns-in-None-clause-lowest : goal.returns-in-None-clause-lowest
+returns-in-None-clause-lowest c = lowest_then c.args.self.now.disk.blocks c.inode-inode.new.self.disk.blocks c.hold_cut.new.self.disk.blocks c.inode-inode.ensures.looks.on.bytes c.hold_cut.ensures.lowest
+
+pub returns-in-Some-clause-lowest : goal.returns-in-Some-clause-lowest
+returns-in-Some-clause-lowest c = unchanged_is_lowest c.args.self.now.disk.blocks c.inode-inode.new.self.disk.blocks c.inode-inode.ensures.looks.on.bytes

@@ -5,6 +5,7 @@ use Rattle.posix_defs.specs.PathCalls as calls
 use Rattle.posix_defs.specs.Tree.{Tree, is_directory}
 use Rattle.posix_defs.specs.TreeChanges.{rename_to, takes_entry}
 use Rattle.tree_laws.proofs.TreeFacts.{found_in_use}
+use Rattle.blk_map.proofs.Taken.{preferred_then, unchanged_preferred}
 use Rattle.memfs_ops.specs.Removing.{ToldTo}
 use Rattle.memfs_ops.specs.Renaming.{MayMove}
 use Rattle.memfs_ops.proofs.LookLemmas.{looks_trans, pays_of, pays_trans}
@@ -110,3 +111,15 @@ returns-clause-pays c =
     let m = c.move_to in
     pays_trans c.args.heap.now i.new.heap m.new.heap c.args.purse.now i.new.purse m.new.purse c.args.self.now i.new.self m.new.self
     (looks_trans c.args.heap.now b.new.heap i.new.heap c.args.purse.now b.new.purse i.new.purse c.args.self.now b.new.self i.new.self b.ensures.looks i.ensures.looks) m.ensures.pays
+
+pub returns-then-goes_below-clause-lowest : goal.returns-then-goes_below-clause-lowest
+returns-then-goes_below-clause-lowest c = unchanged_preferred c.args.self.now.disk.blocks c.goes_below.new.self.disk.blocks (c.goes_below.ensures.looks.on.bytes)
+
+pub returns-then-lacks_directory-clause-lowest : goal.returns-then-lacks_directory-clause-lowest
+returns-then-lacks_directory-clause-lowest c = unchanged_preferred c.args.self.now.disk.blocks c.inode-moved.new.self.disk.blocks (c.inode-moved.ensures.looks.on.bytes ∙ c.goes_below.ensures.looks.on.bytes)
+
+pub returns-then-dir-to-clause-lowest : goal.returns-then-dir-to-clause-lowest
+returns-then-dir-to-clause-lowest c = preferred_then c.args.self.now.disk.blocks c.inode-moved.new.self.disk.blocks c.move_within.new.self.disk.blocks (c.inode-moved.ensures.looks.on.bytes ∙ c.goes_below.ensures.looks.on.bytes) c.move_within.ensures.lowest
+
+pub returns-clause-lowest : goal.returns-clause-lowest
+returns-clause-lowest c = preferred_then c.args.self.now.disk.blocks c.inode-moved.new.self.disk.blocks c.move_to.new.self.disk.blocks (c.inode-moved.ensures.looks.on.bytes ∙ c.goes_below.ensures.looks.on.bytes) c.move_to.ensures.lowest

@@ -5,6 +5,7 @@ use Rattle.posix_defs.specs.Paths.{IsLed, resolve}
 use Rattle.posix_defs.specs.declared.walked.Walked.{Walked}
 use Rattle.posix_defs.specs.declared.walked.Walked.TheVariants as walked
 use Rattle.tree_laws.proofs.PathLeads.{path_led}
+use Rattle.blk_map.proofs.Taken.{preferred_then, unchanged_preferred}
 use Rattle.memfs_ops.specs.Removing.{ToldTo, is_held}
 use Rattle.memfs_ops.proofs.LookLemmas.{pays_of, pays_trans}
 use Rattle.memfs_ops.proofs.RemoveLemmas.{path_led_in, told_alike}
@@ -70,3 +71,15 @@ returns-in-Fail-clause-answer g c = λ tree pins opened held stands tells_opened
 
 pub returns-in-Fail-clause-pays : goal.returns-in-Fail-clause-pays
 returns-in-Fail-clause-pays g c = pays_of c.args.heap.now c.walk.new.heap c.args.purse.now c.walk.new.purse c.args.self.now c.walk.new.self c.walk.ensures.looks
+
+pub returns-in-Named-clause-lowest : goal.returns-in-Named-clause-lowest
+returns-in-Named-clause-lowest g c = preferred_then c.args.self.now.disk.blocks c.walk.new.self.disk.blocks c.rename_from.new.self.disk.blocks (c.walk.ensures.looks.on.bytes) c.rename_from.ensures.lowest
+
+pub returns-in-Node-clause-lowest : goal.returns-in-Node-clause-lowest
+returns-in-Node-clause-lowest g c = preferred_then c.args.self.now.disk.blocks c.walk.new.self.disk.blocks c.rename_root.new.self.disk.blocks (c.walk.ensures.looks.on.bytes) c.rename_root.ensures.lowest
+
+pub returns-in-Free-clause-lowest : goal.returns-in-Free-clause-lowest
+returns-in-Free-clause-lowest g c = unchanged_preferred c.args.self.now.disk.blocks c.walk.new.self.disk.blocks (c.walk.ensures.looks.on.bytes)
+
+pub returns-in-Fail-clause-lowest : goal.returns-in-Fail-clause-lowest
+returns-in-Fail-clause-lowest g c = unchanged_preferred c.args.self.now.disk.blocks c.walk.new.self.disk.blocks (c.walk.ensures.looks.on.bytes)

@@ -7,6 +7,7 @@ use Rattle.posix_defs.specs.Tree.{Tree, is_directory}
 use Rattle.posix_defs.specs.TreeChanges.{rename_over}
 use Rattle.posix_defs.proofs.TreeNodes.{found_in_directory}
 use Rattle.tree_laws.proofs.TreeFacts.{found_in_use}
+use Rattle.blk_map.proofs.Taken.{preferred_then, unchanged_preferred}
 use Rattle.memfs_ops.specs.Removing.{ToldTo, is_held}
 use Rattle.memfs_ops.proofs.LookLemmas.{pays_of, pays_trans}
 use Rattle.memfs_ops.proofs.RenameLemmas.{off_way}
@@ -61,3 +62,12 @@ returns-clause-pays g c =
     let b = c.goes_below in
     let m = c.replace in
     pays_trans c.args.heap.now b.new.heap m.new.heap c.args.purse.now b.new.purse m.new.purse c.args.self.now b.new.self m.new.self b.ensures.looks m.ensures.pays
+
+pub returns-then-goes_below-clause-lowest : goal.returns-then-goes_below-clause-lowest
+returns-then-goes_below-clause-lowest g c = unchanged_preferred c.args.self.now.disk.blocks c.goes_below.new.self.disk.blocks (c.goes_below.ensures.looks.on.bytes)
+
+pub returns-then-number-replaced-clause-lowest : goal.returns-then-number-replaced-clause-lowest
+returns-then-number-replaced-clause-lowest g c = unchanged_preferred c.args.self.now.disk.blocks c.goes_below.new.self.disk.blocks (c.goes_below.ensures.looks.on.bytes)
+
+pub returns-clause-lowest : goal.returns-clause-lowest
+returns-clause-lowest g c = preferred_then c.args.self.now.disk.blocks c.goes_below.new.self.disk.blocks c.replace.new.self.disk.blocks (c.goes_below.ensures.looks.on.bytes) c.replace.ensures.lowest

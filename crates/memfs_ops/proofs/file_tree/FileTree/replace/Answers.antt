@@ -1,9 +1,10 @@
-use Rattle.std.proofs.Common.{ℕ, Bool, not, ◌&&◌, eqb, Option, Some, None, Result, Ok, Err, refl, sym, ap, subst}
+use Rattle.std.proofs.Common.{ℕ, Bool, not, ◌&&◌, eqb, Option, Some, None, Result, Ok, Err, refl, sym, ap, ◌∙◌, subst}
 use Rattle.kabi_types.specs.declared.errnos.Errno.{Errno}
 use Rattle.posix_defs.specs.Tree.{Tree}
 use Rattle.posix_defs.specs.TreeChanges.{rename_over}
 use Rattle.tree_laws.proofs.TreeFacts.{found_in_use}
 use Rattle.tree_laws.proofs.TreeKeeps.{found_not_root}
+use Rattle.blk_map.proofs.Taken.{preferred_then, unchanged_preferred}
 use Rattle.memfs_ops.specs.FileTree.{Stands}
 use Rattle.memfs_ops.specs.Removing.{ToldTo}
 use Rattle.memfs_ops.proofs.LookLemmas.{looks_trans, pays_of, pays_trans}
@@ -97,3 +98,9 @@ returns-in-None-clause-pays g c =
     let m = c.move_over in
     pays_trans c.args.heap.now b.new.heap m.new.heap c.args.purse.now b.new.purse m.new.purse c.args.self.now b.new.self m.new.self
     (looks_trans c.args.heap.now a.new.heap b.new.heap c.args.purse.now a.new.purse b.new.purse c.args.self.now a.new.self b.new.self a.ensures.looks b.ensures.looks) m.ensures.pays
+
+pub returns-in-Some-clause-lowest : goal.returns-in-Some-clause-lowest
+returns-in-Some-clause-lowest g c = unchanged_preferred c.args.self.now.disk.blocks c.inode-gone.new.self.disk.blocks (c.inode-gone.ensures.looks.on.bytes ∙ c.inode-moved.ensures.looks.on.bytes)
+
+pub returns-in-None-clause-lowest : goal.returns-in-None-clause-lowest
+returns-in-None-clause-lowest g c = preferred_then c.args.self.now.disk.blocks c.inode-gone.new.self.disk.blocks c.move_over.new.self.disk.blocks (c.inode-gone.ensures.looks.on.bytes ∙ c.inode-moved.ensures.looks.on.bytes) c.move_over.ensures.lowest

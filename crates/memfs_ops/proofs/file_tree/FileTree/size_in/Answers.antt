@@ -6,7 +6,8 @@ use Rattle.cached_disk.specs.Lent.{parts, GoesOn}
 use Rattle.memfs_ops.specs.FileTree.{TreeView, Stands}
 use Rattle.memfs_ops.specs.declared.file_tree.FileTree.TheInside.{Inside}
 use Rattle.memfs_ops.proofs.FetchLemmas.{block_lent, still_may_fetch, same_file}
-use Rattle.memfs_ops.proofs.WriteLemmas.{file_kind, sized_lags, sized_node}
+use Rattle.memfs_ops.proofs.WriteLemmas.{file_kind, sized_lags, sized_lowest, sized_node}
+use Rattle.blk_map.specs.Named.{TakesLowest}
 use Rattle.memfs_ops.proofs.file_tree.FileTree.size_in.Goals as goal
 
 abbrev view : Inside → TreeView
@@ -61,3 +62,8 @@ returns-clause-nodes c = ap (λ (v : TreeView). v.vnodes) c.self.view_is
 
 pub returns-clause-names : goal.returns-clause-names
 returns-clause-names c = ap (λ (v : TreeView). v.names) c.self.view_is
+
+pub returns-clause-lowest : goal.returns-clause-lowest
+returns-clause-lowest c =
+    let t = c.size_through in
+    subst (λ (v : TreeView). TakesLowest v.disk.blocks t.new.disk.blocks) c.self.view_is (sized_lowest c.self.inside.disk.blocks t.new.disk.blocks c.args.inode.now t.new.inode t.result t.ensures.lowest t.ensures.err)

@@ -1,5 +1,6 @@
 use Rattle.std.proofs.Common.{refl, sym, ap, ◌∙◌, subst}
 use Rattle.kheap_laws.proofs.PaidLemmas.{IsPaid-nothing}
+use Rattle.blk_map.specs.Named.{TakesNone}
 use Rattle.memfs_node.specs.NodeOnDisk.{KeepsOthers}
 use Rattle.memfs_ops.specs.FileTree.{TreeView}
 use Rattle.memfs_ops.proofs.ChangeLemmas.{pays_changed}
@@ -75,3 +76,9 @@ returns-then-drop_in-clause-others c = subst (λ (v : TreeView). KeepsOthers c.a
 
 pub returns-then-drop_in-clause-names : goal.returns-then-drop_in-clause-names
 returns-then-drop_in-clause-names c = ap (λ (v : TreeView). v.names) c.forget_node.ensures.rest ∙ c.drop_in.ensures.names
+
+pub returns-else-drop_in-clause-takes_none : goal.returns-else-drop_in-clause-takes_none
+returns-else-drop_in-clause-takes_none c = subst (λ (v : TreeView). TakesNone c.args.self.now.disk.blocks v.disk.blocks) (sym c.renew.ensures.same) c.drop_in.ensures.takes_none
+
+pub returns-then-drop_in-clause-takes_none : goal.returns-then-drop_in-clause-takes_none
+returns-then-drop_in-clause-takes_none c = subst (λ (v : TreeView). TakesNone c.args.self.now.disk.blocks v.disk.blocks) (sym c.forget_node.ensures.rest) c.drop_in.ensures.takes_none

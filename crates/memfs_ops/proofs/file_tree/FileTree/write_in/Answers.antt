@@ -6,7 +6,8 @@ use Rattle.cached_disk.specs.Lent.{parts, GoesOn}
 use Rattle.memfs_ops.specs.FileTree.{TreeView, Stands}
 use Rattle.memfs_ops.specs.declared.file_tree.FileTree.TheInside.{Inside}
 use Rattle.memfs_ops.proofs.FetchLemmas.{block_lent, still_may_fetch, same_file}
-use Rattle.memfs_ops.proofs.WriteLemmas.{file_kind, written_lags, written_node}
+use Rattle.memfs_ops.proofs.WriteLemmas.{file_kind, written_lags, written_lowest, written_node}
+use Rattle.blk_map.specs.Named.{TakesLowest}
 use Rattle.memfs_ops.proofs.file_tree.FileTree.write_in.Goals as goal
 
 abbrev view : Inside → TreeView
@@ -55,3 +56,8 @@ pub returns-clause-may : goal.returns-clause-may
 returns-clause-may c =
     let t = c.write_through in
     still_may_fetch c.args.heap.now t.new.heap c.args.purse.now t.new.purse (view c.self.inside) t.new.cache t.new.disk t.ensures.goes_on t.ensures.lent c.requires.may
+
+pub returns-clause-lowest : goal.returns-clause-lowest
+returns-clause-lowest c =
+    let t = c.write_through in
+    subst (λ (v : TreeView). TakesLowest v.disk.blocks t.new.disk.blocks) c.self.view_is (written_lowest c.self.inside.disk.blocks t.new.disk.blocks c.args.inode.now t.new.inode t.result t.ensures.lowest t.ensures.err)

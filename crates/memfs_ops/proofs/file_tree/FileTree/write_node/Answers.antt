@@ -8,6 +8,7 @@ use Rattle.memfs_ops.specs.Changing.{LedTo}
 use Rattle.memfs_ops.proofs.ChangeLemmas.{lags_led, some_lags, pays_changed}
 use Rattle.memfs_ops.proofs.PaysLemmas.{pays_used}
 use Rattle.memfs_ops.proofs.WriteLemmas.{same_write}
+use Rattle.blk_map.proofs.Taken.{lowest_then, lowest_until}
 use Rattle.memfs_ops.proofs.file_tree.FileTree.write_node.Goals as goal
 
 pub held_inode-inode-requires : goal.held_inode-inode-requires
@@ -45,3 +46,10 @@ returns-clause-pays c =
     let m = c.write_in-answer in
     pays_used c.args.heap.now c.renew.new.heap c.args.purse.now m.new.purse c.args.self.now h.new.self c.renew.new.self h.ensures.used
     (pays_changed c.args.heap.now m.new.heap c.renew.new.heap c.args.purse.now m.new.purse h.new.self m.new.self c.renew.new.self m.ensures.goes_on m.ensures.may c.renew.ensures.only c.renew.ensures.used c.renew.ensures.takes c.renew.ensures.same)
+
+pub returns-clause-lowest : goal.returns-clause-lowest
+returns-clause-lowest c =
+    let h = c.held_inode-inode in
+    let m = c.write_in-answer in
+    lowest_then c.args.self.now.disk.blocks h.new.self.disk.blocks c.renew.new.self.disk.blocks (ap (λ (v : TreeView). v.disk.blocks) h.ensures.used.same)
+    (lowest_until h.new.self.disk.blocks m.new.self.disk.blocks c.renew.new.self.disk.blocks (ap (λ (v : TreeView). v.disk.blocks) c.renew.ensures.same) m.ensures.lowest)

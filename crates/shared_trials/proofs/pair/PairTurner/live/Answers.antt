@@ -5,3 +5,6 @@ use Rattle.shared_trials.proofs.pair.PairTurner.live.Goals as goal
 
 pub returns-clause-bytes : goal.returns-clause-bytes
 returns-clause-bytes c = λ world is. c.taken.ensures ∙ sym (ap live_of is ∙ pair_live c.args.self.now.scene c.args.self.now.cached)
+
+pub returns-clause-rests : goal.returns-clause-rests
+returns-clause-rests c = λ world is. ap live_of is ∙ pair_live c.args.self.now.scene c.args.self.now.cached
