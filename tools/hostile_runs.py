@@ -1,11 +1,11 @@
 #!/usr/bin/env python3
-"""Runs scripts before a judge: tools/hostile_runs.py [-r] KRES JUDGE SEED COUNT [CALLS..]
+"""Runs scripts before a judge: tools/hostile_runs.py [-r] [-s] KRES JUDGE SEED COUNT [CALLS..]
 
 Runs the built program KRES on COUNT of the scripts of tools/hostile_scripts.py, from SEED on, or with -r on those of
 tools/random_scripts.py, by `sim` and each fourth by `threads 3` too, and looks at what came of each: the status is the one of
 the report's end line, or 1 with the line of a fault; and JUDGE SCRIPT REPORT, a program that knows the machine by itself,
 prints `legal`. Tells each that isn't right with its number, how the runs ended, and what the calls were answered, and ends
-with 1 where one isn't right. JOBS runs stand side by side, 2 without it.
+with 1 where one isn't right. With -s each of these is made smaller, as ./shrink does, while it still isn't right, and written. JOBS runs stand side by side, 2 without it.
 """
 import collections
 import os
@@ -18,6 +18,9 @@ from concurrent.futures import ThreadPoolExecutor
 import hostile_scripts
 import random_scripts
 import reply_counts
+from script import BadScript
+from shrinking import Shrinker
+from trials import Source
 
 SIDE_BY_SIDE = int(os.environ.get("JOBS", "2"))
 LONGEST = 120  # seconds of a run, and of its judgement
@@ -66,13 +69,31 @@ class Runner:
             os.remove(f"{name}.{kind}")
         return how, why, reply_counts.counts_of(report)
 
+    def is_wrong(self, number, words, text):
+        """Whether a script's run still isn't right."""
+        name = f"{self.folder}/{number}.{words[0]}.smaller"
+        with open(f"{name}.kres", "wb") as file:
+            file.write(text)
+        try:
+            return self.judged(name, words)[1] is not None
+        except subprocess.TimeoutExpired:
+            return False
+
+    def smaller(self, number, words):
+        """The smaller script whose run isn't right either; what is no script stays as it is."""
+        text = self.script(number, self.calls)
+        try:
+            return Shrinker(Source(text), lambda it: self.is_wrong(number, words, it.text)).shrink().text
+        except BadScript:
+            return text
+
     def runs_of(self, number):
         ways = [["sim"]] + [["threads", "3"]] * (number % 4 == 1)
         return [(number, words, *self.run(number, words)) for words in ways]
 
 
-def run_all(runner, numbers):
-    """Runs the scripts of these numbers, tells of each that isn't right, and counts."""
+def run_all(runner, numbers, is_shrunk=False):
+    """Runs the scripts of these numbers, tells of each that isn't right, with a smaller one if that is wanted, and counts."""
     ends, replies, wrong = collections.Counter(), collections.Counter(), 0
     with ThreadPoolExecutor(SIDE_BY_SIDE) as pool:
         for number, way, how, why, counts in (it for runs in pool.map(runner.runs_of, numbers) for it in runs):
@@ -81,6 +102,8 @@ def run_all(runner, numbers):
             if why is not None:
                 wrong += 1
                 print(f"{number} {' '.join(way)}: {why}", flush=True)
+                if is_shrunk:
+                    print(runner.smaller(number, way).decode(errors="replace"), flush=True)
     return ends, replies, wrong
 
 
@@ -88,6 +111,8 @@ def main(words):
     make = hostile_scripts.script
     if words[:1] == ["-r"]:
         make, words = random_scripts.script, words[1:]
+    is_shrunk = words[:1] == ["-s"]
+    words = words[1:] if is_shrunk else words
     if len(words) < 4 or not all(it.isdigit() for it in words[2:4]):
         print(__doc__.split("\n")[0])
         return 2
@@ -95,7 +120,7 @@ def main(words):
     calls = random_scripts.calls_of(words[4:] or ["all"])
     with tempfile.TemporaryDirectory() as folder:
         runner = Runner(os.path.abspath(words[0]), os.path.abspath(words[1]), make, calls, folder)
-        ends, replies, wrong = run_all(runner, range(seed, seed + count))
+        ends, replies, wrong = run_all(runner, range(seed, seed + count), is_shrunk)
     print("\n".join(reply_counts.lines_of(replies)))
     print(", ".join(f"{how} {n}" for how, n in sorted(ends.items())), f"of which wrong {wrong}")
     return 1 if wrong else 0

@@ -24,11 +24,11 @@ from trials import (NotRun, Trial, flag_among, number_behind, run_tool, say_and_
 TOOL, USAGE = "hunt", "./hunt [--for kill|starved|asleep|other] [--seeds N] [--all [--most N]] [--shrink] SCRIPT"
 KINDS = ("kill", "starved", "asleep", "other")
 NOT_FOUND = 3
-REPLY = re.compile(r"= |refused: |ended ")
+REPLY = re.compile(r"= |refused: ")
 
 
 def answers_of(trial):
-    """The replies of a run: the line of each call, its name and its answer, and the event. That a call was given up is none."""
+    """The replies of a run: the line of each call, its name and its answer, and the event. An end is none."""
     calls = (call for process in trial.followed().processes.values() for call in process.calls)
     return {(it.said.line, it.name, it.answer): it.over for it in calls if it.said and it.over and REPLY.match(it.answer)}
 
@@ -65,7 +65,7 @@ class Quarry:
 
 def tries(source, count):
     """The script as it is, and then with one seed and one list of choices after another: the line that says so, and it."""
-    yield "", source
+    yield "as it is", source
     for seed in range(count):
         rng = random.Random(seed)
         choices = " ".join(str(rng.choice((0, 0, 0, 1, 2, 3))) for _ in range(rng.randint(1, 60)))
@@ -78,8 +78,22 @@ def hunt(source, quarry, count):
     for line, tried in tries(source, count):
         found = quarry.found_in(Trial(tried))
         if found:
-            return line, tried, found
+            return fewer_choices(source, quarry, line, next(iter(found))) if line.startswith("choices ") else (line, tried, found)
     return None
+
+
+def fewer_choices(source, quarry, line, kind):
+    """The same with as few choices as still do it, and with zeros for those that don't matter."""
+    def told_by(numbers):
+        return quarry.found_in(Trial(source.with_chooser(f"choices {' '.join(numbers)}")))
+
+    numbers = line.split()[1:]
+    numbers = next(numbers[:count] for count in range(1, len(numbers) + 1) if kind in told_by(numbers[:count]))
+    for at in range(len(numbers)):
+        simpler = [*numbers[:at], "0", *numbers[at + 1:]]
+        numbers = simpler if kind in told_by(simpler) else numbers
+    line = f"choices {' '.join(numbers)}"
+    return line, source.with_chooser(line), told_by(numbers)
 
 
 def hunt_all(source, quarry, most):
@@ -93,33 +107,33 @@ def hunt_all(source, quarry, most):
         for kind in found:
             counts[kind] += 1
         if found and first is None:
-            first = shortest_line(source, line, trial), trial.source, found
+            first = shortest_line(source, line, trial) or "the default order", trial.source, found
     return count, counts, first
 
 
 def tell_all(count, counts, most):
     words = {"kill": "kill", "starved": "starve", "asleep": "sleep for ever", "other": "answer otherwise than the default"}
     told = ", ".join(f"{number} {words[kind]}" for kind, number in counts.items())
-    print(f"{count} orders: {told}" if count else f"more than {most} orders; of the first {most}: {told}")
+    print(f"{count} order{'s' * (count > 1)}: {told}" if count else f"more than {most} orders; of the first {most}: {told}")
 
 
 def tell_first(line, found):
-    what = "; ".join(found.values())
-    print(f"{line or 'as it is'}: {what}")
+    print(f"{line}: {'; '.join(found.values())}")
 
 
-def still_does(kind):
-    """Whether a script in its own order still does what was found."""
-    def holds(source):
-        try:
-            return kind in Quarry(source, [kind]).found_in(Trial(source))
-        except (NotRun, NoReport):
-            return False
-    return holds
+def does(source, kind):
+    """Whether a script in its own order does what was found."""
+    try:
+        return kind in Quarry(source, [kind]).found_in(Trial(source))
+    except (NotRun, NoReport):
+        return False
 
 
 def shrunk(source, kind):
-    return Shrinker(source, still_does(kind)).shrink().text.decode(errors="replace")
+    """A smaller script that does it too; where the default order doesn't do it, that one's doesn't either."""
+    is_by_order = kind != "other" and not does(source.with_chooser(""), kind)
+    smaller = Shrinker(source, lambda it: does(it, kind) and not (is_by_order and does(it.with_chooser(""), kind))).shrink()
+    return smaller.text.decode(errors="replace")
 
 
 def main():

@@ -24,6 +24,7 @@ from trials import (GREATEST_HEAP, LEAST_HEAP, Trial, demand_of, flag_among, num
 
 TOOL, USAGE = "need", "./need [--seeds N] [--svg] SCRIPT"
 STEPS = 64
+ENDS = {"finished": "finishes", "starved": "starves", "asleep": "ends asleep", "spent": "is spent"}
 MOST_SEEDS = 10000
 
 
@@ -86,20 +87,20 @@ class Need:
 
 def enough_line(need):
     run = need.greatest
-    ended = f"the run {'ends asleep' if run.how == 'asleep' else 'is ' + run.how} after {run.events} events"
     if need.enough is None:
         _, first = waits_of(run, GREATEST_HEAP)
-        return f"no heap is enough: at {GREATEST_HEAP} bytes, the greatest, a call waits for room from event {first} on"
-    least = f"; the run asks for {need.demand} at most" if need.demand < LEAST_HEAP else ""
-    return f"enough: {need.enough} bytes, at which no call waits for room, nor at any greater heap ({ended}{least})"
+        return f"enough: no heap is; at {GREATEST_HEAP} bytes, the greatest, a call waits for room from event {first} on"
+    ended = f"it {ENDS[run.how]} after {run.events} events"
+    least = f"; it asks for {need.demand} at most" if need.demand < LEAST_HEAP else ""
+    return f"enough: {need.enough} bytes; there and at every greater heap no call waits for room, and the run is the same ({ended}{least})"
 
 
 def found_line(need):
     if need.found is None:
-        return f"found: no heap at which nobody is killed, starves or is refused; at {need.top} bytes it isn't so"
+        return f"found: none; somebody is killed, starves or is refused at {need.top} bytes too"
     count, bad = need.bad_above()
-    also = f"nor at {count} heaps looked at above" if not bad else f"but so it is at {len(bad)} of {count} heaps above, the greatest {bad[-1]}"
-    return f"found: {need.found} bytes, at which nobody is killed, starves or is refused, {also}"
+    also = f"nor at {count} heaps looked at above" if not bad else f"but so it is at {len(bad)} of {count} heaps looked at above, last at {bad[-1]}"
+    return f"found: {need.found} bytes; nobody is killed, starves or is refused there, {also}"
 
 
 def seeds_line(need, heap, count, where):
@@ -107,7 +108,7 @@ def seeds_line(need, heap, count, where):
     at_heap = need.source.with_heap(heap)
     trials = [Trial(at_heap.with_chooser(f"seed {seed}")) for seed in range(count)]
     kill, starve, sleep = (sum(it.does(kind) for it in trials) for kind in ("kill", "starved", "asleep"))
-    return f"{count} seeds at {heap} bytes, {where}: {kill} kill, {starve} starve, {sleep} end asleep"
+    return f"{count} seeds at {heap} bytes ({where}): {kill} kill, {starve} starve, {sleep} end asleep"
 
 
 def lines_of(need, seeds):
@@ -116,7 +117,7 @@ def lines_of(need, seeds):
     if need.found is None or seeds == 0:
         return
     if need.below() is None:
-        yield f"no heap is below {LEAST_HEAP} bytes"
+        yield f"no seeds below: {LEAST_HEAP} bytes is the least heap there is"
     else:
         yield seeds_line(need, need.below(), seeds, "below")
     yield seeds_line(need, need.found, seeds, "found")
