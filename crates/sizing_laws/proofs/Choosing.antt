@@ -51,8 +51,8 @@ no_kills script s within = ap (λ b. kill_of b (victim_of script.policy s.world.
 same_enabled : (script : Script) (heap : ℕ) (s : CoreState) → demand_of s ≤ script.heap → demand_of s ≤ heap
     → enabled_in (with_heap script heap) s ≡ enabled_in script s
 same_enabled script heap s within below =
-    ap (λ events. events ++ evicts_in s ++ kills_in (with_heap script heap) s) (same_in script heap s s.tasks within below)
-    ∙ ap (λ kills. events_in script s s.tasks ++ evicts_in s ++ kills) (no_kills (with_heap script heap) s below ∙ sym (no_kills script s within))
+    ap (λ events. events ++ (evicts_in s ++ kills_in (with_heap script heap) s)) (same_in script heap s s.tasks within below)
+    ∙ ap (λ kills. events_in script s s.tasks ++ (evicts_in s ++ kills)) (no_kills (with_heap script heap) s below ∙ sym (no_kills script s within))
 
 -- ---- which one is taken
 
