@@ -1,15 +1,16 @@
 """Runs a script by kres with other settings than it has, and tells what came of it: for ./need, ./hunt and ./shrink."""
+import glob
 import os
 import re
 import subprocess
 import sys
 
-from report import AT_BOOT, Run, read_event, EVENTS
+from report import AT_BOOT, EVENTS, Run, read_event
 from script import BadScript, Script
 
 TOP = os.path.dirname(os.path.dirname(os.path.realpath(__file__)))
-# Another program than ./kres may be asked, as the tests do.
-KRES = os.environ.get("KRES", os.path.join(TOP, "kres"))
+WRAPPER = os.path.join(TOP, "kres")
+BUILT = [os.path.join(TOP, it) for it in ("crates/kres_cli/out/kres_cli", "out/kres_unproved")]
 LEAST_HEAP, GREATEST_HEAP = 8192, 8388608
 ENDED = (0, 3, 4, 5)  # the statuses of a run that came to an end: finished, starved, all asleep, its events used up
 SIGKILL = 9
@@ -43,15 +44,36 @@ class Source:
         return self.with_line("chooser", line) if line or "chooser" in self.script.where else self
 
 
-def run_kres(text):
-    """What `kres sim` reports of a script."""
-    try:
-        ran = subprocess.run([KRES, "sim"], input=text, stdout=subprocess.PIPE, stderr=subprocess.DEVNULL)
-    except OSError as fault:
-        raise NotRun(f"{KRES}: {fault.strerror}") from None
-    if ran.returncode not in ENDED:
-        raise NotRun(f"kres ended with status {ran.returncode}")
-    return ran.stdout.decode(errors="replace")
+def built_program():
+    """The program that ./kres runs: the first that no source is newer than; ./kres itself where there is none."""
+    sources = [os.path.join(TOP, "crates.txt"), *glob.glob(os.path.join(TOP, "crates", "*", "src", "**"), recursive=True)]
+    newest = max(os.path.getmtime(it) for it in sources)
+    return next((it for it in BUILT if os.access(it, os.X_OK) and os.path.getmtime(it) >= newest), WRAPPER)
+
+
+class Kres:
+    """The program that is asked: ./kres, or another one, as the tests do. The first run is ./kres's own, which makes the
+    program where there is none and says so; all others are without that wrapper, which takes longer than the run."""
+
+    def __init__(self):
+        self.program, self.is_first = os.environ.get("KRES", WRAPPER), True
+
+    def report(self, text):
+        """What `kres sim` reports of a script."""
+        said = None if self.is_first else subprocess.DEVNULL
+        try:
+            ran = subprocess.run([self.program, "sim"], input=text, stdout=subprocess.PIPE, stderr=said)
+        except OSError as fault:
+            raise NotRun(f"{self.program}: {fault.strerror}") from None
+        if ran.returncode not in ENDED:
+            raise NotRun(f"kres ended with status {ran.returncode}")
+        if self.is_first and self.program == WRAPPER:
+            self.program = built_program()
+        self.is_first = False
+        return ran.stdout.decode(errors="replace")
+
+
+KRES = Kres()
 
 
 class Trial:
@@ -59,7 +81,7 @@ class Trial:
 
     def __init__(self, source):
         self.source = source
-        self.report = run_kres(source.text)
+        self.report = KRES.report(source.text)
         end = self.report.rstrip("\n").rsplit("\n", 1)[-1]
         found = re.match(r"end (\w+)(?: \w+ need \d+)? events (\d+) charged \d+ peak (\d+)", end)
         if not found:

@@ -53,7 +53,7 @@ wants_now script s (Asleep asked) none = omega arith
 wants_now script s (Stranded asked) none = omega arith
 wants_now script s Dead none = omega arith
 
-neither : (a b : Bool) → (a || b) ≡ false → (a ≡ false) × (b ≡ false)
+pub neither : (a b : Bool) → (a || b) ≡ false → (a ≡ false) × (b ≡ false)
 neither false b none = (refl, none)
 neither true b none = cc
 

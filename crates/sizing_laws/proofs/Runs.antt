@@ -1,16 +1,18 @@
 -- Whole runs under two heaps.
-use Rattle.std.proofs.Common.{◌≡◌, ℕ, ◌+◌, ◌≤◌, max, List, [], ◌∷◌, length, refl, ap, sym, ◌∙◌, arith}
+use Rattle.std.proofs.Common.{◌≡◌, ℕ, ◌+◌, ◌≤◌, max, Bool, true, false, ◌||◌, List, [], ◌∷◌, ◌++◌, length, Some, refl, ap, sym, ◌∙◌, arith}
+use Rattle.std.specs.List.{list_any}
 use Rattle.kabi_types.specs.declared.entries.Event.{Event}
 use Rattle.kabi_types.specs.declared.entries.Event.TheVariants.{Ask, Admit, Turn, Wake, Abandon, Evict, Kill}
 use Rattle.kabi_types.specs.declared.entries.Noted.{Noted}
 use Rattle.kabi_types.specs.declared.scripts.Script.{Script}
+use Rattle.posix_defs.specs.Choice.{picked_of}
 use Rattle.posix_defs.specs.CoreRun.{AsChosen, Anyhow, IsCoreRun, IsPickedRun, IsRunBy, boots, goes_on}
 use Rattle.posix_defs.specs.CoreState.{CoreState, asked_by}
 use Rattle.posix_defs.specs.Sizes.{fixed}
-use Rattle.sizing_laws.specs.Demand.{AllFit, IsSameUnder, RefusesNone, demand_at, demand_of, need_of, with_heap}
+use Rattle.sizing_laws.specs.Demand.{AllFit, IsSameUnder, RefusesNone, demand_at, demand_of, is_kill, need_of, with_heap}
 use Rattle.sizing_laws.proofs.Choosing.{same_end, same_picked}
-use Rattle.sizing_laws.proofs.Fitting.{all_fit, below_both, demand_within, greater_below}
-use Rattle.sizing_laws.proofs.Stepping.{beside_fixed, in_room, same_step}
+use Rattle.sizing_laws.proofs.Fitting.{all_fit, below_both, demand_within, greater_below, neither}
+use Rattle.sizing_laws.proofs.Stepping.{beside_fixed, in_room, no_kill, same_step}
 
 -- a run asks for as much as the state that it leads to
 state_within : {rule : ℕ → CoreState → Event → Type 0} {script : Script} {steps : ℕ} {run : List Noted} {s : CoreState}
@@ -55,14 +57,18 @@ same_under {script = script} {steps = steps} {s = s} other heap carry r within b
 
 -- ---- the laws
 
+picked_carries : (script : Script) (heap j : ℕ) (s : CoreState) (event : Event) → demand_of s ≤ script.heap → demand_of s ≤ heap
+    → picked_of script j s ≡ Some event → picked_of (with_heap script heap) j s ≡ Some event
+picked_carries script heap j s event here there by = same_picked script heap j s here there ∙ by
+
 pub picked_same : (script : Script) (heap steps : ℕ) (run : List Noted) (s : CoreState) (r : IsPickedRun script steps run s)
     → need_of r ≤ script.heap → need_of r ≤ heap → IsSameUnder (AsChosen (with_heap script heap)) script heap steps run s
 picked_same script heap steps run s r within below =
-    same_under (AsChosen (with_heap script heap)) heap (λ j s event here there by. same_picked script heap j s here there ∙ by) r within below
+    same_under {rule = AsChosen script} (AsChosen (with_heap script heap)) heap (picked_carries script heap) r within below
 
 pub any_same : (script : Script) (heap steps : ℕ) (run : List Noted) (s : CoreState) (r : IsCoreRun script steps run s)
     → need_of r ≤ script.heap → need_of r ≤ heap → IsSameUnder Anyhow script heap steps run s
-any_same script heap steps run s r within below = same_under Anyhow heap (λ j s event here there by. tt) r within below
+any_same script heap steps run s r within below = same_under {rule = Anyhow} Anyhow heap (λ j s event here there by. tt) r within below
 
 asked_within : (heap : ℕ) (script : Script) (s : CoreState) (event : Event) → fixed ≤ heap → RefusesNone heap script s event
     → demand_at script s event ≤ heap
@@ -104,3 +110,21 @@ pub more_is_same : (script : Script) (heap steps : ℕ) (run : List Noted) (s : 
 more_is_same script heap steps run s r enough fit more =
     let within : need_of r ≤ script.heap = needs_no_more script.heap r enough fit in
     picked_same script heap steps run s r within (omega arith)
+
+-- ---- kills
+
+any_behind : (f : Noted → Bool) (xs : List Noted) (x : Noted) → list_any f xs ≡ false → f x ≡ false → list_any f (xs ++ x ∷ []) ≡ false
+any_behind f [] x none last = ap (λ b. b || false) last
+any_behind f (y ∷ xs) x none last =
+    let both = neither (f y) (list_any f xs) none in
+    ap (λ b. b || list_any f (xs ++ x ∷ [])) both.0 ∙ any_behind f xs x both.1 last
+
+pub none_killed : {rule : ℕ → CoreState → Event → Type 0} {script : Script} {steps : ℕ} {run : List Noted} {s : CoreState}
+    → (r : IsRunBy rule script steps run s) → need_of r ≤ script.heap → list_any (λ noted. is_kill noted.event) run ≡ false
+none_killed boots within = refl
+none_killed {script = script} (goes_on run old new noted before ends by step) within =
+    let both = below_both (need_of before) (max (demand_at script old noted.event) (demand_of new)) script.heap within in
+    let least : demand_of old ≤ need_of before = state_within before in
+    let first : need_of before ≤ script.heap = both.0 in
+    let old_within : demand_of old ≤ script.heap = omega arith in
+    any_behind (λ noted. is_kill noted.event) run noted (none_killed before first) (no_kill script old noted.event noted new old_within step)

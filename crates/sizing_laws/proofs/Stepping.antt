@@ -14,7 +14,7 @@ use Rattle.posix_defs.specs.Machine.{machine}
 use Rattle.posix_defs.specs.Sizes.{fixed, room}
 use Rattle.posix_defs.specs.Turn.{Answers, Tells, account_after}
 use Rattle.posix_defs.specs.World.{World}
-use Rattle.sizing_laws.specs.Demand.{demand_at, demand_of, wants, with_heap}
+use Rattle.sizing_laws.specs.Demand.{demand_at, demand_of, is_kill, wants, with_heap}
 use Rattle.sizing_laws.proofs.Choosing.{unlicensed}
 use Rattle.sizing_laws.proofs.Fitting.{phase_within}
 use Rattle.sizing_laws.proofs.Machines.{same_block, same_machine}
@@ -102,6 +102,20 @@ same_step script heap old (Evict what) noted new within below asked_within asked
   noted_so = step.noted_so;
 }
 same_step script heap old (Kill pid) noted new within below asked_within asked_below step = absurd (
+  let never : is_licensed script old ≡ false = unlicensed script old within in
+  let may : is_licensed script old ≡ true = step.enabled.licensed in
+  cc
+)
+
+pub no_kill : (script : Script) (old : CoreState) (event : Event) (noted : Noted) (new : CoreState) → demand_of old ≤ script.heap
+    → StepsBy script old event noted new → is_kill event ≡ false
+no_kill script old (Ask pid) noted new within step = refl
+no_kill script old (Admit pid) noted new within step = refl
+no_kill script old (Turn pid) noted new within step = refl
+no_kill script old (Wake pid) noted new within step = refl
+no_kill script old (Abandon pid) noted new within step = refl
+no_kill script old (Evict what) noted new within step = refl
+no_kill script old (Kill pid) noted new within step = absurd (
   let never : is_licensed script old ≡ false = unlicensed script old within in
   let may : is_licensed script old ≡ true = step.enabled.licensed in
   cc

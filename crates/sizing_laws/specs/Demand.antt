@@ -1,7 +1,7 @@
 -- How much heap a run asks for.
-use Rattle.std.specs.Prelude.{ℕ, ◌+◌, ◌≡◌, ◌≤◌, max, false, List, [], ◌∷◌}
+use Rattle.std.specs.Prelude.{ℕ, ◌+◌, ◌≡◌, ◌≤◌, max, Bool, true, false, List, [], ◌∷◌}
 use Rattle.kabi_types.specs.declared.entries.Event.{Event}
-use Rattle.kabi_types.specs.declared.entries.Event.TheVariants.{Ask}
+use Rattle.kabi_types.specs.declared.entries.Event.TheVariants.{Ask, Kill}
 use Rattle.kabi_types.specs.declared.entries.Noted.{Noted}
 use Rattle.kabi_types.specs.declared.scripts.Script.{Script}
 use Rattle.posix_defs.specs.declared.phases.Phase.{Phase}
@@ -58,6 +58,11 @@ abbrev pub AllFit : {rule : ℕ → CoreState → Event → Type 0} {script : Sc
 AllFit heap boots = Unit {0}
 AllFit {script = script} heap (goes_on run old new noted before ends by step) =
     AllFit heap before × RefusesNone heap script old noted.event × (some_wait_in_vain (with_heap script heap) new ≡ false)
+
+-- the event is a kill
+abbrev pub is_kill : Event → Bool
+is_kill (Kill pid) = true
+is_kill _ = false
 
 -- ---- the same run
 

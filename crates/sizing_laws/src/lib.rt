@@ -4,6 +4,6 @@
 mod sizes;
 
 pub use sizes::{
-    enough_is_enough, more_heap_changes_nothing, the_heap_is_no_part_of_the_machine,
-    the_need_is_the_least_that_fits,
+    enough_is_enough, more_heap_changes_nothing, nobody_is_killed_where_all_fit,
+    the_heap_is_no_part_of_the_machine, the_need_is_the_least_that_fits,
 };

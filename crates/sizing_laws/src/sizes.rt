@@ -1,6 +1,7 @@
 //! Laws of how much heap is enough. Each is the contract of a function that does nothing.
 
-ghost use Rattle.std.specs.Prelude.{◌≡◌, ◌≤◌, ℕ, List};
+ghost use Rattle.std.specs.Prelude.{◌≡◌, ◌≤◌, ℕ, false, List};
+ghost use Rattle.std.specs.List.{list_any};
 ghost use Rattle.kabi_types.specs.declared.calls.Call.{Call};
 ghost use Rattle.kabi_types.specs.declared.entries.Noted.{Noted};
 ghost use Rattle.kabi_types.specs.declared.scripts.Script.{Script};
@@ -9,7 +10,7 @@ ghost use Rattle.posix_defs.specs.CoreState.{CoreState};
 ghost use Rattle.posix_defs.specs.Machine.{machine};
 ghost use Rattle.posix_defs.specs.Plain.{Plain, call_of};
 ghost use Rattle.posix_defs.specs.Sizes.{fixed};
-ghost use Rattle.sizing_laws.specs.Demand.{AllFit, IsSameUnder, need_of, with_heap};
+ghost use Rattle.sizing_laws.specs.Demand.{AllFit, IsSameUnder, is_kill, need_of, with_heap};
 
 /// A run in which each call that waits fits, and none is refused, is event for event and reply for reply the run under every
 /// greater heap too, with the same script but for that line; and it ends there as it does here.
@@ -39,6 +40,14 @@ pub fn the_need_is_the_least_that_fits()
         → need_of r ≤ heap → AllFit heap r }
     ensures least_anyhow { (script : Script) (heap steps : ℕ) (run : List Noted) (s : CoreState) (r : IsCoreRun script steps run s)
         → fixed ≤ heap → AllFit heap r → need_of r ≤ heap }
+{}
+
+/// Where the heap has what a run asks for, nobody is killed so that another's call may fit.
+pub fn nobody_is_killed_where_all_fit()
+    ensures chosen { (script : Script) (steps : ℕ) (run : List Noted) (s : CoreState) (r : IsPickedRun script steps run s)
+        → need_of r ≤ script.heap → list_any (λ noted. is_kill noted.event) run ≡ false }
+    ensures anyhow { (script : Script) (steps : ℕ) (run : List Noted) (s : CoreState) (r : IsCoreRun script steps run s)
+        → need_of r ≤ script.heap → list_any (λ noted. is_kill noted.event) run ≡ false }
 {}
 
 /// The plain machine asks nothing of a heap: with another one each process makes the same call, and is answered the same.
