@@ -1,16 +1,15 @@
 -- Under two heaps that have what a state asks for, the same event is taken, and the same end stands.
-use Rattle.std.proofs.Common.{◌≡◌, ℕ, ◌+◌, ◌≤◌, ◌%◌, ◌==◌, Bool, true, false, not, ◌&&◌, cond, List, [], ◌∷◌, ◌++◌, filter, length, Option, None, Some, slice_get, refl, ap, sym, ◌∙◌, arith}
+use Rattle.std.proofs.Common.{◌≡◌, ℕ, ◌≤◌, ◌%◌, ◌==◌, Bool, true, false, not, ◌&&◌, cond, List, [], ◌∷◌, ◌++◌, filter, length, Option, None, Some, slice_get, refl, ap, sym, ◌∙◌, arith}
 use Rattle.std.specs.Prelude.{is_some}
 use Rattle.std.specs.List.{list_all}
 use Rattle.kabi_types.specs.declared.entries.End.TheVariants.{Finished, AllAsleep, Spent}
-use Rattle.kabi_types.specs.declared.entries.Event.{Event}
 use Rattle.kabi_types.specs.declared.entries.Event.TheVariants.{Admit, Wake}
 use Rattle.kabi_types.specs.declared.scripts.Script.{Script}
 use Rattle.posix_defs.specs.declared.phases.Phase.{Phase}
 use Rattle.posix_defs.specs.declared.phases.Phase.TheVariants.{User, Waiting, Admitted, Asleep, Stranded, Dead}
 use Rattle.posix_defs.specs.declared.phases.Task.{Task}
 use Rattle.posix_defs.specs.Choice.{asks_nothing, chosen, default_of, enabled_in, events_in, events_of, evicts_in, kill_of, kills_in, named_by, picked_of}
-use Rattle.posix_defs.specs.CoreState.{CoreState, charged_in, none_admitted, phase_of, some_fits, some_wait_in_vain}
+use Rattle.posix_defs.specs.CoreState.{CoreState, charged_in, none_admitted, phase_of, some_fits}
 use Rattle.posix_defs.specs.Ends.{all_asleep, end_of, has_finished, sleeps_on, starved_or, starves_for, vain_need}
 use Rattle.posix_defs.specs.Licence.{can_evict_any, is_licensed}
 use Rattle.posix_defs.specs.Victim.{victim_of}
@@ -111,6 +110,6 @@ pub same_end : (script : Script) (heap steps taken : ℕ) (s : CoreState) → de
     → end_of (with_heap script heap) steps taken s ≡ end_of script steps taken s
 same_end script heap steps taken s within below =
     ap (λ need. cond (has_finished s) (Some Finished) (starved_or need (cond (all_asleep (with_heap script heap) s) (Some AllAsleep) (cond (taken == steps) (Some Spent) None))))
-        (unstarved (with_heap script heap) s below ∙ sym (unstarved script s within))
+    (unstarved (with_heap script heap) s below ∙ sym (unstarved script s within))
     ∙ ap (λ b. cond (has_finished s) (Some Finished) (starved_or (starves_for script s) (cond b (Some AllAsleep) (cond (taken == steps) (Some Spent) None))))
-        (same_sleepers script heap s s.tasks)
+    (same_sleepers script heap s s.tasks)

@@ -1,5 +1,5 @@
 -- Under two heaps that have what a state and an event ask for, the event leads to the same.
-use Rattle.std.proofs.Common.{◌≡◌, ℕ, ◌+◌, ◌-◌, ◌≤◌, ◌<◌, true, false, inl, inr, refl, ap, sym, ◌∙◌, subst, arith}
+use Rattle.std.proofs.Common.{◌≡◌, ℕ, ◌+◌, ◌≤◌, ◌<◌, true, false, inl, inr, refl, ap, sym, ◌∙◌, subst, arith}
 use Rattle.kabi_types.specs.declared.calls.Call.{Call}
 use Rattle.kabi_types.specs.declared.entries.Event.{Event}
 use Rattle.kabi_types.specs.declared.entries.Event.TheVariants.{Ask, Admit, Turn, Wake, Abandon, Evict, Kill}
@@ -8,9 +8,8 @@ use Rattle.kabi_types.specs.declared.scripts.Script.{Script}
 use Rattle.posix_defs.specs.declared.phases.Phase.TheVariants.{Waiting}
 use Rattle.posix_defs.specs.declared.turner.Turned.{Turned}
 use Rattle.posix_defs.specs.CoreEvent.{Admits, Asks, StepsBy}
-use Rattle.posix_defs.specs.CoreState.{CoreState, asked_by, charged_in, phase_of}
+use Rattle.posix_defs.specs.CoreState.{CoreState, asked_by, charged_in}
 use Rattle.posix_defs.specs.Licence.{is_licensed}
-use Rattle.posix_defs.specs.Machine.{machine}
 use Rattle.posix_defs.specs.Sizes.{fixed, room}
 use Rattle.posix_defs.specs.Turn.{Answers, Tells, account_after}
 use Rattle.posix_defs.specs.World.{World}
@@ -60,11 +59,11 @@ admits_so script heap old pid noted new below admits = record {
   enabled = record {
     waits = admits.enabled.waits;
     room = (
-      let asks : wants (charged_in old) (Waiting admits.enabled.waits.asked) ≤ demand_of old =
-      subst (λ phase. wants (charged_in old) phase ≤ demand_of old) admits.enabled.waits.is (phase_within (charged_in old) old.tasks pid) in
-      let within : charged_in old + admits.enabled.waits.asked.bound ≤ demand_of old = asks in
-      omega arith
-    );
+        let asks : wants (charged_in old) (Waiting admits.enabled.waits.asked) ≤ demand_of old =
+        subst (λ phase. wants (charged_in old) phase ≤ demand_of old) admits.enabled.waits.is (phase_within (charged_in old) old.tasks pid) in
+        let within : charged_in old + admits.enabled.waits.asked.bound ≤ demand_of old = asks in
+        omega arith
+        );
   };
   after = admits.after;
   noted_so = admits.noted_so;
@@ -102,10 +101,10 @@ same_step script heap old (Evict what) noted new within below asked_within asked
   noted_so = step.noted_so;
 }
 same_step script heap old (Kill pid) noted new within below asked_within asked_below step = absurd (
-  let never : is_licensed script old ≡ false = unlicensed script old within in
-  let may : is_licensed script old ≡ true = step.enabled.licensed in
-  cc
-)
+    let never : is_licensed script old ≡ false = unlicensed script old within in
+    let may : is_licensed script old ≡ true = step.enabled.licensed in
+    cc
+    )
 
 pub no_kill : (script : Script) (old : CoreState) (event : Event) (noted : Noted) (new : CoreState) → demand_of old ≤ script.heap
     → StepsBy script old event noted new → is_kill event ≡ false
@@ -116,7 +115,7 @@ no_kill script old (Wake pid) noted new within step = refl
 no_kill script old (Abandon pid) noted new within step = refl
 no_kill script old (Evict what) noted new within step = refl
 no_kill script old (Kill pid) noted new within step = absurd (
-  let never : is_licensed script old ≡ false = unlicensed script old within in
-  let may : is_licensed script old ≡ true = step.enabled.licensed in
-  cc
-)
+    let never : is_licensed script old ≡ false = unlicensed script old within in
+    let may : is_licensed script old ≡ true = step.enabled.licensed in
+    cc
+    )
