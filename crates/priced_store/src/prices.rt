@@ -1,0 +1,31 @@
+//! The price list.
+ghost use Rattle.std.specs.Prelude.{◌≡◌, ◌≤◌};
+ghost use Rattle.posix_defs.specs.Needs.{bound};
+ghost use Rattle.priced_store.specs.Prices.{groups_of, price};
+
+use kabi_types::Call;
+
+/// What the entries of 64 neighbouring pages take, in bytes.
+pub const GROUP: u64 = 512;
+
+/// In how many groups of 64 the pages of a mapping of so many bytes lie. The first of them is page 1, as the space is empty.
+fn groups_of(length: i64) -> u64
+    ensures { result ≡ groups_of length }
+{
+    match u64::try_from(length) {
+        Ok(0) | Err(_) => 0,
+        Ok(bytes) => ((bytes + 4095) / 4096 / 64 + 1).min(4),
+    }
+}
+
+/// What a call may take of this store's heap, in bytes: `mmap` the groups that its pages lie in, every other call nothing. The core
+/// reserves as much at least.
+pub fn price(call: &Call) -> u64
+    ensures value { result ≡ price call.now }
+    ensures within { result ≤ bound call.now }
+{
+    match call {
+        Call::Mmap { length } => GROUP * groups_of(*length),
+        _ => 0,
+    }
+}
