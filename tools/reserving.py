@@ -33,7 +33,7 @@ class Counts:
     in_vain: int = 0  # of these, would have had room all the same
     events: int = 0  # how many events these waited, together
     longest: int = 0  # and the longest of them
-    evicted: int = 0
+    evicted: int = 0  # objects, while a call waited in vain
     killed: int = 0
     refused: int = 0
     finished: int = 0  # runs whose first process came to its end
@@ -64,7 +64,7 @@ class Reading:
 
     def __init__(self, heap):
         self.heap, self.counts = heap, Counts()
-        self.begun, self.held = {}, {}
+        self.begun, self.held, self.waiting = {}, {}, set()
         self.charged, self.evicted = AT_BOOT, 0
 
     def live(self):
@@ -80,6 +80,8 @@ class Reading:
             self.admit(pid, number)
         elif word in ("done", "part", "sleep", "ended", "gone", "abandon"):
             self.held.pop(pid, None)
+        elif word == "killed":
+            self.waiting.discard(pid)
         self.charged = charged
         if word in ("ask", "wake"):
             self.begin(pid, number, int(words[5]))
@@ -87,7 +89,7 @@ class Reading:
             self.turn(pid, max(0, self.live() - before))
         elif word == "evict":
             self.evicted += before - self.live()
-        self.counts.evicted += word == "evict"
+        self.counts.evicted += word == "evict" and bool(self.waiting)
         self.counts.killed += word == "killed"
         self.counts.refused += word == "refused"
 
@@ -96,10 +98,12 @@ class Reading:
         self.begun[pid] = Begun(number, self.live(), self.evicted, bound, waits)
         self.counts.begun += 1
         self.counts.waited += waits
+        self.waiting |= {pid} if waits else set()
 
     def admit(self, pid, number):
         call = self.begun[pid]
         self.held[pid] = call.bound
+        self.waiting.discard(pid)
         # What was evicted from here on wasn't evicted for it.
         call.evicted = self.evicted - call.evicted
         if call.waits:

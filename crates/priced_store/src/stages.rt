@@ -62,7 +62,8 @@ impl Stage {
 
     /// Where it leads that it is refused.
     pub fn refused(self) -> Stage
-        ensures { result ≡ stage_refused self }
+        ensures leads { result ≡ stage_refused self }
+        ensures live { live_in result ≡ live_in self }
     {
         match self {
             Stage::Begun => Stage::Refused,

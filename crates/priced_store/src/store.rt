@@ -58,8 +58,8 @@ impl Turner for Maps {
         self.stage.call()
     }
 
-    fn asks(&self, _pid: u32) -> Asked {
-        let call = self.stage.call();
+    fn asks(&self, pid: u32) -> Asked {
+        let call = self.next(pid);
         Asked {
             kind: call.kind(),
             bound: bound(&call),
