@@ -4,11 +4,14 @@
 Runs the four loads of docs/reserving, each over heaps of eight sizes with ten seeds, by `sim` of the program KRES (./kres where
 none is named), writes the graphs there anew, and prints the tables of docs/RESERVING.md. For each time a call begins (it is
 asked, or has woken) the report tells what was live then, what its turn made, and when it was let in. With --compare nothing is
-written: the status is 1 where a graph or a table is another one.
+written: the status is 1 where a graph or a table is another one. With --cost it prints what each event of a call takes in
+instructions instead, by valgrind: a run of one event more takes as many more.
 """
 import os
+import re
 import subprocess
 import sys
+import tempfile
 from dataclasses import dataclass, fields
 
 from report import AT_BOOT, KEPT_BACK
@@ -161,6 +164,35 @@ def table(load, found):
     return "\n".join(lines + [row(heap, found[load, heap]) for heap in HEAPS]) + "\n"
 
 
+# What an event takes.
+
+CALLS = {"getpid": "getpid", "stat": 'stat "/"', "store": 'store r1 "eight by"'}
+STEPS = 3000
+CORE = re.compile(r"^ *([\d,]+) \([ \d.]+%\)  \S*run_to_end", re.M)
+TOTAL = re.compile(r"^ *([\d,]+) \([ \d.]+%\)  PROGRAM TOTALS", re.M)
+
+
+def instructions(kres, call, steps, folder):
+    """What a run of so many events takes, all of it and the core's part with its store's. The process makes the call over and over."""
+    script = f"steps {steps}\nprogram init\nr1 = mmap 4096\nset r2 {STEPS}\nlabel again\n{call}\nloop r2 again\nend\n"
+    kept = f"{folder}/counted"
+    how = ["valgrind", "--tool=callgrind", f"--callgrind-out-file={kept}", kres, "sim"]
+    subprocess.run(how, input=script.encode(), capture_output=True, check=False)
+    told = subprocess.run(["callgrind_annotate", "--inclusive=yes", kept], capture_output=True, text=True, check=True).stdout
+    return [int(pattern.search(told)[1].replace(",", "")) for pattern in (TOTAL, CORE)]
+
+
+def cost_rows(kres):
+    """What an ask, an admission and a turn of each call take, and how much of it is the core's and its store's."""
+    yield "| call | ask | of it the core | admission | of it the core | turn | of it the core |"
+    yield "|---|---|---|---|---|---|---|"
+    with tempfile.TemporaryDirectory() as folder:
+        for name, call in CALLS.items():
+            runs = [instructions(kres, call, steps, folder) for steps in range(STEPS, STEPS + 4)]
+            told = [str(after - before) for one, other in zip(runs, runs[1:]) for before, after in zip(one, other)]
+            yield f"| `{name}` | " + " | ".join(told) + " |"
+
+
 # The graphs: a panel for each load, in which the heaps stand from left to right.
 
 INK, MUTED, FAINT, RED, AMBER, GREEN, BLUE = "#1f2933", "#66727f", "#e3e8ee", "#cf3a3a", "#e8a317", "#4d9c8c", "#2f6fd0"
@@ -250,8 +282,11 @@ def differing(files, tables):
 
 def main(words):
     compare = "--compare" in words
-    named = [it for it in words if it != "--compare"]
+    named = [it for it in words if not it.startswith("--")]
     kres = named[0] if named else f"{TOP}/kres"
+    if "--cost" in words:
+        print("\n".join(cost_rows(kres)))
+        return 0
     found = {(load, heap): measured(kres, load, heap) for load in LOADS for heap in HEAPS}
     files, tables = list(graphs(found)), {load: table(load, found) for load in LOADS}
     if compare:
