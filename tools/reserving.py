@@ -172,12 +172,23 @@ CORE = re.compile(r"^ *([\d,]+) \([ \d.]+%\)  \S*run_to_end", re.M)
 TOTAL = re.compile(r"^ *([\d,]+) \([ \d.]+%\)  PROGRAM TOTALS", re.M)
 
 
+def repeated(call, steps):
+    """A script of so many events, of which nearly all are of this call; now and then a process yields."""
+    return f"steps {steps}\nprogram init\nr1 = mmap 4096\nset r2 {STEPS}\nlabel again\n{call}\nloop r2 again\nend\n".encode()
+
+
+def events_before(kres, name, call):
+    """How many events, STEPS or some more, come before an event by which the call is asked for."""
+    told = subprocess.run([kres, "sim"], input=repeated(call, STEPS + 100), capture_output=True, check=False).stdout.decode()
+    asked = [int(it) for it in re.findall(rf"^(\d+) p1 ask {name} ", told, re.M)]
+    return next(it - 1 for it in asked if it > STEPS)
+
+
 def instructions(kres, call, steps, folder):
-    """What a run of so many events takes, all of it and the core's part with its store's. The process makes the call over and over."""
-    script = f"steps {steps}\nprogram init\nr1 = mmap 4096\nset r2 {STEPS}\nlabel again\n{call}\nloop r2 again\nend\n"
-    kept = f"{folder}/counted"
+    """What a run of so many events takes, all of it and the core's part with its store's."""
+    kept = f"{folder}/{steps}"
     how = ["valgrind", "--tool=callgrind", f"--callgrind-out-file={kept}", kres, "sim"]
-    subprocess.run(how, input=script.encode(), capture_output=True, check=False)
+    subprocess.run(how, input=repeated(call, steps), capture_output=True, check=False)
     told = subprocess.run(["callgrind_annotate", "--inclusive=yes", kept], capture_output=True, text=True, check=True).stdout
     return [int(pattern.search(told)[1].replace(",", "")) for pattern in (TOTAL, CORE)]
 
@@ -186,11 +197,12 @@ def cost_rows(kres):
     """What an ask, an admission and a turn of each call take, and how much of it is the core's and its store's."""
     yield "| call | ask | of it the core | admission | of it the core | turn | of it the core |"
     yield "|---|---|---|---|---|---|---|"
-    with tempfile.TemporaryDirectory() as folder:
-        for name, call in CALLS.items():
-            runs = [instructions(kres, call, steps, folder) for steps in range(STEPS, STEPS + 4)]
-            told = [str(after - before) for one, other in zip(runs, runs[1:]) for before, after in zip(one, other)]
-            yield f"| `{name}` | " + " | ".join(told) + " |"
+    for name, call in CALLS.items():
+        with tempfile.TemporaryDirectory() as folder:
+            first = events_before(kres, name, call)
+            runs = [instructions(kres, call, steps, folder) for steps in range(first, first + 4)]
+        told = [str(after - before) for one, other in zip(runs, runs[1:]) for before, after in zip(one, other)]
+        yield f"| `{name}` | " + " | ".join(told) + " |"
 
 
 # The graphs: a panel for each load, in which the heaps stand from left to right.

@@ -10,6 +10,8 @@ mod prices;
 mod runs;
 mod stages;
 mod store;
+#[cfg(test)]
+mod trials;
 
 pub use prices::price;
 pub use runs::run_maps;
