@@ -1,5 +1,5 @@
 #!/usr/bin/env python3
-"""How much of its bound each call uses: tools/bound_use.py [--programs KRES METER] [FOLDER..]
+"""How much of its bound each call uses: tools/bound_use.py [--programs KRES METER | --made KRES] [FOLDER..]
 
 Prints the table of docs/KERNEL.md, over `gen 1000`, a thousand random scripts, and each script NAME.kres below the folders.
 
@@ -7,6 +7,9 @@ Two programs run each script by `sim`. KRES is that of these sources; METER is m
 KRES tells after a turn what is charged, METER tells the most bytes that were live in it, as the heap's own meter has it. Nothing
 else of their reports may differ, which is looked at line by line, so what was live before a turn stands in the one and its most in
 the other. Without --programs both are built here, without their proof, which takes some minutes.
+
+With --made one program is enough, and only calls are told that make objects and free none: of these the most that was live in a
+turn is what is live behind it, which the report tells.
 """
 import os
 import subprocess
@@ -20,6 +23,7 @@ from copies import TOP, copy_to, files_below, places
 from report import AT_BOOT, KEPT_BACK
 
 CLOSE = ("close", "dup2", "exec", "exit", "kill")  # these may use what is kept back
+ONLY_MAKE = ("fork", "mmap", "store", "pipe", "socket", "socketpair", "accept")
 TURNS = ("done", "part", "sleep", "ended", "gone")
 RANDOM = range(1, 1001)
 
@@ -102,9 +106,9 @@ def line_apart(one, other, turn):
 
 
 def turns_of(name, report, metered):
-    """Each turn of a run, by the reports of both programs."""
+    """Each turn of a run, by the reports of both programs; by that of one where `metered` is None."""
     calls, held, charged = {}, {}, AT_BOOT
-    lines, others = report.splitlines()[:-1], metered.splitlines()[:-1]
+    lines, others = report.splitlines()[:-1], (metered or report).splitlines()[:-1]
     if len(lines) != len(others):
         sys.exit(f"bound_use: the reports of {name} differ in length")
     for one, other in zip(lines, others):
@@ -118,7 +122,9 @@ def turns_of(name, report, metered):
             held[pid] = calls[pid][1]
         elif word in (*TURNS, "abandon"):
             held.pop(pid, None)
-        if word in TURNS and word != "gone":
+        if metered is None:
+            most = charged - KEPT_BACK - sum(held.values())
+        if word in TURNS and word != "gone" and (metered is not None or calls[pid][0] in ONLY_MAKE):
             yield Turn(*calls[pid], most - live, f"{name}, event {words[0]}")
 
 
@@ -129,7 +135,9 @@ def run(program, script):
 def uses_of(programs, name, script):
     """The turns of a script; none where it is at fault."""
     report = run(programs[0], script)
-    return list(turns_of(name, report, run(programs[1], script))) if report.rpartition("\nend ")[1] else []
+    if "\nend " not in report:
+        return []
+    return list(turns_of(name, report, programs[1] and run(programs[1], script)))
 
 
 def scripts_of(kres, folders):
@@ -161,8 +169,11 @@ def table(uses):
 
 
 def main(words):
-    named = words[1:3] if words[:1] == ["--programs"] else None
-    folders = words[3:] if named else words
+    how, folders, named = words[0] if words else None, words, None
+    if how == "--programs":
+        named, folders = words[1:3], words[3:]
+    elif how == "--made":
+        named, folders = [words[1], None], words[2:]
     uses = {}
     with tempfile.TemporaryDirectory() as folder:
         programs = named or build_both(folder)
