@@ -154,7 +154,7 @@ def scripts_of(kres, folders):
 def row(call, use):
     most, nearest = use.most, use.nearest
     kept = KEPT_BACK if call in CLOSE else 0
-    reached = f"{use.reached} times: {nearest.place}" if use.reached else f"no; {nearest.unused()} left: {nearest.place}"
+    reached = f"{use.reached} times, first in {nearest.place}" if use.reached else f"no; {nearest.unused()} left in {nearest.place}"
     return f"| `{call}` | {use.turns} | {most.used} | {most.bound} | {kept} | {reached} |"
 
 
@@ -165,7 +165,8 @@ def table(uses):
     yield "|---|---|---|---|---|---|"
     yield from (row(call, use) for call, use in some.items())
     rest = sorted(set(uses) - set(some))
-    yield f"\nwithout a bound, and nothing used in {sum(uses[it].turns for it in rest)} turns: {', '.join(rest)}"
+    if rest:
+        yield f"\nwithout a bound, and nothing used in {sum(uses[it].turns for it in rest)} turns: {', '.join(rest)}"
 
 
 def main(words):
