@@ -128,6 +128,26 @@ map_within (pos zero) = lit≤ tt
 map_within (pos (suc n)) = grows ((suc n + 4095) / 4096)
 map_within (negsuc n) = lit≤ tt
 
+-- ---- numbers
+
+at_least : {a b : ℕ} → a ≡ b → b ≤ a
+at_least same = omega (arith, same)
+
+and_more : {a b : ℕ} (more : ℕ) → a ≡ b → a ≤ b + more
+and_more more same = omega (arith, same)
+
+and_both : {a b : ℕ} (more other : ℕ) → a ≡ b → a ≤ b + more + other
+and_both more other same = omega (arith, same)
+
+between : (live at used risen after high : ℕ) → live ≡ at → used ≡ at → risen ≡ used → risen ≤ after → high ≡ after → live ≤ high
+between live at used risen after high a b c d e = omega arith
+
+below : (live at used risen after high cost bound slack : ℕ) → live ≡ at → used ≡ at → risen ≡ used → after ≤ max risen (used + cost) → high ≡ after → cost ≤ bound → high ≤ live + bound + slack
+below live at used risen after high cost bound slack a b c d e f = omega arith
+
+fits : (live at used heap cost bound : ℕ) → live ≡ at → used ≡ at → cost ≤ bound → live + bound + reserve ≤ heap → used + cost ≤ heap
+fits live at used heap cost bound a b c d = omega arith
+
 -- ---- of a store that stands for a world
 
 module _ (now : Stage) (world : World) (is : world ≡ world_in now) where
@@ -184,12 +204,47 @@ module _ (now : Stage) (world : World) (is : world ≡ world_in now) where
       → (is_alive world.plain.table pid ≡ true → which ≡ call_of (maps heap) world.plain pid) → price (call_at now) ≡ price which
   price_so heap pid which lives calls = ap price (next_so heap pid lives ∙ sym (calls lives))
 
--- a refused call changes nothing of what is in use
-pub as_much : (now : Stage) → live_in (stage_refused now) ≡ live_in now
-as_much Begun = refl
-as_much Mapped = refl
-as_much Refused = refl
-as_much Over = refl
+  -- a mark by which nothing was made
+  pub still : (used risen high : ℕ) → used ≡ live_in now → risen ≡ used → high ≡ risen → high ≡ live_of world
+  still used risen high taken rests marks = marks ∙ rests ∙ taken ∙ sym live_so
+
+  pub still_since : (used risen high : ℕ) → used ≡ live_in now → risen ≡ used → high ≡ risen → live_of world ≤ high
+  still_since used risen high taken rests marks = at_least (still used risen high taken rests marks)
+
+  pub still_within : (used risen high more : ℕ) → used ≡ live_in now → risen ≡ used → high ≡ risen → high ≤ live_of world + more
+  still_within used risen high more taken rests marks = and_more more (still used risen high taken rests marks)
+
+  pub still_high : (used risen high : ℕ) → used ≡ live_in now → risen ≡ used → high ≡ risen → high ≤ live_of world
+  still_high used risen high taken rests marks = at_least (sym (still used risen high taken rests marks))
+
+  pub still_turn : (used risen high bound slack : ℕ) → used ≡ live_in now → risen ≡ used → high ≡ risen → high ≤ live_of world + bound + slack
+  still_turn used risen high bound slack taken rests marks = and_both bound slack (still used risen high taken rests marks)
+
+  -- a turn that is paid
+  pub turned_since : (used risen after high : ℕ) → used ≡ live_in now → risen ≡ used → risen ≤ after → high ≡ after → live_of world ≤ high
+  turned_since used risen after high taken rests rises marks = let live : live_of world ≡ live_in now = live_so in
+    between (live_of world) (live_in now) used risen after high live taken rests rises marks
+
+  pub turned_within : (used risen after high cost bound slack : ℕ) → used ≡ live_in now → risen ≡ used → after ≤ max risen (used + cost) → high ≡ after → cost ≤ bound
+      → high ≤ live_of world + bound + slack
+  turned_within used risen after high cost bound slack taken rests paid marks within = let live : live_of world ≡ live_in now = live_so in
+    below (live_of world) (live_in now) used risen after high cost bound slack live taken rests paid marks within
+
+  -- the heap has room for the price
+  pub room_so : (used heap cost bound : ℕ) → used ≡ live_in now → cost ≤ bound → live_of world + bound + reserve ≤ heap → used + cost ≤ heap
+  room_so used heap cost bound taken within room = let live : live_of world ≡ live_in now = live_so in
+    fits (live_of world) (live_in now) used heap cost bound live taken within room
+
+-- a turn by which nothing was made keeps to every price
+pub keeps_still : (used risen high cost : ℕ) → risen ≡ used → high ≡ risen → high ≤ used + cost
+keeps_still used risen high cost rests marks = omega arith
+
+pub same_within : {a b c : ℕ} → a ≡ b → c ≡ b → a ≤ c
+same_within one other = omega (arith, one, other)
+
+-- a turn keeps to its price
+pub keeps_to_price : (used risen after high cost : ℕ) → risen ≡ used → after ≤ max risen (used + cost) → high ≡ after → high ≤ used + cost
+keeps_to_price used risen after high cost rests paid marks = omega arith
 
 -- the script is one that a text says
 pub maps_valid : (heap : ℕ) → 8192 ≤ heap → heap ≤ 8388608 → IsValid (maps heap)

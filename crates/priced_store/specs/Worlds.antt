@@ -1,5 +1,5 @@
 -- The script of the process, and the worlds that it comes to.
-use Rattle.std.specs.Prelude.{ℕ, pos, Bool, true, false, [], ◌∷◌, replicate, None, Option, Some, codes}
+use Rattle.std.specs.Prelude.{ℕ, pos, Bool, true, false, List, [], ◌∷◌, replicate, None, Option, Some, codes}
 use Rattle.kabi_types.specs.declared.calls.Call.{Call}
 use Rattle.kabi_types.specs.declared.calls.Call.TheVariants as call
 use Rattle.kabi_types.specs.declared.calls.CallKind.TheVariants as kind
@@ -7,6 +7,7 @@ use Rattle.kabi_types.specs.declared.scripts.Chooser.TheVariants.{Plain}
 use Rattle.kabi_types.specs.declared.scripts.Operand.TheVariants.{Number}
 use Rattle.kabi_types.specs.declared.scripts.Policy.TheVariants.{Heaviest}
 use Rattle.kabi_types.specs.declared.scripts.Script.{Script}
+use Rattle.kabi_types.specs.declared.scripts.Statement.{Statement}
 use Rattle.kabi_types.specs.declared.scripts.Statement.TheVariants.{Invoke}
 use Rattle.kabi_types.specs.declared.replies.Reply.TheVariants.{Val}
 use Rattle.posix_defs.specs.declared.turner.Turned.{Turned}
@@ -19,7 +20,11 @@ use Rattle.posix_defs.specs.World.{World, boot_kept}
 use Rattle.priced_store.specs.declared.stages.Stage.{Stage}
 use Rattle.priced_store.specs.declared.stages.Stage.TheVariants.{Begun, Mapped, Refused, Over}
 
--- `mmap 270336`, which is 66 pages, and the end, on so much heap
+-- `mmap 270336`, which is 66 pages
+abbrev pub body : List Statement
+body = Invoke kind.Mmap (Number (pos 270336) ∷ []) [] None None ∷ []
+
+-- this, and the end, on so much heap
 abbrev pub maps : ℕ → Script
 maps heap = record {
   heap = heap;
@@ -27,7 +32,7 @@ maps heap = record {
   steps = 1000;
   policy = Heaviest;
   chooser = Plain;
-  programs = record { name = codes "init"; body = Invoke kind.Mmap (Number (pos 270336) ∷ []) [] None None ∷ [] } ∷ [];
+  programs = record { name = codes "init"; body = body } ∷ [];
 }
 
 -- the process lives

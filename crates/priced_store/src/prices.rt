@@ -1,6 +1,7 @@
 //! The price list.
-ghost use Rattle.std.specs.Prelude.{◌≡◌, ◌<◌, ◌≤◌, ◌^◌};
+ghost use Rattle.std.specs.Prelude.{◌≡◌, ◌*◌, ◌<◌, ◌≤◌, ◌^◌};
 ghost use Rattle.kabi_types.specs.Arguments.{count_of};
+ghost use Rattle.kabi_types.specs.declared.calls.Call.TheVariants.{Mmap};
 ghost use Rattle.posix_defs.specs.Needs.{bound};
 ghost use Rattle.priced_store.specs.Prices.{groups_of, price};
 
@@ -30,6 +31,14 @@ fn groups_of(length: i64) -> u64
     }
 }
 
+/// What the groups of a mapping of so many bytes take, in bytes.
+fn mapping(length: i64) -> u64
+    ensures value { result ≡ 512 * groups_of length }
+    ensures within { result ≤ bound (Mmap length) }
+{
+    GROUP * groups_of(length)
+}
+
 /// What a call may take of this store's heap, in bytes: `mmap` the groups that its pages lie in, every other call nothing. The core
 /// reserves as much at least.
 pub fn price(call: &Call) -> u64
@@ -37,7 +46,7 @@ pub fn price(call: &Call) -> u64
     ensures within { result ≤ bound call.now }
 {
     match call {
-        Call::Mmap { length } => GROUP * groups_of(*length),
+        Call::Mmap { length } => mapping(*length),
         _ => 0,
     }
 }

@@ -2,7 +2,7 @@
 ghost use Rattle.std.specs.Prelude.{◌≡◌, ◌≤◌, IfOk, string_bytes};
 ghost use Rattle.priced_store.specs.declared.store.Maps.{Maps};
 ghost use Rattle.priced_store.specs.Standing.{Stands, high_of, marks_of};
-ghost use Rattle.priced_store.specs.Worlds.{maps};
+ghost use Rattle.priced_store.specs.Worlds.{body, maps};
 ghost use Rattle.run_report.specs.Reports.{IsReport};
 
 use crate::store::Maps;
@@ -15,7 +15,9 @@ use run_report::{Reported, run_core};
 use std::alloc::Global;
 
 /// The one statement of the program: 66 pages are mapped.
-fn body(alloc: Global) -> Result<Statements, Memory> {
+fn body(alloc: Global) -> Result<Statements, Memory>
+    ensures { IfOk result (λ said. said ≡ body) }
+{
     let mut body = Vec::new(alloc);
     body.push(Statement::Invoke {
         kind: CallKind::Mmap,
