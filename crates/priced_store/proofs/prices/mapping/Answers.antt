@@ -1,0 +1,8 @@
+use Rattle.std.proofs.Common.{◌*◌, ◌≤◌, subst, sym}
+use Rattle.kabi_types.specs.declared.calls.Call.TheVariants as call
+use Rattle.posix_defs.specs.Needs.{bound}
+use Rattle.priced_store.proofs.MapsSteps.{map_within}
+use Rattle.priced_store.proofs.prices.mapping.Goals as goal
+
+pub returns-clause-within : goal.returns-clause-within
+returns-clause-within c = subst (λ n. 512 * n ≤ bound (call.Mmap c.args.length)) (sym c.groups_of.ensures.value) (map_within c.args.length)
