@@ -1,5 +1,5 @@
 -- Bits of two words of 64.
-use Rattle.std.proofs.Common.{◌≡◌, ◌≢◌, ℕ, ◌*◌, ◌^◌, ◌-◌, ◌%◌, ◌<◌, ap, sym, inl, inr, ◌⊎◌, ◌∙◌, arith, w64}
+use Rattle.std.proofs.Common.{◌≡◌, ◌≢◌, ℕ, ◌*◌, ◌^◌, ◌%◌, ◌<◌, ap, sym, inl, inr, ◌⊎◌, ◌∙◌, arith, w64}
 use Rattle.std.specs.Prelude.{bit_and}
 use Rattle.std.specs.Int.{bit_at, bit_not, trailing_zeros}
 use Rattle.std.proofs.lemmas.Bool.{cases_eq}

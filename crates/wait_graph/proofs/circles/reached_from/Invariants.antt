@@ -1,5 +1,3 @@
-use Rattle.std.proofs.Common.{◌≡◌, ℕ, ◌<◌, get_or}
-use Rattle.std.specs.Int.{bit_at}
 use Rattle.wait_graph.proofs.Walks.{IsFollowed}
 use Rattle.wait_graph.proofs.circles.reached_from.Given as goal
 
