@@ -19,7 +19,6 @@ use Rattle.posix_defs.specs.Process.{is_alive}
 use Rattle.posix_defs.specs.Relief.{refused_in}
 use Rattle.posix_defs.specs.Sizes.{reserve}
 use Rattle.posix_defs.specs.Turn.{Answers, TurnsTo, TurnsWhere}
-use Rattle.posix_defs.specs.ValidScript.{IsValid}
 use Rattle.posix_defs.specs.Victim.{victim_of}
 use Rattle.posix_defs.specs.World.{MayKeep, World, boot_kept, boot_world, can_evict, live_of}
 use Rattle.priced_store.specs.declared.stages.Stage.{Stage}
@@ -245,27 +244,3 @@ same_within one other = omega (arith, one, other)
 -- a turn keeps to its price
 pub keeps_to_price : (used risen after high cost : ℕ) → risen ≡ used → after ≤ max risen (used + cost) → high ≡ after → high ≤ used + cost
 keeps_to_price used risen after high cost rests paid marks = omega arith
-
--- the script is one that a text says
-pub maps_valid : (heap : ℕ) → 8192 ≤ heap → heap ≤ 8388608 → IsValid (maps heap)
-maps_valid heap least most = record {
-  least_heap = least;
-  most_heap = most;
-  least_disk = lit≤ tt;
-  most_disk = lit≤ tt;
-  least_steps = lit≤ tt;
-  most_steps = lit≤ tt;
-  chooser = tt;
-  most_programs = lit≤ tt;
-  programs = (record { name = refl; short = lit≤ tt; body = body }, tt);
-  apart = apart;
-  init = record { at = 0; program = _; is_there = refl; is_named = refl };
-}
-  where
-    body : (at : ℕ) → _
-    body zero = (((refl, refl), tt), record { values_are = refl; texts_are = refl }, tt)
-    body (suc n) = tt
-    apart : (a b : ℕ) → _ → _
-    apart zero zero less = cc
-    apart zero (suc b) less = tt
-    apart (suc a) b less = tt
