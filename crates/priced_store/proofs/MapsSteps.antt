@@ -1,7 +1,8 @@
 -- What the process does, by how far it has come.
 use Rattle.std.proofs.Common.{◌≡◌, ℕ, zero, suc, ◌+◌, ◌*◌, ◌/◌, ◌==◌, ◌&&◌, ◌≤◌, min, max, pos, negsuc, ℤ, ap, ◌∙◌, Bool, true, false, not, lit≤, refl, sym, subst, arith}
+use native.Mathlib.Numerals.{unary_clauses}
 use Rattle.std.proofs.lemmas.Bool.{eqb-true, false_from_ne_true}
-use Rattle.std.specs.Prelude.{Option, None}
+use Rattle.std.specs.Prelude.{Option, None, IfSome, slice_get}
 use Rattle.kabi_types.specs.declared.calls.Call.{Call}
 use Rattle.kabi_types.specs.declared.calls.Call.TheVariants as call
 use Rattle.kabi_types.specs.declared.entries.Cached.{Cached}
@@ -19,12 +20,13 @@ use Rattle.posix_defs.specs.Process.{is_alive}
 use Rattle.posix_defs.specs.Relief.{refused_in}
 use Rattle.posix_defs.specs.Sizes.{reserve}
 use Rattle.posix_defs.specs.Turn.{Answers, TurnsTo, TurnsWhere}
+use Rattle.posix_defs.specs.ValidScript.{AreApart, IsStatement, IsValid}
 use Rattle.posix_defs.specs.Victim.{victim_of}
 use Rattle.posix_defs.specs.World.{MayKeep, World, boot_kept, boot_world, can_evict, live_of}
 use Rattle.priced_store.specs.declared.stages.Stage.{Stage}
 use Rattle.priced_store.specs.declared.stages.Stage.TheVariants.{Begun, Mapped, Refused, Over}
 use Rattle.priced_store.specs.Prices.{groups_of, price}
-use Rattle.priced_store.specs.Worlds.{call_at, lives_at, live_in, maps, stage_after, stage_refused, told_at, world_in}
+use Rattle.priced_store.specs.Worlds.{body, call_at, lives_at, live_in, maps, stage_after, stage_refused, told_at, world_in}
 
 -- the root's node may be kept
 may_keep : (now : Stage) → MayKeep (world_in now).plain boot_kept
@@ -124,7 +126,7 @@ grows pages = omega arith
 pub map_within : (length : ℤ) → 512 * groups_of length ≤ bound (call.Mmap length)
 unfolding bound
 map_within (pos zero) = lit≤ tt
-map_within (pos (suc n)) = grows ((suc n + 4095) / 4096)
+map_within (pos (suc n)) = simp unary_clauses (grows ((suc n + 4095) / 4096))
 map_within (negsuc n) = lit≤ tt
 
 -- ---- numbers
@@ -244,3 +246,29 @@ same_within one other = omega (arith, one, other)
 -- a turn keeps to its price
 pub keeps_to_price : (used risen after high cost : ℕ) → risen ≡ used → after ≤ max risen (used + cost) → high ≡ after → high ≤ used + cost
 keeps_to_price used risen after high cost rests paid marks = omega arith
+
+-- its one statement is right
+body_is : (at : ℕ) → IfSome (slice_get body at) (IsStatement body at)
+body_is zero = (((refl, refl), tt), record { values_are = refl; texts_are = refl }, tt)
+body_is (suc n) = tt
+
+programs_are_apart : AreApart (maps 0).programs
+programs_are_apart zero zero less = cc
+programs_are_apart zero (suc b) less = tt
+programs_are_apart (suc a) b less = tt
+
+-- the script is one that a text says
+pub maps_valid : (heap : ℕ) → 8192 ≤ heap → heap ≤ 8388608 → IsValid (maps heap)
+maps_valid heap least most = record {
+  least_heap = least;
+  most_heap = most;
+  least_disk = lit≤ tt;
+  most_disk = lit≤ tt;
+  least_steps = lit≤ tt;
+  most_steps = lit≤ tt;
+  chooser = tt;
+  most_programs = lit≤ tt;
+  programs = (record { name = refl; short = lit≤ tt; body = body_is }, tt);
+  apart = programs_are_apart;
+  init = record { at = 0; program = _; is_there = refl; is_named = refl };
+}
