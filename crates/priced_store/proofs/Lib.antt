@@ -1,1 +1,2 @@
 pub mod MapsSteps
+pub mod Telling

@@ -1,7 +1,8 @@
 -- What the process does, by how far it has come.
-use Rattle.std.proofs.Common.{◌≡◌, ℕ, zero, suc, ◌+◌, ◌*◌, ◌/◌, ◌==◌, ◌&&◌, ◌≤◌, min, max, pos, negsuc, ℤ, ap, ◌∙◌, Bool, true, false, not, lit≤, refl, sym, subst, arith}
+use Rattle.std.proofs.Common.{◌≡◌, ℕ, zero, suc, ◌+◌, ◌*◌, ◌/◌, ◌==◌, ◌&&◌, ◌<◌, ◌≤◌, min, max, pos, negsuc, ℤ, ap, ◌∙◌, Bool, true, false, not, lit≤, refl, sym, subst, arith}
 use Rattle.std.proofs.lemmas.Bool.{eqb-true, false_from_ne_true}
-use Rattle.std.specs.Prelude.{Option, None}
+use Rattle.std.specs.Prelude.{Option, None, IfSome, if◌then◌else◌, is_some, slice_get}
+use Rattle.kabi_types.specs.Arguments.{count_of, invalid_unless, is_from}
 use Rattle.kabi_types.specs.declared.calls.Call.{Call}
 use Rattle.kabi_types.specs.declared.calls.Call.TheVariants as call
 use Rattle.kabi_types.specs.declared.entries.Cached.{Cached}
@@ -13,19 +14,19 @@ use Rattle.posix_defs.specs.Files.Closing.{after_end_of}
 use Rattle.posix_defs.specs.Files.Descriptors.{none_open}
 use Rattle.posix_defs.specs.Machine.{would_block}
 use Rattle.posix_defs.specs.Memory.{lowest_free_run, no_memory, no_places}
-use Rattle.posix_defs.specs.Needs.{bound, need_of, slack}
+use Rattle.posix_defs.specs.Needs.{bound, need_of, pages_in, slack}
 use Rattle.posix_defs.specs.Plain.{call_of}
 use Rattle.posix_defs.specs.Process.{is_alive}
 use Rattle.posix_defs.specs.Relief.{refused_in}
 use Rattle.posix_defs.specs.Sizes.{reserve}
 use Rattle.posix_defs.specs.Turn.{Answers, TurnsTo, TurnsWhere}
-use Rattle.posix_defs.specs.ValidScript.{IsValid}
+use Rattle.posix_defs.specs.ValidScript.{AreApart, IsStatement, IsValid}
 use Rattle.posix_defs.specs.Victim.{victim_of}
 use Rattle.posix_defs.specs.World.{MayKeep, World, boot_kept, boot_world, can_evict, live_of}
 use Rattle.priced_store.specs.declared.stages.Stage.{Stage}
 use Rattle.priced_store.specs.declared.stages.Stage.TheVariants.{Begun, Mapped, Refused, Over}
 use Rattle.priced_store.specs.Prices.{groups_of, price}
-use Rattle.priced_store.specs.Worlds.{call_at, lives_at, live_in, maps, stage_after, stage_refused, told_at, world_in}
+use Rattle.priced_store.specs.Worlds.{body, call_at, lives_at, live_in, maps, stage_after, stage_refused, told_at, world_in}
 
 -- the root's node may be kept
 may_keep : (now : Stage) → MayKeep (world_in now).plain boot_kept
@@ -42,12 +43,32 @@ calls_at heap Mapped = refl
 calls_at heap Refused = refl
 calls_at heap Over = refl
 
--- the turn of its call
+falls : (k : ℕ) → 128 ≤ 640 + k
+falls k = omega arith
+
+falls_more : (k : ℕ) → 128 ≤ 1152 + k
+falls_more k = omega arith
+
+some_more : (n k : ℕ) → n ≤ n + k
+some_more n k = omega arith
+
+-- the turn of its call, by stages
+begins : (heap : ℕ) → Answers (maps heap) (world_in Begun) 1 (call_at Begun) (told_at Begun) (world_in Mapped)
+unfolding bound need_of lowest_free_run none_open no_memory no_places
+begins heap = record { answer = (refl, refl); account = refl; may_keep = may_keep Mapped; live = lit≤ tt; names = lit≤ tt; blocks = lit≤ tt; vnodes = lit≤ tt; reads = lit≤ tt; untouched = λ _. (refl, refl); left = λ _. tt; known = λ _. refl }
+
+ends_mapped : (heap : ℕ) → Answers (maps heap) (world_in Mapped) 1 (call_at Mapped) (told_at Mapped) (world_in Over)
+unfolding none_open no_memory no_places after_end_of
+ends_mapped heap = record { answer = (refl, refl); account = refl; may_keep = may_keep Over; live = falls_more _; names = some_more 0 _; blocks = some_more 0 _; vnodes = some_more 1 _; reads = lit≤ tt; untouched = λ _. (refl, refl); left = λ _. tt; known = λ _. refl }
+
+ends_refused : (heap : ℕ) → Answers (maps heap) (world_in Refused) 1 (call_at Refused) (told_at Refused) (world_in Over)
+unfolding none_open no_places after_end_of
+ends_refused heap = record { answer = (refl, refl); account = refl; may_keep = may_keep Over; live = falls _; names = some_more 0 _; blocks = some_more 0 _; vnodes = some_more 1 _; reads = lit≤ tt; untouched = λ _. (refl, refl); left = λ _. tt; known = λ _. refl }
+
 turns_at : (heap : ℕ) (now : Stage) → lives_at now ≡ true → Answers (maps heap) (world_in now) 1 (call_at now) (told_at now) (world_in (stage_after now))
-unfolding bound need_of lowest_free_run none_open no_memory no_places after_end_of
-turns_at heap Begun lives = record { answer = (refl, refl); account = refl; may_keep = may_keep Mapped; live = lit≤ tt; names = lit≤ tt; blocks = lit≤ tt; vnodes = lit≤ tt; reads = lit≤ tt; untouched = λ _. (refl, refl); left = λ _. tt; known = λ _. refl }
-turns_at heap Mapped lives = record { answer = (refl, refl); account = refl; may_keep = may_keep Over; live = lit≤ tt; names = lit≤ tt; blocks = lit≤ tt; vnodes = lit≤ tt; reads = lit≤ tt; untouched = λ _. (refl, refl); left = λ _. tt; known = λ _. refl }
-turns_at heap Refused lives = record { answer = (refl, refl); account = refl; may_keep = may_keep Over; live = lit≤ tt; names = lit≤ tt; blocks = lit≤ tt; vnodes = lit≤ tt; reads = lit≤ tt; untouched = λ _. (refl, refl); left = λ _. tt; known = λ _. refl }
+turns_at heap Begun lives = begins heap
+turns_at heap Mapped lives = ends_mapped heap
+turns_at heap Refused lives = ends_refused heap
 turns_at heap Over lives = cc
 
 -- it never sleeps
@@ -121,12 +142,14 @@ both false b e = cc
 grows : (pages : ℕ) → 512 * min 4 (pages / 64 + 1) ≤ 512 * min 4 ((pages + 62) / 64 + 1)
 grows pages = omega arith
 
+either : (right : Bool) (some most : ℕ) → 512 * some ≤ 512 * most → 512 * (if right then some else 0) ≤ (if is_some (invalid_unless right) then 0 else 512 * most)
+either true some most within = within
+either false some most within = lit≤ tt
+
 -- the core reserves no less for a mapping
 pub map_within : (length : ℤ) → 512 * groups_of length ≤ bound (call.Mmap length)
 unfolding bound
-map_within (pos zero) = lit≤ tt
-map_within (pos (suc n)) = grows ((suc n + 4095) / 4096)
-map_within (negsuc n) = lit≤ tt
+map_within length = either (is_from 1 length) _ _ (grows (pages_in (count_of length)))
 
 -- ---- numbers
 
@@ -246,6 +269,16 @@ same_within one other = omega (arith, one, other)
 pub keeps_to_price : (used risen after high cost : ℕ) → risen ≡ used → after ≤ max risen (used + cost) → high ≡ after → high ≤ used + cost
 keeps_to_price used risen after high cost rests paid marks = omega arith
 
+-- its one statement is right
+body_is : (at : ℕ) → IfSome (slice_get body at) (IsStatement body at)
+body_is zero = (((refl, refl), tt), record { values_are = refl; texts_are = refl }, tt)
+body_is (suc n) = tt
+
+programs_are_apart : AreApart (maps 0).programs
+programs_are_apart zero zero less = absurd (let none : 0 < 0 = less in omega arith)
+programs_are_apart zero (suc b) less = tt
+programs_are_apart (suc a) b less = tt
+
 -- the script is one that a text says
 pub maps_valid : (heap : ℕ) → 8192 ≤ heap → heap ≤ 8388608 → IsValid (maps heap)
 maps_valid heap least most = record {
@@ -257,15 +290,7 @@ maps_valid heap least most = record {
   most_steps = lit≤ tt;
   chooser = tt;
   most_programs = lit≤ tt;
-  programs = (record { name = refl; short = lit≤ tt; body = body }, tt);
-  apart = apart;
+  programs = (record { name = refl; short = lit≤ tt; body = body_is }, tt);
+  apart = programs_are_apart;
   init = record { at = 0; program = _; is_there = refl; is_named = refl };
 }
-  where
-    body : (at : ℕ) → _
-    body zero = (((refl, refl), tt), record { values_are = refl; texts_are = refl }, tt)
-    body (suc n) = tt
-    apart : (a b : ℕ) → _ → _
-    apart zero zero less = cc
-    apart zero (suc b) less = tt
-    apart (suc a) b less = tt

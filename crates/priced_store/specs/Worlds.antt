@@ -20,9 +20,9 @@ use Rattle.posix_defs.specs.World.{World, boot_kept}
 use Rattle.priced_store.specs.declared.stages.Stage.{Stage}
 use Rattle.priced_store.specs.declared.stages.Stage.TheVariants.{Begun, Mapped, Refused, Over}
 
--- `mmap 270336`, which is 66 pages
+-- `mmap 8192`, which is two pages
 abbrev pub body : List Statement
-body = Invoke kind.Mmap (Number (pos 270336) ∷ []) [] None None ∷ []
+body = Invoke kind.Mmap (Number (pos 8192) ∷ []) [] None None ∷ []
 
 -- this, and the end, on so much heap
 abbrev pub maps : ℕ → Script
@@ -42,7 +42,7 @@ lives_at _ = true
 
 -- the call that it makes next
 abbrev pub call_at : Stage → Call
-call_at Begun = call.Mmap (pos 270336)
+call_at Begun = call.Mmap (pos 8192)
 call_at _ = call.Exit (pos 0)
 
 -- what its turn tells
@@ -67,14 +67,14 @@ stage_refused Over = Over
 -- what all takes of the heap
 abbrev pub live_in : Stage → ℕ
 live_in Begun = 640
-live_in Mapped = 1664
+live_in Mapped = 1152
 live_in Refused = 640
 live_in Over = 128
 
 -- the process, if it is there still
 abbrev process_at : Stage → Option Process
 process_at Begun = Some first_process
-process_at Mapped = Some (record first_process { memory = with_pages no_memory 1 66 })
+process_at Mapped = Some (record first_process { memory = with_pages no_memory 1 2 })
 process_at Refused = Some first_process
 process_at Over = None
 
@@ -84,7 +84,7 @@ place_at Begun = 0
 place_at _ = 1
 
 abbrev frames_at : Stage → Frames
-frames_at Mapped = record { places = with_range no_places 1 66 Zero ∷ []; made = 0 }
+frames_at Mapped = record { places = with_range no_places 1 2 Zero ∷ []; made = 0 }
 frames_at _ = boot_frames
 
 -- the world in which the process has come so far

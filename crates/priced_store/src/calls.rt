@@ -11,14 +11,13 @@ use crate::stages::Stage;
 /// What a process takes, in bytes.
 const PROCESS: u64 = 512;
 
-/// `mmap` of 66 pages, from page 1 on: they lie in two groups.
+/// `mmap` of two pages, from page 1 on: they lie in one group.
 fn map(arena: &mut Arena, purse: &mut Purse)
     requires room { arena.old.used + purse.old.left ≤ arena.old.heap }
-    requires price { 1024 ≤ purse.old.left }
-    ensures used { arena.new.used ≡ arena.old.used + 1024 }
+    requires price { 512 ≤ purse.old.left }
+    ensures used { arena.new.used ≡ arena.old.used + 512 }
     ensures paid { IsPaid arena.old purse.old.left arena.new purse.new.left }
 {
-    arena.make(purse, GROUP);
     arena.make(purse, GROUP);
 }
 
@@ -32,7 +31,7 @@ pub fn run(arena: &mut Arena, purse: &mut Purse, stage: Stage)
 {
     match stage {
         Stage::Begun => map(arena, purse),
-        Stage::Mapped => arena.free(PROCESS + 2 * GROUP),
+        Stage::Mapped => arena.free(PROCESS + GROUP),
         Stage::Refused => arena.free(PROCESS),
         Stage::Over => (),
     }

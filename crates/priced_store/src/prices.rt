@@ -23,11 +23,10 @@ fn groups_of(length: i64) -> u64
     ensures value { result ≡ groups_of length }
     ensures most { result ≤ 4 }
 {
-    let bytes = count_of(length);
-    if bytes == 0 {
+    if length < 1 {
         0
     } else {
-        ((bytes + 4095) / 4096 / 64 + 1).min(4)
+        ((count_of(length) + 4095) / 4096 / 64 + 1).min(4)
     }
 }
 

@@ -14,14 +14,14 @@ use kern_core::Core;
 use run_report::{Reported, run_core};
 use std::alloc::Global;
 
-/// The one statement of the program: 66 pages are mapped.
+/// The one statement of the program: two pages are mapped.
 fn body(alloc: Global) -> Result<Statements, Memory>
     ensures { IfOk result (λ said. said ≡ body) }
 {
     let mut body = Vec::new(alloc);
     body.push(Statement::Invoke {
         kind: CallKind::Mmap,
-        operands: Operands::from_vec([Operand::Number(270336)].to_vec(alloc)?),
+        operands: Operands::from_vec([Operand::Number(8192)].to_vec(alloc)?),
         texts: Texts::from_vec(Vec::new(alloc)),
         first: None,
         second: None,

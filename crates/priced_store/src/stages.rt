@@ -34,7 +34,7 @@ impl Stage {
         ensures { result ≡ call_at self }
     {
         match self {
-            Stage::Begun => Call::Mmap { length: 270336 },
+            Stage::Begun => Call::Mmap { length: 8192 },
             Stage::Mapped | Stage::Refused | Stage::Over => Call::Exit { status: 0 },
         }
     }

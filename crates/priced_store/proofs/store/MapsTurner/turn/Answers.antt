@@ -17,7 +17,7 @@ returns-clause-turned c = λ world is. (
 )
 
 pub returns-clause-beside : goal.returns-clause-beside
-returns-clause-beside c = subst (λ n. _ ≤ c.args.self.now.arena.used + n) c.price.ensures.value
+returns-clause-beside c = subst (λ n. c.mark-2.new.self.high ≤ c.args.self.now.arena.used + n) c.price.ensures.value
     (keeps_to_price c.args.self.now.arena.used c.args.self.now.arena.risen c.run.new.arena.risen _ c.price.result c.args.self.now.rests c.run.ensures.paid.risen c.mark-2.ensures.high)
 
 pub returns-clause-since : goal.returns-clause-since
