@@ -246,17 +246,17 @@ module _ (now : Stage) (world : World) (is : world ≡ world_in now) where
   -- a turn that is paid
   pub turned_since : (used risen after high : ℕ) → used ≡ live_in now → risen ≡ used → risen ≤ after → high ≡ after → live_of world ≤ high
   turned_since used risen after high taken rests rises marks = let live : live_of world ≡ live_in now = live_so in
-    between (live_of world) (live_in now) used risen after high live taken rests rises marks
+      between (live_of world) (live_in now) used risen after high live taken rests rises marks
 
   pub turned_within : (used risen after high cost bound slack : ℕ) → used ≡ live_in now → risen ≡ used → after ≤ max risen (used + cost) → high ≡ after → cost ≤ bound
       → high ≤ live_of world + bound + slack
   turned_within used risen after high cost bound slack taken rests paid marks within = let live : live_of world ≡ live_in now = live_so in
-    below (live_of world) (live_in now) used risen after high cost bound slack live taken rests paid marks within
+      below (live_of world) (live_in now) used risen after high cost bound slack live taken rests paid marks within
 
   -- the heap has room for the price
   pub room_so : (used heap cost bound : ℕ) → used ≡ live_in now → cost ≤ bound → live_of world + bound + reserve ≤ heap → used + cost ≤ heap
   room_so used heap cost bound taken within room = let live : live_of world ≡ live_in now = live_so in
-    fits (live_of world) (live_in now) used heap cost bound live taken within room
+      fits (live_of world) (live_in now) used heap cost bound live taken within room
 
 -- a turn by which nothing was made keeps to every price
 pub keeps_still : (used risen high cost : ℕ) → risen ≡ used → high ≡ risen → high ≤ used + cost

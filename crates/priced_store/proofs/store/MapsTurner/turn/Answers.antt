@@ -37,7 +37,10 @@ run-requires-clause-price c = same_within (price_so c.args.self.now.stage c.requ
 
 pub returns-then-not-alive-clause-turned : goal.returns-then-not-alive-clause-turned
 returns-then-not-alive-clause-turned c = λ world is. (
-  world, is, gone_so c.args.self.now.stage world is c.args.self.now.arena.heap c.args.pid c.args.call.now (sym (c.alive.ensures world is) ∙ c.if-not-alive.true))
+  world,
+  is,
+  gone_so c.args.self.now.stage world is c.args.self.now.arena.heap c.args.pid c.args.call.now (sym (c.alive.ensures world is) ∙ c.if-not-alive.true),
+)
 
 pub returns-then-not-alive-clause-beside : goal.returns-then-not-alive-clause-beside
 returns-then-not-alive-clause-beside c = keeps_still c.args.self.now.arena.used c.args.self.now.arena.risen _ _ c.args.self.now.rests c.mark.ensures.high
