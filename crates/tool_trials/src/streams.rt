@@ -113,7 +113,7 @@ fn ends_at_take(
     let takes = [number];
     let trouble = Trouble {
         takes: &takes,
-        gives: 1,
+        gives_one: true,
         ..NONE
     };
     let outcome = outcome_of(rt, "sim", PID_SCRIPT, trouble)?;

@@ -1,6 +1,6 @@
 //! A call of the tool, and what comes of it.
 
-ghost use Rattle.std.specs.Prelude.{◌≡◌};
+ghost use Rattle.std.specs.Prelude.{◌≡◌, ◌≢◌};
 ghost use Rattle.kabi_types.specs.declared.scripts.Policy.TheVariants.{Heaviest, Youngest};
 ghost use Rattle.posix_defs.specs.Victim.{score_of};
 
@@ -31,13 +31,13 @@ end finished events 6 charged 2304 peak 2816 reads 0
 /// What the store that the tool hands out has in use, in bytes, and how many blocks it has read.
 pub type Left = Option<(u64, u64)>;
 
-/// Which takes of the source fail, and which puts of the sink, by their numbers from 1; and how many bytes each moves at a time at
-/// most.
+/// Which takes of the source fail, and which puts of the sink, by their numbers from 1; whether a take gives one byte alone; and how
+/// many a put takes at most.
 #[derive(Clone, Copy)]
 pub struct Trouble<'a> {
     pub takes: &'a [u64],
     pub puts: &'a [u64],
-    pub gives: usize,
+    pub gives_one: bool,
     pub holds: usize,
 }
 
@@ -45,9 +45,16 @@ pub struct Trouble<'a> {
 pub const NONE: Trouble<'static> = Trouble {
     takes: &[],
     puts: &[],
-    gives: 4096,
+    gives_one: false,
     holds: usize::MAX,
 };
+
+// How many bytes a take gives at most.
+fn most_of(gives_one: bool) -> usize
+    ensures { result ≢ 0 }
+{
+    if gives_one { 1 } else { 4096 }
+}
 
 /// What came of a call of the tool, and how often it asked its source.
 #[derive(Drop)]
@@ -82,7 +89,11 @@ pub fn outcome_with<D: Door + Sync, F: Scorer + Send + Copy, G: Scorer + Send + 
     let alloc = rt.alloc();
     let words = words_of(rt, line)?;
     let text = text.as_bytes().to_vec(alloc)?;
-    let mut source = MemSource::new(text, trouble.takes.to_vec(alloc)?, trouble.gives);
+    let mut source = MemSource::new(
+        text,
+        trouble.takes.to_vec(alloc)?,
+        most_of(trouble.gives_one),
+    );
     let mut sink = MemSink::new(alloc, ROOM, trouble.puts.to_vec(alloc)?, trouble.holds)?;
     let mut store = None;
     let status = run_tool(
