@@ -4,5 +4,6 @@ mod caches;
 mod files;
 mod given;
 mod names;
+mod numbers;
 mod processes;
 mod queues;
