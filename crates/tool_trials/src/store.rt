@@ -4,6 +4,5 @@ mod caches;
 mod files;
 mod given;
 mod names;
-mod numbers;
 mod processes;
 mod queues;
