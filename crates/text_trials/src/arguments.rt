@@ -20,7 +20,8 @@ const TOO_LONG: Option<Errno> = Some(Errno::ENAMETOOLONG);
 fn is_checked(rt: &impl Abort, kind: CallKind, call: &Call, fault: Option<Errno>) {
     assert!(rt;
         call.kind() == kind && call.checked().err() == fault,
-        "{call:?}"
+        "{}",
+        kind.word()
     );
 }
 
@@ -160,6 +161,28 @@ const TIMEOUTS: Rows = &[
     (GREATEST, 0, INVALID),
 ];
 
+/// Address of `store`, and how many of the bytes `xy` it puts there, within the address space.
+const STORES: Rows = &[
+    (0, 1, FINE),
+    (1048575, 1, FINE),
+    (1048575, 2, FAULT),
+    (1048576, 1, FAULT),
+    (-1, 1, FAULT),
+    (GREATEST, 1, FAULT),
+    (-1, 0, FINE),
+    (GREATEST, 0, FINE),
+];
+
+/// Number and place of `pwrite`, whose bytes begin nowhere: the place is looked at before them.
+const PLACED: Rows = &[
+    (0, GREATEST, FINE),
+    (1, 0, FAULT),
+    (1, -1, INVALID),
+    (0, LEAST, INVALID),
+    (32768, 0, INVALID),
+    (0, -1, INVALID),
+];
+
 /// Calls, and the operands that are checked; of a call that has only one, that one stands first.
 const TABLES: &[(CallKind, Rows)] = &[
     (CallKind::Waitpid, WAITPIDS),
@@ -169,6 +192,9 @@ const TABLES: &[(CallKind, Rows)] = &[
     (CallKind::Load, LOADS),
     (CallKind::Read, MOVES),
     (CallKind::Write, MOVES),
+    (CallKind::Pread, MOVES),
+    (CallKind::Pwrite, PLACED),
+    (CallKind::Store, STORES),
     (CallKind::Readdir, LISTED),
     (CallKind::Fcntl, COMMANDS),
     (CallKind::Ftruncate, TRUNCATED),
@@ -176,6 +202,16 @@ const TABLES: &[(CallKind, Rows)] = &[
     (CallKind::Shutdown, CHOICES),
     (CallKind::Poll, TIMEOUTS),
 ];
+
+/// So many of two bytes.
+fn stored(rt: &impl Abort, count: i64) -> Bytes64 {
+    let bytes: &[u8] = match count {
+        0 => b"",
+        1 => b"x",
+        _ => b"xy",
+    };
+    Bytes64::of(bytes).expect(rt, "at most 64 bytes")
+}
 
 /// A call of a process or its memory, with these operands.
 fn call_of(rt: &impl Abort, kind: CallKind, first: i64, second: i64) -> Call {
@@ -197,6 +233,10 @@ fn call_of(rt: &impl Abort, kind: CallKind, first: i64, second: i64) -> Call {
             addr: first,
             n: second,
         },
+        CallKind::Store => Call::Store {
+            addr: first,
+            bytes: stored(rt, second),
+        },
         CallKind::Poll => Call::Poll {
             timeout: first,
             entries: PollList::of(&[]).expect(rt, "no entry"),
@@ -215,6 +255,13 @@ fn call_on(kind: CallKind, first: i64, second: i64) -> Call {
             addr,
             n,
             done: 4294967295,
+        },
+        CallKind::Pread => Call::Pread { fd, addr, n, at: 0 },
+        CallKind::Pwrite => Call::Pwrite {
+            fd,
+            addr: -1,
+            n: first,
+            at: second,
         },
         CallKind::Readdir => Call::Readdir { fd, addr, n },
         CallKind::Fcntl => Call::Fcntl {
@@ -243,59 +290,6 @@ fn are_checked(rt: &impl Abort, kind: CallKind, rows: Rows) {
 fn two_numbers_are_checked(rt: HostRuntime) {
     for (kind, rows) in TABLES {
         are_checked(&rt, *kind, rows);
-    }
-}
-
-/// Address and bytes of `store`.
-const STORES: &[(i64, &[u8], Option<Errno>)] = &[
-    (0, b"x", FINE),
-    (1048575, b"x", FINE),
-    (1048575, b"xy", FAULT),
-    (1048576, b"x", FAULT),
-    (-1, b"x", FAULT),
-    (GREATEST, b"x", FAULT),
-    (-1, b"", FINE),
-    (GREATEST, b"", FINE),
-];
-
-#[test]
-fn store_puts_bytes_into_the_address_space(rt: HostRuntime) {
-    for (addr, bytes, fault) in STORES {
-        let call = Call::Store {
-            addr: *addr,
-            bytes: Bytes64::of(bytes).expect(&rt, "at most 64 bytes"),
-        };
-        is_checked(&rt, CallKind::Store, &call, *fault);
-    }
-}
-
-/// Address, number and place of `pread` and `pwrite`.
-const PLACED: &[(i64, i64, i64, Option<Errno>)] = &[
-    (0, 32767, 0, FINE),
-    (-1, 0, GREATEST, FINE),
-    (-1, 1, 0, FAULT),
-    (-1, 1, -1, INVALID),
-    (0, 1, LEAST, INVALID),
-    (0, 32768, 0, INVALID),
-    (0, 0, -1, INVALID),
-];
-
-#[test]
-fn pread_and_pwrite_name_a_place(rt: HostRuntime) {
-    for (addr, n, at, fault) in PLACED {
-        let (fd, addr, n, at) = (0, *addr, *n, *at);
-        is_checked(
-            &rt,
-            CallKind::Pread,
-            &Call::Pread { fd, addr, n, at },
-            *fault,
-        );
-        is_checked(
-            &rt,
-            CallKind::Pwrite,
-            &Call::Pwrite { fd, addr, n, at },
-            *fault,
-        );
     }
 }
 
@@ -442,29 +436,5 @@ const PAIRS: &[(&[u8], &[u8], Option<Errno>, Option<Errno>)] = &[
 fn of_two_paths_the_first_is_looked_at_first(rt: HostRuntime) {
     for (old, new, linked, renamed) in PAIRS {
         two_are_checked(&rt, old, new, *linked, *renamed);
-    }
-}
-
-#[test]
-fn other_calls_take_any_operand(rt: HostRuntime) {
-    let fd = LEAST;
-    let calls = [
-        Call::Getpid,
-        Call::Getppid,
-        Call::SchedYield,
-        Call::Fork,
-        Call::Exit { status: LEAST },
-        Call::Close { fd },
-        Call::Dup { fd },
-        Call::Dup2 { fd, to: LEAST },
-        Call::Fstat { fd },
-        Call::Pipe,
-        Call::Socket,
-        Call::Socketpair,
-        Call::Listen { fd },
-        Call::Accept { fd },
-    ];
-    for call in &calls {
-        is_checked(&rt, call.kind(), call, FINE);
     }
 }
