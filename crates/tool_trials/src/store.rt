@@ -1,9 +1,0 @@
-//! The store that the core runs, call by call.
-
-mod caches;
-mod files;
-mod given;
-mod names;
-mod numbers;
-mod processes;
-mod queues;
