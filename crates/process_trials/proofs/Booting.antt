@@ -15,17 +15,17 @@ use Rattle.kabi_types.specs.declared.inodes.Inode.{Inode}
 use Rattle.open_laws.specs.Open.{descriptors_by}
 use Rattle.open_laws.specs.Owned.{HasItsOwners}
 use Rattle.open_laws.proofs.GoingLemmas.{boot_open, boot_owners, open_on}
-use Rattle.place_laws.specs.Placed.{Numbers}
+use Rattle.open_laws.specs.Placed.{Numbers}
 use Rattle.posix_defs.specs.Files.Descriptors.{none_open}
 use Rattle.posix_defs.specs.Files.State.{boot_files, descriptors_of}
 use Rattle.posix_defs.specs.Tree.{Tree, is_directory, new_tree, root}
-use Rattle.proc_descs.specs.Having.{HaveOpen, places_in}
+use Rattle.proc_numbers.specs.Having.{HaveOpen, places_in}
 use Rattle.proc_files.specs.Closing.{CachesChange}
 use Rattle.proc_files.specs.Holding.{HoldFiles}
-use Rattle.holding_laws.specs.Holders.{HoldDirectories, holders}
+use Rattle.proc_files.specs.Holders.{HoldDirectories, holders}
 use Rattle.proc_files.proofs.Beside.{have_beside, listed_beside, owners_beside, same_procs}
 use Rattle.proc_files.proofs.Holding.{same_pins}
-use Rattle.proc_pipes.proofs.Booted.{boot_listed, boot_owned, boot_there}
+use Rattle.proc_numbers.proofs.Booted.{boot_listed, boot_owned, boot_there}
 use Rattle.proc_table.specs.Moves.{TableMoves}
 use Rattle.proc_table.specs.Procs.{first_proc, numbers_in, proc_of}
 use Rattle.proc_table.specs.Table.{TableView, no_table, processes, procs_at}

@@ -11,20 +11,20 @@ use Rattle.kheap_slabs.specs.declared.objects.SockState.TheVariants as state
 use Rattle.kheap_slabs.specs.Heap.{Heap}
 use Rattle.kheap_slabs.specs.Owners.{OwnsItsObjects}
 use Rattle.open_laws.specs.Owned.{HasItsOwners, socks_named}
-use Rattle.open_moves.specs.Moves.{opening}
-use Rattle.open_moves.proofs.Numbers.{each, holds_opened}
+use Rattle.store_objects.specs.OpenMoves.{opening}
+use Rattle.store_objects.proofs.Numbers.{each, holds_opened}
 use Rattle.page_space.specs.Contents.{SpaceMoves}
 use Rattle.page_space.specs.Putting.{Puts}
 use Rattle.posix_defs.specs.Needs.{chunks_for, pages_touched}
-use Rattle.proc_descs.specs.Having.{AreListed}
-use Rattle.proc_descs.specs.Naming.{ChangesNumbers}
-use Rattle.proc_descs.proofs.Listing.{found_now}
-use Rattle.proc_queues.specs.Spaces.{HasSpace}
-use Rattle.proc_queues.specs.Standing.{IsKept}
-use Rattle.proc_queues.proofs.Remembering.{kept_put, put_procs}
-use Rattle.proc_queues.proofs.RightBytes.{moved_bytes}
-use Rattle.proc_socks.proofs.Moved.{kept_changed}
-use Rattle.proc_socks.proofs.Told.{socket_there}
+use Rattle.proc_numbers.specs.Having.{AreListed}
+use Rattle.proc_numbers.specs.Naming.{ChangesNumbers}
+use Rattle.proc_numbers.proofs.Listing.{found_now}
+use Rattle.proc_numbers.specs.Spaces.{HasSpace}
+use Rattle.proc_numbers.specs.Standing.{IsKept}
+use Rattle.proc_numbers.proofs.Remembering.{kept_put, put_procs}
+use Rattle.proc_numbers.proofs.RightBytes.{moved_bytes}
+use Rattle.proc_numbers.proofs.Moved.{kept_changed}
+use Rattle.proc_numbers.proofs.Told.{socket_there}
 use Rattle.proc_table.specs.Moves.{SpaceTurns, TableMoves}
 use Rattle.proc_table.specs.Procs.{IsAlive, proc_of}
 use Rattle.proc_table.specs.Table.{AreStored, TableView, processes, procs_at}

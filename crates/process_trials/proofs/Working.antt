@@ -5,8 +5,8 @@ use Rattle.kheap_slabs.specs.Heap.{Heap}
 use Rattle.memfs_ops.specs.FileTree.{TreeView}
 use Rattle.open_laws.specs.Owned.{HasItsOwners}
 use Rattle.posix_defs.specs.Tree.{is_directory}
-use Rattle.proc_descs.specs.Having.{AreListed}
-use Rattle.proc_descs.proofs.Listing.{found_before, found_now}
+use Rattle.proc_numbers.specs.Having.{AreListed}
+use Rattle.proc_numbers.proofs.Listing.{found_before, found_now}
 use Rattle.proc_files.specs.Closing.{ChangesHolding}
 use Rattle.proc_files.specs.Holding.{HoldSome}
 use Rattle.proc_files.specs.Opening.{WorksSomewhere}

@@ -7,7 +7,7 @@ use Rattle.open_laws.specs.Owned.{HasItsOwners}
 use Rattle.page_space.specs.Contents.{IsOwnedWith}
 use Rattle.proc_table.specs.Procs.{IsAlive, proc_of}
 use Rattle.proc_table.specs.Table.{Holds, TableView, key_of, processes}
-use Rattle.proc_descs.specs.Having.{AreListed}
+use Rattle.proc_numbers.specs.Having.{AreListed}
 
 -- It runs, in a heap and a table that keep what they keep.
 pub record CanCall (h : Heap) (kept : TableView) : Type 0 where

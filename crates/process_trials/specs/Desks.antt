@@ -5,7 +5,7 @@ use Rattle.kheap_slabs.specs.Heap.{Heap}
 use Rattle.memfs_ops.specs.FileTree.{TreeView}
 use Rattle.open_laws.specs.Owned.{HasItsOwners}
 use Rattle.posix_defs.specs.Tree.{root}
-use Rattle.proc_descs.specs.Having.{AreListed}
+use Rattle.proc_numbers.specs.Having.{AreListed}
 use Rattle.proc_files.specs.Holding.{HoldSome}
 use Rattle.proc_table.specs.Procs.{proc_of}
 use Rattle.proc_table.specs.Table.{TableView, key_of, processes}

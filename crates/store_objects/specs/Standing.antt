@@ -19,7 +19,7 @@ use Rattle.posix_defs.specs.Turn.{Tells, account_after}
 use Rattle.posix_defs.specs.ValidScript.{IsValid}
 use Rattle.posix_defs.specs.World.{World, directories_of}
 use Rattle.posix_defs.specs.declared.turner.Turned.{Turned}
-use Rattle.holding_laws.specs.Holders.{AreOpenNodes, HaveNames}
+use Rattle.proc_files.specs.Holders.{AreOpenNodes, HaveNames}
 use Rattle.proc_table.specs.Accounting.{HasAccount}
 use Rattle.proc_table.specs.Procs.{proc_of}
 use Rattle.proc_table.specs.Standing.{IsTable}

@@ -8,7 +8,7 @@ ghost use Rattle.process_trials.specs.Desks.{HasDesk};
 
 use crate::file_calls::desk::{Desk, blocks, walking};
 use kabi_types::{Call, Errno, Path};
-use proc_files::{close_open, open_path, seek_number, size_number, stat_number};
+use proc_files::{close_unbound, open_path, seek_number, size_number, stat_number};
 use std::process::Abort;
 
 /// A call of the first process.
@@ -92,7 +92,7 @@ fn close(rt: &impl Abort, desk: &mut Desk, fd: u32) -> Told
 {
     assert!(rt; fd < 32);
     let mut purse = blocks(rt, &desk.heap);
-    close_open(
+    close_unbound(
         &mut desk.heap,
         &mut purse,
         &desk.procs,

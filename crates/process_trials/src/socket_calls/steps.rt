@@ -6,11 +6,9 @@ use crate::socket_calls::memory::{has, purse, store};
 use kabi_types::{Call, Errno, PollEntry, PollList, Reply};
 use kheap_slabs::{KHeap, SockState};
 use posix_defs::Turned;
-use proc_descs::{close_one, count_of, descriptor_of};
-use proc_pipes::{control, dup_one, make_pipe};
-use proc_queues::{CAPACITY, poll};
-use proc_socks::{
-    accept_number, accept_waits, is_on_socket, listen_number, make_pair, make_socket, read_socket,
+use proc_numbers::{
+    CAPACITY, accept_number, accept_waits, close_one, control, count_of, descriptor_of, dup_one,
+    is_on_socket, listen_number, make_pair, make_pipe, make_socket, poll, read_socket,
     read_socket_waits, shut_number, socket_of, write_socket, write_socket_waits,
 };
 use proc_table::ProcTable;

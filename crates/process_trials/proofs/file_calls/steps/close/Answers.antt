@@ -4,5 +4,5 @@ use Rattle.process_trials.proofs.file_calls.steps.close.Goals as goal
 
 pub returns : goal.returns
 returns g c =
-    desk_after c.args.desk.now.heap c.args.desk.now.procs c.args.desk.now.tree c.requires c.close_open.new.heap c.close_open.new.tree c.close_open.ensures.listed c.close_open.ensures.owners c.close_open.ensures.hold
-    (holding_closed c.args.desk.now.heap c.close_open.new.heap c.args.desk.now.procs 1 c.args.fd c.close_open.ensures.closes)
+    desk_after c.args.desk.now.heap c.args.desk.now.procs c.args.desk.now.tree c.requires c.close_unbound.new.heap c.close_unbound.new.tree c.close_unbound.ensures.listed c.close_unbound.ensures.owners c.close_unbound.ensures.hold
+    (holding_closed c.args.desk.now.heap c.close_unbound.new.heap c.args.desk.now.procs 1 c.args.fd c.close_unbound.ensures.closes)

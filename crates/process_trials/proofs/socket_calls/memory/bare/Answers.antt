@@ -2,7 +2,7 @@ use Rattle.std.proofs.Common.{ap, refl, subst, sym}
 use Rattle.kheap_slabs.specs.Heap.{Heap}
 use Rattle.kheap_slabs.specs.Owners.{IsOwned}
 use Rattle.kheap_laws.proofs.OwnerLemmas.{empty_heap-owned}
-use Rattle.proc_pipes.proofs.Booted.{boot_listed, boot_owned, boot_there}
+use Rattle.proc_numbers.proofs.Booted.{boot_listed, boot_owned, boot_there}
 use Rattle.proc_table.specs.Procs.{first_proc, proc_of}
 use Rattle.process_trials.proofs.socket_calls.memory.bare.Goals as goal
 

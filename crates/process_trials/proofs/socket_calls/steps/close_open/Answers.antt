@@ -1,4 +1,4 @@
-use Rattle.proc_pipes.proofs.Changes.{changes_closed}
+use Rattle.proc_numbers.proofs.Changes.{changes_closed}
 use Rattle.process_trials.proofs.Calls.{called_changed}
 use Rattle.process_trials.proofs.socket_calls.steps.close_open.Goals as goal
 

@@ -1,5 +1,5 @@
 use Rattle.std.proofs.Common.{[]}
-use Rattle.proc_socks.proofs.Told.{socket_there}
+use Rattle.proc_numbers.proofs.Told.{socket_there}
 use Rattle.usock_core.proofs.NamedLemmas.{only_listens}
 use Rattle.process_trials.proofs.Calls.{called_sockets, listens}
 use Rattle.process_trials.proofs.socket_calls.steps.connect_to.Goals as goal

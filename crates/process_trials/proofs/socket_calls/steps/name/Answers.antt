@@ -1,5 +1,5 @@
 use Rattle.std.proofs.Common.{[]}
-use Rattle.proc_socks.proofs.Told.{socket_there}
+use Rattle.proc_numbers.proofs.Told.{socket_there}
 use Rattle.process_trials.proofs.Calls.{called_sockets}
 use Rattle.process_trials.proofs.socket_calls.steps.name.Goals as goal
 
