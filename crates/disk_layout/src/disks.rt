@@ -1,10 +1,10 @@
 //! A disk in memory that counts its reads.
 
-ghost use Rattle.std.specs.Prelude.{◌≡◌, ℕ, ◌+◌, ◌-◌, ◌<◌, ◌≤◌, ◌++◌, ◌∷◌, [], min, length, slice_get, slice_set, slice_index, Some, IfOk};
+ghost use Rattle.std.specs.Prelude.{◌≡◌, ◌≢◌, ℕ, ◌+◌, ◌-◌, ◌<◌, ◌≤◌, ◌++◌, ◌∷◌, [], min, length, slice_get, slice_set, slice_index, Some, IfOk};
 ghost use Rattle.disk_layout.specs.Disk.{IsRead};
 ghost use Rattle.posix_defs.specs.DiskFormat.{table_end};
-ghost use Rattle.posix_defs.specs.SoundDisk.{Sound};
-ghost use Rattle.disk_layout.specs.Vacant.{NoneFreeIn};
+ghost use Rattle.posix_defs.specs.SoundDisk.{bit_of, Sound};
+ghost use Rattle.disk_layout.specs.Vacant.{HasNoneFree, NoneFreeIn};
 ghost use Rattle.posix_defs.specs.DiskContents.{zeros, first_marked, new_root, entry_for, new_entries, IsDirectoryOf, IsFormatted};
 ghost use Rattle.posix_defs.specs.Tree.{new_tree};
 ghost use Rattle.posix_defs.specs.DiskTree.{StandsFor};
@@ -35,12 +35,13 @@ pub struct RamDisk {
 impl Model for RamDisk {
     ghost use Rattle.std.specs.Prelude.{length, ◌++◌, ◌+◌, ◌≤◌};
     ghost use Rattle.disk_layout.specs.Disk.{Disk};
+    ghost use Rattle.disk_layout.specs.Vacant.{IsNoted};
 
     ghost Value = { Disk };
 
     ghost view = { λ disk. record { blocks = disk.table ++ disk.contents; reads = disk.reads } };
 
-    ghost invariant = { λ disk. length disk.table + length disk.contents ≤ 4096 };
+    ghost invariant = { λ disk. (length disk.table + length disk.contents ≤ 4096) × IsNoted disk.full disk.table disk.contents };
 }
 
 impl RamDisk {
@@ -150,6 +151,9 @@ impl Blocks for RamDisk {
 
 /// Notes of a block whether it is one of the table that has no free node.
 fn note_free(full: &mut [u8; 32], number: u32, bytes: &[u8; 1024])
+    requires { number ≤ 256 }
+    ensures this { (index : ℕ) → index + 1 ≡ number → bit_of full.new index ≡ 1 → HasNoneFree bytes.now }
+    ensures others { (index : ℕ) → index + 1 ≢ number → bit_of full.new index ≡ bit_of full.old index }
 {
     if number == 0 {
         return;

@@ -2,6 +2,7 @@
 //! read the same way.
 
 ghost use Rattle.std.specs.Prelude.{◌≡◌, ◌≢◌, ℕ, ◌+◌, ◌*◌, ◌<◌, ◌≤◌, ◌↔◌, IsTrue, length, slice_index};
+ghost use Rattle.posix_defs.specs.DiskFormat.{block_size};
 ghost use Rattle.posix_defs.specs.SoundDisk.{bit_of};
 
 /// Whether a map has a block as in use.
@@ -36,7 +37,8 @@ pub fn unmark(map: &mut [u8], number: u32)
 ///
 /// Where 64 blocks in a row are in use, or 8, they are passed over at once.
 pub fn next_free(map: &[u8], from: u32, blocks: u32) -> u32
-    requires few { blocks ≤ 8 * length map.now }
+    requires there { blocks ≤ 8 * length map.now }
+    requires few { blocks ≤ 8 * block_size }
     requires within { from ≤ blocks }
     ensures within { (from ≤ result) × (result ≤ blocks) }
     ensures passed { (block : ℕ) → from ≤ block → block < result → bit_of map.now block ≡ 1 }
