@@ -1,11 +1,12 @@
 //! A new node under a new name of a directory.
 
-ghost use Rattle.std.specs.Prelude.{◌≡◌, true};
-ghost use Rattle.posix_defs.specs.DiskFormat.{IsName};
+ghost use Rattle.std.specs.Prelude.{◌≡◌, ◌≤◌, true, length};
+ghost use Rattle.posix_defs.specs.DiskFormat.{IsName, table_end};
 ghost use Rattle.posix_defs.specs.SoundDisk.{HasNode, Sound};
 ghost use Rattle.posix_defs.specs.DiskTree.{StandsFor};
 ghost use Rattle.posix_defs.specs.Tree.{Tree, is_directory};
 ghost use Rattle.posix_defs.specs.TreeChanges.{make};
+ghost use Rattle.disk_layout.specs.Vacant.{NoneFreeIn};
 ghost use Rattle.blk_map.specs.Named.{TakesLowest};
 ghost use Rattle.memfs_dir.specs.Listed.{IsDirectory};
 ghost use Rattle.memfs_node.specs.NodeOnDisk.{AnswersAs, HasParent, KeepsOthers, content_of};
