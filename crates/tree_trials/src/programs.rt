@@ -117,23 +117,23 @@ fn check_lines(rt: &impl Abort, world: &mut World, script: &Script)
 /// The path of an exec, and its answer; how often the disk was read then; and how many names, nodes and blocks are cached.
 type Start = (&'static str, Answer, u64, (u64, u64, u64));
 
-// A new file cost four reads, and its first bytes two. All that an exec asks for is cached then. What it found it keeps.
+// A new file cost two reads, and its first bytes two. All that an exec asks for is cached then. What it found it keeps.
 const CACHED: &[Start] = &[
-    ("/p", Answer::Number(1), 6, (1, 2, 4)),
-    ("p", Answer::Number(1), 6, (1, 2, 4)),
-    ("/", Answer::Fault(Errno::EACCES), 6, (1, 2, 4)),
-    ("/d", Answer::Fault(Errno::EACCES), 6, (2, 3, 4)),
-    ("/s", Answer::Fault(Errno::EACCES), 6, (3, 4, 4)),
-    ("/x", Answer::Fault(Errno::ENOENT), 6, (3, 4, 4)),
-    ("/p/", Answer::Fault(Errno::ENOTDIR), 6, (3, 4, 4)),
-    ("/p/x", Answer::Fault(Errno::ENOTDIR), 6, (3, 4, 4)),
+    ("/p", Answer::Number(1), 4, (1, 2, 4)),
+    ("p", Answer::Number(1), 4, (1, 2, 4)),
+    ("/", Answer::Fault(Errno::EACCES), 4, (1, 2, 4)),
+    ("/d", Answer::Fault(Errno::EACCES), 4, (2, 3, 4)),
+    ("/s", Answer::Fault(Errno::EACCES), 4, (3, 4, 4)),
+    ("/x", Answer::Fault(Errno::ENOENT), 4, (3, 4, 4)),
+    ("/p/", Answer::Fault(Errno::ENOTDIR), 4, (3, 4, 4)),
+    ("/p/x", Answer::Fault(Errno::ENOTDIR), 4, (3, 4, 4)),
 ];
 
 // All went that may go. The entries of the root are read, the table, and the block of the file, for which the purse gives up
 // those entries.
 const ANEW_READ: &[Start] = &[
-    ("/p", Answer::Number(1), 9, (1, 2, 2)),
-    ("/p", Answer::Number(1), 9, (1, 2, 2)),
+    ("/p", Answer::Number(1), 7, (1, 2, 2)),
+    ("/p", Answer::Number(1), 7, (1, 2, 2)),
 ];
 
 const MADE: &[(Step, Answer)] = &[

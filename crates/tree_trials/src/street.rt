@@ -71,7 +71,15 @@ fn make_in(rt: &impl Abort, disk: &mut RamDisk, parent: u32, letter: u8)
     let Some(name) = Name27::of(&letters) else {
         unreachable!()
     };
-    let _made = make_named(disk, parent, &mut dir, name, NewNode::Directory { parent });
+    let full = disk.full_blocks();
+    let _made = make_named(
+        disk,
+        parent,
+        &mut dir,
+        name,
+        NewNode::Directory { parent },
+        full,
+    );
 }
 
 // The node of a directory, and the letter of the next one in it.
