@@ -87,6 +87,13 @@ all_told script known to plain out before pid told = elim (below_or_not (pid % 6
   | inr behind ↦ both told (ap (λ found. is_there found pid) (slice_get_past known (pid % 64) (let past : length known ≤ pid % 64 = omega (arith, out, behind) in past)))
 ]
 
+-- of whom something is known has a place
+pub told_within : (known : List (Option ℕ)) (pid : ℕ) → is_told known pid ≡ true → pid % 64 < length known
+told_within known pid told = elim (below_or_not (pid % 64) (length known)) [
+  | inl within ↦ within
+  | inr past ↦ both told (ap (λ found. is_there found pid) (slice_get_past known (pid % 64) past))
+]
+
 -- ---- a turn that passes by
 
 -- nothing more is known, and nothing of this process
