@@ -9,8 +9,6 @@ mod file_calls;
 #[cfg(test)]
 mod heaps;
 #[cfg(test)]
-mod pipe_numbers;
-#[cfg(test)]
 mod pipes;
 #[cfg(test)]
 mod processes;

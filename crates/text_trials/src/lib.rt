@@ -1,17 +1,17 @@
-//! Values and calls, prices, victims, scripts that are read, told their faults, printed and gone through, generated scripts, lines of
-//! reports, and the streams that they go through, by hand. Tests alone.
+//! Values and the argument check, what is left of a write, victims, the streams that texts go through, and a line of a report, by hand.
+//! Tests alone.
 #![tactic(auto)]
 
 #[cfg(test)]
+mod arguments;
+#[cfg(test)]
 mod blocks;
 #[cfg(test)]
-mod generated;
+mod checking;
 #[cfg(test)]
 mod lines;
 #[cfg(test)]
 mod prices;
-#[cfg(test)]
-mod scripts;
 #[cfg(test)]
 mod streams;
 #[cfg(test)]

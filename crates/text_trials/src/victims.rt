@@ -6,6 +6,7 @@ ghost use Rattle.kabi_types.specs.declared.scripts.Policy.TheVariants.{Heaviest,
 ghost use Rattle.posix_defs.specs.Victim.{score_of};
 ghost use Rattle.victim_core.specs.Victims.{IsInRange};
 
+use crate::checking::check;
 use kabi_types::{Policy, Weight};
 use std::alloc::{AllocError, Global};
 use std::cell::Cell;
@@ -16,32 +17,35 @@ use victim_core::{Score, Scorer};
 // A pid with its frames, nodes and descriptors.
 type Row = (u32, u32, u32, u32);
 
-// Weights with the victims by weight and by age.
-const ROWS: &[(&[Row], Option<u32>, Option<u32>)] = &[
-    (&[], None, None),
-    (&[(1, 9, 1, 0)], None, None),
-    (&[(2, 0, 0, 0)], Some(2), Some(2)),
-    (&[(1, 200, 4, 100), (2, 0, 0, 0)], Some(2), Some(2)),
+// Weights with the victims by weight and by age, and how many others than the first process there are.
+const ROWS: &[(&[Row], Option<u32>, Option<u32>, u32)] = &[
+    (&[], None, None, 0),
+    (&[(1, 9, 1, 0)], None, None, 0),
+    (&[(2, 0, 0, 0)], Some(2), Some(2), 1),
+    (&[(1, 200, 4, 100), (2, 0, 0, 0)], Some(2), Some(2), 1),
     // two sleepers of 5248 each
     (
         &[(1, 0, 0, 2), (2, 1, 1, 2), (3, 1, 1, 2)],
         Some(3),
         Some(3),
+        2,
     ),
-    (&[(3, 1, 1, 2), (2, 1, 1, 2)], Some(3), Some(3)),
+    (&[(3, 1, 1, 2), (2, 1, 1, 2)], Some(3), Some(3), 2),
     (
         &[(1, 0, 0, 2), (2, 2, 1, 0), (3, 1, 1, 2), (4, 0, 0, 0)],
         Some(2),
         Some(4),
+        3,
     ),
     // a frame weighs what 8 nodes or 64 descriptors do
-    (&[(2, 1, 0, 0), (3, 0, 4, 31)], Some(2), Some(3)),
-    (&[(2, 1, 0, 0), (3, 0, 4, 32)], Some(3), Some(3)),
-    (&[(3, 1, 0, 0), (2, 0, 4, 32)], Some(3), Some(3)),
+    (&[(2, 1, 0, 0), (3, 0, 4, 31)], Some(2), Some(3), 2),
+    (&[(2, 1, 0, 0), (3, 0, 4, 32)], Some(3), Some(3), 2),
+    (&[(3, 1, 0, 0), (2, 0, 4, 32)], Some(3), Some(3), 2),
     (
         &[(4294967295, 0, 0, 0), (4294967294, 256, 4, 128)],
         Some(4294967294),
         Some(4294967295),
+        2,
     ),
 ];
 
@@ -83,22 +87,6 @@ fn chosen<F: Scorer, G: Scorer>(
     Score::new(heaviest, youngest).choose(policy, weights)
 }
 
-// The victim by the two closures that the kernel uses.
-fn victim(policy: Policy, weights: &[Weight]) -> Option<u32>
-    requires { All IsInRange weights.now }
-{
-    chosen(
-        |w: Weight| -> u64
-            ensures { result ≡ score_of Heaviest w }
-        { 512 + 4096 * u64::from(w.frames) + 512 * u64::from(w.nodes) + 64 * u64::from(w.descs) },
-        |w: Weight| -> u64
-            ensures { result ≡ score_of Youngest w }
-        { u64::from(w.pid) },
-        policy,
-        weights,
-    )
-}
-
 // The victim by closures that compute the same numbers another way, and count how often they are asked.
 fn victim_counted(asked: &Cell<u32>, policy: Policy, weights: &[Weight]) -> Option<u32>
     requires { All IsInRange weights.now }
@@ -122,61 +110,25 @@ fn victim_counted(asked: &Cell<u32>, policy: Policy, weights: &[Weight]) -> Opti
     )
 }
 
+// Whether the victims of a row are these, each closure having been asked for each process but the first.
+fn are_victims(weights: &[Weight], by_weight: Option<u32>, by_age: Option<u32>, others: u32) -> bool
+    requires { All IsInRange weights.now }
+{
+    let asked = Cell::new(0);
+    let heaviest = victim_counted(&asked, Policy::Heaviest, weights);
+    let once = asked.get() == others;
+    let youngest = victim_counted(&asked, Policy::Youngest, weights);
+    let twice = asked.get() == others.wrapping_add(others);
+    heaviest == by_weight && youngest == by_age && once && twice
+}
+
 #[test]
 fn victims_by_both_scores(rt: HostRuntime) -> Result<(), Fail> {
-    for (k, (rows, by_weight, by_age)) in ROWS.iter().enumerate() {
+    for (place, (rows, by_weight, by_age, others)) in ROWS.iter().enumerate() {
         let weights = weights_of(&rt, rt.alloc(), rows)?;
-        let heaviest = victim(Policy::Heaviest, weights.as_slice());
-        let youngest = victim(Policy::Youngest, weights.as_slice());
-        assert!(rt; heaviest == *by_weight && youngest == *by_age, "row {k}");
-    }
-    Ok(())
-}
-
-#[test]
-fn the_stored_closures_are_asked(rt: HostRuntime) -> Result<(), Fail> {
-    for (k, (rows, by_weight, by_age)) in ROWS.iter().enumerate() {
-        let weights = weights_of(&rt, rt.alloc(), rows)?;
-        let others = rows.iter().filter(|row| row.0 != 1).count();
-        let asked = Cell::new(0);
-        let heaviest = victim_counted(&asked, Policy::Heaviest, weights.as_slice());
-        assert!(rt;
-            heaviest == *by_weight && asked.get() as usize == others,
-            "row {k}"
-        );
-        let youngest = victim_counted(&asked, Policy::Youngest, weights.as_slice());
-        assert!(rt;
-            youngest == *by_age && asked.get() as usize == others + others,
-            "row {k}"
-        );
-    }
-    Ok(())
-}
-
-// 63 processes of one frame each, but one of two.
-fn crowd(rt: &impl Abort, alloc: Global, heavy: u32) -> Result<Vec<Weight>, AllocError>
-    ensures { IfOk result (λ weights. All IsInRange weights.items) }
-{
-    let mut weights = Vec::new(alloc);
-    for pid in 2..65 {
-        let frames = if pid == heavy { 2 } else { 1 };
-        weights.push(weight_of(rt, &(pid, frames, 1, 0)))?;
-    }
-    Ok(weights)
-}
-
-#[test]
-fn the_greatest_of_63(rt: HostRuntime) -> Result<(), Fail> {
-    for heavy in [2, 3, 33, 63, 64] {
-        let weights = crowd(&rt, rt.alloc(), heavy)?;
-        assert!(rt;
-            victim(Policy::Heaviest, weights.as_slice()) == Some(heavy),
-            "{heavy}"
-        );
-        assert!(rt;
-            victim(Policy::Youngest, weights.as_slice()) == Some(64),
-            "{heavy}"
-        );
+        let right = are_victims(weights.as_slice(), *by_weight, *by_age, *others);
+        drop(weights);
+        check(&rt, place, right);
     }
     Ok(())
 }

@@ -1,6 +1,6 @@
 //! How many workers there are, by what a door is told of them; and that they end where no step is left.
 
-use crate::runs::{NONE, check, outcome_at};
+use crate::tool::{NONE, check, outcome_at};
 use crossbeam_utils::Backoff;
 use kres_tool::Status;
 use std::sync::atomic::{AtomicBool, AtomicU8, AtomicU32, Ordering};
@@ -73,7 +73,7 @@ fn three_workers_meet_at_the_door(rt: HostRuntime) -> Result<(), Fail> {
         came: AtomicU8::new(0),
         waited_in_vain: AtomicBool::new(false),
     };
-    let outcome = outcome_at(&rt, "threads 3", THREE.as_bytes(), NONE, &meeting)?;
+    let outcome = outcome_at(&rt, "threads 3", THREE, NONE, &meeting)?;
     check(&rt, outcome.status == Status::Spent, "spent");
     check(&rt, meeting.came.load(Ordering::SeqCst) == ALL, "who came");
     check(&rt, !meeting.waited_in_vain.load(Ordering::SeqCst), "met");
@@ -94,7 +94,7 @@ const RUNS: u32 = 20;
 fn a_call_is_given_back_where_no_step_is_left_to_free_heap(rt: HostRuntime) -> Result<(), Fail> {
     for words in ["threads 1", "threads 2", "threads 4"] {
         for _ in 0..RUNS {
-            let outcome = outcome_at(&rt, words, SLEEPERS.as_bytes(), NONE, &OpenDoor)?;
+            let outcome = outcome_at(&rt, words, SLEEPERS, NONE, &OpenDoor)?;
             let slept = words != "threads 1" && outcome.status == Status::AllAsleep;
             check(&rt, slept || outcome.status == Status::Spent, words);
         }

@@ -1,5 +1,5 @@
-//! Stores of scripts turn by turn, with the heap's bytes at each step, and the tool's answers to words, scripts and streams, by hand.
-//! Tests alone.
+//! The tool over streams that fail, over allocations that are refused, by workers that a door holds and by groups at once. Tests alone;
+//! what it writes where nothing fails is in the rows that the built program is run on.
 #![tactic(auto)]
 
 #[cfg(test)]
@@ -7,22 +7,8 @@ mod crews;
 #[cfg(test)]
 mod groups;
 #[cfg(test)]
-mod histories;
+mod refused;
 #[cfg(test)]
-mod hostile;
+mod streams;
 #[cfg(test)]
-mod names;
-#[cfg(test)]
-mod pipes;
-#[cfg(test)]
-mod printing;
-#[cfg(test)]
-mod processes;
-#[cfg(test)]
-mod runs;
-#[cfg(test)]
-mod shell;
-#[cfg(test)]
-mod store;
-#[cfg(test)]
-mod words;
+mod tool;

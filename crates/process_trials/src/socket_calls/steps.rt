@@ -6,7 +6,8 @@ use crate::socket_calls::memory::{has, purse, store};
 use kabi_types::{Call, Errno, PollEntry, PollList, Reply};
 use kheap_slabs::{KHeap, SockState};
 use posix_defs::Turned;
-use proc_pipes::{close_number, control, dup_one, make_pipe};
+use proc_descs::{close_one, count_of, descriptor_of};
+use proc_pipes::{control, dup_one, make_pipe};
 use proc_queues::{CAPACITY, poll};
 use proc_socks::{
     accept_number, accept_waits, is_on_socket, listen_number, make_pair, make_socket, read_socket,
@@ -83,11 +84,10 @@ fn pair_of(answer: Result<(u32, u32), Errno>) -> Told {
 }
 
 // No node is told of, since none is open.
-fn closed(answer: Result<Option<u32>, Errno>) -> Told {
-    match answer {
-        Ok(None) => Told::Value(0),
-        Ok(Some(_)) => Told::Other,
-        Err(errno) => Told::Fault(errno),
+fn closed(node: Option<u32>) -> Told {
+    match node {
+        None => Told::Value(0),
+        Some(_) => Told::Other,
     }
 }
 
@@ -255,11 +255,23 @@ fn pipe(rt: &impl Abort, heap: &mut KHeap, table: &ProcTable) -> Told
     pair_of(make_pipe(heap, &mut pay, table, 1))
 }
 
-fn close(heap: &mut KHeap, table: &ProcTable, fd: i64) -> Told
+fn close(rt: &impl Abort, heap: &mut KHeap, table: &ProcTable, fd: i64) -> Told
     requires { CanCall heap.old table.now }
     ensures { CanCall heap.new table.now }
 {
-    closed(close_number(heap, table, 1, fd))
+    if descriptor_of(heap, table, 1, fd).is_none() {
+        return Told::Fault(Errno::EBADF);
+    }
+    close_open(rt, heap, table, count_of(fd))
+}
+
+// A close of a number that is open.
+fn close_open(rt: &impl Abort, heap: &mut KHeap, table: &ProcTable, fd: u64) -> Told
+    requires { CanCall heap.old table.now }
+    ensures { CanCall heap.new table.now }
+{
+    assert!(rt; fd < 32);
+    closed(close_one(heap, table, 1, fd as u32))
 }
 
 fn dup(heap: &mut KHeap, table: &ProcTable, fd: i64) -> Told
@@ -305,7 +317,7 @@ pub(crate) fn take(
         Step::Socket => socket(rt, heap, table),
         Step::Pair => pair(rt, heap, table),
         Step::Pipe => pipe(rt, heap, table),
-        Step::Close(fd) => close(heap, table, fd),
+        Step::Close(fd) => close(rt, heap, table, fd),
         Step::Dup(fd) => dup(heap, table, fd),
         Step::Flags(fd, flags) => set_flags(heap, table, fd, flags),
         Step::Name(fd) => name(heap, table, fd),
