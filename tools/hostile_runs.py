@@ -1,12 +1,13 @@
 #!/usr/bin/env python3
-"""Runs scripts before a judge: tools/hostile_runs.py [-r] [-w W,W..] [-s STAGE] KRES JUDGE SEED COUNT [CALLS..]
+"""Runs scripts before a judge: tools/hostile_runs.py [-r] [-m] [-w W,W..] [-s STAGE] KRES JUDGE SEED COUNT [CALLS..]
 
 Runs the built program KRES on COUNT of the scripts of tools/hostile_scripts.py, from SEED on, or with -r on those of
 tools/random_scripts.py, by `sim` and each fourth by `threads 3` too, and looks at what came of each: the status is the one of
 the report's end line, or 1 with the line of a fault; and JUDGE SCRIPT REPORT, a program that knows the machine by itself,
 prints `legal`. With -w each script is run by `threads W` for each W, and by `sim` only where one of them is 0; -s STAGE goes
 before the judge's words. Tells each that isn't right with its number, how the runs ended, and what the calls were answered,
-and ends with 1 where one isn't right. JOBS runs stand side by side, 2 without it.
+and ends with 1 where one isn't right. With -m each of these is made smaller, as ./shrink does, while it still isn't right, and
+written. JOBS runs stand side by side, 2 without it.
 """
 import collections
 import os
@@ -19,6 +20,9 @@ from concurrent.futures import ThreadPoolExecutor
 import hostile_scripts
 import random_scripts
 import reply_counts
+from script import BadScript
+from shrinking import Shrinker
+from trials import Source
 
 SIDE_BY_SIDE = int(os.environ.get("JOBS", "2"))
 LONGEST = 120  # seconds of a run, and of its judgement
@@ -70,13 +74,31 @@ class Runner:
             os.remove(f"{name}.{kind}")
         return how, why, reply_counts.counts_of(report)
 
+    def is_wrong(self, number, words, text):
+        """Whether a script's run still isn't right."""
+        name = f"{self.folder}/{number}.{'.'.join(words)}.smaller"
+        with open(f"{name}.kres", "wb") as file:
+            file.write(text)
+        try:
+            return self.judged(name, words)[1] is not None
+        except subprocess.TimeoutExpired:
+            return False
+
+    def smaller(self, number, words):
+        """The smaller script whose run isn't right either; what is no script stays as it is."""
+        text = self.script(number, self.calls)
+        try:
+            return Shrinker(Source(text), lambda it: self.is_wrong(number, words, it.text)).shrink().text
+        except BadScript:
+            return text
+
     def runs_of(self, number):
         ways = self.ways or [["sim"]] + [["threads", "3"]] * (number % 4 == 1)
         return [(number, words, *self.run(number, words)) for words in ways]
 
 
-def run_all(runner, numbers):
-    """Runs the scripts of these numbers, tells of each that isn't right, and counts."""
+def run_all(runner, numbers, is_shrunk=False):
+    """Runs the scripts of these numbers, tells of each that isn't right, with a smaller one if that is wanted, and counts."""
     ends, replies, wrong = collections.Counter(), collections.Counter(), 0
     with ThreadPoolExecutor(SIDE_BY_SIDE) as pool:
         for number, way, how, why, counts in (it for runs in pool.map(runner.runs_of, numbers) for it in runs):
@@ -85,35 +107,50 @@ def run_all(runner, numbers):
             if why is not None:
                 wrong += 1
                 print(f"{number} {' '.join(way)}: {why}", flush=True)
+                if is_shrunk:
+                    print(runner.smaller(number, way).decode(errors="replace"), flush=True)
     return ends, replies, wrong
 
 
-def options_of(words):
-    """What the first words ask for: how scripts are made, by which words they are run, what the judge is told first; and the rest."""
-    make, ways, told = hostile_scripts.script, [], []
-    while words and words[0] in ("-r", "-w", "-s"):
-        if words[0] == "-r":
-            make, words = random_scripts.script, words[1:]
-            continue
+class Asked:
+    """What the first words ask for: how scripts are made, by which words they are run, what the judge is told first."""
+
+    def __init__(self):
+        self.make, self.ways, self.told, self.is_shrunk = hostile_scripts.script, [], [], False
+
+    def take(self, words):
+        """Takes the first word, with its value where it has one: how many words that were."""
         value = words[1] if len(words) > 1 else ""
         if words[0] == "-s":
-            told = ["-s", value]
+            self.told = ["-s", value]
+        elif words[0] == "-w":
+            self.ways = [["threads", it] if it != "0" else ["sim"] for it in value.split(",")]
+        elif words[0] == "-r":
+            self.make = random_scripts.script
         else:
-            ways = [["threads", it] if it != "0" else ["sim"] for it in value.split(",")]
-        words = words[2:]
-    return make, ways, told, words
+            self.is_shrunk = True
+        return 2 if words[0] in ("-s", "-w") else 1
+
+
+def options_of(words):
+    """What the first words ask for, and the rest."""
+    asked = Asked()
+    while words and words[0] in ("-r", "-m", "-w", "-s"):
+        words = words[asked.take(words):]
+    return asked, words
 
 
 def main(words):
-    make, ways, told, words = options_of(words)
-    if len(words) < 4 or not all(it.isdigit() for it in words[2:4] + [way[-1] for way in ways if way[1:]]):
+    asked, words = options_of(words)
+    if len(words) < 4 or not all(it.isdigit() for it in words[2:4] + [way[-1] for way in asked.ways if way[1:]]):
         print(__doc__.split("\n")[0])
         return 2
     seed, count = int(words[2]), int(words[3])
     calls = random_scripts.calls_of(words[4:] or ["all"])
     with tempfile.TemporaryDirectory() as folder:
-        runner = Runner(os.path.abspath(words[0]), [os.path.abspath(words[1]), *told], make, calls, ways, folder)
-        ends, replies, wrong = run_all(runner, range(seed, seed + count))
+        judge = [os.path.abspath(words[1]), *asked.told]
+        runner = Runner(os.path.abspath(words[0]), judge, asked.make, calls, asked.ways, folder)
+        ends, replies, wrong = run_all(runner, range(seed, seed + count), asked.is_shrunk)
     print("\n".join(reply_counts.lines_of(replies)))
     print(", ".join(f"{how} {n}" for how, n in sorted(ends.items())), f"of which wrong {wrong}")
     return 1 if wrong else 0

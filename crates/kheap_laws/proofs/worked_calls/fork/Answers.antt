@@ -25,7 +25,7 @@ share-requires-2-clause-zero c = rw (c.share.ensures.node _ c.begin-key.ensures.
 pub returns-clause-paid : goal.returns-clause-paid
 returns-clause-paid c =
     IsPaid-trans _ _ _ _ _ _ c.begin-key.ensures.paid
-      (IsPaid-nothing _ _ _ _ (TakesNothing-trans _ _ _ c.share.ensures.takes c.share-2.ensures.takes) refl refl)
+    (IsPaid-nothing _ _ _ _ (TakesNothing-trans _ _ _ c.share.ensures.takes c.share-2.ensures.takes) refl refl)
 
 pub returns-clause-node : goal.returns-clause-node
 returns-clause-node c = c.share-2.ensures.node _ (c.share.ensures.node _ c.begin-key.ensures.node)

@@ -46,4 +46,4 @@ returns-clause-account c =
 pub returns-clause-paid : goal.returns-clause-paid
 returns-clause-paid c =
     IsPaid-trans _ _ _ _ _ _ c.make_page-key.ensures.paid
-      (IsPaid-nothing _ _ _ _ (TakesNothing-trans _ _ _ c.set_entry.ensures.takes c.drop_entry.ensures.takes) refl refl)
+    (IsPaid-nothing _ _ _ _ (TakesNothing-trans _ _ _ c.set_entry.ensures.takes c.drop_entry.ensures.takes) refl refl)

@@ -1,0 +1,2 @@
+pub mod MapsSteps
+pub mod Telling

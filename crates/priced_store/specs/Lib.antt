@@ -1,0 +1,4 @@
+pub mod Paying
+pub mod Prices
+pub mod Standing
+pub mod Worlds

@@ -1,0 +1,5 @@
+pub mod Machines
+pub mod Fitting
+pub mod Choosing
+pub mod Stepping
+pub mod Runs

@@ -1,0 +1,8 @@
+//! Who waits for whom among at most 64, and whether a chain of waits is closed.
+#![tactic(auto)]
+
+mod circles;
+#[cfg(test)]
+mod tests;
+
+pub use circles::circle;
