@@ -62,13 +62,13 @@ kinds_joint last next place order more one =
       | within low high ↦
           here joined [] place (is_within joined place low (omega arith)) ∙ sym (here last (next ∷ []) place (is_within last place low high))
       | behind high ↦ elim (where_is next place) [
-          | before less ↦ absurd (omega arith)
-          | within from to ↦
-              here joined [] place (is_within joined place (omega arith) to) ∙ ap (λ k. Some k) kind
-              ∙ sym (past last (next ∷ []) place (is_behind last place high) ∙ here next [] place (is_within next place from to))
-          | behind beyond ↦
-              past joined [] place (is_behind joined place beyond)
-              ∙ sym (past last (next ∷ []) place (is_behind last place high) ∙ past next [] place (is_behind next place beyond))
+        | before less ↦ absurd (omega arith)
+        | within from to ↦
+            here joined [] place (is_within joined place (omega arith) to) ∙ ap (λ k. Some k) kind
+            ∙ sym (past last (next ∷ []) place (is_behind last place high) ∙ here next [] place (is_within next place from to))
+        | behind beyond ↦
+            past joined [] place (is_behind joined place beyond)
+            ∙ sym (past last (next ∷ []) place (is_behind last place high) ∙ past next [] place (is_behind next place beyond))
       ]
     ]
 

@@ -30,14 +30,14 @@ ends high range (next ∷ ranges) are merged same =
     let order : next.start ≤ next.last = are.1 in
     let from : range.last + 1 ≤ next.start = are.2 in
     elim (cases_lt (range.last + 1) next.start) [
-  | inl lt ↦
-      not_none range.kind (sym (none_below next.start high (next ∷ ranges) (range.last + 1) (are.0, are.1, omega arith, are.3, are.4) lt) ∙ same)
-  | inr le ↦
-      let kind : next.kind ≡ range.kind = same_kind next.kind range.kind
+      | inl lt ↦
+          not_none range.kind (sym (none_below next.start high (next ∷ ranges) (range.last + 1) (are.0, are.1, omega arith, are.3, are.4) lt) ∙ same)
+      | inr le ↦
+          let kind : next.kind ≡ range.kind = same_kind next.kind range.kind
           (sym (here next ranges (range.last + 1) (is_within next (range.last + 1) le (omega arith))) ∙ same) in
-      both_ways (are_one range next) merged.0
-      (and_from (eqb range.kind next.kind) (eqb (range.last + 1) next.start) (eq-eqb range.kind next.kind (sym kind)) (eq-eqb (range.last + 1) next.start (omega arith)))
-]
+          both_ways (are_one range next) merged.0
+          (and_from (eqb range.kind next.kind) (eqb (range.last + 1) next.start) (eq-eqb range.kind next.kind (sym kind)) (eq-eqb (range.last + 1) next.start (omega arith)))
+    ]
 
 -- the first of two lists doesn't begin before that of the other
 not_earlier : (low more : ℕ) (one other : LockRange) (ones others : List LockRange) → AreBetween low more (one ∷ ones) → AreBetween low more (other ∷ others)
@@ -79,8 +79,8 @@ same_ranges low high (range ∷ ranges) (other ∷ others) are those merged join
     let order : range.start ≤ range.last = are.1 in
     let other_order : other.start ≤ other.last = those.1 in
     let kind : range.kind ≡ other.kind = same_kind range.kind other.kind
-        (sym (here range ranges range.start (is_within range range.start (omega arith) order)) ∙ same range.start
-        ∙ here other others range.start (is_within other range.start (omega arith) (omega arith))) in
+    (sym (here range ranges range.start (is_within range range.start (omega arith) order)) ∙ same range.start
+    ∙ here other others range.start (is_within other range.start (omega arith) (omega arith))) in
     let longer : other.last ≤ range.last = not_shorter low high range other ranges others are merged start kind same in
     let shorter : range.last ≤ other.last = not_shorter low high other range others ranges those joined (sym start) (sym kind) back in
     let last : range.last ≡ other.last = omega arith in

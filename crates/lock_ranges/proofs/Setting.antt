@@ -59,7 +59,7 @@ kinds_of_pieces ranges range place asked =
     let there : Option ℕ = kind_at ranges place in
     let new : Option ℕ = kind_set range in
     let parts : kind_at (pieces_of ranges range) place ≡ option_or (option_or (kind_at first place) (kind_at made place)) (kind_at last place) =
-        kind_append (first ++ made) last place ∙ ap (λ o. option_or o (kind_at last place)) (kind_append first made place) in
+    kind_append (first ++ made) last place ∙ ap (λ o. option_or o (kind_at last place)) (kind_append first made place) in
     elim (where_is range place) [
       | before low ↦
           let out = is_before range place low in

@@ -39,7 +39,7 @@ pub fn a_conflict_is_at_a_place()
     ensures { (ranges : List LockRange) (range : LockRange)
         → IsCanonical ranges → IsRequest range
         → (find (conflicts range) ranges ≡ None) ↔ ((place : ℕ) → is_inside range place ≡ true
-            → clashes_at range.kind (kind_at ranges place) ≡ false) }
+        → clashes_at range.kind (kind_at ranges place) ≡ false) }
 {}
 
 /// A call that no range of another process is in the way of leaves nothing that clashes with what that process holds, where

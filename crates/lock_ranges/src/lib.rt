@@ -12,8 +12,7 @@ mod tests;
 
 pub use held::HeldRanges;
 pub use laws::{
-    a_call_adds_at_most_two_ranges, a_call_changes_the_kind_inside_alone,
-    a_conflict_is_at_a_place, kinds_determine_the_ranges, ranges_stay_canonical,
-    ranges_stay_compatible,
+    a_call_adds_at_most_two_ranges, a_call_changes_the_kind_inside_alone, a_conflict_is_at_a_place,
+    kinds_determine_the_ranges, ranges_stay_canonical, ranges_stay_compatible,
 };
 pub use range::{F_RDLCK, F_UNLCK, F_WRLCK, GREATEST_PLACE, LockRange};

@@ -8,7 +8,11 @@ use crate::range::{F_UNLCK, LockRange};
 use std::alloc::{AllocError, Global};
 
 /// The ranges that are held after a call on one range. Where the host has no memory for them nothing is told.
-pub(crate) fn ranges_after(alloc: Global, held: &[LockRange], range: &LockRange) -> Result<Vec<LockRange>, AllocError>
+pub(crate) fn ranges_after(
+    alloc: Global,
+    held: &[LockRange],
+    range: &LockRange,
+) -> Result<Vec<LockRange>, AllocError>
     requires { range.now.last < 2 ^ 63 }
     ensures { IfOk result (λ ranges. ranges.items ≡ set_range held.now range.now) }
 {
@@ -65,7 +69,11 @@ fn push_joined(ranges: &mut Vec<LockRange>, next: LockRange) -> Result<(), Alloc
 }
 
 /// Adds what a call on a range leaves before it of all that is held.
-fn push_before(ranges: &mut Vec<LockRange>, range: &LockRange, held: &[LockRange]) -> Result<(), AllocError>
+fn push_before(
+    ranges: &mut Vec<LockRange>,
+    range: &LockRange,
+    held: &[LockRange],
+) -> Result<(), AllocError>
     ensures { OnOk result (ranges.new.items ≡ fold with_next ranges.old.items (filter_map (left_before range.now) held.now)) }
 {
     for lock in held {
@@ -77,7 +85,11 @@ fn push_before(ranges: &mut Vec<LockRange>, range: &LockRange, held: &[LockRange
 }
 
 /// Adds what a call on a range leaves behind it of all that is held.
-fn push_behind(ranges: &mut Vec<LockRange>, range: &LockRange, held: &[LockRange]) -> Result<(), AllocError>
+fn push_behind(
+    ranges: &mut Vec<LockRange>,
+    range: &LockRange,
+    held: &[LockRange],
+) -> Result<(), AllocError>
     requires { range.now.last < 2 ^ 63 }
     ensures { OnOk result (ranges.new.items ≡ fold with_next ranges.old.items (filter_map (left_behind range.now) held.now)) }
 {

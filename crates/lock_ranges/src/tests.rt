@@ -7,8 +7,11 @@ use std::test::Fail;
 type Part = (u32, u64, u64);
 
 const R: u32 = F_RDLCK;
+
 const W: u32 = F_WRLCK;
+
 const U: u32 = F_UNLCK;
+
 const END: u64 = GREATEST_PLACE;
 
 // Calls, one after another, and the ranges that are held then.
