@@ -1,12 +1,15 @@
 -- A free node that is made a new one.
-use Rattle.std.proofs.Common.{◌≡◌, ◌≢◌, ℕ, ◌<◌, ◌≤◌, List, [], map, refl, ap, ◌∙◌, arith}
+use Rattle.std.proofs.Common.{◌≡◌, ◌≢◌, ℕ, ◌*◌, ◌<◌, ◌≤◌, Bool, false, List, [], length, get_or, map, replicate, refl, ap, subst, ◌∙◌, arith}
+use Rattle.std.specs.Prelude.{nat_lt}
+use Rattle.std.proofs.lemmas.Bool.{le-ltb}
 use Rattle.std.specs.List.{range_with_len}
 use Rattle.kabi_types.specs.declared.inodes.Inode.{Inode}
-use Rattle.posix_defs.specs.DiskFormat.{IsOfKind}
+use Rattle.posix_defs.specs.DiskFormat.{IsOfKind, IsPointer}
 use Rattle.posix_defs.specs.SoundDisk.{HasInode, IsFreeNode}
-use Rattle.posix_defs.specs.DiskContents.{byte_at, node_bytes}
+use Rattle.posix_defs.specs.DiskContents.{byte_at, node_bytes, blank_inode}
 use Rattle.posix_defs.specs.Tree.{kind_of}
 use Rattle.disk_laws.proofs.FormattedDisk.{one_inode}
+use Rattle.disk_layout.proofs.WordBytes.{all_zeros}
 use Rattle.blk_map.proofs.AndBack.{changes_follow}
 use Rattle.memfs_node.specs.declared.making.NewNode.{NewNode}
 use Rattle.memfs_node.specs.declared.making.NewNode.TheVariants as kinds
@@ -43,6 +46,22 @@ new_kind (kinds.Directory parent) = (omega arith, omega arith)
 new_kind kinds.SocketName = (omega arith, omega arith)
 
 -- ---- what a free node has
+
+-- an inode of such fields is the blank one
+blank_is : (inode : Inode) → inode.kind ≡ 0 → inode.nlink ≡ 0 → inode.size ≡ 0 → inode.direct ≡ replicate 10 0 → inode.indirect ≡ 0 → inode ≡ blank_inode
+blank_is inode kind nlink size direct indirect = λ i. record { kind = kind i; nlink = nlink i; size = size i; direct = direct i; indirect = indirect i }
+
+-- its inode is blank: without bytes no pointer is there
+pub blank_there : (disk : List (List ℕ)) (number : ℕ) → IsFreeNode disk number → HasInode disk number blank_inode
+blank_there disk number free =
+    let inode : Inode = free.0 in
+    let valid = free.1.valid in
+    let none = valid.kind.free free.2 in
+    let unneeded : (k : ℕ) → nat_lt (k * 1024) inode.size ≡ false = λ k. le-ltb (k * 1024) inode.size (omega (arith, none.1)) in
+    let indirect : inode.indirect ≡ 0 = subst (λ (needed : Bool). IsPointer (length disk) needed inode.indirect) (unneeded 10) valid.pointers.indirect in
+    let direct : inode.direct ≡ replicate 10 0 =
+    all_zeros inode.direct 10 valid.fits.count (λ k lt. subst (λ (needed : Bool). IsPointer (length disk) needed (get_or inode.direct k 0)) (unneeded k) (valid.pointers.direct k (omega (arith, lt, valid.fits.count)))) in
+    subst (λ (i : Inode). HasInode disk number i) (blank_is inode free.2 none.0 none.1 direct indirect) free.1
 
 pub free_inode : (disk : List (List ℕ)) (number : ℕ) (inode : Inode) → HasInode disk number inode → IsFreeNode disk number → (inode.kind ≡ 0) × (inode.size ≡ 0)
 free_inode disk number inode has free =

@@ -7,12 +7,11 @@ ghost use Rattle.blk_map.specs.Named.{TakesLowest};
 ghost use Rattle.memfs_node.specs.NodeOnDisk.{HasParent, Makes, content_of};
 ghost use Rattle.memfs_node.specs.Dots.{HasDots, PutsDots};
 
-use crate::inodes::inode_at;
 use crate::retagging::retag;
 use blk_map::grow;
 use kabi_types::{DirEntry, Inode, Name27};
 use memfs_dir::put_entry;
-use posix_defs::Blocks;
+use posix_defs::{Blocks, blank_inode};
 
 /// What a new node is to hold.
 #[derive(Clone, Copy, Debug, PartialEq, Eq)]
@@ -59,7 +58,7 @@ pub fn make_node<B: Blocks>(b: &mut B, number: u32, new: NewNode) -> Inode
     ensures lowest { TakesLowest (B.blocks b.old) (B.blocks b.new) }
     ensures follows { B.follows b.old b.new }
 {
-    let mut inode = inode_at(b, number);
+    let mut inode = blank_inode();
     retag(b, number, &mut inode, new.kind(), 1);
     let NewNode::Directory { parent } = new else {
         return inode;
