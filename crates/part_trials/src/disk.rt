@@ -1,0 +1,4 @@
+//! The disk, and nodes, files and directories on it.
+
+mod disks;
+mod nodes;

@@ -1,3 +1,0 @@
-pub mod Booting
-pub mod Working
-pub mod Calls

@@ -1,7 +1,0 @@
-use Rattle.tree_trials.specs.Trials.{holders}
-use Rattle.tree_trials.proofs.calls.list.Goals as goal
-
-pub returns-clause-directory : goal.returns-clause-directory
-returns-clause-directory g c =
-    let s = c.requires.directory in
-    (s.0, c.list_node.ensures.fetches.stands s.0 (holders c.args.world.now.held.items) s.1, s.2)
