@@ -1,11 +1,12 @@
-ghost use Rattle.std.specs.Prelude.{◌≡◌, ◌+◌, ◌<◌, ◌≤◌};
-ghost use Rattle.kheap_slabs.specs.Objects.{InUse};
+//! Objects of all ten classes in the heap.
+
+ghost use Rattle.std.specs.Prelude.{◌≡◌, ◌+◌, ◌≤◌};
 ghost use Rattle.kheap_slabs.specs.Heap.{live_bytes};
 
 use kabi_types::{Control, Inode, Name27};
 use kheap_slabs::{
-    Access, Block, Chunk, Desc, DescFlags, Descriptor, KHeap, Name, Node, Page, PageEntry, Pipe,
-    Proc, QueueParts, Sock, SockState, Target, Vnode,
+    Access, Block, Chunk, Desc, DescFlags, KHeap, Name, Node, Page, PageEntry, Pipe, Proc,
+    QueueParts, Sock, SockState, Target, Vnode,
 };
 use std::test::Fail;
 
@@ -303,173 +304,6 @@ fn a_class_fills_the_greatest_heap(rt: HostRuntime) -> Result<(), Fail> {
     let mut heap = KHeap::boot(rt.alloc(), 8388608)?;
     fill_with_descs(&mut heap);
     assert!(rt; heap.live() == 8388608 && heap.high() == 8388608 && heap.heap() == 8388608);
-    drop(heap);
-    Ok(())
-}
-
-/// Two pages come, one goes, and a mark is set: whether what went and the most bytes that were taken are right, and the
-/// page that stays.
-fn free_beside_another(heap: &mut KHeap) -> (bool, u32)
-    requires { live_bytes heap.old + 8192 ≤ heap.old.heap }
-    ensures heap { heap.new.heap ≡ heap.old.heap }
-    ensures live { live_bytes heap.new ≡ live_bytes heap.old + 4096 }
-    ensures used { InUse heap.new.pages result.1 }
-{
-    let one = heap.insert_page(page_of(1));
-    let other = heap.insert_page(page_of(2));
-    let most = heap.high();
-    let freed = heap.free_page(one);
-    heap.mark();
-    let marked = most == 8192 && heap.high() == 4096;
-    (one != other && marked && freed.bytes[4095] == 1, other)
-}
-
-/// A process comes and is set: whether it is read as it was set, and the page as it was made.
-fn set_beside_a_page(heap: &mut KHeap, page: u32) -> bool
-    requires room { live_bytes heap.old + 512 ≤ heap.old.heap }
-    requires used { InUse heap.old.pages page }
-{
-    let child = heap.insert_proc(proc_of(2));
-    heap.set_proc(child, proc_of(3));
-    heap.get_proc(child).pid == 3 && heap.get_page(page).bytes[0] == 2
-}
-
-/// A page that goes, a mark and a process that is set leave the other page as it was.
-#[test]
-fn each_call_changes_one_object(rt: HostRuntime) -> Result<(), Fail> {
-    let mut heap = KHeap::boot(rt.alloc(), 8192)?;
-    let (goes, other) = free_beside_another(&mut heap);
-    let stays = set_beside_a_page(&mut heap, other);
-    assert!(rt; goes && stays && heap.high() == 4608);
-    drop(heap);
-    Ok(())
-}
-
-/// A page that is written at its front, in its middle and at its end, and counted.
-fn write_a_page(heap: &mut KHeap) -> u32
-    requires { live_bytes heap.old + 4096 ≤ heap.old.heap }
-    ensures { InUse heap.new.pages result }
-{
-    let key = heap.insert_page(page_of(1));
-    heap.write_page(key, 0, &[7]);
-    heap.write_page(key, 2000, &[8, 9]);
-    heap.write_page(key, 4095, &[5]);
-    heap.write_page(key, 4096, &[]);
-    heap.set_page_count(key, 3);
-    key
-}
-
-fn is_written(page: &Page) -> bool {
-    let ends = page.bytes[..2] == [7, 1] && page.bytes[4094..] == [1, 5];
-    page.count == 3 && ends && page.bytes[1999..2003] == [1, 8, 9, 1]
-}
-
-/// Bytes are written in their place, and the bytes around them stay.
-#[test]
-fn a_page_is_written_in_its_place(rt: HostRuntime) -> Result<(), Fail> {
-    let mut heap = KHeap::boot(rt.alloc(), 8192)?;
-    let key = write_a_page(&mut heap);
-    assert!(rt; is_written(heap.get_page(key)));
-    drop(heap);
-    Ok(())
-}
-
-const BEFORE: Control = Control {
-    program: 1,
-    place: 4,
-    regs: [-2; 16],
-    done: 0,
-};
-
-const AFTER: Control = Control {
-    program: 2,
-    place: 5,
-    regs: [8; 16],
-    done: 512,
-};
-
-/// A process with a descriptor and a node, that has come so far in its program.
-fn proc_with(control: Control) -> Proc {
-    let mut made = proc_of(6);
-    made.control = control;
-    made.descriptors[31] = Some(Descriptor {
-        desc: 9,
-        close_on_exec: true,
-    });
-    made.nodes[3] = Some(1);
-    made
-}
-
-/// Of two processes one comes further in its program: whether all else of it stays, and the other as it was.
-fn move_a_process(heap: &mut KHeap) -> bool
-    requires { live_bytes heap.old + 1024 ≤ heap.old.heap }
-    ensures heap { heap.new.heap ≡ heap.old.heap }
-    ensures live { live_bytes heap.new ≡ live_bytes heap.old + 1024 }
-{
-    let stays = heap.insert_proc(proc_with(BEFORE));
-    let moves = heap.insert_proc(proc_with(BEFORE));
-    heap.set_proc_control(moves, AFTER);
-    let moved = *heap.get_proc(moves) == proc_with(AFTER);
-    moved && *heap.get_proc(stays) == proc_with(BEFORE)
-}
-
-/// Of two processes one gets other nodes: whether all else of it stays, and the other as it was.
-fn renew_nodes(heap: &mut KHeap) -> bool
-    requires { live_bytes heap.old + 1024 ≤ heap.old.heap }
-    ensures heap { heap.new.heap ≡ heap.old.heap }
-    ensures live { live_bytes heap.new ≡ live_bytes heap.old + 1024 }
-{
-    let stays = heap.insert_proc(proc_with(BEFORE));
-    let changes = heap.insert_proc(proc_with(BEFORE));
-    heap.set_proc_nodes(changes, [None, Some(2), None, Some(5)]);
-    let mut expected = proc_with(BEFORE);
-    expected.nodes = [None, Some(2), None, Some(5)];
-    let changed = *heap.get_proc(changes) == expected;
-    changed && *heap.get_proc(stays) == proc_with(BEFORE)
-}
-
-/// Of two processes one gets another parent and a wait status: whether all else of it stays, and the other as it was.
-fn orphan_a_process(heap: &mut KHeap) -> bool
-    requires { live_bytes heap.old + 1024 ≤ heap.old.heap }
-    ensures heap { heap.new.heap ≡ heap.old.heap }
-    ensures live { live_bytes heap.new ≡ live_bytes heap.old + 1024 }
-{
-    let stays = heap.insert_proc(proc_with(BEFORE));
-    let changes = heap.insert_proc(proc_with(BEFORE));
-    heap.set_proc_family(changes, 4, Some(256));
-    let mut expected = proc_with(BEFORE);
-    expected.parent = 4;
-    expected.status = Some(256);
-    let changed = *heap.get_proc(changes) == expected;
-    changed && *heap.get_proc(stays) == proc_with(BEFORE)
-}
-
-/// Of two nodes one gets an entry: whether its other entries stay, and the other node as it was.
-fn map_a_page(heap: &mut KHeap, at: u32, entry: PageEntry) -> bool
-    requires room { live_bytes heap.old + 1024 ≤ heap.old.heap }
-    requires within { at < 64 }
-    ensures heap { heap.new.heap ≡ heap.old.heap }
-    ensures live { live_bytes heap.new ≡ live_bytes heap.old + 1024 }
-{
-    let stays = heap.insert_node(node_of(3));
-    let mapped = heap.insert_node(node_of(3));
-    heap.set_node_entry(mapped, at, entry);
-    let mut expected = node_of(3);
-    expected.entries[at as usize] = entry;
-    *heap.get_node(mapped) == expected && *heap.get_node(stays) == node_of(3)
-}
-
-/// A control, nodes, a family and an entry change in their place, and all beside them stays.
-#[test]
-fn a_part_of_an_object_changes_in_its_place(rt: HostRuntime) -> Result<(), Fail> {
-    let mut heap = KHeap::boot(rt.alloc(), 8192)?;
-    let moved = move_a_process(&mut heap);
-    let renewed = renew_nodes(&mut heap);
-    let orphaned = orphan_a_process(&mut heap);
-    let first = map_a_page(&mut heap, 0, PageEntry::Zero);
-    let inner = map_a_page(&mut heap, 31, PageEntry::Unmapped);
-    let last = map_a_page(&mut heap, 63, PageEntry::Frame(7));
-    assert!(rt; moved && renewed && orphaned && first && inner && last);
     drop(heap);
     Ok(())
 }
