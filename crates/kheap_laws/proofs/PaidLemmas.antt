@@ -82,6 +82,7 @@ with_count-same _ n k = refl
 
 same_or_other : (of other : Class) → (of ≡ other) ⊎ ((n : Need) (k : ℕ) → counted (with_count n of k) other ≡ counted n other)
 same_or_other class.Proc class.Proc = inl refl
+same_or_other _ class.Proc = inr (λ n k. refl)
 same_or_other _ _ = search (inl, inr)
 
 -- of one class one more is there, and one less is left

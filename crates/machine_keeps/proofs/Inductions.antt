@@ -1,5 +1,5 @@
 -- What holds of every machine that is reached: what holds at the beginning, and is kept.
-use Rattle.std.proofs.Common.{◌≡◌, ℕ, true, subst}
+use Rattle.std.proofs.Common.{◌≡◌, ℕ, Bool, true, subst}
 use Rattle.kabi_types.specs.declared.calls.Call.{Call}
 use Rattle.kabi_types.specs.declared.errnos.Errno.TheVariants.{ENOMEM}
 use Rattle.kabi_types.specs.declared.replies.Reply.TheVariants.{Fail}

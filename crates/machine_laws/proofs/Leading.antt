@@ -1,4 +1,6 @@
 -- What holds of the machine that an answer leads to.
+use Rattle.std.proofs.Common.{ℕ, Bool, true, false}
+use Rattle.kabi_types.specs.declared.calls.Call.{Call}
 use Rattle.posix_defs.specs.Answer as answer
 use Rattle.posix_defs.specs.Answer.{Answer}
 use Rattle.posix_defs.specs.Plain.{Plain}

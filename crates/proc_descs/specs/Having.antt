@@ -58,12 +58,3 @@ pub record ClosesNumber (old new : Heap) (kept : TableView) (pid fd : ℕ) : Typ
   pub there : object old.procs key ≡ Some proc
   pub procs : new.procs ≡ put old.procs key (with_numbers proc (slice_set (numbers_in old proc) fd None))
   pub beside : new ≡ record old { procs = new.procs; descs = new.descs; pipes = new.pipes; chunks = new.chunks; socks = new.socks }
-
--- Nothing is open any more of a process, in its Proc; of the other objects only Descs, Pipes, Chunks and Socks are others.
-pub record ClosesAll (old new : Heap) (kept : TableView) (pid : ℕ) : Type 0 where
-  pub key : ℕ
-  pub proc : Proc
-  pub named : key_of kept.listed pid ≡ Some key
-  pub there : object old.procs key ≡ Some proc
-  pub procs : new.procs ≡ put old.procs key (with_numbers proc no_descriptors)
-  pub beside : new ≡ record old { procs = new.procs; descs = new.descs; pipes = new.pipes; chunks = new.chunks; socks = new.socks }

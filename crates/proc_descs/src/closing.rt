@@ -1,22 +1,20 @@
 //! A process closes what it has open.
 
-ghost use Rattle.std.specs.Prelude.{◌≡◌, ◌<◌, [], IsSome, None, Some, is_none, slice_index_or};
-ghost use Rattle.std.specs.List.{list_all};
+ghost use Rattle.std.specs.Prelude.{◌≡◌, ◌<◌, [], IsSome, None, Some, slice_index_or};
 ghost use Rattle.kheap_slabs.specs.declared.objects.Proc.{Proc as HeldProc};
 ghost use Rattle.kheap_slabs.specs.Heap.{IsWellFormed};
 ghost use Rattle.kheap_slabs.specs.Paid.{TakesNothing};
 ghost use Rattle.open_laws.specs.Owned.{HasItsOwners};
 ghost use Rattle.place_laws.specs.Placed.{Numbers};
-ghost use Rattle.posix_defs.specs.Files.Closing.{after_close, after_end_of};
+ghost use Rattle.posix_defs.specs.Files.Closing.{after_close};
 ghost use Rattle.posix_defs.specs.Files.State.{Files};
 ghost use Rattle.kabi_types.specs.Arguments.{most_descriptors};
 ghost use Rattle.proc_table.specs.Procs.{numbers_in, proc_of};
 ghost use Rattle.proc_table.specs.Table.{key_of, processes};
 ghost use Rattle.proc_descs.specs.Queues.{QueuesStand};
-ghost use Rattle.proc_descs.specs.Having.{AreListed, ClosesAll, ClosesNumber, HaveOpen, OpensNoNode, node_closed};
+ghost use Rattle.proc_descs.specs.Having.{AreListed, ClosesNumber, HaveOpen, OpensNoNode, node_closed};
 
 use desc_table::drop_desc;
-use kabi_types::MOST_DESCRIPTORS;
 use kheap_slabs::{KHeap, Proc};
 use proc_table::ProcTable;
 
@@ -57,43 +55,6 @@ pub fn close_one(heap: &mut KHeap, procs: &ProcTable, pid: u32, fd: u32) -> Opti
         },
     );
     drop_desc(heap, descriptor.desc)
-}
-
-/// A process has nothing open any more: it closes all its numbers, the lowest first, as one does that ends (POSIX _exit).
-///
-/// No description is open on a node, so there is no pin to drop.
-pub fn close_all(heap: &mut KHeap, procs: &ProcTable, pid: u32)
-    requires listed { AreListed heap.old procs.now }
-    requires owners { HasItsOwners heap.old [] }
-    requires there { IsSome (key_of procs.now.listed pid) }
-    requires nodes { OpensNoNode heap.old.descs }
-    ensures closed { (numbers : Numbers) (files : Files) → HaveOpen numbers heap.old procs.now files
-        → HaveOpen numbers heap.new procs.now (after_end_of files pid) }
-    ensures nodes { OpensNoNode heap.new.descs }
-    ensures listed { AreListed heap.new procs.now }
-    ensures owners { HasItsOwners heap.new [] }
-    ensures closes { ClosesAll heap.old heap.new procs.now pid }
-    ensures queues { QueuesStand heap.old heap.new }
-    ensures takes { TakesNothing heap.old heap.new }
-{
-    is_well_formed(heap);
-    let Some(key) = procs.key_of(pid) else {
-        unreachable!();
-    };
-    // Most processes that end have nothing open.
-    if has_none_open(heap.get_proc(key)) {
-        return;
-    }
-    for fd in 0..MOST_DESCRIPTORS {
-        let _ = close_one(heap, procs, pid, fd);
-    }
-}
-
-// Whether nothing is open in a process.
-fn has_none_open(proc: &Proc) -> bool
-    ensures { result ≡ list_all is_none proc.now.descriptors }
-{
-    proc.descriptors.iter().all(Option::is_none)
 }
 
 // The heap is well formed: each row of its objects is as long as it was reserved.

@@ -5,5 +5,5 @@ mod closing;
 pub mod laws;
 mod opening;
 
-pub use closing::{close_all, close_one};
+pub use closing::close_one;
 pub use opening::{count_of, descriptor_of, mark_one, may_be_descriptor, open_one, places_of};

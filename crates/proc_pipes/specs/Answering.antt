@@ -34,11 +34,6 @@ abbrev pub zero_of : {X : Type 0} → Result X Errno → Reply
 zero_of (Ok done) = Val (pos 0)
 zero_of (Err errno) = Fail errno
 
--- the first of two, or an error
-abbrev pub first_of : {X : Type 0} → Result (ℕ × X) Errno → Reply
-first_of (Ok made) = Val (pos made.0)
-first_of (Err errno) = Fail errno
-
 -- two values, or an error
 abbrev pub pair_of : Result (ℕ × ℕ) Errno → Reply
 pair_of (Ok made) = Pair made.0 made.1

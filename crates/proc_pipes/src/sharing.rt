@@ -1,29 +1,27 @@
-//! `dup` and `dup2`.
+//! `dup`, and a number that names what another names.
 
-ghost use Rattle.std.specs.Prelude.{◌≡◌, ◌≢◌, ◌<◌, ◌≤◌, [], IfOk, IfSome, IsSome, OnErr, None, Some, false, length};
+ghost use Rattle.std.specs.Prelude.{◌≡◌, ◌<◌, ◌≤◌, [], IfSome, IsSome, OnErr, None, Some, false, length};
 ghost use Rattle.kabi_types.specs.declared.scripts.Script.{Script};
 ghost use Rattle.kheap_slabs.specs.Objects.{InUse};
 ghost use Rattle.kheap_slabs.specs.Heap.{IsWellFormed};
 ghost use Rattle.kheap_slabs.specs.Paid.{TakesNothing};
 ghost use Rattle.open_laws.specs.Owned.{HasItsOwners};
 ghost use Rattle.place_laws.specs.Placed.{Numbers};
-ghost use Rattle.posix_defs.specs.Calls.OnDescriptors.{dup, dup2, duplicated};
-ghost use Rattle.posix_defs.specs.Files.Closing.{after_close};
+ghost use Rattle.posix_defs.specs.Calls.OnDescriptors.{dup, duplicated};
 ghost use Rattle.posix_defs.specs.Files.Descriptions.{Description};
 ghost use Rattle.posix_defs.specs.Files.Descriptors.{Descriptors, lowest_free_from};
 ghost use Rattle.posix_defs.specs.Files.State.{Files, descriptors_of, with_open};
 ghost use Rattle.posix_defs.specs.Plain.{Plain};
 ghost use Rattle.kabi_types.specs.Arguments.{most_descriptors};
 ghost use Rattle.proc_table.specs.Table.{key_of};
-ghost use Rattle.proc_descs.specs.Having.{AreListed, HaveOpen, OpensNoNode, node_closed};
+ghost use Rattle.proc_descs.specs.Having.{AreListed, HaveOpen, OpensNoNode};
 ghost use Rattle.proc_descs.specs.Naming.{ChangesNumbers, named_at};
-ghost use Rattle.proc_descs.specs.Queues.{QueuesStand};
-ghost use Rattle.proc_pipes.specs.Answering.{Answers, first_of, node_replaced, value_of};
+ghost use Rattle.proc_pipes.specs.Answering.{Answers, value_of};
 
 use desc_table::{Descs, share_desc};
 use kabi_types::{Errno, MOST_DESCRIPTORS};
 use kheap_slabs::{Descriptor, KHeap};
-use proc_descs::{close_one, count_of, descriptor_of, may_be_descriptor, open_one, places_of};
+use proc_descs::{descriptor_of, open_one, places_of};
 use proc_table::ProcTable;
 
 /// The lowest number of a process that is free names the same description as another. That number.
@@ -49,82 +47,6 @@ pub fn dup_one(heap: &mut KHeap, procs: &ProcTable, pid: u32, fd: i64) -> Result
         return Err(Errno::EBADF);
     };
     share_lowest(heap, procs, pid, held.desc, 0)
-}
-
-/// A number of a process names the same description as another, and what it named before is closed. The number, and the node
-/// whose pin the caller then drops: None where no description of a node has gone. Where both are the same number nothing is
-/// changed.
-///
-/// EBADF where the other isn't open, or where a descriptor can't have the number; nothing is changed then.
-///
-/// <https://pubs.opengroup.org/onlinepubs/9699919799/functions/dup.html>
-pub fn dup_to(
-    heap: &mut KHeap,
-    procs: &ProcTable,
-    pid: u32,
-    fd: i64,
-    to: i64,
-) -> Result<(u32, Option<u32>), Errno>
-    requires listed { AreListed heap.old procs.now }
-    requires owners { HasItsOwners heap.old [] }
-    requires there { IsSome (key_of procs.now.listed pid) }
-    ensures answers { (numbers : Numbers) (script : Script) (plain : Plain) → HaveOpen numbers heap.old procs.now plain.files
-        → Answers numbers heap.new procs.now script plain pid (dup2 script plain pid fd to) (first_of result) }
-    ensures nodes { OpensNoNode heap.old.descs → OpensNoNode heap.new.descs }
-    ensures listed { AreListed heap.new procs.now }
-    ensures owners { HasItsOwners heap.new [] }
-    ensures changes { ChangesNumbers heap.old heap.new procs.now pid }
-    ensures node { IfOk result (λ made. made.1 ≡ node_replaced heap.old procs.now pid fd to) }
-    ensures unchanged { OnErr result (heap.new ≡ heap.old) }
-    ensures queues { QueuesStand heap.old heap.new }
-    ensures takes { TakesNothing heap.old heap.new }
-{
-    let Some(held) = descriptor_of(heap, procs, pid, fd) else {
-        return Err(Errno::EBADF);
-    };
-    if !may_be_descriptor(to) {
-        return Err(Errno::EBADF);
-    }
-    let from = count_of(fd) as u32;
-    let number = count_of(to) as u32;
-    if from == number {
-        return Ok((number, None));
-    }
-    let node = replace(heap, procs, pid, from, number, held);
-    Ok((number, node))
-}
-
-// A number of a process names the description of another number, and what it named before is closed. The node whose pin is to
-// be dropped.
-fn replace(
-    heap: &mut KHeap,
-    procs: &ProcTable,
-    pid: u32,
-    from: u32,
-    to: u32,
-    held: Descriptor,
-) -> Option<u32>
-    requires listed { AreListed heap.old procs.now }
-    requires owners { HasItsOwners heap.old [] }
-    requires there { IsSome (key_of procs.now.listed pid) }
-    requires names { named_at heap.old procs.now pid from ≡ Some held }
-    requires number { to < most_descriptors }
-    requires apart { from ≢ to }
-    ensures opened { (numbers : Numbers) (files : Files) → HaveOpen numbers heap.old procs.now files
-        → HaveOpen numbers heap.new procs.now
-        (with_open (after_close files pid to) pid to (Some (record { description = numbers.descs held.desc; cloexec = false }))) }
-    ensures nodes { OpensNoNode heap.old.descs → OpensNoNode heap.new.descs }
-    ensures listed { AreListed heap.new procs.now }
-    ensures owners { HasItsOwners heap.new [] }
-    ensures changes { ChangesNumbers heap.old heap.new procs.now pid }
-    ensures node { result ≡ node_closed heap.old.descs (named_at heap.old procs.now pid to) }
-    ensures queues { QueuesStand heap.old heap.new }
-    ensures takes { TakesNothing heap.old heap.new }
-{
-    is_well_formed(heap);
-    let node = close_one(heap, procs, pid, to);
-    share_at(heap, procs, pid, to, held.desc);
-    node
 }
 
 // The lowest number at or above one that is free names a description from now on that another number names. EMFILE where all

@@ -1,5 +1,6 @@
 -- Calls that end a process, the caller itself or another.
-use Rattle.std.proofs.Common.{◌≡◌, ◌≢◌, ℕ, ◌+◌, ◌≤◌, ℤ, pos, negsuc, ◌==◌, ◌&&◌, ◌||◌, not, Bool, true, false, cond, List, length, Option, None, Some, is_none, is_some, Result, Ok, Err, refl, ap, sym, ◌∙◌, subst, arith, w64}
+use Rattle.std.proofs.Common.{◌≡◌, ◌≢◌, ℕ, ◌+◌, ◌<◌, ◌≤◌, ℤ, pos, negsuc, ◌==◌, ◌&&◌, ◌||◌, not, Bool, true, false, cond, List, length, Option, None, Some, is_none, is_some, Result, Ok, Err, refl, ap, sym, ◌∙◌, subst, arith, w64}
+use Rattle.std.proofs.lemmas.Bool.Decides.{nat_tests}
 use Rattle.std.specs.Int.{cast_unsigned}
 use Rattle.std.specs.Option.{option_and_then, option_map_or}
 use Rattle.kabi_types.specs.Arguments.{argument_fault, count_of, invalid_unless, is_from, is_number}

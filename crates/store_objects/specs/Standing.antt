@@ -29,11 +29,6 @@ use Rattle.store_objects.specs.Objects.{AreKept, procs_of}
 use Rattle.store_objects.specs.Trees.{HasTree, kept_by, pins_in}
 use Rattle.store_objects.specs.Working.{AreDirectories}
 
--- A store: its script, and its objects.
-pub record StoreView : Type 0 where
-  pub script : Script
-  pub objects : Objects
-
 -- ---- the families
 
 -- The processes in the heap are the machine's, each with what it has in memory; who runs has a control that the machine's leads

@@ -88,4 +88,4 @@ pub returns-clause-cached : goal.returns-clause-cached
 returns-clause-cached c =
     let m = c.pread_file-moved in
     bytes_cached c.args.objects.now c.go_on.new.objects m.new.tree c.args.pid _ c.args.fd _ (λ (desc : Desc). count_of c.args.at) m.result c.value.result c.go_on.result
-    (to_z-of_z w64 c.args.fd c.ranges.fd) (ap (λ (z : ℤ) (desc : Desc). count_of z) (to_z-of_z w64 c.args.at c.ranges.at)) c.value.ensures c.go_on.ensures.told c.go_on.ensures.tree m.ensures.saved m.ensures.last
+    (to_z-of_z w64 c.args.fd c.ranges.fd) (ap {B = Desc → ℕ} (λ (z : ℤ) (desc : Desc). count_of z) (to_z-of_z w64 c.args.at c.ranges.at)) c.value.ensures c.go_on.ensures.told c.go_on.ensures.tree m.ensures.saved m.ensures.last

@@ -3,6 +3,7 @@ use Rattle.kheap_slabs.specs.declared.objects.PageEntry.TheVariants as entry
 use Rattle.kheap_slabs.specs.Owners.{with_space}
 use Rattle.kheap_slabs.specs.Spaces.{count_at, names_page}
 use Rattle.kheap_laws.proofs.OwnerLemmas.{first_there}
+use Rattle.kheap_laws.proofs.PaidLemmas.{IsPaid-nothing, IsPaid-trans, TakesNothing-trans}
 use Rattle.kheap_laws.proofs.worked_calls.fork.Goals as goal
 
 pub share-requires-clause-owned : goal.share-requires-clause-owned
@@ -20,6 +21,11 @@ share-requires-clause-zero c = rw c.begin-key.ensures.node refl
 
 pub share-requires-2-clause-zero : goal.share-requires-2-clause-zero
 share-requires-2-clause-zero c = rw (c.share.ensures.node _ c.begin-key.ensures.node) refl
+
+pub returns-clause-paid : goal.returns-clause-paid
+returns-clause-paid c =
+    IsPaid-trans _ _ _ _ _ _ c.begin-key.ensures.paid
+      (IsPaid-nothing _ _ _ _ (TakesNothing-trans _ _ _ c.share.ensures.takes c.share-2.ensures.takes) refl refl)
 
 pub returns-clause-node : goal.returns-clause-node
 returns-clause-node c = c.share-2.ensures.node _ (c.share.ensures.node _ c.begin-key.ensures.node)

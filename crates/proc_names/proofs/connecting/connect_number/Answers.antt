@@ -1,4 +1,4 @@
-use Rattle.std.proofs.Common.{◌≡◌, ℕ, ◌∙◌, ◌-◌, [], List, Ok, Err, Option, Result, ap, subst, sym, w64}
+use Rattle.std.proofs.Common.{◌≡◌, ℕ, ◌∙◌, ◌-◌, [], List, Ok, Err, Option, Result, ap, refl, subst, sym, w64}
 use Rattle.std.proofs.lemmas.Int.{to_z-of_z}
 use Rattle.std.specs.Prelude.{IsOk, MatchOption}
 use Rattle.kabi_types.specs.declared.errnos.Errno.{Errno}
@@ -198,9 +198,9 @@ pub returns-clause-bytes : goal.returns-clause-bytes
 returns-clause-bytes c = c.find_name.ensures.looks.on.bytes
 
 -- a socket's name is looked for under a path that leads to a node
-led_there : (tree : Tree) (led : Result ℕ Errno) (node : Option ℕ) → Ok node ≡ socket_found tree led → IsOk led
-led_there tree (Ok number) node is = tt
-led_there tree (Err errno) node is = cc
+led_there : (tree : Tree) (led : Result ℕ Errno) (found : Option ℕ) → Ok found ≡ socket_found tree led → IsOk led
+led_there tree (Ok number) found is = refl
+led_there tree (Err errno) found is = cc
 
 pub returns-clause-found : goal.returns-clause-found
 returns-clause-found c = λ plain pins directory stands works.

@@ -16,8 +16,8 @@ use Rattle.store_objects.proofs.Paying.{uses_nothing}
 use Rattle.process_calls.proofs.Striking.{IsStruck, answered_as, does_strike, does_tell, few_signals, number_of, struck_by}
 use Rattle.process_calls.proofs.ends.signal_process.Goals as goal
 
-pub overflow_cast-cast_unsigned : goal.overflow_cast-cast_unsigned
-overflow_cast-cast_unsigned c =
+pub overflow_cast-number : goal.overflow_cast-number
+overflow_cast-number c =
     let objects = c.args.objects.now in
     let it : IsStruck (procs_of objects) c.args.target =
     struck_by (procs_of objects) c.args.target c.args.signal _ _ c.may_kill.result c.in-Ok-true.field-0 (to_z-of_z w64 c.args.target c.ranges.target) (to_z-of_z w64 c.args.signal c.ranges.signal)
@@ -48,8 +48,8 @@ strike-requires-clause-there c =
     number_of c.args.target c.cast_unsigned.result (c.cast_unsigned.ensures ∙ ap (cast_unsigned w64) (to_z-of_z w64 c.args.target c.ranges.target)) it.same in
     subst (IsAlive (procs_of objects)) (sym number) it.alive
 
-pub signalled-requires : goal.signalled-requires
-signalled-requires c = subst (λ z. count_of z < 65536) (sym (to_z-of_z w64 c.args.signal c.ranges.signal)) (few_signals c.args.target c.args.signal c.requires.right)
+pub signalled-status-requires : goal.signalled-status-requires
+signalled-status-requires c = subst (λ z. count_of z < 65536) (sym (to_z-of_z w64 c.args.signal c.ranges.signal)) (few_signals c.args.target c.args.signal c.requires.right)
 
 pub returns-in-Err-clause-does : goal.returns-in-Err-clause-does
 returns-in-Err-clause-does c =
@@ -89,7 +89,7 @@ returns-in-Ok-true-clause-does c =
     does_strike script objects c.strike.new.objects pid c.args.target c.args.signal c.strike.result
     (λ plain is. answers plain is ∙ ap (answered_by script plain pid c.args.target c.args.signal) (c.in-Ok-true.is ∙ ap Ok c.in-Ok-true.field-0-test))
     (subst (λ n. Serves script objects pid (call.Kill c.args.target c.args.signal) (λ plain. struck script plain pid n (count_of c.args.signal)) c.strike.result c.strike.new.objects) number
-    (subst (λ n. Serves script objects pid (call.Kill c.args.target c.args.signal) (λ plain. struck script plain pid c.cast_unsigned.result n) c.strike.result c.strike.new.objects) (c.signalled.ensures ∙ ap count_of (to_z-of_z w64 c.args.signal c.ranges.signal))
+    (subst (λ n. Serves script objects pid (call.Kill c.args.target c.args.signal) (λ plain. struck script plain pid c.cast_unsigned.result n) c.strike.result c.strike.new.objects) (c.signalled-status.ensures ∙ ap count_of (to_z-of_z w64 c.args.signal c.ranges.signal))
     (c.strike.ensures.does c.args.target c.args.signal)))
 
 pub returns-in-Err-clause-uses : goal.returns-in-Err-clause-uses

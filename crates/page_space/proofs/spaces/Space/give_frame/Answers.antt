@@ -1,6 +1,7 @@
 use Rattle.std.proofs.Common.{refl, sym, ap, subst}
 use Rattle.kheap_slabs.specs.Spaces.{OwnsNodes}
 use Rattle.kheap_laws.proofs.OwnerLemmas.{IsOwned-space}
+use Rattle.kheap_laws.proofs.PaidLemmas.{IsPaid-nothing, IsPaid-trans, TakesNothing-trans}
 use Rattle.page_space.proofs.OwnLemmas.{fresh-moves, fresh-stays, fresh-own, fresh-account}
 use Rattle.page_space.proofs.spaces.Space.give_frame.Goals as goal
 
@@ -41,3 +42,8 @@ returns-clause-account c =
     c.set_entry.ensures.turns c.set_entry.ensures.kept c.entry-was.ensures
     c.drop_entry.ensures.counts c.drop_entry.ensures.others c.requires.within c.drop_entry.ensures.named c.drop_entry.ensures.bytes c.drop_entry.ensures.kept
     c.requires.owned.0 c.requires.owned.1
+
+pub returns-clause-paid : goal.returns-clause-paid
+returns-clause-paid c =
+    IsPaid-trans _ _ _ _ _ _ c.make_page-key.ensures.paid
+      (IsPaid-nothing _ _ _ _ (TakesNothing-trans _ _ _ c.set_entry.ensures.takes c.drop_entry.ensures.takes) refl refl)

@@ -5,6 +5,7 @@ use Rattle.page_space.specs.Contents.{IsOwnedWith}
 use Rattle.proc_table.proofs.ClearLemmas.{cleared-account, cleared-memory, cleared-moves, cleared-procs, cleared-table}
 use Rattle.proc_table.proofs.PlaceLemmas.{key_of-none, key_of-proc, none_not_some}
 use Rattle.proc_table.proofs.SpaceLemmas.{owned_with}
+use Rattle.kheap_laws.proofs.PaidLemmas.{TakesNothing-trans}
 use Rattle.proc_table.proofs.tables.ProcTable.clear_memory.Goals as goal
 
 pub get_proc-proc-requires : goal.get_proc-proc-requires
@@ -50,3 +51,6 @@ pub returns-clause-account : goal.returns-clause-account
 returns-clause-account c =
     cleared-account c.args.heap.now c.release.new.heap c.set_proc_nodes.new.self c.args.self.now c.requires.holds c.args.pid c.in-Some.key c.get_proc-proc.result.now c.requires.alive
     (sym (c.in-Some.ensures)) c.get_proc-proc.ensures c.of.result c.of.ensures c.release.ensures.leaves (c.set_proc_nodes.ensures.kept c.get_proc-proc.result.now (still c))
+
+pub returns-clause-takes : goal.returns-clause-takes
+returns-clause-takes c = TakesNothing-trans _ _ _ c.release.ensures.takes c.set_proc_nodes.ensures.takes
