@@ -2,5 +2,4 @@ mod Desks
 pub mod Diaries
 pub mod PairSteps
 pub mod SampleSteps
-pub mod SleeperSteps
 pub mod Working

@@ -1,5 +1,4 @@
 pub mod Desk
 pub mod Pair
 pub mod Sample
-pub mod Sleeper
 pub mod Workers

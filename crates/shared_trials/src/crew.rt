@@ -13,28 +13,17 @@ use std::test::Fail;
 use std::thread::Threads;
 use work_crew::{Door, OpenDoor, Point, run_workers};
 
-/// A run of the process by so many workers, of at most so many entries.
+/// A run of the process by so many workers.
 fn run_by<R: Threads + Wait + Sync, D: Door + Sync>(
     rt: &R,
     alloc: Global,
-    steps: u32,
     workers: u32,
     door: &D,
 ) -> Result<Closed<OnePid>, Memory>
     requires { 0 < workers }
 {
     let (charge, seat) = Charge::boot(alloc, 8192)?;
-    run_workers::<OnePid, Brand, D, R>(
-        rt,
-        alloc,
-        at_boot(),
-        steps,
-        8192,
-        workers,
-        charge,
-        seat,
-        door,
-    )
+    run_workers::<OnePid, Brand, D, R>(rt, alloc, at_boot(), 100, 8192, workers, charge, seat, door)
 }
 
 /// Whether the process was told that its pid is 1.
@@ -68,28 +57,12 @@ fn is_finished(closed: &Closed<OnePid>) -> bool {
         && closed.charged == 2304
 }
 
-/// Whether a run was closed behind the process's first entry, when one step was all: the process's 512 bytes are live too.
-fn is_spent(closed: &Closed<OnePid>) -> bool {
-    let entries = closed.history.items();
-    entries.len() == 1
-        && is_asked(&entries[0])
-        && closed.end == Some(End::Spent)
-        && closed.charged == 2816
-}
-
 #[test]
 fn one_two_and_four_workers_run_to_the_end(rt: HostRuntime) -> Result<(), Fail> {
     for workers in [1, 2, 4] {
-        let closed = run_by(&rt, rt.alloc(), 100, workers, &OpenDoor)?;
+        let closed = run_by(&rt, rt.alloc(), workers, &OpenDoor)?;
         assert!(rt; is_finished(&closed), "by {workers}");
     }
-    Ok(())
-}
-
-#[test]
-fn workers_stop_where_all_steps_are_used_up(rt: HostRuntime) -> Result<(), Fail> {
-    let closed = run_by(&rt, rt.alloc(), 1, 2, &OpenDoor)?;
-    assert!(rt; is_spent(&closed));
     Ok(())
 }
 
@@ -116,7 +89,7 @@ fn the_door_is_told_of_each_pick_and_answer(rt: HostRuntime) -> Result<(), Fail>
         picked: AtomicU32::new(0),
         answered: AtomicU32::new(0),
     };
-    let closed = run_by(&rt, rt.alloc(), 100, 2, &door)?;
+    let closed = run_by(&rt, rt.alloc(), 2, &door)?;
     assert!(rt; is_finished(&closed));
     assert!(rt; door.picked.load(Ordering::SeqCst) == 2);
     assert!(rt; door.answered.load(Ordering::SeqCst) == 2);

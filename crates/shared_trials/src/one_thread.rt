@@ -168,87 +168,24 @@ const GIVES_BACK: &[Row] = &[
 
 const GIVEN_BACK: Left = (&[Line::Done(1, CallKind::Fork)], None, 3328);
 
-#[test]
-fn a_call_is_short_until_a_block_goes(rt: HostRuntime) -> Result<(), Fail> {
-    assert!(rt;
-        pair_goes_so(
-            &rt,
-            rt.alloc(),
-            Size {
-                heap: 6000,
-                steps: 100
-            },
-            EVICTS,
-            &EVICTED
-        )?
-    );
-    Ok(())
-}
+/// The heap and the steps of a run, its rows, and what it leaves.
+type Run = (u64, u32, &'static [Row], Left);
+
+const RUNS: &[Run] = &[
+    (6000, 100, EVICTS, EVICTED),
+    (5500, 100, KILLS, KILLED),
+    (8192, 2, SPENDS, SPENT),
+    (5000, 100, REFUSES, REFUSED),
+    (8192, 100, GIVES_BACK, GIVEN_BACK),
+];
 
 #[test]
-fn the_child_is_killed_and_then_the_first_starves(rt: HostRuntime) -> Result<(), Fail> {
-    assert!(rt;
-        pair_goes_so(
-            &rt,
-            rt.alloc(),
-            Size {
-                heap: 5500,
-                steps: 100
-            },
-            KILLS,
-            &KILLED
-        )?
-    );
-    Ok(())
-}
-
-#[test]
-fn steps_are_spent_while_one_is_held(rt: HostRuntime) -> Result<(), Fail> {
-    assert!(rt;
-        pair_goes_so(
-            &rt,
-            rt.alloc(),
-            Size {
-                heap: 8192,
-                steps: 2
-            },
-            SPENDS,
-            &SPENT
-        )?
-    );
-    Ok(())
-}
-
-#[test]
-fn what_the_heap_never_gives_is_refused(rt: HostRuntime) -> Result<(), Fail> {
-    assert!(rt;
-        pair_goes_so(
-            &rt,
-            rt.alloc(),
-            Size {
-                heap: 5000,
-                steps: 100
-            },
-            REFUSES,
-            &REFUSED
-        )?
-    );
-    Ok(())
-}
-
-#[test]
-fn who_is_held_is_given_back(rt: HostRuntime) -> Result<(), Fail> {
-    assert!(rt;
-        pair_goes_so(
-            &rt,
-            rt.alloc(),
-            Size {
-                heap: 8192,
-                steps: 100
-            },
-            GIVES_BACK,
-            &GIVEN_BACK
-        )?
-    );
+fn two_passes_are_answered_by_their_rows(rt: HostRuntime) -> Result<(), Fail> {
+    for (heap, steps, rows, left) in RUNS {
+        let (heap, steps) = (*heap, *steps);
+        assert!(rt; heap >= 2816);
+        let right = pair_goes_so(&rt, rt.alloc(), Size { heap, steps }, rows, left)?;
+        assert!(rt; right, "on {heap} bytes");
+    }
     Ok(())
 }

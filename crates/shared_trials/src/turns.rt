@@ -36,20 +36,6 @@ fn pass_quietly(turns: &Turns<Diary>, seat: &mut TurnSeat<Diary>) -> u64
 }
 
 #[test]
-fn a_value_is_taken_as_it_was_put(rt: HostRuntime) -> Result<(), Fail> {
-    let diary = Diary {
-        page: 77,
-        told: Vec::new(rt.alloc()),
-    };
-    let (turns, mut seat) = Turns::boot(rt.alloc(), diary)?;
-    assert!(rt; turns.draw(&mut seat) == 0);
-    assert!(rt; turns.look(&mut seat));
-    let diary = turns.take(&mut seat);
-    assert!(rt; diary.page == 77);
-    Ok(())
-}
-
-#[test]
 fn two_seats_have_their_turns_in_order(rt: HostRuntime) -> Result<(), Fail> {
     let diary = Diary {
         page: 77,
@@ -168,31 +154,5 @@ fn two_threads_tell_as_many_numbers_as_they_had_turns(rt: HostRuntime) -> Result
     turns.join(other, &mut boot);
     let diary = turns.close(boot);
     assert!(rt; counted(&diary) == (2000, 999000));
-    Ok(())
-}
-
-#[test]
-fn four_threads_tell_as_many_numbers_as_they_had_turns(rt: HostRuntime) -> Result<(), Fail> {
-    let diary = Diary {
-        page: 1,
-        told: Vec::with_capacity(rt.alloc(), 2000)?,
-    };
-    let (turns, mut boot) = Turns::boot(rt.alloc(), diary)?;
-    let seats = (
-        (turns.split(&mut boot), turns.split(&mut boot)),
-        (turns.split(&mut boot), turns.split(&mut boot)),
-    );
-    let shared = &turns;
-    let ((a, b), (c, d)) = join(
-        &rt,
-        || work_in_two(&rt, shared, seats.0.0, seats.0.1, 500),
-        || work_in_two(&rt, shared, seats.1.0, seats.1.1, 500),
-    );
-    turns.join(a, &mut boot);
-    turns.join(b, &mut boot);
-    turns.join(c, &mut boot);
-    turns.join(d, &mut boot);
-    let diary = turns.close(boot);
-    assert!(rt; counted(&diary) == (2000, 499000));
     Ok(())
 }

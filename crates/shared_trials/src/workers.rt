@@ -25,11 +25,8 @@ pub enum Told {
     Idle,
     Over(End),
     Value(i64),
-    Ends(u32, u32),
     Failed(Errno),
-    Part(u32),
     Refused,
-    Slept,
     Short { charged: u64, need: u64 },
     Ended(u16),
     Gone,
@@ -46,11 +43,8 @@ pub enum Told {
 fn told_by(answer: &Attended) -> Told {
     match answer {
         Attended::Done(Reply::Val(value)) => Told::Value(*value),
-        Attended::Done(Reply::Pair(first, second)) => Told::Ends(*first, *second),
         Attended::Done(Reply::Fail(errno)) => Told::Failed(*errno),
-        Attended::Part(moved) => Told::Part(*moved),
         Attended::Refused => Told::Refused,
-        Attended::Sleep => Told::Slept,
         Attended::Short { charged, need } => Told::Short {
             charged: *charged,
             need: *need,
@@ -58,7 +52,7 @@ fn told_by(answer: &Attended) -> Told {
         Attended::Ended(status) => Told::Ended(*status),
         Attended::Gone => Told::Gone,
         Attended::Spent => Told::Spent,
-        Attended::Done(_) => Told::Other,
+        Attended::Done(_) | Attended::Part(_) | Attended::Sleep => Told::Other,
     }
 }
 
@@ -174,9 +168,7 @@ pub fn step<R: Wait, T: Turner + Drop, L: RunName>(
 #[derive(Clone, Copy, PartialEq, Eq)]
 pub enum Line {
     Done(u32, CallKind),
-    Part(u32, CallKind, u32),
     Refused(u32, CallKind, u64),
-    Slept(u32, CallKind),
     Ended(u32, CallKind, u16),
     Gone(u32, CallKind),
     Killed {
@@ -186,15 +178,15 @@ pub enum Line {
         live: u64,
     },
     Evicted(Cached),
+    /// What no process of these tests has.
+    Other,
 }
 
 /// What an entry tells; of a call that is over its reply was told to the worker.
 pub fn line_of(entry: &Entry) -> Line {
     match entry {
         Entry::Done { pid, kind, .. } => Line::Done(*pid, *kind),
-        Entry::Part { pid, kind, moved } => Line::Part(*pid, *kind, *moved),
         Entry::Refused { pid, kind, bound } => Line::Refused(*pid, *kind, *bound),
-        Entry::Slept { pid, kind } => Line::Slept(*pid, *kind),
         Entry::Ended { pid, kind, status } => Line::Ended(*pid, *kind, *status),
         Entry::Gone { pid, kind } => Line::Gone(*pid, *kind),
         Entry::Killed {
@@ -209,5 +201,6 @@ pub fn line_of(entry: &Entry) -> Line {
             live: *live,
         },
         Entry::Evicted { what } => Line::Evicted(*what),
+        Entry::Part { .. } | Entry::Slept { .. } => Line::Other,
     }
 }
