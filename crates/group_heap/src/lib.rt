@@ -12,8 +12,6 @@ mod names;
 mod reports;
 mod runs;
 mod splits;
-#[cfg(test)]
-mod tests;
 
 pub use faults::GroupFault;
 pub use groups::{Group, GroupEnd};

@@ -1,9 +1,7 @@
-//! Values and the argument check, what is left of a write, victims, and a line of a report; objects of the heap; the disk and the nodes,
-//! files and directories on it, with the blocks that each call reads and writes; the order of use and each cache, by hand. Tests alone.
+//! Values, what is left of a write, victims, and a line of a report; objects of the heap; the disk and the nodes, files and directories
+//! on it, with the blocks that each call reads and writes; the order of use and each cache, by hand. Tests alone.
 #![tactic(auto)]
 
-#[cfg(test)]
-mod arguments;
 #[cfg(test)]
 mod caches;
 #[cfg(test)]
